@@ -1,0 +1,200 @@
+-- What a held state says of the word: its longest suffix that is a node, what may still start before it, and where an
+-- anchored search has ended. And any automaton whose states go by words has the laws.
+use Rattle.std.proofs.Common.{◌≡◌, ◌↔◌, inl, inr, ℕ, ◌+◌, ◌<◌, ◌≤◌, Bool, true, false, cond, List, [], ◌∷◌, ◌++◌, length, map, refl, sym, ◌∙◌, ap, subst, arith, length-append}
+use Rattle.std.specs.Prelude.{Some, None, is_none}
+use Rattle.std.proofs.lemmas.Bool.{cases_Bool, cases_lt, cond-true, cond-false}
+use Rattle.std.proofs.lemmas.List.{append-nil, map-append}
+use Rattle.aho_base.specs.declared.search.Anchored.{Anchored}
+use Rattle.aho_base.specs.declared.search.Anchored.TheVariants.{No, Yes}
+use Rattle.aho_base.specs.declared.search.MatchKind.{MatchKind}
+use Rattle.aho_base.proofs.Lists.{Begins}
+use Rattle.aho_base.proofs.Facts.{is_node-root, is_node-from, is_node-true, is_cut-true}
+use Rattle.aho_base.proofs.Steps.{state-node, state-cut, state-shorter, dead_leftmost}
+use Rattle.aho_base.proofs.Stands.{Stands, from_occurs, length-folded, stands_length, stands_at, begins_at}
+use Rattle.aho_base.proofs.Fronts.{moved_back, live_front}
+use Rattle.aho_base.proofs.Leftmost.{past_dead}
+use Rattle.aho_base.proofs.Standard.{every_kept}
+use Rattle.aho_base.proofs.Automaton.{word_automaton}
+use Rattle.aho_base.specs.Bytes.{folded, folded_word}
+use Rattle.aho_base.specs.Failure.{is_cut, is_leftmost, state_after}
+use Rattle.aho_base.specs.Held.{held_after}
+use Rattle.aho_base.specs.Laws.{BestAfter, Fits, Reads, better, longest, told}
+use Rattle.aho_base.specs.MatchList.{matches_of}
+use Rattle.aho_base.specs.Occurrence.{Occurrence}
+use Rattle.aho_base.specs.Occurs.{Occurs}
+use Rattle.aho_base.specs.Patterns.{Patterns}
+use Rattle.aho_base.specs.Trie.{is_node, pattern_word}
+
+module _ (p : Patterns) where
+  later_parts : (x : ℕ) (z : List ℕ) (n : Occurrence) (front rest : List ℕ) → 0 < n.start → n.pattern < length p.words
+      → x ∷ z ≡ front ++ (pattern_word p n.pattern ++ rest) → n.start ≡ length front → n.end ≡ length front + length (pattern_word p n.pattern)
+      → Stands p No z (moved_back n)
+  later_parts x z n [] rest later lt parts start end = absurd (omega arith)
+  later_parts x z n (y ∷ front) rest later lt parts start end =
+      record { below = lt; front = front; rest = rest; parts = cc; start = omega arith; end = omega arith; at = λ e. cc }
+
+  stands_back : (x : ℕ) (z : List ℕ) (n : Occurrence) → 0 < n.start → Stands p No (x ∷ z) n → Stands p No z (moved_back n)
+  stands_back x z n later o = later_parts x z n o.front o.rest later o.below o.parts o.start o.end
+
+  -- Standard: whatever ends past the word starts in the state's word, or later
+  standard_front : (w u : List ℕ) → is_leftmost p.kind ≡ false → state_after p w ≡ Some u
+      → (pre : List ℕ) × (w ≡ pre ++ u) × ((y : List ℕ) (n : Occurrence) → Stands p No (w ++ y) n → length w < n.end → length pre ≤ n.start)
+  standard_front [] u standard e = let same : [] ≡ u = cc in ([], same, λ y n o past. omega arith)
+  standard_front (x ∷ w) u standard e =
+      elim (cases_Bool (is_node p (x ∷ w))) [
+        | inl node ↦ (let same : Some (x ∷ w) ≡ Some u = sym (state-node p x w node) ∙ e in ([], cc, λ y n o past. omega arith))
+        | inr other ↦
+            elim (cases_Bool (is_cut p (x ∷ w))) [
+              | inl cut ↦ (let clash : true ≡ false = sym (is_cut-true p (x ∷ w) cut).0 ∙ standard in cc)
+              | inr uncut ↦
+                  (let t = standard_front w u standard (sym (state-shorter p x w other uncut) ∙ e) in (
+                    x ∷ t.0,
+                    ap (λ (v : List ℕ). x ∷ v) t.1,
+                    λ y n o past. elim (cases_lt 0 n.start) [
+                      | inl later ↦ omega (arith, t.2 y (moved_back n) (stands_back x (w ++ y) n later o) (omega arith))
+                      | inr here ↦
+                          (let sizes = stands_length p No (x ∷ (w ++ y)) n o in
+                          let b = begins_at p No (x ∷ (w ++ y)) [] (x ∷ (w ++ y)) n refl o (omega arith) in
+                          let out = past_dead p (x ∷ w) y n.pattern other o.below b (omega (arith, sizes.0)) in
+                          let clash : true ≡ false = sym (ap is_leftmost out.0) ∙ standard in
+                          cc)
+                    ],
+                  ))
+            ]
+      ]
+
+  -- all kinds
+  pub live_start : (w u : List ℕ) → state_after p w ≡ Some u → (pre : List ℕ) × (w ≡ pre ++ u) × ((y : List ℕ) (n : Occurrence) → Stands p No (w ++ y) n → length w < n.end → length pre ≤ n.start)
+  live_start w u e =
+      elim (cases_Bool (is_leftmost p.kind)) [
+        | inl leftmost ↦ (let t = live_front p leftmost w u e in (t.0, t.1, λ y n o past. t.2 y n o))
+        | inr standard ↦ standard_front w u standard e
+      ]
+
+  -- at a start state whatever ends later starts later
+  pub start_half : (w v : List ℕ) (n : Occurrence) → held_after p No w ≡ Some [] → Occurs p No (w ++ v) 0 (length (w ++ v)) n → length w < n.end → length w ≤ n.start
+  start_half w v n e o past =
+      let t = live_start (folded_word p w) [] e in
+      let stands : Stands p No (folded_word p w ++ folded_word p v) n = subst (λ (z : List ℕ). Stands p No z n) (map-append (folded p) w v) (from_occurs p No (w ++ v) n o) in
+      let whole : length (folded_word p w) ≡ length t.0 = ap length (t.1 ∙ append-nil t.0) in
+      omega (arith, t.2 (folded_word p v) n stands (omega (arith, length-folded p w)), length-folded p w)
+
+  -- the longest suffix of a word that is a node
+  abbrev pub longest_node : List ℕ → List ℕ
+  longest_node [] = []
+  longest_node (x ∷ w) = cond (is_node p (x ∷ w)) (x ∷ w) (longest_node w)
+
+  pub longest_node-ends : (w : List ℕ) → (front : List ℕ) × (w ≡ front ++ longest_node w) × (is_node p (longest_node w) ≡ true)
+  longest_node-ends [] = ([], refl, is_node-root p)
+  longest_node-ends (x ∷ w) =
+      elim (cases_Bool (is_node p (x ∷ w))) [
+        | inl node ↦ (let e = cond-true (is_node p (x ∷ w)) (x ∷ w) (longest_node w) node in ([], sym e, subst (λ (v : List ℕ). is_node p v ≡ true) (sym e) node))
+        | inr other ↦
+            (let e = cond-false (is_node p (x ∷ w)) (x ∷ w) (longest_node w) other in
+            let t = longest_node-ends w in
+            (x ∷ t.0, ap (λ (v : List ℕ). x ∷ v) (t.1 ∙ ap (λ (v : List ℕ). t.0 ++ v) (sym e)), subst (λ (v : List ℕ). is_node p v ≡ true) (sym e) t.2))
+      ]
+
+  pub longest_node-longest : (w front v : List ℕ) → w ≡ front ++ v → is_node p v ≡ true → length v ≤ length (longest_node w)
+  longest_node-longest [] front v e node = omega (arith, ap length e, length-append front v)
+  longest_node-longest (x ∷ w) front v e node =
+      elim (cases_Bool (is_node p (x ∷ w))) [
+        | inl whole ↦ omega (arith, ap length e, length-append front v, ap length (cond-true (is_node p (x ∷ w)) (x ∷ w) (longest_node w) whole))
+        | inr other ↦ omega (arith, ap length (cond-false (is_node p (x ∷ w)) (x ∷ w) (longest_node w) other), by_front front e other (λ front e. longest_node-longest w front v e node))
+      ]
+    where
+      by_front : (front : List ℕ) → x ∷ w ≡ front ++ v → is_node p (x ∷ w) ≡ false → ((front : List ℕ) → w ≡ front ++ v → length v ≤ length (longest_node w)) → length v ≤ length (longest_node w)
+      by_front [] e other rest = let clash : true ≡ false = sym node ∙ sym (ap (is_node p) e) ∙ other in cc
+      by_front (y ∷ front) e other rest = rest front (cc)
+
+  -- the state's word is that suffix; it is dead exactly where a leftmost kind has an occurrence that starts before it
+  pub state-longest : (w u : List ℕ) → state_after p w ≡ Some u → u ≡ longest_node w
+  state-longest [] u e = cc
+  state-longest (x ∷ w) u e =
+      elim (cases_Bool (is_node p (x ∷ w))) [
+        | inl node ↦ (let same : Some (x ∷ w) ≡ Some u = sym (state-node p x w node) ∙ e in let known = cond-true (is_node p (x ∷ w)) (x ∷ w) (longest_node w) node in cc)
+        | inr other ↦
+            (let known = cond-false (is_node p (x ∷ w)) (x ∷ w) (longest_node w) other in
+            elim (cases_Bool (is_cut p (x ∷ w))) [
+              | inl cut ↦ (let clash : None ≡ Some u = sym (state-cut p x w other cut) ∙ e in cc)
+              | inr uncut ↦ state-longest w u (sym (state-shorter p x w other uncut) ∙ e) ∙ sym known
+            ])
+      ]
+
+  longest_node-length : (w : List ℕ) → length (longest_node w) ≤ length w
+  longest_node-length w = let t = longest_node-ends w in omega (arith, ap length t.1, length-append t.0 (longest_node w))
+
+  dead_at : (w : List ℕ) → state_after p w ≡ None → (pre v : List ℕ) × (w ≡ pre ++ v) × (is_cut p v ≡ true) × (length pre + length (longest_node w) < length w)
+  dead_at [] e = cc
+  dead_at (x ∷ w) e =
+      elim (cases_Bool (is_node p (x ∷ w))) [
+        | inl node ↦ (let clash : Some (x ∷ w) ≡ None = sym (state-node p x w node) ∙ e in cc)
+        | inr other ↦
+            (let known = ap length (cond-false (is_node p (x ∷ w)) (x ∷ w) (longest_node w) other) in
+            elim (cases_Bool (is_cut p (x ∷ w))) [
+              | inl cut ↦ ([], x ∷ w, refl, cut, omega (arith, known, longest_node-length w))
+              | inr uncut ↦
+                  (let t = dead_at w (sym (state-shorter p x w other uncut) ∙ e) in
+                  (x ∷ t.0, t.1, ap (λ (v : List ℕ). x ∷ v) t.2, t.3, omega (arith, known, t.4)))
+            ])
+      ]
+
+  pub dead-occurrence : (w : List ℕ) → state_after p w ≡ None → (is_leftmost p.kind ≡ true) × ((n : Occurrence) × Stands p No w n × (n.start + length (longest_node w) < length w))
+  dead-occurrence w e =
+      let t = dead_at w e in
+      let c = (is_cut-true p t.1 t.3).1 in (
+        dead_leftmost p w e,
+        (
+          record { pattern = c.0; start = length t.0; end = length t.0 + length (pattern_word p c.0) },
+          stands_at p No w t.0 t.1 c.0 (length t.0 + length (pattern_word p c.0)) t.2 (λ y. cc) c.1 c.2 refl,
+          t.4,
+        ),
+      )
+
+  pub live-occurrences : (w u : List ℕ) (n : Occurrence) → is_leftmost p.kind ≡ true → state_after p w ≡ Some u → Stands p No w n → length w ≤ n.start + length u
+  live-occurrences w u n leftmost e o =
+      let t = live_front p leftmost w u e in
+      omega (arith, ap length t.1, length-append t.0 u, t.2 [] n (subst (λ (v : List ℕ). Stands p No v n) (sym (append-nil w)) o))
+
+  -- Standard, anchored: the search has ended exactly where the word begins no pattern
+  pub anchored_ended : (x : ℕ) (w : List ℕ) → is_leftmost p.kind ≡ false
+      → (held_after p Yes (x ∷ w) ≡ None) ↔ ((k : ℕ) → k < length p.words → Begins (folded_word p (x ∷ w)) (pattern_word p k) → ⊥)
+  anchored_ended x w standard = (
+    (λ e k lt b.
+        let node = is_node-from p (folded_word p (x ∷ w)) k lt (every_kept p Yes standard k) b in
+        let clash : None ≡ Some (folded_word p (x ∷ w)) = sym e ∙ cond-true (is_node p (folded_word p (x ∷ w))) (Some (folded_word p (x ∷ w))) None node in
+        cc),
+    (λ none.
+        elim (cases_Bool (is_node p (folded_word p (x ∷ w)))) [
+          | inl node ↦ (let t = is_node-true p (folded p x) (folded_word p w) node in absurd (none t.0 t.1 t.3))
+          | inr other ↦ cond-false (is_node p (folded_word p (x ∷ w))) (Some (folded_word p (x ∷ w))) None other
+        ]),
+  )
+
+-- an automaton whose held states list what the words' states do, and are dead where those are, has the laws
+pub reads_by_words : {S : Type 0} (p : Patterns) (kind : MatchKind) (lengths : List ℕ) (held : Anchored → List ℕ → S → Type 0) (list : S → List ℕ) (dead : S → Bool)
+    → kind ≡ p.kind → lengths ≡ map length p.words
+    → ((anchored : Anchored) (w : List ℕ) (s : S) → held anchored w s → list s ≡ matches_of p (held_after p anchored w))
+    → ((anchored : Anchored) (w : List ℕ) (s : S) → held anchored w s → dead s ≡ is_none (held_after p anchored w))
+    → ((s : S) → dead s ≡ true → list s ≡ [])
+    → Reads p kind lengths held list dead
+reads_by_words p kind lengths held list dead kind_is lengths_are lists dies none =
+    let r = word_automaton p in
+    record {
+      kind_is = kind_is;
+      lengths_are = lengths_are;
+      listed = λ anchored w s h. subst (λ (ks : List ℕ). Fits lengths (length w) ks) (sym (lists anchored w s h)) (subst (λ (ns : List ℕ). Fits ns (length w) (matches_of p (held_after p anchored w))) (sym lengths_are) (r.listed anchored w (held_after p anchored w) refl));
+      at_start = λ anchored s h.
+          subst (λ (ks : List ℕ). BestAfter p anchored [] (told lengths anchored 0 0 ks)) (sym (lists anchored [] s h))
+          (subst (λ (ns : List ℕ). BestAfter p anchored [] (told ns anchored 0 0 (matches_of p (held_after p anchored [])))) (sym lengths_are) (r.at_start anchored (held_after p anchored []) refl));
+      after_byte = λ anchored w x s b h best.
+          subst (λ (ks : List ℕ). BestAfter p anchored (w ++ x ∷ []) (better kind b (told lengths anchored 0 (length w + 1) ks))) (sym (lists anchored (w ++ x ∷ []) s h))
+          (subst (λ (k : MatchKind). BestAfter p anchored (w ++ x ∷ []) (better k b (told lengths anchored 0 (length w + 1) (matches_of p (held_after p anchored (w ++ x ∷ [])))))) (sym kind_is)
+          (subst (λ (ns : List ℕ). BestAfter p anchored (w ++ x ∷ []) (better p.kind b (told ns anchored 0 (length w + 1) (matches_of p (held_after p anchored (w ++ x ∷ [])))))) (sym lengths_are)
+          (r.after_byte anchored w x (held_after p anchored (w ++ x ∷ [])) b refl best)));
+      dead_lists_none = none;
+      near = λ w s m other h alive best.
+          subst (λ (ns : List ℕ). length w ≤ m.start + longest ns) (sym lengths_are)
+          (r.near w (held_after p No w) m (λ e. other (kind_is ∙ e)) refl (sym (dies No w s h) ∙ alive) best);
+      dead_keeps = λ anchored w v s b h d best. r.dead_keeps anchored w v (held_after p anchored w) b refl (sym (dies anchored w s h) ∙ d) best;
+    }

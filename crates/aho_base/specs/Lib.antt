@@ -1,0 +1,19 @@
+-- In the order of docs/RULES.md.
+pub mod Patterns
+pub mod Search
+pub mod Bytes
+pub mod Occurrence
+pub mod Occurs
+pub mod Order
+pub mod Best
+pub mod Answer
+pub mod Iteration
+pub mod Listing
+pub mod Trie
+pub mod Overlapping
+pub mod Replacement
+pub mod Failure
+pub mod MatchList
+pub mod Step
+pub mod Held
+pub mod Laws

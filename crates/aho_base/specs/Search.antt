@@ -1,0 +1,17 @@
+-- What is searched, and how: what an `Input` is seen as.
+use Rattle.std.specs.Prelude.{ℕ, List, Bool}
+use Rattle.aho_base.specs.declared.search.Anchored.{Anchored}
+use Rattle.aho_base.specs.declared.search.Span.{Span}
+
+-- the haystack with its span from `start` up to `end`; whether an occurrence has to start at the span's start; and whether
+-- the earliest match is wanted
+pub record Search : Type 0 where
+  pub haystack : List ℕ
+  pub start : ℕ
+  pub end : ℕ
+  pub anchored : Anchored
+  pub earliest : Bool
+
+-- the search of a span of a haystack
+abbrev pub search_of : List ℕ → Span → Anchored → Bool → Search
+search_of haystack span anchored earliest = record { haystack = haystack; start = span.start; end = span.end; anchored = anchored; earliest = earliest }

@@ -1,0 +1,6 @@
+//! What every multi-pattern search speaks of: numbers, spans, matches, inputs and texts, and the definitions of what a
+//! search answers.
+#![tactic(auto)]
+
+pub mod laws;
+pub mod search;
