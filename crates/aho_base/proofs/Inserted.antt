@@ -6,6 +6,7 @@ use Rattle.std.proofs.lemmas.Bool.{and_parts, and_from}
 use Rattle.aho_base.specs.declared.search.MatchKind.TheVariants.{LeftmostFirst}
 use Rattle.aho_base.proofs.Lists.{is_word-true, is_word-from, first_passing, none_passing}
 use Rattle.aho_base.proofs.Build.{left_out_by_kept, left_out_from}
+use Rattle.aho_base.specs.Among.{own_among, is_node_among}
 use Rattle.aho_base.specs.MatchList.{own_matches}
 use Rattle.aho_base.specs.Patterns.{Patterns}
 use Rattle.aho_base.specs.Trie.{begins, is_kept, is_node, is_word, pattern_word}
@@ -32,14 +33,6 @@ any-range_more f a (suc n) k e = ap (λ (b : Bool). f a || b) (any-range_more f 
     assoc : (x y z : Bool) → (x || (y || z)) ≡ ((x || y) || z)
     assoc true y z = refl
     assoc false y z = refl
-
--- the same among the first n patterns
-unfoldable pub own_among : Patterns → ℕ → List ℕ → List ℕ
-own_among p n w = filter (λ k. is_kept p k && is_word (pattern_word p k) w) (range_with_len 0 n)
-
-unfoldable pub is_node_among : Patterns → ℕ → List ℕ → Bool
-is_node_among p n [] = true
-is_node_among p n (x ∷ w) = list_any (λ k. is_kept p k && begins (x ∷ w) (pattern_word p k)) (range_with_len 0 n)
 
 module _ (p : Patterns) where
   pub own_among-none : (v : List ℕ) → own_among p 0 v ≡ []

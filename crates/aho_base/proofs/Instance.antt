@@ -5,7 +5,7 @@ use Rattle.std.proofs.lemmas.Bool.{cond-true, cond-false}
 use Rattle.aho_base.specs.declared.search.Anchored.TheVariants.{No}
 use Rattle.aho_base.proofs.Steps.{state-is_node, follow-node}
 use Rattle.aho_base.proofs.Build.{failure-is_node}
-use Rattle.aho_base.proofs.Links.{Grown, Linked}
+use Rattle.aho_base.proofs.LinkedStates.{Grown, Linked}
 use Rattle.aho_base.specs.Bytes.{folded}
 use Rattle.aho_base.specs.Failure.{failure_of}
 use Rattle.aho_base.specs.Patterns.{Patterns}
@@ -44,8 +44,8 @@ module _ (p : Patterns) where
   grown : Grown p (is_node p) is_state (λ s. s) edge_of
   grown = record {
     is_node_word = λ s u ok e. ok u e;
-    takes = λ s u x ok e node. grown_takes s u x e node;
-    dead = λ s x ok e. (None, ap (λ (o : Option (List ℕ)). edge_of o x) e, (λ u e. cc), refl);
+    takes = λ s u x small ok e node. grown_takes s u x e node;
+    dead = λ s x small ok e. (None, ap (λ (o : Option (List ℕ)). edge_of o x) e, (λ u e. cc), refl);
   }
 
   failure_state : (y : ℕ) (u : List ℕ) → is_state (failure_of p (y ∷ u))
@@ -54,7 +54,7 @@ module _ (p : Patterns) where
   pub words_are_linked : (n : ℕ) → Linked p n is_state (λ s. s) edge_of fail_of
   words_are_linked n = record {
     grown = grown;
-    root = λ s x ok e other. (follow p No (Some []) (folded p x), ap (λ (o : Option (List ℕ)). edge_of o x) e, follow_state (folded p x), refl);
-    only = λ s y u x ok e other. ap (λ (o : Option (List ℕ)). edge_of o x) e ∙ cond-false (is_node p (y ∷ u ++ folded p x ∷ [])) (Some (Some (y ∷ u ++ folded p x ∷ []))) None other;
+    root = λ s x small ok e other. (follow p No (Some []) (folded p x), ap (λ (o : Option (List ℕ)). edge_of o x) e, follow_state (folded p x), refl);
+    only = λ s y u x small ok e other. ap (λ (o : Option (List ℕ)). edge_of o x) e ∙ cond-false (is_node p (y ∷ u ++ folded p x ∷ [])) (Some (Some (y ∷ u ++ folded p x ∷ []))) None other;
     links = λ s y u ok e near. (subst is_state (sym (ap fail_of e)) (failure_state y u), ap fail_of e);
   }

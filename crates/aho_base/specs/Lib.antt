@@ -16,4 +16,5 @@ pub mod Failure
 pub mod MatchList
 pub mod Step
 pub mod Held
+pub mod Among
 pub mod Laws

@@ -1,0 +1,4 @@
+pub mod Tables
+pub mod Naming
+pub mod Building
+pub mod Walking

@@ -1,0 +1,67 @@
+-- What a `Table` is seen as: for each state a list of transitions, a list of patterns, a failure link and a depth.
+use Rattle.std.specs.Prelude.{ℕ, ◌+◌, List, [], ◌∷◌, ◌++◌, length, nat_eq, nat_lt, sum_by, if◌then◌else◌, slice_index_or, slice_set}
+
+-- one state: its transitions, rising by byte, its patterns, its failure link and its distance from the start
+pub record Row : Type 0 where
+  pub edges : List (ℕ × ℕ)
+  pub matches : List ℕ
+  pub fail : ℕ
+  pub depth : ℕ
+
+-- the states, and the greatest index that a table may use
+pub record Tables : Type 0 where
+  pub rows : List Row
+  pub limit : ℕ
+
+-- where the byte leads, and 1 (FAIL) where nothing is listed for it
+abbrev pub edge_at : List (ℕ × ℕ) → ℕ → ℕ
+edge_at [] byte = 1
+edge_at (edge ∷ edges) byte = if nat_eq edge.0 byte then edge.1 else edge_at edges byte
+
+-- the list with this entry for the byte, in the bytes' order
+abbrev pub with_edge : List (ℕ × ℕ) → ℕ → ℕ → List (ℕ × ℕ)
+with_edge [] byte next = (byte, next) ∷ []
+with_edge (edge ∷ edges) byte next =
+    if nat_lt edge.0 byte then edge ∷ with_edge edges byte next
+    else if nat_eq edge.0 byte then (byte, next) ∷ edges
+    else (byte, next) ∷ edge ∷ edges
+
+-- a state that was just added: nothing is listed, and its link (1) is still to be set
+abbrev pub new_row : ℕ → Row
+new_row depth = record { edges = []; matches = []; fail = 1; depth = depth }
+
+abbrev pub row_at : List Row → ℕ → Row
+row_at rows sid = slice_index_or rows sid (new_row 0)
+
+abbrev pub next_in : List Row → ℕ → ℕ → ℕ
+next_in rows sid byte = edge_at (row_at rows sid).edges byte
+
+-- the transition of this place in the state's list; past its end one that leads nowhere
+abbrev pub edge_in : List Row → ℕ → ℕ → ℕ × ℕ
+edge_in rows sid index = slice_index_or (row_at rows sid).edges index (0, 1)
+
+abbrev pub matches_in : List Row → ℕ → List ℕ
+matches_in rows sid = (row_at rows sid).matches
+
+abbrev pub fail_in : List Row → ℕ → ℕ
+fail_in rows sid = (row_at rows sid).fail
+
+abbrev pub depth_in : List Row → ℕ → ℕ
+depth_in rows sid = (row_at rows sid).depth
+
+-- the rows with one state's row changed
+abbrev pub set_edge : List Row → ℕ → ℕ → ℕ → List Row
+set_edge rows sid byte next = slice_set rows sid (record (row_at rows sid) { edges = with_edge (row_at rows sid).edges byte next })
+
+abbrev pub push_match : List Row → ℕ → ℕ → List Row
+push_match rows sid pattern = slice_set rows sid (record (row_at rows sid) { matches = (row_at rows sid).matches ++ pattern ∷ [] })
+
+abbrev pub set_fail_of : List Row → ℕ → ℕ → List Row
+set_fail_of rows sid fail = slice_set rows sid (record (row_at rows sid) { fail = fail })
+
+-- the entries of the two tables that the states share, the dummy at index 0 among them
+abbrev pub transitions_count : List Row → ℕ
+transitions_count rows = 1 + sum_by (λ (row : Row). length row.edges) rows
+
+abbrev pub matches_count : List Row → ℕ
+matches_count rows = 1 + sum_by (λ (row : Row). length row.matches) rows
