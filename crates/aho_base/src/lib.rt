@@ -2,5 +2,6 @@
 //! search answers.
 #![tactic(auto)]
 
+pub mod error;
 pub mod laws;
 pub mod search;

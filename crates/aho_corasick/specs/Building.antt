@@ -1,5 +1,5 @@
 -- How far a build has come: the trie is whole, the failure links are being made, the automaton is built.
-use Rattle.std.specs.Prelude.{◌≡◌, ◌≢◌, ℕ, ◌+◌, ◌<◌, ◌≤◌, nat_eq, not, ◌&&◌, if◌then◌else◌, Bool, List, [], length, sum_by, Option, Some, slice_index}
+use Rattle.std.specs.Prelude.{◌≡◌, ◌≢◌, ℕ, ◌+◌, ◌<◌, ◌≤◌, nat_eq, not, ◌&&◌, if◌then◌else◌, Bool, List, [], ◌∷◌, length, sum_by, Option, Some, slice_index}
 use Rattle.aho_base.specs.Bytes.{folded}
 use Rattle.aho_base.specs.Failure.{is_cut, failure_of}
 use Rattle.aho_base.specs.MatchList.{own_matches, matches_of}

@@ -1,4 +1,5 @@
 pub mod Tables
+pub mod Refusals
 pub mod Naming
 pub mod Building
 pub mod Walking

@@ -1,5 +1,6 @@
 -- What a `Table` is seen as: for each state a list of transitions, a list of patterns, a failure link and a depth.
-use Rattle.std.specs.Prelude.{ℕ, ◌+◌, List, [], ◌∷◌, ◌++◌, length, nat_eq, nat_lt, sum_by, if◌then◌else◌, slice_index_or, slice_set}
+use Rattle.std.specs.Prelude.{ℕ, ◌+◌, ◌<◌, Bool, List, [], ◌∷◌, ◌++◌, length, nat_eq, nat_lt, sum_by, if◌then◌else◌, slice_index_or, slice_set}
+use Rattle.std.specs.List.{All, list_any}
 
 -- one state: its transitions, rising by byte, its patterns, its failure link and its distance from the start
 pub record Row : Type 0 where
@@ -26,6 +27,15 @@ with_edge (edge ∷ edges) byte next =
     else if nat_eq edge.0 byte then (byte, next) ∷ edges
     else (byte, next) ∷ edge ∷ edges
 
+-- each entry's byte is below all that follow it
+abbrev pub IsRising : List (ℕ × ℕ) → Type 0
+IsRising [] = Unit {0}
+IsRising (edge ∷ edges) = All (λ later. edge.0 < later.0) edges × IsRising edges
+
+-- whether the state lists the byte
+abbrev pub lists_edge : List (ℕ × ℕ) → ℕ → Bool
+lists_edge edges byte = list_any (λ edge. nat_eq edge.0 byte) edges
+
 -- a state that was just added: nothing is listed, and its link (1) is still to be set
 abbrev pub new_row : ℕ → Row
 new_row depth = record { edges = []; matches = []; fail = 1; depth = depth }
@@ -48,6 +58,9 @@ fail_in rows sid = (row_at rows sid).fail
 
 abbrev pub depth_in : List Row → ℕ → ℕ
 depth_in rows sid = (row_at rows sid).depth
+
+abbrev pub lists_byte : List Row → ℕ → ℕ → Bool
+lists_byte rows sid byte = lists_edge (row_at rows sid).edges byte
 
 -- the rows with one state's row changed
 abbrev pub set_edge : List Row → ℕ → ℕ → ℕ → List Row

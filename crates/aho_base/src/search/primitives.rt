@@ -171,6 +171,16 @@ impl StateID {
     /// The greatest number of a state.
     pub const MAX: usize = 2147483646;
 
+    /// The number of the first state.
+    pub const ZERO: StateID = StateID {
+        index: SmallIndex { value: 0 },
+    };
+
+    /// The number of the second state.
+    pub const ONE: StateID = StateID {
+        index: SmallIndex { value: 1 },
+    };
+
     /// The state of this number.
     ///
     /// # Errors

@@ -1,0 +1,5 @@
+//! The noncontiguous Aho-Corasick automaton and its builder.
+#![tactic(auto)]
+
+pub mod links;
+pub mod noncontiguous;

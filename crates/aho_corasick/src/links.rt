@@ -1,0 +1,295 @@
+//! The states of an automaton with their transitions, match lists and failure links.
+
+ghost use Rattle.std.specs.Prelude.{◌≡◌, ◌+◌, ◌<◌, ◌≤◌, ◌^◌, [], ◌∷◌, ◌++◌, length, true, IsOk, IfOk, IfErr, OnOk, OnErr, min, slice_get};
+ghost use Rattle.aho_base.specs.declared.error.BuildError.TheVariants.{StateIDOverflow, OutOfMemory};
+ghost use Rattle.aho_corasick.specs.Refusals.{refusal_at};
+ghost use Rattle.aho_corasick.specs.Tables.{new_row, edge_in, next_in, matches_in, fail_in, depth_in, set_edge, push_match, set_fail_of, row_at, lists_byte, transitions_count, matches_count};
+
+use aho_base::error::BuildError;
+use aho_base::search::{PatternID, SmallIndex, StateID, Work};
+use std::alloc::Global;
+use std::marker::Model;
+
+/// The state that every byte leads back to: a search that holds it has ended.
+pub const DEAD: StateID = StateID::ZERO;
+
+/// What `Table::follow` answers where no transition is listed.
+pub const FAIL: StateID = StateID::ONE;
+
+/// One state.
+#[derive(Drop)]
+struct State {
+    /// Rising by byte.
+    transitions: Vec<(u8, StateID)>,
+    matches: Vec<PatternID>,
+    fail: StateID,
+    depth: SmallIndex,
+}
+
+impl Model for State {
+    ghost use Rattle.aho_corasick.specs.Tables.{Row, IsRising};
+
+    ghost Value = { Row };
+
+    ghost view = { λ s. record { edges = s.transitions.items; matches = s.matches.items; fail = s.fail; depth = s.depth } };
+
+    ghost invariant = { λ s. IsRising s.transitions.items };
+}
+
+impl State {
+    fn new(alloc: Global, depth: SmallIndex) -> State
+        ensures empty { result ≡ new_row depth }
+    {
+        State {
+            transitions: Vec::new(alloc),
+            matches: Vec::new(alloc),
+            fail: FAIL,
+            depth,
+        }
+    }
+
+    /// The place of the byte's transition, or the place where it would stand.
+    fn place(&self, byte: u8) -> Result<usize, usize>
+    {
+        // A state that lists every byte has each at its own place.
+        if let Some(transition) = self.transitions.get(byte as usize)
+            && transition.0 == byte
+        {
+            return Ok(byte as usize);
+        }
+        let mut place = 0;
+        while place < self.transitions.len() && self.transitions[place].0 < byte {
+            place += 1;
+        }
+        if place < self.transitions.len() && self.transitions[place].0 == byte {
+            Ok(place)
+        } else {
+            Err(place)
+        }
+    }
+}
+
+/// The states of an automaton, with the transitions and patterns that each lists.
+///
+/// An index of a state, of a transition or of a listed pattern is at most the table's limit. Index 0 of the transitions and
+/// of the patterns is taken from the start.
+#[derive(Drop)]
+pub struct Table {
+    states: Vec<State>,
+    /// How many transitions the states list together, and one.
+    transitions_len: usize,
+    /// How many patterns the states list together, and one.
+    matches_len: usize,
+    limit: usize,
+    alloc: Global,
+}
+
+impl Model for Table {
+    ghost use Rattle.std.specs.Prelude.{◌≡◌, ◌≤◌, ◌+◌, length};
+    ghost use Rattle.aho_corasick.specs.Tables.{Tables, transitions_count, matches_count};
+
+    ghost Value = { Tables };
+
+    ghost view = { λ t. record { rows = t.states.items; limit = t.limit } };
+
+    ghost invariant = { λ t. (t.limit ≤ 2147483646) × (t.transitions_len ≡ transitions_count t.states.items) × (t.transitions_len ≤ t.limit + 1) × (t.matches_len ≡ matches_count t.states.items) × (t.matches_len ≤ t.limit + 1) × (length t.states.items ≤ t.limit + 1) };
+}
+
+impl Table {
+    /// The table of no states, whose indexes are at most `limit`; a greater limit counts as `SmallIndex::MAX`.
+    ///
+    /// # Errors
+    ///
+    /// Want of memory.
+    pub fn new(alloc: Global, limit: usize) -> Result<Table, BuildError>
+        ensures empty { IfOk result (λ table. table ≡ record { rows = []; limit = min limit SmallIndex.MAX }) }
+        ensures refused { IfErr result (λ error. error ≡ OutOfMemory) }
+    {
+        Ok(Table {
+            states: Vec::new(alloc),
+            transitions_len: 1,
+            matches_len: 1,
+            limit: limit.min(SmallIndex::MAX),
+            alloc,
+        })
+    }
+
+    /// The refusal of an index above the limit.
+    fn overflow(&self) -> BuildError
+        ensures overflow { result ≡ StateIDOverflow self.now.limit (self.now.limit + 1) }
+    {
+        BuildError::StateIDOverflow {
+            max: self.limit as u64,
+            requested: self.limit as u64 + 1,
+        }
+    }
+
+    /// How many states there are.
+    pub fn len(&self) -> usize
+        ensures len { result ≡ length self.now.rows }
+        ensures bound { result ≤ 2147483647 }
+    {
+        self.states.len()
+    }
+
+    /// One more state, without transitions or patterns, and with FAIL as its link. Answers its number, which is the count
+    /// of states before it.
+    ///
+    /// # Errors
+    ///
+    /// `StateIDOverflow` where that number is above the limit; else want of memory. The table is then unchanged.
+    pub fn add_state(&mut self, depth: SmallIndex) -> Result<StateID, BuildError>
+        ensures number { IfOk result (λ sid. sid ≡ length self.old.rows) }
+        ensures added { OnOk result (self.new ≡ record self.old { rows = self.old.rows ++ new_row depth ∷ [] }) }
+        ensures within { OnOk result (length self.old.rows ≤ self.old.limit) }
+        ensures refused { IfErr result (λ error. error ≡ refusal_at self.old.limit (length self.old.rows)) }
+        ensures unchanged { OnErr result (self.new ≡ self.old) }
+    {
+        let index = self.states.len();
+        if index > self.limit {
+            return Err(self.overflow());
+        }
+        let Ok(sid) = StateID::new(index) else {
+            return Err(self.overflow());
+        };
+        if self.states.push(State::new(self.alloc, depth)).is_err() {
+            return Err(BuildError::OutOfMemory);
+        }
+        Ok(sid)
+    }
+
+    /// The byte leads from the state to the next one. A byte that leads somewhere already is led elsewhere, and nothing
+    /// grows.
+    ///
+    /// # Errors
+    ///
+    /// `StateIDOverflow` where one transition more has an index above the limit; else want of memory. The table is then
+    /// unchanged.
+    pub fn set(&mut self, sid: StateID, byte: u8, next: StateID) -> Result<(), BuildError>
+        requires added { sid < length self.old.rows }
+        ensures set { OnOk result (self.new ≡ record self.old { rows = set_edge self.old.rows sid byte next }) }
+        ensures there { lists_byte self.old.rows sid byte ≡ true → IsOk result }
+        ensures within { OnOk result (transitions_count self.new.rows ≤ self.old.limit + 1) }
+        ensures refused { IfErr result (λ error. error ≡ refusal_at self.old.limit (transitions_count self.old.rows)) }
+        ensures unchanged { OnErr result (self.new ≡ self.old) }
+    {
+        let full = self.transitions_len > self.limit;
+        let overflow = self.overflow();
+        let state = &mut self.states[sid.as_usize()];
+        match state.place(byte) {
+            Ok(place) => {
+                state.transitions[place].1 = next;
+            }
+            Err(place) => {
+                if full {
+                    return Err(overflow);
+                }
+                if state.transitions.insert(place, (byte, next)).is_err() {
+                    return Err(BuildError::OutOfMemory);
+                }
+                self.transitions_len += 1;
+            }
+        }
+        Ok(())
+    }
+
+    /// One more pattern of the state, after those that it lists.
+    ///
+    /// # Errors
+    ///
+    /// `StateIDOverflow` where one listed pattern more has an index above the limit; else want of memory. The table is then
+    /// unchanged.
+    pub fn add_match(&mut self, sid: StateID, pattern: PatternID) -> Result<(), BuildError>
+        requires added { sid < length self.old.rows }
+        ensures listed { OnOk result (self.new ≡ record self.old { rows = push_match self.old.rows sid pattern }) }
+        ensures within { OnOk result (matches_count self.old.rows ≤ self.old.limit) }
+        ensures refused { IfErr result (λ error. error ≡ refusal_at self.old.limit (matches_count self.old.rows)) }
+        ensures unchanged { OnErr result (self.new ≡ self.old) }
+    {
+        if self.matches_len > self.limit {
+            return Err(self.overflow());
+        }
+        let state = &mut self.states[sid.as_usize()];
+        if state.matches.push(pattern).is_err() {
+            return Err(BuildError::OutOfMemory);
+        }
+        self.matches_len += 1;
+        Ok(())
+    }
+
+    /// The state leads on failure to another.
+    pub fn set_fail(&mut self, sid: StateID, fail: StateID)
+        requires added { sid < length self.old.rows }
+        ensures set { self.new ≡ record self.old { rows = set_fail_of self.old.rows sid fail } }
+    {
+        let state = &mut self.states[sid.as_usize()];
+        state.fail = fail;
+    }
+
+    /// Where the state leads on failure.
+    pub fn fail(&self, sid: StateID) -> StateID
+        requires added { sid < length self.now.rows }
+        ensures fail { result ≡ fail_in self.now.rows sid }
+    {
+        self.states[sid.as_usize()].fail
+    }
+
+    /// How far the state is from the start.
+    pub fn depth(&self, sid: StateID) -> usize
+        requires added { sid < length self.now.rows }
+        ensures depth { result ≡ depth_in self.now.rows sid }
+        ensures bound { result ≤ SmallIndex.MAX }
+    {
+        self.states[sid.as_usize()].depth.as_usize()
+    }
+
+    /// Where the byte leads from the state, and FAIL where it leads nowhere. Adds one look-up to the work.
+    pub fn follow(&self, sid: StateID, byte: u8, work: &mut Work) -> StateID
+        requires added { sid < length self.now.rows }
+        requires room { work.old + 1 < 2 ^ 128 }
+        ensures next { result ≡ next_in self.now.rows sid byte }
+        ensures counted { work.new ≡ work.old + 1 }
+    {
+        work.tick();
+        let state = &self.states[sid.as_usize()];
+        match state.place(byte) {
+            Ok(place) => state.transitions[place].1,
+            Err(_) => FAIL,
+        }
+    }
+
+    /// How many transitions the state lists.
+    pub fn transitions_len(&self, sid: StateID) -> usize
+        requires added { sid < length self.now.rows }
+        ensures len { result ≡ length (row_at self.now.rows sid).edges }
+    {
+        self.states[sid.as_usize()].transitions.len()
+    }
+
+    /// The transition of this place in the state's list, which rises by byte: the byte and where it leads.
+    pub fn transition(&self, sid: StateID, index: usize) -> (u8, StateID)
+        requires added { sid < length self.now.rows }
+        requires within { index < length (row_at self.now.rows sid).edges }
+        ensures listed { result ≡ edge_in self.now.rows sid index }
+        ensures leads { next_in self.now.rows sid result.0 ≡ result.1 }
+    {
+        self.states[sid.as_usize()].transitions[index]
+    }
+
+    /// How many patterns the state lists.
+    pub fn match_len(&self, sid: StateID) -> usize
+        requires added { sid < length self.now.rows }
+        ensures len { result ≡ length (matches_in self.now.rows sid) }
+    {
+        self.states[sid.as_usize()].matches.len()
+    }
+
+    /// The pattern of this place in the state's list.
+    pub fn match_pattern(&self, sid: StateID, index: usize) -> PatternID
+        requires added { sid < length self.now.rows }
+        requires within { index < length (matches_in self.now.rows sid) }
+        ensures listed { slice_get (matches_in self.now.rows sid) index ≡ Some result }
+    {
+        self.states[sid.as_usize()].matches[index]
+    }
+}
