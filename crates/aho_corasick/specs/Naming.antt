@@ -1,6 +1,6 @@
 -- When a table is the trie of some words, and how its states are named. A naming is a list with the word of each state at
 -- its number: none for DEAD, FAIL and the anchored start, and for every number past the end.
-use Rattle.std.specs.Prelude.{◌≡◌, ◌≢◌, ℕ, ◌+◌, ◌<◌, ◌⊎◌, nat_eq, if◌then◌else◌, Bool, true, ◌||◌, List, [], ◌∷◌, ◌++◌, length, Option, Some, None, slice_index_or, MatchBool}
+use Rattle.std.specs.Prelude.{◌≡◌, ◌≢◌, ℕ, ◌+◌, ◌<◌, ◌≤◌, ◌⊎◌, nat_eq, if◌then◌else◌, Bool, true, ◌||◌, List, [], ◌∷◌, ◌++◌, length, Option, Some, None, slice_index_or, MatchBool}
 use Rattle.aho_base.specs.Bytes.{folded, folded_word}
 use Rattle.aho_base.specs.Patterns.{Patterns, pattern_at}
 use Rattle.aho_base.specs.Trie.{begins, is_kept}
@@ -33,6 +33,8 @@ pub record IsTrie (p : Patterns) (is_word : List ℕ → Bool) (at_root : ℕ) (
   pub fail : name_at names 1 ≡ None
   pub root : name_at names 2 ≡ Some []
   pub anchored : name_at names 3 ≡ None
+  -- every state but the four first ones has a name
+  pub complete : (i : ℕ) → 4 ≤ i → i < length rows → (word : List ℕ) × (name_at names i ≡ Some word)
   pub dead_loop : (byte : ℕ) → byte < 256 → next_in rows 0 byte ≡ 0
   pub unique : (i j : ℕ) (word : List ℕ) → name_at names i ≡ Some word → name_at names j ≡ Some word → i ≡ j
   pub words : (i : ℕ) (word : List ℕ) → name_at names i ≡ Some word → (is_word word ≡ true) × (folded_word p word ≡ word)
