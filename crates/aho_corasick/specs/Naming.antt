@@ -1,6 +1,8 @@
 -- When a table is the trie of some words, and how its states are named. A naming is a list with the word of each state at
 -- its number: none for DEAD, FAIL and the anchored start, and for every number past the end.
 use Rattle.std.specs.Prelude.{◌≡◌, ◌≢◌, ℕ, ◌+◌, ◌<◌, ◌≤◌, ◌⊎◌, nat_eq, if◌then◌else◌, Bool, true, ◌||◌, List, [], ◌∷◌, ◌++◌, length, Option, Some, None, slice_index_or, MatchBool}
+use Rattle.aho_base.specs.declared.search.Anchored.{Anchored}
+use Rattle.aho_base.specs.declared.search.Anchored.TheVariants.{No, Yes}
 use Rattle.aho_base.specs.Bytes.{folded, folded_word}
 use Rattle.aho_base.specs.Patterns.{Patterns, pattern_at}
 use Rattle.aho_base.specs.Trie.{begins, is_kept}
@@ -15,6 +17,16 @@ name_at names sid = slice_index_or names sid None
 abbrev pub IsStateOf : List (Option (List ℕ)) → Option (List ℕ) → ℕ → Type 0
 IsStateOf names None sid = sid ≡ 0
 IsStateOf names (Some word) sid = name_at names sid ≡ Some word
+
+-- under an anchored search the root is the anchored start (3), else the unanchored one
+abbrev pub IsAnchoredStateOf : List (Option (List ℕ)) → Option (List ℕ) → ℕ → Type 0
+IsAnchoredStateOf names None sid = sid ≡ 0
+IsAnchoredStateOf names (Some []) sid = sid ≡ 3
+IsAnchoredStateOf names (Some (byte ∷ word)) sid = name_at names sid ≡ Some (byte ∷ word)
+
+abbrev pub IsHeldAs : Anchored → List (Option (List ℕ)) → Option (List ℕ) → ℕ → Type 0
+IsHeldAs No names state sid = IsStateOf names state sid
+IsHeldAs Yes names state sid = IsAnchoredStateOf names state sid
 
 -- the word with one more byte
 abbrev pub longer : Patterns → List ℕ → ℕ → List ℕ
