@@ -1,9 +1,11 @@
 -- A table that was built: its states are linked as the words are, step as they do, list what they list, and a step over it
 -- is sound.
 use Rattle.std.proofs.Common.{◌≡◌, ◌≢◌, ◌⊎◌, inl, inr, ℕ, ◌+◌, ◌<◌, ◌≤◌, Bool, true, false, cond, List, [], ◌∷◌, ◌++◌, length, eqb, refl, sym, ◌∙◌, ap, subst, arith}
-use Rattle.std.specs.Prelude.{Option, Some, None, is_none, nat_eq, MatchBool}
+use Rattle.std.specs.Prelude.{Option, Some, None, is_none, nat_eq, not, MatchBool}
 use Rattle.std.proofs.lemmas.Bool.{cases_Bool, cases_eq, cases_lt, cond-true, cond-false, eq-eqb, ne_eqb, MatchBool-at_true, MatchBool-at_false}
+use Rattle.std.proofs.lemmas.Bool.Decides.{nat_tests}
 use Rattle.std.proofs.lemmas.List.{get_or_past, length_push}
+use Rattle.aho_base.specs.declared.search.Anchored.{Anchored}
 use Rattle.aho_base.specs.declared.search.Anchored.TheVariants.{No, Yes}
 use Rattle.aho_base.specs.Bytes.{folded}
 use Rattle.aho_base.specs.Failure.{is_cut, state_after, failure_of}
@@ -33,6 +35,13 @@ edge-none rows sid byte e = cond-true (nat_eq (next_in rows sid byte) 1) None (S
 
 pub edge-some : (rows : List Row) (sid byte : ℕ) → next_in rows sid byte ≢ 1 → edge_of rows sid byte ≡ Some (next_in rows sid byte)
 edge-some rows sid byte ne = cond-false (nat_eq (next_in rows sid byte) 1) None (Some (next_in rows sid byte)) (ne_eqb (next_in rows sid byte) 1 ne)
+
+-- what the test of FAIL says
+pub not_fail : (sid : ℕ) → not (nat_eq sid 1) ≡ true → sid ≢ 1
+not_fail sid h = grind (arith, nat_tests)
+
+pub is_fail : (sid : ℕ) → not (nat_eq sid 1) ≡ false → sid ≡ 1
+is_fail sid h = grind (arith, nat_tests)
 
 module _ (p : Patterns) (names : List (Option (List ℕ))) (rows : List Row) (b : IsBuilt p names rows) where
   named_ne : (sid : ℕ) (word : List ℕ) → name_at names sid ≡ Some word → (sid ≢ 0) × ((sid ≢ 1) × (sid ≢ 3))
@@ -180,6 +189,25 @@ module _ (p : Patterns) (names : List (Option (List ℕ))) (rows : List Row) (b 
         | inl node ↦ absurd ((named_ne (next_in rows sid byte) (y ∷ u ++ folded p byte ∷ []) (node_next sid (y ∷ u) byte small is node)).1.0 e)
         | inr other ↦ cond-false (is_node p (y ∷ u ++ folded p byte ∷ [])) (Some (y ∷ u ++ folded p byte ∷ [])) None other
       ]
+
+  -- under either anchoring a transition leads where the word's step does, with one look-up
+  pub held-taken : (anchored : Anchored) (state : Option (List ℕ)) (sid byte : ℕ) → byte < 256 → IsHeldAs anchored names state sid → next_in rows sid byte ≢ 1
+      → IsHeldAs anchored names (follow p anchored state (folded p byte)) (next_in rows sid byte) × (lookups p anchored state (folded p byte) ≡ 1)
+  held-taken No state sid byte small is ne = built-taken state sid byte small is ne
+  held-taken Yes state sid byte small is ne = (anchored-taken state sid byte small is ne, refl)
+
+  -- where there is none an anchored step has ended
+  pub held-ended : (anchored : Anchored) (state further : Option (List ℕ)) (sid byte : ℕ) → anchored ≡ Yes → byte < 256 → IsHeldAs anchored names further sid
+      → follow p anchored state (folded p byte) ≡ follow p anchored further (folded p byte) → next_in rows sid byte ≡ 1 → IsHeldAs anchored names (follow p anchored state (folded p byte)) 0
+  held-ended No state further sid byte yes_it_is small is same e = cc
+  held-ended Yes state further sid byte yes_it_is small is same e = subst (λ (o : Option (List ℕ)). IsAnchoredStateOf names o 0) (sym (same ∙ anchored-failed further sid byte small is e)) refl
+
+  -- and an unanchored one goes on from the failure link
+  pub held-failed : (anchored : Anchored) (state : Option (List ℕ)) (sid byte : ℕ) → anchored ≡ No → byte < 256 → IsHeldAs anchored names state sid → next_in rows sid byte ≡ 1
+      → (further : Option (List ℕ)) × IsHeldAs anchored names further (fail_in rows sid) × (follow p anchored state (folded p byte) ≡ follow p anchored further (folded p byte))
+      × (lookups p anchored state (folded p byte) ≡ 1 + lookups p anchored further (folded p byte))
+  held-failed No state sid byte no_it_is small is e = built-failed state sid byte small is e
+  held-failed Yes state sid byte no_it_is small is e = cc
 
   -- each state lists what its word does
   pub built-lists : (state : Option (List ℕ)) (sid : ℕ) → IsStateOf names state sid → matches_in rows sid ≡ matches_of p state
