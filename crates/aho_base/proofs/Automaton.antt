@@ -16,9 +16,11 @@ use Rattle.aho_base.proofs.Fronts.{front_of, front_anchored, live_front, dead_fr
 use Rattle.aho_base.proofs.Leftmost.{told_at, begins_length, best_further, past_number, past_none}
 use Rattle.aho_base.proofs.Listed.{IsShorter, FitsWord, matches-fit, matches_of-state_after, matches-own_first}
 use Rattle.aho_base.proofs.Standard.{told_ending, best_at_start, standard_further, standard_anchored}
+use Rattle.aho_base.proofs.Overlapping.{held-patterns_ending, anchored-lists, anchored-ended}
+use Rattle.aho_base.proofs.Halves.{start_half}
 use Rattle.aho_base.specs.Bytes.{folded, folded_word}
 use Rattle.aho_base.specs.Failure.{is_leftmost, state_after}
-use Rattle.aho_base.specs.Held.{held_after}
+use Rattle.aho_base.specs.Held.{held_after, is_root}
 use Rattle.aho_base.specs.Laws.{BestAfter, Fits, Reads, better, first_of_two, longest, told}
 use Rattle.aho_base.specs.MatchList.{leftmost_matches, matches_of, matches_of_word, own_matches, suffix_matches}
 use Rattle.aho_base.specs.Occurrence.{Occurrence}
@@ -244,8 +246,13 @@ module _ (p : Patterns) where
   dead_lists None h = refl
   dead_lists (Some u) h = cc
 
+  root_is : (s : Option (List ℕ)) → is_root s ≡ true → s ≡ Some []
+  root_is None h = cc
+  root_is (Some []) h = refl
+  root_is (Some (x ∷ u)) h = cc
+
   -- the laws
-  pub word_automaton : Reads p p.kind (map length p.words) (λ anchored w s. s ≡ held_after p anchored w) (matches_of p) is_none
+  pub word_automaton : Reads p p.kind (map length p.words) (λ anchored w s. s ≡ held_after p anchored w) (matches_of p) is_none is_root
   word_automaton = record {
     kind_is = refl;
     lengths_are = refl;
@@ -257,4 +264,10 @@ module _ (p : Patterns) where
     dead_lists_none = dead_lists;
     near = is_near;
     dead_keeps = λ anchored w v s r e dead best. best_after p anchored (w ++ v) r (keeps anchored w v s r e dead (best_in p anchored w r best));
+    dead_is = λ w s other e. ap is_none e;
+    lists = λ w s is e. ap (matches_of p) e ∙ held-patterns_ending p (ap is_leftmost is) w;
+    anchored_lists = λ w s is e alive. ap (matches_of p) e ∙ anchored-lists p (ap is_leftmost is) w (sym (ap is_none e) ∙ alive) ∙ held-patterns_ending p (ap is_leftmost is) w;
+    anchored_dead = λ x w s is e. ap is_none e ∙ anchored-ended p (ap is_leftmost is) x w;
+    start_again = λ w s e h. root_is s h;
+    start_apart = λ w v s m e h o past. start_half p w v m (sym e ∙ root_is s h) o past;
   }

@@ -1,12 +1,10 @@
 -- What a held state says of the word: its longest suffix that is a node, what may still start before it, and where an
 -- anchored search has ended. And any automaton whose states go by words has the laws.
-use Rattle.std.proofs.Common.{◌≡◌, ◌↔◌, inl, inr, ℕ, ◌+◌, ◌<◌, ◌≤◌, Bool, true, false, cond, List, [], ◌∷◌, ◌++◌, length, map, refl, sym, ◌∙◌, ap, subst, arith, length-append}
-use Rattle.std.specs.Prelude.{Some, None, is_none}
+use Rattle.std.proofs.Common.{◌≡◌, ◌↔◌, inl, inr, ℕ, ◌+◌, ◌<◌, ◌≤◌, true, false, cond, List, [], ◌∷◌, ◌++◌, length, refl, sym, ◌∙◌, ap, subst, arith, length-append}
+use Rattle.std.specs.Prelude.{Some, None}
 use Rattle.std.proofs.lemmas.Bool.{cases_Bool, cases_lt, cond-true, cond-false}
 use Rattle.std.proofs.lemmas.List.{append-nil, map-append}
-use Rattle.aho_base.specs.declared.search.Anchored.{Anchored}
 use Rattle.aho_base.specs.declared.search.Anchored.TheVariants.{No, Yes}
-use Rattle.aho_base.specs.declared.search.MatchKind.{MatchKind}
 use Rattle.aho_base.proofs.Lists.{Begins}
 use Rattle.aho_base.proofs.Facts.{is_node-root, is_node-from, is_node-true, is_cut-true}
 use Rattle.aho_base.proofs.Steps.{state-node, state-cut, state-shorter, dead_leftmost}
@@ -14,12 +12,9 @@ use Rattle.aho_base.proofs.Stands.{Stands, from_occurs, length-folded, stands_le
 use Rattle.aho_base.proofs.Fronts.{moved_back, live_front}
 use Rattle.aho_base.proofs.Leftmost.{past_dead}
 use Rattle.aho_base.proofs.Standard.{every_kept}
-use Rattle.aho_base.proofs.Automaton.{word_automaton}
 use Rattle.aho_base.specs.Bytes.{folded, folded_word}
 use Rattle.aho_base.specs.Failure.{is_cut, is_leftmost, state_after}
 use Rattle.aho_base.specs.Held.{held_after}
-use Rattle.aho_base.specs.Laws.{BestAfter, Fits, Reads, better, longest, told}
-use Rattle.aho_base.specs.MatchList.{matches_of}
 use Rattle.aho_base.specs.Occurrence.{Occurrence}
 use Rattle.aho_base.specs.Occurs.{Occurs}
 use Rattle.aho_base.specs.Patterns.{Patterns}
@@ -170,31 +165,3 @@ module _ (p : Patterns) where
           | inr other ↦ cond-false (is_node p (folded_word p (x ∷ w))) (Some (folded_word p (x ∷ w))) None other
         ]),
   )
-
--- an automaton whose held states list what the words' states do, and are dead where those are, has the laws
-pub reads_by_words : {S : Type 0} (p : Patterns) (kind : MatchKind) (lengths : List ℕ) (held : Anchored → List ℕ → S → Type 0) (list : S → List ℕ) (dead : S → Bool)
-    → kind ≡ p.kind → lengths ≡ map length p.words
-    → ((anchored : Anchored) (w : List ℕ) (s : S) → held anchored w s → list s ≡ matches_of p (held_after p anchored w))
-    → ((anchored : Anchored) (w : List ℕ) (s : S) → held anchored w s → dead s ≡ is_none (held_after p anchored w))
-    → ((s : S) → dead s ≡ true → list s ≡ [])
-    → Reads p kind lengths held list dead
-reads_by_words p kind lengths held list dead kind_is lengths_are lists dies none =
-    let r = word_automaton p in
-    record {
-      kind_is = kind_is;
-      lengths_are = lengths_are;
-      listed = λ anchored w s h. subst (λ (ks : List ℕ). Fits lengths (length w) ks) (sym (lists anchored w s h)) (subst (λ (ns : List ℕ). Fits ns (length w) (matches_of p (held_after p anchored w))) (sym lengths_are) (r.listed anchored w (held_after p anchored w) refl));
-      at_start = λ anchored s h.
-          subst (λ (ks : List ℕ). BestAfter p anchored [] (told lengths anchored 0 0 ks)) (sym (lists anchored [] s h))
-          (subst (λ (ns : List ℕ). BestAfter p anchored [] (told ns anchored 0 0 (matches_of p (held_after p anchored [])))) (sym lengths_are) (r.at_start anchored (held_after p anchored []) refl));
-      after_byte = λ anchored w x s b h best.
-          subst (λ (ks : List ℕ). BestAfter p anchored (w ++ x ∷ []) (better kind b (told lengths anchored 0 (length w + 1) ks))) (sym (lists anchored (w ++ x ∷ []) s h))
-          (subst (λ (k : MatchKind). BestAfter p anchored (w ++ x ∷ []) (better k b (told lengths anchored 0 (length w + 1) (matches_of p (held_after p anchored (w ++ x ∷ [])))))) (sym kind_is)
-          (subst (λ (ns : List ℕ). BestAfter p anchored (w ++ x ∷ []) (better p.kind b (told ns anchored 0 (length w + 1) (matches_of p (held_after p anchored (w ++ x ∷ [])))))) (sym lengths_are)
-          (r.after_byte anchored w x (held_after p anchored (w ++ x ∷ [])) b refl best)));
-      dead_lists_none = none;
-      near = λ w s m other h alive best.
-          subst (λ (ns : List ℕ). length w ≤ m.start + longest ns) (sym lengths_are)
-          (r.near w (held_after p No w) m (λ e. other (kind_is ∙ e)) refl (sym (dies No w s h) ∙ alive) best);
-      dead_keeps = λ anchored w v s b h d best. r.dead_keeps anchored w v (held_after p anchored w) b refl (sym (dies anchored w s h) ∙ d) best;
-    }

@@ -1,25 +1,47 @@
 -- Standard: the list of a held state is what ends where the walk stands.
-use Rattle.std.proofs.Common.{◌≡◌, ◌↔◌, inl, inr, ℕ, ◌+◌, ◌-◌, ◌<◌, true, false, List, [], ◌++◌, length, refl, sym, ◌∙◌, ap, subst, arith, length-append}
-use Rattle.std.specs.Prelude.{Some, None, is_none}
+use Rattle.std.proofs.Common.{◌≡◌, ◌↔◌, inl, inr, ℕ, ◌+◌, ◌-◌, ◌<◌, true, false, List, [], ◌++◌, length, map, drop, take, suc, ◌∷◌, Bool, ◌&&◌, cond, refl, sym, ◌∙◌, ap, subst, arith, length-append}
+use Rattle.std.specs.Prelude.{Some, None, is_none, not, filter, flat_map, slice_range}
+use Rattle.std.specs.List.{list_any, range_with_len}
 use Rattle.std.proofs.lemmas.Bool.{cases_Bool, cond-true, cond-false}
-use Rattle.std.proofs.lemmas.List.{append-nil}
+use Rattle.std.proofs.lemmas.List.{append-nil, append_assoc, map-append, drop_at, take_at, length_push}
+use Rattle.std.proofs.lemmas.List.Elements.{filter_agree}
 use Rattle.aho_base.specs.declared.search.Anchored.TheVariants.{No, Yes}
 use Rattle.aho_base.proofs.Stands.{Stands, from_occurs, to_occurs, length-folded}
 use Rattle.aho_base.proofs.Listed.{Ends, ListedBefore, suffix-state, suffix-member, suffix-has, suffix-listed}
-use Rattle.aho_base.proofs.Standard.{ends_word}
-use Rattle.aho_base.specs.Bytes.{folded_word}
+use Rattle.aho_base.proofs.Standard.{every_kept, ends_word}
+use Rattle.aho_base.specs.Bytes.{folded_word, is_same_word}
 use Rattle.aho_base.specs.Failure.{is_leftmost}
 use Rattle.aho_base.specs.Held.{held_after}
 use Rattle.aho_base.specs.Listing.{IsListedBy, IsMember}
-use Rattle.aho_base.specs.MatchList.{leftmost_matches, matches_of, suffix_matches}
-use Rattle.aho_base.specs.Occurrence.{Occurrence}
+use Rattle.aho_base.specs.Laws.{patterns_ending}
+use Rattle.aho_base.specs.MatchList.{leftmost_matches, matches_of, own_matches, suffix_matches}
+use Rattle.aho_base.specs.Occurrence.{Occurrence, occurrence}
 use Rattle.aho_base.specs.Occurs.{Occurs}
-use Rattle.aho_base.specs.Patterns.{Patterns}
-use Rattle.aho_base.specs.Trie.{is_node, pattern_word}
+use Rattle.aho_base.specs.Overlapping.{begins_some, occurrences_at}
+use Rattle.aho_base.specs.Patterns.{Patterns, numbers, pattern_at}
+use Rattle.aho_base.specs.Trie.{begins, is_kept, is_node, is_word, pattern_word}
 
 -- the occurrence of a pattern that ends at a place
 abbrev pub ending_at : Patterns → ℕ → ℕ → Occurrence
 ending_at p end k = record { pattern = k; start = end - length (pattern_word p k); end = end }
+
+-- the numbers of the occurrences at one range
+map-occurrence : (start end : ℕ) (ks : List ℕ) → map (λ (m : Occurrence). m.pattern) (map (occurrence start end) ks) ≡ ks
+map-occurrence start end [] = refl
+map-occurrence start end (k ∷ ks) = ap (λ (xs : List ℕ). k ∷ xs) (map-occurrence start end ks)
+
+any_agree : (f g : ℕ → Bool) → ((k : ℕ) → f k ≡ g k) → (ks : List ℕ) → list_any f ks ≡ list_any g ks
+any_agree f g same [] = refl
+any_agree f g same (k ∷ ks) = rw (same k, any_agree f g same ks) refl
+
+-- the bytes from a front on
+slice_range-rest : (w front v : List ℕ) → w ≡ front ++ v → slice_range w (length front) (length w) ≡ v
+slice_range-rest w front v e =
+    let long : length v ≡ length w - length front = omega (arith, ap length e, length-append front v) in
+    ap (λ (t : List ℕ). take (length w - length front) (drop (length front) t)) e
+    ∙ ap (take (length w - length front)) (drop_at front v (length front) refl)
+    ∙ ap (take (length w - length front)) (sym (append-nil v))
+    ∙ take_at v [] (length w - length front) long
 
 module _ (p : Patterns) (standard : is_leftmost p.kind ≡ false) where
   stands_ending : (z : List ℕ) (k : ℕ) → k < length p.words → Ends (pattern_word p k) z → Stands p No z (ending_at p (length z) k)
@@ -63,3 +85,50 @@ module _ (p : Patterns) (standard : is_leftmost p.kind ≡ false) where
             ∙ sym (suffix-state p z standard (held_after p No w) refl)
         | inr other ↦ (let clash : true ≡ false = sym (ap is_none (cond-false (is_node p z) (Some z) None other)) ∙ alive in cc)
       ]
+
+  -- the occurrences at the range of a word's last bytes are the own patterns of those
+  own-occurrences_at : (w front v : List ℕ) → w ≡ front ++ v → map (λ (m : Occurrence). m.pattern) (occurrences_at p w (length front) (length w)) ≡ own_matches p (folded_word p v)
+  unfolding own_matches pattern_word
+  own-occurrences_at w front v e =
+      map-occurrence (length front) (length w) (filter (λ k. is_same_word p (pattern_at p k) (slice_range w (length front) (length w))) (numbers p))
+      ∙ filter_agree (λ k. is_same_word p (pattern_at p k) (slice_range w (length front) (length w))) (λ k. is_kept p k && is_word (pattern_word p k) (folded_word p v))
+      (λ k.
+      ap (is_same_word p (pattern_at p k)) (slice_range-rest w front v e)
+      ∙ sym (ap (λ (b : Bool). b && is_word (pattern_word p k) (folded_word p v)) (every_kept p No standard k)))
+      (numbers p)
+
+  -- so what ends the word, from a front on, is what the rest's state lists
+  ending_from : (w front v : List ℕ) (at : ℕ) → w ≡ front ++ v → at ≡ length front
+      → map (λ (m : Occurrence). m.pattern) (flat_map (λ at. occurrences_at p w at (length w)) (range_with_len at (suc (length v)))) ≡ suffix_matches p (folded_word p v)
+  ending_from w front [] at e is =
+      ap (map (λ (m : Occurrence). m.pattern)) (append-nil (occurrences_at p w at (length w)) ∙ ap (λ (i : ℕ). occurrences_at p w i (length w)) is) ∙ own-occurrences_at w front [] e
+  ending_from w front (x ∷ v) at e is =
+      let further = ending_from w (front ++ x ∷ []) v (at + 1) (e ∙ sym (append_assoc front (x ∷ []) v)) (omega (arith, length_push front x)) in
+      map-append (λ (m : Occurrence). m.pattern) (occurrences_at p w at (length w)) (flat_map (λ i. occurrences_at p w i (length w)) (range_with_len (at + 1) (suc (length v))))
+      ∙ ap (λ (ks : List ℕ). ks ++ map (λ (m : Occurrence). m.pattern) (flat_map (λ i. occurrences_at p w i (length w)) (range_with_len (at + 1) (suc (length v)))))
+      (ap (λ (i : ℕ). map (λ (m : Occurrence). m.pattern) (occurrences_at p w i (length w))) is ∙ own-occurrences_at w front (x ∷ v) e)
+      ∙ ap (λ (ks : List ℕ). own_matches p (folded_word p (x ∷ v)) ++ ks) further
+
+  pub suffix-patterns_ending : (w : List ℕ) → suffix_matches p (folded_word p w) ≡ patterns_ending p w
+  suffix-patterns_ending w =
+      let size : length w + 1 - 0 ≡ suc (length w) = omega arith in
+      sym (ap (λ (n : ℕ). map (λ (m : Occurrence). m.pattern) (flat_map (λ at. occurrences_at p w at (length w)) (range_with_len 0 n))) size ∙ ending_from w [] w 0 refl refl)
+
+  -- the list of the state after a word
+  pub held-patterns_ending : (w : List ℕ) → matches_of p (held_after p No w) ≡ patterns_ending p w
+  held-patterns_ending w = suffix-state p (folded_word p w) standard (held_after p No w) refl ∙ suffix-patterns_ending w
+
+  -- every pattern is kept, so a word is a node where it begins some pattern
+  pub is_node-begins_some : (x : ℕ) (w : List ℕ) → is_node p (folded_word p (x ∷ w)) ≡ begins_some p (x ∷ w)
+  unfolding is_node
+  is_node-begins_some x w =
+      any_agree (λ k. is_kept p k && begins (folded_word p (x ∷ w)) (pattern_word p k)) (λ k. begins (folded_word p (x ∷ w)) (pattern_word p k))
+      (λ k. ap (λ (b : Bool). b && begins (folded_word p (x ∷ w)) (pattern_word p k)) (every_kept p Yes standard k)) (numbers p)
+
+  -- an anchored search has ended where the word begins no pattern
+  pub anchored-ended : (x : ℕ) (w : List ℕ) → is_none (held_after p Yes (x ∷ w)) ≡ not (begins_some p (x ∷ w))
+  anchored-ended x w = by_node (is_node p (folded_word p (x ∷ w))) ∙ ap not (is_node-begins_some x w)
+    where
+      by_node : (b : Bool) → is_none (cond b (Some (folded_word p (x ∷ w))) None) ≡ not b
+      by_node true = refl
+      by_node false = refl
