@@ -4,8 +4,8 @@ use Rattle.std.specs.Prelude.{filter}
 use Rattle.std.specs.List.{list_any, range_with_len}
 use Rattle.std.proofs.lemmas.Bool.{and_parts, and_from}
 use Rattle.aho_base.specs.declared.search.MatchKind.TheVariants.{LeftmostFirst}
-use Rattle.aho_base.proofs.Lists.{is_word-true, is_word-from, first_passing, none_passing}
-use Rattle.aho_base.proofs.Build.{left_out_by_kept, left_out_from}
+use Rattle.aho_base.proofs.Begins.{is_word-true, is_word-from, first_passing, none_passing}
+use Rattle.aho_base.proofs.ByLinks.{left_out_by_kept, left_out_from}
 use Rattle.aho_base.specs.MatchList.{own_matches}
 use Rattle.aho_base.specs.Patterns.{Patterns}
 use Rattle.aho_base.specs.Trie.{begins, is_kept, is_node, is_word, pattern_word}

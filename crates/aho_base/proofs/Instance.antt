@@ -3,9 +3,9 @@ use Rattle.std.proofs.Common.{◌≡◌, ℕ, true, cond, List, [], ◌∷◌, �
 use Rattle.std.specs.Prelude.{Option, Some, None}
 use Rattle.std.proofs.lemmas.Bool.{cond-true, cond-false}
 use Rattle.aho_base.specs.declared.search.Anchored.TheVariants.{No}
-use Rattle.aho_base.proofs.Steps.{state-is_node, follow-node}
-use Rattle.aho_base.proofs.Build.{failure-is_node}
-use Rattle.aho_base.proofs.Links.{Grown, Linked}
+use Rattle.aho_base.proofs.StepLaw.{state-is_node, follow-node}
+use Rattle.aho_base.proofs.ByLinks.{failure-is_node}
+use Rattle.aho_base.proofs.NamedStates.{Grown, Linked}
 use Rattle.aho_base.specs.Bytes.{folded}
 use Rattle.aho_base.specs.Failure.{failure_of}
 use Rattle.aho_base.specs.Patterns.{Patterns}

@@ -5,10 +5,9 @@ use Rattle.std.specs.List.{range_with_len, All}
 use Rattle.std.proofs.lemmas.Bool.{cases_Bool, cases_eq, cond-true, cond-false, and_parts, and_from}
 use Rattle.std.proofs.lemmas.List.{append-nil}
 use Rattle.std.proofs.lemmas.List.Elements.{All-nil, All-append, All-weaker}
-use Rattle.aho_base.proofs.Lists.{is_word-true, is_word-from}
-use Rattle.aho_base.proofs.Facts.{is_cut-true, is_cut-from, own-all, own-not_node}
-use Rattle.aho_base.proofs.Leftmost.{all_kept}
-use Rattle.aho_base.proofs.Steps.{state-node, state-cut, state-shorter}
+use Rattle.aho_base.proofs.Begins.{is_word-true, is_word-from}
+use Rattle.aho_base.proofs.Kept.{is_cut-true, is_cut-from, own-all, own-not_node, all_kept}
+use Rattle.aho_base.proofs.StepLaw.{state-node, state-cut, state-shorter}
 use Rattle.aho_base.specs.Failure.{is_cut, is_leftmost, state_after}
 use Rattle.aho_base.specs.Listing.{IsListedBy, IsMember}
 use Rattle.aho_base.specs.MatchList.{leftmost_matches, matches_of, matches_of_word, own_matches, suffix_matches}

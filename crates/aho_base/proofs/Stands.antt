@@ -7,7 +7,7 @@ use Rattle.aho_base.specs.declared.search.Anchored.{Anchored}
 use Rattle.aho_base.specs.declared.search.Anchored.TheVariants.{Yes}
 use Rattle.aho_base.specs.declared.search.MatchKind.{MatchKind}
 use Rattle.aho_base.specs.declared.search.MatchKind.TheVariants.{Standard, LeftmostFirst, LeftmostLongest}
-use Rattle.aho_base.proofs.Lists.{Begins, two_cuts}
+use Rattle.aho_base.proofs.Begins.{Begins, two_cuts}
 use Rattle.aho_base.specs.Best.{IsBestOrNone}
 use Rattle.aho_base.specs.Bytes.{folded, folded_word}
 use Rattle.aho_base.specs.Failure.{is_leftmost}

@@ -1,9 +1,10 @@
 -- Words that begin others, and numbers that pass a test.
-use Rattle.std.proofs.Common.{drop, ◌≡◌, inl, inr, ℕ, zero, suc, ◌+◌, ◌<◌, ◌≤◌, Bool, true, false, List, [], ◌∷◌, ◌++◌, length, refl, sym, ◌∙◌, ap, subst, arith, append_assoc}
+use Rattle.std.proofs.Common.{drop, ◌≡◌, inl, inr, ℕ, zero, suc, ◌+◌, ◌<◌, ◌≤◌, Bool, true, false, List, [], ◌∷◌, ◌++◌, length, refl, sym, ◌∙◌, ap, subst, arith, append_assoc, length-append}
 use Rattle.std.specs.Prelude.{filter}
 use Rattle.std.specs.List.{list_any, range_with_len, All}
 use Rattle.std.proofs.lemmas.Bool.{cases_Bool, cases_eq, or_cases, or_left, or_right, cond-true, cond-false}
 use Rattle.std.proofs.lemmas.List.Elements.{All-nil, All-cons}
+use Rattle.std.proofs.lemmas.List.{append-nil, nil_from_length}
 use Rattle.std.proofs.lemmas.Slice.Eq.{starts_is, bytes_eq-Decides}
 use Rattle.std.proofs.lemmas.Bool.Decides.{Decides-eqb}
 use Rattle.aho_base.specs.Trie.{begins, is_word}
@@ -32,6 +33,15 @@ begins_trans xs ys zs a b = (a.0 ++ b.0, sym (append_assoc xs a.0 b.0) ∙ ap (�
 -- of two words that begin a third the shorter begins the longer
 pub begins_shorter : (xs ys zs : List ℕ) → Begins xs zs → Begins ys zs → length xs ≤ length ys → Begins xs ys
 begins_shorter xs ys zs a b le = let t = two_cuts xs a.0 ys b.0 (a.1 ∙ sym b.1) le in (t.0, sym t.1)
+
+-- a word that begins another and is as long is that word
+pub begins_whole : (xs ys : List ℕ) → Begins xs ys → length ys ≤ length xs → xs ≡ ys
+begins_whole xs ys b le =
+    let none : b.0 ≡ [] = nil_from_length b.0 (omega (arith, ap length b.1, length-append xs b.0)) in
+    sym (append-nil xs) ∙ ap (λ (t : List ℕ). xs ++ t) (sym none) ∙ b.1
+
+pub begins_length : (xs ys : List ℕ) → Begins xs ys → length xs ≤ length ys
+begins_length xs ys b = omega (arith, ap length b.1, length-append xs b.0)
 
 pub is_word-true : (xs ys : List ℕ) → is_word xs ys ≡ true → xs ≡ ys
 is_word-true xs ys h = (bytes_eq-Decides xs ys).0 h

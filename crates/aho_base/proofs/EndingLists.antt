@@ -8,7 +8,7 @@ use Rattle.std.proofs.lemmas.List.Elements.{filter_agree}
 use Rattle.aho_base.specs.declared.search.Anchored.TheVariants.{No, Yes}
 use Rattle.aho_base.proofs.Stands.{Stands, from_occurs, to_occurs, length-folded}
 use Rattle.aho_base.proofs.Listed.{Ends, ListedBefore, suffix-state, suffix-member, suffix-has, suffix-listed}
-use Rattle.aho_base.proofs.Standard.{every_kept, ends_word}
+use Rattle.aho_base.proofs.Standard.{ends_word}
 use Rattle.aho_base.specs.Bytes.{folded_word, is_same_word}
 use Rattle.aho_base.specs.Failure.{is_leftmost}
 use Rattle.aho_base.specs.Held.{held_after}
@@ -20,6 +20,7 @@ use Rattle.aho_base.specs.Occurs.{Occurs}
 use Rattle.aho_base.specs.Overlapping.{begins_some, occurrences_at}
 use Rattle.aho_base.specs.Patterns.{Patterns, numbers, pattern_at}
 use Rattle.aho_base.specs.Trie.{begins, is_kept, is_node, is_word, pattern_word}
+use Rattle.aho_base.proofs.Kept.{every_kept}
 
 -- the occurrence of a pattern that ends at a place
 abbrev pub ending_at : Patterns → ℕ → ℕ → Occurrence
@@ -94,7 +95,7 @@ module _ (p : Patterns) (standard : is_leftmost p.kind ≡ false) where
       ∙ filter_agree (λ k. is_same_word p (pattern_at p k) (slice_range w (length front) (length w))) (λ k. is_kept p k && is_word (pattern_word p k) (folded_word p v))
       (λ k.
       ap (is_same_word p (pattern_at p k)) (slice_range-rest w front v e)
-      ∙ sym (ap (λ (b : Bool). b && is_word (pattern_word p k) (folded_word p v)) (every_kept p No standard k)))
+      ∙ sym (ap (λ (b : Bool). b && is_word (pattern_word p k) (folded_word p v)) (every_kept p standard k)))
       (numbers p)
 
   -- so what ends the word, from a front on, is what the rest's state lists
@@ -123,11 +124,11 @@ module _ (p : Patterns) (standard : is_leftmost p.kind ≡ false) where
   unfolding is_node
   is_node-begins_some x w =
       any_agree (λ k. is_kept p k && begins (folded_word p (x ∷ w)) (pattern_word p k)) (λ k. begins (folded_word p (x ∷ w)) (pattern_word p k))
-      (λ k. ap (λ (b : Bool). b && begins (folded_word p (x ∷ w)) (pattern_word p k)) (every_kept p Yes standard k)) (numbers p)
+      (λ k. ap (λ (b : Bool). b && begins (folded_word p (x ∷ w)) (pattern_word p k)) (every_kept p standard k)) (numbers p)
 
   -- an anchored search has ended where the word begins no pattern
-  pub anchored-ended : (x : ℕ) (w : List ℕ) → is_none (held_after p Yes (x ∷ w)) ≡ not (begins_some p (x ∷ w))
-  anchored-ended x w = by_node (is_node p (folded_word p (x ∷ w))) ∙ ap not (is_node-begins_some x w)
+  pub is_none-held_after : (x : ℕ) (w : List ℕ) → is_none (held_after p Yes (x ∷ w)) ≡ not (begins_some p (x ∷ w))
+  is_none-held_after x w = by_node (is_node p (folded_word p (x ∷ w))) ∙ ap not (is_node-begins_some x w)
     where
       by_node : (b : Bool) → is_none (cond b (Some (folded_word p (x ∷ w))) None) ≡ not b
       by_node true = refl

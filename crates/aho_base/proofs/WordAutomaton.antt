@@ -3,21 +3,20 @@ use Rattle.std.proofs.Common.{◌≡◌, ◌≢◌, inl, inr, ℕ, zero, suc, �
 use Rattle.std.specs.Prelude.{Option, Some, None, is_none, slice_index}
 use Rattle.std.specs.List.{All}
 use Rattle.std.proofs.lemmas.Bool.{cases_Bool, cases_lt, cond-true, cond-false, eq-eqb, ne_eqb}
-use Rattle.std.proofs.lemmas.List.{append-nil, length_push, map_push, map-append, length-map, get_or-map}
+use Rattle.std.proofs.lemmas.List.{append-nil, append_assoc, length_push, map_push, map-append, length-map, get_or-map}
 use Rattle.std.proofs.lemmas.List.Elements.{All-nil, All-weaker, All-head}
 use Rattle.aho_base.specs.declared.search.Anchored.{Anchored}
 use Rattle.aho_base.specs.declared.search.Anchored.TheVariants.{No, Yes}
 use Rattle.aho_base.specs.declared.search.MatchKind.{MatchKind}
 use Rattle.aho_base.specs.declared.search.MatchKind.TheVariants.{Standard, LeftmostFirst, LeftmostLongest}
-use Rattle.aho_base.proofs.Facts.{own-first, own-not_node, is_node-true, is_cut-true}
-use Rattle.aho_base.proofs.Steps.{state-is_node, dead_leftmost}
+use Rattle.aho_base.proofs.Kept.{own-first, own-not_node, is_node-true, is_cut-true}
+use Rattle.aho_base.proofs.StepLaw.{state-is_node, dead_leftmost}
 use Rattle.aho_base.proofs.Stands.{Stands, BestIn, length-pattern_word, length-folded, best_in, best_after, stands_more, stands_less, stands_at, before_later, best_starts}
-use Rattle.aho_base.proofs.Fronts.{front_of, front_anchored, live_front, dead_front}
-use Rattle.aho_base.proofs.Leftmost.{told_at, begins_length, best_further, past_number, past_none}
+use Rattle.aho_base.proofs.Fronts.{front_of, front_anchored, dead_front}
+use Rattle.aho_base.proofs.Leftmost.{told_at, best_further, past_number, past_none}
 use Rattle.aho_base.proofs.Listed.{IsShorter, FitsWord, matches-fit, matches_of-state_after, matches-own_first}
 use Rattle.aho_base.proofs.Standard.{told_ending, best_at_start, standard_further, standard_anchored}
-use Rattle.aho_base.proofs.Overlapping.{held-patterns_ending, anchored-lists, anchored-ended}
-use Rattle.aho_base.proofs.Halves.{start_half}
+use Rattle.aho_base.proofs.EndingLists.{held-patterns_ending, anchored-lists, is_none-held_after}
 use Rattle.aho_base.specs.Bytes.{folded, folded_word}
 use Rattle.aho_base.specs.Failure.{is_leftmost, state_after}
 use Rattle.aho_base.specs.Held.{held_after, is_root}
@@ -26,6 +25,9 @@ use Rattle.aho_base.specs.MatchList.{leftmost_matches, matches_of, matches_of_wo
 use Rattle.aho_base.specs.Occurrence.{Occurrence}
 use Rattle.aho_base.specs.Patterns.{Patterns}
 use Rattle.aho_base.specs.Trie.{is_node, pattern_word}
+use Rattle.aho_base.proofs.Begins.{begins_length}
+use Rattle.aho_base.proofs.Starts.{start_half}
+use Rattle.aho_base.proofs.LiteralReadings.{live-occurrences}
 
 better_leftmost : (kind : MatchKind) (r t : Option Occurrence) → is_leftmost kind ≡ true → better kind r t ≡ first_of_two t r
 better_leftmost Standard r t h = cc
@@ -174,12 +176,7 @@ module _ (p : Patterns) where
       subst (λ (n : ℕ). BestIn p Yes (folded_word p (w ++ x ∷ [])) (better p.kind r (told lengths Yes 0 n (matches_of p (held_after p Yes (w ++ x ∷ [])))))) (length-folded p (w ++ x ∷ []) ∙ length_push w x)
       (anchored_further (folded_word p w) (folded_word p (w ++ x ∷ [])) (folded p x) r (map_push (folded p) w x) best)
 
-  -- how far a live state is from a match's start
-  near_start : (w : List ℕ) (u : List ℕ) (m : Occurrence) → is_leftmost p.kind ≡ true → state_after p w ≡ Some u → Stands p No w m → length w ≤ m.start + length u
-  near_start w u m leftmost e o =
-      let t = live_front p leftmost w u e in
-      omega (arith, ap length t.1, length-append t.0 u, t.2 [] m (subst (λ (v : List ℕ). Stands p No v m) (sym (append-nil w)) o))
-
+  -- a leftmost kind that is not dead is near a match's start: the state's word is no longer than the longest pattern
   node_length : (u : List ℕ) → is_node p u ≡ true → length u ≤ longest lengths
   node_length [] node = omega arith
   node_length (x ∷ u) node =
@@ -191,7 +188,7 @@ module _ (p : Patterns) where
   is_near w (Some u) m other e alive best =
       let leftmost = other_than_standard p.kind other in
       let stands = (best_in p No w (Some m) best).0 in
-      omega (arith, near_start (folded_word p w) u m leftmost (sym e) stands, length-folded p w, node_length u (state-is_node p (folded_word p w) u (sym e)))
+      omega (arith, live-occurrences p (folded_word p w) u m leftmost (sym e) stands, length-folded p w, node_length u (state-is_node p (folded_word p w) u (sym e)))
 
   -- a dead state keeps the best
   unanchored_keeps : (w y : List ℕ) (r : Option Occurrence) → state_after p w ≡ None → BestIn p No w r → BestIn p No (w ++ y) r
@@ -267,7 +264,19 @@ module _ (p : Patterns) where
     dead_is = λ w s other e. ap is_none e;
     lists = λ w s is e. ap (matches_of p) e ∙ held-patterns_ending p (ap is_leftmost is) w;
     anchored_lists = λ w s is e alive. ap (matches_of p) e ∙ anchored-lists p (ap is_leftmost is) w (sym (ap is_none e) ∙ alive) ∙ held-patterns_ending p (ap is_leftmost is) w;
-    anchored_dead = λ x w s is e. ap is_none e ∙ anchored-ended p (ap is_leftmost is) x w;
+    anchored_dead = λ x w s is e. ap is_none e ∙ is_none-held_after p (ap is_leftmost is) x w;
     start_again = λ w s e h. root_is s h;
     start_apart = λ w v s m e h o past. start_half p w v m (sym e ∙ root_is s h) o past;
   }
+
+-- every word has a best or none: the walk finds it
+module _ (p : Patterns) (anchored : Anchored) where
+  best_on : (v w : List ℕ) (r : Option Occurrence) → BestAfter p anchored v r → (b : Option Occurrence) × BestAfter p anchored (v ++ w) b
+  best_on v [] r best = (r, subst (λ (z : List ℕ). BestAfter p anchored z r) (sym (append-nil v)) best)
+  best_on v (x ∷ w) r best =
+      let laws = word_automaton p in
+      let t = best_on (v ++ x ∷ []) w _ (laws.after_byte anchored v x (held_after p anchored (v ++ x ∷ [])) r refl best) in
+      (t.0, subst (λ (z : List ℕ). BestAfter p anchored z t.0) (append_assoc v (x ∷ []) w) t.1)
+
+  pub best_exists : (w : List ℕ) → (b : Option Occurrence) × BestAfter p anchored w b
+  best_exists w = best_on [] w _ ((word_automaton p).at_start anchored (held_after p anchored []) refl)

@@ -1,11 +1,11 @@
 -- What the tests on words say: which patterns are kept, which words are nodes or cut, and what a word's own patterns are.
-use Rattle.std.proofs.Common.{◌≡◌, ◌⊎◌, inl, inr, ℕ, zero, suc, ◌<◌, ◌≤◌, true, false, ◌&&◌, ltb, List, [], ◌∷◌, ◌++◌, length, refl, sym, ◌∙◌, ap, arith}
+use Rattle.std.proofs.Common.{◌≡◌, ◌⊎◌, inl, inr, ℕ, zero, suc, ◌<◌, ◌≤◌, true, false, ◌&&◌, ltb, List, [], ◌∷◌, ◌++◌, length, refl, sym, ◌∙◌, ap, subst, arith}
 use Rattle.std.specs.List.{list_any, All}
 use Rattle.std.proofs.lemmas.Bool.{cases_Bool, cases_lt, and_parts, and_from, lt-ltb, ltb-true, not-false, not-true}
 use Rattle.std.proofs.lemmas.List.{append-nil, length_push as length-push}
 use Rattle.aho_base.specs.declared.search.MatchKind.{MatchKind}
 use Rattle.aho_base.specs.declared.search.MatchKind.TheVariants.{Standard, LeftmostFirst, LeftmostLongest}
-use Rattle.aho_base.proofs.Lists.{Begins, begins-true, begins-from, begins_trans, begins_shorter, is_word-true, is_word-from, any-true, any-from, first_passing, none_passing, all_passing}
+use Rattle.aho_base.proofs.Begins.{Begins, begins-true, begins-from, begins_trans, begins_shorter, is_word-true, is_word-from, any-true, any-from, first_passing, none_passing, all_passing}
 use Rattle.aho_base.specs.Failure.{is_cut, is_leftmost}
 use Rattle.aho_base.specs.MatchList.{own_matches}
 use Rattle.aho_base.specs.Patterns.{Patterns, numbers}
@@ -78,6 +78,9 @@ module _ (p : Patterns) where
 
   pub keeper : (k : ℕ) → Keeper k
   keeper k = keeper_within k k (omega arith)
+
+  keeper_inside : (k : ℕ) (t : Keeper k) → k < length p.words → t.who < length p.words
+  keeper_inside k t lt = elim t.which [ inl e ↦ omega arith | inr m ↦ omega (arith, m.1) ]
 
   -- a pattern that is kept and begins with a word makes that word a node
   pub is_node-from : (v : List ℕ) (k : ℕ) → k < length p.words → is_kept p k ≡ true → Begins v (pattern_word p k) → is_node p v ≡ true
@@ -181,3 +184,37 @@ module _ (p : Patterns) where
           let t = own-first v k ks e in
           let clash : true ≡ false = sym (is_node-from v k t.0 t.1 ([], append-nil v ∙ sym t.2)) ∙ other in
           cc
+
+  -- a kind other than LeftmostFirst keeps every pattern
+  pub all_kept : (k : ℕ) → (p.kind ≡ LeftmostFirst → ⊥) → is_kept p k ≡ true
+  all_kept k other = let t = keeper k in elim t.which [ inl e ↦ subst (λ (i : ℕ). is_kept p i ≡ true) e t.kept | inr m ↦ absurd (other m.0) ]
+
+  pub every_kept : is_leftmost p.kind ≡ false → (k : ℕ) → is_kept p k ≡ true
+  every_kept standard k = all_kept k (λ e. let clash : false ≡ true = sym standard ∙ ap is_leftmost e in cc)
+
+  -- a pattern that is the word, where the word has none of its own, is left out for an earlier, shorter one
+  pub left_out : (v : List ℕ) (j : ℕ) → own_matches p v ≡ [] → j < length p.words → pattern_word p j ≡ v
+      → (p.kind ≡ LeftmostFirst) × ((i : ℕ) × (i < j) × Begins (pattern_word p i) v × (length (pattern_word p i) < length v))
+  left_out v j own lt whole =
+      let t = keeper j in
+      elim t.which [
+        | inl e ↦ absurd (own-none v own j lt (subst (λ (i : ℕ). is_kept p i ≡ true) e t.kept) whole)
+        | inr m ↦ (m.0, (t.who, m.1, subst (λ (w : List ℕ). Begins (pattern_word p t.who) w) whole t.begins_it, omega (arith, m.2, ap length whole)))
+      ]
+
+  -- a pattern that begins no node and reaches past it is left out for an earlier one that lies within
+  pub past_dead : (v y : List ℕ) (j : ℕ) → is_node p v ≡ false → j < length p.words → Begins (pattern_word p j) (v ++ y) → length v < length (pattern_word p j)
+      → (p.kind ≡ LeftmostFirst) × ((i : ℕ) × (i < j) × Begins (pattern_word p i) v)
+  past_dead v y j other lt b long =
+      let t = keeper j in
+      let stands : Begins (pattern_word p t.who) (v ++ y) = begins_trans (pattern_word p t.who) (pattern_word p j) (v ++ y) t.begins_it b in
+      elim (cases_lt (length v) (length (pattern_word p t.who))) [
+        | inl past ↦
+            (let clash : true ≡ false = sym (is_node-from v t.who (keeper_inside j t lt) t.kept (begins_shorter v (pattern_word p t.who) (v ++ y) (y, refl) stands (omega arith))) ∙ other in
+            cc)
+        | inr within ↦
+            elim t.which [
+              | inl e ↦ absurd (omega (arith, ap (λ (i : ℕ). length (pattern_word p i)) e))
+              | inr m ↦ (m.0, (t.who, m.1, begins_shorter (pattern_word p t.who) v (v ++ y) stands (y, refl) within))
+            ]
+      ]

@@ -5,11 +5,10 @@ use Rattle.std.proofs.lemmas.Bool.{cases_Bool, cases_lt, cond-true, cond-false, 
 use Rattle.std.proofs.lemmas.List.{append-nil, length_push}
 use Rattle.aho_base.specs.declared.search.Anchored.TheVariants.{No}
 use Rattle.aho_base.specs.declared.search.MatchKind.TheVariants.{LeftmostFirst}
-use Rattle.aho_base.proofs.Lists.{Begins, begins_shorter}
-use Rattle.aho_base.proofs.Facts.{keeper, kept-no_longer, is_cut-true, is_cut-from, is_cut-more, own-first}
-use Rattle.aho_base.proofs.Steps.{failure_of-push, state-is_node}
-use Rattle.aho_base.proofs.Depth.{depth-state_after}
-use Rattle.aho_base.proofs.Leftmost.{begins_whole, left_out}
+use Rattle.aho_base.proofs.Begins.{Begins, begins_shorter, begins_whole}
+use Rattle.aho_base.proofs.Kept.{keeper, kept-no_longer, is_cut-true, is_cut-from, is_cut-more, own-first, left_out}
+use Rattle.aho_base.proofs.StepLaw.{failure_of-push, state-is_node}
+use Rattle.aho_base.proofs.LookUps.{depth-state_after}
 use Rattle.aho_base.proofs.Listed.{never_cut, matches_of-state_after, own_of_uncut}
 use Rattle.aho_base.specs.Failure.{failure_of, is_cut, is_leftmost, state_after}
 use Rattle.aho_base.specs.MatchList.{leftmost_matches, matches_of, own_matches, suffix_matches}

@@ -5,8 +5,8 @@ use Rattle.std.proofs.lemmas.Bool.{cases_Bool, cond-true, cond-false}
 use Rattle.std.proofs.lemmas.List.{append_assoc, append-nil, length_push}
 use Rattle.aho_base.specs.declared.search.Anchored.{Anchored}
 use Rattle.aho_base.specs.declared.search.Anchored.TheVariants.{No, Yes}
-use Rattle.aho_base.proofs.Facts.{is_cut-more}
-use Rattle.aho_base.proofs.Steps.{state-node, state-cut, state-shorter, not_node-more, not_cut-more, held_after-push}
+use Rattle.aho_base.proofs.Kept.{is_cut-more}
+use Rattle.aho_base.proofs.StepLaw.{state-node, state-cut, state-shorter, not_node-more, not_cut-more, held_after-push}
 use Rattle.aho_base.specs.Bytes.{folded_word}
 use Rattle.aho_base.specs.Failure.{failure_of, is_cut, state_after}
 use Rattle.aho_base.specs.Held.{held_after}

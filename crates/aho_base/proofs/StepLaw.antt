@@ -5,7 +5,7 @@ use Rattle.std.proofs.lemmas.Bool.{cases_Bool, cond-false}
 use Rattle.std.proofs.lemmas.List.{map_push}
 use Rattle.aho_base.specs.declared.search.Anchored.{Anchored}
 use Rattle.aho_base.specs.declared.search.Anchored.TheVariants.{No, Yes}
-use Rattle.aho_base.proofs.Facts.{is_node-root, is_node-front, is_cut-more, is_cut-before, is_cut-true}
+use Rattle.aho_base.proofs.Kept.{is_node-root, is_node-front, is_cut-more, is_cut-before, is_cut-true}
 use Rattle.aho_base.specs.Bytes.{folded, folded_word}
 use Rattle.aho_base.specs.Failure.{failure_of, is_cut, is_leftmost, state_after}
 use Rattle.aho_base.specs.Held.{held_after}

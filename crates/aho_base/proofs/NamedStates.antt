@@ -4,20 +4,18 @@ use Rattle.std.proofs.Common.{◌≡◌, inl, inr, ℕ, ◌+◌, ◌<◌, ◌≤
 use Rattle.std.specs.Prelude.{Option, Some, None, is_none}
 use Rattle.std.specs.Option.{option_map}
 use Rattle.std.proofs.lemmas.Bool.{cases_Bool, cond-false}
-use Rattle.std.proofs.lemmas.List.{append_assoc, append-nil}
 use Rattle.aho_base.specs.declared.search.Anchored.{Anchored}
 use Rattle.aho_base.specs.declared.search.Anchored.TheVariants.{No, Yes}
 use Rattle.aho_base.specs.declared.search.MatchKind.{MatchKind}
-use Rattle.aho_base.proofs.Steps.{follow-node, follow-failure, held_after-push}
-use Rattle.aho_base.proofs.Depth.{lookups-taken, lookups-failure}
-use Rattle.aho_base.proofs.Build.{failure-is_node}
-use Rattle.aho_base.proofs.Automaton.{word_automaton}
+use Rattle.aho_base.proofs.StepLaw.{follow-node, follow-failure, held_after-push}
+use Rattle.aho_base.proofs.LookUps.{lookups-taken, lookups-failure}
+use Rattle.aho_base.proofs.ByLinks.{failure-is_node}
+use Rattle.aho_base.proofs.WordAutomaton.{word_automaton}
 use Rattle.aho_base.specs.Bytes.{folded}
 use Rattle.aho_base.specs.Failure.{failure_of}
 use Rattle.aho_base.specs.Held.{held_after, is_root}
 use Rattle.aho_base.specs.Laws.{BestAfter, Fits, Reads, better, longest, told}
 use Rattle.aho_base.specs.MatchList.{matches_of}
-use Rattle.aho_base.specs.Occurrence.{Occurrence}
 use Rattle.aho_base.specs.Patterns.{Patterns}
 use Rattle.aho_base.specs.Step.{depth_of, follow, lookups}
 use Rattle.aho_base.specs.Trie.{is_node}
@@ -200,15 +198,3 @@ module _ {S : Type 0} (p : Patterns) (valid : Anchored → S → Type 0) (word :
       (λ anchored w s h. dies anchored s h.0 ∙ ap is_none h.1)
       none
       (λ w s h e. let root = begun s h.0 e in ((h.0, root), sym h.1 ∙ root))
-
--- every word has a best or none: the walk finds it
-module _ (p : Patterns) (anchored : Anchored) where
-  best_on : (v w : List ℕ) (r : Option Occurrence) → BestAfter p anchored v r → (b : Option Occurrence) × BestAfter p anchored (v ++ w) b
-  best_on v [] r best = (r, subst (λ (z : List ℕ). BestAfter p anchored z r) (sym (append-nil v)) best)
-  best_on v (x ∷ w) r best =
-      let laws = word_automaton p in
-      let t = best_on (v ++ x ∷ []) w _ (laws.after_byte anchored v x (held_after p anchored (v ++ x ∷ [])) r refl best) in
-      (t.0, subst (λ (z : List ℕ). BestAfter p anchored z t.0) (append_assoc v (x ∷ []) w) t.1)
-
-  pub best_exists : (w : List ℕ) → (b : Option Occurrence) × BestAfter p anchored w b
-  best_exists w = best_on [] w _ ((word_automaton p).at_start anchored (held_after p anchored []) refl)
