@@ -3,13 +3,13 @@ use Rattle.std.proofs.Common.{◌≡◌, ◌↔◌, inl, inr, ℕ, ◌+◌, ◌-
 use Rattle.std.specs.Prelude.{Some, None, is_none, not, filter, flat_map, slice_range}
 use Rattle.std.specs.List.{list_any, range_with_len}
 use Rattle.std.proofs.lemmas.Bool.{cases_Bool, cond-true, cond-false}
-use Rattle.std.proofs.lemmas.List.{append-nil, append_assoc, map-append, drop_at, take_at, length_push}
+use Rattle.std.proofs.lemmas.List.{append-nil, append_assoc, map-append, drop_at, take_at, length_push, drop-map, take-append-drop}
 use Rattle.std.proofs.lemmas.List.Elements.{filter_agree}
 use Rattle.aho_base.specs.declared.search.Anchored.TheVariants.{No, Yes}
-use Rattle.aho_base.proofs.Stands.{Stands, from_occurs, to_occurs, length-folded}
-use Rattle.aho_base.proofs.Listed.{Ends, ListedBefore, suffix-state, suffix-member, suffix-has, suffix-listed}
+use Rattle.aho_base.proofs.Stands.{Stands, from_occurs, to_occurs, length-folded, length-pattern_word}
+use Rattle.aho_base.proofs.Listed.{Ends, ListedBefore, listed-weaker, suffix-state, suffix-member, suffix-has, suffix-listed}
 use Rattle.aho_base.proofs.Standard.{ends_word}
-use Rattle.aho_base.specs.Bytes.{folded_word, is_same_word}
+use Rattle.aho_base.specs.Bytes.{folded, folded_word, is_same_word}
 use Rattle.aho_base.specs.Failure.{is_leftmost}
 use Rattle.aho_base.specs.Held.{held_after}
 use Rattle.aho_base.specs.Listing.{IsListedBy, IsMember}
@@ -19,6 +19,7 @@ use Rattle.aho_base.specs.Occurrence.{Occurrence, occurrence}
 use Rattle.aho_base.specs.Occurs.{Occurs}
 use Rattle.aho_base.specs.Overlapping.{begins_some, occurrences_at}
 use Rattle.aho_base.specs.Patterns.{Patterns, numbers, pattern_at}
+use Rattle.aho_base.specs.WordStatements.{IsLongerOrFirst, IsSuffixOf}
 use Rattle.aho_base.specs.Trie.{begins, is_kept, is_node, is_word, pattern_word}
 use Rattle.aho_base.proofs.Kept.{every_kept}
 
@@ -133,3 +134,34 @@ module _ (p : Patterns) (standard : is_leftmost p.kind ≡ false) where
       by_node : (b : Bool) → is_none (cond b (Some (folded_word p (x ∷ w))) None) ≡ not b
       by_node true = refl
       by_node false = refl
+
+  -- said by the bytes: a pattern is listed where it is the same as a suffix
+  pub held-member : (w : List ℕ) (k : ℕ) → IsMember (matches_of p (held_after p No w)) k ↔ IsSuffixOf p w k
+  unfolding pattern_word
+  held-member w k =
+      let z = folded_word p w in
+      let list : matches_of p (held_after p No w) ≡ suffix_matches p z = suffix-state p z standard (held_after p No w) refl in (
+        (λ m.
+            let t = suffix-member p z k (subst (λ (xs : List ℕ). IsMember xs k) list m) in
+            let front = t.1.0 in
+            record {
+              numbered = t.0;
+              at = length front;
+              within = omega (arith, ap length t.1.1, length-append front (pattern_word p k), length-folded p w);
+              same = sym (drop_at front (pattern_word p k) (length front) refl) ∙ ap (drop (length front)) t.1.1 ∙ drop-map (folded p) (length front) w;
+            }),
+        (λ o.
+            let parts : folded_word p (take o.at w) ++ pattern_word p k ≡ z =
+            ap (λ (t : List ℕ). folded_word p (take o.at w) ++ t) o.same ∙ sym (map-append (folded p) (take o.at w) (drop o.at w)) ∙ ap (folded_word p) (take-append-drop o.at w) in
+            subst (λ (xs : List ℕ). IsMember xs k) (sym list) (suffix-has p z k standard o.numbered (folded_word p (take o.at w), parts))),
+      )
+
+  -- and in this order
+  pub held-longest_first : (w : List ℕ) → IsListedBy (IsLongerOrFirst p) (matches_of p (held_after p No w))
+  held-longest_first w =
+      listed-weaker (ListedBefore p) (IsLongerOrFirst p) (matches_of p (held_after p No w))
+      (λ j k in_j in_k before. elim before [
+        | inl longer ↦ inl (omega (arith, length-pattern_word p j, length-pattern_word p k))
+        | inr tie ↦ inr (omega (arith, tie.0, length-pattern_word p j, length-pattern_word p k), tie.1)
+      ])
+      (held-listed w)

@@ -1,7 +1,7 @@
 -- What the tests on words say: which patterns are kept, which words are nodes or cut, and what a word's own patterns are.
-use Rattle.std.proofs.Common.{◌≡◌, ◌⊎◌, inl, inr, ℕ, zero, suc, ◌<◌, ◌≤◌, true, false, ◌&&◌, ltb, List, [], ◌∷◌, ◌++◌, length, refl, sym, ◌∙◌, ap, subst, arith}
+use Rattle.std.proofs.Common.{◌≡◌, ◌≢◌, ◌↔◌, ◌⊎◌, inl, inr, ℕ, zero, suc, ◌<◌, ◌≤◌, true, false, ◌&&◌, ltb, List, [], ◌∷◌, ◌++◌, length, refl, sym, ◌∙◌, ap, subst, arith}
 use Rattle.std.specs.List.{list_any, All}
-use Rattle.std.proofs.lemmas.Bool.{cases_Bool, cases_lt, and_parts, and_from, lt-ltb, ltb-true, not-false, not-true}
+use Rattle.std.proofs.lemmas.Bool.{cases_Bool, cases_lt, and_parts, and_from, lt-ltb, ltb-true, not-false, not-true, false_from_ne_true}
 use Rattle.std.proofs.lemmas.List.{append-nil, length_push as length-push}
 use Rattle.aho_base.specs.declared.search.MatchKind.{MatchKind}
 use Rattle.aho_base.specs.declared.search.MatchKind.TheVariants.{Standard, LeftmostFirst, LeftmostLongest}
@@ -9,12 +9,21 @@ use Rattle.aho_base.proofs.Begins.{Begins, begins-true, begins-from, begins_tran
 use Rattle.aho_base.specs.Failure.{is_cut, is_leftmost}
 use Rattle.aho_base.specs.MatchList.{own_matches}
 use Rattle.aho_base.specs.Patterns.{Patterns, numbers}
+use Rattle.aho_base.specs.WordStatements.{BeginsKept, IsBegun}
 use Rattle.aho_base.specs.Trie.{begins, is_kept, is_node, is_word, kept_by, pattern_word}
 
 pub leftmost_kinds : (kind : MatchKind) → is_leftmost kind ≡ true → (kind ≡ LeftmostFirst) ⊎ (kind ≡ LeftmostLongest)
 leftmost_kinds Standard h = cc
 leftmost_kinds LeftmostFirst h = inl refl
 leftmost_kinds LeftmostLongest h = inr refl
+
+pub other_than_standard : (kind : MatchKind) → kind ≢ Standard → is_leftmost kind ≡ true
+other_than_standard Standard h = absurd (h refl)
+other_than_standard LeftmostFirst h = refl
+other_than_standard LeftmostLongest h = refl
+
+pub standard_only : (kind : MatchKind) → is_leftmost kind ≡ true → kind ≢ Standard
+standard_only kind h e = let clash : true ≡ false = sym h ∙ ap is_leftmost e in cc
 
 module _ (p : Patterns) where
   begins_first : (kind : MatchKind) → kind ≡ LeftmostFirst → (j k : ℕ) → kept_by kind p k ≡ true → j < k → Begins (pattern_word p j) (pattern_word p k) → length (pattern_word p k) ≤ length (pattern_word p j)
@@ -218,3 +227,23 @@ module _ (p : Patterns) where
               | inr m ↦ (m.0, (t.who, m.1, begins_shorter (pattern_word p t.who) v (v ++ y) stands (y, refl) within))
             ]
       ]
+
+  -- a node, said by the patterns
+  pub is_node-reads : (v : List ℕ) → (is_node p v ≡ true) ↔ ((v ≡ []) ⊎ BeginsKept p v)
+  is_node-reads [] = ((λ h. inl refl), (λ h. is_node-root))
+  is_node-reads (x ∷ v) = (
+    (λ h. let t = is_node-true x v h in inr (record { number = t.0; numbered = t.1; kept = t.2; rest = t.3.0; whole = t.3.1 })),
+    (λ h. elim h [ inl e ↦ cc | inr b ↦ is_node-from (x ∷ v) b.number b.numbered b.kept (b.rest, b.whole) ]),
+  )
+
+  -- what is left out
+  pub is_kept-reads : (k : ℕ) → (is_kept p k ≡ false) ↔ ((p.kind ≡ LeftmostFirst) × IsBegun p k)
+  is_kept-reads k = (
+    (λ h.
+        let t = keeper k in
+        elim t.which [
+          | inl e ↦ (let clash : true ≡ false = sym (subst (λ (i : ℕ). is_kept p i ≡ true) e t.kept) ∙ h in cc)
+          | inr m ↦ (m.0, record { earlier = t.who; before = m.1; shorter = m.2; rest = t.begins_it.0; whole = t.begins_it.1 })
+        ]),
+    (λ h. false_from_ne_true (is_kept p k) (λ kept. omega (arith, kept-no_longer h.1.earlier k h.0 kept h.1.before (h.1.rest, h.1.whole), h.1.shorter))),
+  )

@@ -79,7 +79,7 @@ passing-listed f a (suc n) =
       | inr t ↦ subst (IsListedBy (λ j k. j < k)) (sym (cond-false (f a) (a ∷ rest) rest t)) (passing-listed f (a + 1) n)
     ]
 
-listed-weaker : {X : Type 0} (A B : X → X → Type 0) (xs : List X) → ((x y : X) → IsMember xs x → IsMember xs y → A x y → B x y) → IsListedBy A xs → IsListedBy B xs
+pub listed-weaker : {X : Type 0} (A B : X → X → Type 0) (xs : List X) → ((x y : X) → IsMember xs x → IsMember xs y → A x y → B x y) → IsListedBy A xs → IsListedBy B xs
 listed-weaker A B [] weaker h = tt
 listed-weaker A B (x ∷ xs) weaker h = ((λ later m. weaker x later (inl refl) (inr m) (h.0 later m)), listed-weaker A B xs (λ y z in_y in_z. weaker y z (inr in_y) (inr in_z)) h.1)
 

@@ -1,21 +1,23 @@
 -- What a held state says of its word: its longest suffix that is a node, what occurs before that, and where an anchored
 -- search has ended.
-use Rattle.std.proofs.Common.{◌≡◌, ◌↔◌, inl, inr, ℕ, ◌+◌, ◌<◌, ◌≤◌, true, false, cond, List, [], ◌∷◌, ◌++◌, length, refl, sym, ◌∙◌, ap, subst, arith, length-append}
-use Rattle.std.specs.Prelude.{Some, None}
+use Rattle.std.proofs.Common.{◌≡◌, ◌≢◌, ◌↔◌, take, drop, inl, inr, ℕ, ◌+◌, ◌<◌, ◌≤◌, true, false, cond, List, [], ◌∷◌, ◌++◌, length, refl, sym, ◌∙◌, ap, subst, arith, length-append}
+use Rattle.std.specs.Prelude.{Option, Some, None}
 use Rattle.std.proofs.lemmas.Bool.{cases_Bool, cond-true, cond-false}
-use Rattle.std.proofs.lemmas.List.{append-nil}
+use Rattle.std.proofs.lemmas.List.{append-nil, map-append, take-append-drop, take-map, take_at}
 use Rattle.aho_base.specs.declared.search.Anchored.TheVariants.{No, Yes}
+use Rattle.aho_base.specs.declared.search.MatchKind.TheVariants.{Standard}
 use Rattle.aho_base.proofs.Begins.{Begins}
-use Rattle.aho_base.proofs.Kept.{is_node-root, is_node-from, is_node-true, is_cut-true, every_kept}
+use Rattle.aho_base.proofs.Kept.{is_node-root, is_node-from, is_node-true, is_cut-true, every_kept, other_than_standard, standard_only}
 use Rattle.aho_base.proofs.StepLaw.{state-node, state-cut, state-shorter, dead_leftmost}
-use Rattle.aho_base.proofs.Stands.{Stands, stands_at}
+use Rattle.aho_base.proofs.Stands.{Stands, from_occurs, to_occurs, length-folded, stands_at}
 use Rattle.aho_base.proofs.Fronts.{live_front}
-use Rattle.aho_base.specs.Bytes.{folded, folded_word}
+use Rattle.aho_base.specs.Bytes.{IsSameWord, folded, folded_word}
 use Rattle.aho_base.specs.Failure.{is_cut, is_leftmost, state_after}
 use Rattle.aho_base.specs.Held.{held_after}
 use Rattle.aho_base.specs.Occurrence.{Occurrence}
-use Rattle.aho_base.specs.Patterns.{Patterns}
+use Rattle.aho_base.specs.Patterns.{Patterns, pattern_at}
 use Rattle.aho_base.specs.Trie.{is_node, pattern_word}
+use Rattle.aho_base.specs.WordStatements.{IsLongestNode, OccursBefore}
 
 module _ (p : Patterns) where
   -- the longest suffix of a word that is a node
@@ -109,3 +111,63 @@ module _ (p : Patterns) where
           | inr other ↦ cond-false (is_node p (folded_word p (x ∷ w))) (Some (folded_word p (x ∷ w))) None other
         ]),
   )
+
+  -- the longest suffix that is a node, said literally
+  pub longest_node-is : (w : List ℕ) → IsLongestNode p w (longest_node w)
+  longest_node-is w =
+      let t = longest_node-ends w in
+      record { front = t.0; parts = sym t.1; a_node = t.2; longest = λ front v e node. longest_node-longest w front v (sym e) node }
+
+  longest_node-size : (w u : List ℕ) → IsLongestNode p w u → length u ≡ length (longest_node w)
+  longest_node-size w u h =
+      let t = longest_node-ends w in
+      omega (arith, h.longest t.0 (longest_node w) (sym t.1) t.2, longest_node-longest w h.front u (sym h.parts) h.a_node)
+
+  pub held-longest : (w u : List ℕ) → held_after p No w ≡ Some u → IsLongestNode p (folded_word p w) u
+  held-longest w u e = subst (IsLongestNode p (folded_word p w)) (sym (state-longest (folded_word p w) u e)) (longest_node-is (folded_word p w))
+
+  -- dead where an occurrence starts before it
+  pub held-dead : (w u : List ℕ) → IsLongestNode p (folded_word p w) u → (held_after p No w ≡ None) ↔ ((p.kind ≢ Standard) × OccursBefore p w (length u))
+  held-dead w u h = (
+    (λ e.
+        let t = dead-occurrence (folded_word p w) e in (
+          standard_only p.kind t.0,
+          record { found = t.1.0; occurs = to_occurs p No w t.1.0 t.1.1; before = omega (arith, t.1.2, longest_node-size (folded_word p w) u h, length-folded p w) },
+        )),
+    (λ b. by_state (held_after p No w) refl b.0 b.1),
+  )
+    where
+      by_state : (s : Option (List ℕ)) → held_after p No w ≡ s → p.kind ≢ Standard → OccursBefore p w (length u) → held_after p No w ≡ None
+      by_state None e other b = e
+      by_state (Some v) e other b =
+          let stands = from_occurs p No w b.found b.occurs in
+          absurd
+          (omega (
+            arith,
+            live-occurrences (folded_word p w) v b.found (other_than_standard p.kind other) e stands,
+            ap length (state-longest (folded_word p w) v e),
+            longest_node-size (folded_word p w) u h,
+            length-folded p w,
+            b.before,
+          ))
+
+  -- a word begins a pattern where it is the same as the pattern's first bytes
+  same-begins : (v : List ℕ) (k : ℕ) → IsSameWord p v (take (length v) (pattern_at p k)) ↔ Begins (folded_word p v) (pattern_word p k)
+  unfolding pattern_word
+  same-begins v k = (
+    (λ same. (
+      folded_word p (drop (length v) (pattern_at p k)),
+      ap (λ (t : List ℕ). t ++ folded_word p (drop (length v) (pattern_at p k))) same
+          ∙ sym (map-append (folded p) (take (length v) (pattern_at p k)) (drop (length v) (pattern_at p k)))
+          ∙ ap (folded_word p) (take-append-drop (length v) (pattern_at p k)),
+    )),
+    (λ b. sym (take_at (folded_word p v) b.0 (length v) (length-folded p v)) ∙ ap (take (length v)) b.1 ∙ take-map (folded p) (length v) (pattern_at p k)),
+  )
+
+  pub held-anchored : (x : ℕ) (w : List ℕ) → p.kind ≡ Standard
+      → (held_after p Yes (x ∷ w) ≡ None) ↔ ((k : ℕ) → k < length p.words → IsSameWord p (x ∷ w) (take (length (x ∷ w)) (pattern_at p k)) → ⊥)
+  held-anchored x w is =
+      let ended = anchored_ended x w (ap is_leftmost is) in (
+        (λ e k lt same. ended.0 e k lt ((same-begins (x ∷ w) k).0 same)),
+        (λ none. ended.1 (λ k lt b. none k lt ((same-begins (x ∷ w) k).1 b))),
+      )

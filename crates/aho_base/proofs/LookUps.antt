@@ -2,12 +2,12 @@
 use Rattle.std.proofs.Common.{◌≡◌, inl, inr, ℕ, ◌+◌, ◌*◌, ◌≤◌, Bool, true, false, cond, List, [], ◌∷◌, ◌++◌, length, refl, sym, ◌∙◌, ap, arith}
 use Rattle.std.specs.Prelude.{Option, Some, None}
 use Rattle.std.proofs.lemmas.Bool.{cases_Bool, cond-true, cond-false}
-use Rattle.std.proofs.lemmas.List.{append_assoc, append-nil, length_push}
+use Rattle.std.proofs.lemmas.List.{append_assoc, append-nil, length_push, length-map}
 use Rattle.aho_base.specs.declared.search.Anchored.{Anchored}
 use Rattle.aho_base.specs.declared.search.Anchored.TheVariants.{No, Yes}
-use Rattle.aho_base.proofs.Kept.{is_cut-more}
+use Rattle.aho_base.proofs.Kept.{is_cut-more, is_node-root}
 use Rattle.aho_base.proofs.StepLaw.{state-node, state-cut, state-shorter, not_node-more, not_cut-more, held_after-push}
-use Rattle.aho_base.specs.Bytes.{folded_word}
+use Rattle.aho_base.specs.Bytes.{folded, folded_word}
 use Rattle.aho_base.specs.Failure.{failure_of, is_cut, state_after}
 use Rattle.aho_base.specs.Held.{held_after}
 use Rattle.aho_base.specs.Patterns.{Patterns}
@@ -77,6 +77,14 @@ module _ (p : Patterns) where
       ap (held_after p anchored) (sym (append_assoc v (x ∷ []) w))
       ∙ held_after-along anchored (v ++ x ∷ []) w
       ∙ ap (λ (s : Option (List ℕ)). follow_along p anchored s (folded_word p w)) (held_after-push p anchored v x)
+
+  depth-start : (anchored : Anchored) → depth_of (held_after p anchored []) ≡ 0
+  depth-start No = refl
+  depth-start Yes = ap depth_of (cond-true (is_node p []) (Some []) None (is_node-root p))
+
+  -- from the start on, two for each byte
+  pub lookups_along-start : (anchored : Anchored) (w : List ℕ) → lookups_along p anchored (held_after p anchored []) (folded_word p w) ≤ 2 * length w
+  lookups_along-start anchored w = omega (arith, lookups_along_bound anchored (held_after p anchored []) (folded_word p w), depth-start anchored, length-map w (folded p))
 
   -- what is counted from a word on is counted from its state on
   lookups-state : (w : List ℕ) (x : ℕ) → lookups_from p x w ≡ lookups p No (state_after p w) x

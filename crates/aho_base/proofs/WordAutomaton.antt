@@ -9,7 +9,7 @@ use Rattle.aho_base.specs.declared.search.Anchored.{Anchored}
 use Rattle.aho_base.specs.declared.search.Anchored.TheVariants.{No, Yes}
 use Rattle.aho_base.specs.declared.search.MatchKind.{MatchKind}
 use Rattle.aho_base.specs.declared.search.MatchKind.TheVariants.{Standard, LeftmostFirst, LeftmostLongest}
-use Rattle.aho_base.proofs.Kept.{own-first, own-not_node, is_node-true, is_cut-true}
+use Rattle.aho_base.proofs.Kept.{other_than_standard, own-first, own-not_node, is_node-true, is_cut-true}
 use Rattle.aho_base.proofs.StepLaw.{state-is_node, dead_leftmost}
 use Rattle.aho_base.proofs.Stands.{Stands, BestIn, length-pattern_word, length-folded, best_in, best_after, stands_more, stands_less, stands_at, before_later, best_starts}
 use Rattle.aho_base.proofs.Fronts.{front_of, front_anchored, dead_front}
@@ -38,11 +38,6 @@ better_standard : (kind : MatchKind) (r t : Option Occurrence) → is_leftmost k
 better_standard Standard r t h = refl
 better_standard LeftmostFirst r t h = cc
 better_standard LeftmostLongest r t h = cc
-
-other_than_standard : (kind : MatchKind) → kind ≢ Standard → is_leftmost kind ≡ true
-other_than_standard Standard h = absurd (h refl)
-other_than_standard LeftmostFirst h = refl
-other_than_standard LeftmostLongest h = refl
 
 longest_bound : (ns : List ℕ) (k : ℕ) → k < length ns → slice_index ns k ≤ longest ns
 longest_bound [] k lt = absurd (omega arith)

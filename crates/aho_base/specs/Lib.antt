@@ -17,3 +17,4 @@ pub mod MatchList
 pub mod Step
 pub mod Held
 pub mod Laws
+pub mod WordStatements
