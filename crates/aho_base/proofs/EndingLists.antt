@@ -1,27 +1,28 @@
--- Standard: the list of a held state is what ends where the walk stands.
-use Rattle.std.proofs.Common.{◌≡◌, ◌↔◌, inl, inr, ℕ, ◌+◌, ◌-◌, ◌<◌, true, false, List, [], ◌++◌, length, map, drop, take, suc, ◌∷◌, Bool, ◌&&◌, cond, refl, sym, ◌∙◌, ap, subst, arith, length-append}
+-- Standard: the list of a held state is what ends where the word that was read does.
+use Rattle.std.proofs.Common.{◌≡◌, ◌↔◌, inl, inr, ℕ, suc, ◌+◌, ◌-◌, ◌<◌, Bool, true, false, cond, ◌&&◌, List, [], ◌∷◌, ◌++◌, length, map, take, drop, refl, sym, ◌∙◌, ap, subst, arith, length-append}
 use Rattle.std.specs.Prelude.{Some, None, is_none, not, filter, flat_map, slice_range}
-use Rattle.std.specs.List.{list_any, range_with_len}
+use Rattle.std.specs.List.{range_with_len}
 use Rattle.std.proofs.lemmas.Bool.{cases_Bool, cond-true, cond-false}
 use Rattle.std.proofs.lemmas.List.{append-nil, append_assoc, map-append, drop_at, take_at, length_push, drop-map, take-append-drop}
 use Rattle.std.proofs.lemmas.List.Elements.{filter_agree}
 use Rattle.aho_base.specs.declared.search.Anchored.TheVariants.{No, Yes}
+use Rattle.aho_base.proofs.Begins.{any_agree}
+use Rattle.aho_base.proofs.Kept.{every_kept}
 use Rattle.aho_base.proofs.Stands.{Stands, from_occurs, to_occurs, length-folded, length-pattern_word}
 use Rattle.aho_base.proofs.Listed.{Ends, ListedBefore, listed-weaker, suffix-state, suffix-member, suffix-has, suffix-listed}
 use Rattle.aho_base.proofs.Standard.{ends_word}
 use Rattle.aho_base.specs.Bytes.{folded, folded_word, is_same_word}
 use Rattle.aho_base.specs.Failure.{is_leftmost}
 use Rattle.aho_base.specs.Held.{held_after}
-use Rattle.aho_base.specs.Listing.{IsListedBy, IsMember}
 use Rattle.aho_base.specs.Laws.{patterns_ending}
+use Rattle.aho_base.specs.Listing.{IsListedBy, IsMember}
 use Rattle.aho_base.specs.MatchList.{leftmost_matches, matches_of, own_matches, suffix_matches}
 use Rattle.aho_base.specs.Occurrence.{Occurrence, occurrence}
 use Rattle.aho_base.specs.Occurs.{Occurs}
 use Rattle.aho_base.specs.Overlapping.{begins_some, occurrences_at}
 use Rattle.aho_base.specs.Patterns.{Patterns, numbers, pattern_at}
-use Rattle.aho_base.specs.WordStatements.{IsLongerOrFirst, IsSuffixOf}
 use Rattle.aho_base.specs.Trie.{begins, is_kept, is_node, is_word, pattern_word}
-use Rattle.aho_base.proofs.Kept.{every_kept}
+use Rattle.aho_base.specs.WordStatements.{IsLongerOrFirst, IsSuffixOf}
 
 -- the occurrence of a pattern that ends at a place
 abbrev pub ending_at : Patterns → ℕ → ℕ → Occurrence
@@ -31,10 +32,6 @@ ending_at p end k = record { pattern = k; start = end - length (pattern_word p k
 map-occurrence : (start end : ℕ) (ks : List ℕ) → map (λ (m : Occurrence). m.pattern) (map (occurrence start end) ks) ≡ ks
 map-occurrence start end [] = refl
 map-occurrence start end (k ∷ ks) = ap (λ (xs : List ℕ). k ∷ xs) (map-occurrence start end ks)
-
-any_agree : (f g : ℕ → Bool) → ((k : ℕ) → f k ≡ g k) → (ks : List ℕ) → list_any f ks ≡ list_any g ks
-any_agree f g same [] = refl
-any_agree f g same (k ∷ ks) = rw (same k, any_agree f g same ks) refl
 
 -- the bytes from a front on
 slice_range-rest : (w front v : List ℕ) → w ≡ front ++ v → slice_range w (length front) (length w) ≡ v
@@ -46,6 +43,7 @@ slice_range-rest w front v e =
     ∙ take_at v [] (length w - length front) long
 
 module _ (p : Patterns) (standard : is_leftmost p.kind ≡ false) where
+  -- a pattern that ends a word occurs at its end
   stands_ending : (z : List ℕ) (k : ℕ) → k < length p.words → Ends (pattern_word p k) z → Stands p No z (ending_at p (length z) k)
   stands_ending z k lt e =
       let long : length z ≡ length e.0 + length (pattern_word p k) = ap length (sym e.1) ∙ length-append e.0 (pattern_word p k) in
@@ -111,6 +109,7 @@ module _ (p : Patterns) (standard : is_leftmost p.kind ≡ false) where
       (ap (λ (i : ℕ). map (λ (m : Occurrence). m.pattern) (occurrences_at p w i (length w))) is ∙ own-occurrences_at w front (x ∷ v) e)
       ∙ ap (λ (ks : List ℕ). own_matches p (folded_word p (x ∷ v)) ++ ks) further
 
+  -- from the word's start on: all that ends the word
   pub suffix-patterns_ending : (w : List ℕ) → suffix_matches p (folded_word p w) ≡ patterns_ending p w
   suffix-patterns_ending w =
       let size : length w + 1 - 0 ≡ suc (length w) = omega arith in

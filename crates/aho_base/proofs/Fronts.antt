@@ -26,6 +26,7 @@ abbrev pub moved_back : Occurrence → Occurrence
 moved_back m = record { pattern = m.pattern; start = m.start - 1; end = m.end - 1 }
 
 module _ (p : Patterns) where
+  -- by the parts before, which are not empty
   later_parts : (x : ℕ) (z : List ℕ) (n : Occurrence) (front rest : List ℕ) → 0 < n.start → n.pattern < length p.words
       → x ∷ z ≡ front ++ (pattern_word p n.pattern ++ rest) → n.start ≡ length front → n.end ≡ length front + length (pattern_word p n.pattern)
       → Stands p No z (moved_back n)
@@ -46,6 +47,7 @@ module _ (p : Patterns) where
       ]
 
   module _ (leftmost : is_leftmost p.kind ≡ true) where
+    -- what is not cut begins with no pattern
     not_here : (v : List ℕ) (k : ℕ) → is_cut p v ≡ false → k < length p.words → Begins (pattern_word p k) v → ⊥
     not_here v k uncut lt b = let clash : true ≡ false = sym (is_cut-from p v k leftmost lt b) ∙ uncut in cc
 
@@ -101,6 +103,7 @@ module _ (p : Patterns) where
     nothing_starts v y k other uncut lt b =
         elim (starts_here p v y k leftmost lt b) [ inl cut ↦ (let clash : true ≡ false = sym cut ∙ uncut in cc) | inr node ↦ (let clash : true ≡ false = sym node ∙ other in cc) ]
 
+    -- so while the state is not dead nothing starts before its word, whatever follows
     pub live_front : (w u : List ℕ) → state_after p w ≡ Some u → (pre : List ℕ) × (w ≡ pre ++ u) × ((y : List ℕ) (n : Occurrence) → Stands p No (w ++ y) n → length pre ≤ n.start)
     live_front [] u e = let same : [] ≡ u = cc in ([], same, λ y n o. omega arith)
     live_front (x ∷ w) u e =

@@ -1,5 +1,5 @@
 -- What the tests on words say: which patterns are kept, which words are nodes or cut, and what a word's own patterns are.
-use Rattle.std.proofs.Common.{◌≡◌, ◌≢◌, ◌↔◌, ◌⊎◌, inl, inr, ℕ, zero, suc, ◌<◌, ◌≤◌, true, false, ◌&&◌, ltb, List, [], ◌∷◌, ◌++◌, length, refl, sym, ◌∙◌, ap, subst, arith}
+use Rattle.std.proofs.Common.{◌≡◌, ◌≢◌, ◌↔◌, ◌⊎◌, inl, inr, ℕ, zero, suc, ◌<◌, ◌≤◌, true, false, ◌&&◌, List, [], ◌∷◌, ◌++◌, length, ltb, refl, sym, ◌∙◌, ap, subst, arith}
 use Rattle.std.specs.List.{list_any, All}
 use Rattle.std.proofs.lemmas.Bool.{cases_Bool, cases_lt, and_parts, and_from, lt-ltb, ltb-true, not-false, not-true, false_from_ne_true}
 use Rattle.std.proofs.lemmas.List.{append-nil, length_push as length-push}
@@ -9,9 +9,10 @@ use Rattle.aho_base.proofs.Begins.{Begins, begins-true, begins-from, begins_tran
 use Rattle.aho_base.specs.Failure.{is_cut, is_leftmost}
 use Rattle.aho_base.specs.MatchList.{own_matches}
 use Rattle.aho_base.specs.Patterns.{Patterns, numbers}
-use Rattle.aho_base.specs.WordStatements.{BeginsKept, IsBegun}
 use Rattle.aho_base.specs.Trie.{begins, is_kept, is_node, is_word, kept_by, pattern_word}
+use Rattle.aho_base.specs.WordStatements.{BeginsKept, IsBegun}
 
+-- the kinds, by the test of the leftmost ones
 pub leftmost_kinds : (kind : MatchKind) → is_leftmost kind ≡ true → (kind ≡ LeftmostFirst) ⊎ (kind ≡ LeftmostLongest)
 leftmost_kinds Standard h = cc
 leftmost_kinds LeftmostFirst h = inl refl
@@ -26,6 +27,7 @@ pub standard_only : (kind : MatchKind) → is_leftmost kind ≡ true → kind �
 standard_only kind h e = let clash : true ≡ false = sym h ∙ ap is_leftmost e in cc
 
 module _ (p : Patterns) where
+  -- LeftmostFirst keeps a pattern only where no earlier, shorter one begins it
   begins_first : (kind : MatchKind) → kind ≡ LeftmostFirst → (j k : ℕ) → kept_by kind p k ≡ true → j < k → Begins (pattern_word p j) (pattern_word p k) → length (pattern_word p k) ≤ length (pattern_word p j)
   begins_first Standard is j k h lt b = cc
   begins_first LeftmostLongest is j k h lt b = cc
@@ -39,6 +41,7 @@ module _ (p : Patterns) where
         | inr ge ↦ ge
       ]
 
+  -- and what is left out is begun by an earlier, shorter one
   unkept : (kind : MatchKind) (k : ℕ) → kept_by kind p k ≡ false
       → (kind ≡ LeftmostFirst) × ((j : ℕ) × (j < k) × Begins (pattern_word p j) (pattern_word p k) × (length (pattern_word p j) < length (pattern_word p k)))
   unkept Standard k h = cc
@@ -60,6 +63,7 @@ module _ (p : Patterns) where
     pub begins_it : Begins (pattern_word p who) (pattern_word p k)
     pub which : (who ≡ k) ⊎ ((p.kind ≡ LeftmostFirst) × (who < k) × (length (pattern_word p who) < length (pattern_word p k)))
 
+  -- a kept pattern is its own keeper; one that is left out has the keeper of the pattern that begins it
   keeps_itself : (k : ℕ) → is_kept p k ≡ true → Keeper k
   keeps_itself k kept = record { who = k; kept = kept; begins_it = ([], append-nil (pattern_word p k)); which = inl refl }
 
@@ -75,6 +79,7 @@ module _ (p : Patterns) where
     );
   }
 
+  -- each pattern has one: that of a pattern left out has a lesser number
   keeper_within : (n k : ℕ) → k ≤ n → Keeper k
   unfolding is_kept
   keeper_within zero k le =
@@ -99,10 +104,12 @@ module _ (p : Patterns) where
       any-from (λ i. is_kept p i && begins (x ∷ v) (pattern_word p i)) 0 (length p.words) k (omega arith) (omega arith)
       (and_from (is_kept p k) (begins (x ∷ v) (pattern_word p k)) kept (begins-from (x ∷ v) b.0 (pattern_word p k) b.1))
 
+  -- the root is a node
   pub is_node-root : is_node p [] ≡ true
   unfolding is_node
   is_node-root = refl
 
+  -- and another node begins a kept pattern
   pub is_node-true : (x : ℕ) (v : List ℕ) → is_node p (x ∷ v) ≡ true → (k : ℕ) × (k < length p.words) × (is_kept p k ≡ true) × Begins (x ∷ v) (pattern_word p k)
   unfolding is_node
   is_node-true x v h =
@@ -117,6 +124,7 @@ module _ (p : Patterns) where
       let t = is_node-true x (u ++ v) h in
       is_node-from (x ∷ u) t.0 t.1 t.2 (begins_trans (x ∷ u) (x ∷ (u ++ v)) (pattern_word p t.0) (v, refl) t.3)
 
+  -- a word is cut under a leftmost kind where a pattern begins it
   pub is_cut-from : (v : List ℕ) (k : ℕ) → is_leftmost p.kind ≡ true → k < length p.words → Begins (pattern_word p k) v → is_cut p v ≡ true
   unfolding is_cut
   is_cut-from v k leftmost lt b =
@@ -172,11 +180,13 @@ module _ (p : Patterns) where
       let both = and_parts (is_kept p k) (is_word (pattern_word p k) v) t.2 in
       (omega (arith, t.1), both.0, is_word-true (pattern_word p k) v both.1, λ j lt kept e. t.3 j (omega arith) (omega arith) (and_from (is_kept p j) (is_word (pattern_word p j) v) kept (is_word-from (pattern_word p j) v e)))
 
+  -- no pattern that is kept is a word with none of its own
   pub own-none : (v : List ℕ) → own_matches p v ≡ [] → (j : ℕ) → j < length p.words → is_kept p j ≡ true → pattern_word p j ≡ v → ⊥
   unfolding own_matches
   own-none v h j lt kept e =
       none_passing (λ i. is_kept p i && is_word (pattern_word p i) v) 0 (length p.words) h j (omega arith) (omega arith) (and_from (is_kept p j) (is_word (pattern_word p j) v) kept (is_word-from (pattern_word p j) v e))
 
+  -- what holds of each kept pattern that is the word holds of all its own
   pub own-all : (P : ℕ → Type 0) (v : List ℕ) → ((k : ℕ) → k < length p.words → is_kept p k ≡ true → pattern_word p k ≡ v → P k) → All P (own_matches p v)
   unfolding own_matches
   own-all P v each =
@@ -198,6 +208,7 @@ module _ (p : Patterns) where
   pub all_kept : (k : ℕ) → (p.kind ≡ LeftmostFirst → ⊥) → is_kept p k ≡ true
   all_kept k other = let t = keeper k in elim t.which [ inl e ↦ subst (λ (i : ℕ). is_kept p i ≡ true) e t.kept | inr m ↦ absurd (other m.0) ]
 
+  -- Standard keeps every pattern
   pub every_kept : is_leftmost p.kind ≡ false → (k : ℕ) → is_kept p k ≡ true
   every_kept standard k = all_kept k (λ e. let clash : false ≡ true = sym standard ∙ ap is_leftmost e in cc)
 

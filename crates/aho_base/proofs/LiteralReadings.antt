@@ -1,6 +1,6 @@
 -- What a held state says of its word: its longest suffix that is a node, what occurs before that, and where an anchored
 -- search has ended.
-use Rattle.std.proofs.Common.{◌≡◌, ◌≢◌, ◌↔◌, take, drop, inl, inr, ℕ, ◌+◌, ◌<◌, ◌≤◌, true, false, cond, List, [], ◌∷◌, ◌++◌, length, refl, sym, ◌∙◌, ap, subst, arith, length-append}
+use Rattle.std.proofs.Common.{◌≡◌, ◌≢◌, ◌↔◌, inl, inr, ℕ, ◌+◌, ◌<◌, ◌≤◌, true, false, cond, List, [], ◌∷◌, ◌++◌, length, take, drop, refl, sym, ◌∙◌, ap, subst, arith, length-append}
 use Rattle.std.specs.Prelude.{Option, Some, None}
 use Rattle.std.proofs.lemmas.Bool.{cases_Bool, cond-true, cond-false}
 use Rattle.std.proofs.lemmas.List.{append-nil, map-append, take-append-drop, take-map, take_at}
@@ -25,6 +25,7 @@ module _ (p : Patterns) where
   longest_node [] = []
   longest_node (x ∷ w) = cond (is_node p (x ∷ w)) (x ∷ w) (longest_node w)
 
+  -- it ends the word and is a node
   pub longest_node-ends : (w : List ℕ) → (front : List ℕ) × (w ≡ front ++ longest_node w) × (is_node p (longest_node w) ≡ true)
   longest_node-ends [] = ([], refl, is_node-root p)
   longest_node-ends (x ∷ w) =
@@ -36,6 +37,7 @@ module _ (p : Patterns) where
             (x ∷ t.0, ap (λ (v : List ℕ). x ∷ v) (t.1 ∙ ap (λ (v : List ℕ). t.0 ++ v) (sym e)), subst (λ (v : List ℕ). is_node p v ≡ true) (sym e) t.2))
       ]
 
+  -- and no longer suffix is one
   pub longest_node-longest : (w front v : List ℕ) → w ≡ front ++ v → is_node p v ≡ true → length v ≤ length (longest_node w)
   longest_node-longest [] front v e node = omega (arith, ap length e, length-append front v)
   longest_node-longest (x ∷ w) front v e node =
@@ -62,9 +64,11 @@ module _ (p : Patterns) where
             ])
       ]
 
+  -- it is no longer than the word
   longest_node-length : (w : List ℕ) → length (longest_node w) ≤ length w
   longest_node-length w = let t = longest_node-ends w in omega (arith, ap length t.1, length-append t.0 (longest_node w))
 
+  -- where the state is dead: the first place where a pattern occurs, which is before that suffix
   dead_at : (w : List ℕ) → state_after p w ≡ None → (pre v : List ℕ) × (w ≡ pre ++ v) × (is_cut p v ≡ true) × (length pre + length (longest_node w) < length w)
   dead_at [] e = cc
   dead_at (x ∷ w) e =
@@ -80,6 +84,7 @@ module _ (p : Patterns) where
             ])
       ]
 
+  -- so a dead state has an occurrence that starts before the longest node
   pub dead-occurrence : (w : List ℕ) → state_after p w ≡ None → (is_leftmost p.kind ≡ true) × ((n : Occurrence) × Stands p No w n × (n.start + length (longest_node w) < length w))
   dead-occurrence w e =
       let t = dead_at w e in
@@ -92,6 +97,7 @@ module _ (p : Patterns) where
         ),
       )
 
+  -- and another state has none
   pub live-occurrences : (w u : List ℕ) (n : Occurrence) → is_leftmost p.kind ≡ true → state_after p w ≡ Some u → Stands p No w n → length w ≤ n.start + length u
   live-occurrences w u n leftmost e o =
       let t = live_front p leftmost w u e in
@@ -118,11 +124,13 @@ module _ (p : Patterns) where
       let t = longest_node-ends w in
       record { front = t.0; parts = sym t.1; a_node = t.2; longest = λ front v e node. longest_node-longest w front v (sym e) node }
 
+  -- each longest node is as long
   longest_node-size : (w u : List ℕ) → IsLongestNode p w u → length u ≡ length (longest_node w)
   longest_node-size w u h =
       let t = longest_node-ends w in
       omega (arith, h.longest t.0 (longest_node w) (sym t.1) t.2, longest_node-longest w h.front u (sym h.parts) h.a_node)
 
+  -- the state after a word is its longest node, where it is not dead
   pub held-longest : (w u : List ℕ) → held_after p No w ≡ Some u → IsLongestNode p (folded_word p w) u
   held-longest w u e = subst (IsLongestNode p (folded_word p w)) (sym (state-longest (folded_word p w) u e)) (longest_node-is (folded_word p w))
 
@@ -164,6 +172,7 @@ module _ (p : Patterns) where
     (λ b. sym (take_at (folded_word p v) b.0 (length v) (length-folded p v)) ∙ ap (take (length v)) b.1 ∙ take-map (folded p) (length v) (pattern_at p k)),
   )
 
+  -- an anchored search by Standard has ended where the word begins no pattern, said by the bytes
   pub held-anchored : (x : ℕ) (w : List ℕ) → p.kind ≡ Standard
       → (held_after p Yes (x ∷ w) ≡ None) ↔ ((k : ℕ) → k < length p.words → IsSameWord p (x ∷ w) (take (length (x ∷ w)) (pattern_at p k)) → ⊥)
   held-anchored x w is =

@@ -14,11 +14,13 @@ use Rattle.aho_base.specs.Patterns.{Patterns}
 use Rattle.aho_base.specs.Step.{depth_of, follow, follow_along, lookups, lookups_along, lookups_from}
 use Rattle.aho_base.specs.Trie.{is_node}
 
+-- a state is counted once
 at_most_one : (b : Bool) → cond b 1 0 ≤ 1
 at_most_one true = omega arith
 at_most_one false = omega arith
 
 module _ (p : Patterns) where
+  -- the look-ups from a nonempty word, by cases
   lookups-node : (y : ℕ) (u : List ℕ) (x : ℕ) → is_node p (y ∷ u ++ x ∷ []) ≡ true → lookups_from p x (y ∷ u) ≡ 1
   lookups-node y u x node = rw node refl
 
@@ -28,6 +30,7 @@ module _ (p : Patterns) where
   lookups-further : (y : ℕ) (u : List ℕ) (x : ℕ) → is_node p (y ∷ u ++ x ∷ []) ≡ false → is_cut p (y ∷ u) ≡ false → lookups_from p x (y ∷ u) ≡ cond (is_node p (y ∷ u)) 1 0 + lookups_from p x u
   lookups-further y u x other uncut = rw (other, uncut) refl
 
+  -- a state is no longer than the word
   pub depth-state_after : (w : List ℕ) → depth_of (state_after p w) ≤ length w
   depth-state_after [] = omega arith
   depth-state_after (y ∷ w) =
@@ -40,6 +43,7 @@ module _ (p : Patterns) where
             ]
       ]
 
+  -- the bound, unanchored
   bound_from : (u : List ℕ) (x : ℕ) → lookups_from p x u + depth_of (state_after p (u ++ x ∷ [])) ≤ length u + 2
   bound_from [] x = omega (arith, depth-state_after (x ∷ []))
   bound_from (y ∷ u) x =
@@ -66,6 +70,7 @@ module _ (p : Patterns) where
         | inr other ↦ omega (arith, ap depth_of (cond-false (is_node p (u ++ x ∷ [])) (Some (u ++ x ∷ [])) None other))
       ]
 
+  -- for the steps of a word
   pub lookups_along_bound : (anchored : Anchored) (s : Option (List ℕ)) (w : List ℕ) → lookups_along p anchored s w + depth_of (follow_along p anchored s w) ≤ depth_of s + 2 * length w
   lookups_along_bound anchored s [] = omega arith
   lookups_along_bound anchored s (x ∷ w) = omega (arith, lookups_bound anchored s x, lookups_along_bound anchored (follow p anchored s x) w)
@@ -78,6 +83,7 @@ module _ (p : Patterns) where
       ∙ held_after-along anchored (v ++ x ∷ []) w
       ∙ ap (λ (s : Option (List ℕ)). follow_along p anchored s (folded_word p w)) (held_after-push p anchored v x)
 
+  -- the start has depth 0
   depth-start : (anchored : Anchored) → depth_of (held_after p anchored []) ≡ 0
   depth-start No = refl
   depth-start Yes = ap depth_of (cond-true (is_node p []) (Some []) None (is_node-root p))
@@ -107,6 +113,7 @@ module _ (p : Patterns) where
   lookups-taken [] x node = refl
   lookups-taken (y ∷ u) x node = lookups-node y u x node
 
+  -- one more than from the failure link, where the node does not take the byte
   pub lookups-failure : (y : ℕ) (u : List ℕ) (x : ℕ) → is_node p (y ∷ u) ≡ true → is_node p (y ∷ u ++ x ∷ []) ≡ false → lookups p No (Some (y ∷ u)) x ≡ 1 + lookups p No (failure_of p (y ∷ u)) x
   lookups-failure y u x node other =
       let one : ◌≡◌ {A = ℕ} (cond (is_node p (y ∷ u)) 1 0) 1 = cond-true (is_node p (y ∷ u)) 1 0 node in

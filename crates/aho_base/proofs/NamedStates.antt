@@ -8,9 +8,9 @@ use Rattle.aho_base.specs.declared.search.Anchored.{Anchored}
 use Rattle.aho_base.specs.declared.search.Anchored.TheVariants.{No, Yes}
 use Rattle.aho_base.specs.declared.search.MatchKind.{MatchKind}
 use Rattle.aho_base.proofs.StepLaw.{follow-node, follow-failure, held_after-push}
+use Rattle.aho_base.proofs.WordAutomaton.{word_automaton}
 use Rattle.aho_base.proofs.LookUps.{lookups-taken, lookups-failure}
 use Rattle.aho_base.proofs.ByLinks.{failure-is_node}
-use Rattle.aho_base.proofs.WordAutomaton.{word_automaton}
 use Rattle.aho_base.specs.Bytes.{folded}
 use Rattle.aho_base.specs.Failure.{failure_of}
 use Rattle.aho_base.specs.Held.{held_after, is_root}
@@ -20,8 +20,8 @@ use Rattle.aho_base.specs.Patterns.{Patterns}
 use Rattle.aho_base.specs.Step.{depth_of, follow, lookups}
 use Rattle.aho_base.specs.Trie.{is_node}
 
--- the valid states have nodes as their words, or none, by a test of nodes, as that of the first patterns; a transition leads to the longer node where there is one, and
--- from a dead state to a dead one
+-- by a test of nodes, as that of the first patterns: the valid states have nodes as their words, or none; a transition
+-- leads to the longer node where there is one, and from a dead state to a dead one
 pub record Grown {S : Type 0} (p : Patterns) (node : List ℕ → Bool) (valid : S → Type 0) (word : S → Option (List ℕ)) (edge : S → ℕ → Option S) : Type 0 where
   pub is_node_word : (s : S) (u : List ℕ) → valid s → word s ≡ Some u → node u ≡ true
   pub takes : (s : S) (u : List ℕ) (x : ℕ) → valid s → word s ≡ Some u → node (u ++ folded p x ∷ []) ≡ true → (t : S) × (edge s x ≡ Some t) × valid t × (word t ≡ Some (u ++ folded p x ∷ []))
@@ -40,6 +40,7 @@ pub record Rooted {S : Type 0} (p : Patterns) (valid : S → Type 0) (word : S �
   pub only : (s : S) (u : List ℕ) (x : ℕ) → valid s → word s ≡ Some u → is_node p (u ++ folded p x ∷ []) ≡ false → edge s x ≡ None
 
 module _ {S : Type 0} (p : Patterns) (n : ℕ) (valid : S → Type 0) (word : S → Option (List ℕ)) (edge : S → ℕ → Option S) (fail : S → S) (l : Linked p n valid word edge fail) where
+  -- a transition leads where the step does
   taken_at : (s t : S) (x : ℕ) (w : Option (List ℕ)) → valid s → word s ≡ w → edge s x ≡ Some t → valid t × (word t ≡ follow p No w (folded p x)) × (lookups p No w (folded p x) ≡ 1)
   taken_at s t x None ok e is =
       let d = l.grown.dead s x ok e in
@@ -63,10 +64,12 @@ module _ {S : Type 0} (p : Patterns) (n : ℕ) (valid : S → Type 0) (word : S 
   pub taken : (s t : S) (x : ℕ) → valid s → edge s x ≡ Some t → valid t × (word t ≡ follow p No (word s) (folded p x)) × (lookups p No (word s) (folded p x) ≡ 1)
   taken s t x ok is = taken_at s t x (word s) ok refl is
 
+  -- a failure link leads nearer to the start
   depth_failed : (y : ℕ) (u : List ℕ) (s : Option (List ℕ)) → failure_of p (y ∷ u) ≡ s → depth_of s < length (y ∷ u)
   depth_failed y u None e = omega arith
   depth_failed y u (Some v) e = omega (arith, (failure-is_node p y u v e).1)
 
+  -- where there is no transition
   failed_at : (s : S) (x : ℕ) (w : Option (List ℕ)) → valid s → word s ≡ w → depth_of w ≤ n → edge s x ≡ None
       → valid (fail s) × (follow p No w (folded p x) ≡ follow p No (word (fail s)) (folded p x)) × (lookups p No w (folded p x) ≡ 1 + lookups p No (word (fail s)) (folded p x)) × (depth_of (word (fail s)) < depth_of w)
   failed_at s x None ok e near is = let d = l.grown.dead s x ok e in cc
@@ -90,6 +93,7 @@ module _ {S : Type 0} (p : Patterns) (n : ℕ) (valid : S → Type 0) (word : S 
   failed s x ok near is = failed_at s x (word s) ok refl near is
 
 module _ {S : Type 0} (p : Patterns) (valid : S → Type 0) (word : S → Option (List ℕ)) (edge : S → ℕ → Option S) (l : Rooted p valid word edge) where
+  -- anchored: a transition leads where the step does, and where there is none the search has ended
   rooted_taken_at : (s t : S) (x : ℕ) (w : Option (List ℕ)) → valid s → word s ≡ w → edge s x ≡ Some t → valid t × (word t ≡ follow p Yes w (folded p x))
   rooted_taken_at s t x None ok e is = let d = l.grown.dead s x ok e in let same : d.0 ≡ t = cc in (subst valid same d.2, ap word (sym same) ∙ d.3)
   rooted_taken_at s t x (Some u) ok e is =
@@ -114,12 +118,15 @@ module _ {S : Type 0} (p : Patterns) (valid : S → Type 0) (word : S → Option
 
 -- the same states under other numbers
 module _ {S : Type 0} (p : Patterns) (valid : S → Type 0) (word : S → Option (List ℕ)) (edge : S → ℕ → Option S) (new old : S → S) (back : (s : S) → old (new s) ≡ s) where
+  -- the transitions under the new numbers
   abbrev pub renamed_edge : S → ℕ → Option S
   renamed_edge s x = option_map new (edge (old s) x)
 
+  -- where they lead
   renamed_target : (s t : S) (x : ℕ) (w : Option (List ℕ)) → edge (old s) x ≡ Some t → valid t → word t ≡ w → (r : S) × (renamed_edge s x ≡ Some r) × valid (old r) × (word (old r) ≡ w)
   renamed_target s t x w e ok is = (new t, ap (option_map new) e, subst valid (sym (back t)) ok, ap word (back t) ∙ is)
 
+  -- the new numbers have what the old ones had
   pub renamed_grown : (node : List ℕ → Bool) → Grown p node valid word edge → Grown p node (λ s. valid (old s)) (λ s. word (old s)) renamed_edge
   renamed_grown node g = record {
     is_node_word = λ s u ok e. g.is_node_word (old s) u ok e;
@@ -141,7 +148,8 @@ module _ {S : Type 0} (p : Patterns) (valid : S → Type 0) (word : S → Option
     only = λ s u x ok e other. ap (option_map new) (l.only (old s) u x ok e other);
   }
 
--- an automaton whose held states list what the words' states do, and are dead where those are, has the laws
+-- an automaton has the laws where its held states list what the words' states do, are dead where those are, and are starts
+-- only where those are the root and they are held before the first byte
 pub reads_by_words : {S : Type 0} (p : Patterns) (kind : MatchKind) (lengths : List ℕ) (held : Anchored → List ℕ → S → Type 0) (list : S → List ℕ) (dead starts : S → Bool)
     → kind ≡ p.kind → lengths ≡ map length p.words
     → ((anchored : Anchored) (w : List ℕ) (s : S) → held anchored w s → list s ≡ matches_of p (held_after p anchored w))

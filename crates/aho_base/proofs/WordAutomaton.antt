@@ -9,6 +9,7 @@ use Rattle.aho_base.specs.declared.search.Anchored.{Anchored}
 use Rattle.aho_base.specs.declared.search.Anchored.TheVariants.{No, Yes}
 use Rattle.aho_base.specs.declared.search.MatchKind.{MatchKind}
 use Rattle.aho_base.specs.declared.search.MatchKind.TheVariants.{Standard, LeftmostFirst, LeftmostLongest}
+use Rattle.aho_base.proofs.Begins.{begins_length}
 use Rattle.aho_base.proofs.Kept.{other_than_standard, own-first, own-not_node, is_node-true, is_cut-true}
 use Rattle.aho_base.proofs.StepLaw.{state-is_node, dead_leftmost}
 use Rattle.aho_base.proofs.Stands.{Stands, BestIn, length-pattern_word, length-folded, best_in, best_after, stands_more, stands_less, stands_at, before_later, best_starts}
@@ -17,6 +18,8 @@ use Rattle.aho_base.proofs.Leftmost.{told_at, best_further, past_number, past_no
 use Rattle.aho_base.proofs.Listed.{IsShorter, FitsWord, matches-fit, matches_of-state_after, matches-own_first}
 use Rattle.aho_base.proofs.Standard.{told_ending, best_at_start, standard_further, standard_anchored}
 use Rattle.aho_base.proofs.EndingLists.{held-patterns_ending, anchored-lists, is_none-held_after}
+use Rattle.aho_base.proofs.Starts.{start_half}
+use Rattle.aho_base.proofs.LiteralReadings.{live-occurrences}
 use Rattle.aho_base.specs.Bytes.{folded, folded_word}
 use Rattle.aho_base.specs.Failure.{is_leftmost, state_after}
 use Rattle.aho_base.specs.Held.{held_after, is_root}
@@ -25,10 +28,8 @@ use Rattle.aho_base.specs.MatchList.{leftmost_matches, matches_of, matches_of_wo
 use Rattle.aho_base.specs.Occurrence.{Occurrence}
 use Rattle.aho_base.specs.Patterns.{Patterns}
 use Rattle.aho_base.specs.Trie.{is_node, pattern_word}
-use Rattle.aho_base.proofs.Begins.{begins_length}
-use Rattle.aho_base.proofs.Starts.{start_half}
-use Rattle.aho_base.proofs.LiteralReadings.{live-occurrences}
 
+-- which of two the kinds take
 better_leftmost : (kind : MatchKind) (r t : Option Occurrence) → is_leftmost kind ≡ true → better kind r t ≡ first_of_two t r
 better_leftmost Standard r t h = cc
 better_leftmost LeftmostFirst r t h = refl
@@ -39,6 +40,7 @@ better_standard Standard r t h = refl
 better_standard LeftmostFirst r t h = cc
 better_standard LeftmostLongest r t h = cc
 
+-- no length is above the greatest
 longest_bound : (ns : List ℕ) (k : ℕ) → k < length ns → slice_index ns k ≤ longest ns
 longest_bound [] k lt = absurd (omega arith)
 longest_bound (n ∷ ns) zero lt = omega arith
@@ -49,9 +51,11 @@ module _ (p : Patterns) where
   abbrev lengths : List ℕ
   lengths = map length p.words
 
+  -- the length of a pattern, by its word
   length_of : (k : ℕ) → k < length p.words → slice_index lengths k ≡ length (pattern_word p k)
   length_of k lt = get_or-map length p.words k [] 0 lt ∙ sym (length-pattern_word p k)
 
+  -- what fits the word fits by the lengths
   fits : (list : List ℕ) (n : ℕ) → All (FitsWord p n) list → Fits lengths n list
   fits list n h = All-weaker (FitsWord p n) (λ k. (k < length lengths) × (slice_index lengths k ≤ n)) (λ k f. (omega (arith, f.0, length-map p.words length), omega (arith, f.1, length_of k f.0))) list h
 
@@ -62,12 +66,14 @@ module _ (p : Patterns) where
       let f = All-head (FitsWord p n) k ks h in
       ap (λ (s : ℕ). Some (record { pattern = k; start = n - s; end = n })) (length_of k f.0)
 
+  -- leftmost: what the own patterns of the front tell
   told_front : (pre v own : List ℕ) (n : ℕ) → own_matches p v ≡ own → n ≡ length pre + length v → told lengths No 0 n own ≡ told_at pre n own
   told_front pre v [] n e long = refl
   told_front pre v (k ∷ ks) n e long =
       let first = own-first p v k ks e in
       ap (λ (s : ℕ). Some (record { pattern = k; start = s; end = n })) (omega (arith, length_of k first.0, ap length first.2))
 
+  -- anchored: patterns shorter than what was read tell nothing
   told_shorter : (list : List ℕ) (n : ℕ) → All (IsShorter p n) list → told lengths Yes 0 n list ≡ None
   told_shorter [] n h = refl
   told_shorter (k ∷ ks) n h =
@@ -75,6 +81,7 @@ module _ (p : Patterns) where
       cond-false (eqb (slice_index lengths k) (n - 0)) (Some (record { pattern = k; start = n - slice_index lengths k; end = n })) None
       (ne_eqb (slice_index lengths k) (n - 0) (λ e. omega (arith, f.1, length_of k f.0)))
 
+  -- so the first of the own patterns alone
   told_anchored : (v own rest : List ℕ) (n : ℕ) → own_matches p v ≡ own → n ≡ length v → All (IsShorter p n) rest → told lengths Yes 0 n (own ++ rest) ≡ told_at [] n own
   told_anchored v [] rest n e long h = told_shorter rest n h
   told_anchored v (k ∷ ks) rest n e long h =
@@ -96,6 +103,7 @@ module _ (p : Patterns) where
         )
       ]
 
+  -- and this is what the held state tells
   told_held_anchored : (v : List ℕ) (n : ℕ) → n ≡ length v → told lengths Yes 0 n (matches_of p (cond (is_node p v) (Some v) None)) ≡ told_at [] n (own_matches p v)
   told_held_anchored v n long =
       let t = anchored_list v in
@@ -109,9 +117,11 @@ module _ (p : Patterns) where
         | inr other ↦ subst (λ (s : Option (List ℕ)). All (FitsWord p (length v)) (matches_of p s)) (sym (cond-false (is_node p v) (Some v) None other)) (All-nil (FitsWord p (length v)))
       ]
 
+  -- the state of an unanchored search
   state_fits : (v : List ℕ) → All (FitsWord p (length v)) (matches_of p (state_after p v))
   state_fits v = subst (All (FitsWord p (length v))) (sym (matches_of-state_after p v)) (matches-fit p v (length v) (omega arith))
 
+  -- both
   held_fits : (anchored : Anchored) (w : List ℕ) → Fits lengths (length w) (matches_of p (held_after p anchored w))
   held_fits No w = subst (λ (n : ℕ). Fits lengths n (matches_of p (held_after p No w))) (length-folded p w) (fits (matches_of p (held_after p No w)) (length (folded_word p w)) (state_fits (folded_word p w)))
   held_fits Yes w = subst (λ (n : ℕ). Fits lengths n (matches_of p (held_after p Yes w))) (length-folded p w) (fits (matches_of p (held_after p Yes w)) (length (folded_word p w)) (anchored_fits (folded_word p w)))
@@ -124,6 +134,7 @@ module _ (p : Patterns) where
       same true xs = refl
       same false xs = refl
 
+  -- what the start tells: the first empty pattern
   start_tells : (anchored : Anchored) → told lengths anchored 0 0 (matches_of p (held_after p anchored [])) ≡ told_at [] 0 (own_matches p [])
   start_tells No = ap (told lengths No 0 0) own_of_empty ∙ told_front [] [] (own_matches p []) 0 refl refl
   start_tells Yes = told_held_anchored [] 0 refl
@@ -162,6 +173,7 @@ module _ (p : Patterns) where
             (standard_anchored p standard z w x r more best)
       ]
 
+  -- both, by the bytes that were read
   further : (anchored : Anchored) (w : List ℕ) (x : ℕ) (r : Option Occurrence) → BestIn p anchored (folded_word p w) r
       → BestIn p anchored (folded_word p (w ++ x ∷ [])) (better p.kind r (told lengths anchored 0 (length w + 1) (matches_of p (held_after p anchored (w ++ x ∷ [])))))
   further No w x r best =
@@ -178,6 +190,7 @@ module _ (p : Patterns) where
       let t = is_node-true p x u node in
       omega (arith, begins_length (x ∷ u) (pattern_word p t.0) t.3, length_of t.0 t.1, longest_bound lengths t.0 (omega (arith, t.1, length-map p.words length)))
 
+  -- so what was read since the match's start is no longer than that
   is_near : (w : List ℕ) (s : Option (List ℕ)) (m : Occurrence) → p.kind ≢ Standard → s ≡ held_after p No w → is_none s ≡ false → BestAfter p No w (Some m) → length w ≤ m.start + longest lengths
   is_near w None m other e alive best = cc
   is_near w (Some u) m other e alive best =
@@ -212,6 +225,7 @@ module _ (p : Patterns) where
             ],
           )
 
+  -- anchored: dead is what is no node
   anchored_keeps : (w y : List ℕ) (r : Option Occurrence) → is_node p w ≡ false → BestIn p Yes w r → BestIn p Yes (w ++ y) r
   anchored_keeps w y None other best =
       λ n o. elim (cases_lt (length w) n.end) [
@@ -226,18 +240,22 @@ module _ (p : Patterns) where
     ],
   )
 
+  -- an anchored state is dead where the word is no node
   not_a_node : (w : List ℕ) → None ≡ cond (is_node p w) (Some w) None → is_node p w ≡ false
   not_a_node w e = elim (cases_Bool (is_node p w)) [ inl node ↦ (let clash : None ≡ Some w = e ∙ cond-true (is_node p w) (Some w) None node in cc) | inr other ↦ other ]
 
+  -- both, by the bytes that were read
   keeps : (anchored : Anchored) (w v : List ℕ) (s : Option (List ℕ)) (r : Option Occurrence) → s ≡ held_after p anchored w → is_none s ≡ true → BestIn p anchored (folded_word p w) r → BestIn p anchored (folded_word p (w ++ v)) r
   keeps anchored w v (Some u) r e dead best = cc
   keeps No w v None r e dead best = subst (λ (z : List ℕ). BestIn p No z r) (sym (map-append (folded p) w v)) (unanchored_keeps (folded_word p w) (folded_word p v) r (sym e) best)
   keeps Yes w v None r e dead best = subst (λ (z : List ℕ). BestIn p Yes z r) (sym (map-append (folded p) w v)) (anchored_keeps (folded_word p w) (folded_word p v) r (not_a_node (folded_word p w) e) best)
 
+  -- a dead state lists nothing
   dead_lists : (s : Option (List ℕ)) → is_none s ≡ true → matches_of p s ≡ []
   dead_lists None h = refl
   dead_lists (Some u) h = cc
 
+  -- the root is the empty word
   root_is : (s : Option (List ℕ)) → is_root s ≡ true → s ≡ Some []
   root_is None h = cc
   root_is (Some []) h = refl
@@ -266,6 +284,7 @@ module _ (p : Patterns) where
 
 -- every word has a best or none: the walk finds it
 module _ (p : Patterns) (anchored : Anchored) where
+  -- from the best of a front on
   best_on : (v w : List ℕ) (r : Option Occurrence) → BestAfter p anchored v r → (b : Option Occurrence) × BestAfter p anchored (v ++ w) b
   best_on v [] r best = (r, subst (λ (z : List ℕ). BestAfter p anchored z r) (sym (append-nil v)) best)
   best_on v (x ∷ w) r best =
@@ -273,5 +292,6 @@ module _ (p : Patterns) (anchored : Anchored) where
       let t = best_on (v ++ x ∷ []) w _ (laws.after_byte anchored v x (held_after p anchored (v ++ x ∷ [])) r refl best) in
       (t.0, subst (λ (z : List ℕ). BestAfter p anchored z t.0) (append_assoc v (x ∷ []) w) t.1)
 
+  -- each word has a best occurrence, or none occurs
   pub best_exists : (w : List ℕ) → (b : Option Occurrence) × BestAfter p anchored w b
   best_exists w = best_on [] w _ ((word_automaton p).at_start anchored (held_after p anchored []) refl)

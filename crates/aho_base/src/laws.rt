@@ -45,10 +45,13 @@ pub fn lists_the_suffixes()
         → matches_of p (held_after p No word) ≡ patterns_ending p word }
 {}
 
-/// A state that is not dead is the longest suffix of the word that is a node. A state is dead just
-/// where the kind is leftmost and a pattern occurs in the word that starts before that suffix; and
-/// in an anchored search by the standard kind just where the word begins no pattern.
+/// Each word has a longest suffix that is a node, and a state that is not dead is that suffix. A
+/// state is dead just where the kind is leftmost and a pattern occurs in the word that starts
+/// before that suffix; and in an anchored search by the standard kind just where the word begins no
+/// pattern.
 pub fn reads_literally()
+    ensures some { (p : Patterns) (word : List ℕ)
+        → (node : List ℕ) × IsLongestNode p (folded_word p word) node }
     ensures longest { (p : Patterns) (word node : List ℕ)
         → held_after p No word ≡ Some node → IsLongestNode p (folded_word p word) node }
     ensures dead { (p : Patterns) (word node : List ℕ)
