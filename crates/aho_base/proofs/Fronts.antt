@@ -1,12 +1,12 @@
 -- Where the first occurrence of a word starts.
 use Rattle.std.proofs.Common.{◌≡◌, ◌⊎◌, inl, inr, ℕ, ◌+◌, ◌-◌, ◌<◌, ◌≤◌, true, false, List, [], ◌∷◌, ◌++◌, length, refl, sym, ◌∙◌, ap, arith}
 use Rattle.std.specs.Prelude.{Some, None}
-use Rattle.std.proofs.lemmas.Bool.{cases_Bool, cond-true, cond-false}
+use Rattle.std.proofs.lemmas.Bool.{cases_Bool, cases_lt, cond-true, cond-false}
 use Rattle.aho_base.specs.declared.search.Anchored.{Anchored}
 use Rattle.aho_base.specs.declared.search.Anchored.TheVariants.{No, Yes}
-use Rattle.aho_base.proofs.Lists.{Begins}
-use Rattle.aho_base.proofs.Facts.{is_cut-from, starts_here}
-use Rattle.aho_base.proofs.Steps.{state-node, state-cut, state-shorter}
+use Rattle.aho_base.proofs.Begins.{Begins}
+use Rattle.aho_base.proofs.Kept.{is_cut-from, starts_here}
+use Rattle.aho_base.proofs.StepLaw.{state-node, state-cut, state-shorter}
 use Rattle.aho_base.proofs.Stands.{Stands, begins_at, stands_length}
 use Rattle.aho_base.specs.Failure.{is_cut, is_leftmost, state_after}
 use Rattle.aho_base.specs.MatchList.{leftmost_matches, own_matches}
@@ -26,28 +26,28 @@ abbrev pub moved_back : Occurrence → Occurrence
 moved_back m = record { pattern = m.pattern; start = m.start - 1; end = m.end - 1 }
 
 module _ (p : Patterns) where
-  later_parts : (x : ℕ) (z : List ℕ) (n : Occurrence) (front rest : List ℕ) → (Begins (pattern_word p n.pattern) (x ∷ z) → ⊥) → n.pattern < length p.words
+  -- by the parts before, which are not empty
+  later_parts : (x : ℕ) (z : List ℕ) (n : Occurrence) (front rest : List ℕ) → 0 < n.start → n.pattern < length p.words
       → x ∷ z ≡ front ++ (pattern_word p n.pattern ++ rest) → n.start ≡ length front → n.end ≡ length front + length (pattern_word p n.pattern)
-      → (0 < n.start) × Stands p No z (moved_back n)
-  later_parts x z n [] rest none lt parts start end = absurd (none (rest, sym parts))
-  later_parts x z n (y ∷ front) rest none lt parts start end = (
-    omega arith,
-    record {
-      below = lt;
-      front = front;
-      rest = rest;
-      parts = cc;
-      start = omega arith;
-      end = omega arith;
-      at = λ e. cc;
-    },
-  )
+      → Stands p No z (moved_back n)
+  later_parts x z n [] rest later lt parts start end = absurd (omega arith)
+  later_parts x z n (y ∷ front) rest later lt parts start end =
+      record { below = lt; front = front; rest = rest; parts = cc; start = omega arith; end = omega arith; at = λ e. cc }
+
+  -- what occurs after a word's first byte occurs in what follows that byte
+  pub stands_back : (x : ℕ) (z : List ℕ) (n : Occurrence) → 0 < n.start → Stands p No (x ∷ z) n → Stands p No z (moved_back n)
+  stands_back x z n later o = later_parts x z n o.front o.rest later o.below o.parts o.start o.end
 
   -- where no pattern begins the word, what occurs in it occurs after its first byte
   pub stands_later : (x : ℕ) (z : List ℕ) (n : Occurrence) → (Begins (pattern_word p n.pattern) (x ∷ z) → ⊥) → Stands p No (x ∷ z) n → (0 < n.start) × Stands p No z (moved_back n)
-  stands_later x z n none o = later_parts x z n o.front o.rest none o.below o.parts o.start o.end
+  stands_later x z n none o =
+      elim (cases_lt 0 n.start) [
+        | inl later ↦ (later, stands_back x z n later o)
+        | inr here ↦ absurd (none (begins_at p No (x ∷ z) [] (x ∷ z) n refl o (omega arith)))
+      ]
 
   module _ (leftmost : is_leftmost p.kind ≡ true) where
+    -- what is not cut begins with no pattern
     not_here : (v : List ℕ) (k : ℕ) → is_cut p v ≡ false → k < length p.words → Begins (pattern_word p k) v → ⊥
     not_here v k uncut lt b = let clash : true ≡ false = sym (is_cut-from p v k leftmost lt b) ∙ uncut in cc
 
@@ -103,6 +103,7 @@ module _ (p : Patterns) where
     nothing_starts v y k other uncut lt b =
         elim (starts_here p v y k leftmost lt b) [ inl cut ↦ (let clash : true ≡ false = sym cut ∙ uncut in cc) | inr node ↦ (let clash : true ≡ false = sym node ∙ other in cc) ]
 
+    -- so while the state is not dead nothing starts before its word, whatever follows
     pub live_front : (w u : List ℕ) → state_after p w ≡ Some u → (pre : List ℕ) × (w ≡ pre ++ u) × ((y : List ℕ) (n : Occurrence) → Stands p No (w ++ y) n → length pre ≤ n.start)
     live_front [] u e = let same : [] ≡ u = cc in ([], same, λ y n o. omega arith)
     live_front (x ∷ w) u e =

@@ -4,13 +4,14 @@ use Rattle.std.specs.Prelude.{filter}
 use Rattle.std.specs.List.{list_any, range_with_len}
 use Rattle.std.proofs.lemmas.Bool.{and_parts, and_from}
 use Rattle.aho_base.specs.declared.search.MatchKind.TheVariants.{LeftmostFirst}
-use Rattle.aho_base.proofs.Lists.{is_word-true, is_word-from, first_passing, none_passing}
-use Rattle.aho_base.proofs.Build.{left_out_by_kept, left_out_from}
+use Rattle.aho_base.proofs.Begins.{is_word-true, is_word-from, first_passing, none_passing}
+use Rattle.aho_base.proofs.ByLinks.{left_out_by_kept, left_out_from}
 use Rattle.aho_base.specs.Among.{own_among, is_node_among}
 use Rattle.aho_base.specs.MatchList.{own_matches}
 use Rattle.aho_base.specs.Patterns.{Patterns}
 use Rattle.aho_base.specs.Trie.{begins, is_kept, is_node, is_word, pattern_word}
 
+-- one number more in a range
 filter-range_more : (f : ℕ → Bool) (a n k : ℕ) → a + n ≡ k → filter f (range_with_len a (suc n)) ≡ filter f (range_with_len a n) ++ cond (f k) (k ∷ []) []
 filter-range_more f a zero k e = let same : a ≡ k = omega arith in ap (λ (i : ℕ). cond (f i) (i ∷ []) []) same
 filter-range_more f a (suc n) k e =
@@ -35,6 +36,7 @@ any-range_more f a (suc n) k e = ap (λ (b : Bool). f a || b) (any-range_more f 
     assoc false y z = refl
 
 module _ (p : Patterns) where
+  -- a word's own patterns among the first: none, all, one more
   pub own_among-none : (v : List ℕ) → own_among p 0 v ≡ []
   unfolding own_among
   own_among-none v = refl
@@ -47,6 +49,7 @@ module _ (p : Patterns) where
   unfolding own_among
   own_among-more k v = filter-range_more (λ i. is_kept p i && is_word (pattern_word p i) v) 0 k k (omega arith)
 
+  -- the nodes by the first patterns: none but the root, all, one more
   pub is_node_among-none : (x : ℕ) (v : List ℕ) → is_node_among p 0 (x ∷ v) ≡ false
   unfolding is_node_among
   is_node_among-none x v = refl
@@ -78,6 +81,7 @@ module _ (p : Patterns) where
         ),
       )
 
+  -- and where the walk meets such a node the pattern is left out
   pub walk-left_out : (k : ℕ) (u rest : List ℕ) → p.kind ≡ LeftmostFirst → u ++ rest ≡ pattern_word p k → length u < length (pattern_word p k) → own_among p k u ≢ [] → is_kept p k ≡ false
   unfolding own_among
   walk-left_out k u rest is front short some = by_own (own_among p k u) refl

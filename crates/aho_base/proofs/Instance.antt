@@ -3,8 +3,8 @@ use Rattle.std.proofs.Common.{◌≡◌, ℕ, true, cond, List, [], ◌∷◌, �
 use Rattle.std.specs.Prelude.{Option, Some, None}
 use Rattle.std.proofs.lemmas.Bool.{cond-true, cond-false}
 use Rattle.aho_base.specs.declared.search.Anchored.TheVariants.{No}
-use Rattle.aho_base.proofs.Steps.{state-is_node, follow-node}
-use Rattle.aho_base.proofs.Build.{failure-is_node}
+use Rattle.aho_base.proofs.StepLaw.{state-is_node, follow-node}
+use Rattle.aho_base.proofs.ByLinks.{failure-is_node}
 use Rattle.aho_base.proofs.LinkedStates.{Grown, Linked}
 use Rattle.aho_base.specs.Bytes.{folded}
 use Rattle.aho_base.specs.Failure.{failure_of}
@@ -13,6 +13,7 @@ use Rattle.aho_base.specs.Step.{follow}
 use Rattle.aho_base.specs.Trie.{is_node}
 
 module _ (p : Patterns) where
+  -- the dead state, and the nodes
   abbrev is_state : Option (List ℕ) → Type 0
   is_state s = (u : List ℕ) → s ≡ Some u → is_node p u ≡ true
 
@@ -22,16 +23,19 @@ module _ (p : Patterns) where
   edge_of (Some []) x = Some (follow p No (Some []) (folded p x))
   edge_of (Some (y ∷ u)) x = cond (is_node p (y ∷ u ++ folded p x ∷ [])) (Some (Some (y ∷ u ++ folded p x ∷ []))) None
 
+  -- the failure links
   abbrev pub fail_of : Option (List ℕ) → Option (List ℕ)
   fail_of None = None
   fail_of (Some u) = failure_of p u
 
+  -- where they lead there are states
   node_state : (v : List ℕ) → is_node p v ≡ true → is_state (Some v)
   node_state v node u e = let same : v ≡ u = cc in subst (λ (w : List ℕ). is_node p w ≡ true) same node
 
   follow_state : (x : ℕ) → is_state (follow p No (Some []) x)
   follow_state x u e = state-is_node p (x ∷ []) u e
 
+  -- a node takes each byte that makes a node
   grown_takes : (s : Option (List ℕ)) (u : List ℕ) (x : ℕ) → s ≡ Some u → is_node p (u ++ folded p x ∷ []) ≡ true → (t : Option (List ℕ)) × (edge_of s x ≡ Some t) × is_state t × (t ≡ Some (u ++ folded p x ∷ []))
   grown_takes s [] x e node = (Some (folded p x ∷ []), ap (λ (o : Option (List ℕ)). edge_of o x) e ∙ ap Some (follow-node p No [] (folded p x) node), node_state (folded p x ∷ []) node, refl)
   grown_takes s (y ∷ u) x e node = (
@@ -48,9 +52,11 @@ module _ (p : Patterns) where
     dead = λ s x small ok e. (None, ap (λ (o : Option (List ℕ)). edge_of o x) e, (λ u e. cc), refl);
   }
 
+  -- a failure link leads to a state
   failure_state : (y : ℕ) (u : List ℕ) → is_state (failure_of p (y ∷ u))
   failure_state y u v e = (failure-is_node p y u v e).0
 
+  -- so the words are linked as the laws of the next states want
   pub words_are_linked : (n : ℕ) → Linked p n is_state (λ s. s) edge_of fail_of
   words_are_linked n = record {
     grown = grown;

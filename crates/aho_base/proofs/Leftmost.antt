@@ -2,12 +2,12 @@
 use Rattle.std.proofs.Common.{◌≡◌, ◌⊎◌, inl, inr, ℕ, ◌+◌, ◌<◌, ◌≤◌, true, false, List, [], ◌∷◌, ◌++◌, length, refl, sym, ◌∙◌, ap, subst, arith, length-append}
 use Rattle.std.specs.Prelude.{Option, Some, None}
 use Rattle.std.proofs.lemmas.Bool.{cases_lt, cases_eq}
-use Rattle.std.proofs.lemmas.List.{append-nil, append_assoc, length_push, nil_from_length}
+use Rattle.std.proofs.lemmas.List.{append-nil, append_assoc, length_push}
 use Rattle.aho_base.specs.declared.search.Anchored.{Anchored}
 use Rattle.aho_base.specs.declared.search.Anchored.TheVariants.{Yes}
 use Rattle.aho_base.specs.declared.search.MatchKind.TheVariants.{LeftmostFirst, LeftmostLongest}
-use Rattle.aho_base.proofs.Lists.{Begins, begins_trans, begins_shorter}
-use Rattle.aho_base.proofs.Facts.{leftmost_kinds, Keeper, keeper, kept-no_longer, is_node-from, is_cut-true, own-first, own-none}
+use Rattle.aho_base.proofs.Begins.{Begins, begins_trans, begins_whole, begins_length}
+use Rattle.aho_base.proofs.Kept.{leftmost_kinds, keeper, kept-no_longer, is_cut-true, own-first, left_out, past_dead, all_kept}
 use Rattle.aho_base.proofs.Stands.{Stands, BestIn, same_match, stands_length, stands_more, stands_less, stands_at, begins_at, before_later, before_number, before_longer, best_starts, best_number}
 use Rattle.aho_base.proofs.Fronts.{Front}
 use Rattle.aho_base.specs.Failure.{is_cut, is_leftmost}
@@ -18,27 +18,12 @@ use Rattle.aho_base.specs.Order.{IsBefore}
 use Rattle.aho_base.specs.Patterns.{Patterns}
 use Rattle.aho_base.specs.Trie.{is_kept, is_node, pattern_word}
 
--- a word that begins another and is as long is that word
-pub begins_whole : (xs ys : List ℕ) → Begins xs ys → length ys ≤ length xs → xs ≡ ys
-begins_whole xs ys b le =
-    let none : b.0 ≡ [] = nil_from_length b.0 (omega (arith, ap length b.1, length-append xs b.0)) in
-    sym (append-nil xs) ∙ ap (λ (t : List ℕ). xs ++ t) (sym none) ∙ b.1
-
-pub begins_length : (xs ys : List ℕ) → Begins xs ys → length xs ≤ length ys
-begins_length xs ys b = omega (arith, ap length b.1, length-append xs b.0)
-
 -- what the first of a word's own patterns tells, where the word is v in pre ++ v, up to the end
 abbrev pub told_at : List ℕ → ℕ → List ℕ → Option Occurrence
 told_at pre end [] = None
 told_at pre end (k ∷ ks) = Some (record { pattern = k; start = length pre; end = end })
 
 module _ (p : Patterns) where
-  keeper_inside : (k : ℕ) (t : Keeper p k) → k < length p.words → t.who < length p.words
-  keeper_inside k t lt = elim t.which [ inl e ↦ omega arith | inr m ↦ omega (arith, m.1) ]
-
-  pub all_kept : (k : ℕ) → (p.kind ≡ LeftmostFirst → ⊥) → is_kept p k ≡ true
-  all_kept k other = let t = keeper p k in elim t.which [ inl e ↦ subst (λ (i : ℕ). is_kept p i ≡ true) e t.kept | inr m ↦ absurd (other m.0) ]
-
   -- under LeftmostFirst the first of a word's own patterns has the least number of all patterns that begin the word
   least_number : (v : List ℕ) (k : ℕ) (ks : List ℕ) (j : ℕ) → p.kind ≡ LeftmostFirst → own_matches p v ≡ k ∷ ks → j < length p.words → Begins (pattern_word p j) v → k ≤ j
   least_number v k ks j is own lt b =
@@ -56,33 +41,6 @@ module _ (p : Patterns) where
                   (let begins_too : Begins (pattern_word p t.who) (pattern_word p k) = begins_trans (pattern_word p t.who) (pattern_word p j) (pattern_word p k) t.begins_it begins_first in
                   absurd (omega (arith, kept-no_longer p t.who k is first.1 (omega (arith, m.1)) begins_too, m.2, begins_length (pattern_word p j) v b, ap length first.2)))
             ])
-      ]
-
-  -- a pattern that is the word, where the word has none of its own, is left out for an earlier, shorter one
-  pub left_out : (v : List ℕ) (j : ℕ) → own_matches p v ≡ [] → j < length p.words → pattern_word p j ≡ v
-      → (p.kind ≡ LeftmostFirst) × ((i : ℕ) × (i < j) × Begins (pattern_word p i) v × (length (pattern_word p i) < length v))
-  left_out v j own lt whole =
-      let t = keeper p j in
-      elim t.which [
-        | inl e ↦ absurd (own-none p v own j lt (subst (λ (i : ℕ). is_kept p i ≡ true) e t.kept) whole)
-        | inr m ↦ (m.0, (t.who, m.1, subst (λ (w : List ℕ). Begins (pattern_word p t.who) w) whole t.begins_it, omega (arith, m.2, ap length whole)))
-      ]
-
-  -- a pattern that begins no node and reaches past it is left out for an earlier one that lies within
-  pub past_dead : (v y : List ℕ) (j : ℕ) → is_node p v ≡ false → j < length p.words → Begins (pattern_word p j) (v ++ y) → length v < length (pattern_word p j)
-      → (p.kind ≡ LeftmostFirst) × ((i : ℕ) × (i < j) × Begins (pattern_word p i) v)
-  past_dead v y j other lt b long =
-      let t = keeper p j in
-      let stands : Begins (pattern_word p t.who) (v ++ y) = begins_trans (pattern_word p t.who) (pattern_word p j) (v ++ y) t.begins_it b in
-      elim (cases_lt (length v) (length (pattern_word p t.who))) [
-        | inl past ↦
-            (let clash : true ≡ false = sym (is_node-from p v t.who (keeper_inside j t lt) t.kept (begins_shorter v (pattern_word p t.who) (v ++ y) (y, refl) stands (omega arith))) ∙ other in
-            cc)
-        | inr within ↦
-            elim t.which [
-              | inl e ↦ absurd (omega (arith, ap (λ (i : ℕ). length (pattern_word p i)) e))
-              | inr m ↦ (m.0, (t.who, m.1, begins_shorter (pattern_word p t.who) v (v ++ y) stands (y, refl) within))
-            ]
       ]
 
   module _ (anchored : Anchored) where
@@ -112,7 +70,7 @@ module _ (p : Patterns) where
                           elim (cases_lt (length (pattern_word p n.pattern)) (length v)) [
                             | inl shorter ↦ inr (before_longer p.kind m n is (sym start) (inl (omega (arith, sizes.0))))
                             | inr whole ↦
-                                (let kept = all_kept n.pattern (λ e. let clash : LeftmostLongest ≡ LeftmostFirst = sym is ∙ e in cc) in
+                                (let kept = all_kept p n.pattern (λ e. let clash : LeftmostLongest ≡ LeftmostFirst = sym is ∙ e in cc) in
                                 let le : k ≤ n.pattern = first.3 n.pattern o.below kept (begins_whole (pattern_word p n.pattern) v b whole) in
                                 elim (cases_eq k n.pattern) [
                                   | inl e ↦ inl (same_match n m (sym e) start (omega (arith, sizes.0)))
@@ -145,7 +103,7 @@ module _ (p : Patterns) where
           elim (cases_lt (length (pattern_word p c.0)) (length v)) [
             | inl short ↦ (c.0, stands_within c.0 c.1 c.2 short)
             | inr whole ↦
-                (let out = (left_out v c.0 own c.1 (begins_whole (pattern_word p c.0) v c.2 whole)).1 in
+                (let out = (left_out p v c.0 own c.1 (begins_whole (pattern_word p c.0) v c.2 whole)).1 in
                 (out.0, stands_within out.0 (omega (arith, out.1, c.1)) out.2 out.3))
           ]
 
@@ -162,7 +120,7 @@ module _ (p : Patterns) where
                 (let start : n.start ≡ length pre = omega arith in
                 let b = begins_at p anchored z pre v n f.parts o start in
                 let whole : pattern_word p n.pattern ≡ v = begins_whole (pattern_word p n.pattern) v b (omega (arith, sizes.0, sizes.1, lengths_here.0, lengths_here.1)) in
-                let out = left_out v n.pattern own o.below whole in
+                let out = left_out p v n.pattern own o.below whole in
                 let i = out.1.0 in
                 let number : m.pattern ≤ i =
                 best_number p.kind m (placed i) out.0
@@ -205,7 +163,7 @@ module _ (p : Patterns) where
           let sizes = stands_length p anchored (w ++ y) n o in
           let more : w ++ y ≡ pre ++ (v ++ y) = ap (λ (t : List ℕ). t ++ y) parts ∙ append_assoc pre v y in
           let b = begins_at p anchored (w ++ y) pre (v ++ y) n more o start in
-          let out = past_dead v y n.pattern other o.below b (omega (arith, sizes.0, ap length parts, length-append pre v)) in
+          let out = past_dead p v y n.pattern other o.below b (omega (arith, sizes.0, ap length parts, length-append pre v)) in
           let i = out.1.0 in
           let number : m.pattern ≤ i =
           best_number p.kind m (placed_past i) out.0
@@ -217,5 +175,5 @@ module _ (p : Patterns) where
           let sizes = stands_length p anchored (w ++ y) n o in
           let more : w ++ y ≡ pre ++ (v ++ y) = ap (λ (t : List ℕ). t ++ y) parts ∙ append_assoc pre v y in
           let b = begins_at p anchored (w ++ y) pre (v ++ y) n more o start in
-          let out = past_dead v y n.pattern other o.below b (omega (arith, sizes.0, ap length parts, length-append pre v)) in
+          let out = past_dead p v y n.pattern other o.below b (omega (arith, sizes.0, ap length parts, length-append pre v)) in
           best (placed_past out.1.0) (stands_at p anchored w pre v out.1.0 (length pre + length (pattern_word p out.1.0)) parts at (omega (arith, out.1.1, o.below)) out.1.2 refl)

@@ -1,28 +1,21 @@
 -- States of any kind that are named by words and linked as the words are: where a step by a byte leads, and how many states
 -- it looks at.
-use Rattle.std.proofs.Common.{◌≡◌, inl, inr, ℕ, ◌+◌, ◌<◌, ◌≤◌, Bool, true, false, List, [], ◌∷◌, ◌++◌, length, map, refl, sym, ◌∙◌, ap, subst, arith}
-use Rattle.std.specs.Prelude.{Option, Some, None, is_none}
+use Rattle.std.proofs.Common.{◌≡◌, inl, inr, ℕ, ◌+◌, ◌<◌, ◌≤◌, Bool, true, false, List, [], ◌∷◌, ◌++◌, length, refl, sym, ◌∙◌, ap, subst, arith}
+use Rattle.std.specs.Prelude.{Option, Some, None}
 use Rattle.std.specs.Option.{option_map}
 use Rattle.std.proofs.lemmas.Bool.{cases_Bool, cond-false}
-use Rattle.std.proofs.lemmas.List.{append_assoc, append-nil}
-use Rattle.aho_base.specs.declared.search.Anchored.{Anchored}
 use Rattle.aho_base.specs.declared.search.Anchored.TheVariants.{No, Yes}
-use Rattle.aho_base.specs.declared.search.MatchKind.{MatchKind}
-use Rattle.aho_base.proofs.Steps.{follow-node, follow-failure, held_after-push}
-use Rattle.aho_base.proofs.Depth.{lookups-taken, lookups-failure}
-use Rattle.aho_base.proofs.Build.{failure-is_node}
+use Rattle.aho_base.proofs.StepLaw.{follow-node, follow-failure}
+use Rattle.aho_base.proofs.LookUps.{lookups-taken, lookups-failure}
+use Rattle.aho_base.proofs.ByLinks.{failure-is_node}
 use Rattle.aho_base.specs.Bytes.{folded}
 use Rattle.aho_base.specs.Failure.{failure_of}
-use Rattle.aho_base.specs.Held.{held_after}
-use Rattle.aho_base.specs.Laws.{BestAfter, Reads}
-use Rattle.aho_base.specs.MatchList.{matches_of}
-use Rattle.aho_base.specs.Occurrence.{Occurrence}
 use Rattle.aho_base.specs.Patterns.{Patterns}
 use Rattle.aho_base.specs.Step.{depth_of, follow, lookups}
 use Rattle.aho_base.specs.Trie.{is_node}
 
--- the valid states have nodes as their words, or none, by a test of nodes, as that of the first patterns; a transition leads to the longer node where there is one, and
--- from a dead state to a dead one
+-- by a test of nodes, as that of the first patterns: the valid states have nodes as their words, or none; a transition
+-- leads to the longer node where there is one, and from a dead state to a dead one
 pub record Grown {S : Type 0} (p : Patterns) (node : List ℕ → Bool) (valid : S → Type 0) (word : S → Option (List ℕ)) (edge : S → ℕ → Option S) : Type 0 where
   pub is_node_word : (s : S) (u : List ℕ) → valid s → word s ≡ Some u → node u ≡ true
   pub takes : (s : S) (u : List ℕ) (x : ℕ) → x < 256 → valid s → word s ≡ Some u → node (u ++ folded p x ∷ []) ≡ true → (t : S) × (edge s x ≡ Some t) × valid t × (word t ≡ Some (u ++ folded p x ∷ []))
@@ -41,6 +34,7 @@ pub record Rooted {S : Type 0} (p : Patterns) (valid : S → Type 0) (word : S �
   pub only : (s : S) (u : List ℕ) (x : ℕ) → x < 256 → valid s → word s ≡ Some u → is_node p (u ++ folded p x ∷ []) ≡ false → edge s x ≡ None
 
 module _ {S : Type 0} (p : Patterns) (n : ℕ) (valid : S → Type 0) (word : S → Option (List ℕ)) (edge : S → ℕ → Option S) (fail : S → S) (l : Linked p n valid word edge fail) where
+  -- a transition leads where the step does
   taken_at : (s t : S) (x : ℕ) (w : Option (List ℕ)) → x < 256 → valid s → word s ≡ w → edge s x ≡ Some t → valid t × (word t ≡ follow p No w (folded p x)) × (lookups p No w (folded p x) ≡ 1)
   taken_at s t x None small ok e is =
       let d = l.grown.dead s x small ok e in
@@ -64,10 +58,12 @@ module _ {S : Type 0} (p : Patterns) (n : ℕ) (valid : S → Type 0) (word : S 
   pub taken : (s t : S) (x : ℕ) → x < 256 → valid s → edge s x ≡ Some t → valid t × (word t ≡ follow p No (word s) (folded p x)) × (lookups p No (word s) (folded p x) ≡ 1)
   taken s t x small ok is = taken_at s t x (word s) small ok refl is
 
+  -- a failure link leads nearer to the start
   depth_failed : (y : ℕ) (u : List ℕ) (s : Option (List ℕ)) → failure_of p (y ∷ u) ≡ s → depth_of s < length (y ∷ u)
   depth_failed y u None e = omega arith
   depth_failed y u (Some v) e = omega (arith, (failure-is_node p y u v e).1)
 
+  -- where there is no transition
   failed_at : (s : S) (x : ℕ) (w : Option (List ℕ)) → x < 256 → valid s → word s ≡ w → depth_of w ≤ n → edge s x ≡ None
       → valid (fail s) × (follow p No w (folded p x) ≡ follow p No (word (fail s)) (folded p x)) × (lookups p No w (folded p x) ≡ 1 + lookups p No (word (fail s)) (folded p x)) × (depth_of (word (fail s)) < depth_of w)
   failed_at s x None small ok e near is = let d = l.grown.dead s x small ok e in cc
@@ -91,6 +87,7 @@ module _ {S : Type 0} (p : Patterns) (n : ℕ) (valid : S → Type 0) (word : S 
   failed s x small ok near is = failed_at s x (word s) small ok refl near is
 
 module _ {S : Type 0} (p : Patterns) (valid : S → Type 0) (word : S → Option (List ℕ)) (edge : S → ℕ → Option S) (l : Rooted p valid word edge) where
+  -- anchored: a transition leads where the step does, and where there is none the search has ended
   rooted_taken_at : (s t : S) (x : ℕ) (w : Option (List ℕ)) → x < 256 → valid s → word s ≡ w → edge s x ≡ Some t → valid t × (word t ≡ follow p Yes w (folded p x))
   rooted_taken_at s t x None small ok e is = let d = l.grown.dead s x small ok e in let same : d.0 ≡ t = cc in (subst valid same d.2, ap word (sym same) ∙ d.3)
   rooted_taken_at s t x (Some u) small ok e is =
@@ -115,12 +112,15 @@ module _ {S : Type 0} (p : Patterns) (valid : S → Type 0) (word : S → Option
 
 -- the same states under other numbers
 module _ {S : Type 0} (p : Patterns) (valid : S → Type 0) (word : S → Option (List ℕ)) (edge : S → ℕ → Option S) (new old : S → S) (back : (s : S) → old (new s) ≡ s) where
+  -- the transitions under the new numbers
   abbrev pub renamed_edge : S → ℕ → Option S
   renamed_edge s x = option_map new (edge (old s) x)
 
+  -- where they lead
   renamed_target : (s t : S) (x : ℕ) (w : Option (List ℕ)) → edge (old s) x ≡ Some t → valid t → word t ≡ w → (r : S) × (renamed_edge s x ≡ Some r) × valid (old r) × (word (old r) ≡ w)
   renamed_target s t x w e ok is = (new t, ap (option_map new) e, subst valid (sym (back t)) ok, ap word (back t) ∙ is)
 
+  -- the new numbers have what the old ones had
   pub renamed_grown : (node : List ℕ → Bool) → Grown p node valid word edge → Grown p node (λ s. valid (old s)) (λ s. word (old s)) renamed_edge
   renamed_grown node g = record {
     is_node_word = λ s u ok e. g.is_node_word (old s) u ok e;
@@ -141,4 +141,3 @@ module _ {S : Type 0} (p : Patterns) (valid : S → Type 0) (word : S → Option
     grown = renamed_grown (is_node p) l.grown;
     only = λ s u x small ok e other. ap (option_map new) (l.only (old s) u x small ok e other);
   }
-

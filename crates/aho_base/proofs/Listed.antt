@@ -5,10 +5,9 @@ use Rattle.std.specs.List.{range_with_len, All}
 use Rattle.std.proofs.lemmas.Bool.{cases_Bool, cases_eq, cond-true, cond-false, and_parts, and_from}
 use Rattle.std.proofs.lemmas.List.{append-nil}
 use Rattle.std.proofs.lemmas.List.Elements.{All-nil, All-append, All-weaker}
-use Rattle.aho_base.proofs.Lists.{is_word-true, is_word-from}
-use Rattle.aho_base.proofs.Facts.{is_cut-true, is_cut-from, own-all, own-not_node}
-use Rattle.aho_base.proofs.Leftmost.{all_kept}
-use Rattle.aho_base.proofs.Steps.{state-node, state-cut, state-shorter}
+use Rattle.aho_base.proofs.Begins.{is_word-true, is_word-from}
+use Rattle.aho_base.proofs.Kept.{is_cut-true, is_cut-from, own-all, own-not_node, all_kept}
+use Rattle.aho_base.proofs.StepLaw.{state-node, state-cut, state-shorter}
 use Rattle.aho_base.specs.Failure.{is_cut, is_leftmost, state_after}
 use Rattle.aho_base.specs.Listing.{IsListedBy, IsMember}
 use Rattle.aho_base.specs.MatchList.{leftmost_matches, matches_of, matches_of_word, own_matches, suffix_matches}
@@ -19,6 +18,7 @@ use Rattle.aho_base.specs.Trie.{is_kept, is_node, is_word, pattern_word}
 abbrev pub Ends : List ℕ → List ℕ → Type 0
 Ends xs ys = (front : List ℕ) × (front ++ xs ≡ ys)
 
+-- members of two lists, one after the other
 pub member-left : {X : Type 0} (xs ys : List X) (x : X) → IsMember xs x → IsMember (xs ++ ys) x
 member-left [] ys x h = absurd h
 member-left (y ∷ xs) ys x h = elim h [ inl e ↦ inl e | inr m ↦ inr (member-left xs ys x m) ]
@@ -31,6 +31,7 @@ pub member-of_append : {X : Type 0} (xs ys : List X) (x : X) → IsMember (xs ++
 member-of_append [] ys x h = inr h
 member-of_append (y ∷ xs) ys x h = elim h [ inl e ↦ inl (inl e) | inr m ↦ elim (member-of_append xs ys x m) [ inl a ↦ inl (inr a) | inr b ↦ inr b ] ]
 
+-- two ordered lists, one after the other, where the first is before the second
 pub listed-append : {X : Type 0} (Before : X → X → Type 0) (xs ys : List X) → IsListedBy Before xs → IsListedBy Before ys
     → ((x y : X) → IsMember xs x → IsMember ys y → Before x y) → IsListedBy Before (xs ++ ys)
 listed-append Before [] ys p q across = q
@@ -57,6 +58,7 @@ passing-member f a (suc n) k h =
           (omega (arith, s.0), omega (arith, s.1), s.2))
     ]
 
+-- each that passes is among them
 passing-has : (f : ℕ → Bool) (a n k : ℕ) → a ≤ k → k < a + n → f k ≡ true → IsMember (filter f (range_with_len a n)) k
 passing-has f a zero k low high h = absurd (omega arith)
 passing-has f a (suc n) k low high h =
@@ -71,6 +73,7 @@ passing-has f a (suc n) k low high h =
           ])
     ]
 
+-- and they rise
 passing-listed : (f : ℕ → Bool) (a n : ℕ) → IsListedBy (λ j k. j < k) (filter f (range_with_len a n))
 passing-listed f a zero = tt
 passing-listed f a (suc n) =
@@ -80,7 +83,8 @@ passing-listed f a (suc n) =
       | inr t ↦ subst (IsListedBy (λ j k. j < k)) (sym (cond-false (f a) (a ∷ rest) rest t)) (passing-listed f (a + 1) n)
     ]
 
-listed-weaker : {X : Type 0} (A B : X → X → Type 0) (xs : List X) → ((x y : X) → IsMember xs x → IsMember xs y → A x y → B x y) → IsListedBy A xs → IsListedBy B xs
+-- an order that says less
+pub listed-weaker : {X : Type 0} (A B : X → X → Type 0) (xs : List X) → ((x y : X) → IsMember xs x → IsMember xs y → A x y → B x y) → IsListedBy A xs → IsListedBy B xs
 listed-weaker A B [] weaker h = tt
 listed-weaker A B (x ∷ xs) weaker h = ((λ later m. weaker x later (inl refl) (inr m) (h.0 later m)), listed-weaker A B xs (λ y z in_y in_z. weaker y z (inr in_y) (inr in_z)) h.1)
 
@@ -89,6 +93,7 @@ abbrev pub ListedBefore : Patterns → ℕ → ℕ → Type 0
 ListedBefore p j k = (length (pattern_word p k) < length (pattern_word p j)) ⊎ ((length (pattern_word p j) ≡ length (pattern_word p k)) × (j < k))
 
 module _ (p : Patterns) where
+  -- a word's own patterns are those that are kept and are the word, by number
   pub own-member : (v : List ℕ) (k : ℕ) → IsMember (own_matches p v) k → (k < length p.words) × (is_kept p k ≡ true) × (pattern_word p k ≡ v)
   unfolding own_matches
   own-member v k h =
@@ -119,6 +124,7 @@ module _ (p : Patterns) where
         | inr m ↦ (let t = suffix-member w k m in (t.0, (x ∷ t.1.0, ap (λ (v : List ℕ). x ∷ v) t.1.1)))
       ]
 
+  -- every pattern that ends the word is there
   pub suffix-has : (w : List ℕ) (k : ℕ) → is_leftmost p.kind ≡ false → k < length p.words → Ends (pattern_word p k) w → IsMember (suffix_matches p w) k
   suffix-has w k standard lt ends = by_front w ends.0 ends.1
     where
@@ -145,6 +151,7 @@ module _ (p : Patterns) where
   abbrev pub FitsWord : ℕ → ℕ → Type 0
   FitsWord n k = (k < length p.words) × (length (pattern_word p k) ≤ n)
 
+  -- so each list fits the word
   own-fits : (v : List ℕ) (n : ℕ) → length v ≤ n → All (FitsWord n) (own_matches p v)
   own-fits v n le = own-all p (FitsWord n) v (λ k lt kept e. (lt, omega (arith, ap length e)))
 
@@ -167,6 +174,7 @@ module _ (p : Patterns) where
         | inr standard ↦ subst (All (FitsWord n)) (sym (cond-false (is_leftmost p.kind) (leftmost_matches p w) (suffix_matches p w) standard)) (suffix-fits w n le)
       ]
 
+  -- Standard cuts no word
   pub never_cut : (w : List ℕ) → is_leftmost p.kind ≡ false → is_cut p w ≡ false
   never_cut w standard = elim (cases_Bool (is_cut p w)) [ inl cut ↦ (let clash : true ≡ false = sym (is_cut-true p w cut).0 ∙ standard in cc) | inr uncut ↦ uncut ]
 
@@ -181,6 +189,7 @@ module _ (p : Patterns) where
             ∙ sym (ap (λ (xs : List ℕ). xs ++ suffix_matches p w) (own-not_node p (x ∷ w) other))
       ]
 
+  -- and under a leftmost kind
   leftmost-state : (w : List ℕ) → is_leftmost p.kind ≡ true → (s : Option (List ℕ)) → s ≡ state_after p w → matches_of p s ≡ leftmost_matches p w
   leftmost-state [] leftmost s e = ap (matches_of p) e ∙ cond-true (is_leftmost p.kind) (leftmost_matches p []) (suffix_matches p []) leftmost
   leftmost-state (x ∷ w) leftmost s e =
@@ -195,6 +204,7 @@ module _ (p : Patterns) where
             ]
       ]
 
+  -- for all kinds
   pub matches_of-state_after : (w : List ℕ) → matches_of p (state_after p w) ≡ matches_of_word p w
   matches_of-state_after w =
       elim (cases_Bool (is_leftmost p.kind)) [
@@ -206,6 +216,7 @@ module _ (p : Patterns) where
   abbrev pub IsShorter : ℕ → ℕ → Type 0
   IsShorter n k = (k < length p.words) × (length (pattern_word p k) < n)
 
+  -- a word that is not cut has no pattern of its own
   pub own_of_uncut : (v : List ℕ) → is_leftmost p.kind ≡ true → is_cut p v ≡ false → own_matches p v ≡ []
   own_of_uncut v leftmost uncut = by_list (own_matches p v) (λ k m. own-member v k m)
     where
@@ -216,6 +227,7 @@ module _ (p : Patterns) where
           let clash : true ≡ false = sym (is_cut-from p v k leftmost t.0 ([], append-nil (pattern_word p k) ∙ t.2)) ∙ uncut in
           cc
 
+  -- the own patterns, then shorter ones
   pub matches-own_first : (w : List ℕ) → (rest : List ℕ) × (matches_of_word p w ≡ own_matches p w ++ rest) × All (IsShorter (length w)) rest
   matches-own_first w =
       elim (cases_Bool (is_leftmost p.kind)) [

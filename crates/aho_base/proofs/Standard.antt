@@ -7,9 +7,10 @@ use Rattle.aho_base.specs.declared.search.Anchored.{Anchored}
 use Rattle.aho_base.specs.declared.search.Anchored.TheVariants.{No, Yes}
 use Rattle.aho_base.specs.declared.search.MatchKind.{MatchKind}
 use Rattle.aho_base.specs.declared.search.MatchKind.TheVariants.{Standard, LeftmostFirst, LeftmostLongest}
-use Rattle.aho_base.proofs.Facts.{keeper, own-first, own-none}
+use Rattle.aho_base.proofs.Begins.{begins_whole}
+use Rattle.aho_base.proofs.Kept.{keeper, own-first, own-none, every_kept}
 use Rattle.aho_base.proofs.Stands.{Stands, BestIn, same_match, stands_length, stands_more, stands_less, stands_at, begins_at}
-use Rattle.aho_base.proofs.Leftmost.{begins_whole, all_kept, told_at}
+use Rattle.aho_base.proofs.Leftmost.{told_at}
 use Rattle.aho_base.proofs.Listed.{Ends, ListedBefore, suffix-member, suffix-has, suffix-listed}
 use Rattle.aho_base.specs.Failure.{is_leftmost}
 use Rattle.aho_base.specs.Laws.{first_of_two}
@@ -20,11 +21,13 @@ use Rattle.aho_base.specs.Order.{IsBefore}
 use Rattle.aho_base.specs.Patterns.{Patterns}
 use Rattle.aho_base.specs.Trie.{is_kept, pattern_word}
 
+-- the kind that is not leftmost
 pub standard_kind : (kind : MatchKind) → is_leftmost kind ≡ false → kind ≡ Standard
 standard_kind Standard h = refl
 standard_kind LeftmostFirst h = cc
 standard_kind LeftmostLongest h = cc
 
+-- of two it prefers the one that ends first, and at one end the one that starts first, then the lesser number
 pub before_end : (kind : MatchKind) (m n : Occurrence) → is_leftmost kind ≡ false → m.end < n.end → IsBefore kind m n
 before_end Standard m n h lt = inl lt
 before_end LeftmostFirst m n h lt = cc
@@ -76,13 +79,11 @@ module _ (p : Patterns) (anchored : Anchored) where
       let t = keeper p k in
       elim t.which [ inl is ↦ subst (λ (i : ℕ). is_kept p i ≡ true) is t.kept | inr m ↦ absurd (omega (arith, m.2, ap length e)) ]
 
+  -- so before the first byte, where all that occurs is empty
   pub best_at_start : BestIn p anchored [] (told_at [] 0 (own_matches p []))
   best_at_start = best_whole [] (λ n o. let s = stands_length p anchored [] n o in (omega (arith, s.0, s.1), omega (arith, s.0, s.1))) empty_kept
 
   module _ (standard : is_leftmost p.kind ≡ false) where
-    pub every_kept : (k : ℕ) → is_kept p k ≡ true
-    every_kept k = all_kept p k (λ e. let clash : false ≡ true = sym standard ∙ ap is_leftmost e in cc)
-
     -- the first match stays
     pub first_stays : (z w y : List ℕ) (m : Occurrence) → z ≡ w ++ y → BestIn p anchored w (Some m) → BestIn p anchored z (Some m)
     first_stays z w y m more best = (
@@ -140,6 +141,7 @@ module _ (p : Patterns) (standard : is_leftmost p.kind ≡ false) where
             ],
       )
 
+  -- a byte more, unanchored: the first match stays, and where there is none the first of the list is the best
   pub standard_further : (z w : List ℕ) (x : ℕ) (r : Option Occurrence) → z ≡ w ++ x ∷ [] → BestIn p No w r → BestIn p No z (first_of_two r (told_ending p (length z) (suffix_matches p z)))
   standard_further z w x None more best = best_ending z (λ n o. new_ends p No standard z w x n more best o) (suffix_matches p z) refl
   standard_further z w x (Some m) more best = first_stays p No standard z w (x ∷ []) m more best
@@ -147,5 +149,5 @@ module _ (p : Patterns) (standard : is_leftmost p.kind ≡ false) where
   -- anchored
   pub standard_anchored : (z w : List ℕ) (x : ℕ) (r : Option Occurrence) → z ≡ w ++ x ∷ [] → BestIn p Yes w r → BestIn p Yes z (first_of_two r (told_at [] (length z) (own_matches p z)))
   standard_anchored z w x None more best =
-      best_whole p Yes z (λ n o. (o.at refl, new_ends p Yes standard z w x n more best o)) (λ k lt e. every_kept p Yes standard k)
+      best_whole p Yes z (λ n o. (o.at refl, new_ends p Yes standard z w x n more best o)) (λ k lt e. every_kept p standard k)
   standard_anchored z w x (Some m) more best = first_stays p Yes standard z w (x ∷ []) m more best

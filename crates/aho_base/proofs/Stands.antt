@@ -7,7 +7,7 @@ use Rattle.aho_base.specs.declared.search.Anchored.{Anchored}
 use Rattle.aho_base.specs.declared.search.Anchored.TheVariants.{Yes}
 use Rattle.aho_base.specs.declared.search.MatchKind.{MatchKind}
 use Rattle.aho_base.specs.declared.search.MatchKind.TheVariants.{Standard, LeftmostFirst, LeftmostLongest}
-use Rattle.aho_base.proofs.Lists.{Begins, two_cuts}
+use Rattle.aho_base.proofs.Begins.{Begins, two_cuts}
 use Rattle.aho_base.specs.Best.{IsBestOrNone}
 use Rattle.aho_base.specs.Bytes.{folded, folded_word}
 use Rattle.aho_base.specs.Failure.{is_leftmost}
@@ -28,13 +28,16 @@ pub record Stands (p : Patterns) (anchored : Anchored) (w : List ℕ) (m : Occur
   pub end : m.end ≡ length front + length (pattern_word p m.pattern)
   pub at : anchored ≡ Yes → m.start ≡ 0
 
+-- the best of what stands in a word
 abbrev pub BestIn : Patterns → Anchored → List ℕ → Option Occurrence → Type 0
 BestIn p anchored w r = IsBestOrNone p.kind (Stands p anchored w) r
 
+-- the best of a set is the best of an equal set
 pub best_same : (kind : MatchKind) (S T : Occurrence → Type 0) (r : Option Occurrence) → ((m : Occurrence) → S m → T m) → ((m : Occurrence) → T m → S m) → IsBestOrNone kind S r → IsBestOrNone kind T r
 best_same kind S T None there back best = λ n t. best n (back n t)
 best_same kind S T (Some m) there back best = (there m best.0, λ n t. best.1 n (back n t))
 
+-- occurrences are equal by their parts
 pub same_match : (m n : Occurrence) → m.pattern ≡ n.pattern → m.start ≡ n.start → m.end ≡ n.end → m ≡ n
 same_match m n a b c =
     ap (λ (x : ℕ). record { pattern = x; start = m.start; end = m.end }) a
@@ -42,6 +45,7 @@ same_match m n a b c =
     ∙ ap (λ (x : ℕ). record { pattern = n.pattern; start = n.start; end = x }) c
 
 module _ (p : Patterns) where
+  -- folding keeps lengths
   pub length-pattern_word : (k : ℕ) → length (pattern_word p k) ≡ length (pattern_at p k)
   unfolding pattern_word
   length-pattern_word k = length-map (pattern_at p k) (folded p)
@@ -50,6 +54,7 @@ module _ (p : Patterns) where
   length-folded w = length-map w (folded p)
 
 module _ (p : Patterns) (anchored : Anchored) where
+  -- an occurrence is as long as its pattern, and ends in the word
   pub stands_length : (w : List ℕ) (m : Occurrence) → Stands p anchored w m → (m.start + length (pattern_word p m.pattern) ≡ m.end) × (m.end ≤ length w)
   stands_length w m o =
       let long : length w ≡ length o.front + (length (pattern_word p m.pattern) + length o.rest) =
@@ -96,6 +101,7 @@ module _ (p : Patterns) (anchored : Anchored) where
         admitted = o.at;
       }
 
+  -- so the best occurrence is the best of what stands there
   pub best_in : (h : List ℕ) (r : Option Occurrence) → BestAfter p anchored h r → BestIn p anchored (folded_word p h) r
   best_in h r best = best_same p.kind (Occurs p anchored h 0 (length h)) (Stands p anchored (folded_word p h)) r (from_occurs h) (to_occurs h) best
 
@@ -142,6 +148,7 @@ module _ (p : Patterns) (anchored : Anchored) where
     at = λ y. ap length (at y);
   }
 
+  -- and what stands where something is left begins that
   pub begins_at : (z pre v : List ℕ) (n : Occurrence) → z ≡ pre ++ v → Stands p anchored z n → n.start ≡ length pre → Begins (pattern_word p n.pattern) v
   begins_at z pre v n parts o e =
       let cuts = two_cuts o.front (pattern_word p n.pattern ++ o.rest) pre v (sym o.parts ∙ parts) (omega (arith, o.start)) in
@@ -154,6 +161,7 @@ before_later Standard m n leftmost lt = cc
 before_later LeftmostFirst m n leftmost lt = inl lt
 before_later LeftmostLongest m n leftmost lt = inl lt
 
+-- of two that start at one place: LeftmostFirst prefers the lesser number, LeftmostLongest the longer
 pub before_number : (kind : MatchKind) (m n : Occurrence) → kind ≡ LeftmostFirst → m.start ≡ n.start → m.pattern < n.pattern → IsBefore kind m n
 before_number Standard m n is e lt = cc
 before_number LeftmostFirst m n is e lt = inr (e, lt)

@@ -1,5 +1,5 @@
 -- The state that is held after a word was read.
-use Rattle.std.specs.Prelude.{ℕ, List, Option, Some, None, if◌then◌else◌}
+use Rattle.std.specs.Prelude.{ℕ, Bool, true, false, List, [], ◌∷◌, Option, Some, None, if◌then◌else◌}
 use Rattle.aho_base.specs.declared.search.Anchored.{Anchored}
 use Rattle.aho_base.specs.declared.search.Anchored.TheVariants.{No, Yes}
 use Rattle.aho_base.specs.Bytes.{folded_word}
@@ -11,3 +11,10 @@ use Rattle.aho_base.specs.Trie.{is_node}
 abbrev pub held_after : Patterns → Anchored → List ℕ → Option (List ℕ)
 held_after p No word = state_after p (folded_word p word)
 held_after p Yes word = if is_node p (folded_word p word) then Some (folded_word p word) else None
+
+-- whether a state is the root: the start of an unanchored search, and what the state is again where nothing that was read
+-- begins a pattern
+abbrev pub is_root : Option (List ℕ) → Bool
+is_root None = false
+is_root (Some []) = true
+is_root (Some (x ∷ word)) = false

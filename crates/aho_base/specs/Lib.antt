@@ -18,3 +18,4 @@ pub mod Step
 pub mod Held
 pub mod Among
 pub mod Laws
+pub mod WordStatements

@@ -9,10 +9,9 @@ pub mod work;
 pub use primitives::{
     PatternID, PatternIDError, SmallIndex, SmallIndexError, StateID, StateIDError,
 };
+use std::marker::Model;
 pub use text::{Bytes, Text};
 pub use work::Work;
-
-use std::marker::Model;
 
 /// A range of a haystack in bytes, from `start` up to, and without, `end`.
 #[derive(Clone, Copy, Debug, PartialEq, Eq)]

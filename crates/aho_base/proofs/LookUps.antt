@@ -2,23 +2,25 @@
 use Rattle.std.proofs.Common.{◌≡◌, inl, inr, ℕ, ◌+◌, ◌*◌, ◌≤◌, Bool, true, false, cond, List, [], ◌∷◌, ◌++◌, length, refl, sym, ◌∙◌, ap, arith}
 use Rattle.std.specs.Prelude.{Option, Some, None}
 use Rattle.std.proofs.lemmas.Bool.{cases_Bool, cond-true, cond-false}
-use Rattle.std.proofs.lemmas.List.{append_assoc, append-nil, length_push}
+use Rattle.std.proofs.lemmas.List.{append_assoc, append-nil, length_push, length-map}
 use Rattle.aho_base.specs.declared.search.Anchored.{Anchored}
 use Rattle.aho_base.specs.declared.search.Anchored.TheVariants.{No, Yes}
-use Rattle.aho_base.proofs.Facts.{is_cut-more}
-use Rattle.aho_base.proofs.Steps.{state-node, state-cut, state-shorter, not_node-more, not_cut-more, held_after-push}
-use Rattle.aho_base.specs.Bytes.{folded_word}
+use Rattle.aho_base.proofs.Kept.{is_cut-more, is_node-root}
+use Rattle.aho_base.proofs.StepLaw.{state-node, state-cut, state-shorter, not_node-more, not_cut-more, held_after-push}
+use Rattle.aho_base.specs.Bytes.{folded, folded_word}
 use Rattle.aho_base.specs.Failure.{failure_of, is_cut, state_after}
 use Rattle.aho_base.specs.Held.{held_after}
 use Rattle.aho_base.specs.Patterns.{Patterns}
 use Rattle.aho_base.specs.Step.{depth_of, follow, follow_along, lookups, lookups_along, lookups_from}
 use Rattle.aho_base.specs.Trie.{is_node}
 
+-- a state is counted once
 at_most_one : (b : Bool) → cond b 1 0 ≤ 1
 at_most_one true = omega arith
 at_most_one false = omega arith
 
 module _ (p : Patterns) where
+  -- the look-ups from a nonempty word, by cases
   lookups-node : (y : ℕ) (u : List ℕ) (x : ℕ) → is_node p (y ∷ u ++ x ∷ []) ≡ true → lookups_from p x (y ∷ u) ≡ 1
   lookups-node y u x node = rw node refl
 
@@ -28,6 +30,7 @@ module _ (p : Patterns) where
   lookups-further : (y : ℕ) (u : List ℕ) (x : ℕ) → is_node p (y ∷ u ++ x ∷ []) ≡ false → is_cut p (y ∷ u) ≡ false → lookups_from p x (y ∷ u) ≡ cond (is_node p (y ∷ u)) 1 0 + lookups_from p x u
   lookups-further y u x other uncut = rw (other, uncut) refl
 
+  -- a state is no longer than the word
   pub depth-state_after : (w : List ℕ) → depth_of (state_after p w) ≤ length w
   depth-state_after [] = omega arith
   depth-state_after (y ∷ w) =
@@ -40,6 +43,7 @@ module _ (p : Patterns) where
             ]
       ]
 
+  -- the bound, unanchored
   bound_from : (u : List ℕ) (x : ℕ) → lookups_from p x u + depth_of (state_after p (u ++ x ∷ [])) ≤ length u + 2
   bound_from [] x = omega (arith, depth-state_after (x ∷ []))
   bound_from (y ∷ u) x =
@@ -66,6 +70,7 @@ module _ (p : Patterns) where
         | inr other ↦ omega (arith, ap depth_of (cond-false (is_node p (u ++ x ∷ [])) (Some (u ++ x ∷ [])) None other))
       ]
 
+  -- for the steps of a word
   pub lookups_along_bound : (anchored : Anchored) (s : Option (List ℕ)) (w : List ℕ) → lookups_along p anchored s w + depth_of (follow_along p anchored s w) ≤ depth_of s + 2 * length w
   lookups_along_bound anchored s [] = omega arith
   lookups_along_bound anchored s (x ∷ w) = omega (arith, lookups_bound anchored s x, lookups_along_bound anchored (follow p anchored s x) w)
@@ -77,6 +82,15 @@ module _ (p : Patterns) where
       ap (held_after p anchored) (sym (append_assoc v (x ∷ []) w))
       ∙ held_after-along anchored (v ++ x ∷ []) w
       ∙ ap (λ (s : Option (List ℕ)). follow_along p anchored s (folded_word p w)) (held_after-push p anchored v x)
+
+  -- the start has depth 0
+  depth-start : (anchored : Anchored) → depth_of (held_after p anchored []) ≡ 0
+  depth-start No = refl
+  depth-start Yes = ap depth_of (cond-true (is_node p []) (Some []) None (is_node-root p))
+
+  -- from the start on, two for each byte
+  pub lookups_along-start : (anchored : Anchored) (w : List ℕ) → lookups_along p anchored (held_after p anchored []) (folded_word p w) ≤ 2 * length w
+  lookups_along-start anchored w = omega (arith, lookups_along_bound anchored (held_after p anchored []) (folded_word p w), depth-start anchored, length-map w (folded p))
 
   -- what is counted from a word on is counted from its state on
   lookups-state : (w : List ℕ) (x : ℕ) → lookups_from p x w ≡ lookups p No (state_after p w) x
@@ -99,6 +113,7 @@ module _ (p : Patterns) where
   lookups-taken [] x node = refl
   lookups-taken (y ∷ u) x node = lookups-node y u x node
 
+  -- one more than from the failure link, where the node does not take the byte
   pub lookups-failure : (y : ℕ) (u : List ℕ) (x : ℕ) → is_node p (y ∷ u) ≡ true → is_node p (y ∷ u ++ x ∷ []) ≡ false → lookups p No (Some (y ∷ u)) x ≡ 1 + lookups p No (failure_of p (y ∷ u)) x
   lookups-failure y u x node other =
       let one : ◌≡◌ {A = ℕ} (cond (is_node p (y ∷ u)) 1 0) 1 = cond-true (is_node p (y ∷ u)) 1 0 node in

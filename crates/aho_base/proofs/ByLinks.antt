@@ -5,12 +5,11 @@ use Rattle.std.proofs.lemmas.Bool.{cases_Bool, cases_lt, cond-true, cond-false, 
 use Rattle.std.proofs.lemmas.List.{append-nil, length_push}
 use Rattle.aho_base.specs.declared.search.Anchored.TheVariants.{No}
 use Rattle.aho_base.specs.declared.search.MatchKind.TheVariants.{LeftmostFirst}
-use Rattle.aho_base.proofs.Lists.{Begins, begins_shorter}
-use Rattle.aho_base.proofs.Facts.{keeper, kept-no_longer, is_cut-true, is_cut-from, is_cut-more, own-first}
-use Rattle.aho_base.proofs.Steps.{failure_of-push, state-is_node}
-use Rattle.aho_base.proofs.Depth.{depth-state_after}
-use Rattle.aho_base.proofs.Leftmost.{begins_whole, left_out}
+use Rattle.aho_base.proofs.Begins.{Begins, begins_shorter, begins_whole}
+use Rattle.aho_base.proofs.Kept.{keeper, kept-no_longer, is_cut-true, is_cut-from, is_cut-more, own-first, left_out}
+use Rattle.aho_base.proofs.StepLaw.{failure_of-push, state-is_node}
 use Rattle.aho_base.proofs.Listed.{never_cut, matches_of-state_after, own_of_uncut}
+use Rattle.aho_base.proofs.LookUps.{depth-state_after}
 use Rattle.aho_base.specs.Failure.{failure_of, is_cut, is_leftmost, state_after}
 use Rattle.aho_base.specs.MatchList.{leftmost_matches, matches_of, own_matches, suffix_matches}
 use Rattle.aho_base.specs.Patterns.{Patterns}
@@ -33,6 +32,7 @@ module _ (p : Patterns) where
         | inr m ↦ (m.0, (t.who, m.1, t.kept, t.begins_it, m.2))
       ]
 
+  -- and one that an earlier, shorter one begins is left out
   pub left_out_from : (i k : ℕ) → p.kind ≡ LeftmostFirst → i < k → Begins (pattern_word p i) (pattern_word p k) → length (pattern_word p i) < length (pattern_word p k) → is_kept p k ≡ false
   left_out_from i k is lt b short = false_from_ne_true (is_kept p k) (λ kept. omega (arith, kept-no_longer p i k is kept lt b))
 
@@ -58,6 +58,7 @@ module _ (p : Patterns) where
   abbrev pub ends_here : List ℕ → Bool
   ends_here v = is_leftmost p.kind && not (is_empty (own_matches p v))
 
+  -- a node that ends the walk is cut, and one that does not has no pattern of its own
   pub ends_here-true : (v : List ℕ) → ends_here v ≡ true → is_cut p v ≡ true
   ends_here-true v h = by_own (own_matches p v) refl (and_parts (is_leftmost p.kind) (not (is_empty (own_matches p v))) h)
     where
@@ -76,6 +77,7 @@ module _ (p : Patterns) where
   pub failure-first : (x : ℕ) → failure_of p (x ∷ []) ≡ cond (is_cut p (x ∷ [])) None (Some [])
   failure-first x = refl
 
+  -- the root is cut where it has a pattern of its own
   pub is_cut-root : is_cut p [] ≡ ends_here []
   is_cut-root =
       elim (cases_Bool (ends_here [])) [
@@ -89,6 +91,7 @@ module _ (p : Patterns) where
             ∙ sym goes_on
       ]
 
+  -- a word is cut where the word before its last byte is, or where it ends the walk
   pub is_cut-next : (u : List ℕ) (x : ℕ) → is_cut p (u ++ x ∷ []) ≡ cond (is_cut p u) true (ends_here (u ++ x ∷ []))
   is_cut-next u x =
       elim (cases_Bool (is_cut p u)) [
@@ -138,6 +141,7 @@ module _ (p : Patterns) where
       same true xs = refl
       same false xs = refl
 
+  -- for a longer node
   pub matches-next : (y : ℕ) (u : List ℕ) → matches_of p (Some (y ∷ u)) ≡ own_matches p (y ∷ u) ++ matches_of p (failure_of p (y ∷ u))
   matches-next y u =
       elim (cases_Bool (is_leftmost p.kind)) [
@@ -177,5 +181,6 @@ module _ (p : Patterns) where
       ∙ ap (λ (s : Option (List ℕ)). own_matches p (y ∷ u) ++ matches_of p s) (cond-true (is_cut p (y ∷ u)) None (state_after p u) (own-cut (y ∷ u) k ks leftmost own))
       ∙ append-nil (own_matches p (y ∷ u))
 
+  -- and a node with none lists what its failure link does
   pub matches-linked : (y : ℕ) (u : List ℕ) → own_matches p (y ∷ u) ≡ [] → matches_of p (Some (y ∷ u)) ≡ matches_of p (failure_of p (y ∷ u))
   matches-linked y u own = matches-next y u ∙ ap (λ (xs : List ℕ). xs ++ matches_of p (failure_of p (y ∷ u))) own

@@ -5,7 +5,7 @@ use Rattle.std.proofs.lemmas.Bool.{cases_Bool, cond-false}
 use Rattle.std.proofs.lemmas.List.{map_push}
 use Rattle.aho_base.specs.declared.search.Anchored.{Anchored}
 use Rattle.aho_base.specs.declared.search.Anchored.TheVariants.{No, Yes}
-use Rattle.aho_base.proofs.Facts.{is_node-root, is_node-front, is_cut-more, is_cut-before, is_cut-true}
+use Rattle.aho_base.proofs.Kept.{is_node-root, is_node-front, is_cut-more, is_cut-before, is_cut-true}
 use Rattle.aho_base.specs.Bytes.{folded, folded_word}
 use Rattle.aho_base.specs.Failure.{failure_of, is_cut, is_leftmost, state_after}
 use Rattle.aho_base.specs.Held.{held_after}
@@ -51,6 +51,7 @@ module _ (p : Patterns) where
         | inr other ↦ elim (cases_Bool (is_cut p (x ∷ w))) [ inl cut ↦ (is_cut-true p (x ∷ w) cut).0 | inr uncut ↦ dead_leftmost w (sym (state-shorter x w other uncut) ∙ e) ]
       ]
 
+  -- a word that is no node begins none
   pub not_node-more : (u v : List ℕ) → is_node p u ≡ false → is_node p (u ++ v) ≡ false
   not_node-more u v other =
       elim (cases_Bool (is_node p (u ++ v))) [ inl h ↦ (let clash : true ≡ false = sym (is_node-front p u v h) ∙ other in cc) | inr h ↦ h ]
@@ -60,6 +61,7 @@ module _ (p : Patterns) where
   not_cut-more u x other uncut =
       elim (cases_Bool (is_cut p (u ++ x ∷ []))) [ inl h ↦ (let clash : true ≡ false = sym (is_cut-before p u x h other) ∙ uncut in cc) | inr h ↦ h ]
 
+  -- unanchored: the state of the longer word follows from that of the word
   pub state_after-push : (w : List ℕ) (x : ℕ) → state_after p (w ++ x ∷ []) ≡ follow p No (state_after p w) x
   state_after-push [] x = refl
   state_after-push (y ∷ w) x =
@@ -76,6 +78,7 @@ module _ (p : Patterns) where
             ])
       ]
 
+  -- anchored, the same
   anchored-push : (w : List ℕ) (x : ℕ) → cond (is_node p (w ++ x ∷ [])) (Some (w ++ x ∷ [])) None ≡ follow p Yes (cond (is_node p w) (Some w) None) x
   anchored-push w x =
       elim (cases_Bool (is_node p w)) [
@@ -94,6 +97,7 @@ module _ (p : Patterns) where
   follow-node No u x h = state-of_node (u ++ x ∷ []) h
   follow-node Yes u x h = rw h refl
 
+  -- a node that does not take the byte goes where its failure link goes
   pub follow-failure : (y : ℕ) (u : List ℕ) (x : ℕ) → is_node p (y ∷ u ++ x ∷ []) ≡ false → follow p No (Some (y ∷ u)) x ≡ follow p No (failure_of p (y ∷ u)) x
   follow-failure y u x other =
       elim (cases_Bool (is_cut p (y ∷ u))) [
@@ -101,6 +105,7 @@ module _ (p : Patterns) where
         | inr uncut ↦ state-shorter y (u ++ x ∷ []) other (not_cut-more (y ∷ u) x other uncut) ∙ state_after-push u x ∙ (rw uncut refl)
       ]
 
+  -- the root that does not take it stays, or is dead where the empty word is a pattern
   pub follow-root : (x : ℕ) → is_node p (x ∷ []) ≡ false → follow p No (Some []) x ≡ cond (is_cut p []) None (Some [])
   follow-root x other =
       elim (cases_Bool (is_cut p [])) [
