@@ -1,0 +1,119 @@
+-- Each way out of the search answers, and each turn of the loop keeps its invariant.
+use Rattle.std.proofs.Common.{◌≡◌, ◌+◌, refl, sym, ◌∙◌, ap, subst, arith, rules, false, ℕ, ◌∷◌, ◌++◌, [], get_or}
+use Rattle.std.specs.Prelude.{slice_range}
+use Rattle.aho_base.specs.Patterns.{Patterns}
+use Rattle.aho_search.proofs.Told.{is_none}
+use Rattle.aho_search.proofs.Walks.{Standing, stands_at_start, stands_silent, stands_unlisted, stands_first, stands_last, answer_at_end, answer_when_dead, answer_found, not_before, later, near_at_start, near_further}
+use Rattle.aho_search.proofs.find.find_in.Given.{Over}
+use Rattle.aho_search.proofs.find.find_in.Goals.{After-step-sid, Joined-else-stops, Joined-is_special}
+use Rattle.aho_search.proofs.find.find_in.Goals as goal
+use Rattle.aho_search.proofs.find.find_in.Goals.{then-is_special+else-is_dead+in-Some+else-stops-2, then-is_special+else-is_dead+in_default, else-is_special, else-stops-via-then-stops+else-is_some, else-stops-via-else-stops}
+
+-- a match that is told before the first byte is the answer of a search that stops there
+pub returns-then-is_some-clause-found : goal.returns-then-is_some-clause-found
+returns-then-is_some-clause-found g c p of =
+    let laws = g.met.W.Of.Automaton.laws (g.W.Walk.of c.args.walk.now) p of in
+    answer_found laws _ _ _ _ c.args.span.start _ _ _ (sym c.stops_at_first-stops.ensures.first ∙ c.if-stops.true) (search rules) (omega arith) (omega arith) (omega arith) (not_before p _ _ _)
+    (stands_at_start laws _ _ _ _ _ (c.in_ok-sid.ensures.begins p of) c.told_at-best.ensures.told)
+
+-- before the first byte
+begun : (g : Over) (c : Joined-else-stops g) (p : Patterns) → g.W.Of.Automaton.is_of (g.W.Walk.of c.args.walk.now) p
+    → Standing p (g.W.Of.Automaton.held (g.W.Walk.of c.args.walk.now) p) c.args.anchored (g.T.Text.bytes c.args.text.now) c.args.span.start c.args.span.start c.in_ok-sid.sid c.told_at-best.result
+begun g c p of = stands_at_start (g.met.W.Of.Automaton.laws _ p of) _ _ _ _ _ (c.in_ok-sid.ensures.begins p of) c.told_at-best.ensures.told
+
+pub loop-at-init : goal.loop-at-init
+loop-at-init g c = record {
+  same_walk = refl;
+  same_text = refl;
+  unread = c.requires.unread;
+  paid = omega (arith, c.in_ok-sid.ensures.shallow);
+  valid = c.in_ok-sid.ensures.valid;
+  quiet = λ stops. elim c.else-stops.branch [ else-stops-via-then-stops+else-is_some w ↦ is_none _ w.if-is_some.ensures | else-stops-via-else-stops w ↦ cc (c.stops_at_first-stops.ensures.first, w.if-stops.false, stops) ];
+  near = λ unanchored leftmost m e. near_at_start (g.met.W.Of.Automaton.laws _ _ c.requires.of.1) _ _ _ _ _ m (omega arith) (begun g c _ c.requires.of.1) e;
+  stands = begun g c;
+}
+
+-- the walk is over the same automaton
+same_walk : (g : Over) (c : After-step-sid g) → g.W.Walk.of c.step-sid.new.self ≡ g.W.Walk.of c.args.walk.now
+same_walk g c = c.step-sid.ensures.same ∙ c.loop-at.invariant.same_walk
+
+-- the state is held after one more byte
+held_after : (g : Over) (c : After-step-sid g) (p : Patterns) → g.W.Of.Automaton.is_of (g.W.Walk.of c.args.walk.now) p
+    → g.W.Of.Automaton.held (g.W.Walk.of c.args.walk.now) p c.args.anchored (slice_range (g.T.Text.bytes c.args.text.now) c.args.span.start c.loop-at.at ++ get_or (g.T.Text.bytes c.args.text.now) c.loop-at.at 0 ∷ []) c.step-sid.result
+held_after g c p of =
+    let read : c.byte-byte.result ≡ get_or (g.T.Text.bytes c.args.text.now) c.loop-at.at 0 = c.byte-byte.ensures.read ∙ ap (λ xs. get_or xs c.loop-at.at 0) c.loop-at.invariant.same_text in
+    subst (λ (x : ℕ). g.W.Of.Automaton.held (g.W.Walk.of c.args.walk.now) p c.args.anchored (slice_range (g.T.Text.bytes c.args.text.now) c.args.span.start c.loop-at.at ++ x ∷ []) c.step-sid.result) read
+    ((rw c.loop-at.invariant.same_walk at c.step-sid.ensures.goes_on) p _ of (c.loop-at.invariant.stands p of).held_now)
+
+-- what is held at a dead state is the answer
+pub returns-then-is_dead-clause-found : goal.returns-then-is_dead-clause-found
+returns-then-is_dead-clause-found g c p of =
+    let d = (goal.at.returns-then-is_dead-clause-found g c).After-step-sid in
+    answer_when_dead (g.met.W.Of.Automaton.laws _ p of) _ _ _ _ c.loop-at.at _ _ _ _ c.loop-at.invariant.quiet (rw (same_walk g d) at (sym c.if-is_dead.ensures.dead)) (omega arith) (omega arith) (omega arith) (held_after g d p of) (c.loop-at.invariant.stands p of)
+
+-- the first match that is told is the answer of a search that stops there
+pub returns-then-stops-2-clause-found : goal.returns-then-stops-2-clause-found
+returns-then-stops-2-clause-found g c p of =
+    let d = (goal.at.returns-then-stops-2-clause-found g c).After-step-sid in
+    let laws = g.met.W.Of.Automaton.laws (g.W.Walk.of c.args.walk.now) p of in
+    let stops = sym c.stops_at_first-stops.ensures.first ∙ c.if-stops-2.true in
+    let none = c.loop-at.invariant.quiet stops in
+    let stands = c.loop-at.invariant.stands p of in
+    answer_found laws _ _ _ _ (c.loop-at.at + 1) _ c.step-sid.result _ stops refl (omega arith) (omega arith) (omega arith)
+    (later laws _ _ _ _ _ _ (omega arith) (omega arith) none stands)
+    (stands_first laws _ _ _ _ _ _ _ _ (omega arith) (omega arith) (held_after g d p of) (rw (same_walk g d) at c.in-Some.ensures.told) none stands)
+
+-- a state that is not special is neither dead nor lists a pattern
+plain : (g : Over) (c : After-step-sid g) → false ≡ g.W.Of.Automaton.special (g.W.Walk.of c.step-sid.new.self) c.step-sid.result
+    → (g.W.Of.Automaton.dead (g.W.Walk.of c.args.walk.now) c.step-sid.result ≡ false) × (g.W.Of.Automaton.list (g.W.Walk.of c.args.walk.now) c.step-sid.result ≡ [])
+plain g c other = rw c.loop-at.invariant.same_walk at (g.met.W.Of.Automaton.plain _ _ c.step-sid.ensures.valid (sym (rw c.step-sid.ensures.same at other)))
+
+-- after one more byte
+stood : (g : Over) (c : Joined-is_special g) (p : Patterns) → g.W.Of.Automaton.is_of (g.W.Walk.of c.args.walk.now) p
+    → Standing p (g.W.Of.Automaton.held (g.W.Walk.of c.args.walk.now) p) c.args.anchored (g.T.Text.bytes c.args.text.now) c.args.span.start (c.loop-at.at + 1) c.step-sid.result c.if-is_special.best
+stood g c p of =
+    let d = (goal.at.loop-at-preserved g c).After-step-sid in
+    let laws = g.met.W.Of.Automaton.laws (g.W.Walk.of c.args.walk.now) p of in
+    let stands = c.loop-at.invariant.stands p of in
+    let held = held_after g d p of in
+    elim c.if-is_special.branch [
+      | then-is_special+else-is_dead+in-Some+else-stops-2 w ↦
+          stands_last laws _ _ _ _ _ _ _ _ _ _ (sym c.stops_at_first-stops.ensures.first ∙ w.if-stops-2.false) (omega arith) (omega arith) held (rw (same_walk g d) at w.in-Some.ensures.told) stands w.best-is
+      | then-is_special+else-is_dead+in_default w ↦
+          stands_silent laws _ _ _ _ _ _ _ _ (omega arith) (omega arith) held (rw (same_walk g d) at w.in_default.ensures.told) stands w.best-is
+      | else-is_special w ↦
+          stands_unlisted laws _ _ _ _ _ _ _ _ (omega arith) (omega arith) held (plain g d w.if-is_special.ensures.special).1 stands w.best-is
+    ]
+
+-- a search that goes on is not at a dead state
+alive : (g : Over) (c : Joined-is_special g) → g.W.Of.Automaton.dead (g.W.Walk.of c.args.walk.now) c.step-sid.result ≡ false
+alive g c =
+    let d = (goal.at.loop-at-preserved g c).After-step-sid in
+    elim c.if-is_special.branch [
+      | then-is_special+else-is_dead+in-Some+else-stops-2 w ↦ sym (rw (same_walk g d) at w.if-is_dead.ensures.dead)
+      | then-is_special+else-is_dead+in_default w ↦ sym (rw (same_walk g d) at w.if-is_dead.ensures.dead)
+      | else-is_special w ↦ (plain g d w.if-is_special.ensures.special).0
+    ]
+
+pub loop-at-preserved : goal.loop-at-preserved
+loop-at-preserved g c =
+    let d = (goal.at.loop-at-preserved g c).After-step-sid in
+    record {
+      same_walk = same_walk g d;
+      same_text = c.byte-byte.ensures.same ∙ c.loop-at.invariant.same_text;
+      unread = omega (arith, c.byte-byte.ensures.passed);
+      paid = omega (arith, rw c.loop-at.invariant.same_walk at c.step-sid.ensures.paid, c.loop-at.invariant.paid);
+      valid = rw c.loop-at.invariant.same_walk at c.step-sid.ensures.valid;
+      quiet = λ stops. elim c.if-is_special.branch [
+        | then-is_special+else-is_dead+in-Some+else-stops-2 w ↦ cc (c.stops_at_first-stops.ensures.first, w.if-stops-2.false, stops)
+        | then-is_special+else-is_dead+in_default w ↦ w.best-is ∙ c.loop-at.invariant.quiet stops
+        | else-is_special w ↦ w.best-is ∙ c.loop-at.invariant.quiet stops
+      ];
+      near = λ unanchored leftmost m e. near_further (g.met.W.Of.Automaton.laws _ _ c.requires.of.1) _ _ _ (c.loop-at.at + 1) _ _ m unanchored leftmost (omega arith) (alive g c) (stood g c _ c.requires.of.1) e;
+      stands = stood g c;
+    }
+
+-- what is held at the end of the span is the answer
+pub returns-clause-found : goal.returns-clause-found
+returns-clause-found g c p of =
+    answer_at_end (g.met.W.Of.Automaton.laws (g.W.Walk.of c.args.walk.now) p of) _ _ _ _ _ c.loop-at.at c.loop-at.sid _ (omega arith) c.loop-at.invariant.quiet (omega arith) (omega arith) (c.loop-at.invariant.stands p of)

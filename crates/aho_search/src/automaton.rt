@@ -1,0 +1,281 @@
+//! Automata: what each state tells of the bytes that were read, and the search that follows from it.
+//!
+//! An automaton is read one byte at a time. It starts in the state that `start_state` answers, and each byte leads to
+//! the next state. A state lists the patterns that end where it stands, the best of them first, and `try_find` reads
+//! the answer of a search off these lists. What it takes for that to be the right answer are the trait's laws: whoever
+//! implements the trait proves them once, and each search is proved from them alone.
+
+ghost use Rattle.std.specs.Prelude.{◌≡◌, ℕ, List, [], ◌∷◌, ◌++◌, Bool, true, false, Option, Result, IsOk, IfOk, IfErr, Ok, Err, None, Some, ◌+◌, ◌<◌, ◌≤◌, ◌^◌, ◌↔◌, IsTrue, length, slice_get, slice_index};
+ghost use Rattle.aho_base.specs.Answer.{IsAnswer};
+ghost use Rattle.aho_base.specs.Laws.{Reads, longest, shortest};
+ghost use Rattle.aho_base.specs.Patterns.{Patterns};
+ghost use Rattle.aho_base.specs.declared.error.MatchErrorKind.{MatchErrorKind};
+ghost use Rattle.aho_base.specs.declared.search.Anchored.{Anchored};
+ghost use Rattle.aho_base.specs.declared.search.MatchKind.{MatchKind};
+
+pub use crate::find::find_in;
+pub use crate::walk::{Counted, Walk};
+
+use aho_base::error::MatchError;
+use aho_base::search::{
+    Anchored, Bytes, Input, Match, MatchKind, PatternID, Span, StateID, Work,
+};
+
+/// An automaton that reads bytes, and tells which patterns end where it stands.
+pub trait Automaton {
+    /// It is the automaton of these patterns, under their match kind and case rule.
+    ghost is_of: { Self → Patterns → Type 0 };
+
+    /// The state may be held after these bytes were read.
+    ghost held: { Self → Patterns → Anchored → List ℕ → ℕ → Type 0 };
+
+    /// The number is that of a state.
+    ghost valid: { Self → ℕ → Type 0 };
+
+    /// Which of several matches is found.
+    ghost kind: { Self → MatchKind };
+
+    /// The lengths of the patterns, by number.
+    ghost lengths: { Self → List ℕ };
+
+    /// The patterns that end where the state is held, the best of them first.
+    ghost list: { Self → ℕ → List ℕ };
+
+    /// Whether the state is dead: no byte leads away from it, and it lists no pattern.
+    ghost dead: { Self → ℕ → Bool };
+
+    /// Whether a search has to look at the state.
+    ghost special: { Self → ℕ → Bool };
+
+    /// Whether the state is a start.
+    ghost starts: { Self → ℕ → Bool };
+
+    /// How far the state is from the start: what its steps back may cost.
+    ghost depth: { Self → ℕ → ℕ };
+
+    /// What `start_state` answers.
+    ghost start: { Self → Anchored → Result ℕ MatchErrorKind };
+
+    /// The bytes of memory that it holds.
+    ghost memory: { Self → ℕ };
+
+    /// The state in which a search begins.
+    ///
+    /// # Errors
+    ///
+    /// An automaton that has no start for anchored searches, or none for the others, refuses them.
+    fn start_state(&self, anchored: Anchored) -> Result<StateID, MatchError>
+        ensures start { result ≡ start self.now anchored }
+        ensures valid { IfOk result (valid self.now) }
+        ensures shallow { IfOk result (λ sid. depth self.now sid ≡ 0) }
+        ensures begins { IfOk result (λ sid. (p : Patterns) → is_of self.now p → held self.now p anchored [] sid) };
+
+    /// The state after one more byte.
+    fn next_state(&self, anchored: Anchored, sid: StateID, byte: u8) -> StateID
+        requires valid { valid self.now sid }
+        ensures valid { valid self.now result }
+        ensures goes_on { (p : Patterns) (word : List ℕ) → is_of self.now p → held self.now p anchored word sid → held self.now p anchored (word ++ byte ∷ []) result };
+
+    /// The state after one more byte, with each look-up of a transition added to `work`.
+    ///
+    /// A step makes at most two look-ups more than it leads back towards the start.
+    fn step(&self, anchored: Anchored, sid: StateID, byte: u8, work: &mut Work) -> StateID
+        requires valid { valid self.now sid }
+        requires room { work.old + depth self.now sid + 2 < 2 ^ 128 }
+        ensures valid { valid self.now result }
+        ensures goes_on { (p : Patterns) (word : List ℕ) → is_of self.now p → held self.now p anchored word sid → held self.now p anchored (word ++ byte ∷ []) result }
+        ensures paid { work.new + depth self.now result ≤ work.old + depth self.now sid + 2 }
+        ensures grows { work.old ≤ work.new };
+
+    /// Whether a search has to look at the state: each dead state is special, and each that lists a pattern.
+    fn is_special(&self, sid: StateID) -> bool
+        requires valid { valid self.now sid }
+        ensures special { result ≡ special self.now sid };
+
+    /// Whether the state is dead, so that nothing that follows changes what was found.
+    fn is_dead(&self, sid: StateID) -> bool
+        requires valid { valid self.now sid }
+        ensures dead { result ≡ dead self.now sid };
+
+    /// Whether the state lists a pattern.
+    fn is_match(&self, sid: StateID) -> bool
+        requires valid { valid self.now sid }
+        ensures is_match { IsTrue result ↔ (0 < length (list self.now sid)) };
+
+    /// Whether the state is a start, in which nothing was read that a match could begin with.
+    fn is_start(&self, sid: StateID) -> bool
+        requires valid { valid self.now sid }
+        ensures starts { result ≡ starts self.now sid };
+
+    /// Which of several matches is found.
+    fn match_kind(&self) -> MatchKind
+        ensures kind { result ≡ kind self.now };
+
+    /// How many patterns the state lists.
+    fn match_len(&self, sid: StateID) -> usize
+        requires valid { valid self.now sid }
+        ensures len { result ≡ length (list self.now sid) };
+
+    /// A pattern that the state lists, by its place in the list.
+    fn match_pattern(&self, sid: StateID, index: usize) -> PatternID
+        requires valid { valid self.now sid }
+        requires within { index < length (list self.now sid) }
+        ensures pattern { slice_get (list self.now sid) index ≡ Some result };
+
+    /// How many patterns there are.
+    fn patterns_len(&self) -> usize
+        ensures len { result ≡ length (lengths self.now) };
+
+    /// How many bytes a pattern has.
+    fn pattern_len(&self, pid: PatternID) -> usize
+        requires within { pid < length (lengths self.now) }
+        ensures len { result ≡ slice_index (lengths self.now) pid };
+
+    /// How many bytes the shortest pattern has; the greatest `usize` where there is no pattern.
+    fn min_pattern_len(&self) -> usize
+        ensures shortest { result ≡ shortest (lengths self.now) };
+
+    /// How many bytes the longest pattern has; 0 where there is no pattern.
+    fn max_pattern_len(&self) -> usize
+        ensures longest { result ≡ longest (lengths self.now) }
+        ensures bound { result ≤ 2147483646 };
+
+    /// How many bytes of memory it holds.
+    fn memory_usage(&self) -> usize
+        ensures memory { result ≡ memory self.now };
+
+    /// What the states tell: the first pattern listed is the best, dead is final, and so on.
+    ghost laws: { (a : Self) (p : Patterns) → is_of a p → Reads p (kind a) (lengths a) (held a p) (list a) (dead a) (starts a) };
+
+    /// A state that is not special is not dead, and lists no pattern.
+    ghost plain: { (a : Self) (sid : ℕ) → valid a sid → special a sid ≡ false → (dead a sid ≡ false) × (list a sid ≡ []) };
+
+    /// A dead state is no further than the start.
+    ghost dead_shallow: { (a : Self) (sid : ℕ) → valid a sid → dead a sid ≡ true → depth a sid ≡ 0 };
+
+    /// The match that the input's search finds: the best by the automaton's match kind or, where the input asks for
+    /// the earliest, the best of those that end first. None is found where nothing matches.
+    ///
+    /// It reads each byte of the span at most once, and takes no memory.
+    ///
+    /// # Errors
+    ///
+    /// It is refused exactly where `start_state` refuses the input's anchoring and the input is not done.
+    final fn try_find(&self, input: &Input) -> Result<Option<Match>, MatchError>
+    where
+        Self: Sized,
+        requires of { (p : Patterns) × is_of self.now p }
+        ensures found { (p : Patterns) → is_of self.now p → IfOk result (IsAnswer p input.now) }
+        ensures error { IfErr result (λ reason. start self.now input.now.anchored ≡ Err reason) }
+        ensures ok { (sid : ℕ) → start self.now input.now.anchored ≡ Ok sid → IsOk result }
+        ensures refused { (reason : MatchErrorKind) → input.now.start ≤ input.now.end → start self.now input.now.anchored ≡ Err reason → result ≡ Err reason }
+        ensures done { input.now.end < input.now.start → result ≡ Ok None }
+    {
+        let mut walk = Counted::new(self);
+        let mut text = Bytes::new(input.haystack());
+        let span = Span {
+            start: input.start(),
+            end: input.end(),
+        };
+        find_in(
+            &mut walk,
+            &mut text,
+            span,
+            input.get_anchored(),
+            input.get_earliest(),
+        )
+    }
+}
+
+/// A reference to an automaton is that automaton.
+impl<A: Automaton> Automaton for &A {
+    ghost is_of = { λ a p. A.is_of a.now p };
+
+    ghost held = { λ a p anchored word sid. A.held a.now p anchored word sid };
+
+    ghost valid = { λ a sid. A.valid a.now sid };
+
+    ghost kind = { λ a. A.kind a.now };
+
+    ghost lengths = { λ a. A.lengths a.now };
+
+    ghost list = { λ a sid. A.list a.now sid };
+
+    ghost dead = { λ a sid. A.dead a.now sid };
+
+    ghost special = { λ a sid. A.special a.now sid };
+
+    ghost starts = { λ a sid. A.starts a.now sid };
+
+    ghost depth = { λ a sid. A.depth a.now sid };
+
+    ghost start = { λ a anchored. A.start a.now anchored };
+
+    ghost memory = { λ a. A.memory a.now };
+
+    fn start_state(&self, anchored: Anchored) -> Result<StateID, MatchError> {
+        (**self).start_state(anchored)
+    }
+
+    fn next_state(&self, anchored: Anchored, sid: StateID, byte: u8) -> StateID {
+        (**self).next_state(anchored, sid, byte)
+    }
+
+    fn step(&self, anchored: Anchored, sid: StateID, byte: u8, work: &mut Work) -> StateID {
+        (**self).step(anchored, sid, byte, work)
+    }
+
+    fn is_special(&self, sid: StateID) -> bool {
+        (**self).is_special(sid)
+    }
+
+    fn is_dead(&self, sid: StateID) -> bool {
+        (**self).is_dead(sid)
+    }
+
+    fn is_match(&self, sid: StateID) -> bool {
+        (**self).is_match(sid)
+    }
+
+    fn is_start(&self, sid: StateID) -> bool {
+        (**self).is_start(sid)
+    }
+
+    fn match_kind(&self) -> MatchKind {
+        (**self).match_kind()
+    }
+
+    fn match_len(&self, sid: StateID) -> usize {
+        (**self).match_len(sid)
+    }
+
+    fn match_pattern(&self, sid: StateID, index: usize) -> PatternID {
+        (**self).match_pattern(sid, index)
+    }
+
+    fn patterns_len(&self) -> usize {
+        (**self).patterns_len()
+    }
+
+    fn pattern_len(&self, pid: PatternID) -> usize {
+        (**self).pattern_len(pid)
+    }
+
+    fn min_pattern_len(&self) -> usize {
+        (**self).min_pattern_len()
+    }
+
+    fn max_pattern_len(&self) -> usize {
+        (**self).max_pattern_len()
+    }
+
+    fn memory_usage(&self) -> usize {
+        (**self).memory_usage()
+    }
+
+    ghost laws = { λ a. A.laws a.now };
+
+    ghost plain = { λ a. A.plain a.now };
+
+    ghost dead_shallow = { λ a. A.dead_shallow a.now };
+}

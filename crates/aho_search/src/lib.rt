@@ -1,0 +1,6 @@
+//! Automata with their laws, and the search that every automaton has.
+#![tactic(auto)]
+
+pub mod automaton;
+pub mod find;
+pub mod walk;
