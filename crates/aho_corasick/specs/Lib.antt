@@ -3,3 +3,6 @@ pub mod Refusals
 pub mod Naming
 pub mod Building
 pub mod Walking
+pub mod Automata
+pub mod Built
+pub mod Laws

@@ -1,8 +1,7 @@
 -- Why a table refuses to grow.
-use Rattle.std.specs.Prelude.{ℕ, ◌+◌, nat_eq, nat_lt, if◌then◌else◌}
+use Rattle.std.specs.Prelude.{ℕ, ◌+◌, nat_lt, if◌then◌else◌}
 use Rattle.aho_base.specs.declared.error.BuildError.{BuildError}
 use Rattle.aho_base.specs.declared.error.BuildError.TheVariants.{StateIDOverflow, OutOfMemory}
-use Rattle.aho_corasick.specs.Tables.{Row, next_in}
 
 -- the refusal of an entry at this index: the limit, where the index is above it, else want of memory
 abbrev pub refusal_at : ℕ → ℕ → BuildError

@@ -1,5 +1,5 @@
 -- What a `Table` is seen as: for each state a list of transitions, a list of patterns, a failure link and a depth.
-use Rattle.std.specs.Prelude.{ℕ, ◌+◌, ◌<◌, Bool, List, [], ◌∷◌, ◌++◌, length, nat_eq, nat_lt, sum_by, if◌then◌else◌, slice_index_or, slice_set}
+use Rattle.std.specs.Prelude.{◌≡◌, ℕ, ◌+◌, ◌<◌, ◌≤◌, take, drop, Bool, List, [], ◌∷◌, ◌++◌, length, nat_eq, nat_lt, sum_by, if◌then◌else◌, slice_index_or, slice_set}
 use Rattle.std.specs.List.{All, list_any}
 
 -- one state: its transitions, rising by byte, its patterns, its failure link and its distance from the start
@@ -35,6 +35,17 @@ IsRising (edge ∷ edges) = All (λ later. edge.0 < later.0) edges × IsRising e
 -- whether the state lists the byte
 abbrev pub lists_edge : List (ℕ × ℕ) → ℕ → Bool
 lists_edge edges byte = list_any (λ edge. nat_eq edge.0 byte) edges
+
+-- the byte's transition is the one of this place
+pub record StandsAt (edges : List (ℕ × ℕ)) (byte place : ℕ) : Type 0 where
+  pub within : place < length edges
+  pub of_byte : (slice_index_or edges place (0, 1)).0 ≡ byte
+
+-- nothing is listed for the byte, and it would stand at this place
+pub record IsGapAt (edges : List (ℕ × ℕ)) (byte place : ℕ) : Type 0 where
+  pub within : place ≤ length edges
+  pub before : All (λ edge. edge.0 < byte) (take place edges)
+  pub after : All (λ edge. byte < edge.0) (drop place edges)
 
 -- a state that was just added: nothing is listed, and its link (1) is still to be set
 abbrev pub new_row : ℕ → Row

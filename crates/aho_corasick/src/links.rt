@@ -3,11 +3,11 @@
 ghost use Rattle.std.specs.Prelude.{◌≡◌, ◌+◌, ◌<◌, ◌≤◌, ◌^◌, [], ◌∷◌, ◌++◌, length, true, IsOk, IfOk, IfErr, OnOk, OnErr, min, slice_get};
 ghost use Rattle.aho_base.specs.declared.error.BuildError.TheVariants.{StateIDOverflow, OutOfMemory};
 ghost use Rattle.aho_corasick.specs.Refusals.{refusal_at};
-ghost use Rattle.aho_corasick.specs.Tables.{new_row, edge_in, next_in, matches_in, fail_in, depth_in, set_edge, push_match, set_fail_of, row_at, lists_byte, transitions_count, matches_count};
+ghost use Rattle.aho_corasick.specs.Tables.{StandsAt, IsGapAt, edge_at, with_edge, new_row, edge_in, next_in, matches_in, fail_in, depth_in, set_edge, push_match, set_fail_of, row_at, lists_byte, transitions_count, matches_count};
 
 use aho_base::error::BuildError;
 use aho_base::search::{PatternID, SmallIndex, StateID, Work};
-use std::alloc::Global;
+use std::alloc::{AllocError, Global};
 use std::marker::Model;
 
 /// The state that every byte leads back to: a search that holds it has ended.
@@ -50,6 +50,8 @@ impl State {
 
     /// The place of the byte's transition, or the place where it would stand.
     fn place(&self, byte: u8) -> Result<usize, usize>
+        ensures found { IfOk result (λ place. StandsAt self.now.edges byte place) }
+        ensures absent { IfErr result (λ place. IsGapAt self.now.edges byte place) }
     {
         // A state that lists every byte has each at its own place.
         if let Some(transition) = self.transitions.get(byte as usize)
@@ -57,15 +59,45 @@ impl State {
         {
             return Ok(byte as usize);
         }
-        let mut place = 0;
-        while place < self.transitions.len() && self.transitions[place].0 < byte {
-            place += 1;
+        for (place, transition) in self.transitions.iter().enumerate() {
+            if transition.0 == byte {
+                return Ok(place);
+            }
+            if transition.0 > byte {
+                return Err(place);
+            }
         }
-        if place < self.transitions.len() && self.transitions[place].0 == byte {
-            Ok(place)
-        } else {
-            Err(place)
+        Err(self.transitions.len())
+    }
+
+    /// Where the byte leads, and FAIL where it leads nowhere.
+    fn follow(&self, byte: u8) -> StateID
+        ensures next { result ≡ edge_at self.now.edges byte }
+    {
+        match self.place(byte) {
+            Ok(place) => self.transitions[place].1,
+            Err(_) => FAIL,
         }
+    }
+
+    /// The byte, whose transition stands at `place`, leads elsewhere.
+    fn redirect(&mut self, place: usize, byte: u8, next: StateID)
+        requires stands { StandsAt self.old.edges byte place }
+        ensures set { self.new ≡ record self.old { edges = with_edge self.old.edges byte next } }
+        ensures len { length self.new.edges ≡ length self.old.edges }
+    {
+        self.transitions[place] = (byte, next);
+    }
+
+    /// One transition more, of a byte that would stand at `place`.
+    fn insert(&mut self, place: usize, byte: u8, next: StateID) -> Result<(), AllocError>
+        requires gap { IsGapAt self.old.edges byte place }
+        ensures set { OnOk result (self.new ≡ record self.old { edges = with_edge self.old.edges byte next }) }
+        ensures len { OnOk result (length self.new.edges ≡ length self.old.edges + 1) }
+        ensures unchanged { OnErr result (self.new ≡ self.old) }
+    {
+        self.transitions.insert(place, (byte, next))?;
+        Ok(())
     }
 }
 
@@ -177,16 +209,14 @@ impl Table {
         let overflow = self.overflow();
         let state = &mut self.states[sid.as_usize()];
         match state.place(byte) {
-            Ok(place) => {
-                state.transitions[place].1 = next;
-            }
+            Ok(place) => state.redirect(place, byte, next),
             Err(place) => {
                 if full {
                     return Err(overflow);
                 }
-                if state.transitions.insert(place, (byte, next)).is_err() {
+                let Ok(()) = state.insert(place, byte, next) else {
                     return Err(BuildError::OutOfMemory);
-                }
+                };
                 self.transitions_len += 1;
             }
         }
@@ -251,11 +281,7 @@ impl Table {
         ensures counted { work.new ≡ work.old + 1 }
     {
         work.tick();
-        let state = &self.states[sid.as_usize()];
-        match state.place(byte) {
-            Ok(place) => state.transitions[place].1,
-            Err(_) => FAIL,
-        }
+        self.states[sid.as_usize()].follow(byte)
     }
 
     /// How many transitions the state lists.

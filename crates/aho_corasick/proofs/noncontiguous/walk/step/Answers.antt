@@ -4,7 +4,7 @@ use Rattle.aho_base.specs.Step.{follow}
 use Rattle.aho_corasick.specs.Naming.{IsHeldAs}
 use Rattle.aho_corasick.specs.Tables.{next_in, fail_in}
 use Rattle.aho_corasick.specs.Walking.{links_left}
-use Rattle.aho_corasick.proofs.Built.{not_fail, is_fail, held-taken, held-ended, held-failed}
+use Rattle.aho_corasick.specs.Built.{not_fail, is_fail, held-taken, held-ended, held-failed}
 use Rattle.aho_corasick.proofs.noncontiguous.walk.step.Goals as goal
 
 pub returns-then-ne-clause-follows : goal.returns-then-ne-clause-follows

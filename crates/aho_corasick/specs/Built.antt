@@ -13,10 +13,10 @@ use Rattle.aho_base.specs.MatchList.{own_matches, matches_of}
 use Rattle.aho_base.specs.Patterns.{Patterns}
 use Rattle.aho_base.specs.Step.{follow, lookups, depth_of}
 use Rattle.aho_base.specs.Trie.{is_node}
-use Rattle.aho_base.proofs.Build.{matches-root, failure-is_node}
-use Rattle.aho_base.proofs.Facts.{is_cut-more, is_cut-before}
+use Rattle.aho_base.proofs.ByLinks.{matches-root, failure-is_node}
+use Rattle.aho_base.proofs.Kept.{is_cut-more, is_cut-before}
 use Rattle.aho_base.proofs.LinkedStates.{Grown, Linked, taken, failed}
-use Rattle.aho_base.proofs.Steps.{state-node, state-cut, state-shorter, follow-node}
+use Rattle.aho_base.proofs.StepLaw.{state-node, state-cut, state-shorter, follow-node}
 use Rattle.aho_corasick.specs.Tables.{Row, next_in, fail_in, depth_in, matches_in}
 use Rattle.aho_corasick.specs.Naming.{name_at, IsStateOf, IsAnchoredStateOf, IsHeldAs, longer, missing_at, IsTrie}
 use Rattle.aho_corasick.specs.Building.{root_loop, IsBuilt, IsLinked}
