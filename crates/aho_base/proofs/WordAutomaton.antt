@@ -184,9 +184,10 @@ module _ (p : Patterns) where
       (anchored_further (folded_word p w) (folded_word p (w ++ x ∷ [])) (folded p x) r (map_push (folded p) w x) best)
 
   -- a leftmost kind that is not dead is near a match's start: the state's word is no longer than the longest pattern
-  node_length : (u : List ℕ) → is_node p u ≡ true → length u ≤ longest lengths
-  node_length [] node = omega arith
-  node_length (x ∷ u) node =
+  -- a node is no longer than the longest pattern
+  pub length-node : (u : List ℕ) → is_node p u ≡ true → length u ≤ longest lengths
+  length-node [] node = omega arith
+  length-node (x ∷ u) node =
       let t = is_node-true p x u node in
       omega (arith, begins_length (x ∷ u) (pattern_word p t.0) t.3, length_of t.0 t.1, longest_bound lengths t.0 (omega (arith, t.1, length-map p.words length)))
 
@@ -196,7 +197,7 @@ module _ (p : Patterns) where
   is_near w (Some u) m other e alive best =
       let leftmost = other_than_standard p.kind other in
       let stands = (best_in p No w (Some m) best).0 in
-      omega (arith, live-occurrences p (folded_word p w) u m leftmost (sym e) stands, length-folded p w, node_length u (state-is_node p (folded_word p w) u (sym e)))
+      omega (arith, live-occurrences p (folded_word p w) u m leftmost (sym e) stands, length-folded p w, length-node u (state-is_node p (folded_word p w) u (sym e)))
 
   -- a dead state keeps the best
   unanchored_keeps : (w y : List ℕ) (r : Option Occurrence) → state_after p w ≡ None → BestIn p No w r → BestIn p No (w ++ y) r

@@ -19,3 +19,4 @@ pub mod Held
 pub mod Among
 pub mod Laws
 pub mod WordStatements
+pub mod Statements
