@@ -1,6 +1,6 @@
 -- A table that was built: its states are linked as the words are, step as they do, list what they list, and a step over it
 -- is sound.
-use Rattle.std.proofs.Common.{◌≡◌, ◌≢◌, ◌⊎◌, inl, inr, ℕ, ◌+◌, ◌<◌, ◌≤◌, Bool, true, false, cond, List, [], ◌∷◌, ◌++◌, length, eqb, refl, sym, ◌∙◌, ap, subst, arith}
+use Rattle.std.proofs.Common.{◌≡◌, ◌≢◌, ◌⊎◌, inl, inr, ℕ, ◌+◌, ◌<◌, ◌≤◌, Bool, true, false, cond, List, [], ◌∷◌, ◌++◌, length, map, eqb, refl, sym, ◌∙◌, ap, subst, arith}
 use Rattle.std.specs.Prelude.{Option, Some, None, is_none, nat_eq, not, MatchBool}
 use Rattle.std.proofs.lemmas.Bool.{cases_Bool, cases_eq, cases_lt, cond-true, cond-false, eq-eqb, ne_eqb, MatchBool-at_true, MatchBool-at_false}
 use Rattle.std.proofs.lemmas.Bool.Decides.{nat_tests}
@@ -16,6 +16,8 @@ use Rattle.aho_base.specs.Trie.{is_node}
 use Rattle.aho_base.proofs.ByLinks.{matches-root, failure-is_node}
 use Rattle.aho_base.proofs.Kept.{is_cut-more, is_cut-before}
 use Rattle.aho_base.proofs.LinkedStates.{Grown, Linked, taken, failed}
+use Rattle.aho_base.specs.Laws.{longest}
+use Rattle.aho_base.proofs.WordAutomaton.{length-node}
 use Rattle.aho_base.proofs.StepLaw.{state-node, state-cut, state-shorter, follow-node}
 use Rattle.aho_corasick.specs.Tables.{Row, next_in, fail_in, depth_in, matches_in}
 use Rattle.aho_corasick.specs.Naming.{name_at, IsStateOf, IsAnchoredStateOf, IsHeldAs, longer, missing_at, IsTrie}
@@ -328,14 +330,26 @@ module _ (p : Patterns) (names : List (Option (List ℕ))) (rows : List Row) (b 
           (sized four (fail_in rows sid) t.0,
           omega (arith, left_of_other sid (named_ne sid w.0 w.1).0, left_most (fail_in rows sid), named_depth (fail_in rows sid) t.0, named_depth sid (inr w), t.3))
 
-  pub IsSound-from_built : 4 ≤ length rows → length rows ≤ 2147483647 → IsSound rows
-  IsSound-from_built four most = record {
+  state_depth : longest (map length p.words) ≤ 2147483646 → (sid : ℕ) → IsState rows sid → depth_in rows sid ≤ 2147483646
+  state_depth most sid ok =
+      elim (state_cases sid ok) [
+        | inl named ↦ named_shallow named
+        | inr anchored ↦ omega (arith, ap (depth_in rows) anchored, b.anchored.depth)
+      ]
+    where
+      named_shallow : IsNamed names sid → depth_in rows sid ≤ 2147483646
+      named_shallow (inl e) = omega (arith, ap (depth_in rows) e, b.dead.depth)
+      named_shallow (inr w) = omega (arith, b.trie.depths sid w.0 w.1, length-node p w.0 (b.trie.words sid w.0 w.1).0)
+
+  pub IsSound-from_built : 4 ≤ length rows → length rows ≤ 2147483647 → longest (map length p.words) ≤ 2147483646 → IsSound rows
+  IsSound-from_built four most longest_most = record {
     sized = four;
     bounded = most;
     next_state = λ sid byte ok small ne. (next_sound four sid byte ok small ne).0;
     next_depth = λ sid byte ok small ne. (next_sound four sid byte ok small ne).1;
     fail_state = λ sid byte ok small e. (fail_sound four sid byte ok small e).0;
     fail_nearer = λ sid byte ok small e. (fail_sound four sid byte ok small e).1;
+    shallow = state_depth longest_most;
     dead_next = b.trie.dead_loop;
     dead_depth = b.dead.depth;
     starts_depth = (b.trie.depths 2 [] b.trie.root, b.anchored.depth);

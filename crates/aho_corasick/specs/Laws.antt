@@ -1,7 +1,7 @@
 -- The laws of the automaton that a table is.
 use Rattle.std.proofs.Common.{◌≡◌, ◌≢◌, ℕ, ◌<◌, ◌⊎◌, inl, inr, Bool, true, false, ◌||◌, List, [], ◌∷◌, ◌++◌, length, refl, sym, ◌∙◌, ap, subst, arith}
 use Rattle.std.specs.Prelude.{Option, Some, None, is_none, nat_eq, nat_lt}
-use Rattle.std.proofs.lemmas.Bool.{cases_Bool, cases_eq, cond-true, eq-eqb, ne_eqb}
+use Rattle.std.proofs.lemmas.Bool.{cases_Bool, cases_eq, cond-true, lt-ltb}
 use Rattle.std.proofs.lemmas.Bool.Decides.{nat_tests}
 use Rattle.aho_base.specs.declared.search.Anchored.{Anchored}
 use Rattle.aho_base.specs.declared.search.Anchored.TheVariants.{No, Yes}
@@ -84,7 +84,7 @@ plain_of rows sid e = parts (nat_eq sid 0) (matches_in rows sid) e
     parts : (dead : Bool) (list : List ℕ) → (dead || nat_lt 0 (length list)) ≡ false → (dead ≡ false) × (list ≡ [])
     parts true list e = cc
     parts false [] e = (refl, refl)
-    parts false (x ∷ xs) e = cc
+    parts false (x ∷ xs) e = let clash : true ≡ false = sym (lt-ltb 0 (length (x ∷ xs)) (omega arith)) ∙ e in cc
 
 -- DEAD is no deeper than the start
 pub dead_shallow_of : (rows : List Row) (sid : ℕ) → IsSound rows → nat_eq sid 0 ≡ true → depth_in rows sid ≡ 0

@@ -19,6 +19,7 @@ pub record IsSound (rows : List Row) : Type 0 where
   pub next_depth : (sid byte : ℕ) → IsState rows sid → byte < 256 → next_in rows sid byte ≢ 1 → depth_in rows (next_in rows sid byte) ≤ depth_in rows sid + 1
   pub fail_state : (sid byte : ℕ) → IsState rows sid → byte < 256 → next_in rows sid byte ≡ 1 → IsState rows (fail_in rows sid)
   pub fail_nearer : (sid byte : ℕ) → IsState rows sid → byte < 256 → next_in rows sid byte ≡ 1 → links_left rows (fail_in rows sid) < links_left rows sid
+  pub shallow : (sid : ℕ) → IsState rows sid → depth_in rows sid ≤ 2147483646
   pub dead_next : (byte : ℕ) → byte < 256 → next_in rows 0 byte ≡ 0
   pub dead_depth : depth_in rows 0 ≡ 0
   pub starts_depth : (depth_in rows 2 ≡ 0) × (depth_in rows 3 ≡ 0)

@@ -31,7 +31,11 @@ pub struct NFA {
 }
 
 impl Automaton for NFA {
-    ghost use Rattle.std.specs.Prelude.{nat_eq, Ok};
+    ghost use Rattle.std.specs.Prelude.{ℕ, ◌+◌, ◌<◌, ◌^◌, List, [], ◌∷◌, ◌++◌, nat_eq, Ok};
+    ghost use Rattle.aho_base.specs.Bytes.{folded};
+    ghost use Rattle.aho_base.specs.Held.{held_after};
+    ghost use Rattle.aho_base.specs.Patterns.{Patterns};
+    ghost use Rattle.aho_base.specs.Step.{lookups};
     ghost use Rattle.aho_corasick.specs.Automata.{IsOf, IsHeld, start_of, is_special_in, is_start_in, memory_of};
     ghost use Rattle.aho_corasick.specs.Tables.{depth_in, matches_in};
     ghost use Rattle.aho_corasick.specs.Walking.{IsState};
@@ -73,7 +77,16 @@ impl Automaton for NFA {
         walk::step(&self.table, anchored, sid, byte, &mut work)
     }
 
-    fn step(&self, anchored: Anchored, sid: StateID, byte: u8, work: &mut Work) -> StateID {
+    /// The look-ups that are added are exactly those of the step of the word that was read.
+    fn step(&self, anchored: Anchored, sid: StateID, byte: u8, work: &mut Work) -> StateID
+        requires valid { ⟦<NFA as Automaton>⟧.valid self.now sid }
+        requires room { work.old + ⟦<NFA as Automaton>⟧.depth self.now sid + 2 < 2 ^ 128 }
+        ensures valid { ⟦<NFA as Automaton>⟧.valid self.now result }
+        ensures goes_on { (p : Patterns) (word : List ℕ) → ⟦<NFA as Automaton>⟧.is_of self.now p → ⟦<NFA as Automaton>⟧.held self.now p anchored word sid → ⟦<NFA as Automaton>⟧.held self.now p anchored (word ++ byte ∷ []) result }
+        ensures paid { work.new + ⟦<NFA as Automaton>⟧.depth self.now result ≤ work.old + ⟦<NFA as Automaton>⟧.depth self.now sid + 2 }
+        ensures grows { work.old ≤ work.new }
+        ensures counted { (p : Patterns) (word : List ℕ) → ⟦<NFA as Automaton>⟧.is_of self.now p → ⟦<NFA as Automaton>⟧.held self.now p anchored word sid → work.new ≡ work.old + lookups p anchored (held_after p anchored word) (folded p byte) }
+    {
         walk::step(&self.table, anchored, sid, byte, work)
     }
 
