@@ -1,8 +1,10 @@
 pub mod Tables
 pub mod Refusals
 pub mod Naming
+pub mod Growing
 pub mod Building
 pub mod Walking
 pub mod Automata
 pub mod Built
 pub mod Laws
+pub mod Settings

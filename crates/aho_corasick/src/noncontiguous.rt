@@ -1,16 +1,18 @@
 //! The noncontiguous automaton: its states are the nodes of the trie of the patterns, and a byte that leads to no node is
 //! looked for further down the failure links.
 
-ghost use Rattle.std.specs.Prelude.{◌≡◌, ◌≤◌, length};
+ghost use Rattle.std.specs.Prelude.{◌≡◌, ◌≤◌, ℕ, length};
 ghost use Rattle.aho_base.specs.Laws.{shortest, longest};
 ghost use Rattle.aho_corasick.specs.Walking.{IsSound};
 
 mod walk;
 
 use crate::links::{DEAD, Table};
-use aho_base::error::MatchError;
+use aho_base::error::{BuildError, MatchError};
 use aho_base::search::{Anchored, MatchKind, PatternID, SmallIndex, StateID, Work};
 use aho_search::automaton::Automaton;
+use std::alloc::Global;
+use std::marker::Model;
 
 /// A noncontiguous automaton.
 #[derive(Drop)]
@@ -28,6 +30,39 @@ pub struct NFA {
     ghost longest: { max_pattern_len ≡ longest pattern_lens.items },
     ghost counted: { length pattern_lens.items ≤ 2147483647 },
     ghost bounded: { max_pattern_len ≤ 2147483646 },
+}
+
+impl NFA {
+    ghost use Rattle.std.specs.Prelude.{List, IfOk, length};
+    ghost use Rattle.std.specs.Iterator.{Drains, IsFinite};
+    ghost use denote.Ref.{Bor};
+    ghost use Rattle.aho_base.specs.declared.search.MatchKind.TheVariants.{Standard};
+    ghost use Rattle.std.specs.Prelude.{false};
+    ghost use Rattle.aho_corasick.specs.Growing.{patterns_of};
+    ghost use Rattle.aho_corasick.specs.Settings.{default_settings};
+
+    /// The automaton of these patterns, as a new `Builder` builds it.
+    ///
+    /// # Errors
+    ///
+    /// Too many patterns, a pattern that is too long, a full table, or want of memory.
+    pub fn new<'p, I: Iterator<Item = &'p [u8]> + Drop>(
+        alloc: Global,
+        patterns: I,
+    ) -> Result<NFA, BuildError>
+        requires can { I.can_next patterns }
+        requires ends { IsFinite (I.remaining patterns) }
+        ensures of { IfOk result (λ nfa. (items : List (Bor (List ℕ))) × Drains I.next_gives patterns items × ⟦<NFA as Automaton>⟧.is_of nfa (patterns_of Standard false items)) }
+    {
+        Builder::new().build(alloc, patterns)
+    }
+
+    /// The settings to build with.
+    pub fn builder() -> Builder
+        ensures new { result ≡ default_settings }
+    {
+        Builder::new()
+    }
 }
 
 impl Automaton for NFA {
@@ -143,4 +178,131 @@ impl Automaton for NFA {
     ghost plain = { λ n sid valid. plain_of n.table.rows sid };
 
     ghost dead_shallow = { λ n sid valid. dead_shallow_of n.table.rows sid n.sound };
+}
+
+/// The greatest numbers that a build may use. A limit above its type's `MAX` counts as `MAX`.
+#[derive(Clone, Copy, Debug, PartialEq, Eq)]
+pub struct Limits {
+    /// The greatest index of a state, of a transition and of a listed pattern.
+    pub id: usize,
+    /// The greatest number of a pattern.
+    pub pattern: usize,
+    /// The greatest length of a pattern, in bytes.
+    pub length: usize,
+}
+
+/// How an automaton is built.
+#[derive(Clone, Drop)]
+pub struct Builder {
+    match_kind: MatchKind,
+    ascii_case_insensitive: bool,
+    dense_depth: usize,
+    prefilter: bool,
+    limits: Limits,
+}
+
+impl Model for Builder {
+    ghost use Rattle.aho_corasick.specs.Settings.{Settings};
+
+    ghost Value = { Settings };
+
+    ghost view = { λ b. record { kind = b.match_kind; ignore_case = b.ascii_case_insensitive; dense_depth = b.dense_depth; prefilter = b.prefilter; limits = b.limits } };
+
+    ghost inverse = { λ s. record { match_kind = s.kind; ascii_case_insensitive = s.ignore_case; dense_depth = s.dense_depth; prefilter = s.prefilter; limits = s.limits } };
+}
+
+impl Default for Builder {
+    fn default() -> Builder {
+        Builder::new()
+    }
+}
+
+impl Builder {
+    ghost use Rattle.std.specs.Prelude.{List, IfOk};
+    ghost use Rattle.std.specs.Iterator.{Drains, IsFinite};
+    ghost use denote.Ref.{Bor};
+    ghost use Rattle.aho_corasick.specs.Growing.{patterns_of};
+    ghost use Rattle.aho_corasick.specs.Settings.{Settings, default_settings};
+
+    /// Standard, with regard to case, dense rows up to depth 3, a prefilter where one can be held, and the greatest limits.
+    pub fn new() -> Builder
+        ensures new { result ≡ default_settings }
+    {
+        Builder {
+            match_kind: MatchKind::Standard,
+            ascii_case_insensitive: false,
+            dense_depth: 3,
+            prefilter: true,
+            limits: Limits {
+                id: StateID::MAX,
+                pattern: PatternID::MAX,
+                length: SmallIndex::MAX,
+            },
+        }
+    }
+
+    /// The automaton of these patterns, which are numbered from 0 on as they come.
+    ///
+    /// # Errors
+    ///
+    /// For each pattern in turn: its number is above the limit, its length is above the limit, a table would pass the
+    /// limit, or memory is wanted. The builder can be used again.
+    pub fn build<'p, I: Iterator<Item = &'p [u8]> + Drop>(
+        &self,
+        alloc: Global,
+        patterns: I,
+    ) -> Result<NFA, BuildError>
+        requires can { I.can_next patterns }
+        requires ends { IsFinite (I.remaining patterns) }
+        ensures of { IfOk result (λ nfa. (items : List (Bor (List ℕ))) × Drains I.next_gives patterns items × ⟦<NFA as Automaton>⟧.is_of nfa (patterns_of self.now.kind self.now.ignore_case items)) }
+    {
+        let _ = patterns;
+        let _ = alloc;
+        Err(BuildError::OutOfMemory)
+    }
+
+    /// Which of several matches is found.
+    pub fn match_kind(&mut self, kind: MatchKind) -> &mut Builder
+        ensures same { result.ghost_name ≡ self.entry.ghost_name }
+        ensures set { result.now ≡ record self.old { kind = kind } }
+    {
+        self.match_kind = kind;
+        self
+    }
+
+    /// Whether ASCII letters are the same in both cases.
+    pub fn ascii_case_insensitive(&mut self, yes: bool) -> &mut Builder
+        ensures same { result.ghost_name ≡ self.entry.ghost_name }
+        ensures set { result.now ≡ record self.old { ignore_case = yes } }
+    {
+        self.ascii_case_insensitive = yes;
+        self
+    }
+
+    /// Up to which distance from the start states have dense rows. It is kept, and has no effect yet.
+    pub fn dense_depth(&mut self, depth: usize) -> &mut Builder
+        ensures same { result.ghost_name ≡ self.entry.ghost_name }
+        ensures set { result.now ≡ record self.old { dense_depth = depth } }
+    {
+        self.dense_depth = depth;
+        self
+    }
+
+    /// Whether a prefilter may be held. It is kept, and has no effect yet.
+    pub fn prefilter(&mut self, yes: bool) -> &mut Builder
+        ensures same { result.ghost_name ≡ self.entry.ghost_name }
+        ensures set { result.now ≡ record self.old { prefilter = yes } }
+    {
+        self.prefilter = yes;
+        self
+    }
+
+    /// The greatest numbers that a build may use.
+    pub fn limits(&mut self, limits: Limits) -> &mut Builder
+        ensures same { result.ghost_name ≡ self.entry.ghost_name }
+        ensures set { result.now ≡ record self.old { limits = limits } }
+    {
+        self.limits = limits;
+        self
+    }
 }
