@@ -131,14 +131,13 @@ pub struct Table {
 }
 
 impl Model for Table {
-    ghost use Rattle.std.specs.Prelude.{◌≡◌, ◌≤◌, ◌+◌, length};
-    ghost use Rattle.aho_corasick.specs.Tables.{Tables, transitions_count, matches_count};
+    ghost use Rattle.aho_corasick.specs.Tables.{Tables, IsCounted};
 
     ghost Value = { Tables };
 
     ghost view = { λ t. record { rows = t.states.items; limit = t.limit } };
 
-    ghost invariant = { λ t. (t.limit ≤ 2147483646) × (t.transitions_len ≡ transitions_count t.states.items) × (t.transitions_len ≤ t.limit + 1) × (t.matches_len ≡ matches_count t.states.items) × (t.matches_len ≤ t.limit + 1) × (length t.states.items ≤ t.limit + 1) };
+    ghost invariant = { λ t. IsCounted t.states.items t.limit t.transitions_len t.matches_len };
 }
 
 impl Table {

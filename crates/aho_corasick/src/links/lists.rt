@@ -39,9 +39,9 @@ impl<'t> Iterator for Transitions<'t> {
     ghost remaining = { item_count (λ rest. rest) };
 
     fn next(&mut self) -> Option<(u8, StateID)> {
-        let (first, rest) = self.rest.split_first()?;
+        let (transition, rest) = self.rest.split_first()?;
         self.rest = rest;
-        Some(*first)
+        Some(*transition)
     }
 }
 
@@ -79,9 +79,9 @@ impl<'t> Iterator for Matches<'t> {
     ghost remaining = { item_count (λ rest. rest) };
 
     fn next(&mut self) -> Option<PatternID> {
-        let (first, rest) = self.rest.split_first()?;
+        let (pattern, rest) = self.rest.split_first()?;
         self.rest = rest;
-        Some(*first)
+        Some(*pattern)
     }
 }
 
