@@ -89,3 +89,12 @@ transitions_count rows = 1 + sum_by (λ (row : Row). length row.edges) rows
 
 abbrev pub matches_count : List Row → ℕ
 matches_count rows = 1 + sum_by (λ (row : Row). length row.matches) rows
+
+-- the counts of the two tables' entries, and that no index of a table is above the limit
+pub record IsCounted (rows : List Row) (limit transitions matches : ℕ) : Type 0 where
+  pub small : limit ≤ 2147483646
+  pub transitions_are : transitions ≡ transitions_count rows
+  pub transitions_within : transitions ≤ limit + 1
+  pub matches_are : matches ≡ matches_count rows
+  pub matches_within : matches ≤ limit + 1
+  pub rows_within : length rows ≤ limit + 1

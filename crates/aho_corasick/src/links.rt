@@ -1,12 +1,15 @@
 //! The states of an automaton with their transitions, match lists and failure links.
 
-ghost use Rattle.std.specs.Prelude.{◌≡◌, ◌+◌, ◌<◌, ◌≤◌, ◌^◌, [], ◌∷◌, ◌++◌, length, true, IsOk, IfOk, IfErr, OnOk, OnErr, min, slice_get};
+ghost use Rattle.std.specs.Prelude.{◌≡◌, ◌+◌, ◌<◌, ◌≤◌, ◌^◌, [], ◌∷◌, ◌++◌, length, true, IsTrue, ◌↔◌, IsOk, IfOk, IfErr, OnOk, OnErr, min, slice_get};
 ghost use Rattle.aho_base.specs.declared.error.BuildError.TheVariants.{StateIDOverflow, OutOfMemory};
 ghost use Rattle.aho_corasick.specs.Refusals.{refusal_at};
-ghost use Rattle.aho_corasick.specs.Tables.{StandsAt, IsGapAt, edge_at, with_edge, new_row, edge_in, next_in, matches_in, fail_in, depth_in, set_edge, push_match, set_fail_of, row_at, lists_byte, transitions_count, matches_count};
+ghost use Rattle.aho_corasick.specs.Tables.{StandsAt, IsGapAt, IsRising, edge_at, with_edge, new_row, edge_in, next_in, matches_in, fail_in, depth_in, set_edge, push_match, set_fail_of, row_at, lists_byte, transitions_count, matches_count};
+
+mod lists;
 
 use aho_base::error::BuildError;
 use aho_base::search::{PatternID, SmallIndex, StateID, Work};
+pub use lists::{Matches, Transitions};
 use std::alloc::{AllocError, Global};
 use std::marker::Model;
 
@@ -99,6 +102,17 @@ impl State {
         self.transitions.insert(place, (byte, next))?;
         Ok(())
     }
+
+    fn try_clone(&self, alloc: Global) -> Result<State, AllocError>
+        ensures same { IfOk result (λ state. state ≡ self.now) }
+    {
+        Ok(State {
+            transitions: Vec::from_slice(alloc, &self.transitions)?,
+            matches: Vec::from_slice(alloc, &self.matches)?,
+            fail: self.fail,
+            depth: self.depth,
+        })
+    }
 }
 
 /// The states of an automaton, with the transitions and patterns that each lists.
@@ -117,14 +131,13 @@ pub struct Table {
 }
 
 impl Model for Table {
-    ghost use Rattle.std.specs.Prelude.{◌≡◌, ◌≤◌, ◌+◌, length};
-    ghost use Rattle.aho_corasick.specs.Tables.{Tables, transitions_count, matches_count};
+    ghost use Rattle.aho_corasick.specs.Tables.{Tables, IsCounted};
 
     ghost Value = { Tables };
 
     ghost view = { λ t. record { rows = t.states.items; limit = t.limit } };
 
-    ghost invariant = { λ t. (t.limit ≤ 2147483646) × (t.transitions_len ≡ transitions_count t.states.items) × (t.transitions_len ≤ t.limit + 1) × (t.matches_len ≡ matches_count t.states.items) × (t.matches_len ≤ t.limit + 1) × (length t.states.items ≤ t.limit + 1) };
+    ghost invariant = { λ t. IsCounted t.states.items t.limit t.transitions_len t.matches_len };
 }
 
 impl Table {
@@ -162,6 +175,13 @@ impl Table {
         ensures bound { result ≤ 2147483647 }
     {
         self.states.len()
+    }
+
+    /// Whether there is no state.
+    pub fn is_empty(&self) -> bool
+        ensures empty { IsTrue result ↔ (length self.now.rows ≡ 0) }
+    {
+        self.states.is_empty()
     }
 
     /// One more state, without transitions or patterns, and with FAIL as its link. Answers its number, which is the count
@@ -318,4 +338,61 @@ impl Table {
     {
         self.states[sid.as_usize()].matches[index]
     }
+
+    /// The transitions of the state, rising by byte.
+    pub fn transitions(&self, sid: StateID) -> Transitions<'_>
+        requires added { sid < length self.now.rows }
+        ensures listed { result ≡ (row_at self.now.rows sid).edges }
+        ensures rising { IsRising result }
+    {
+        Transitions::new(&self.states[sid.as_usize()].transitions)
+    }
+
+    /// The patterns of the state, in the order of their listing.
+    pub fn matches(&self, sid: StateID) -> Matches<'_>
+        requires added { sid < length self.now.rows }
+        ensures listed { result ≡ matches_in self.now.rows sid }
+    {
+        Matches::new(&self.states[sid.as_usize()].matches)
+    }
+
+    /// How many entries the table of transitions has: one for each that a state lists, and the one at index 0.
+    pub fn transitions_count(&self) -> usize
+        ensures count { result ≡ transitions_count self.now.rows }
+        ensures bound { result ≤ 2147483647 }
+    {
+        self.transitions_len
+    }
+
+    /// How many entries the table of patterns has: one for each that a state lists, and the one at index 0.
+    pub fn matches_count(&self) -> usize
+        ensures count { result ≡ matches_count self.now.rows }
+        ensures bound { result ≤ 2147483647 }
+    {
+        self.matches_len
+    }
+
+    /// An equal table, in memory of its own.
+    ///
+    /// # Errors
+    ///
+    /// Want of memory.
+    pub fn try_clone(&self) -> Result<Table, AllocError>
+        ensures same { IfOk result (λ table. table ≡ self.now) }
+    {
+        let mut states = Vec::with_capacity(self.alloc, self.states.len())?;
+        for state in &self.states {
+            states.push(state.try_clone(self.alloc)?)?;
+        }
+        Ok(Table {
+            states,
+            transitions_len: self.transitions_len,
+            matches_len: self.matches_len,
+            limit: self.limit,
+            alloc: self.alloc,
+        })
+    }
 }
+
+#[cfg(test)]
+mod tests;

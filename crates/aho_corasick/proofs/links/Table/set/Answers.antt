@@ -13,7 +13,14 @@ invariant_of-self c =
     let transitions = transitions_count-set c.self.inside.states.items c.as_usize.result c.redirect.new.self c.index_mut-state.result.now below c.index_mut-state.ensures.value in
     let matches = matches_count-set c.self.inside.states.items c.as_usize.result c.redirect.new.self c.index_mut-state.result.now below c.index_mut-state.ensures.value in
     let listed = ap (λ (r : Row). length r.matches) c.redirect.ensures.set in
-    (omega arith, omega arith, omega arith, omega arith, omega arith, omega (arith, length-set c.self.inside.states.items c.as_usize.result c.redirect.new.self))
+    record {
+      small = omega arith;
+      transitions_are = omega arith;
+      transitions_within = omega arith;
+      matches_are = omega arith;
+      matches_within = omega arith;
+      rows_within = omega (arith, length-set c.self.inside.states.items c.as_usize.result c.redirect.new.self);
+    }
 
 pub returns-then-full-clause-there : goal.returns-then-full-clause-there
 returns-then-full-clause-there c listed =
@@ -39,7 +46,14 @@ invariant_of-self-in-Err c =
     let matches = matches_count-set c.self.inside.states.items c.as_usize.result c.insert.new.self c.index_mut-state.result.now below c.index_mut-state.ensures.value in
     let more = c.in-Ok-insert.ensures.len in
     let listed = ap (λ (r : Row). length r.matches) c.in-Ok-insert.ensures.set in
-    (omega arith, omega arith, omega arith, omega arith, omega arith, omega (arith, length-set c.self.inside.states.items c.as_usize.result c.insert.new.self))
+    record {
+      small = omega arith;
+      transitions_are = omega arith;
+      transitions_within = omega arith;
+      matches_are = omega arith;
+      matches_within = omega arith;
+      rows_within = omega (arith, length-set c.self.inside.states.items c.as_usize.result c.insert.new.self);
+    }
 
 pub returns-clause-within : goal.returns-clause-within
 returns-clause-within c =
