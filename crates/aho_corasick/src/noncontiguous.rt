@@ -170,7 +170,11 @@ impl Automaton for NFA {
     }
 
     fn memory_usage(&self) -> usize {
-        20 * self.table.len() + 4 * self.pattern_lens.len()
+        20 * self.table.len()
+            + 9 * self.table.transitions_count()
+            + 8 * self.table.matches_count()
+            + 4
+            + 4 * self.pattern_lens.len()
     }
 
     ghost laws = { λ n p of. reads_of p n.match_kind n.pattern_lens.items n.table.rows of };
