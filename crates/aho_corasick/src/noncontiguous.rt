@@ -1,1 +1,3 @@
 //! The noncontiguous automaton.
+
+mod trie;

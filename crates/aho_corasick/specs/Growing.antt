@@ -1,0 +1,97 @@
+-- How the trie grows: by one state, by the bytes of one pattern, by one pattern, and from the four first states.
+use Rattle.std.specs.Prelude.{◌≡◌, ◌≢◌, ℕ, ◌+◌, ◌-◌, ◌<◌, nat_eq, nat_le, ◌&&◌, if◌then◌else◌, Bool, true, false, List, [], ◌∷◌, map, length, Option, Some, None, MatchBool}
+use denote.Ref.{Bor}
+use Rattle.aho_base.specs.declared.search.MatchKind.{MatchKind}
+use Rattle.aho_base.specs.declared.search.MatchKind.TheVariants.{Standard, LeftmostFirst, LeftmostLongest}
+use Rattle.aho_base.specs.Bytes.{folded_word}
+use Rattle.aho_base.specs.Patterns.{Patterns, pattern_at}
+use Rattle.aho_base.specs.Trie.{is_kept, pattern_word}
+use Rattle.aho_corasick.specs.Naming.{name_at, IsTrieOf, IsTrieWith}
+use Rattle.aho_corasick.specs.Tables.{Row, row_at, next_in, fail_in, depth_in, matches_in}
+
+-- the patterns of these byte strings, by their places
+abbrev pub patterns_of : MatchKind → Bool → List (Bor (List ℕ)) → Patterns
+patterns_of kind ignore_case items = record { words = map (λ item. item.now) items; kind = kind; ignore_case = ignore_case }
+
+-- the other case of an ASCII letter, and every other byte itself
+abbrev pub opposite : ℕ → ℕ
+opposite byte =
+    if nat_le 65 byte && nat_le byte 90 then byte + 32
+    else if nat_le 97 byte && nat_le byte 122 then byte - 32
+    else byte
+
+-- a byte as it is compared, by the case rule alone
+abbrev pub folded_by : Bool → ℕ → ℕ
+folded_by ignore_case byte = if ignore_case && (nat_le 65 byte && nat_le byte 90) then byte + 32 else byte
+
+-- the change of a table by one more state, to which a state leads by a byte and, under the case rule, by its other case
+pub record Grows (ignore_case : Bool) (parent byte depth : ℕ) (old new : List Row) : Type 0 where
+  pub sized : length new ≡ length old + 1
+  pub depth_new : depth_in new (length old) ≡ depth
+  pub edge_new : (other : ℕ) → next_in new (length old) other ≡ 1
+  pub matches_new : matches_in new (length old) ≡ []
+  pub fail_new : fail_in new (length old) ≡ 1
+  pub depth_old : (i : ℕ) → i < length old → depth_in new i ≡ depth_in old i
+  pub matches_old : (i : ℕ) → i < length old → matches_in new i ≡ matches_in old i
+  pub fail_old : (i : ℕ) → i < length old → fail_in new i ≡ fail_in old i
+  pub edge_old : (i other : ℕ) → i < length old → i ≢ parent → next_in new i other ≡ next_in old i other
+  pub edge_byte : (other : ℕ) → other < 256 → folded_by ignore_case other ≡ folded_by ignore_case byte → next_in new parent other ≡ length old
+  pub edge_other : (other : ℕ) → other < 256 → folded_by ignore_case other ≢ folded_by ignore_case byte → next_in new parent other ≡ next_in old parent other
+
+-- the state to which the byte leads, which was there or is new
+abbrev pub HasChild : Bool → ℕ → ℕ → ℕ → List Row → List Row → ℕ → Type 0
+HasChild ignore_case parent byte depth old new sid =
+    MatchBool (nat_eq (next_in old parent byte) 1) ((sid ≡ length old) × Grows ignore_case parent byte depth old new) ((sid ≡ next_in old parent byte) × (new ≡ old))
+
+-- each byte below the count leads from the state to the next one, and nothing else was changed
+pub record IsFilledBelow (sid next count : ℕ) (old new : List Row) : Type 0 where
+  pub sized : length new ≡ length old
+  pub edges : (byte : ℕ) → byte < count → next_in new sid byte ≡ next
+  pub matches : matches_in new sid ≡ matches_in old sid
+  pub fail : fail_in new sid ≡ fail_in old sid
+  pub depth : depth_in new sid ≡ depth_in old sid
+  pub others : (i : ℕ) → i ≢ sid → row_at new i ≡ row_at old i
+
+-- the names of the first four states: DEAD, FAIL, the unanchored and the anchored start
+abbrev pub start_names : List (Option (List ℕ))
+start_names = None ∷ None ∷ Some [] ∷ None ∷ []
+
+-- whether the kind leaves patterns out
+abbrev pub is_first : MatchKind → Bool
+is_first Standard = false
+is_first LeftmostFirst = true
+is_first LeftmostLongest = false
+
+-- the pattern of this number is the word, and kind and case rule are these
+pub record IsNumbered (p : Patterns) (number : ℕ) (kind : MatchKind) (ignore_case : Bool) (word : List ℕ) : Type 0 where
+  pub kind_is : p.kind ≡ kind
+  pub case_is : p.ignore_case ≡ ignore_case
+  pub pattern_is : pattern_at p number ≡ word
+
+-- the table is a trie of the patterns before one that is the word
+abbrev pub AwaitsWord : MatchKind → Bool → List ℕ → List Row → Type 0
+AwaitsWord kind ignore_case word rows =
+    (p : Patterns) × ((number : ℕ) × ((names : List (Option (List ℕ))) × IsNumbered p number kind ignore_case word × IsTrieOf p number names rows))
+
+-- where the bytes of the pattern of this number end, in the trie that has them too; none where the pattern is left out and
+-- the trie is still that of the patterns before it
+abbrev pub EndsAt : Patterns → ℕ → List Row → Option ℕ → Type 0
+EndsAt p number rows None = (is_kept p number ≡ false) × ((names : List (Option (List ℕ))) × IsTrieOf p number names rows)
+EndsAt p number rows (Some sid) =
+    (is_kept p number ≡ true)
+    × ((names : List (Option (List ℕ))) × (IsTrieWith p number (pattern_word p number) names rows × (name_at names sid ≡ Some (pattern_word p number))))
+
+-- what was a trie of the patterns before the word, by any patterns, has the word's bytes too
+abbrev pub AddsWord : MatchKind → Bool → List ℕ → List Row → List Row → Option ℕ → Type 0
+AddsWord kind ignore_case word old new end =
+    (p : Patterns) (number : ℕ) (names : List (Option (List ℕ))) → IsNumbered p number kind ignore_case word → IsTrieOf p number names old → EndsAt p number new end
+
+-- and once its number is listed, it is the trie of one pattern more
+abbrev pub AddsPattern : MatchKind → Bool → List ℕ → ℕ → List Row → List Row → Type 0
+AddsPattern kind ignore_case word number old new =
+    (p : Patterns) (names : List (Option (List ℕ))) → IsNumbered p number kind ignore_case word → IsTrieOf p number names old
+    → (names' : List (Option (List ℕ))) × IsTrieOf p (number + 1) names' new
+
+-- the table is the trie of these patterns
+abbrev pub HoldsTrie : Patterns → List Row → Type 0
+HoldsTrie p rows = (names : List (Option (List ℕ))) × IsTrieOf p (length p.words) names rows
