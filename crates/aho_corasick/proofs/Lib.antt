@@ -5,3 +5,4 @@ pub mod Child
 pub mod Nodes
 pub mod Insert
 pub mod Ended
+pub mod Ends

@@ -1,8 +1,9 @@
 -- How the trie grows: by one state, by the bytes of one pattern, by one pattern, and from the four first states.
-use Rattle.std.specs.Prelude.{◌≡◌, ◌≢◌, ℕ, ◌+◌, ◌-◌, ◌<◌, nat_eq, nat_le, ◌&&◌, if◌then◌else◌, Bool, true, false, List, [], ◌∷◌, map, length, Option, Some, None, MatchBool}
+use Rattle.std.specs.Prelude.{◌≡◌, ◌≢◌, ℕ, ◌+◌, ◌-◌, ◌<◌, nat_eq, nat_le, ◌&&◌, if◌then◌else◌, Bool, true, false, List, [], ◌∷◌, map, length, take, Option, Some, None, MatchBool}
 use denote.Ref.{Bor}
 use Rattle.aho_base.specs.declared.search.MatchKind.{MatchKind}
 use Rattle.aho_base.specs.declared.search.MatchKind.TheVariants.{Standard, LeftmostFirst, LeftmostLongest}
+use Rattle.aho_base.specs.Among.{own_among}
 use Rattle.aho_base.specs.Bytes.{folded_word}
 use Rattle.aho_base.specs.Patterns.{Patterns, pattern_at}
 use Rattle.aho_base.specs.Trie.{is_kept, pattern_word}
@@ -72,6 +73,19 @@ pub record IsNumbered (p : Patterns) (number : ℕ) (kind : MatchKind) (ignore_c
 abbrev pub AwaitsWord : MatchKind → Bool → List ℕ → List Row → Type 0
 AwaitsWord kind ignore_case word rows =
     (p : Patterns) × ((number : ℕ) × ((names : List (Option (List ℕ))) × IsNumbered p number kind ignore_case word × IsTrieOf p number names rows))
+
+-- the walk along a pattern's word has taken its first bytes: they have their states, the last of which is held, and a kind
+-- that leaves patterns out has met no pattern before the last
+pub record HasWalked (p : Patterns) (number : ℕ) (word : List ℕ) (count sid : ℕ) (rows : List Row) : Type 0 where
+  pub passed : (k : ℕ) → k < count → is_first p.kind ≡ true → own_among p number (folded_word p (take k word)) ≡ []
+  pub names : List (Option (List ℕ))
+  pub with_front : IsTrieWith p number (folded_word p (take count word)) names rows
+  pub held : name_at names sid ≡ Some (folded_word p (take count word))
+
+-- what was a trie of the patterns before the word, by any patterns, has its first bytes
+abbrev pub WalksWord : MatchKind → Bool → List ℕ → ℕ → ℕ → List Row → List Row → Type 0
+WalksWord kind ignore_case word count sid old new =
+    (p : Patterns) (number : ℕ) (names : List (Option (List ℕ))) → IsNumbered p number kind ignore_case word → IsTrieOf p number names old → HasWalked p number word count sid new
 
 -- where the bytes of the pattern of this number end, in the trie that has them too; none where the pattern is left out and
 -- the trie is still that of the patterns before it
