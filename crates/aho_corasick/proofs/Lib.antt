@@ -6,3 +6,4 @@ pub mod Nodes
 pub mod Insert
 pub mod Ended
 pub mod Ends
+pub mod Start

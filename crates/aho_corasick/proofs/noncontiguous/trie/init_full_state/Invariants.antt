@@ -1,0 +1,5 @@
+use Rattle.aho_corasick.specs.Growing.{IsFilledBelow}
+use Rattle.aho_corasick.proofs.noncontiguous.trie.init_full_state.Given as goal
+
+abbrev pub invariant-loop-byte : goal.invariant-loop-byte
+invariant-loop-byte l = IsFilledBelow l.sid l.next l.byte l.fn.table.rows l.table.rows
