@@ -7,3 +7,4 @@ pub mod Insert
 pub mod Ended
 pub mod Ends
 pub mod Start
+pub mod Appended
