@@ -1,14 +1,16 @@
 -- The trie of the first patterns stays what it is when patterns are appended.
-use Rattle.std.proofs.Common.{◌≡◌, ℕ, zero, suc, ◌+◌, ◌<◌, ◌≤◌, Bool, not, ◌&&◌, ◌||◌, cond, nat_lt, List, [], ◌∷◌, ◌++◌, length, Option, Some, MatchBool, refl, sym, ap, subst, ◌∙◌, arith}
-use Rattle.std.proofs.lemmas.List.{get_or_append_left}
+use Rattle.std.proofs.Common.{◌≡◌, ℕ, zero, suc, ◌+◌, ◌<◌, ◌≤◌, Bool, not, ◌&&◌, ◌||◌, cond, nat_lt, List, [], ◌∷◌, ◌++◌, length, get_or, map, Option, Some, MatchBool, refl, sym, ap, subst, ◌∙◌, arith}
+use Rattle.std.proofs.lemmas.List.{get_or_append_left, get_or_push, length_push, length-map, map-append}
 use Rattle.std.specs.Prelude.{filter}
 use Rattle.std.specs.List.{list_any, range_with_len}
+use denote.Ref.{Bor}
 use Rattle.aho_base.specs.declared.search.MatchKind.{MatchKind}
 use Rattle.aho_base.specs.declared.search.MatchKind.TheVariants.{Standard, LeftmostFirst, LeftmostLongest}
 use Rattle.aho_base.specs.Among.{is_node_among, own_among}
 use Rattle.aho_base.specs.Bytes.{folded, folded_word}
 use Rattle.aho_base.specs.Patterns.{Patterns, pattern_at}
 use Rattle.aho_base.specs.Trie.{begins, is_kept, is_word, kept_by, pattern_word}
+use Rattle.aho_corasick.specs.Growing.{patterns_of, IsNumbered, AwaitsWord, AddsPattern, HoldsTrie}
 use Rattle.aho_corasick.specs.Naming.{name_at, longer, missing_at, IsTrie, IsTrieOf}
 use Rattle.aho_corasick.specs.Tables.{Row, next_in}
 
@@ -91,3 +93,49 @@ module _ (p : Patterns) (more : List (List ℕ)) where
     lists = λ i word e. of.lists i word e ∙ sym (own_among-appended n word within);
     first = of.first;
   }
+
+-- one item more
+module _ (kind : MatchKind) (ignore_case : Bool) (items : List (Bor (List ℕ))) (item : Bor (List ℕ)) where
+  abbrev words_before : List (List ℕ)
+  words_before = map (λ (i : Bor (List ℕ)). i.now) items
+
+  abbrev patterns_next : Patterns
+  patterns_next = patterns_of kind ignore_case (items ++ item ∷ [])
+
+  words_next : map (λ (i : Bor (List ℕ)). i.now) (items ++ item ∷ []) ≡ words_before ++ item.now ∷ []
+  words_next = map-append (λ (i : Bor (List ℕ)). i.now) items (item ∷ [])
+
+  IsNumbered-next : (number : ℕ) → number ≡ length words_before → IsNumbered patterns_next number kind ignore_case item.now
+  IsNumbered-next number e = record {
+    kind_is = refl;
+    case_is = refl;
+    pattern_is = ap (λ (ws : List (List ℕ)). get_or ws number []) words_next ∙ get_or_push words_before item.now [] number (sym e);
+  }
+
+  IsTrieOf-next : (number : ℕ) (names : List (Option (List ℕ))) (rows : List Row) → number ≡ length words_before
+      → IsTrieOf (patterns_of kind ignore_case items) (length words_before) names rows → IsTrieOf patterns_next number names rows
+  IsTrieOf-next number names rows e of =
+      let appended = IsTrieOf-appended (patterns_of kind ignore_case items) (item.now ∷ []) (length words_before) names rows (omega arith) of in
+      subst (λ (ws : List (List ℕ)). IsTrieOf (record { words = ws; kind = kind; ignore_case = ignore_case }) number names rows) (sym words_next)
+      (subst (λ (n : ℕ). IsTrieOf (record { words = words_before ++ item.now ∷ []; kind = kind; ignore_case = ignore_case }) n names rows) (sym e) appended)
+
+  -- the trie awaits the item
+  pub AwaitsWord-next : (number : ℕ) (rows : List Row) → number ≡ length words_before → HoldsTrie (patterns_of kind ignore_case items) rows → AwaitsWord kind ignore_case item.now rows
+  AwaitsWord-next number rows e holds = (patterns_next, (number, (holds.0, IsNumbered-next number e, IsTrieOf-next number holds.0 rows e holds.1)))
+
+  -- and holds it once it is added
+  pub HoldsTrie-next : (number : ℕ) (old new : List Row) → number ≡ length words_before → AddsPattern kind ignore_case item.now number old new
+      → HoldsTrie (patterns_of kind ignore_case items) old → HoldsTrie patterns_next new
+  HoldsTrie-next number old new e adds holds =
+      let added = adds patterns_next holds.0 (IsNumbered-next number e) (IsTrieOf-next number holds.0 old e holds.1) in
+      let count : number + 1 ≡ length patterns_next.words = omega (arith, e, ap length words_next, length_push words_before item.now) in
+      (added.0, subst (λ (n : ℕ). IsTrieOf patterns_next n added.0 new) count added.1)
+
+  -- its length is the last
+  pub lengths-next : (lens : List ℕ) (len : ℕ) → lens ≡ map length words_before → len ≡ length item.now → lens ++ len ∷ [] ≡ map length patterns_next.words
+  lengths-next lens len e last =
+      ap (λ (l : List ℕ). l ++ len ∷ []) e ∙ ap (λ (n : ℕ). map length words_before ++ n ∷ []) last
+      ∙ sym (ap (map length) words_next ∙ map-append length words_before (item.now ∷ []))
+
+  pub place-next : (lens : List ℕ) (place : ℕ) → lens ≡ map length words_before → place ≡ length lens → place ≡ length words_before
+  place-next lens place e at = at ∙ ap length e ∙ length-map words_before length
