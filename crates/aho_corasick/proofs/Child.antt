@@ -6,7 +6,7 @@ use Rattle.std.proofs.lemmas.List.{length_push, length-set, get_or_past}
 use Rattle.aho_corasick.specs.Tables.{Row, new_row, row_at, next_in, depth_in, fail_in, matches_in, edge_at, with_edge, set_edge}
 use Rattle.aho_corasick.specs.Growing.{folded_by, Grows, HasChild, opposite}
 use Rattle.aho_corasick.proofs.Entries.{edge_at-with_edge, edge_at-with_edge_other}
-use Rattle.aho_corasick.proofs.Rows.{row_at-set_same, row_at-set_other, row_at-push_old, row_at-push_new}
+use Rattle.aho_corasick.proofs.Changed.{row_at-set_same, row_at-set_other, row_at-push_old, row_at-push_new}
 
 MatchBool-from_true : {b : Bool} (P Q : Type 0) → b ≡ true → P → MatchBool b P Q
 MatchBool-from_true P Q e p = subst (λ (x : Bool). MatchBool x P Q) (sym e) p

@@ -10,7 +10,7 @@ use Rattle.aho_base.specs.Trie.{begins, is_kept, is_word, pattern_word}
 use Rattle.aho_base.proofs.Lists.{is_word-true, is_word-from}
 use Rattle.aho_corasick.specs.Tables.{Row, row_at, next_in, fail_in, depth_in, matches_in, edge_at, push_match}
 use Rattle.aho_corasick.specs.Naming.{name_at, longer, missing_at, AreFirst, IsTrie, IsTrieWith, IsTrieOf}
-use Rattle.aho_corasick.proofs.Rows.{row_at-set_same, row_at-set_other, name_at-below}
+use Rattle.aho_corasick.proofs.Changed.{row_at-set_same, row_at-set_other, name_at-below}
 use Rattle.aho_corasick.proofs.Grow.{or_false}
 use Rattle.aho_corasick.proofs.Insert.{IsTrie-same, words_with}
 use Rattle.aho_corasick.proofs.Nodes.{is_node_among-kept, is_node_among-left_out, is_node_among-front, own_among-same, own_among-other, own_among-absent}

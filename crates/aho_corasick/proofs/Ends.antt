@@ -15,7 +15,7 @@ use Rattle.aho_corasick.specs.Naming.{name_at, IsTrieWith, IsTrieOf}
 use Rattle.aho_corasick.specs.Tables.{Row, matches_in}
 use Rattle.aho_corasick.proofs.Ended.{IsTrieWith-back}
 use Rattle.aho_corasick.proofs.Insert.{IsTrieWith-start, IsTrieWith-byte}
-use Rattle.aho_corasick.proofs.Rows.{name_at-below}
+use Rattle.aho_corasick.proofs.Changed.{name_at-below}
 use Rattle.aho_corasick.proofs.Nodes.{own_among-absent}
 
 -- the pattern's word is the folded one of its bytes

@@ -10,7 +10,7 @@ use Rattle.aho_corasick.specs.Tables.{Row, new_row, next_in, fail_in, depth_in, 
 use Rattle.aho_base.specs.Patterns.{Patterns}
 use Rattle.aho_corasick.specs.Growing.{folded_by, Grows}
 use Rattle.aho_corasick.specs.Naming.{name_at, longer, missing_at, IsTrie, Lists, AreFirst}
-use Rattle.aho_corasick.proofs.Rows.{name_at-push_old, name_at-push_new, name_at-of_push, name_at-below}
+use Rattle.aho_corasick.proofs.Changed.{name_at-push_old, name_at-push_new, name_at-of_push, name_at-below}
 
 -- one more word
 abbrev pub also : (List ℕ → Bool) → List ℕ → List ℕ → Bool

@@ -9,7 +9,7 @@ use Rattle.aho_base.specs.Trie.{begins}
 use Rattle.aho_corasick.specs.Growing.{Grows, HasChild}
 use Rattle.aho_corasick.specs.Tables.{Row, next_in}
 use Rattle.aho_corasick.specs.Naming.{name_at, longer, missing_at, AreFirst, IsTrie, Lists, IsTrieWith, IsTrieOf}
-use Rattle.aho_corasick.proofs.Rows.{name_at-push_new}
+use Rattle.aho_corasick.proofs.Changed.{name_at-push_new}
 use Rattle.aho_corasick.proofs.Grow.{also, also-same, also-other, word_cases, AreFirst-four, AreFirst-grows, IsTrie-grows, Lists-grows, folded_word-longer}
 use Rattle.aho_corasick.proofs.Nodes.{begins-more, is_node_among-start, own_among-absent}
 

@@ -1,5 +1,5 @@
 pub mod Entries
-pub mod Rows
+pub mod Changed
 pub mod Grow
 pub mod Child
 pub mod Nodes

@@ -11,7 +11,7 @@ use Rattle.aho_corasick.specs.Naming.{name_at, longer, missing_at, IsTrieOf}
 use Rattle.aho_corasick.specs.Tables.{Row, new_row, row_at, next_in, depth_in, fail_in, matches_in, edge_at, with_edge, set_edge, set_fail_of}
 use Rattle.aho_corasick.proofs.Entries.{edge_at-with_edge, edge_at-with_edge_other}
 use Rattle.aho_corasick.proofs.Nodes.{is_node_among-root}
-use Rattle.aho_corasick.proofs.Rows.{row_at-set_same, row_at-set_other}
+use Rattle.aho_corasick.proofs.Changed.{row_at-set_same, row_at-set_other}
 
 pub IsFilledBelow-none : (sid next : ℕ) (rows : List Row) → IsFilledBelow sid next 0 rows rows
 IsFilledBelow-none sid next rows = record {
