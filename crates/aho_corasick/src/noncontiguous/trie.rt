@@ -5,7 +5,7 @@ ghost use Rattle.std.specs.Iterator.{Drains, IsFinite};
 ghost use denote.Ref.{Bor};
 ghost use Rattle.aho_base.specs.declared.error.BuildError.TheVariants.{PatternIDOverflow, PatternTooLong};
 ghost use Rattle.aho_base.specs.Patterns.{Patterns};
-ghost use Rattle.aho_corasick.specs.Growing.{patterns_of, opposite, HasChild, IsFilledBelow, start_names, is_first, AwaitsWord, AddsWord, AddsPattern, HoldsTrie};
+ghost use Rattle.aho_corasick.specs.Growing.{patterns_of, opposite, HasChild, IsFilledBelow, start_names, is_first, AwaitsWord, AddsWord, AddsPattern, HoldsTrie, IsGrowthRefusal, HasYielded, AreWithin, StopsAt};
 ghost use Rattle.aho_corasick.specs.Naming.{IsTrieOf};
 ghost use Rattle.aho_corasick.specs.Tables.{matches_in};
 
@@ -77,6 +77,8 @@ fn child(
 ) -> Result<StateID, BuildError>
     requires added { parent < length table.old.rows }
     ensures child { IfOk result (HasChild ignore_case parent byte depth table.old.rows table.new.rows) }
+    ensures limit { OnOk result (table.new.limit ≡ table.old.limit) }
+    ensures refused { IfErr result (IsGrowthRefusal table.old.limit) }
 {
     let next = table.follow(parent, byte, &mut Work::new());
     if next != FAIL {
@@ -112,6 +114,8 @@ fn add_word(
     requires sized { length pattern.now ≤ SmallIndex.MAX }
     requires trie { AwaitsWord kind ignore_case pattern.now table.old.rows }
     ensures ends { IfOk result (AddsWord kind ignore_case pattern.now table.old.rows table.new.rows) }
+    ensures limit { OnOk result (table.new.limit ≡ table.old.limit) }
+    ensures refused { IfErr result (IsGrowthRefusal table.old.limit) }
 {
     let mut state = unanchored_start();
     for (index, byte) in pattern.iter().enumerate() {
@@ -127,6 +131,8 @@ fn add_word(
 fn init_full_state(table: &mut Table, sid: StateID, next: StateID) -> Result<(), BuildError>
     requires added { sid < length table.old.rows }
     ensures filled { IfOk result (λ _. IsFilledBelow sid next 256 table.old.rows table.new.rows) }
+    ensures limit { OnOk result (table.new.limit ≡ table.old.limit) }
+    ensures refused { IfErr result (IsGrowthRefusal table.old.limit) }
 {
     for byte in 0..256u16 {
         table.set(sid, byte as u8, next)?;
@@ -137,6 +143,8 @@ fn init_full_state(table: &mut Table, sid: StateID, next: StateID) -> Result<(),
 /// The dead state, the fail state and the two starts, of which none leads to a state.
 fn first_states(alloc: Global, limit: usize) -> Result<Table, BuildError>
     ensures start { IfOk result (λ table. (p : Patterns) → IsTrieOf p 0 start_names table.rows) }
+    ensures limit { IfOk result (λ table. table.limit ≡ min limit SmallIndex.MAX) }
+    ensures refused { IfErr result (IsGrowthRefusal (min limit SmallIndex.MAX)) }
 {
     let mut table = Table::new(alloc, limit)?;
     let depth = small(0);
@@ -203,6 +211,8 @@ fn add_pattern(
     requires sized { length pattern.now ≤ SmallIndex.MAX }
     requires trie { AwaitsWord kind ignore_case pattern.now table.old.rows }
     ensures adds { OnOk result (AddsPattern kind ignore_case pattern.now number table.old.rows table.new.rows) }
+    ensures limit { OnOk result (table.new.limit ≡ table.old.limit) }
+    ensures refused { IfErr result (IsGrowthRefusal table.old.limit) }
 {
     if let Some(end) = add_word(table, kind, ignore_case, pattern)? {
         table.add_match(end, number)?;
@@ -226,7 +236,12 @@ pub(super) fn build_trie<'p, I: Iterator<Item = &'p [u8]> + Drop>(
     requires can { I.can_next patterns }
     requires ends { IsFinite (I.remaining patterns) }
     ensures built { IfOk result (λ trie. (items : List (Bor (List ℕ))) × (Drains I.next_gives patterns items
-        × ((trie.lens.items ≡ map length (patterns_of kind ignore_case items).words) × HoldsTrie (patterns_of kind ignore_case items) trie.table.rows))) }
+        × ((trie.lens.items ≡ map length (patterns_of kind ignore_case items).words)
+        × (HoldsTrie (patterns_of kind ignore_case items) trie.table.rows
+        × AreWithin (min limits.pattern PatternID.MAX) (min limits.length SmallIndex.MAX) (patterns_of kind ignore_case items))))) }
+    ensures limit { IfOk result (λ trie. trie.table.limit ≡ min limits.index SmallIndex.MAX) }
+    ensures stopped { IfErr result (λ error. (items : List (Bor (List ℕ))) × (HasYielded I.next_gives patterns items
+        × StopsAt (min limits.pattern PatternID.MAX) (min limits.length SmallIndex.MAX) (min limits.index SmallIndex.MAX) (patterns_of kind ignore_case items) error)) }
 {
     let mut trie = Trie {
         table: first_states(alloc, limits.index)?,

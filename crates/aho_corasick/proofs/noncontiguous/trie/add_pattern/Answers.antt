@@ -6,12 +6,11 @@ use Rattle.aho_corasick.proofs.Ended.{IsTrieWith-end, IsTrieOf-left_out}
 use Rattle.aho_corasick.proofs.noncontiguous.trie.add_pattern.Goals as goal
 use Rattle.aho_corasick.proofs.noncontiguous.trie.add_pattern.Goals.{in-Some+in_ok-add_match, in_default}
 
-pub returns : goal.returns
-returns c =
+pub returns-clause-adds : goal.returns-clause-adds
+returns-clause-adds c =
     let number = c.args.number in
     let rows = c.add_word.new.table.rows in
-    record {
-      adds = λ p names numbered of.
+    λ p names numbered of.
           elim c.match-branch-2.branch [
             | in-Some+in_ok-add_match w ↦
                 (let ends : EndsAt p number rows (Some w.in-Some.end) = subst (EndsAt p number rows) w.in-Some.is (c.in_ok-end.ensures.ends p number names numbered of) in (
@@ -24,5 +23,4 @@ returns c =
                   ends.1.0,
                   subst (λ (t : Tables). IsTrieOf p (number + 1) ends.1.0 t.rows) (sym w.table-is) (IsTrieOf-left_out p number ends.1.0 rows ends.0 ends.1.1),
                 ))
-          ];
-    }
+          ]

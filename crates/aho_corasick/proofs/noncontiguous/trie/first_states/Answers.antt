@@ -9,12 +9,11 @@ rows_are e = ap (λ (t : Tables). t.rows) e
 at_zero : (depth : ℕ) (rows : List Row) → depth ≡ 0 → rows ++ new_row depth ∷ [] ≡ rows ++ new_row 0 ∷ []
 at_zero depth rows e = ap (λ (n : ℕ). rows ++ new_row n ∷ []) e
 
-pub returns : goal.returns
-returns c =
+pub returns-clause-start : goal.returns-clause-start
+returns-clause-start c =
     let depth = c.small-depth.result in
     let zero_is = c.small-depth.ensures.value in
-    record {
-      start = λ p.
+    λ p.
           IsTrieOf-made p c.in_ok-table.table.rows c.add_state.new.self.rows c.add_state-2.new.self.rows c.add_state-3.new.self.rows c.add_state-4.new.self.rows
           c.init_full_state.new.table.rows c.init_full_state-2.new.table.rows c.init_full_state-3.new.table.rows
           c.set_fail.new.self.rows c.set_fail-2.new.self.rows c.set_fail-3.new.self.rows
@@ -24,5 +23,4 @@ returns c =
           (c.in_ok-unanchored.ensures.number, rows_are c.in_ok-unanchored.ensures.added ∙ at_zero depth c.add_state-2.new.self.rows zero_is)
           (c.in_ok-anchored.ensures.number, rows_are c.in_ok-anchored.ensures.added ∙ at_zero depth c.add_state-3.new.self.rows zero_is)
           c.in_ok-init_full_state.ensures.filled c.in_ok-init_full_state-2.ensures.filled c.in_ok-init_full_state-3.ensures.filled
-          (rows_are c.set_fail.ensures.set) (rows_are c.set_fail-2.ensures.set) (rows_are c.set_fail-3.ensures.set);
-    }
+          (rows_are c.set_fail.ensures.set) (rows_are c.set_fail-2.ensures.set) (rows_are c.set_fail-3.ensures.set)
