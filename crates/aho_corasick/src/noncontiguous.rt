@@ -5,9 +5,12 @@ ghost use Rattle.std.specs.Prelude.{◌≡◌, ◌≤◌, ℕ, length};
 ghost use Rattle.aho_base.specs.Laws.{shortest, longest};
 ghost use Rattle.aho_corasick.specs.Walking.{IsSound};
 
+mod failure;
+mod trie;
 mod walk;
 
 use crate::links::{DEAD, Table};
+use crate::noncontiguous::trie::Trie;
 use aho_base::error::{BuildError, MatchError};
 use aho_base::search::{Anchored, MatchKind, PatternID, SmallIndex, StateID, Work};
 use aho_search::automaton::Automaton;
@@ -184,6 +187,39 @@ impl Automaton for NFA {
     ghost dead_shallow = { λ n sid valid. dead_shallow_of n.table.rows sid n.sound };
 }
 
+/// The numbers of the unanchored and of the anchored start.
+fn start_states() -> (StateID, StateID)
+    ensures numbers { result ≡ (2, 3) }
+{
+    let (Ok(unanchored), Ok(anchored)) = (StateID::new(2), StateID::new(3)) else {
+        unreachable!()
+    };
+    (unanchored, anchored)
+}
+
+/// The least of the lengths, in bytes; the greatest `usize` where there is none.
+fn shortest_len(lens: &[SmallIndex]) -> usize
+    ensures shortest { result ≡ shortest lens.now }
+{
+    let mut least = usize::MAX;
+    for len in lens {
+        least = least.min(len.as_usize());
+    }
+    least
+}
+
+/// The greatest of the lengths, in bytes; 0 where there is none.
+fn longest_len(lens: &[SmallIndex]) -> usize
+    ensures longest { result ≡ longest lens.now }
+    ensures bound { result ≤ SmallIndex.MAX }
+{
+    let mut most = 0;
+    for len in lens {
+        most = most.max(len.as_usize());
+    }
+    most
+}
+
 /// The greatest numbers that a build may use. A limit above its type's `MAX` counts as `MAX`.
 #[derive(Clone, Copy, Debug, PartialEq, Eq)]
 pub struct Limits {
@@ -260,9 +296,24 @@ impl Builder {
         requires ends { IsFinite (I.remaining patterns) }
         ensures of { IfOk result (λ nfa. (items : List (Bor (List ℕ))) × Drains I.next_gives patterns items × ⟦<NFA as Automaton>⟧.is_of nfa (patterns_of self.now.kind self.now.ignore_case items)) }
     {
-        let _ = patterns;
-        let _ = alloc;
-        Err(BuildError::OutOfMemory)
+        let Trie { mut table, lens } = trie::build_trie(
+            alloc,
+            self.match_kind,
+            self.ascii_case_insensitive,
+            self.limits,
+            patterns,
+        )?;
+        failure::link_states(alloc, &mut table, self.match_kind)?;
+        let (start_unanchored, start_anchored) = start_states();
+        Ok(NFA {
+            match_kind: self.match_kind,
+            min_pattern_len: shortest_len(&lens),
+            max_pattern_len: longest_len(&lens),
+            table,
+            start_unanchored,
+            start_anchored,
+            pattern_lens: lens,
+        })
     }
 
     /// Which of several matches is found.
