@@ -13,3 +13,15 @@ pub mod Ends
 pub mod Start
 pub mod Appended
 pub mod Lengths
+-- Failure links: the starts made ready, one step along the links so far, a child's link, a list copied, one transition more.
+pub mod ChangedRows
+pub mod ReadyStarts
+pub mod StepsAlongLinks
+pub mod ChildFailures
+pub mod ComparedStates
+pub mod CopiedMatches
+pub mod LinksSoFar
+pub mod LinkedChild
+pub mod VisitedTransitions
+-- Why a build of the trie stops.
+pub mod Stops

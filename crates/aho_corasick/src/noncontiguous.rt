@@ -36,12 +36,13 @@ pub struct NFA {
 }
 
 impl NFA {
-    ghost use Rattle.std.specs.Prelude.{List, IfOk, length};
+    ghost use Rattle.std.specs.Prelude.{List, IfOk, length, map};
     ghost use Rattle.std.specs.Iterator.{Drains, IsFinite};
+    ghost use Rattle.aho_base.specs.Patterns.{Patterns};
     ghost use denote.Ref.{Bor};
     ghost use Rattle.aho_base.specs.declared.search.MatchKind.TheVariants.{Standard};
     ghost use Rattle.std.specs.Prelude.{false};
-    ghost use Rattle.aho_corasick.specs.Growing.{patterns_of};
+    ghost use Rattle.aho_corasick.specs.Growing.{patterns_of, HoldsTrie};
     ghost use Rattle.aho_corasick.specs.Settings.{default_settings};
 
     /// The automaton of these patterns, as a new `Builder` builds it.
@@ -58,6 +59,27 @@ impl NFA {
         ensures of { IfOk result (λ nfa. (items : List (Bor (List ℕ))) × Drains I.next_gives patterns items × ⟦<NFA as Automaton>⟧.is_of nfa (patterns_of Standard false items)) }
     {
         Builder::new().build(alloc, patterns)
+    }
+
+    /// The automaton of a trie: its states are linked, and its lists are copied along the links.
+    fn of_trie(alloc: Global, kind: MatchKind, trie: Trie) -> Result<NFA, BuildError>
+        requires holds { (p : Patterns) × ((p.kind ≡ kind) × ((trie.lens.items ≡ map length p.words) × HoldsTrie p trie.table.rows)) }
+        requires counted { length trie.lens.items ≤ 2147483647 }
+        ensures of { IfOk result (λ nfa. (p : Patterns) → p.kind ≡ kind → trie.lens.items ≡ map length p.words → HoldsTrie p trie.table.rows → ⟦<NFA as Automaton>⟧.is_of nfa p) }
+    {
+        let Trie { mut table, lens } = trie;
+        failure::link_states(alloc, &mut table, kind)?;
+        let _states = table.len();
+        let (start_unanchored, start_anchored) = start_states();
+        Ok(NFA {
+            match_kind: kind,
+            min_pattern_len: shortest_len(&lens),
+            max_pattern_len: longest_len(&lens),
+            table,
+            start_unanchored,
+            start_anchored,
+            pattern_lens: lens,
+        })
     }
 
     /// The settings to build with.
@@ -296,24 +318,14 @@ impl Builder {
         requires ends { IsFinite (I.remaining patterns) }
         ensures of { IfOk result (λ nfa. (items : List (Bor (List ℕ))) × Drains I.next_gives patterns items × ⟦<NFA as Automaton>⟧.is_of nfa (patterns_of self.now.kind self.now.ignore_case items)) }
     {
-        let Trie { mut table, lens } = trie::build_trie(
+        let trie = trie::build_trie(
             alloc,
             self.match_kind,
             self.ascii_case_insensitive,
             self.limits,
             patterns,
         )?;
-        failure::link_states(alloc, &mut table, self.match_kind)?;
-        let (start_unanchored, start_anchored) = start_states();
-        Ok(NFA {
-            match_kind: self.match_kind,
-            min_pattern_len: shortest_len(&lens),
-            max_pattern_len: longest_len(&lens),
-            table,
-            start_unanchored,
-            start_anchored,
-            pattern_lens: lens,
-        })
+        NFA::of_trie(alloc, self.match_kind, trie)
     }
 
     /// Which of several matches is found.

@@ -14,7 +14,7 @@ loop-pattern-init g c = record {
   lens = c.new.ensures.items;
   trie = (start_names, c.in_ok-first_states.ensures.start (patterns_of c.args.kind c.args.ignore_case []));
   limit = c.in_ok-first_states.ensures.limit;
-  within = AreWithin-none (min c.args.limits.pattern 2147483646) (min c.args.limits.length 2147483646) (min c.args.limits.index 2147483646) c.args.kind c.args.ignore_case;
+  within = AreWithin-none (min c.args.limits.pattern 2147483646) (min c.args.limits.length 2147483646) (min c.args.limits.id 2147483646) c.args.kind c.args.ignore_case;
 }
 
 pub add_pattern-requires-clause-trie : goal.add_pattern-requires-clause-trie
@@ -36,7 +36,7 @@ loop-pattern-preserved g c =
       trie = HoldsTrie-next c.args.kind c.args.ignore_case c.loop-pattern.yielded c.in-Some.pattern c.in_ok-number.number c.loop-pattern.trie.table.rows c.add_pattern.new.table.rows place
           c.in_ok-add_pattern.ensures.adds c.loop-pattern.invariant.trie;
       limit = c.in_ok-add_pattern.ensures.limit ∙ c.loop-pattern.invariant.limit;
-      within = AreWithin-next (min c.args.limits.pattern 2147483646) (min c.args.limits.length 2147483646) (min c.args.limits.index 2147483646) c.args.kind c.args.ignore_case c.loop-pattern.yielded c.in-Some.pattern
+      within = AreWithin-next (min c.args.limits.pattern 2147483646) (min c.args.limits.length 2147483646) (min c.args.limits.id 2147483646) c.args.kind c.args.ignore_case c.loop-pattern.yielded c.in-Some.pattern
           c.len.result (place-next c.args.kind c.args.ignore_case c.loop-pattern.yielded c.in-Some.pattern c.loop-pattern.trie.lens.items c.len.result c.loop-pattern.invariant.lens count)
           (c.in_ok-number.ensures.accepted.0 refl) (c.in_ok-len.ensures.accepted.0 refl) c.loop-pattern.invariant.within;
     }
@@ -54,9 +54,9 @@ Stopped gives state kind ignore_case pattern_limit length_limit index_limit erro
 
 pub returns-in_err-first_states-clause-stopped : goal.returns-in_err-first_states-clause-stopped
 returns-in_err-first_states-clause-stopped g c =
-    IfErr-given (Stopped g.I.Iterator.next_gives c.args.patterns c.args.kind c.args.ignore_case (min c.args.limits.pattern 2147483646) (min c.args.limits.length 2147483646) (min c.args.limits.index 2147483646))
+    IfErr-given (Stopped g.I.Iterator.next_gives c.args.patterns c.args.kind c.args.ignore_case (min c.args.limits.pattern 2147483646) (min c.args.limits.length 2147483646) (min c.args.limits.id 2147483646))
     c.from_residual.result c.in_err-first_states.field-0.0 c.from_residual.ensures.1
-    ([], ((c.args.patterns, refl), StopsAt-growth (min c.args.limits.pattern 2147483646) (min c.args.limits.length 2147483646) (min c.args.limits.index 2147483646) (patterns_of c.args.kind c.args.ignore_case []) c.in_err-first_states.field-0.0 c.in_err-first_states.ensures.refused))
+    ([], ((c.args.patterns, refl), StopsAt-growth (min c.args.limits.pattern 2147483646) (min c.args.limits.length 2147483646) (min c.args.limits.id 2147483646) (patterns_of c.args.kind c.args.ignore_case []) c.in_err-first_states.field-0.0 c.in_err-first_states.ensures.refused))
 
 pub returns-in_err-number-clause-stopped : goal.returns-in_err-number-clause-stopped
 returns-in_err-number-clause-stopped g c =
@@ -64,9 +64,9 @@ returns-in_err-number-clause-stopped g c =
     let place = place-next c.args.kind c.args.ignore_case c.loop-pattern.yielded c.in-Some.pattern c.loop-pattern.trie.lens.items c.len.result c.loop-pattern.invariant.lens count in
     let begun = subst (λ (i : _). Yields g.I.Iterator.next_gives i c.loop-pattern.yielded c.loop-pattern.pattern-iterator) c.into_iter-pattern-iterator.ensures.into_iter_gives c.loop-pattern.yielded_by in
     let more = Yields-more g.I.Iterator.next_gives c.args.patterns c.loop-pattern.yielded c.loop-pattern.pattern-iterator c.in-Some.pattern c.next.new.self begun c.in-Some.ensures.steps in
-    IfErr-given (Stopped g.I.Iterator.next_gives c.args.patterns c.args.kind c.args.ignore_case (min c.args.limits.pattern 2147483646) (min c.args.limits.length 2147483646) (min c.args.limits.index 2147483646))
+    IfErr-given (Stopped g.I.Iterator.next_gives c.args.patterns c.args.kind c.args.ignore_case (min c.args.limits.pattern 2147483646) (min c.args.limits.length 2147483646) (min c.args.limits.id 2147483646))
     c.from_residual-in_err-number.result c.in_err-number.field-0.0 c.from_residual-in_err-number.ensures.1
-    (c.loop-pattern.yielded ++ c.in-Some.pattern ∷ [], ((c.next.new.self, more), StopsAt-number (min c.args.limits.pattern 2147483646) (min c.args.limits.length 2147483646) (min c.args.limits.index 2147483646) c.args.kind c.args.ignore_case
+    (c.loop-pattern.yielded ++ c.in-Some.pattern ∷ [], ((c.next.new.self, more), StopsAt-number (min c.args.limits.pattern 2147483646) (min c.args.limits.length 2147483646) (min c.args.limits.id 2147483646) c.args.kind c.args.ignore_case
     c.loop-pattern.yielded c.in-Some.pattern c.len.result place c.in_err-number.field-0.0 (λ low. let clash = c.in_err-number.ensures.accepted.1 low in cc) c.in_err-number.ensures.refused c.loop-pattern.invariant.within))
 
 pub returns-in_err-len-clause-stopped : goal.returns-in_err-len-clause-stopped
@@ -75,7 +75,7 @@ returns-in_err-len-clause-stopped g c =
     let place = place-next c.args.kind c.args.ignore_case c.loop-pattern.yielded c.in-Some.pattern c.loop-pattern.trie.lens.items c.len.result c.loop-pattern.invariant.lens count in
     let begun = subst (λ (i : _). Yields g.I.Iterator.next_gives i c.loop-pattern.yielded c.loop-pattern.pattern-iterator) c.into_iter-pattern-iterator.ensures.into_iter_gives c.loop-pattern.yielded_by in
     let more = Yields-more g.I.Iterator.next_gives c.args.patterns c.loop-pattern.yielded c.loop-pattern.pattern-iterator c.in-Some.pattern c.next.new.self begun c.in-Some.ensures.steps in
-    IfErr-given (Stopped g.I.Iterator.next_gives c.args.patterns c.args.kind c.args.ignore_case (min c.args.limits.pattern 2147483646) (min c.args.limits.length 2147483646) (min c.args.limits.index 2147483646))
+    IfErr-given (Stopped g.I.Iterator.next_gives c.args.patterns c.args.kind c.args.ignore_case (min c.args.limits.pattern 2147483646) (min c.args.limits.length 2147483646) (min c.args.limits.id 2147483646))
     c.from_residual-in_err-len.result c.in_err-len.field-0.0 c.from_residual-in_err-len.ensures.1
-    (c.loop-pattern.yielded ++ c.in-Some.pattern ∷ [], ((c.next.new.self, more), StopsAt-length (min c.args.limits.pattern 2147483646) (min c.args.limits.length 2147483646) (min c.args.limits.index 2147483646) c.args.kind c.args.ignore_case
+    (c.loop-pattern.yielded ++ c.in-Some.pattern ∷ [], ((c.next.new.self, more), StopsAt-length (min c.args.limits.pattern 2147483646) (min c.args.limits.length 2147483646) (min c.args.limits.id 2147483646) c.args.kind c.args.ignore_case
     c.loop-pattern.yielded c.in-Some.pattern c.len.result place c.in_err-len.field-0.0 c.in_ok-number.number _ c.in_ok-number.ensures.value refl (λ low. let clash = c.in_err-len.ensures.accepted.1 low in cc) c.in_err-len.ensures.refused))

@@ -6,6 +6,6 @@ abbrev pub invariant-loop-pattern : goal.invariant-loop-pattern
 invariant-loop-pattern g l = record {
   lens : l.trie.lens.items ≡ map length (patterns_of l.kind l.ignore_case l.yielded).words;
   trie : HoldsTrie (patterns_of l.kind l.ignore_case l.yielded) l.trie.table.rows;
-  limit : l.trie.table.limit ≡ min l.limits.index 2147483646;
+  limit : l.trie.table.limit ≡ min l.limits.id 2147483646;
   within : AreWithin (min l.limits.pattern 2147483646) (min l.limits.length 2147483646) (patterns_of l.kind l.ignore_case l.yielded);
 }
