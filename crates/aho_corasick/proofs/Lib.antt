@@ -8,3 +8,4 @@ pub mod Ended
 pub mod Ends
 pub mod Start
 pub mod Appended
+pub mod Stops
