@@ -7,8 +7,8 @@ use denote.Ref.{Bor}
 use Rattle.aho_base.specs.declared.search.MatchKind.{MatchKind}
 use Rattle.aho_base.specs.declared.search.MatchKind.TheVariants.{Standard, LeftmostFirst, LeftmostLongest}
 use Rattle.aho_base.specs.Among.{is_node_among, own_among}
-use Rattle.aho_base.specs.Bytes.{folded, folded_word}
-use Rattle.aho_base.specs.Patterns.{Patterns, pattern_at}
+use Rattle.aho_base.specs.Bytes.{folded_word}
+use Rattle.aho_base.specs.Patterns.{Patterns}
 use Rattle.aho_base.specs.Trie.{begins, is_kept, is_word, kept_by, pattern_word}
 use Rattle.aho_corasick.specs.Growing.{patterns_of, IsNumbered, AwaitsWord, AddsPattern, HoldsTrie}
 use Rattle.aho_corasick.specs.Naming.{name_at, longer, missing_at, IsTrie, IsTrieOf}

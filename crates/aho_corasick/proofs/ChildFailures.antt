@@ -1,21 +1,18 @@
 -- The failure link of a child, from its parent's.
-use Rattle.std.proofs.Common.{◌≡◌, ℕ, ◌<◌, ◌≤◌, ◌≢◌, Bool, true, false, cond, List, [], ◌∷◌, ◌++◌, length, Option, Some, None, refl, sym, ap, subst, ◌∙◌, inl, inr, arith}
-use Rattle.std.proofs.lemmas.Bool.{cases_Bool, cond-true, cond-false}
+use Rattle.std.proofs.Common.{◌≡◌, ℕ, ◌≢◌, Bool, true, false, cond, List, [], ◌∷◌, Option, Some, None, refl, sym, ap, subst, ◌∙◌, arith}
+use Rattle.std.proofs.lemmas.Bool.{cond-false}
 use Rattle.aho_base.specs.declared.search.Anchored.TheVariants.{No}
 use Rattle.aho_base.specs.declared.search.MatchKind.{MatchKind}
 use Rattle.aho_base.specs.Bytes.{folded}
-use Rattle.aho_base.specs.Failure.{failure_of, is_cut, state_after}
-use Rattle.aho_base.specs.MatchList.{own_matches}
+use Rattle.aho_base.specs.Failure.{failure_of, is_cut}
 use Rattle.aho_base.specs.Patterns.{Patterns}
-use Rattle.aho_base.specs.Step.{depth_of, follow}
-use Rattle.aho_base.specs.Trie.{is_node}
+use Rattle.aho_base.specs.Step.{follow}
 use Rattle.aho_base.proofs.ByLinks.{ends_here, ends_here-true, is_cut-root, is_cut-next, failure-first, failure-next}
-use Rattle.aho_corasick.specs.Building.{CanStep, CanStepBySome, StepsTo, CanLink, CanLinkBySome, LinksTo, root_loop, stops_at}
+use Rattle.aho_corasick.specs.Building.{CanStep, CanStepBySome, StepsTo, CanLink, CanLinkBySome, LinksTo, stops_at}
 use Rattle.aho_corasick.specs.Naming.{name_at, longer, IsStateOf}
 use Rattle.aho_corasick.specs.Tables.{Row, fail_in, matches_in}
-use Rattle.aho_corasick.proofs.ChangedRows.{named_below}
 use Rattle.aho_corasick.proofs.ReadyStarts.{stops_at-ends_here}
-use Rattle.aho_corasick.proofs.StepsAlongLinks.{depth-failure, state_below}
+use Rattle.aho_corasick.proofs.StepsAlongLinks.{depth-failure}
 
 module _ (p : Patterns) (names : List (Option (List ℕ))) (kind : MatchKind) (rows : List Row) (parent byte child : ℕ) where
   child_stops : (word : List ℕ) → CanLink p names kind rows parent byte child word → stops_at kind (matches_in rows child) ≡ ends_here p (longer p word byte)
@@ -89,12 +86,3 @@ module _ (kind : MatchKind) (rows : List Row) (parent byte child : ℕ) where
 
   pub CanStepBySome-link : parent ≢ 2 → CanLinkBySome kind rows parent byte child → CanStepBySome rows (fail_in rows parent)
   CanStepBySome-link ne some = (some.0, (some.1.0, (failure_of some.0 some.1.1.0, can_step-link some.0 some.1.0 kind rows parent byte child some.1.1.0 some.1.1.1 ne)))
-
-  pub CanLinkBySome-parent : CanLinkBySome kind rows parent byte child → parent < length rows
-  CanLinkBySome-parent some = let can = some.1.1.1 in state_below some.0 some.1.0 rows can.can_step.trie (Some some.1.1.0) parent can.can_step.at
-
-  pub CanLinkBySome-child : CanLinkBySome kind rows parent byte child → child < length rows
-  CanLinkBySome-child some = let can = some.1.1.1 in state_below some.0 some.1.0 rows can.can_step.trie (Some (longer some.0 some.1.1.0 byte)) child can.named
-
-  pub CanLinkBySome-root : CanLinkBySome kind rows parent byte child → 2 < length rows
-  CanLinkBySome-root some = let can = some.1.1.1 in named_below some.0 (is_node some.0) (root_loop some.0) some.1.0 rows can.can_step.trie 2 [] can.can_step.trie.root

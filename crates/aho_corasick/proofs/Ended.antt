@@ -1,9 +1,8 @@
 -- A pattern is added whole, or is left out.
-use Rattle.std.proofs.Common.{◌≡◌, ◌≢◌, ℕ, ◌+◌, ◌<◌, ◌≤◌, Bool, true, false, ◌&&◌, ◌||◌, List, [], ◌∷◌, ◌++◌, length, Option, Some, None, MatchBool, refl, sym, ap, subst, ◌∙◌, inl, inr, arith}
+use Rattle.std.proofs.Common.{◌≡◌, ◌≢◌, ℕ, ◌+◌, ◌<◌, Bool, true, false, ◌&&◌, ◌||◌, List, [], ◌∷◌, ◌++◌, length, Option, Some, None, MatchBool, refl, sym, ap, subst, ◌∙◌, inl, inr, arith}
 use Rattle.std.proofs.Math.ListN.{set}
 use Rattle.std.proofs.lemmas.Bool.{cases_Bool, cases_eq}
 use Rattle.std.proofs.lemmas.List.{length-set}
-use Rattle.std.proofs.lemmas.Slice.Eq.{bytes_eq-Decides}
 use Rattle.aho_base.specs.Among.{is_node_among, own_among}
 use Rattle.aho_base.specs.Patterns.{Patterns}
 use Rattle.aho_base.specs.Trie.{begins, is_kept, is_word, pattern_word}
@@ -13,7 +12,7 @@ use Rattle.aho_corasick.specs.Naming.{name_at, longer, missing_at, AreFirst, IsT
 use Rattle.aho_corasick.proofs.Changed.{row_at-set_same, row_at-set_other, name_at-below}
 use Rattle.aho_corasick.proofs.Grow.{or_false}
 use Rattle.aho_corasick.proofs.Insert.{IsTrie-same, words_with}
-use Rattle.aho_corasick.proofs.Nodes.{is_node_among-kept, is_node_among-left_out, is_node_among-front, own_among-same, own_among-other, own_among-absent}
+use Rattle.aho_corasick.proofs.Nodes.{is_node_among-kept, is_node_among-left_out, is_node_among-front, own_among-same, own_among-other}
 
 -- what a rows answers is that of the rows
 pub IsTrie-rows : (p : Patterns) (f : List ℕ → Bool) (at_root : ℕ) (names : List (Option (List ℕ))) (old new : List Row)

@@ -1,16 +1,16 @@
 -- The links that are made so far, by their distance from the root.
 use Rattle.std.proofs.Common.{◌≡◌, ℕ, zero, suc, ◌+◌, ◌<◌, ◌≤◌, ◌≢◌, ◌⊎◌, Bool, true, false, cond, List, [], ◌∷◌, ◌++◌, length, get_or, Option, Some, None, refl, sym, ap, subst, ◌∙◌, inl, inr, arith}
 use Rattle.std.proofs.lemmas.Bool.{cases_Bool, cases_eq, cases_lt, MatchBool-at_true, MatchBool-at_false}
-use Rattle.std.proofs.lemmas.List.{length_push, get_or_past}
+use Rattle.std.proofs.lemmas.List.{length_push}
 use Rattle.aho_base.specs.Bytes.{folded}
 use Rattle.aho_base.specs.Failure.{failure_of, is_cut}
-use Rattle.aho_base.specs.MatchList.{own_matches, matches_of}
+use Rattle.aho_base.specs.MatchList.{matches_of}
 use Rattle.aho_base.specs.Patterns.{Patterns}
 use Rattle.aho_base.specs.Trie.{is_node}
 use Rattle.aho_base.proofs.ByLinks.{failure-is_node, matches-root}
-use Rattle.aho_corasick.specs.Building.{CanStep, CanLink, IsLinking, root_loop}
+use Rattle.aho_corasick.specs.Building.{CanStep, IsLinking, root_loop}
 use Rattle.aho_corasick.specs.Naming.{name_at, longer, missing_at, IsStateOf}
-use Rattle.aho_corasick.specs.Tables.{Row, row_at, edge_in, edge_at, next_in, fail_in, depth_in, matches_in}
+use Rattle.aho_corasick.specs.Tables.{Row, row_at, edge_at, next_in, fail_in, depth_in, matches_in}
 use Rattle.aho_corasick.proofs.ChangedRows.{named_below, named_ne_fail}
 use Rattle.aho_corasick.proofs.Edges.{edge_at-same, edge_at-other}
 
@@ -172,29 +172,6 @@ module _ (p : Patterns) (names : List (Option (List ℕ))) (queue : List ℕ) (h
                 named_ne_fail p (is_node p) (root_loop p) names rows so_far.trie fail v named,
                 listed v named ready,
               )
-
-    -- a transition that leads to no state that waits
-    pub IsLinking-skip : ((edge_in rows (at head) part).1 ≢ 1 → fail_in rows (edge_in rows (at head) part).1 ≢ 1) → IsLinking p names queue head (part + 1) rows
-    IsLinking-skip skipped = record {
-      trie = so_far.trie;
-      dead = so_far.dead;
-      anchored = so_far.anchored;
-      root_fail = so_far.root_fail;
-      root_matches = so_far.root_matches;
-      linked = so_far.linked;
-      unlinked = so_far.unlinked;
-      named = so_far.named;
-      queued = so_far.queued;
-      place = so_far.place;
-      done = so_far.done;
-      partly = λ k below.
-          elim (cases_eq k part) [
-            | inl here ↦ subst (λ (n : ℕ). (edge_in rows (at head) n).1 ≢ 1 → fail_in rows (edge_in rows (at head) n).1 ≢ 1) (sym here) skipped
-            | inr there ↦ so_far.partly k (omega arith)
-          ];
-      sorted = so_far.sorted;
-      near = so_far.near;
-    }
 
     -- all transitions of the head are done
     pub IsLinking-next : length (row_at rows (at head)).edges ≤ part → IsLinking p names queue (head + 1) 0 rows

@@ -1,21 +1,21 @@
 -- Both starts get their transitions: the trie is then ready for the links.
-use Rattle.std.proofs.Common.{◌≡◌, ℕ, ◌+◌, ◌<◌, ◌≤◌, ◌≢◌, Bool, true, false, ◌&&◌, not, cond, nat_eq, nat_lt, List, [], ◌∷◌, ◌++◌, length, Option, Some, None, MatchBool, refl, sym, ap, subst, ◌∙◌, inl, inr, arith}
-use Rattle.std.proofs.lemmas.Bool.{cases_eq, cases_lt, cases_Bool, cond-true, cond-false, MatchBool-at_true, MatchBool-at_false}
+use Rattle.std.proofs.Common.{◌≡◌, ℕ, ◌+◌, ◌<◌, ◌≢◌, Bool, ◌&&◌, not, cond, nat_eq, nat_lt, List, [], ◌∷◌, ◌++◌, length, Option, Some, None, MatchBool, refl, sym, ap, subst, ◌∙◌, inl, inr, arith}
+use Rattle.std.proofs.lemmas.Bool.{cases_eq, cases_Bool, cond-true, cond-false, MatchBool-at_true, MatchBool-at_false}
 use Rattle.std.proofs.lemmas.Bool.Decides.{nat_tests}
 use Rattle.std.proofs.lemmas.List.{length-set}
 use Rattle.aho_base.specs.declared.search.MatchKind.{MatchKind}
-use Rattle.aho_base.specs.Among.{is_node_among, own_among}
-use Rattle.aho_base.specs.Bytes.{folded, folded_word}
-use Rattle.aho_base.specs.Failure.{is_cut, is_leftmost}
+use Rattle.aho_base.specs.Among.{is_node_among}
+use Rattle.aho_base.specs.Bytes.{folded}
+use Rattle.aho_base.specs.Failure.{is_leftmost}
 use Rattle.aho_base.specs.MatchList.{own_matches}
 use Rattle.aho_base.specs.Patterns.{Patterns}
 use Rattle.aho_base.specs.Trie.{is_node}
 use Rattle.aho_base.proofs.ByLinks.{is_empty, ends_here, is_cut-root}
 use Rattle.aho_base.proofs.Inserted.{own_among-all, is_node_among-all}
-use Rattle.aho_corasick.specs.Building.{root_loop, stops_at, looped, append_matches, IsLedBelow, IsLedAsRoot, IsReady, IsDead, IsAnchoredStart}
+use Rattle.aho_corasick.specs.Building.{root_loop, stops_at, looped, append_matches, IsLedBelow, IsLedAsRoot, IsReady}
 use Rattle.aho_corasick.specs.Naming.{name_at, longer, missing_at, IsTrie, IsTrieOf}
-use Rattle.aho_corasick.specs.Tables.{Row, row_at, next_in, fail_in, depth_in, matches_in, edge_at, with_edge, set_edge}
-use Rattle.aho_corasick.proofs.ChangedRows.{row_at-set_same, row_at-set_other, edge_at-with_edge, edge_at-with_edge_other, named_ne_fail, named_below}
+use Rattle.aho_corasick.specs.Tables.{Row, row_at, next_in, matches_in, edge_at, with_edge, set_edge}
+use Rattle.aho_corasick.proofs.ChangedRows.{row_at-set_same, row_at-set_other, edge_at-with_edge, edge_at-with_edge_other, named_ne_fail}
 
 -- at first nothing was led
 pub IsLedBelow-none : (sid : ℕ) (leads : ℕ → ℕ) (rows : List Row) → IsLedBelow sid 0 leads rows rows

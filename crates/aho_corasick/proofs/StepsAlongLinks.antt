@@ -1,5 +1,5 @@
 -- A step along the failure links.
-use Rattle.std.proofs.Common.{◌≡◌, ℕ, ◌<◌, ◌≤◌, ◌≢◌, Bool, true, false, cond, List, [], ◌∷◌, ◌++◌, length, Option, Some, None, refl, sym, ap, subst, ◌∙◌, inl, inr, arith}
+use Rattle.std.proofs.Common.{◌≡◌, ℕ, ◌<◌, ◌≤◌, ◌≢◌, Bool, true, false, cond, List, [], ◌∷◌, length, Option, Some, None, refl, sym, ap, subst, ◌∙◌, inl, inr, arith}
 use Rattle.std.proofs.lemmas.Bool.{cases_Bool, MatchBool-at_true, MatchBool-at_false}
 use Rattle.aho_base.specs.declared.search.Anchored.TheVariants.{No}
 use Rattle.aho_base.specs.Bytes.{folded}
@@ -83,11 +83,11 @@ module _ (p : Patterns) (names : List (Option (List ℕ))) (rows : List Row) (tr
       elim (cases_Bool (is_node p (longer p (y ∷ u) byte))) [
         | inl node ↦ absurd (named_ne_fail p (is_node p) (root_loop p) names rows trie (next_in rows sid byte) (longer p (y ∷ u) byte) (leads_to_node sid byte (y ∷ u) at small node) one)
         | inr other ↦ (
-            failure_of p (y ∷ u),
-            links sid (y ∷ u) at (λ e. cc) (omega arith),
-            depth-failure p y u (failure_of p (y ∷ u)) refl,
-            follow-failure p y u (folded p byte) other,
-          )
+          failure_of p (y ∷ u),
+          links sid (y ∷ u) at (λ e. cc) (omega arith),
+          depth-failure p y u (failure_of p (y ∷ u)) refl,
+          follow-failure p y u (folded p byte) other,
+        )
       ]
 
 pub HasWalked-none : (rows : List Row) (from byte : ℕ) → HasWalked rows from byte from

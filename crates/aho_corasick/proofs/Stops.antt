@@ -1,5 +1,5 @@
 -- Why a build stops, and that none has stopped before its patterns pass a limit.
-use Rattle.std.proofs.Common.{◌≡◌, ◌⊎◌, ℕ, Bool, Result, Ok, Err, ◌+◌, ◌<◌, ◌≤◌, List, [], ◌∷◌, ◌++◌, length, get_or, map, refl, sym, ap, subst, ◌∙◌, inl, inr, arith}
+use Rattle.std.proofs.Common.{◌≡◌, ℕ, Bool, Result, Ok, Err, ◌+◌, ◌<◌, ◌≤◌, List, [], ◌∷◌, ◌++◌, length, get_or, map, refl, sym, ap, subst, ◌∙◌, inl, inr, arith}
 use Rattle.std.proofs.lemmas.Bool.{cases_lt}
 use Rattle.std.proofs.lemmas.List.{get_or_push, length_push, map-append}
 use Rattle.std.proofs.lemmas.List.Elements.{All-nil, All-push}
@@ -7,7 +7,7 @@ use Rattle.std.specs.List.{All}
 use Rattle.std.specs.Result.{IfErr, IsErrAnd}
 use denote.Ref.{Bor}
 use Rattle.aho_base.specs.declared.error.BuildError.{BuildError}
-use Rattle.aho_base.specs.declared.error.BuildError.TheVariants.{StateIDOverflow, PatternIDOverflow, PatternTooLong, OutOfMemory}
+use Rattle.aho_base.specs.declared.error.BuildError.TheVariants.{PatternIDOverflow, PatternTooLong, OutOfMemory}
 use Rattle.aho_base.specs.declared.search.MatchKind.{MatchKind}
 use Rattle.aho_base.specs.Patterns.{Patterns}
 use Rattle.aho_corasick.specs.Growing.{patterns_of, IsGrowthRefusal, AreWithin, StopsAt}

@@ -1,34 +1,38 @@
 -- One transition of the head.
-use Rattle.std.proofs.Common.{◌≡◌, ℕ, ◌+◌, ◌<◌, ◌≤◌, ◌≢◌, List, [], ◌∷◌, ◌++◌, length, get_or, Option, Some, refl, sym, ap, subst, ◌∙◌, arith}
-use Rattle.std.proofs.lemmas.List.{length_push, get_or_append_left}
+use Rattle.std.proofs.Common.{◌≡◌, ℕ, ◌+◌, ◌<◌, ◌≤◌, ◌≢◌, List, [], ◌∷◌, ◌++◌, length, get_or, Option, Some, sym, ap, subst, ◌∙◌, arith}
+use Rattle.std.proofs.lemmas.List.{length_push, get_or_append_left, get_or_default}
 use Rattle.aho_base.specs.declared.search.MatchKind.{MatchKind}
 use Rattle.aho_base.specs.Failure.{failure_of}
 use Rattle.aho_base.specs.Patterns.{Patterns}
 use Rattle.aho_base.specs.Trie.{is_node}
 use Rattle.aho_corasick.specs.Building.{root_loop, CanLink, CanLinkBySome, LinksTo, IsLinking, IsLinkingBySome, KeepsLinking, link_row, unlinked_count, HasSameEdges}
 use Rattle.aho_corasick.specs.Naming.{name_at, longer, IsStateOf}
-use Rattle.aho_corasick.specs.Tables.{Row, row_at, edge_in, next_in, fail_in, matches_in}
+use Rattle.aho_corasick.specs.Tables.{Row, edge_in, next_in, fail_in}
 use Rattle.aho_corasick.proofs.ChangedRows.{named_below}
-use Rattle.aho_corasick.proofs.LinksSoFar.{head_word, head_can, child_below, child_is, link_known, IsLinking-skip, IsLinking-next}
+use Rattle.aho_corasick.proofs.LinksSoFar.{head_word, head_can, child_below, child_is, link_known}
 use Rattle.aho_corasick.proofs.LinkedChild.{IsLinking-link, link_apart, unlinked_count-link, same_edges-link}
 
-module _ (kind : MatchKind) (queue : List ℕ) (head part : ℕ) (rows : List Row) (parent byte child : ℕ) (inside : head < length queue) (small : byte < 256)
-    (parent_eq : parent ≡ get_or queue head 0) (edge_eq : child ≡ (edge_in rows parent part).1) (leads : next_in rows parent byte ≡ child) where
+module _ (kind : MatchKind) (queue : List ℕ) (head part : ℕ) (rows : List Row) (parent : ℕ) (edge : ℕ × ℕ) (inside : head < length queue) (small : edge.0 < 256)
+    (read : parent ≡ get_or queue head parent) (edge_eq : edge ≡ edge_in rows parent part) (leads : next_in rows parent edge.0 ≡ edge.1) where
+  abbrev byte : ℕ
+  byte = edge.0
+
+  abbrev child : ℕ
+  child = edge.1
+
+  parent_eq : parent ≡ get_or queue head 0
+  parent_eq = read ∙ get_or_default queue head parent 0 inside
+
   child_next : child ≡ next_in rows (get_or queue head 0) byte
   child_next = sym leads ∙ ap (λ (n : ℕ). next_in rows n byte) parent_eq
 
   child_edge : child ≡ (edge_in rows (get_or queue head 0) part).1
-  child_edge = edge_eq ∙ ap (λ (n : ℕ). (edge_in rows n part).1) parent_eq
+  child_edge = ap (λ (e : ℕ × ℕ). e.1) edge_eq ∙ ap (λ (n : ℕ). (edge_in rows n part).1) parent_eq
 
   pub visit_child_below : IsLinkingBySome kind queue head part rows → child ≢ 1 → child < length rows
   visit_child_below some other =
       subst (λ (n : ℕ). n < length rows) (sym child_next)
       (child_below some.0 some.1.0 queue head part rows some.1.2 inside byte small (λ e. other (child_next ∙ e)))
-
-  pub visit_skips : (child ≢ 1 → fail_in rows child ≢ 1) → KeepsLinking kind queue head part rows queue head (part + 1) rows
-  visit_skips skipped = λ p names same so_far.
-      IsLinking-skip p names queue head part rows so_far inside
-      (λ there e. skipped (λ f. there (sym child_edge ∙ f)) (ap (fail_in rows) child_edge ∙ e))
 
   module _ (other : child ≢ 1) (free : fail_in rows child ≡ 1) where
     can_link : (p : Patterns) (names : List (Option (List ℕ))) → p.kind ≡ kind → (so_far : IsLinking p names queue head part rows)

@@ -83,7 +83,8 @@ fn ends_here(table: &Table, kind: MatchKind, sid: StateID) -> bool
 /// a pattern: nothing that starts later is then looked for.
 fn add_unanchored_start_state_loop(table: &mut Table, kind: MatchKind) -> Result<(), BuildError>
     requires start { 2 < length table.old.rows }
-    ensures looped { OnOk result (IsLedBelow 2 256 (looped kind table.old.rows) table.old.rows table.new.rows) }
+    ensures looped { OnOk result
+        (IsLedBelow 2 256 (looped kind table.old.rows) table.old.rows table.new.rows) }
 {
     let root = unanchored_start();
     let back = if ends_here(table, kind, root) {
@@ -164,12 +165,18 @@ fn visit(
     index: usize,
 ) -> Result<(), BuildError>
     requires inside { head < vec_len queue.old }
-    requires within { index < length (row_at table.old.rows (slice_index queue.old.items head)).edges }
+    requires within { index
+        < length (row_at table.old.rows (slice_index queue.old.items head)).edges }
     requires linking { IsLinkingBySome kind queue.old.items head index table.old.rows }
-    ensures linking { OnOk result (KeepsLinking kind queue.old.items head index table.old.rows queue.new.items head (index + 1) table.new.rows) }
-    ensures counted { OnOk result (unlinked_count table.new.rows + vec_len queue.new ≡ unlinked_count table.old.rows + vec_len queue.old) }
+    ensures linking { OnOk result
+        (KeepsLinking kind queue.old.items head index table.old.rows
+        queue.new.items head (index + 1) table.new.rows) }
+    ensures counted { OnOk result
+        (unlinked_count table.new.rows + vec_len queue.new
+        ≡ unlinked_count table.old.rows + vec_len queue.old) }
     ensures longer { OnOk result (vec_len queue.old ≤ vec_len queue.new) }
-    ensures head { OnOk result (slice_index queue.new.items head ≡ slice_index queue.old.items head) }
+    ensures head { OnOk result
+        (slice_index queue.new.items head ≡ slice_index queue.old.items head) }
     ensures edges { OnOk result (HasSameEdges table.old.rows table.new.rows) }
 {
     let parent = queue[head];
@@ -188,8 +195,11 @@ fn fill_failure_transitions(
     table: &mut Table,
     kind: MatchKind,
 ) -> Result<(), BuildError>
-    requires ready { (p : Patterns) × ((names : List (Option (List ℕ))) × (p.kind ≡ kind) × IsReady p names table.old.rows) }
-    ensures built { OnOk result ((p : Patterns) (names : List (Option (List ℕ))) → p.kind ≡ kind → IsReady p names table.old.rows → IsBuilt p names table.new.rows) }
+    requires ready { (p : Patterns) × ((names : List (Option (List ℕ)))
+        × (p.kind ≡ kind) × IsReady p names table.old.rows) }
+    ensures built { OnOk result
+        ((p : Patterns) (names : List (Option (List ℕ)))
+        → p.kind ≡ kind → IsReady p names table.old.rows → IsBuilt p names table.new.rows) }
 {
     let root = unanchored_start();
     table.set_fail(root, DEAD);
@@ -217,8 +227,12 @@ pub(super) fn link_states(
     table: &mut Table,
     kind: MatchKind,
 ) -> Result<(), BuildError>
-    requires trie { (p : Patterns) × ((names : List (Option (List ℕ))) × (p.kind ≡ kind) × IsTrieOf p (length p.words) names table.old.rows) }
-    ensures built { OnOk result ((p : Patterns) (names : List (Option (List ℕ))) → p.kind ≡ kind → IsTrieOf p (length p.words) names table.old.rows → IsBuilt p names table.new.rows) }
+    requires trie { (p : Patterns) × ((names : List (Option (List ℕ)))
+        × (p.kind ≡ kind) × IsTrieOf p (length p.words) names table.old.rows) }
+    ensures built { OnOk result
+        ((p : Patterns) (names : List (Option (List ℕ)))
+        → p.kind ≡ kind → IsTrieOf p (length p.words) names table.old.rows
+        → IsBuilt p names table.new.rows) }
 {
     set_anchored_start_state(table)?;
     add_unanchored_start_state_loop(table, kind)?;

@@ -252,6 +252,14 @@ pub(super) fn build_trie<'p, I: Iterator<Item = &'p [u8]> + Drop>(
 mod tests {
     use super::*;
 
+    fn limits(pattern: usize, length: usize, index: usize) -> Limits {
+        Limits {
+            pattern,
+            length,
+            id: index,
+        }
+    }
+
     fn follow(table: &Table, sid: usize, byte: u8) -> usize {
         let Ok(state) = StateID::new(sid) else {
             return 0;
@@ -263,14 +271,68 @@ mod tests {
     }
 
     #[test]
-    fn one_word(rt: HostRuntime) {
-        let limits = Limits { pattern: usize::MAX, length: usize::MAX, id: usize::MAX };
+    fn a_letter_leads_by_both_cases(rt: HostRuntime) {
         let words: [&[u8]; 2] = [b"ab", b"aB"];
-        let Ok(trie) = build_trie(rt.alloc(), MatchKind::Standard, true, limits, words.iter().copied()) else {
+        let patterns = words.iter().copied();
+        let no_limits = limits(usize::MAX, usize::MAX, usize::MAX);
+        let Ok(trie) = build_trie(rt.alloc(), MatchKind::Standard, true, no_limits, patterns) else {
             panic!(rt; "refused");
         };
         assert_eq!(rt; trie.table.len(), 6);
         assert_eq!(rt; follow(&trie.table, 2, b'A'), 4);
         assert_eq!(rt; follow(&trie.table, 4, b'b'), 5);
+    }
+
+    #[test]
+    fn a_pattern_behind_a_prefix_adds_no_state(rt: HostRuntime) {
+        let words: [&[u8]; 2] = [b"a", b"ab"];
+        for (kind, states) in [
+            (MatchKind::Standard, 6),
+            (MatchKind::LeftmostFirst, 5),
+            (MatchKind::LeftmostLongest, 6),
+        ] {
+            let patterns = words.iter().copied();
+            let no_limits = limits(usize::MAX, usize::MAX, usize::MAX);
+            let Ok(trie) = build_trie(rt.alloc(), kind, false, no_limits, patterns) else {
+                panic!(rt; "refused");
+            };
+            assert_eq!(rt; trie.table.len(), states);
+            assert_eq!(rt; trie.lens.len(), 2);
+        }
+    }
+
+    #[test]
+    fn a_limit_that_is_passed_is_named(rt: HostRuntime) {
+        let words: [&[u8]; 2] = [b"a", b"bc"];
+        for (within, wanted) in [
+            (
+                limits(0, 9, 9999),
+                BuildError::PatternIDOverflow {
+                    max: 0,
+                    requested: 1,
+                },
+            ),
+            (
+                limits(9, 9, 4),
+                BuildError::StateIDOverflow {
+                    max: 4,
+                    requested: 5,
+                },
+            ),
+            (
+                limits(9, 9, 768),
+                BuildError::StateIDOverflow {
+                    max: 768,
+                    requested: 769,
+                },
+            ),
+        ] {
+            let patterns = words.iter().copied();
+            let result = build_trie(rt.alloc(), MatchKind::Standard, false, within, patterns);
+            let Err(error) = result else {
+                panic!(rt; "accepted");
+            };
+            assert_eq!(rt; error, wanted);
+        }
     }
 }

@@ -1,6 +1,6 @@
-use Rattle.std.proofs.Common.{◌≡◌, ◌≢◌, ◌<◌, ◌≤◌, ◌+◌, ◌∙◌, ap, sym, subst, arith, length, cond, Bool, ℕ, List}
+use Rattle.std.proofs.Common.{◌≡◌, ◌<◌, ◌+◌, ◌∙◌, ap, sym, subst, arith, length, cond, Bool, ℕ}
 use Rattle.aho_corasick.specs.Building.{IsLedBelow, looped, stops_at}
-use Rattle.aho_corasick.specs.Tables.{Tables, Row, next_in, matches_in, set_edge}
+use Rattle.aho_corasick.specs.Tables.{Tables, next_in, matches_in, set_edge}
 use Rattle.aho_corasick.proofs.ComparedStates.{same-true, same-false}
 use Rattle.aho_corasick.proofs.ReadyStarts.{IsLedBelow-none, IsLedBelow-set, IsLedBelow-kept, looped-free, looped-taken}
 use Rattle.aho_corasick.proofs.noncontiguous.failure.add_unanchored_start_state_loop.Goals as goal

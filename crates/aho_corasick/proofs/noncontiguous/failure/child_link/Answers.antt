@@ -1,5 +1,5 @@
-use Rattle.std.proofs.Common.{◌≡◌, ◌≢◌, ◌∙◌, sym, ap, subst, refl, true, false, ℕ}
-use Rattle.aho_corasick.specs.Building.{CanStepBySome, LinksTo, StepsTo}
+use Rattle.std.proofs.Common.{◌≢◌, ◌∙◌, sym, subst, refl, true, false, ℕ}
+use Rattle.aho_corasick.specs.Building.{CanStepBySome, StepsTo}
 use Rattle.aho_corasick.proofs.ChildFailures.{LinksTo-stops, LinksTo-root, LinksTo-step, CanStepBySome-link}
 use Rattle.aho_corasick.proofs.ComparedStates.{differ-true, differ-false}
 use Rattle.aho_corasick.proofs.noncontiguous.failure.child_link.Goals as goal

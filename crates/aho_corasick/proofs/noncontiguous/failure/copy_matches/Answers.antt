@@ -1,4 +1,4 @@
-use Rattle.std.proofs.Common.{◌≡◌, ◌<◌, ◌≤◌, ◌∙◌, ap, arith, length}
+use Rattle.std.proofs.Common.{◌<◌, ◌≤◌, ap, arith, length}
 use Rattle.aho_corasick.specs.Tables.{Tables, matches_in}
 use Rattle.aho_corasick.proofs.CopiedMatches.{copied_none, copied_more, copied_all}
 use Rattle.aho_corasick.proofs.noncontiguous.failure.copy_matches.Goals as goal

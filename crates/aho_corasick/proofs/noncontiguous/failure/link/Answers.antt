@@ -1,7 +1,7 @@
-use Rattle.std.proofs.Common.{◌≡◌, ◌∙◌, ap, ℕ, List}
+use Rattle.std.proofs.Common.{◌∙◌, ap}
 use Rattle.std.proofs.lemmas.Result.{on_ok_weaker}
 use Rattle.aho_corasick.specs.Building.{append_matches}
-use Rattle.aho_corasick.specs.Tables.{Tables, Row}
+use Rattle.aho_corasick.specs.Tables.{Tables}
 use Rattle.aho_corasick.proofs.CopiedMatches.{link_row-both}
 use Rattle.aho_corasick.proofs.noncontiguous.failure.link.Goals as goal
 

@@ -1,4 +1,4 @@
-use Rattle.std.proofs.Common.{◌≡◌, ◌≢◌, ◌<◌, ◌∙◌, sym, subst, arith, ℕ}
+use Rattle.std.proofs.Common.{◌≢◌, ◌<◌, ◌∙◌, sym, subst, arith, ℕ}
 use Rattle.aho_corasick.specs.Tables.{next_in, depth_in}
 use Rattle.aho_corasick.specs.Building.{StepsTo}
 use Rattle.aho_corasick.proofs.ComparedStates.{differ-true, differ-false}

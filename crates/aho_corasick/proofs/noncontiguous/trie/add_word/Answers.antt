@@ -1,4 +1,4 @@
-use Rattle.std.proofs.Common.{◌≡◌, ◌+◌, ◌∙◌, ◌<◌, ℕ, subst, sym, length, get_or, arith, rules, refl}
+use Rattle.std.proofs.Common.{◌∙◌, ℕ, subst, sym, get_or, rules, refl}
 use Rattle.aho_corasick.specs.Growing.{HasChild}
 use Rattle.aho_corasick.proofs.Ends.{HasWalked-none, HasWalked-below, HasWalked-more, HasWalked-met, HasWalked-all}
 use Rattle.aho_corasick.proofs.noncontiguous.trie.add_word.Goals as goal
@@ -41,10 +41,10 @@ pub returns-then-passes_match-clause-ends : goal.returns-then-passes_match-claus
 returns-then-passes_match-clause-ends c =
     λ p number names numbered of.
     HasWalked-met p number c.args.kind c.args.ignore_case c.args.pattern.now numbered c.loop-index.index c.loop-index.state c.loop-index.table.rows
-      c.loop-index-test.true (sym c.passes_match.ensures.passes ∙ c.if-passes_match.true) (c.loop-index.invariant.walked p number names numbered of)
+    c.loop-index-test.true (sym c.passes_match.ensures.passes ∙ c.if-passes_match.true) (c.loop-index.invariant.walked p number names numbered of)
 
 pub returns-clause-ends : goal.returns-clause-ends
 returns-clause-ends c =
     λ p number names numbered of.
     HasWalked-all p number c.args.kind c.args.ignore_case c.args.pattern.now numbered c.loop-index.index c.loop-index.state c.loop-index.table.rows
-      c.loop-index-test.false (c.loop-index.invariant.walked p number names numbered of)
+    c.loop-index-test.false (c.loop-index.invariant.walked p number names numbered of)

@@ -1,4 +1,4 @@
-use Rattle.std.proofs.Common.{◌≡◌, ◌∙◌, Bool, Option, refl, ◌++◌, ◌∷◌, ℕ, List, [], None, length, map, min, rules, sym, subst}
+use Rattle.std.proofs.Common.{◌≡◌, ◌∙◌, Bool, Option, refl, ◌++◌, ◌∷◌, ℕ, List, [], length, min, rules, subst}
 use Rattle.std.specs.Iterator.{Yields}
 use Rattle.std.proofs.iter.Next.{Yields-more}
 use denote.Ref.{Bor}
@@ -65,9 +65,14 @@ returns-in_err-number-clause-stopped g c =
     let begun = subst (λ (i : _). Yields g.I.Iterator.next_gives i c.loop-pattern.yielded c.loop-pattern.pattern-iterator) c.into_iter-pattern-iterator.ensures.into_iter_gives c.loop-pattern.yielded_by in
     let more = Yields-more g.I.Iterator.next_gives c.args.patterns c.loop-pattern.yielded c.loop-pattern.pattern-iterator c.in-Some.pattern c.next.new.self begun c.in-Some.ensures.steps in
     IfErr-given (Stopped g.I.Iterator.next_gives c.args.patterns c.args.kind c.args.ignore_case (min c.args.limits.pattern 2147483646) (min c.args.limits.length 2147483646) (min c.args.limits.id 2147483646))
-    c.from_residual-in_err-number.result c.in_err-number.field-0.0 c.from_residual-in_err-number.ensures.1
-    (c.loop-pattern.yielded ++ c.in-Some.pattern ∷ [], ((c.next.new.self, more), StopsAt-number (min c.args.limits.pattern 2147483646) (min c.args.limits.length 2147483646) (min c.args.limits.id 2147483646) c.args.kind c.args.ignore_case
-    c.loop-pattern.yielded c.in-Some.pattern c.len.result place c.in_err-number.field-0.0 (λ low. let clash = c.in_err-number.ensures.accepted.1 low in cc) c.in_err-number.ensures.refused c.loop-pattern.invariant.within))
+    c.from_residual-in_err-number.result c.in_err-number.field-0.0 c.from_residual-in_err-number.ensures.1 (
+      c.loop-pattern.yielded ++ c.in-Some.pattern ∷ [],
+      (
+        (c.next.new.self, more),
+        StopsAt-number (min c.args.limits.pattern 2147483646) (min c.args.limits.length 2147483646) (min c.args.limits.id 2147483646) c.args.kind c.args.ignore_case
+            c.loop-pattern.yielded c.in-Some.pattern c.len.result place c.in_err-number.field-0.0 (λ low. let clash = c.in_err-number.ensures.accepted.1 low in cc) c.in_err-number.ensures.refused c.loop-pattern.invariant.within,
+      ),
+    )
 
 pub returns-in_err-len-clause-stopped : goal.returns-in_err-len-clause-stopped
 returns-in_err-len-clause-stopped g c =
@@ -76,6 +81,11 @@ returns-in_err-len-clause-stopped g c =
     let begun = subst (λ (i : _). Yields g.I.Iterator.next_gives i c.loop-pattern.yielded c.loop-pattern.pattern-iterator) c.into_iter-pattern-iterator.ensures.into_iter_gives c.loop-pattern.yielded_by in
     let more = Yields-more g.I.Iterator.next_gives c.args.patterns c.loop-pattern.yielded c.loop-pattern.pattern-iterator c.in-Some.pattern c.next.new.self begun c.in-Some.ensures.steps in
     IfErr-given (Stopped g.I.Iterator.next_gives c.args.patterns c.args.kind c.args.ignore_case (min c.args.limits.pattern 2147483646) (min c.args.limits.length 2147483646) (min c.args.limits.id 2147483646))
-    c.from_residual-in_err-len.result c.in_err-len.field-0.0 c.from_residual-in_err-len.ensures.1
-    (c.loop-pattern.yielded ++ c.in-Some.pattern ∷ [], ((c.next.new.self, more), StopsAt-length (min c.args.limits.pattern 2147483646) (min c.args.limits.length 2147483646) (min c.args.limits.id 2147483646) c.args.kind c.args.ignore_case
-    c.loop-pattern.yielded c.in-Some.pattern c.len.result place c.in_err-len.field-0.0 c.in_ok-number.number _ c.in_ok-number.ensures.value refl (λ low. let clash = c.in_err-len.ensures.accepted.1 low in cc) c.in_err-len.ensures.refused))
+    c.from_residual-in_err-len.result c.in_err-len.field-0.0 c.from_residual-in_err-len.ensures.1 (
+      c.loop-pattern.yielded ++ c.in-Some.pattern ∷ [],
+      (
+        (c.next.new.self, more),
+        StopsAt-length (min c.args.limits.pattern 2147483646) (min c.args.limits.length 2147483646) (min c.args.limits.id 2147483646) c.args.kind c.args.ignore_case
+            c.loop-pattern.yielded c.in-Some.pattern c.len.result place c.in_err-len.field-0.0 c.in_ok-number.number _ c.in_ok-number.ensures.value refl (λ low. let clash = c.in_err-len.ensures.accepted.1 low in cc) c.in_err-len.ensures.refused,
+      ),
+    )

@@ -1,5 +1,5 @@
 use Rattle.std.proofs.lemmas.Bool.{eqb-true, not-false}
-use Rattle.std.proofs.Common.{◌≡◌, ◌∙◌, ap, sym, ◌+◌, ◌∷◌, [], ◌++◌}
+use Rattle.std.proofs.Common.{◌≡◌, ◌∙◌, ap, sym}
 use Rattle.aho_corasick.specs.Tables.{Tables, next_in}
 use Rattle.aho_corasick.proofs.Child.{HasChild-one, HasChild-two}
 use Rattle.aho_corasick.proofs.noncontiguous.trie.child.Goals as goal
