@@ -15,10 +15,9 @@ ghost use Rattle.aho_base.specs.declared.search.MatchKind.{MatchKind};
 
 pub use crate::find::find_in;
 pub use crate::walk::{Counted, Walk};
-
 use aho_base::error::MatchError;
 use aho_base::search::{
-    Anchored, Bytes, Input, Match, MatchKind, PatternID, Span, StateID, Work,
+    Anchored, Bytes, Input, Match, MatchKind, PatternID, SmallIndex, Span, StateID, Work,
 };
 
 /// An automaton that reads bytes, and tells which patterns end where it stands.
@@ -84,7 +83,7 @@ pub trait Automaton {
         requires room { work.old + depth self.now sid + 2 < 2 ^ 128 }
         ensures valid { valid self.now result }
         ensures goes_on { (p : Patterns) (word : List ℕ) → is_of self.now p → held self.now p anchored word sid → held self.now p anchored (word ++ byte ∷ []) result }
-        ensures paid { work.new + depth self.now result ≤ work.old + depth self.now sid + 2 }
+        ensures cost { work.new + depth self.now result ≤ work.old + depth self.now sid + 2 }
         ensures grows { work.old ≤ work.new };
 
     /// Whether a search has to look at the state: each dead state is special, and each that lists a pattern.
@@ -138,7 +137,7 @@ pub trait Automaton {
     /// How many bytes the longest pattern has; 0 where there is no pattern.
     fn max_pattern_len(&self) -> usize
         ensures longest { result ≡ longest (lengths self.now) }
-        ensures bound { result ≤ 2147483646 };
+        ensures bound { result ≤ SmallIndex.MAX };
 
     /// How many bytes of memory it holds.
     fn memory_usage(&self) -> usize

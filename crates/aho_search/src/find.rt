@@ -1,4 +1,32 @@
-//! The search for one match.
+//! The search for one match: one walk along the span, with the best match so far in hand.
+//!
+//! # What the walk keeps
+//!
+//! After the bytes from `start` to `at`, `sid` is the state that is held after these bytes, and `best` is the best of
+//! all matches that lie in them, or none where there is none.
+//!
+//! One more byte means one step of the automaton, and at most one more match to look at: the one that the next state
+//! tells. It is the first pattern that the state lists, and it ends where the byte did; an anchored search takes it
+//! only if it starts where the span does. The laws of the automaton say that the better of the two, the best so far
+//! and the one told now, is the best of all again, and `better` says which of the two that is:
+//!
+//! - for `Standard` the best so far, where there is one, since it ends first;
+//! - for the leftmost kinds the one told now, where there is one: once such an automaton has found a match, its states
+//!   list only what is better.
+//!
+//! # Where it stops
+//!
+//! - At its first match, for `Standard` and where the earliest match is wanted: whatever else there is ends later.
+//! - At a dead state: whatever follows, the best stays.
+//! - At the end of the span.
+//!
+//! A state that is not special is neither dead nor tells a match, so it is passed over after one test.
+//!
+//! # What it costs
+//!
+//! A step may look up many transitions, but each look-up past the second leads one state back towards the start. So
+//! look-ups are paid by depth: with each byte, the look-ups so far and the state's depth grow together by at most two.
+//! The depth is 0 at the start and never less. So a walk makes at most two look-ups for each byte that it reads.
 
 ghost use Rattle.std.specs.Prelude.{◌≡◌, ℕ, ◌+◌, ◌-◌, ◌*◌, ◌<◌, ◌≤◌, ◌^◌, ◌⊎◌, IsOk, IfOk, IfErr, Ok, Err, None, Some, Result, length};
 ghost use Rattle.aho_base.specs.Answer.{IsAnswer};
@@ -13,7 +41,9 @@ use crate::walk::Walk;
 use aho_base::error::MatchError;
 use aho_base::search::{Anchored, Match, MatchKind, Span, StateID, Text};
 
-/// The match that a state tells at a place of a search from `start`.
+/// The match that a state tells at a place of a search from `start`: the first pattern that it lists, which ends there.
+///
+/// An anchored search takes it only where it is as long as what was read.
 fn told_at<W: Walk>(
     walk: &W,
     anchored: Anchored,
@@ -41,7 +71,7 @@ fn told_at<W: Walk>(
     Some(Match::new(pattern, range))
 }
 
-/// Whether a search answers its first match.
+/// Whether a search answers its first match: always under `Standard`, else where the earliest is wanted.
 fn stops_at_first<W: Walk>(walk: &W, earliest: bool) -> bool
     ensures first { result ≡ first_is_answer (W.Of.kind (W.of walk.now)) earliest }
 {
@@ -51,7 +81,9 @@ fn stops_at_first<W: Walk>(walk: &W, earliest: bool) -> bool
     }
 }
 
-/// The match that the search of a span finds, by a walk that reads each byte at most once.
+/// The match that the search of a span finds, by a walk that reads each byte at most once and takes no memory.
+///
+/// A span whose start is above its end is done: nothing is found, and nothing is read.
 ///
 /// # Errors
 ///

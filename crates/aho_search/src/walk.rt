@@ -40,7 +40,7 @@ pub trait Walk {
         ensures same { of self.new ≡ of self.old }
         ensures valid { Self.Of.valid (of self.old) result }
         ensures goes_on { (p : Patterns) (word : List ℕ) → Self.Of.is_of (of self.old) p → Self.Of.held (of self.old) p anchored word sid → Self.Of.held (of self.old) p anchored (word ++ byte ∷ []) result }
-        ensures paid { lookups self.new + Self.Of.depth (of self.old) result ≤ lookups self.old + Self.Of.depth (of self.old) sid + 2 }
+        ensures cost { lookups self.new + Self.Of.depth (of self.old) result ≤ lookups self.old + Self.Of.depth (of self.old) sid + 2 }
         ensures grows { lookups self.old ≤ lookups self.new };
 
     /// Whether a search has to look at the state.

@@ -102,7 +102,7 @@ loop-at-preserved g c =
       same_walk = same_walk g d;
       same_text = c.byte-byte.ensures.same ∙ c.loop-at.invariant.same_text;
       unread = omega (arith, c.byte-byte.ensures.passed);
-      paid = omega (arith, rw c.loop-at.invariant.same_walk at c.step-sid.ensures.paid, c.loop-at.invariant.paid);
+      paid = omega (arith, rw c.loop-at.invariant.same_walk at c.step-sid.ensures.cost, c.loop-at.invariant.paid);
       valid = rw c.loop-at.invariant.same_walk at c.step-sid.ensures.valid;
       quiet = λ stops. elim c.if-is_special.branch [
         | then-is_special+else-is_dead+in-Some+else-stops-2 w ↦ cc (c.stops_at_first-stops.ensures.first, w.if-stops-2.false, stops)

@@ -1,0 +1,13 @@
+//! The plain program that computes what a search answers, in the open: it looks at every range of the span, and so takes
+//! the product of its places, the patterns and their lengths.
+//!
+//! Its contracts are the definitions themselves, so what it answers is what any other search has to answer.
+#![tactic(auto)]
+
+pub mod every;
+pub mod pattern_set;
+pub mod plain;
+#[cfg(test)]
+mod rows;
+
+pub use pattern_set::PatternSet;
