@@ -73,7 +73,8 @@ pub trait Automaton {
     fn next_state(&self, anchored: Anchored, sid: StateID, byte: u8) -> StateID
         requires valid { valid self.now sid }
         ensures valid { valid self.now result }
-        ensures goes_on { (p : Patterns) (word : List ℕ) → is_of self.now p → held self.now p anchored word sid → held self.now p anchored (word ++ byte ∷ []) result };
+        ensures goes_on { (p : Patterns) (word : List ℕ) → is_of self.now p → held self.now p anchored word sid →
+            held self.now p anchored (word ++ byte ∷ []) result };
 
     /// The state after one more byte, with each look-up of a transition added to `work`.
     ///
@@ -82,7 +83,8 @@ pub trait Automaton {
         requires valid { valid self.now sid }
         requires room { work.old + depth self.now sid + 2 < 2 ^ 128 }
         ensures valid { valid self.now result }
-        ensures goes_on { (p : Patterns) (word : List ℕ) → is_of self.now p → held self.now p anchored word sid → held self.now p anchored (word ++ byte ∷ []) result }
+        ensures goes_on { (p : Patterns) (word : List ℕ) → is_of self.now p → held self.now p anchored word sid →
+            held self.now p anchored (word ++ byte ∷ []) result }
         ensures cost { work.new + depth self.now result ≤ work.old + depth self.now sid + 2 }
         ensures grows { work.old ≤ work.new };
 
@@ -143,11 +145,14 @@ pub trait Automaton {
     fn memory_usage(&self) -> usize
         ensures memory { result ≡ memory self.now };
 
-    /// What the states tell: the first pattern listed is the best, dead is final, and so on.
-    ghost laws: { (a : Self) (p : Patterns) → is_of a p → Reads p (kind a) (lengths a) (held a p) (list a) (dead a) (starts a) };
+    /// What the states tell of the bytes that were read: the first pattern that a state lists is the best that ends
+    /// there, a dead state is final, and what begins in a start begins there.
+    ghost laws: { (a : Self) (p : Patterns) → is_of a p →
+        Reads p (kind a) (lengths a) (held a p) (list a) (dead a) (starts a) };
 
     /// A state that is not special is not dead, and lists no pattern.
-    ghost plain: { (a : Self) (sid : ℕ) → valid a sid → special a sid ≡ false → (dead a sid ≡ false) × (list a sid ≡ []) };
+    ghost plain: { (a : Self) (sid : ℕ) → valid a sid → special a sid ≡ false →
+        (dead a sid ≡ false) × (list a sid ≡ []) };
 
     /// A dead state is no further than the start.
     ghost dead_shallow: { (a : Self) (sid : ℕ) → valid a sid → dead a sid ≡ true → depth a sid ≡ 0 };
@@ -167,7 +172,8 @@ pub trait Automaton {
         ensures found { (p : Patterns) → is_of self.now p → IfOk result (IsAnswer p input.now) }
         ensures error { IfErr result (λ reason. start self.now input.now.anchored ≡ Err reason) }
         ensures ok { (sid : ℕ) → start self.now input.now.anchored ≡ Ok sid → IsOk result }
-        ensures refused { (reason : MatchErrorKind) → input.now.start ≤ input.now.end → start self.now input.now.anchored ≡ Err reason → result ≡ Err reason }
+        ensures refused { (reason : MatchErrorKind) → input.now.start ≤ input.now.end →
+            start self.now input.now.anchored ≡ Err reason → result ≡ Err reason }
         ensures done { input.now.end < input.now.start → result ≡ Ok None }
     {
         let mut walk = Counted::new(self);

@@ -28,7 +28,7 @@
 //! look-ups are paid by depth: with each byte, the look-ups so far and the state's depth grow together by at most two.
 //! The depth is 0 at the start and never less. So a walk makes at most two look-ups for each byte that it reads.
 
-ghost use Rattle.std.specs.Prelude.{◌≡◌, ℕ, ◌+◌, ◌-◌, ◌*◌, ◌<◌, ◌≤◌, ◌^◌, ◌⊎◌, IsOk, IfOk, IfErr, Ok, Err, None, Some, Result, length};
+ghost use Rattle.std.specs.Prelude.{◌≡◌, ℕ, ◌+◌, ◌-◌, ◌*◌, ◌<◌, ◌≤◌, ◌^◌, IsOk, IfOk, IfErr, Ok, Err, None, Some, Result, length};
 ghost use Rattle.aho_base.specs.Answer.{IsAnswer};
 ghost use Rattle.aho_base.specs.Laws.{Fits, first_is_answer, furthest, told};
 ghost use Rattle.aho_base.specs.Occurrence.{Occurrence};
@@ -36,6 +36,7 @@ ghost use Rattle.aho_base.specs.Patterns.{Patterns};
 ghost use Rattle.aho_base.specs.Search.{search_of};
 ghost use Rattle.aho_base.specs.declared.error.MatchErrorKind.{MatchErrorKind};
 ghost use Rattle.aho_base.specs.declared.search.Anchored.TheVariants.{No};
+ghost use Rattle.aho_search.specs.Reading.{ReadsUpTo};
 
 use crate::walk::Walk;
 use aho_base::error::MatchError;
@@ -101,18 +102,26 @@ pub fn find_in<W: Walk, T: Text>(
     requires room { W.lookups walk.old + 2 * (span.end - span.start) < 2 ^ 128 }
     requires of { (p : Patterns) × W.Of.is_of (W.of walk.old) p }
 
-    ensures found { (p : Patterns) → W.Of.is_of (W.of walk.old) p → IfOk result (IsAnswer p (search_of (T.bytes text.old) span anchored earliest)) }
+    // What it answers, and when it is refused.
+    ensures found { (p : Patterns) → W.Of.is_of (W.of walk.old) p →
+        IfOk result (IsAnswer p (search_of (T.bytes text.old) span anchored earliest)) }
     ensures error { IfErr result (λ reason. W.Of.start (W.of walk.old) anchored ≡ Err reason) }
     ensures ok { (sid : ℕ) → W.Of.start (W.of walk.old) anchored ≡ Ok sid → IsOk result }
-    ensures refused { (reason : MatchErrorKind) → span.start ≤ span.end → W.Of.start (W.of walk.old) anchored ≡ Err reason → result ≡ Err reason }
+    ensures refused { (reason : MatchErrorKind) → span.start ≤ span.end →
+        W.Of.start (W.of walk.old) anchored ≡ Err reason → result ≡ Err reason }
     ensures done { span.end < span.start → result ≡ Ok None }
 
-    // What it leaves behind, what it costs and how far it reads.
+    // What stays, and what it costs.
     ensures same_walk { W.of walk.new ≡ W.of walk.old }
     ensures same_text { T.bytes text.new ≡ T.bytes text.old }
     ensures cost { W.lookups walk.new ≤ W.lookups walk.old + 2 * (span.end - span.start) }
-    ensures near { anchored ≡ No → (m : Occurrence) → result ≡ Ok (Some m) → (T.next text.new ≡ T.next text.old) ⊎ (T.next text.new ≤ furthest (W.Of.kind (W.of walk.old)) earliest (W.Of.lengths (W.of walk.old)) m) }
-    ensures read { (T.next text.new ≡ T.next text.old) ⊎ (T.next text.new ≤ span.end) }
+    ensures grows { W.lookups walk.old ≤ W.lookups walk.new }
+
+    // How far it reads: of an unanchored search that finds a match not far past that match.
+    ensures read { ReadsUpTo (T.next text.old) (T.next text.new) span.end }
+    ensures near { anchored ≡ No → (m : Occurrence) → result ≡ Ok (Some m) →
+        ReadsUpTo (T.next text.old) (T.next text.new)
+        (furthest (W.Of.kind (W.of walk.old)) earliest (W.Of.lengths (W.of walk.old)) m) }
     ensures untouched { span.end < span.start → T.next text.new ≡ T.next text.old }
 {
     let Span { start, end } = span;

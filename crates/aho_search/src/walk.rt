@@ -31,7 +31,8 @@ pub trait Walk {
         ensures start { result ≡ Self.Of.start (of self.now) anchored }
         ensures valid { IfOk result (Self.Of.valid (of self.now)) }
         ensures shallow { IfOk result (λ sid. Self.Of.depth (of self.now) sid ≡ 0) }
-        ensures begins { IfOk result (λ sid. (p : Patterns) → Self.Of.is_of (of self.now) p → Self.Of.held (of self.now) p anchored [] sid) };
+        ensures begins { IfOk result (λ sid. (p : Patterns) → Self.Of.is_of (of self.now) p →
+            Self.Of.held (of self.now) p anchored [] sid) };
 
     /// The state after one more byte, with its look-ups counted.
     fn step(&mut self, anchored: Anchored, sid: StateID, byte: u8) -> StateID
@@ -39,8 +40,11 @@ pub trait Walk {
         requires room { lookups self.old + Self.Of.depth (of self.old) sid + 2 < 2 ^ 128 }
         ensures same { of self.new ≡ of self.old }
         ensures valid { Self.Of.valid (of self.old) result }
-        ensures goes_on { (p : Patterns) (word : List ℕ) → Self.Of.is_of (of self.old) p → Self.Of.held (of self.old) p anchored word sid → Self.Of.held (of self.old) p anchored (word ++ byte ∷ []) result }
-        ensures cost { lookups self.new + Self.Of.depth (of self.old) result ≤ lookups self.old + Self.Of.depth (of self.old) sid + 2 }
+        ensures goes_on { (p : Patterns) (word : List ℕ) → Self.Of.is_of (of self.old) p →
+            Self.Of.held (of self.old) p anchored word sid →
+            Self.Of.held (of self.old) p anchored (word ++ byte ∷ []) result }
+        ensures cost { lookups self.new + Self.Of.depth (of self.old) result ≤
+            lookups self.old + Self.Of.depth (of self.old) sid + 2 }
         ensures grows { lookups self.old ≤ lookups self.new };
 
     /// Whether a search has to look at the state.

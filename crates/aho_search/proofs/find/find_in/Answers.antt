@@ -1,6 +1,7 @@
 -- Each way out of the search answers, and each turn of the loop keeps its invariant.
-use Rattle.std.proofs.Common.{◌≡◌, ◌+◌, refl, sym, ◌∙◌, ap, subst, arith, rules, false, ℕ, ◌∷◌, ◌++◌, [], get_or}
+use Rattle.std.proofs.Common.{◌≡◌, ◌+◌, refl, sym, ◌∙◌, ap, subst, arith, rules, true, false, ℕ, ◌∷◌, ◌++◌, [], get_or}
 use Rattle.std.specs.Prelude.{slice_range}
+use Rattle.aho_base.specs.Laws.{first_is_answer}
 use Rattle.aho_base.specs.Patterns.{Patterns}
 use Rattle.aho_search.proofs.Told.{is_none}
 use Rattle.aho_search.proofs.Walks.{Standing, stands_at_start, stands_silent, stands_unlisted, stands_first, stands_last, answer_at_end, answer_when_dead, answer_found, not_before, later, near_at_start, near_further}
@@ -13,7 +14,7 @@ use Rattle.aho_search.proofs.find.find_in.Goals.{then-is_special+else-is_dead+in
 pub returns-then-is_some-clause-found : goal.returns-then-is_some-clause-found
 returns-then-is_some-clause-found g c p of =
     let laws = g.met.W.Of.Automaton.laws (g.W.Walk.of c.args.walk.now) p of in
-    answer_found laws _ _ _ _ c.args.span.start _ _ _ (sym c.stops_at_first-stops.ensures.first ∙ c.if-stops.true) (search rules) (omega arith) (omega arith) (omega arith) (not_before p _ _ _)
+    answer_found laws _ _ _ _ c.args.span.start _ _ _ (cc (c.stops_at_first-stops.ensures.first, c.if-stops.true)) (search rules) (omega arith) (omega arith) (omega arith) (not_before p _ _ _)
     (stands_at_start laws _ _ _ _ _ (c.in_ok-sid.ensures.begins p of) c.told_at-best.ensures.told)
 
 -- before the first byte
@@ -27,6 +28,7 @@ loop-at-init g c = record {
   same_text = refl;
   unread = c.requires.unread;
   paid = omega (arith, c.in_ok-sid.ensures.shallow);
+  grows = omega arith;
   valid = c.in_ok-sid.ensures.valid;
   quiet = λ stops. elim c.else-stops.branch [ else-stops-via-then-stops+else-is_some w ↦ is_none _ w.if-is_some.ensures | else-stops-via-else-stops w ↦ cc (c.stops_at_first-stops.ensures.first, w.if-stops.false, stops) ];
   near = λ unanchored leftmost m e. near_at_start (g.met.W.Of.Automaton.laws _ _ c.requires.of.1) _ _ _ _ _ m (omega arith) (begun g c _ c.requires.of.1) e;
@@ -56,7 +58,7 @@ pub returns-then-stops-2-clause-found : goal.returns-then-stops-2-clause-found
 returns-then-stops-2-clause-found g c p of =
     let d = (goal.at.returns-then-stops-2-clause-found g c).After-step-sid in
     let laws = g.met.W.Of.Automaton.laws (g.W.Walk.of c.args.walk.now) p of in
-    let stops = sym c.stops_at_first-stops.ensures.first ∙ c.if-stops-2.true in
+    let stops : first_is_answer (g.W.Of.Automaton.kind (g.W.Walk.of c.args.walk.now)) c.args.earliest ≡ true = cc (c.stops_at_first-stops.ensures.first, c.if-stops-2.true) in
     let none = c.loop-at.invariant.quiet stops in
     let stands = c.loop-at.invariant.stands p of in
     answer_found laws _ _ _ _ (c.loop-at.at + 1) _ c.step-sid.result _ stops refl (omega arith) (omega arith) (omega arith)
@@ -78,7 +80,7 @@ stood g c p of =
     let held = held_after g d p of in
     elim c.if-is_special.branch [
       | then-is_special+else-is_dead+in-Some+else-stops-2 w ↦
-          stands_last laws _ _ _ _ _ _ _ _ _ _ (sym c.stops_at_first-stops.ensures.first ∙ w.if-stops-2.false) (omega arith) (omega arith) held (rw (same_walk g d) at w.in-Some.ensures.told) stands w.best-is
+          stands_last laws _ _ _ c.args.earliest _ _ _ _ _ _ (cc (c.stops_at_first-stops.ensures.first, w.if-stops-2.false)) (omega arith) (omega arith) held (rw (same_walk g d) at w.in-Some.ensures.told) stands w.best-is
       | then-is_special+else-is_dead+in_default w ↦
           stands_silent laws _ _ _ _ _ _ _ _ (omega arith) (omega arith) held (rw (same_walk g d) at w.in_default.ensures.told) stands w.best-is
       | else-is_special w ↦
@@ -103,6 +105,7 @@ loop-at-preserved g c =
       same_text = c.byte-byte.ensures.same ∙ c.loop-at.invariant.same_text;
       unread = omega (arith, c.byte-byte.ensures.passed);
       paid = omega (arith, rw c.loop-at.invariant.same_walk at c.step-sid.ensures.cost, c.loop-at.invariant.paid);
+      grows = omega (arith, c.step-sid.ensures.grows, c.loop-at.invariant.grows);
       valid = rw c.loop-at.invariant.same_walk at c.step-sid.ensures.valid;
       quiet = λ stops. elim c.if-is_special.branch [
         | then-is_special+else-is_dead+in-Some+else-stops-2 w ↦ cc (c.stops_at_first-stops.ensures.first, w.if-stops-2.false, stops)

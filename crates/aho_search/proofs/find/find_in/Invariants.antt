@@ -22,6 +22,7 @@ invariant-loop-at g l =
       same_text : g.T.Text.bytes l.text ≡ g.T.Text.bytes l.initial.text;
       unread : g.T.Text.next l.text ≤ l.at;
       paid : g.W.Walk.lookups l.walk + g.W.Of.Automaton.depth automaton l.sid ≤ g.W.Walk.lookups l.initial.walk + 2 * (l.at - l.start);
+      grows : g.W.Walk.lookups l.initial.walk ≤ g.W.Walk.lookups l.walk;
       valid : g.W.Of.Automaton.valid automaton l.sid;
       quiet : first_is_answer (g.W.Of.Automaton.kind automaton) l.earliest ≡ true → l.best ≡ None;
       near : l.anchored ≡ No → g.W.Of.Automaton.kind automaton ≢ Standard → (m : Occurrence) → l.best ≡ Some m → l.at ≤ m.start + longest (g.W.Of.Automaton.lengths automaton);
