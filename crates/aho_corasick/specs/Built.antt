@@ -1,27 +1,27 @@
 -- A table that was built: its states are linked as the words are, step as they do, list what they list, and a step over it
 -- is sound.
-use Rattle.std.proofs.Common.{◌≡◌, ◌≢◌, ◌⊎◌, inl, inr, ℕ, ◌+◌, ◌<◌, ◌≤◌, Bool, true, false, cond, List, [], ◌∷◌, ◌++◌, length, map, eqb, refl, sym, ◌∙◌, ap, subst, arith}
-use Rattle.std.specs.Prelude.{Option, Some, None, is_none, nat_eq, not, MatchBool}
+use Rattle.std.proofs.Common.{◌≡◌, ◌≢◌, ◌⊎◌, inl, inr, ℕ, ◌+◌, ◌<◌, ◌≤◌, true, false, cond, List, [], ◌∷◌, ◌++◌, length, map, refl, sym, ◌∙◌, ap, subst, arith}
+use Rattle.std.specs.Prelude.{Option, Some, None, is_none, nat_eq, not}
 use Rattle.std.proofs.lemmas.Bool.{cases_Bool, cases_eq, cases_lt, cond-true, cond-false, eq-eqb, ne_eqb, MatchBool-at_true, MatchBool-at_false}
 use Rattle.std.proofs.lemmas.Bool.Decides.{nat_tests}
 use Rattle.std.proofs.lemmas.List.{get_or_past, length_push}
 use Rattle.aho_base.specs.declared.search.Anchored.{Anchored}
 use Rattle.aho_base.specs.declared.search.Anchored.TheVariants.{No, Yes}
 use Rattle.aho_base.specs.Bytes.{folded}
-use Rattle.aho_base.specs.Failure.{is_cut, state_after, failure_of}
-use Rattle.aho_base.specs.MatchList.{own_matches, matches_of}
+use Rattle.aho_base.specs.Failure.{is_cut, failure_of}
+use Rattle.aho_base.specs.MatchList.{matches_of}
 use Rattle.aho_base.specs.Patterns.{Patterns}
 use Rattle.aho_base.specs.Step.{follow, lookups, depth_of}
 use Rattle.aho_base.specs.Trie.{is_node}
-use Rattle.aho_base.proofs.ByLinks.{matches-root, failure-is_node}
+use Rattle.aho_base.proofs.ByLinks.{matches-root}
 use Rattle.aho_base.proofs.Kept.{is_cut-more, is_cut-before}
 use Rattle.aho_base.proofs.LinkedStates.{Grown, Linked, taken, failed}
 use Rattle.aho_base.specs.Laws.{longest}
 use Rattle.aho_base.proofs.WordAutomaton.{length-node}
-use Rattle.aho_base.proofs.StepLaw.{state-node, state-cut, state-shorter, follow-node}
+use Rattle.aho_base.proofs.StepLaw.{state-cut, state-shorter, follow-node}
 use Rattle.aho_corasick.specs.Tables.{Row, new_row, next_in, fail_in, depth_in, matches_in}
-use Rattle.aho_corasick.specs.Naming.{name_at, IsStateOf, IsAnchoredStateOf, IsHeldAs, longer, missing_at, IsTrie}
-use Rattle.aho_corasick.specs.Building.{root_loop, IsBuilt, IsLinked}
+use Rattle.aho_corasick.specs.Naming.{name_at, IsStateOf, IsAnchoredStateOf, IsHeldAs, longer, missing_at}
+use Rattle.aho_corasick.specs.Building.{root_loop, IsBuilt}
 use Rattle.aho_corasick.specs.Walking.{IsState, links_left, IsSound}
 
 -- DEAD, or a state with a name
@@ -326,9 +326,10 @@ module _ (p : Patterns) (names : List (Option (List ℕ))) (rows : List Row) (b 
       from_named : IsNamed names sid → IsState rows (fail_in rows sid) × (links_left rows (fail_in rows sid) < links_left rows sid)
       from_named (inl z) = absurd (omega (arith, e, ap (λ (i : ℕ). next_in rows i byte) z, b.trie.dead_loop byte small))
       from_named (inr w) =
-          let t = failed p (depth_of (name_at names sid)) (IsNamed names) (name_at names) (edge_of rows) (fail_in rows) (built_linked (depth_of (name_at names sid))) sid byte small (inr w) (omega arith) (edge-none rows sid byte e) in
-          (sized four (fail_in rows sid) t.0,
-          omega (arith, left_of_other sid (named_ne sid w.0 w.1).0, left_most (fail_in rows sid), named_depth (fail_in rows sid) t.0, named_depth sid (inr w), t.3))
+          let t = failed p (depth_of (name_at names sid)) (IsNamed names) (name_at names) (edge_of rows) (fail_in rows) (built_linked (depth_of (name_at names sid))) sid byte small (inr w) (omega arith) (edge-none rows sid byte e) in (
+            sized four (fail_in rows sid) t.0,
+            omega (arith, left_of_other sid (named_ne sid w.0 w.1).0, left_most (fail_in rows sid), named_depth (fail_in rows sid) t.0, named_depth sid (inr w), t.3),
+          )
 
   state_depth : longest (map length p.words) ≤ 2147483646 → (sid : ℕ) → IsState rows sid → depth_in rows sid ≤ 2147483646
   state_depth most sid ok =

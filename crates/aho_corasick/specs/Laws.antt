@@ -1,7 +1,7 @@
 -- The laws of the automaton that a table is.
-use Rattle.std.proofs.Common.{◌≡◌, ◌≢◌, ℕ, ◌<◌, ◌⊎◌, inl, inr, Bool, true, false, ◌||◌, List, [], ◌∷◌, ◌++◌, length, refl, sym, ◌∙◌, ap, subst, arith}
+use Rattle.std.proofs.Common.{◌≡◌, ◌≢◌, ℕ, inl, inr, Bool, true, false, ◌||◌, List, [], ◌∷◌, ◌++◌, length, refl, sym, ◌∙◌, ap, subst, arith}
 use Rattle.std.specs.Prelude.{Option, Some, None, is_none, nat_eq, nat_lt}
-use Rattle.std.proofs.lemmas.Bool.{cases_Bool, cases_eq, cond-true, lt-ltb}
+use Rattle.std.proofs.lemmas.Bool.{cases_eq, cond-true, lt-ltb}
 use Rattle.std.proofs.lemmas.Bool.Decides.{nat_tests}
 use Rattle.aho_base.specs.declared.search.Anchored.{Anchored}
 use Rattle.aho_base.specs.declared.search.Anchored.TheVariants.{No, Yes}
@@ -20,7 +20,7 @@ use Rattle.aho_corasick.specs.Automata.{IsOf, IsHeld, start_of, is_special_in, i
 use Rattle.aho_corasick.specs.Building.{IsBuilt}
 use Rattle.aho_corasick.specs.Naming.{name_at, IsStateOf, IsHeldAs}
 use Rattle.aho_corasick.specs.Tables.{Row, depth_in, matches_in}
-use Rattle.aho_corasick.specs.Walking.{IsState, IsSound}
+use Rattle.aho_corasick.specs.Walking.{IsSound}
 use Rattle.aho_corasick.specs.Built.{built-lists, anchored-built_lists, built-dead, anchored-built_dead}
 
 module _ (p : Patterns) (names : List (Option (List ℕ))) (rows : List Row) (b : IsBuilt p names rows) where

@@ -1,6 +1,6 @@
 -- What a step needs of a table, whatever it was built from: numbers alone.
 use Rattle.std.specs.Prelude.{◌≡◌, ◌≢◌, ℕ, ◌+◌, ◌<◌, ◌≤◌, List, nat_eq, if◌then◌else◌, length}
-use Rattle.aho_corasick.specs.Tables.{Row, next_in, fail_in, depth_in, matches_in}
+use Rattle.aho_corasick.specs.Tables.{Row, next_in, fail_in, depth_in}
 
 -- a state that may be held: it is there, and is not FAIL
 abbrev pub IsState : List Row → ℕ → Type 0

@@ -9,8 +9,7 @@ pub returns : goal.returns
 returns g c = record {
   of = IfOk-weaker c.of_trie.result _ _
       (λ nfa is_of.
-      let built = c.in_ok-trie.ensures.built in
-      (
+      let built = c.in_ok-trie.ensures.built in (
         built.0,
         built.1.0,
         subst (λ (s : Settings). IsOf (patterns_of s.kind s.ignore_case built.0) nfa.match_kind nfa.pattern_lens.items nfa.table.rows) c.self.view_is

@@ -1,4 +1,4 @@
-use Rattle.std.proofs.Common.{◌≡◌, ◌≤◌, ◌∙◌, length, map, sym, ap, arith}
+use Rattle.std.proofs.Common.{◌∙◌, sym, ap, arith}
 use Rattle.aho_base.specs.Laws.{longest}
 use Rattle.aho_corasick.specs.Building.{IsBuilt}
 use Rattle.aho_corasick.specs.Built.{IsSound-from_built, four_states}
@@ -16,9 +16,9 @@ invariant_of-result-clause-sound c =
 pub returns : goal.returns
 returns c = record {
   of = λ p kind_is lens_are holds. record {
-      kind_is = sym kind_is;
-      lengths_are = lens_are;
-      names = holds.0;
-      built = c.in_ok-link_states.ensures.built p holds.0 kind_is holds.1;
+    kind_is = sym kind_is;
+    lengths_are = lens_are;
+    names = holds.0;
+    built = c.in_ok-link_states.ensures.built p holds.0 kind_is holds.1;
   };
 }
