@@ -9,3 +9,4 @@ pub mod Ends
 pub mod Start
 pub mod Appended
 pub mod Stops
+pub mod Whole
