@@ -25,3 +25,4 @@ pub mod LinkedChild
 pub mod VisitedTransitions
 -- Why a build of the trie stops.
 pub mod Stops
+pub mod Whole
