@@ -8,3 +8,4 @@ pub mod Automata
 pub mod Built
 pub mod Laws
 pub mod Settings
+pub mod Sizes
