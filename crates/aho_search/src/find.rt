@@ -16,7 +16,8 @@
 //!
 //! # Where it stops
 //!
-//! - At its first match, for `Standard` and where the earliest match is wanted: whatever else there is ends later.
+//! - At its first match, for `Standard` and where the earliest match is wanted: no match ends sooner, and of those that
+//!   end there the state tells the best.
 //! - At a dead state: whatever follows, the best stays.
 //! - At the end of the span.
 //!
