@@ -14,7 +14,7 @@ use crate::noncontiguous::trie::Trie;
 use aho_base::error::{BuildError, MatchError};
 use aho_base::search::{Anchored, MatchKind, PatternID, SmallIndex, StateID, Work};
 use aho_search::automaton::Automaton;
-use std::alloc::Global;
+use std::alloc::{AllocError, Global};
 use std::marker::Model;
 
 /// A noncontiguous automaton.
@@ -36,7 +36,8 @@ pub struct NFA {
 }
 
 impl NFA {
-    ghost use Rattle.std.specs.Prelude.{List, IfOk, length, map};
+    ghost use Rattle.std.specs.Prelude.{ℕ, List, IfOk, length, map};
+    ghost use Rattle.aho_base.specs.declared.search.Anchored.{Anchored};
     ghost use Rattle.std.specs.Iterator.{Drains, IsFinite};
     ghost use Rattle.aho_base.specs.Patterns.{Patterns};
     ghost use denote.Ref.{Bor};
@@ -79,6 +80,31 @@ impl NFA {
             start_unanchored,
             start_anchored,
             pattern_lens: lens,
+        })
+    }
+
+    /// A copy of the automaton, with the same states under the same numbers.
+    ///
+    /// # Errors
+    ///
+    /// Want of memory.
+    pub fn try_clone(&self) -> Result<NFA, AllocError>
+        ensures kind { IfOk result (λ nfa. ⟦<NFA as Automaton>⟧.kind nfa ≡ ⟦<NFA as Automaton>⟧.kind self.now) }
+        ensures lengths { IfOk result (λ nfa. ⟦<NFA as Automaton>⟧.lengths nfa ≡ ⟦<NFA as Automaton>⟧.lengths self.now) }
+        ensures memory { IfOk result (λ nfa. ⟦<NFA as Automaton>⟧.memory nfa ≡ ⟦<NFA as Automaton>⟧.memory self.now) }
+        ensures lists { IfOk result (λ nfa. ⟦<NFA as Automaton>⟧.list nfa ≡ ⟦<NFA as Automaton>⟧.list self.now) }
+        ensures depths { IfOk result (λ nfa. ⟦<NFA as Automaton>⟧.depth nfa ≡ ⟦<NFA as Automaton>⟧.depth self.now) }
+        ensures of { IfOk result (λ nfa. (p : Patterns) → ⟦<NFA as Automaton>⟧.is_of self.now p → ⟦<NFA as Automaton>⟧.is_of nfa p) }
+        ensures held { IfOk result (λ nfa. (p : Patterns) (anchored : Anchored) (word : List ℕ) (sid : ℕ) → ⟦<NFA as Automaton>⟧.held self.now p anchored word sid → ⟦<NFA as Automaton>⟧.held nfa p anchored word sid) }
+    {
+        Ok(NFA {
+            match_kind: self.match_kind,
+            table: self.table.try_clone()?,
+            start_unanchored: self.start_unanchored,
+            start_anchored: self.start_anchored,
+            pattern_lens: self.pattern_lens.clone()?,
+            min_pattern_len: self.min_pattern_len,
+            max_pattern_len: self.max_pattern_len,
         })
     }
 
