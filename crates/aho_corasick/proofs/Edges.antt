@@ -1,5 +1,5 @@
 -- What a list of transitions that rises by byte answers, and what one entry more makes of it.
-use Rattle.std.proofs.Common.{◌≡◌, ℕ, ◌<◌, ◌≤◌, ◌≢◌, true, false, List, [], ◌∷◌, length, get_or, take, drop, refl, ap, ◌∙◌, inl, inr, arith, zero, suc}
+use Rattle.std.proofs.Common.{◌≡◌, ℕ, ◌<◌, ◌≤◌, ◌≢◌, false, List, [], ◌∷◌, length, get_or, take, drop, refl, ap, ◌∙◌, inl, inr, arith, zero, suc}
 use Rattle.std.proofs.lemmas.Bool.{cases_order}
 use Rattle.std.proofs.lemmas.Bool.Decides.{nat_tests}
 use Rattle.std.proofs.lemmas.List.Elements.{All-cons}
@@ -14,9 +14,6 @@ edge_at-same edge edges byte e = grind (arith, nat_tests)
 
 pub edge_at-other : (edge : ℕ × ℕ) (edges : List (ℕ × ℕ)) (byte : ℕ) → edge.0 ≢ byte → edge_at (edge ∷ edges) byte ≡ edge_at edges byte
 edge_at-other edge edges byte ne = grind (arith, nat_tests)
-
-pub lists_edge-same : (edge : ℕ × ℕ) (edges : List (ℕ × ℕ)) (byte : ℕ) → edge.0 ≡ byte → lists_edge (edge ∷ edges) byte ≡ true
-lists_edge-same edge edges byte e = grind (arith, nat_tests)
 
 pub lists_edge-other : (edge : ℕ × ℕ) (edges : List (ℕ × ℕ)) (byte : ℕ) → edge.0 ≢ byte → lists_edge (edge ∷ edges) byte ≡ lists_edge edges byte
 lists_edge-other edge edges byte ne = grind (arith, nat_tests)
@@ -38,11 +35,13 @@ above-drop (edge ∷ edges) zero byte d rising below less =
     All-cons (λ edge. byte < edge.0) edge edges less (λ k e lt. let above = rising.0 k e lt in omega arith)
 above-drop (edge ∷ edges) (suc i) byte d rising below less = above-drop edges i byte d rising.1 (omega arith) less
 
+-- the gap of a byte stands before the first entry above it
 pub gap_before : (edges : List (ℕ × ℕ)) (i byte : ℕ) (d : ℕ × ℕ) → IsRising edges → i < length edges
     → All (λ edge. edge.0 < byte) (take i edges) → byte < (get_or edges i d).0 → IsGapAt edges byte i
 gap_before edges i byte d rising below before less =
     record { within = omega arith; before = before; after = above-drop edges i byte d rising below less }
 
+-- and past the last entry where all are below it
 pub gap_last : (edges : List (ℕ × ℕ)) (i byte : ℕ) → i ≡ length edges → All (λ edge. edge.0 < byte) (take i edges) → IsGapAt edges byte i
 gap_last edges i byte at_end before =
     record { within = omega arith; before = before; after = λ k d lt. absurd (omega (arith, ap length (drop_all i edges (omega arith)))) }
@@ -58,15 +57,6 @@ edge_at-at (edge ∷ edges) (suc i) byte d rising below same =
     let above = rising.0 i d within in
     edge_at-other edge edges byte (λ e. omega arith) ∙ edge_at-at edges i byte d rising.1 within same
 
-lists_edge-at : (edges : List (ℕ × ℕ)) (i byte : ℕ) (d : ℕ × ℕ) → IsRising edges → i < length edges → (get_or edges i d).0 ≡ byte
-    → lists_edge edges byte ≡ true
-lists_edge-at [] i byte d rising below same = absurd (omega arith)
-lists_edge-at (edge ∷ edges) zero byte d rising below same = lists_edge-same edge edges byte same
-lists_edge-at (edge ∷ edges) (suc i) byte d rising below same =
-    let within : i < length edges = omega arith in
-    let above = rising.0 i d within in
-    lists_edge-other edge edges byte (λ e. omega arith) ∙ lists_edge-at edges i byte d rising.1 within same
-
 with_edge-at : (edges : List (ℕ × ℕ)) (i byte next : ℕ) (d : ℕ × ℕ) → IsRising edges → i < length edges → (get_or edges i d).0 ≡ byte
     → with_edge edges byte next ≡ set edges i (byte, next)
 with_edge-at [] i byte next d rising below same = absurd (omega arith)
@@ -81,15 +71,13 @@ pub edge_at-stands : (edges : List (ℕ × ℕ)) (byte place : ℕ) (d : ℕ × 
 edge_at-stands edges byte place d rising stands =
     edge_at-at edges place byte (0, 1) rising stands.within stands.of_byte ∙ ap (λ (p : ℕ × ℕ). p.1) (get_or_default edges place (0, 1) d stands.within)
 
-pub lists_edge-stands : (edges : List (ℕ × ℕ)) (byte place : ℕ) → IsRising edges → StandsAt edges byte place → lists_edge edges byte ≡ true
-lists_edge-stands edges byte place rising stands = lists_edge-at edges place byte (0, 1) rising stands.within stands.of_byte
-
 pub with_edge-stands : (edges : List (ℕ × ℕ)) (byte place next : ℕ) → IsRising edges → StandsAt edges byte place
     → with_edge edges byte next ≡ set edges place (byte, next)
 with_edge-stands edges byte place next rising stands = with_edge-at edges place byte next (0, 1) rising stands.within stands.of_byte
 
 -- ---- no entry of the byte stands there, and this is the place for one
 
+-- where there is a gap for the byte, no entry is of the byte
 apart-from_gap : (edges : List (ℕ × ℕ)) (byte place : ℕ) → place ≤ length edges → All (λ edge. edge.0 < byte) (take place edges)
     → All (λ edge. byte < edge.0) (drop place edges) → All (λ edge. edge.0 ≢ byte) edges
 apart-from_gap edges byte zero within before after k d lt e = let above = after k d lt in omega arith

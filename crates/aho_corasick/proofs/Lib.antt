@@ -1,3 +1,27 @@
--- what a row is after a change, and where its bytes lead
+-- The table: where a list's bytes lead, and rows after a change.
 pub mod Edges
 pub mod Rows
+-- The trie: entries, changes of a table by one call, one state more, one byte more, one pattern more.
+pub mod Entries
+pub mod Changed
+pub mod Grow
+pub mod Child
+pub mod Nodes
+pub mod Insert
+pub mod Ended
+pub mod Ends
+pub mod Start
+pub mod Appended
+pub mod Lengths
+-- Failure links: the starts made ready, one step along the links so far, a child's link, a list copied, one transition more.
+pub mod ChangedRows
+pub mod ReadyStarts
+pub mod StepsAlongLinks
+pub mod ChildFailures
+pub mod ComparedStates
+pub mod CopiedMatches
+pub mod LinksSoFar
+pub mod LinkedChild
+pub mod VisitedTransitions
+-- Why a build of the trie stops.
+pub mod Stops

@@ -19,7 +19,7 @@ use Rattle.aho_base.proofs.LinkedStates.{Grown, Linked, taken, failed}
 use Rattle.aho_base.specs.Laws.{longest}
 use Rattle.aho_base.proofs.WordAutomaton.{length-node}
 use Rattle.aho_base.proofs.StepLaw.{state-node, state-cut, state-shorter, follow-node}
-use Rattle.aho_corasick.specs.Tables.{Row, next_in, fail_in, depth_in, matches_in}
+use Rattle.aho_corasick.specs.Tables.{Row, new_row, next_in, fail_in, depth_in, matches_in}
 use Rattle.aho_corasick.specs.Naming.{name_at, IsStateOf, IsAnchoredStateOf, IsHeldAs, longer, missing_at, IsTrie}
 use Rattle.aho_corasick.specs.Building.{root_loop, IsBuilt, IsLinked}
 use Rattle.aho_corasick.specs.Walking.{IsState, links_left, IsSound}
@@ -354,3 +354,13 @@ module _ (p : Patterns) (names : List (Option (List ℕ))) (rows : List Row) (b 
     dead_depth = b.dead.depth;
     starts_depth = (b.trie.depths 2 [] b.trie.root, b.anchored.depth);
   }
+
+  -- there are the four first states
+  pub four_states : 4 ≤ length rows
+  four_states =
+      elim (cases_lt 3 (length rows)) [
+        | inl there ↦ omega arith
+        | inr past ↦
+            (let none : fail_in rows 3 ≡ 1 = ap (λ (row : Row). row.fail) (get_or_past rows 3 (new_row 0) past) in
+            absurd (omega (arith, b.anchored.fail, none)))
+      ]

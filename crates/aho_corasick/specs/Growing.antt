@@ -1,6 +1,10 @@
 -- How the trie grows: by one state, by the bytes of one pattern, by one pattern, and from the four first states.
-use Rattle.std.specs.Prelude.{◌≡◌, ◌≢◌, ℕ, ◌+◌, ◌-◌, ◌<◌, nat_eq, nat_le, ◌&&◌, if◌then◌else◌, Bool, true, false, List, [], ◌∷◌, map, length, take, Option, Some, None, MatchBool}
+use Rattle.std.specs.Prelude.{◌≡◌, ◌≢◌, ℕ, ◌+◌, ◌-◌, ◌<◌, ◌≤◌, ◌⊎◌, nat_eq, nat_le, ◌&&◌, if◌then◌else◌, Bool, true, false, List, [], ◌∷◌, map, length, take, Option, Some, None, MatchBool}
+use Rattle.std.specs.Iterator.{Yields}
+use Rattle.std.specs.List.{All}
 use denote.Ref.{Bor}
+use Rattle.aho_base.specs.declared.error.BuildError.{BuildError}
+use Rattle.aho_base.specs.declared.error.BuildError.TheVariants.{StateIDOverflow, PatternIDOverflow, PatternTooLong, OutOfMemory}
 use Rattle.aho_base.specs.declared.search.MatchKind.{MatchKind}
 use Rattle.aho_base.specs.declared.search.MatchKind.TheVariants.{Standard, LeftmostFirst, LeftmostLongest}
 use Rattle.aho_base.specs.Among.{own_among}
@@ -109,3 +113,25 @@ AddsPattern kind ignore_case word number old new =
 -- the table is the trie of these patterns
 abbrev pub HoldsTrie : Patterns → List Row → Type 0
 HoldsTrie p rows = (names : List (Option (List ℕ))) × IsTrieOf p (length p.words) names rows
+
+-- a table of this limit refused to grow, or memory was wanted
+abbrev pub IsGrowthRefusal : ℕ → BuildError → Type 0
+IsGrowthRefusal limit error = (error ≡ StateIDOverflow limit (limit + 1)) ⊎ (error ≡ OutOfMemory)
+
+-- the items that an iterator gives first
+abbrev pub HasYielded : {S A : Type 0} → (S → Option A → S → Type 0) → S → List A → Type 0
+HasYielded {S} gives state items = (later : S) × Yields gives state items later
+
+-- each pattern's number and length is within its limit
+pub record AreWithin (pattern_limit length_limit : ℕ) (p : Patterns) : Type 0 where
+  pub numbers_within : length p.words ≤ pattern_limit + 1
+  pub lengths_within : All (λ word. length word ≤ length_limit) p.words
+
+-- why a build stopped that took these patterns: those before the last are within their limits, and the last has too great a
+-- number, or it is too long, or a table would pass its limit, or memory was wanted
+abbrev pub StopsAt : ℕ → ℕ → ℕ → Patterns → BuildError → Type 0
+StopsAt pattern_limit length_limit index_limit p (PatternIDOverflow max requested) = (max ≡ pattern_limit) × (requested ≡ pattern_limit + 1) × (length p.words ≡ requested + 1)
+StopsAt pattern_limit length_limit index_limit p (PatternTooLong pattern len max) =
+    (max ≡ length_limit) × (length p.words ≡ pattern + 1) × (len ≡ length (pattern_at p pattern)) × (max < len)
+StopsAt pattern_limit length_limit index_limit p (StateIDOverflow max requested) = (max ≡ index_limit) × (requested ≡ index_limit + 1)
+StopsAt pattern_limit length_limit index_limit p OutOfMemory = Unit {0}

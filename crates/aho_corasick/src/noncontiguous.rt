@@ -5,9 +5,12 @@ ghost use Rattle.std.specs.Prelude.{◌≡◌, ◌≤◌, ℕ, length};
 ghost use Rattle.aho_base.specs.Laws.{shortest, longest};
 ghost use Rattle.aho_corasick.specs.Walking.{IsSound};
 
+mod failure;
+mod trie;
 mod walk;
 
 use crate::links::{DEAD, Table};
+use crate::noncontiguous::trie::Trie;
 use aho_base::error::{BuildError, MatchError};
 use aho_base::search::{Anchored, MatchKind, PatternID, SmallIndex, StateID, Work};
 use aho_search::automaton::Automaton;
@@ -33,12 +36,13 @@ pub struct NFA {
 }
 
 impl NFA {
-    ghost use Rattle.std.specs.Prelude.{List, IfOk, length};
+    ghost use Rattle.std.specs.Prelude.{List, IfOk, length, map};
     ghost use Rattle.std.specs.Iterator.{Drains, IsFinite};
+    ghost use Rattle.aho_base.specs.Patterns.{Patterns};
     ghost use denote.Ref.{Bor};
     ghost use Rattle.aho_base.specs.declared.search.MatchKind.TheVariants.{Standard};
     ghost use Rattle.std.specs.Prelude.{false};
-    ghost use Rattle.aho_corasick.specs.Growing.{patterns_of};
+    ghost use Rattle.aho_corasick.specs.Growing.{patterns_of, HoldsTrie};
     ghost use Rattle.aho_corasick.specs.Settings.{default_settings};
 
     /// The automaton of these patterns, as a new `Builder` builds it.
@@ -55,6 +59,27 @@ impl NFA {
         ensures of { IfOk result (λ nfa. (items : List (Bor (List ℕ))) × Drains I.next_gives patterns items × ⟦<NFA as Automaton>⟧.is_of nfa (patterns_of Standard false items)) }
     {
         Builder::new().build(alloc, patterns)
+    }
+
+    /// The automaton of a trie: its states are linked, and its lists are copied along the links.
+    fn of_trie(alloc: Global, kind: MatchKind, trie: Trie) -> Result<NFA, BuildError>
+        requires holds { (p : Patterns) × ((p.kind ≡ kind) × ((trie.lens.items ≡ map length p.words) × HoldsTrie p trie.table.rows)) }
+        requires counted { length trie.lens.items ≤ 2147483647 }
+        ensures of { IfOk result (λ nfa. (p : Patterns) → p.kind ≡ kind → trie.lens.items ≡ map length p.words → HoldsTrie p trie.table.rows → ⟦<NFA as Automaton>⟧.is_of nfa p) }
+    {
+        let Trie { mut table, lens } = trie;
+        failure::link_states(alloc, &mut table, kind)?;
+        let _states = table.len();
+        let (start_unanchored, start_anchored) = start_states();
+        Ok(NFA {
+            match_kind: kind,
+            min_pattern_len: shortest_len(&lens),
+            max_pattern_len: longest_len(&lens),
+            table,
+            start_unanchored,
+            start_anchored,
+            pattern_lens: lens,
+        })
     }
 
     /// The settings to build with.
@@ -184,6 +209,39 @@ impl Automaton for NFA {
     ghost dead_shallow = { λ n sid valid. dead_shallow_of n.table.rows sid n.sound };
 }
 
+/// The numbers of the unanchored and of the anchored start.
+fn start_states() -> (StateID, StateID)
+    ensures numbers { result ≡ (2, 3) }
+{
+    let (Ok(unanchored), Ok(anchored)) = (StateID::new(2), StateID::new(3)) else {
+        unreachable!()
+    };
+    (unanchored, anchored)
+}
+
+/// The least of the lengths, in bytes; the greatest `usize` where there is none.
+fn shortest_len(lens: &[SmallIndex]) -> usize
+    ensures shortest { result ≡ shortest lens.now }
+{
+    let mut least = usize::MAX;
+    for len in lens {
+        least = least.min(len.as_usize());
+    }
+    least
+}
+
+/// The greatest of the lengths, in bytes; 0 where there is none.
+fn longest_len(lens: &[SmallIndex]) -> usize
+    ensures longest { result ≡ longest lens.now }
+    ensures bound { result ≤ SmallIndex.MAX }
+{
+    let mut most = 0;
+    for len in lens {
+        most = most.max(len.as_usize());
+    }
+    most
+}
+
 /// The greatest numbers that a build may use. A limit above its type's `MAX` counts as `MAX`.
 #[derive(Clone, Copy, Debug, PartialEq, Eq)]
 pub struct Limits {
@@ -260,9 +318,14 @@ impl Builder {
         requires ends { IsFinite (I.remaining patterns) }
         ensures of { IfOk result (λ nfa. (items : List (Bor (List ℕ))) × Drains I.next_gives patterns items × ⟦<NFA as Automaton>⟧.is_of nfa (patterns_of self.now.kind self.now.ignore_case items)) }
     {
-        let _ = patterns;
-        let _ = alloc;
-        Err(BuildError::OutOfMemory)
+        let trie = trie::build_trie(
+            alloc,
+            self.match_kind,
+            self.ascii_case_insensitive,
+            self.limits,
+            patterns,
+        )?;
+        NFA::of_trie(alloc, self.match_kind, trie)
     }
 
     /// Which of several matches is found.

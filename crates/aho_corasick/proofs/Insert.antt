@@ -1,0 +1,138 @@
+-- A pattern's bytes are added one by one.
+use Rattle.std.proofs.Common.{◌≡◌, ℕ, ◌+◌, ◌<◌, ◌≤◌, Bool, true, false, ◌||◌, nat_eq, List, [], ◌∷◌, ◌++◌, length, get_or, take, Option, Some, None, MatchBool, bytes_eq, eq-eqb, refl, sym, ap, subst, ◌∙◌, inl, inr, arith}
+use Rattle.std.proofs.lemmas.Bool.{cases_Bool, eqb-true, or_parts, MatchBool-at_true, MatchBool-at_false}
+use Rattle.std.proofs.lemmas.List.{take_more, map-append, length-map, length-take-le}
+use Rattle.aho_base.specs.Among.{is_node_among, own_among}
+use Rattle.aho_base.specs.Bytes.{folded, folded_word}
+use Rattle.aho_base.specs.Patterns.{Patterns}
+use Rattle.aho_base.specs.Trie.{begins}
+use Rattle.aho_corasick.specs.Growing.{Grows, HasChild}
+use Rattle.aho_corasick.specs.Tables.{Row, next_in}
+use Rattle.aho_corasick.specs.Naming.{name_at, longer, missing_at, AreFirst, IsTrie, Lists, IsTrieWith, IsTrieOf}
+use Rattle.aho_corasick.proofs.Changed.{name_at-push_new}
+use Rattle.aho_corasick.proofs.Grow.{also, also-same, also-other, word_cases, AreFirst-four, AreFirst-grows, IsTrie-grows, Lists-grows, folded_word-longer}
+use Rattle.aho_corasick.proofs.Nodes.{begins-more, is_node_among-start, own_among-absent}
+
+-- only the words matter that the case rule leaves as they are
+pub IsTrie-same : (p : Patterns) (f g : List ℕ → Bool) (at_root : ℕ) (names : List (Option (List ℕ))) (table : List Row)
+    → ((word : List ℕ) → folded_word p word ≡ word → f word ≡ g word) → IsTrie p f at_root names table → IsTrie p g at_root names table
+IsTrie-same p f g at_root names table same trie = record {
+  sized = trie.sized;
+  dead = trie.dead;
+  fail = trie.fail;
+  anchored = trie.anchored;
+  complete = trie.complete;
+  dead_loop = trie.dead_loop;
+  root = trie.root;
+  unique = trie.unique;
+  words = λ i word e. (sym (same word (trie.words i word e).1) ∙ (trie.words i word e).0, (trie.words i word e).1);
+  closed = λ word byte plain h. sym (same word plain) ∙ trie.closed word byte plain (same (longer p word byte) (folded_word-longer p word byte plain) ∙ h);
+  depths = trie.depths;
+  edges = λ i word byte e small.
+      subst (λ (b : Bool). MatchBool b (name_at names (next_in table i byte) ≡ Some (longer p word byte)) (next_in table i byte ≡ missing_at at_root word))
+      (same (longer p word byte) (folded_word-longer p word byte (trie.words i word e).1)) (trie.edges i word byte e small);
+  reached = trie.reached;
+}
+
+missing-nonempty : (at_root : ℕ) (word : List ℕ) → missing_at 1 word ≡ 1
+missing-nonempty at_root [] = refl
+missing-nonempty at_root (byte ∷ word) = refl
+
+module _ (p : Patterns) (number : ℕ) where
+  abbrev pub words_with : List ℕ → List ℕ → Bool
+  words_with more word = is_node_among p number word || begins word more
+
+  or_assoc : (a b c : Bool) → ((a || b) || c) ≡ (a || (b || c))
+  or_assoc true b c = refl
+  or_assoc false b c = refl
+
+  words_with-more : (more word : List ℕ) (byte : ℕ) → also (words_with more) (longer p more byte) word ≡ words_with (longer p more byte) word
+  words_with-more more word byte =
+      or_assoc (is_node_among p number word) (begins word more) (bytes_eq word (longer p more byte))
+      ∙ ap (λ (b : Bool). is_node_among p number word || b) (sym (begins-more more word (folded p byte)))
+
+  absorbed : (more word : List ℕ) (byte : ℕ) → words_with more (longer p more byte) ≡ true → words_with more word ≡ also (words_with more) (longer p more byte) word
+  absorbed more word byte there =
+      elim (word_cases word (longer p more byte)) [
+        | inl same ↦ ap (words_with more) same ∙ there ∙ sym (also-same (words_with more) (longer p more byte) word same)
+        | inr other ↦ sym (also-other (words_with more) (longer p more byte) word other)
+      ]
+
+  -- one byte more
+  pub IsTrieWith-child : (more : List ℕ) (names : List (Option (List ℕ))) (old new : List Row) (state byte sid : ℕ) → byte < 256
+      → IsTrieWith p number more names old → name_at names state ≡ Some more
+      → HasChild p.ignore_case state byte (length more + 1) old new sid
+      → (names' : List (Option (List ℕ))) × IsTrieWith p number (longer p more byte) names' new × (name_at names' sid ≡ Some (longer p more byte))
+  IsTrieWith-child more names old new state byte sid small with_more at child =
+      let trie = with_more.trie in
+      let four : 4 ≤ length old = AreFirst-four names old with_more.first in
+      let edge = trie.edges state more byte at small in
+      elim (cases_Bool (words_with more (longer p more byte))) [
+        | inl there ↦
+            (let leads : name_at names (next_in old state byte) ≡ Some (longer p more byte) =
+            MatchBool-at_true (name_at names (next_in old state byte) ≡ Some (longer p more byte)) (next_in old state byte ≡ missing_at 1 more) there edge in
+            let not_fail : nat_eq (next_in old state byte) 1 ≡ false =
+            elim (cases_Bool (nat_eq (next_in old state byte) 1)) [
+              | inl is_one ↦ (let clash : Some (longer p more byte) ≡ None = sym leads ∙ ap (name_at names) (eqb-true (next_in old state byte) 1 is_one) ∙ trie.fail in cc)
+              | inr not_one ↦ not_one
+            ] in
+            let was : (sid ≡ next_in old state byte) × (new ≡ old) =
+            MatchBool-at_false ((sid ≡ length old) × Grows p.ignore_case state byte (length more + 1) old new) ((sid ≡ next_in old state byte) × (new ≡ old)) not_fail child in
+            let same : (word : List ℕ) → folded_word p word ≡ word → words_with more word ≡ words_with (longer p more byte) word =
+            λ word plain. absorbed more word byte there ∙ words_with-more more word byte in (
+              names,
+              record {
+                trie = subst (λ (t : List Row). IsTrie p (words_with (longer p more byte)) 1 names t) (sym was.1)
+                    (IsTrie-same p (words_with more) (words_with (longer p more byte)) 1 names old same trie);
+                lists = subst (λ (t : List Row). Lists names (own_among p number) t) (sym was.1) with_more.lists;
+                first = subst (AreFirst names) (sym was.1) with_more.first;
+              },
+              ap (name_at names) was.0 ∙ leads,
+            ))
+        | inr absent ↦
+            (let is_one : next_in old state byte ≡ 1 =
+            MatchBool-at_false (name_at names (next_in old state byte) ≡ Some (longer p more byte)) (next_in old state byte ≡ missing_at 1 more) absent edge ∙ missing-nonempty 1 more in
+            let was : (sid ≡ length old) × Grows p.ignore_case state byte (length more + 1) old new =
+            MatchBool-at_true ((sid ≡ length old) × Grows p.ignore_case state byte (length more + 1) old new) ((sid ≡ next_in old state byte) × (new ≡ old)) (eq-eqb (next_in old state byte) 1 is_one) child in
+            let none = own_among-absent p number (longer p more byte)
+            (or_parts (is_node_among p number (longer p more byte)) (begins (longer p more byte) more) absent).0 in (
+              names ++ Some (longer p more byte) ∷ [],
+              record {
+                trie = IsTrie-same p (also (words_with more) (longer p more byte)) (words_with (longer p more byte)) 1 (names ++ Some (longer p more byte) ∷ []) new
+                    (λ word plain. words_with-more more word byte)
+                    (IsTrie-grows p (words_with more) 1 names old new state byte more trie at absent was.1 small four);
+                lists = Lists-grows p (words_with more) 1 names old new state byte more trie at absent was.1 small four (own_among p number) with_more.lists none;
+                first = AreFirst-grows p (words_with more) 1 names old new state byte more trie at absent was.1 small four with_more.first;
+              },
+              ap (name_at (names ++ Some (longer p more byte) ∷ [])) (was.0 ∙ sym trie.sized) ∙ name_at-push_new names (Some (longer p more byte)),
+            ))
+      ]
+
+  -- a pattern begins with none of its bytes
+  pub IsTrieWith-start : (names : List (Option (List ℕ))) (table : List Row) → IsTrieOf p number names table → IsTrieWith p number [] names table
+  IsTrieWith-start names table of = record {
+    trie = IsTrie-same p (is_node_among p number) (words_with []) 1 names table
+        (λ word plain. sym (is_node_among-start p number word)) of.trie;
+    lists = of.lists;
+    first = of.first;
+  }
+
+-- the first bytes of a word, one more of them
+pub folded_word-take-more : (p : Patterns) (word : List ℕ) (i : ℕ) → i < length word
+    → folded_word p (take (i + 1) word) ≡ longer p (folded_word p (take i word)) (get_or word i 0)
+folded_word-take-more p word i below =
+    ap (folded_word p) (take_more word i 0 below) ∙ map-append (folded p) (take i word) (get_or word i 0 ∷ [])
+
+-- one byte more of a pattern
+pub IsTrieWith-byte : (p : Patterns) (number : ℕ) (word : List ℕ) (i : ℕ) (names : List (Option (List ℕ))) (old new : List Row) (state depth sid : ℕ)
+    → i < length word → get_or word i 0 < 256 → depth ≡ i
+    → IsTrieWith p number (folded_word p (take i word)) names old → name_at names state ≡ Some (folded_word p (take i word))
+    → HasChild p.ignore_case state (get_or word i 0) (depth + 1) old new sid
+    → (names' : List (Option (List ℕ))) × IsTrieWith p number (folded_word p (take (i + 1) word)) names' new × (name_at names' sid ≡ Some (folded_word p (take (i + 1) word)))
+IsTrieWith-byte p number word i names old new state depth sid below small counted with_more at child =
+    let more : List ℕ = folded_word p (take i word) in
+    let long : depth + 1 ≡ length more + 1 = ap (λ (n : ℕ). n + 1) (counted ∙ sym (length-take-le i word (omega arith)) ∙ sym (length-map (take i word) (folded p))) in
+    let here : HasChild p.ignore_case state (get_or word i 0) (length more + 1) old new sid = subst (λ (n : ℕ). HasChild p.ignore_case state (get_or word i 0) n old new sid) long child in
+    subst (λ (w : List ℕ). (names' : List (Option (List ℕ))) × IsTrieWith p number w names' new × (name_at names' sid ≡ Some w))
+    (sym (folded_word-take-more p word i below))
+    (IsTrieWith-child p number more names old new state (get_or word i 0) sid small with_more at here)

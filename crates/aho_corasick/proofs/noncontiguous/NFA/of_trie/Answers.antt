@@ -1,0 +1,24 @@
+use Rattle.std.proofs.Common.{◌≡◌, ◌≤◌, ◌∙◌, length, map, sym, ap, arith}
+use Rattle.aho_base.specs.Laws.{longest}
+use Rattle.aho_corasick.specs.Building.{IsBuilt}
+use Rattle.aho_corasick.specs.Built.{IsSound-from_built, four_states}
+use Rattle.aho_corasick.proofs.noncontiguous.NFA.of_trie.Goals as goal
+
+pub invariant_of-result-clause-sound : goal.invariant_of-result-clause-sound
+invariant_of-result-clause-sound c =
+    let h = c.requires.holds in
+    let trie = h.1.1.1 in
+    let built : IsBuilt h.0 trie.0 c.link_states.new.table.rows = c.in_ok-link_states.ensures.built h.0 trie.0 h.1.0 trie.1 in
+    IsSound-from_built h.0 trie.0 c.link_states.new.table.rows built (four_states h.0 trie.0 c.link_states.new.table.rows built)
+    (omega (arith, c.len-states.ensures.len, c.len-states.ensures.bound))
+    (omega (arith, c.longest_len.ensures.longest, c.longest_len.ensures.bound, ap longest (sym h.1.1.0 ∙ sym c.deref-2.ensures.value)))
+
+pub returns : goal.returns
+returns c = record {
+  of = λ p kind_is lens_are holds. record {
+      kind_is = sym kind_is;
+      lengths_are = lens_are;
+      names = holds.0;
+      built = c.in_ok-link_states.ensures.built p holds.0 kind_is holds.1;
+  };
+}

@@ -1,0 +1,42 @@
+use Rattle.std.proofs.Common.{◌≡◌, ◌≢◌, ◌<◌, ◌≤◌, ◌+◌, ◌∙◌, ap, sym, subst, arith, length, cond, Bool, ℕ, List}
+use Rattle.aho_corasick.specs.Building.{IsLedBelow, looped, stops_at}
+use Rattle.aho_corasick.specs.Tables.{Tables, Row, next_in, matches_in, set_edge}
+use Rattle.aho_corasick.proofs.ComparedStates.{same-true, same-false}
+use Rattle.aho_corasick.proofs.ReadyStarts.{IsLedBelow-none, IsLedBelow-set, IsLedBelow-kept, looped-free, looped-taken}
+use Rattle.aho_corasick.proofs.noncontiguous.failure.add_unanchored_start_state_loop.Goals as goal
+use Rattle.aho_corasick.proofs.noncontiguous.failure.add_unanchored_start_state_loop.Goals.{then-ends_here, else-ends_here, then-eq+in_ok-set, else-eq}
+
+pub loop-byte-init : goal.loop-byte-init
+loop-byte-init c = IsLedBelow-none 2 (looped c.args.kind c.args.table.now.rows) c.args.table.now.rows
+
+pub loop-byte-preserved : goal.loop-byte-preserved
+loop-byte-preserved c =
+    let old = c.args.table.now.rows in
+    let led = c.loop-byte.invariant in
+    let below : 2 < length c.loop-byte.table.rows = omega (arith, c.loop-byte.invariant.sized, c.requires.start) in
+    let root_is = c.unanchored_start-root.ensures.start in
+    let test : c.ends_here.result ≡ stops_at c.args.kind (matches_in old 2) = c.ends_here.ensures.ends ∙ ap (λ (n : ℕ). stops_at c.args.kind (matches_in old n)) root_is in
+    let back_is : c.if-ends_here.back ≡ cond (stops_at c.args.kind (matches_in old 2)) 0 2 =
+    elim c.if-ends_here.branch [
+      | then-ends_here w ↦ w.back-is ∙ ap (λ (b : Bool). cond b 0 2) (sym w.if-ends_here.true ∙ test)
+      | else-ends_here w ↦ w.back-is ∙ root_is ∙ ap (λ (b : Bool). cond b 0 2) (sym w.if-ends_here.false ∙ test)
+    ] in
+    let read : c.next_of.result ≡ next_in old 2 c.loop-byte.byte =
+    c.next_of.ensures.next ∙ ap (λ (n : ℕ). next_in c.loop-byte.table.rows n c.loop-byte.byte) root_is ∙ led.later c.loop-byte.byte (omega arith) in
+    elim c.if-eq.branch [
+      | then-eq+in_ok-set w ↦
+          IsLedBelow-set 2 c.loop-byte.byte c.if-ends_here.back (looped c.args.kind old) old c.loop-byte.table.rows c.if-eq.table.rows below led
+          (looped-free c.args.kind old c.loop-byte.byte c.if-ends_here.back (sym read ∙ same-true c.eq.result c.next_of.result 1 c.eq.ensures w.if-eq.true) back_is)
+          (ap (λ (t : Tables). t.rows) (w.table-is ∙ w.in_ok-set.ensures.set) ∙ ap (λ (n : ℕ). set_edge c.loop-byte.table.rows n c.loop-byte.byte c.if-ends_here.back) root_is)
+      | else-eq w ↦
+          subst (λ (t : Tables). IsLedBelow 2 (c.loop-byte.byte + 1) (looped c.args.kind old) old t.rows) (sym w.table-is)
+          (IsLedBelow-kept 2 c.loop-byte.byte (looped c.args.kind old) old c.loop-byte.table.rows led
+          (looped-taken c.args.kind old c.loop-byte.byte (λ e. same-false c.eq.result c.next_of.result 1 c.eq.ensures w.if-eq.false (read ∙ e))))
+    ]
+
+pub returns : goal.returns
+returns c =
+    let all : c.loop-byte.byte ≡ 256 = omega arith in
+    record {
+      looped = subst (λ (n : ℕ). IsLedBelow 2 n (looped c.args.kind c.args.table.now.rows) c.args.table.now.rows c.loop-byte.table.rows) all c.loop-byte.invariant;
+    }

@@ -1,0 +1,63 @@
+use Rattle.std.proofs.Common.{◌≡◌, ◌≤◌, ◌<◌, ◌++◌, ◌∷◌, [], ◌∙◌, sym, subst, ap, arith, length, get_or, ℕ, List}
+use Rattle.std.proofs.lemmas.List.{get_or_default}
+use Rattle.aho_corasick.specs.Tables.{Tables, row_at, set_fail_of}
+use Rattle.aho_corasick.specs.Building.{IsLinking}
+use Rattle.aho_corasick.proofs.LinksSoFar.{IsLinking-next}
+use Rattle.aho_corasick.proofs.LinkedChild.{IsLinking-start, IsLinking-end}
+use Rattle.aho_corasick.proofs.VisitedTransitions.{head_below}
+use Rattle.aho_corasick.proofs.noncontiguous.failure.fill_failure_transitions.Goals as goal
+
+pub states-init : goal.states-init
+states-init c =
+    let root_is = c.unanchored_start-root.ensures.start in
+    let rows_is = ap (λ (t : Tables). t.rows) c.set_fail.ensures.set ∙ ap (λ (n : ℕ). set_fail_of c.args.table.now.rows n 0) root_is in
+    let queue_is : c.join.new.queue.items ≡ 2 ∷ [] =
+    c.in_ok-join.ensures.joined ∙ ap (λ (l : List ℕ). l ++ c.unanchored_start-root.result ∷ []) c.new-queue.ensures.items ∙ ap (λ (n : ℕ). n ∷ []) root_is in
+    record {
+      within = omega arith;
+      linking = λ p names same ready.
+          subst (λ (q : List ℕ). IsLinking p names q 0 0 c.set_fail.new.self.rows) (sym queue_is)
+          (IsLinking-start p names c.args.table.now.rows c.set_fail.new.self.rows ready rows_is);
+    }
+
+pub transitions_len-index-end-requires : goal.transitions_len-index-end-requires
+transitions_len-index-end-requires c =
+    let ready = c.requires.ready in
+    let queue = c.states.queue.items in
+    let inside : c.states.head < length queue = omega (arith, c.states.queue.ok.0) in
+    let so_far = c.states.invariant.linking ready.0 ready.1.0 ready.1.1 ready.1.2 in
+    record {
+      added = subst (λ (n : ℕ). n < length c.states.table.rows) (sym (c.index.ensures ∙ get_or_default queue c.states.head c.index.result.now 0 inside))
+          (head_below ready.0 ready.1.0 queue c.states.head 0 c.states.table.rows so_far inside);
+    }
+
+pub transitions-preserved : goal.transitions-preserved
+transitions-preserved c = record {
+  counted = c.in_ok-visit.ensures.counted ∙ c.transitions.invariant.counted;
+  longer = omega (arith, c.in_ok-visit.ensures.longer, c.transitions.invariant.longer);
+  head = c.in_ok-visit.ensures.head ∙ c.transitions.invariant.head;
+  edges = λ i. c.in_ok-visit.ensures.edges i ∙ c.transitions.invariant.edges i;
+  linking = λ p names same ready. c.in_ok-visit.ensures.linking p names same (c.transitions.invariant.linking p names same ready);
+}
+
+pub states-preserved : goal.states-preserved
+states-preserved c =
+    let inside : c.states.head < length c.transitions.queue.items = omega (arith, c.transitions.invariant.longer, c.transitions.queue.ok.0) in
+    let before : c.states.head < length c.states.queue.items = omega (arith, c.states.queue.ok.0) in
+    let head_is = c.transitions.invariant.head ∙ sym (c.index.ensures ∙ get_or_default c.states.queue.items c.states.head c.index.result.now 0 before) in
+    let count : length (row_at c.transitions.table.rows (get_or c.transitions.queue.items c.states.head 0)).edges ≡ c.transitions_len-index-end.result =
+    ap (λ (n : ℕ). length (row_at c.transitions.table.rows n).edges) head_is
+    ∙ ap length (c.transitions.invariant.edges c.index.result.now)
+    ∙ sym c.transitions_len-index-end.ensures.len in
+    record {
+      within = omega (arith, c.transitions.invariant.longer);
+      linking = λ p names same ready.
+          IsLinking-next p names c.transitions.queue.items c.states.head c.transitions.index c.transitions.table.rows (c.transitions.invariant.linking p names same ready) inside (omega arith);
+    }
+
+pub returns : goal.returns
+returns c =
+    let past : length c.states.queue.items ≤ c.states.head = omega (arith, c.states.queue.ok.0) in
+    record {
+      built = λ p names same ready. IsLinking-end p names c.states.queue.items c.states.head 0 c.states.table.rows past (c.states.invariant.linking p names same ready);
+    }
