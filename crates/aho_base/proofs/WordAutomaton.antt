@@ -183,8 +183,8 @@ module _ (p : Patterns) where
       subst (λ (n : ℕ). BestIn p Yes (folded_word p (w ++ x ∷ [])) (better p.kind r (told lengths Yes 0 n (matches_of p (held_after p Yes (w ++ x ∷ [])))))) (length-folded p (w ++ x ∷ []) ∙ length_push w x)
       (anchored_further (folded_word p w) (folded_word p (w ++ x ∷ [])) (folded p x) r (map_push (folded p) w x) best)
 
-  -- a leftmost kind that is not dead is near a match's start: the state's word is no longer than the longest pattern
-  -- a node is no longer than the longest pattern
+  -- a leftmost kind that is not dead is near a match's start: the state's word is a node, so no longer than the longest
+  -- pattern
   pub length-node : (u : List ℕ) → is_node p u ≡ true → length u ≤ longest lengths
   length-node [] node = omega arith
   length-node (x ∷ u) node =

@@ -20,3 +20,4 @@ pub mod Among
 pub mod Laws
 pub mod WordStatements
 pub mod Statements
+pub mod Texts

@@ -1,9 +1,11 @@
 //! Why a build or a search is refused.
 
 ghost use Rattle.std.specs.Prelude.{◌≡◌};
+ghost use Rattle.aho_base.specs.Texts.{kind_name};
 ghost use Rattle.aho_base.specs.declared.error.MatchErrorKind.TheVariants.{InvalidInputAnchored, InvalidInputUnanchored, UnsupportedStream, UnsupportedOverlapping, UnsupportedEmpty};
 
 use crate::search::{MatchKind, PatternID};
+use std::fmt;
 use std::marker::Model;
 
 /// Why an automaton was not built.
@@ -34,6 +36,33 @@ pub enum BuildError {
     },
     /// A growth was refused for want of memory.
     OutOfMemory,
+}
+
+/// Writes what was refused, with no line end: numbers in decimal, a pattern as its number, lengths in bytes.
+impl fmt::Display for BuildError {
+    ghost use Rattle.std.specs.Prelude.{Some};
+    ghost use Rattle.aho_base.specs.Texts.{build_error_text};
+
+    ghost output = { λ error. Some (build_error_text error) };
+
+    fn fmt<W: fmt::Write>(&self, f: &mut fmt::Formatter<W>) -> fmt::Result {
+        match self {
+            BuildError::StateIDOverflow { max, requested } => write!(
+                f,
+                "state identifier overflow: failed to create state ID from {requested}, which exceeds the max of {max}",
+            ),
+            BuildError::PatternIDOverflow { max, requested } => write!(
+                f,
+                "pattern identifier overflow: failed to create pattern ID from {requested}, which exceeds the max of {max}",
+            ),
+            BuildError::PatternTooLong { pattern, len, max } => write!(
+                f,
+                "pattern {} with length {len} exceeds the maximum pattern length of {max}",
+                pattern.as_usize(),
+            ),
+            BuildError::OutOfMemory => f.write_str("out of memory"),
+        }
+    }
 }
 
 /// The reasons for which a search is refused.
@@ -123,5 +152,130 @@ impl MatchError {
         ensures kind { result ≡ UnsupportedEmpty }
     {
         MatchError::new(MatchErrorKind::UnsupportedEmpty)
+    }
+}
+
+/// The name of a match kind.
+fn name_of(kind: MatchKind) -> &'static str
+    ensures name { result.now ≡ kind_name kind }
+{
+    match kind {
+        MatchKind::Standard => "Standard",
+        MatchKind::LeftmostFirst => "LeftmostFirst",
+        MatchKind::LeftmostLongest => "LeftmostLongest",
+    }
+}
+
+/// Writes what was asked for, with no line end: a match kind as its name.
+impl fmt::Display for MatchError {
+    ghost use Rattle.std.specs.Prelude.{Some};
+    ghost use Rattle.aho_base.specs.Texts.{match_error_text};
+
+    ghost output = { λ error. Some (match_error_text error) };
+
+    fn fmt<W: fmt::Write>(&self, f: &mut fmt::Formatter<W>) -> fmt::Result {
+        match self.kind {
+            MatchErrorKind::InvalidInputAnchored => {
+                f.write_str("anchored searches are not supported or enabled")
+            }
+            MatchErrorKind::InvalidInputUnanchored => {
+                f.write_str("unanchored searches are not supported or enabled")
+            }
+            MatchErrorKind::UnsupportedStream { got } => write!(
+                f,
+                "match kind {} does not support stream searching",
+                name_of(got),
+            ),
+            MatchErrorKind::UnsupportedOverlapping { got } => write!(
+                f,
+                "match kind {} does not support overlapping searches",
+                name_of(got),
+            ),
+            MatchErrorKind::UnsupportedEmpty => f.write_str(
+                "matching with an empty pattern string is not supported for this operation",
+            ),
+        }
+    }
+}
+
+#[cfg(test)]
+mod tests {
+    use super::*;
+    use std::test::Fail;
+
+    #[test]
+    fn build_errors_are_told(rt: HostRuntime) -> Result<(), Fail> {
+        let alloc = rt.alloc();
+        let cases = [
+            (
+                BuildError::StateIDOverflow {
+                    max: 2147483646,
+                    requested: 2147483647,
+                },
+                "state identifier overflow: failed to create state ID from 2147483647, which exceeds the max of 2147483646",
+            ),
+            (
+                BuildError::PatternIDOverflow {
+                    max: 2147483646,
+                    requested: 18446744073709551615,
+                },
+                "pattern identifier overflow: failed to create pattern ID from 18446744073709551615, which exceeds the max of 2147483646",
+            ),
+            (
+                BuildError::PatternTooLong {
+                    pattern: PatternID::new(10)?,
+                    len: 2147483650,
+                    max: 2147483646,
+                },
+                "pattern 10 with length 2147483650 exceeds the maximum pattern length of 2147483646",
+            ),
+            (BuildError::OutOfMemory, "out of memory"),
+        ];
+        for (error, want) in &cases {
+            let text = format!(in alloc; "{}", error)?;
+            assert_eq!(rt; text.as_str(), *want);
+        }
+        Ok(())
+    }
+
+    #[test]
+    fn match_errors_are_told(rt: HostRuntime) -> Result<(), Fail> {
+        let alloc = rt.alloc();
+        let cases = [
+            (
+                MatchError::invalid_input_anchored(),
+                "anchored searches are not supported or enabled",
+            ),
+            (
+                MatchError::invalid_input_unanchored(),
+                "unanchored searches are not supported or enabled",
+            ),
+            (
+                MatchError::unsupported_stream(MatchKind::LeftmostFirst),
+                "match kind LeftmostFirst does not support stream searching",
+            ),
+            (
+                MatchError::unsupported_overlapping(MatchKind::LeftmostLongest),
+                "match kind LeftmostLongest does not support overlapping searches",
+            ),
+            (
+                MatchError::unsupported_overlapping(MatchKind::Standard),
+                "match kind Standard does not support overlapping searches",
+            ),
+            (
+                MatchError::unsupported_empty(),
+                "matching with an empty pattern string is not supported for this operation",
+            ),
+        ];
+        for (error, want) in cases {
+            let text = format!(in alloc; "{}", error)?;
+            assert_eq!(rt; text.as_str(), want);
+        }
+        Ok(())
+    }
+
+    #[test]
+    fn the_default_kind_is_standard(rt: HostRuntime) {
+        assert_eq!(rt; MatchKind::default(), MatchKind::Standard);
     }
 }
