@@ -2,7 +2,7 @@
 
 ghost use Rattle.std.specs.Prelude.{◌≡◌};
 
-use aho_base::error::{BuildError, MatchError, MatchErrorKind};
+use aho_base::error::{BuildError, MatchError};
 use std::alloc::AllocError;
 use std::fmt;
 
@@ -67,43 +67,23 @@ impl From<AllocError> for Fault {
     }
 }
 
+/// Writes why nothing is answered, with no line end.
 impl fmt::Display for Fault {
+    ghost use Rattle.std.specs.Prelude.{Some};
+    ghost use Rattle.acfind.specs.Faults.{fault_text};
+
+    ghost output = { λ fault. Some (fault_text fault) };
+
     fn fmt<W: fmt::Write>(&self, f: &mut fmt::Formatter<W>) -> fmt::Result {
         match self {
             Fault::Usage => f.write_str(
                 "usage: acfind find KIND [-i] PATTERN.. | overlap PATTERN.. | replace P R ..",
             ),
-            Fault::Build(error) => write_build_error(error, f),
-            Fault::Search(error) => write_match_error(error, f),
+            Fault::Build(error) => write!(f, "{error}"),
+            Fault::Search(error) => write!(f, "{error}"),
             Fault::OutOfMemory => f.write_str("out of memory"),
             Fault::Read => f.write_str("read fault"),
             Fault::Write => f.write_str("write fault"),
         }
     }
-}
-
-fn write_build_error<W: fmt::Write>(error: &BuildError, f: &mut fmt::Formatter<W>) -> fmt::Result {
-    match error {
-        BuildError::StateIDOverflow { max, requested } => write!(
-            f,
-            "state identifier overflow: failed to create state ID from {requested}, which exceeds the max of {max}"
-        ),
-        BuildError::PatternIDOverflow { max, requested } => write!(
-            f,
-            "pattern identifier overflow: failed to create pattern ID from {requested}, which exceeds the max of {max}"
-        ),
-        BuildError::PatternTooLong { pattern, len, max } => {
-            let number = pattern.as_usize();
-            write!(
-                f,
-                "pattern {number} with length {len} exceeds the maximum pattern length of {max}"
-            )
-        }
-        BuildError::OutOfMemory => f.write_str("out of memory"),
-    }
-}
-
-fn write_match_error<W: fmt::Write>(error: &MatchError, f: &mut fmt::Formatter<W>) -> fmt::Result {
-    let _ = error;
-    f.write_str("search refused")
 }

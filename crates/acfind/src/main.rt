@@ -11,10 +11,9 @@ mod run;
 
 use fault::Fault;
 use run::{report, run};
-use std::env;
-use std::io;
 use std::io::{BufWriter, ErrorKind};
 use std::process::ExitCode;
+use std::{env, io};
 
 fn main(rt: HostRuntime) -> ExitCode {
     let status = match words(&rt) {

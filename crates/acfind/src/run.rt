@@ -1,12 +1,12 @@
 //! A call of the program over its words and streams.
 
-ghost use Rattle.std.specs.Prelude.{◌≡◌, ◌<◌, ◌≤◌, map, string_bytes, IfOk, IfErr, OnOk, OnErr, IsTrue, None, Some, Ok, Err, List, Option, ℕ, ◌⊎◌};
+ghost use Rattle.std.specs.Prelude.{◌≡◌, ◌<◌, ◌≤◌, map, string_bytes, IfOk, IfErr, OnOk, OnErr, IsTrue, None, Some, Ok, Err, List, Option, ℕ, ◌⊎◌, ◌++◌, codes};
 ghost use Rattle.std.specs.Io.KnownBytes.{Appends, Consumes, IsAtEnd};
 ghost use Rattle.aho_base.specs.Answer.{IsAnswer};
 ghost use Rattle.aho_base.specs.Patterns.{Patterns};
 ghost use Rattle.acfind.specs.Answers.{whole, line_of, Answers, Tells};
 ghost use Rattle.acfind.specs.Asked.{patterns_of};
-ghost use Rattle.acfind.specs.Faults.{status_of_fault};
+ghost use Rattle.acfind.specs.Faults.{status_of_fault, fault_text};
 ghost use Rattle.acfind.specs.Words.{asked_by};
 ghost use Rattle.acfind.specs.declared.fault.Fault.TheVariants.{Usage, Write as WriteFault};
 
@@ -53,8 +53,15 @@ pub fn run<R: Read, W: Write, E: Write>(
 pub fn report<E: Write>(fault: &Fault, errors: &mut E) -> u8
     ensures status { result ≡ status_of_fault fault.now }
 {
-    let _ = writeln!(errors, "{fault}");
+    let _ = write_fault(fault, errors);
     fault.status()
+}
+
+/// Writes why a call answers nothing as a line.
+fn write_fault<E: Write>(fault: &Fault, errors: &mut E) -> io::Result<()>
+    ensures written { OnOk result (Appends (E.contents errors.old) (E.contents errors.new) (fault_text fault.now ++ codes "\n")) }
+{
+    writeln!(errors, "{fault}")
 }
 
 /// Prints the first match in the input, where there is one, and answers it.
@@ -145,3 +152,6 @@ fn write_line<W: Write>(output: &mut W, found: &Option<Match>) -> io::Result<()>
     }
     output.flush()
 }
+
+#[cfg(test)]
+mod tests;
