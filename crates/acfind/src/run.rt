@@ -1,6 +1,6 @@
 //! A call of the program over its words and streams.
 
-ghost use Rattle.std.specs.Prelude.{◌≡◌, ◌<◌, ◌≤◌, map, string_bytes, IfOk, IfErr, OnOk, OnErr, IsTrue, None, Some, Ok, Err, List, Option, ℕ, ◌⊎◌, ◌++◌, codes};
+ghost use Rattle.std.specs.Prelude.{◌≡◌, ◌<◌, ◌≤◌, ◌++◌, ◌⊎◌, map, IfOk, IfErr, OnOk, codes, string_bytes};
 ghost use Rattle.std.specs.Io.KnownBytes.{Appends, Consumes, IsAtEnd};
 ghost use Rattle.aho_base.specs.Answer.{IsAnswer};
 ghost use Rattle.aho_base.specs.Patterns.{Patterns};
@@ -12,7 +12,6 @@ ghost use Rattle.acfind.specs.declared.fault.Fault.TheVariants.{Usage, Write as 
 
 use crate::command::{Find, parse};
 use crate::fault::Fault;
-use aho_base::error::{BuildError, MatchError};
 use aho_base::search::{Input, Match};
 use aho_corasick::noncontiguous::{Builder, NFA};
 use aho_search::automaton::Automaton;
@@ -20,7 +19,12 @@ use std::alloc::Global;
 use std::io;
 use std::io::{ErrorKind, Read, Write};
 
-/// Does what the words ask for, and answers the exit status.
+/// Does what the words after the program's name ask for, and answers the exit status: 0 where a match was printed, 1 where
+/// there is none, 2 where the words are wrong, the automaton or the search is refused or memory is wanted, and 3 where a
+/// device fails.
+///
+/// The automaton is built before the input is read, and the input is read whole before anything is printed. Where the
+/// status is 2 or 3, `errors` gets a line that says why; where that line cannot be written, the status is the same.
 pub fn run<R: Read, W: Write, E: Write>(
     alloc: Global,
     words: &[String],
@@ -28,16 +32,16 @@ pub fn run<R: Read, W: Write, E: Write>(
     output: &mut W,
     errors: &mut E,
 ) -> u8
-    // Wrong words.
+    // Wrong words are found first.
     ensures usage { asked_by (map string_bytes words.now) ≡ None → result ≡ 2 }
     ensures unread { asked_by (map string_bytes words.now) ≡ None → input.new ≡ input.old }
 
-    // An answer.
+    // An answer is printed and told by the status.
     ensures tells { (p : Patterns) → asked_by (map string_bytes words.now) ≡ Some p → result < 2
         → Tells p (R.remaining input.old) (R.remaining input.new) (W.contents output.old) (W.contents output.new) result }
     ensures quiet { result < 2 → errors.new ≡ errors.old }
 
-    // Anything else.
+    // Any other status.
     ensures bound { result ≤ 3 }
     ensures refused { result ≡ 2 → output.new ≡ output.old }
     ensures order { (output.new ≡ output.old) ⊎ IsAtEnd (R.remaining input.new) }
@@ -121,7 +125,7 @@ fn read<R: Read>(alloc: Global, input: &mut R) -> Result<Vec<u8>, Fault>
     }
 }
 
-/// The first match in a text.
+/// The first match in a text by the automaton's match kind.
 fn search(automaton: &NFA, text: &[u8]) -> Result<Option<Match>, Fault>
     requires of { (p : Patterns) × ⟦<NFA as Automaton>⟧.is_of automaton.now p }
     ensures found { (p : Patterns) → ⟦<NFA as Automaton>⟧.is_of automaton.now p → IfOk result (IsAnswer p (whole text.now)) }
