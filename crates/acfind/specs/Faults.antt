@@ -1,0 +1,23 @@
+-- What a fault is told by: its status and its text.
+use Rattle.std.specs.Prelude.{ℕ, List, codes}
+use Rattle.aho_base.specs.Texts.{build_error_text, match_error_text}
+use Rattle.acfind.specs.declared.fault.Fault.{Fault}
+use Rattle.acfind.specs.declared.fault.Fault.TheVariants.{Usage, Build, Search, OutOfMemory, Read, Write}
+
+-- 3 where a device fails, and else 2
+abbrev pub status_of_fault : Fault → ℕ
+status_of_fault Usage = 2
+status_of_fault (Build error) = 2
+status_of_fault (Search error) = 2
+status_of_fault OutOfMemory = 2
+status_of_fault Read = 3
+status_of_fault Write = 3
+
+-- what `{}` writes of a fault
+abbrev pub fault_text : Fault → List ℕ
+fault_text Usage = codes "usage: acfind find KIND [-i] PATTERN.. | overlap PATTERN.. | replace P R .."
+fault_text (Build error) = build_error_text error
+fault_text (Search error) = match_error_text error
+fault_text OutOfMemory = codes "out of memory"
+fault_text Read = codes "read fault"
+fault_text Write = codes "write fault"

@@ -1,0 +1,34 @@
+-- What the words after the program's name ask for.
+use Rattle.std.specs.Prelude.{ℕ, Bool, true, false, List, [], ◌∷◌, Option, Some, None, codes, option_and_then, if◌then◌else◌}
+use Rattle.std.specs.Str.{bytes_eq}
+use Rattle.aho_base.specs.Patterns.{Patterns}
+use Rattle.aho_base.specs.declared.search.MatchKind.{MatchKind}
+use Rattle.aho_base.specs.declared.search.MatchKind.TheVariants.{Standard, LeftmostFirst, LeftmostLongest}
+
+-- the match kind that a word names
+abbrev pub kind_by : List ℕ → Option MatchKind
+kind_by word =
+    if bytes_eq word (codes "standard") then Some Standard
+    else if bytes_eq word (codes "first") then Some LeftmostFirst
+    else if bytes_eq word (codes "longest") then Some LeftmostLongest
+    else None
+
+-- PATTERN..: at least one
+abbrev pub patterns_by : MatchKind → Bool → List (List ℕ) → Option Patterns
+patterns_by kind ignore_case [] = None
+patterns_by kind ignore_case (word ∷ words) = Some (record { words = word ∷ words; kind = kind; ignore_case = ignore_case })
+
+-- [-i] PATTERN..: `-i` sets the case rule in the first place, and is a pattern in any other
+abbrev pub cased_by : MatchKind → List (List ℕ) → Option Patterns
+cased_by kind [] = None
+cased_by kind (word ∷ words) = if bytes_eq word (codes "-i") then patterns_by kind true words else patterns_by kind false (word ∷ words)
+
+-- KIND [-i] PATTERN..
+abbrev pub find_by : List (List ℕ) → Option Patterns
+find_by [] = None
+find_by (word ∷ words) = option_and_then (λ kind. cased_by kind words) (kind_by word)
+
+-- find KIND [-i] PATTERN..: the patterns with their match kind and case rule, or none where the words are wrong
+abbrev pub asked_by : List (List ℕ) → Option Patterns
+asked_by [] = None
+asked_by (word ∷ words) = if bytes_eq word (codes "find") then find_by words else None

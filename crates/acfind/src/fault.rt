@@ -1,0 +1,89 @@
+//! Why a call answers nothing.
+
+ghost use Rattle.std.specs.Prelude.{◌≡◌};
+
+use aho_base::error::{BuildError, MatchError};
+use std::alloc::AllocError;
+use std::fmt;
+
+/// Why a call answers nothing.
+#[derive(Drop)]
+pub enum Fault {
+    /// The words are wrong.
+    Usage,
+    /// The automaton is refused.
+    Build(BuildError),
+    /// The search is refused.
+    Search(MatchError),
+    /// Memory is wanted.
+    OutOfMemory,
+    /// Standard input cannot be read.
+    Read,
+    /// Standard output cannot be written.
+    Write,
+}
+
+impl Fault {
+    ghost use Rattle.acfind.specs.Faults.{status_of_fault};
+
+    /// The exit status: 3 where a device fails, and else 2.
+    pub fn status(&self) -> u8
+        ensures status { result ≡ status_of_fault self.now }
+    {
+        match self {
+            Fault::Usage | Fault::Build(_) | Fault::Search(_) | Fault::OutOfMemory => 2,
+            Fault::Read | Fault::Write => 3,
+        }
+    }
+}
+
+impl From<BuildError> for Fault {
+    ghost use Rattle.acfind.specs.declared.fault.Fault.TheVariants.{Build};
+
+    ghost from_gives = { λ error fault. fault ≡ Build error };
+
+    fn from(error: BuildError) -> Fault {
+        Fault::Build(error)
+    }
+}
+
+impl From<MatchError> for Fault {
+    ghost use Rattle.acfind.specs.declared.fault.Fault.TheVariants.{Search};
+
+    ghost from_gives = { λ error fault. fault ≡ Search error };
+
+    fn from(error: MatchError) -> Fault {
+        Fault::Search(error)
+    }
+}
+
+impl From<AllocError> for Fault {
+    ghost use Rattle.acfind.specs.declared.fault.Fault.TheVariants.{OutOfMemory};
+
+    ghost from_gives = { λ _ fault. fault ≡ OutOfMemory };
+
+    fn from(_error: AllocError) -> Fault {
+        Fault::OutOfMemory
+    }
+}
+
+/// Writes why nothing is answered, with no line end.
+impl fmt::Display for Fault {
+    ghost use Rattle.std.specs.Prelude.{Some};
+    ghost use Rattle.acfind.specs.Faults.{fault_text};
+
+    ghost output = { λ fault. Some (fault_text fault) };
+
+    fn fmt<W: fmt::Write>(&self, f: &mut fmt::Formatter<W>) -> fmt::Result {
+        match self {
+            Fault::Usage => f.write_str(
+                "usage: acfind find KIND [-i] PATTERN.. | overlap PATTERN.. | replace P R ..",
+            ),
+            Fault::Build(error) => write!(f, "{error}"),
+            Fault::Search(error) => write!(f, "{error}"),
+            Fault::OutOfMemory => f.write_str("out of memory"),
+            Fault::Read => f.write_str("read fault"),
+            Fault::Write => f.write_str("write fault"),
+        }
+    }
+}

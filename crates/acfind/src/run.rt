@@ -1,0 +1,161 @@
+//! A call of the program over its words and streams.
+
+ghost use Rattle.std.specs.Prelude.{◌≡◌, ◌<◌, ◌≤◌, ◌++◌, ◌⊎◌, map, IfOk, IfErr, OnOk, codes, string_bytes};
+ghost use Rattle.std.specs.Io.KnownBytes.{Appends, Consumes, IsAtEnd};
+ghost use Rattle.aho_base.specs.Answer.{IsAnswer};
+ghost use Rattle.aho_base.specs.Patterns.{Patterns};
+ghost use Rattle.acfind.specs.Answers.{whole, line_of, Answers, Tells};
+ghost use Rattle.acfind.specs.Asked.{patterns_of};
+ghost use Rattle.acfind.specs.Faults.{status_of_fault, fault_text};
+ghost use Rattle.acfind.specs.Words.{asked_by};
+ghost use Rattle.acfind.specs.declared.fault.Fault.TheVariants.{Usage, Write as WriteFault};
+
+use crate::command::{Find, parse};
+use crate::fault::Fault;
+use aho_base::search::{Input, Match};
+use aho_corasick::noncontiguous::{Builder, NFA};
+use aho_search::automaton::Automaton;
+use std::alloc::Global;
+use std::io;
+use std::io::{ErrorKind, Read, Write};
+
+/// Does what the words after the program's name ask for, and answers the exit status: 0 where a match was printed, 1 where
+/// there is none, 2 where the words are wrong, the automaton or the search is refused or memory is wanted, and 3 where a
+/// device fails.
+///
+/// The automaton is built before the input is read, and the input is read whole before anything is printed. Where the
+/// status is 2 or 3, `errors` gets a line that says why; where that line cannot be written, the status is the same.
+pub fn run<R: Read, W: Write, E: Write>(
+    alloc: Global,
+    words: &[String],
+    input: &mut R,
+    output: &mut W,
+    errors: &mut E,
+) -> u8
+    // Wrong words are found first.
+    ensures usage { asked_by (map string_bytes words.now) ≡ None → result ≡ 2 }
+    ensures unread { asked_by (map string_bytes words.now) ≡ None → input.new ≡ input.old }
+
+    // An answer is printed and told by the status.
+    ensures tells { (p : Patterns) → asked_by (map string_bytes words.now) ≡ Some p → result < 2
+        → Tells p (R.remaining input.old) (R.remaining input.new) (W.contents output.old) (W.contents output.new) result }
+    ensures quiet { result < 2 → errors.new ≡ errors.old }
+
+    // Any other status.
+    ensures bound { result ≤ 3 }
+    ensures refused { result ≡ 2 → output.new ≡ output.old }
+    ensures order { (output.new ≡ output.old) ⊎ IsAtEnd (R.remaining input.new) }
+{
+    match find(alloc, words, input, output) {
+        Ok(Some(_)) => 0,
+        Ok(None) => 1,
+        Err(fault) => report(&fault, errors),
+    }
+}
+
+/// Writes why a call answers nothing as a line, and answers the exit status, whether that could be written or not.
+pub fn report<E: Write>(fault: &Fault, errors: &mut E) -> u8
+    ensures status { result ≡ status_of_fault fault.now }
+{
+    let _ = write_fault(fault, errors);
+    fault.status()
+}
+
+/// Writes why a call answers nothing as a line.
+fn write_fault<E: Write>(fault: &Fault, errors: &mut E) -> io::Result<()>
+    ensures written { OnOk result (Appends (E.contents errors.old) (E.contents errors.new) (fault_text fault.now ++ codes "\n")) }
+{
+    writeln!(errors, "{fault}")
+}
+
+/// Prints the first match in the input, where there is one, and answers it.
+fn find<R: Read, W: Write>(
+    alloc: Global,
+    words: &[String],
+    input: &mut R,
+    output: &mut W,
+) -> Result<Option<Match>, Fault>
+    ensures usage { asked_by (map string_bytes words.now) ≡ None → result ≡ Err Usage }
+    ensures unread { asked_by (map string_bytes words.now) ≡ None → input.new ≡ input.old }
+    ensures answers { (p : Patterns) → asked_by (map string_bytes words.now) ≡ Some p
+        → IfOk result (Answers p (R.remaining input.old) (R.remaining input.new) (W.contents output.old) (W.contents output.new)) }
+    ensures refused { IfErr result (λ fault. status_of_fault fault ≡ 2 → output.new ≡ output.old) }
+    ensures order { (output.new ≡ output.old) ⊎ IsAtEnd (R.remaining input.new) }
+{
+    let Some(find) = parse(words) else {
+        return Err(Fault::Usage);
+    };
+    let automaton = build(alloc, &find)?;
+    let text = read(alloc, input)?;
+    let found = search(&automaton, text.as_slice())?;
+    print(output, &found)?;
+    Ok(found)
+}
+
+/// The automaton of the patterns.
+fn build(alloc: Global, find: &Find<'_>) -> Result<NFA, Fault>
+    ensures of { IfOk result (λ automaton. ⟦<NFA as Automaton>⟧.is_of automaton (patterns_of find.now)) }
+{
+    let patterns = find.patterns.iter().map(|pattern| pattern.as_bytes());
+    Ok(builder(find).build(alloc, patterns)?)
+}
+
+/// How the automaton is built.
+fn builder(find: &Find<'_>) -> Builder
+    ensures kind { result.kind ≡ find.now.kind }
+    ensures ignore_case { result.ignore_case ≡ find.now.ignore_case }
+{
+    let mut builder = NFA::builder();
+    builder
+        .match_kind(find.kind)
+        .ascii_case_insensitive(find.ignore_case);
+    builder
+}
+
+/// All of the input.
+fn read<R: Read>(alloc: Global, input: &mut R) -> Result<Vec<u8>, Fault>
+    ensures read { IfOk result (λ text. Consumes (R.remaining input.old) (R.remaining input.new) text.items) }
+    ensures ended { OnOk result (IsAtEnd (R.remaining input.new)) }
+{
+    let mut text = Vec::new(alloc);
+    match input.read_to_end(&mut text) {
+        Ok(_) => Ok(text),
+        Err(error) if error.kind() == ErrorKind::OutOfMemory => Err(Fault::OutOfMemory),
+        Err(_) => Err(Fault::Read),
+    }
+}
+
+/// The first match in a text by the automaton's match kind.
+fn search(automaton: &NFA, text: &[u8]) -> Result<Option<Match>, Fault>
+    requires of { (p : Patterns) × ⟦<NFA as Automaton>⟧.is_of automaton.now p }
+    ensures found { (p : Patterns) → ⟦<NFA as Automaton>⟧.is_of automaton.now p → IfOk result (IsAnswer p (whole text.now)) }
+{
+    Ok(automaton.try_find(&Input::new(text))?)
+}
+
+/// Prints an answer.
+fn print<W: Write>(output: &mut W, found: &Option<Match>) -> Result<(), Fault>
+    ensures printed { OnOk result (Appends (W.contents output.old) (W.contents output.new) (line_of found.now)) }
+    ensures failed { IfErr result (λ fault. fault ≡ WriteFault) }
+{
+    match write_line(output, found) {
+        Ok(()) => Ok(()),
+        Err(_) => Err(Fault::Write),
+    }
+}
+
+/// Writes the line of an answer, and flushes.
+fn write_line<W: Write>(output: &mut W, found: &Option<Match>) -> io::Result<()>
+    ensures printed { OnOk result (Appends (W.contents output.old) (W.contents output.new) (line_of found.now)) }
+{
+    if let Some(found) = found {
+        let pattern = found.pattern().as_usize();
+        let start = found.start();
+        let end = found.end();
+        writeln!(output, "{pattern} {start} {end}")?;
+    }
+    output.flush()
+}
+
+#[cfg(test)]
+mod tests;
