@@ -1,5 +1,5 @@
 -- What a run answers.
-use Rattle.std.specs.Prelude.{◌≡◌, ℕ, false, List, [], ◌++◌, Option, Some, None, length, decimal, codes}
+use Rattle.std.specs.Prelude.{◌≡◌, ℕ, false, List, [], ◌++◌, Option, Some, None, length, take, decimal, codes}
 use Rattle.std.specs.Io.KnownBytes.{Appends, Consumes, IsAtEnd}
 use Rattle.aho_base.specs.Answer.{IsAnswer}
 use Rattle.aho_base.specs.Occurrence.{Occurrence}
@@ -14,23 +14,33 @@ whole text = record { haystack = text; start = 0; end = length text; anchored = 
 -- what is printed of an answer: `PATTERN START END` and a line end, or nothing
 abbrev pub line_of : Option Occurrence → List ℕ
 line_of None = []
-line_of (Some m) = decimal m.pattern ++ codes " " ++ decimal m.start ++ codes " " ++ decimal m.end ++ codes "\n"
+line_of (Some m) = decimal m.pattern ++ (codes " " ++ (decimal m.start ++ (codes " " ++ (decimal m.end ++ codes "\n"))))
 
 -- the status of an answer
 abbrev pub status_of_answer : Option Occurrence → ℕ
 status_of_answer None = 1
 status_of_answer (Some m) = 0
 
--- all of the input was read, the answer is right for it, and its line was written
-pub record Answers (p : Patterns) (input_old input_new output_old output_new : Option (List ℕ)) (answer : Option Occurrence) : Type 0 where
+-- known bytes grow by a beginning of bs
+abbrev pub AppendsBeginning : Option (List ℕ) → Option (List ℕ) → List ℕ → Type 0
+AppendsBeginning old new bs = (count : ℕ) × Appends old new (take count bs)
+
+-- all of the input was read, and this is the answer of its search
+pub record Finds (p : Patterns) (input_old input_new : Option (List ℕ)) (answer : Option Occurrence) : Type 0 where
   pub text : List ℕ
   pub read : Consumes input_old input_new text
   pub ended : IsAtEnd input_new
   pub right : IsAnswer p (whole text) answer
-  pub printed : Appends output_old output_new (line_of answer)
 
--- a run's answer is told by its status
+-- the answer is found, its line is written, and its status is this
 pub record Tells (p : Patterns) (input_old input_new output_old output_new : Option (List ℕ)) (status : ℕ) : Type 0 where
   pub answer : Option Occurrence
-  pub answers : Answers p input_old input_new output_old output_new answer
+  pub found : Finds p input_old input_new answer
+  pub printed : Appends output_old output_new (line_of answer)
   pub told : status ≡ status_of_answer answer
+
+-- the answer is found, and a beginning of its line is written
+pub record Begins (p : Patterns) (input_old input_new output_old output_new : Option (List ℕ)) : Type 0 where
+  pub answer : Option Occurrence
+  pub found : Finds p input_old input_new answer
+  pub begun : AppendsBeginning output_old output_new (line_of answer)

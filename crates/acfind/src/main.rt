@@ -7,6 +7,7 @@
 
 mod command;
 mod fault;
+mod print;
 mod run;
 
 use fault::Fault;

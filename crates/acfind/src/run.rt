@@ -4,14 +4,15 @@ ghost use Rattle.std.specs.Prelude.{◌≡◌, ◌<◌, ◌≤◌, ◌++◌, ◌
 ghost use Rattle.std.specs.Io.KnownBytes.{Appends, Consumes, IsAtEnd};
 ghost use Rattle.aho_base.specs.Answer.{IsAnswer};
 ghost use Rattle.aho_base.specs.Patterns.{Patterns};
-ghost use Rattle.acfind.specs.Answers.{whole, line_of, Answers, Tells};
+ghost use Rattle.acfind.specs.Answers.{whole, line_of, Finds, Tells, Begins};
 ghost use Rattle.acfind.specs.Asked.{patterns_of};
 ghost use Rattle.acfind.specs.Faults.{status_of_fault, fault_text};
 ghost use Rattle.acfind.specs.Words.{asked_by};
-ghost use Rattle.acfind.specs.declared.fault.Fault.TheVariants.{Usage, Write as WriteFault};
+ghost use Rattle.acfind.specs.declared.fault.Fault.TheVariants.{Usage};
 
 use crate::command::{Find, parse};
 use crate::fault::Fault;
+use crate::print::print;
 use aho_base::search::{Input, Match};
 use aho_corasick::noncontiguous::{Builder, NFA};
 use aho_search::automaton::Automaton;
@@ -44,7 +45,8 @@ pub fn run<R: Read, W: Write, E: Write>(
     // Any other status.
     ensures bound { result ≤ 3 }
     ensures refused { result ≡ 2 → output.new ≡ output.old }
-    ensures order { (output.new ≡ output.old) ⊎ IsAtEnd (R.remaining input.new) }
+    ensures begins { (p : Patterns) → asked_by (map string_bytes words.now) ≡ Some p → (output.new ≡ output.old)
+        ⊎ Begins p (R.remaining input.old) (R.remaining input.new) (W.contents output.old) (W.contents output.new) }
 {
     match find(alloc, words, input, output) {
         Ok(Some(_)) => 0,
@@ -78,9 +80,11 @@ fn find<R: Read, W: Write>(
     ensures usage { asked_by (map string_bytes words.now) ≡ None → result ≡ Err Usage }
     ensures unread { asked_by (map string_bytes words.now) ≡ None → input.new ≡ input.old }
     ensures answers { (p : Patterns) → asked_by (map string_bytes words.now) ≡ Some p
-        → IfOk result (Answers p (R.remaining input.old) (R.remaining input.new) (W.contents output.old) (W.contents output.new)) }
+        → IfOk result (Finds p (R.remaining input.old) (R.remaining input.new)) }
+    ensures printed { IfOk result (λ found. Appends (W.contents output.old) (W.contents output.new) (line_of found)) }
     ensures refused { IfErr result (λ fault. status_of_fault fault ≡ 2 → output.new ≡ output.old) }
-    ensures order { (output.new ≡ output.old) ⊎ IsAtEnd (R.remaining input.new) }
+    ensures begins { (p : Patterns) → asked_by (map string_bytes words.now) ≡ Some p → (output.new ≡ output.old)
+        ⊎ Begins p (R.remaining input.old) (R.remaining input.new) (W.contents output.old) (W.contents output.new) }
 {
     let Some(find) = parse(words) else {
         return Err(Fault::Usage);
@@ -88,7 +92,7 @@ fn find<R: Read, W: Write>(
     let automaton = build(alloc, &find)?;
     let text = read(alloc, input)?;
     let found = search(&automaton, text.as_slice())?;
-    print(output, &found)?;
+    print(alloc, output, &found)?;
     Ok(found)
 }
 
@@ -131,30 +135,6 @@ fn search(automaton: &NFA, text: &[u8]) -> Result<Option<Match>, Fault>
     ensures found { (p : Patterns) → ⟦<NFA as Automaton>⟧.is_of automaton.now p → IfOk result (IsAnswer p (whole text.now)) }
 {
     Ok(automaton.try_find(&Input::new(text))?)
-}
-
-/// Prints an answer.
-fn print<W: Write>(output: &mut W, found: &Option<Match>) -> Result<(), Fault>
-    ensures printed { OnOk result (Appends (W.contents output.old) (W.contents output.new) (line_of found.now)) }
-    ensures failed { IfErr result (λ fault. fault ≡ WriteFault) }
-{
-    match write_line(output, found) {
-        Ok(()) => Ok(()),
-        Err(_) => Err(Fault::Write),
-    }
-}
-
-/// Writes the line of an answer, and flushes.
-fn write_line<W: Write>(output: &mut W, found: &Option<Match>) -> io::Result<()>
-    ensures printed { OnOk result (Appends (W.contents output.old) (W.contents output.new) (line_of found.now)) }
-{
-    if let Some(found) = found {
-        let pattern = found.pattern().as_usize();
-        let start = found.start();
-        let end = found.end();
-        writeln!(output, "{pattern} {start} {end}")?;
-    }
-    output.flush()
 }
 
 #[cfg(test)]

@@ -42,6 +42,34 @@ impl Write for Refusing {
     }
 }
 
+/// A writer that takes a byte at a time, after an interruption.
+#[derive(Drop)]
+struct Piecewise {
+    written: Vec<u8>,
+    ready: bool,
+}
+
+impl Write for Piecewise {
+    fn write(&mut self, buf: &[u8]) -> io::Result<usize> {
+        if !self.ready {
+            self.ready = true;
+            return Err(io::Error::from(ErrorKind::Interrupted));
+        }
+        self.ready = false;
+        match buf.first() {
+            Some(byte) => {
+                self.written.push(*byte)?;
+                Ok(1)
+            }
+            None => Ok(0),
+        }
+    }
+
+    fn flush(&mut self) -> io::Result<()> {
+        Ok(())
+    }
+}
+
 fn texts(alloc: Global, words: &[&str]) -> Result<Vec<String>, AllocError> {
     let mut texts = Vec::new(alloc);
     for word in words {
@@ -199,5 +227,27 @@ fn keeps_the_status_where_errors_cannot_be_told(rt: HostRuntime) -> Result<(), F
     );
     assert_eq!(rt; found, 3);
     assert!(rt; output.is_empty());
+    Ok(())
+}
+
+#[test]
+fn writes_in_pieces(rt: HostRuntime) -> Result<(), Fail> {
+    let words = texts(rt.alloc(), &["find", "standard", "b"])?;
+    let mut output = Piecewise {
+        written: Vec::new(rt.alloc()),
+        ready: false,
+    };
+    let mut errors = Vec::new(rt.alloc());
+    let mut input: &[u8] = b"ab";
+    let found = run(
+        rt.alloc(),
+        words.as_slice(),
+        &mut input,
+        &mut output,
+        &mut errors,
+    );
+    assert_eq!(rt; found, 0);
+    assert_eq!(rt; output.written.as_slice(), "0 1 2\n".as_bytes());
+    assert!(rt; errors.is_empty());
     Ok(())
 }
