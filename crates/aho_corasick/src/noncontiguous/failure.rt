@@ -49,7 +49,8 @@ fn copy_matches(table: &mut Table, from: StateID, to: StateID) -> Result<(), Bui
     ensures copied { OnOk result (table.new.rows ≡ append_matches table.old.rows to from) }
     ensures limit { OnOk result (table.new.limit ≡ table.old.limit) }
     ensures refused { IfErr result
-        (IsCopyRefusal table.old.limit (matches_count table.old.rows + length (matches_in table.old.rows from))) }
+        (IsCopyRefusal table.old.limit
+        (matches_count table.old.rows + length (matches_in table.old.rows from))) }
 {
     for index in 0..table.match_len(from) {
         let pattern = table.match_pattern(from, index);
@@ -68,7 +69,8 @@ fn set_anchored_start_state(table: &mut Table) -> Result<(), BuildError>
         → transitions_count table.new.rows ≡ transitions_count table.old.rows) }
     ensures refused { IfErr result (λ error.
         ListsAllBytes table.old.rows 3
-        → IsCopyRefusal table.old.limit (matches_count table.old.rows + length (matches_in table.old.rows 2)) error) }
+        → IsCopyRefusal table.old.limit
+        (matches_count table.old.rows + length (matches_in table.old.rows 2)) error) }
 {
     let root = unanchored_start();
     let anchored = anchored_start();
@@ -157,7 +159,8 @@ fn link(table: &mut Table, sid: StateID, fail: StateID) -> Result<(), BuildError
     ensures linked { OnOk result (table.new.rows ≡ link_row table.old.rows sid fail) }
     ensures limit { OnOk result (table.new.limit ≡ table.old.limit) }
     ensures refused { IfErr result
-        (IsCopyRefusal table.old.limit (matches_count table.old.rows + length (matches_in table.old.rows fail))) }
+        (IsCopyRefusal table.old.limit
+        (matches_count table.old.rows + length (matches_in table.old.rows fail))) }
 {
     table.set_fail(sid, fail);
     copy_matches(table, fail, sid)
@@ -261,7 +264,8 @@ pub(super) fn link_states(
         (ListsAllBytes table.old.rows 2 → ListsAllBytes table.old.rows 3
         → transitions_count table.new.rows ≡ transitions_count table.old.rows) }
     ensures sized { OnOk result
-        ((p : Patterns) → p.kind ≡ kind → IsFinishedTrie p table.old.rows → IsSized p table.new.rows) }
+        ((p : Patterns) → p.kind ≡ kind → IsFinishedTrie p table.old.rows
+        → IsSized p table.new.rows) }
     ensures within { OnOk result
         ((p : Patterns) → p.kind ≡ kind → IsFinishedTrie p table.old.rows
         → matches_size p ≤ table.old.limit + 1) }
