@@ -23,6 +23,8 @@ pub mod CopiedMatches
 pub mod LinksSoFar
 pub mod LinkedChild
 pub mod VisitedTransitions
+pub mod CountedLinks
+pub mod CopiedCounts
 -- Why a build of the trie stops.
 pub mod Stops
 pub mod Whole

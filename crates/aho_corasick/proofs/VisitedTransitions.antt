@@ -1,16 +1,20 @@
 -- One transition of the head.
-use Rattle.std.proofs.Common.{◌≡◌, ℕ, ◌+◌, ◌<◌, ◌≤◌, ◌≢◌, List, [], ◌∷◌, ◌++◌, length, get_or, Option, Some, sym, ap, subst, ◌∙◌, arith}
+use Rattle.std.proofs.Common.{◌≡◌, ℕ, ◌+◌, ◌<◌, ◌≤◌, ◌≢◌, List, [], ◌∷◌, ◌++◌, length, get_or, Option, Some, refl, sym, ap, subst, ◌∙◌, arith}
 use Rattle.std.proofs.lemmas.List.{length_push, get_or_append_left, get_or_default}
+use Rattle.aho_base.specs.declared.error.BuildError.{BuildError}
 use Rattle.aho_base.specs.declared.search.MatchKind.{MatchKind}
 use Rattle.aho_base.specs.Failure.{failure_of}
 use Rattle.aho_base.specs.Patterns.{Patterns}
 use Rattle.aho_base.specs.Trie.{is_node}
-use Rattle.aho_corasick.specs.Building.{root_loop, CanLink, CanLinkBySome, LinksTo, IsLinking, IsLinkingBySome, KeepsLinking, link_row, unlinked_count, HasSameEdges}
+use Rattle.aho_corasick.specs.Building.{root_loop, CanLink, CanLinkBySome, LinksTo, IsLinking, IsLinkingBySome, KeepsLinking, IsCopyRefusal, OnlyCopies, link_row, unlinked_count}
 use Rattle.aho_corasick.specs.Naming.{name_at, longer, IsStateOf}
-use Rattle.aho_corasick.specs.Tables.{Row, edge_in, next_in, fail_in}
-use Rattle.aho_corasick.proofs.ChangedRows.{named_below}
+use Rattle.aho_corasick.specs.Sizes.{names_before, matches_size}
+use Rattle.aho_corasick.specs.Tables.{Row, Tables, row_at, edge_in, next_in, fail_in, matches_in, matches_count}
+use Rattle.aho_corasick.proofs.ChangedRows.{named_below, row_at-set_other}
+use Rattle.aho_corasick.proofs.CopiedCounts.{IsCopyRefusal-larger, matches_count-link, matches_count-linking}
+use Rattle.aho_corasick.proofs.CountedLinks.{OnlyCopies-row}
 use Rattle.aho_corasick.proofs.LinksSoFar.{head_word, head_can, child_below, child_is, link_known}
-use Rattle.aho_corasick.proofs.LinkedChild.{IsLinking-link, link_apart, unlinked_count-link, same_edges-link}
+use Rattle.aho_corasick.proofs.LinkedChild.{IsLinking-link, link_apart, unlinked_count-link}
 
 module _ (kind : MatchKind) (queue : List ℕ) (head part : ℕ) (rows : List Row) (parent : ℕ) (edge : ℕ × ℕ) (inside : head < length queue) (small : edge.0 < 256)
     (read : parent ≡ get_or queue head parent) (edge_eq : edge ≡ edge_in rows parent part) (leads : next_in rows parent edge.0 ≡ edge.1) where
@@ -72,6 +76,28 @@ module _ (kind : MatchKind) (queue : List ℕ) (head part : ℕ) (rows : List Ro
       visit_apart some =
           link_apart some.0 some.1.0 queue head part rows some.1.2 inside byte small child fail child_next child_edge other free (fail_is some.0 some.1.0 some.1.1 some.1.2)
 
+      -- the list of the link is not copied whole
+      pub visit_refused : (limit : ℕ) (error : BuildError) → IsCopyRefusal limit (matches_count rows + length (matches_in rows fail)) error
+          → (p : Patterns) → p.kind ≡ kind → IsLinking p (names_before p (length p.words)) queue head part rows → matches_in rows 1 ≡ [] → IsCopyRefusal limit (matches_size p) error
+      visit_refused limit error refusal p same so_far none =
+          let names = names_before p (length p.words) in
+          let row : Row = record (row_at rows child) { fail = fail; matches = (row_at rows child).matches ++ matches_in rows fail } in
+          let below : child < length rows = visit_child_below (p, (names, same, so_far)) other in
+          let still_none : matches_in (link_row rows child fail) 1 ≡ [] = ap (λ (r : Row). r.matches) (row_at-set_other rows child 1 row (λ e. other (sym e))) ∙ none in
+          let linked : IsLinking p names (queue ++ child ∷ []) head (part + 1) (link_row rows child fail) =
+          IsLinking-link p names queue head part rows so_far inside byte small child fail child_next child_edge other free (fail_is p names same so_far) in
+          IsCopyRefusal-larger limit (matches_size p) limit (matches_count rows + length (matches_in rows fail)) error refl
+          (omega (arith, matches_count-link rows child fail below, matches_count-linking p (queue ++ child ∷ []) head (part + 1) (link_row rows child fail) linked still_none))
+          refusal
+
+      -- and where it is, nothing else was changed
+      pub visit_copies : (limit : ℕ) (new : Tables) → IsLinkingBySome kind queue head part rows → new.limit ≡ limit → new.rows ≡ link_row rows child fail
+          → OnlyCopies (record { rows = rows; limit = limit }) new
+      visit_copies limit new some same_limit new_is =
+          let old : Tables = record { rows = rows; limit = limit } in
+          let row : Row = record (row_at rows child) { fail = fail; matches = (row_at rows child).matches ++ matches_in rows fail } in
+          OnlyCopies-row old new child row (visit_child_below some other) other refl same_limit new_is
+
       module _ (queue' : List ℕ) (new : List Row) (queue_is : queue' ≡ queue ++ child ∷ []) (new_is : new ≡ link_row rows child fail) where
         pub visit_keeps : KeepsLinking kind queue head part rows queue' head (part + 1) new
         visit_keeps = λ p names same so_far.
@@ -91,11 +117,6 @@ module _ (kind : MatchKind) (queue : List ℕ) (head part : ℕ) (rows : List Ro
 
         pub visit_head : get_or queue' head 0 ≡ get_or queue head 0
         visit_head = ap (λ (q : List ℕ). get_or q head 0) queue_is ∙ get_or_append_left queue (child ∷ []) 0 head inside
-
-        pub visit_edges : IsLinkingBySome kind queue head part rows → HasSameEdges rows new
-        visit_edges some =
-            subst (HasSameEdges rows) (sym new_is)
-            (same_edges-link some.0 some.1.0 queue head part rows some.1.2 inside byte small child fail child_next child_edge other free (fail_is some.0 some.1.0 some.1.1 some.1.2))
 
 -- the head is a state
 pub head_below : (p : Patterns) (names : List (Option (List ℕ))) (queue : List ℕ) (head part : ℕ) (rows : List Row) → IsLinking p names queue head part rows → head < length queue → get_or queue head 0 < length rows

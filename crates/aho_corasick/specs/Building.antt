@@ -1,5 +1,7 @@
 -- How far a build has come: the trie is whole, the failure links are being made, the automaton is built.
-use Rattle.std.specs.Prelude.{◌≡◌, ◌≢◌, ℕ, ◌+◌, ◌<◌, ◌≤◌, nat_eq, nat_lt, ◌&&◌, if◌then◌else◌, Bool, List, [], ◌∷◌, ◌++◌, length, sum_by, Option, Some, slice_index, slice_set}
+use Rattle.std.specs.Prelude.{◌≡◌, ◌≢◌, ℕ, ◌+◌, ◌<◌, ◌≤◌, ◌⊎◌, nat_eq, nat_lt, ◌&&◌, if◌then◌else◌, Bool, true, List, [], ◌∷◌, ◌++◌, length, sum_by, Option, Some, slice_index, slice_set}
+use Rattle.aho_base.specs.declared.error.BuildError.{BuildError}
+use Rattle.aho_base.specs.declared.error.BuildError.TheVariants.{StateIDOverflow, OutOfMemory}
 use Rattle.aho_base.specs.declared.search.Anchored.TheVariants.{No}
 use Rattle.aho_base.specs.declared.search.MatchKind.{MatchKind}
 use Rattle.aho_base.specs.Bytes.{folded}
@@ -9,7 +11,7 @@ use Rattle.aho_base.specs.Patterns.{Patterns}
 use Rattle.aho_base.specs.Step.{depth_of, follow}
 use Rattle.aho_base.specs.Trie.{is_node}
 use Rattle.aho_corasick.specs.Naming.{name_at, longer, IsStateOf, IsTrie}
-use Rattle.aho_corasick.specs.Tables.{Row, row_at, edge_in, next_in, fail_in, depth_in, matches_in}
+use Rattle.aho_corasick.specs.Tables.{Row, Tables, row_at, edge_in, next_in, fail_in, depth_in, matches_in, lists_byte}
 
 -- where the root leads by a byte that begins no pattern: back to itself, or to DEAD where it is cut (a leftmost kind with
 -- an empty pattern)
@@ -67,6 +69,22 @@ link_row rows sid fail = slice_set rows sid (record (row_at rows sid) { fail = f
 -- each state has the transitions that it had
 abbrev pub HasSameEdges : List Row → List Row → Type 0
 HasSameEdges old new = (i : ℕ) → (row_at new i).edges ≡ (row_at old i).edges
+
+-- the state has a transition for every byte
+abbrev pub ListsAllBytes : List Row → ℕ → Type 0
+ListsAllBytes rows sid = (byte : ℕ) → byte < 256 → lists_byte rows sid byte ≡ true
+
+-- links were set and patterns copied, and all else stays: the limit, the states, their transitions, and what FAIL (1) lists
+pub record OnlyCopies (old new : Tables) : Type 0 where
+  pub limit : new.limit ≡ old.limit
+  pub states : length new.rows ≡ length old.rows
+  pub edges : HasSameEdges old.rows new.rows
+  pub fail_matches : matches_in new.rows 1 ≡ matches_in old.rows 1
+
+-- why no more patterns were copied: the next one would have an index above the limit, and it is among the entries that the
+-- table is to have in the end; else memory was wanted
+abbrev pub IsCopyRefusal : ℕ → ℕ → BuildError → Type 0
+IsCopyRefusal limit size error = ((error ≡ StateIDOverflow limit (limit + 1)) × (limit + 1 < size)) ⊎ (error ≡ OutOfMemory)
 
 -- before the links are made: the trie with its starts, each state with its own patterns and without a link
 pub record IsReady (p : Patterns) (names : List (Option (List ℕ))) (rows : List Row) : Type 0 where

@@ -1,12 +1,16 @@
 -- How large the tables of an automaton become, and what a limit refuses. What a build asks for is a list of growths in their
 -- order; the cause of a refusal is the first of them that the limits refuse.
-use Rattle.std.specs.Prelude.{◌≡◌, ℕ, ◌+◌, ◌-◌, ◌*◌, Bool, not, ◌||◌, nat_eq, nat_lt, nat_le, List, [], ◌∷◌, ◌++◌, length, map, filter, flat_map, take, sum_by, count_by, find, slice_index, min, Option, Some, None, if◌then◌else◌}
+use Rattle.std.specs.Prelude.{◌≡◌, ℕ, ◌+◌, ◌-◌, ◌*◌, Bool, not, nat_eq, nat_lt, List, [], ◌∷◌, ◌++◌, length, map, filter, flat_map, take, sum_by, count_by, find, slice_index, min, Option, Some, None, if◌then◌else◌}
 use Rattle.std.specs.List.{list_any, range_with_len}
+use Rattle.aho_base.specs.declared.error.BuildError.{BuildError}
+use Rattle.aho_base.specs.declared.search.MatchKind.{MatchKind}
 use Rattle.aho_base.specs.Bytes.{folded}
-use Rattle.aho_base.specs.MatchList.{own_matches, matches_of}
+use Rattle.aho_base.specs.MatchList.{matches_of}
 use Rattle.aho_base.specs.Patterns.{Patterns, pattern_at, numbers}
 use Rattle.aho_base.specs.Trie.{begins, pattern_word, is_kept}
-use Rattle.aho_corasick.specs.Tables.{Row, transitions_count, matches_count}
+use Rattle.aho_corasick.specs.Building.{ListsAllBytes, IsLinking, IsReady, IsCopyRefusal}
+use Rattle.aho_corasick.specs.Naming.{IsTrieOf}
+use Rattle.aho_corasick.specs.Tables.{Row, Tables, matches_in, transitions_count, matches_count}
 use Rattle.aho_corasick.specs.declared.noncontiguous.Limits.{Limits}
 
 -- the numbers below this one of the patterns that are kept
@@ -117,3 +121,22 @@ pub record IsSized (p : Patterns) (rows : List Row) : Type 0 where
   pub states : length rows ≡ states_size p
   pub transitions : transitions_count rows ≡ transitions_size p
   pub matches : matches_count rows ≡ matches_size p
+
+-- the trie of all patterns as a build hands it on to the links: its states stand in the order in which a build makes them,
+-- both starts list every byte, and FAIL (1) lists no pattern
+pub record IsFinishedTrie (p : Patterns) (rows : List Row) : Type 0 where
+  pub trie : IsTrieOf p (length p.words) (names_before p (length p.words)) rows
+  pub counted : IsCountedTrie p (length p.words) rows
+  pub root_bytes : ListsAllBytes rows 2
+  pub anchored_bytes : ListsAllBytes rows 3
+  pub fail_matches : matches_in rows 1 ≡ []
+
+-- why the links were not all made, once the build has come so far: more patterns were not copied
+abbrev pub IsLinkingRefusal : MatchKind → List ℕ → ℕ → ℕ → Tables → BuildError → Type 0
+IsLinkingRefusal kind queue head part table error =
+    (p : Patterns) → p.kind ≡ kind → IsLinking p (names_before p (length p.words)) queue head part table.rows → matches_in table.rows 1 ≡ [] → IsCopyRefusal table.limit (matches_size p) error
+
+-- or before the first one is made
+abbrev pub IsReadyRefusal : MatchKind → Tables → BuildError → Type 0
+IsReadyRefusal kind table error =
+    (p : Patterns) → p.kind ≡ kind → IsReady p (names_before p (length p.words)) table.rows → matches_in table.rows 1 ≡ [] → IsCopyRefusal table.limit (matches_size p) error

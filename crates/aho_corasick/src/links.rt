@@ -221,6 +221,8 @@ impl Table {
         requires added { sid < length self.old.rows }
         ensures set { OnOk result (self.new ≡ record self.old { rows = set_edge self.old.rows sid byte next }) }
         ensures there { lists_byte self.old.rows sid byte ≡ true → IsOk result }
+        ensures kept { lists_byte self.old.rows sid byte ≡ true
+            → transitions_count self.new.rows ≡ transitions_count self.old.rows }
         ensures within { OnOk result (transitions_count self.new.rows ≤ self.old.limit + 1) }
         ensures refused { IfErr result (λ error. error ≡ refusal_at self.old.limit (transitions_count self.old.rows)) }
         ensures unchanged { OnErr result (self.new ≡ self.old) }
@@ -368,6 +370,7 @@ impl Table {
     pub fn matches_count(&self) -> usize
         ensures count { result ≡ matches_count self.now.rows }
         ensures bound { result ≤ 2147483647 }
+        ensures within { result ≤ self.now.limit + 1 }
     {
         self.matches_len
     }

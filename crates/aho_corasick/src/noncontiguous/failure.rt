@@ -1,11 +1,12 @@
 //! The second half of a build: the start states, the failure links, and the patterns that are listed along them.
 
-ghost use Rattle.std.specs.Prelude.{◌≡◌, ◌≢◌, ℕ, ◌+◌, ◌<◌, ◌≤◌, [], ◌∷◌, ◌++◌, List, Option, length, vec_len, slice_index, OnOk, OnErr, IfErr};
+ghost use Rattle.std.specs.Prelude.{◌≡◌, ◌≢◌, ℕ, ◌+◌, ◌<◌, ◌≤◌, [], ◌∷◌, ◌++◌, List, Option, length, vec_len, slice_index, OnOk, IfErr, IsOk};
 ghost use Rattle.aho_base.specs.declared.error.BuildError.TheVariants.{OutOfMemory};
 ghost use Rattle.aho_base.specs.Patterns.{Patterns};
 ghost use Rattle.aho_corasick.specs.Naming.{IsTrieOf};
-ghost use Rattle.aho_corasick.specs.Tables.{row_at, next_in, fail_in, matches_in};
-ghost use Rattle.aho_corasick.specs.Building.{IsLedBelow, IsLedAsRoot, IsReady, IsBuilt, looped, stops_at, append_matches, link_row, CanStepBySome, StepsTo, CanLinkBySome, LinksTo, IsLinkingBySome, KeepsLinking, HasSameEdges, unlinked_count};
+ghost use Rattle.aho_corasick.specs.Tables.{row_at, next_in, fail_in, matches_in, transitions_count, matches_count};
+ghost use Rattle.aho_corasick.specs.Building.{IsLedBelow, IsLedAsRoot, IsReady, IsBuilt, looped, stops_at, append_matches, link_row, CanStepBySome, StepsTo, CanLinkBySome, LinksTo, IsLinkingBySome, KeepsLinking, unlinked_count, ListsAllBytes, OnlyCopies, IsCopyRefusal};
+ghost use Rattle.aho_corasick.specs.Sizes.{matches_size, IsFinishedTrie, IsLinkingRefusal, IsReadyRefusal, IsSized};
 
 use crate::links::{DEAD, FAIL, Table};
 use aho_base::error::BuildError;
@@ -46,6 +47,10 @@ fn copy_matches(table: &mut Table, from: StateID, to: StateID) -> Result<(), Bui
     requires to { to < length table.old.rows }
     requires apart { to ≢ from }
     ensures copied { OnOk result (table.new.rows ≡ append_matches table.old.rows to from) }
+    ensures limit { OnOk result (table.new.limit ≡ table.old.limit) }
+    ensures refused { IfErr result
+        (IsCopyRefusal table.old.limit
+        (matches_count table.old.rows + length (matches_in table.old.rows from))) }
 {
     for index in 0..table.match_len(from) {
         let pattern = table.match_pattern(from, index);
@@ -58,6 +63,14 @@ fn copy_matches(table: &mut Table, from: StateID, to: StateID) -> Result<(), Bui
 fn set_anchored_start_state(table: &mut Table) -> Result<(), BuildError>
     requires starts { 3 < length table.old.rows }
     ensures led { OnOk result (IsLedAsRoot table.old.rows table.new.rows) }
+    ensures limit { OnOk result (table.new.limit ≡ table.old.limit) }
+    ensures transitions { OnOk result
+        (ListsAllBytes table.old.rows 3
+        → transitions_count table.new.rows ≡ transitions_count table.old.rows) }
+    ensures refused { IfErr result (λ error.
+        ListsAllBytes table.old.rows 3
+        → IsCopyRefusal table.old.limit
+        (matches_count table.old.rows + length (matches_in table.old.rows 2)) error) }
 {
     let root = unanchored_start();
     let anchored = anchored_start();
@@ -85,6 +98,11 @@ fn add_unanchored_start_state_loop(table: &mut Table, kind: MatchKind) -> Result
     requires start { 2 < length table.old.rows }
     ensures looped { OnOk result
         (IsLedBelow 2 256 (looped kind table.old.rows) table.old.rows table.new.rows) }
+    ensures limit { OnOk result (table.new.limit ≡ table.old.limit) }
+    ensures transitions { OnOk result
+        (ListsAllBytes table.old.rows 2
+        → transitions_count table.new.rows ≡ transitions_count table.old.rows) }
+    ensures full { ListsAllBytes table.old.rows 2 → IsOk result }
 {
     let root = unanchored_start();
     let back = if ends_here(table, kind, root) {
@@ -139,6 +157,10 @@ fn link(table: &mut Table, sid: StateID, fail: StateID) -> Result<(), BuildError
     requires fail { fail < length table.old.rows }
     requires apart { sid ≢ fail }
     ensures linked { OnOk result (table.new.rows ≡ link_row table.old.rows sid fail) }
+    ensures limit { OnOk result (table.new.limit ≡ table.old.limit) }
+    ensures refused { IfErr result
+        (IsCopyRefusal table.old.limit
+        (matches_count table.old.rows + length (matches_in table.old.rows fail))) }
 {
     table.set_fail(sid, fail);
     copy_matches(table, fail, sid)
@@ -177,7 +199,8 @@ fn visit(
     ensures longer { OnOk result (vec_len queue.old ≤ vec_len queue.new) }
     ensures head { OnOk result
         (slice_index queue.new.items head ≡ slice_index queue.old.items head) }
-    ensures edges { OnOk result (HasSameEdges table.old.rows table.new.rows) }
+    ensures copies { OnOk result (OnlyCopies table.old table.new) }
+    ensures refused { IfErr result (IsLinkingRefusal kind queue.old.items head index table.old) }
 {
     let parent = queue[head];
     let (byte, child) = table.transition(parent, index);
@@ -200,6 +223,8 @@ fn fill_failure_transitions(
     ensures built { OnOk result
         ((p : Patterns) (names : List (Option (List ℕ)))
         → p.kind ≡ kind → IsReady p names table.old.rows → IsBuilt p names table.new.rows) }
+    ensures copies { OnOk result (OnlyCopies table.old table.new) }
+    ensures refused { IfErr result (IsReadyRefusal kind table.old) }
 {
     let root = unanchored_start();
     table.set_fail(root, DEAD);
@@ -233,8 +258,24 @@ pub(super) fn link_states(
         ((p : Patterns) (names : List (Option (List ℕ)))
         → p.kind ≡ kind → IsTrieOf p (length p.words) names table.old.rows
         → IsBuilt p names table.new.rows) }
+    ensures limit { OnOk result (table.new.limit ≡ table.old.limit) }
+    ensures states { OnOk result (length table.new.rows ≡ length table.old.rows) }
+    ensures transitions { OnOk result
+        (ListsAllBytes table.old.rows 2 → ListsAllBytes table.old.rows 3
+        → transitions_count table.new.rows ≡ transitions_count table.old.rows) }
+    ensures sized { OnOk result
+        ((p : Patterns) → p.kind ≡ kind → IsFinishedTrie p table.old.rows
+        → IsSized p table.new.rows) }
+    ensures within { OnOk result
+        ((p : Patterns) → p.kind ≡ kind → IsFinishedTrie p table.old.rows
+        → matches_size p ≤ table.old.limit + 1) }
+    ensures refused { IfErr result (λ error.
+        (p : Patterns) → p.kind ≡ kind → IsFinishedTrie p table.old.rows
+        → IsCopyRefusal table.old.limit (matches_size p) error) }
 {
     set_anchored_start_state(table)?;
     add_unanchored_start_state_loop(table, kind)?;
-    fill_failure_transitions(alloc, table, kind)
+    fill_failure_transitions(alloc, table, kind)?;
+    let _matches = table.matches_count();
+    Ok(())
 }

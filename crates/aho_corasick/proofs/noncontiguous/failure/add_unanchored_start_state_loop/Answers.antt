@@ -1,19 +1,25 @@
-use Rattle.std.proofs.Common.{◌≡◌, ◌<◌, ◌+◌, ◌∙◌, ap, sym, subst, arith, length, cond, Bool, ℕ}
-use Rattle.aho_corasick.specs.Building.{IsLedBelow, looped, stops_at}
-use Rattle.aho_corasick.specs.Tables.{Tables, next_in, matches_in, set_edge}
+use Rattle.std.proofs.Common.{◌≡◌, ◌<◌, ◌+◌, ◌∙◌, ap, sym, refl, subst, arith, length, cond, Bool, ℕ}
+use Rattle.aho_corasick.specs.Building.{IsLedBelow, ListsAllBytes, looped, stops_at}
+use Rattle.aho_corasick.specs.Tables.{Tables, next_in, matches_in, set_edge, lists_byte, transitions_count}
 use Rattle.aho_corasick.proofs.ComparedStates.{same-true, same-false}
+use Rattle.aho_corasick.proofs.CountedLinks.{ListsAllBytes-set}
 use Rattle.aho_corasick.proofs.ReadyStarts.{IsLedBelow-none, IsLedBelow-set, IsLedBelow-kept, looped-free, looped-taken}
 use Rattle.aho_corasick.proofs.noncontiguous.failure.add_unanchored_start_state_loop.Goals as goal
 use Rattle.aho_corasick.proofs.noncontiguous.failure.add_unanchored_start_state_loop.Goals.{then-ends_here, else-ends_here, then-eq+in_ok-set, else-eq}
 
 pub loop-byte-init : goal.loop-byte-init
-loop-byte-init c = IsLedBelow-none 2 (looped c.args.kind c.args.table.now.rows) c.args.table.now.rows
+loop-byte-init c = record {
+  led = IsLedBelow-none 2 (looped c.args.kind c.args.table.now.rows) c.args.table.now.rows;
+  limit = refl;
+  listed = λ listed. listed;
+  transitions = λ listed. refl;
+}
 
 pub loop-byte-preserved : goal.loop-byte-preserved
 loop-byte-preserved c =
     let old = c.args.table.now.rows in
-    let led = c.loop-byte.invariant in
-    let below : 2 < length c.loop-byte.table.rows = omega (arith, c.loop-byte.invariant.sized, c.requires.start) in
+    let led = c.loop-byte.invariant.led in
+    let below : 2 < length c.loop-byte.table.rows = omega (arith, c.loop-byte.invariant.led.sized, c.requires.start) in
     let root_is = c.unanchored_start-root.ensures.start in
     let test : c.ends_here.result ≡ stops_at c.args.kind (matches_in old 2) = c.ends_here.ensures.ends ∙ ap (λ (n : ℕ). stops_at c.args.kind (matches_in old n)) root_is in
     let back_is : c.if-ends_here.back ≡ cond (stops_at c.args.kind (matches_in old 2)) 0 2 =
@@ -25,18 +31,40 @@ loop-byte-preserved c =
     c.next_of.ensures.next ∙ ap (λ (n : ℕ). next_in c.loop-byte.table.rows n c.loop-byte.byte) root_is ∙ led.later c.loop-byte.byte (omega arith) in
     elim c.if-eq.branch [
       | then-eq+in_ok-set w ↦
-          IsLedBelow-set 2 c.loop-byte.byte c.if-ends_here.back (looped c.args.kind old) old c.loop-byte.table.rows c.if-eq.table.rows below led
-          (looped-free c.args.kind old c.loop-byte.byte c.if-ends_here.back (sym read ∙ same-true c.eq.result c.next_of.result 1 c.eq.ensures w.if-eq.true) back_is)
-          (ap (λ (t : Tables). t.rows) (w.table-is ∙ w.in_ok-set.ensures.set) ∙ ap (λ (n : ℕ). set_edge c.loop-byte.table.rows n c.loop-byte.byte c.if-ends_here.back) root_is)
-      | else-eq w ↦
-          subst (λ (t : Tables). IsLedBelow 2 (c.loop-byte.byte + 1) (looped c.args.kind old) old t.rows) (sym w.table-is)
-          (IsLedBelow-kept 2 c.loop-byte.byte (looped c.args.kind old) old c.loop-byte.table.rows led
-          (looped-taken c.args.kind old c.loop-byte.byte (λ e. same-false c.eq.result c.next_of.result 1 c.eq.ensures w.if-eq.false (read ∙ e))))
+          let rows = ap (λ (t : Tables). t.rows) (w.table-is ∙ w.in_ok-set.ensures.set) ∙ ap (λ (n : ℕ). set_edge c.loop-byte.table.rows n c.loop-byte.byte c.if-ends_here.back) root_is in
+          record {
+            led = IsLedBelow-set 2 c.loop-byte.byte c.if-ends_here.back (looped c.args.kind old) old c.loop-byte.table.rows c.if-eq.table.rows below led
+                (looped-free c.args.kind old c.loop-byte.byte c.if-ends_here.back (sym read ∙ same-true c.eq.result c.next_of.result 1 c.eq.ensures w.if-eq.true) back_is) rows;
+            limit = ap (λ (t : Tables). t.limit) (w.table-is ∙ w.in_ok-set.ensures.set) ∙ c.loop-byte.invariant.limit;
+            listed = λ listed. ListsAllBytes-set c.loop-byte.table.rows c.if-eq.table.rows 2 c.loop-byte.byte c.if-ends_here.back below rows (c.loop-byte.invariant.listed listed);
+            transitions = λ listed.
+                ap (λ (t : Tables). transitions_count t.rows) w.table-is
+                ∙ w.in_ok-set.ensures.kept (ap (λ (n : ℕ). lists_byte c.loop-byte.table.rows n c.loop-byte.byte) root_is ∙ c.loop-byte.invariant.listed listed c.loop-byte.byte c.loop-byte-test.true)
+                ∙ c.loop-byte.invariant.transitions listed;
+          }
+      | else-eq w ↦ record {
+        led = subst (λ (t : Tables). IsLedBelow 2 (c.loop-byte.byte + 1) (looped c.args.kind old) old t.rows) (sym w.table-is)
+            (IsLedBelow-kept 2 c.loop-byte.byte (looped c.args.kind old) old c.loop-byte.table.rows led
+            (looped-taken c.args.kind old c.loop-byte.byte (λ e. same-false c.eq.result c.next_of.result 1 c.eq.ensures w.if-eq.false (read ∙ e))));
+        limit = ap (λ (t : Tables). t.limit) w.table-is ∙ c.loop-byte.invariant.limit;
+        listed = λ listed. subst (λ (t : Tables). ListsAllBytes t.rows 2) (sym w.table-is) (c.loop-byte.invariant.listed listed);
+        transitions = λ listed. ap (λ (t : Tables). transitions_count t.rows) w.table-is ∙ c.loop-byte.invariant.transitions listed;
+      }
     ]
+
+pub returns-in_err-set-clause-full : goal.returns-in_err-set-clause-full
+returns-in_err-set-clause-full c listed =
+    let clash =
+    c.in_err-set.ensures.there
+    (ap (λ (n : ℕ). lists_byte c.loop-byte.table.rows n c.loop-byte.byte) c.unanchored_start-root.ensures.start ∙ c.loop-byte.invariant.listed listed c.loop-byte.byte c.loop-byte-test.true) in
+    cc
 
 pub returns : goal.returns
 returns c =
     let all : c.loop-byte.byte ≡ 256 = omega arith in
     record {
-      looped = subst (λ (n : ℕ). IsLedBelow 2 n (looped c.args.kind c.args.table.now.rows) c.args.table.now.rows c.loop-byte.table.rows) all c.loop-byte.invariant;
+      looped = subst (λ (n : ℕ). IsLedBelow 2 n (looped c.args.kind c.args.table.now.rows) c.args.table.now.rows c.loop-byte.table.rows) all c.loop-byte.invariant.led;
+      limit = c.loop-byte.invariant.limit;
+      transitions = c.loop-byte.invariant.transitions;
+      full = λ listed. refl;
     }

@@ -1,9 +1,15 @@
-use Rattle.std.proofs.Common.{◌≡◌, ◌≤◌, ◌<◌, ◌++◌, ◌∷◌, [], ◌∙◌, sym, subst, ap, arith, length, get_or, ℕ, List}
+use Rattle.std.proofs.Common.{◌≡◌, ◌≤◌, ◌<◌, ◌++◌, ◌∷◌, [], ◌∙◌, refl, sym, subst, ap, arith, length, get_or, ℕ, List}
 use Rattle.std.proofs.lemmas.List.{get_or_default}
+use Rattle.aho_base.specs.Trie.{is_node}
+use Rattle.aho_corasick.specs.Building.{IsLinking, root_loop}
+use Rattle.aho_corasick.specs.Sizes.{IsReadyRefusal, names_before, matches_size}
 use Rattle.aho_corasick.specs.Tables.{Tables, row_at, set_fail_of}
-use Rattle.aho_corasick.specs.Building.{IsLinking}
+use Rattle.aho_corasick.proofs.ChangedRows.{named_below}
+use Rattle.aho_corasick.proofs.CopiedCounts.{IsCopyRefusal-larger}
+use Rattle.aho_corasick.proofs.CountedLinks.{OnlyCopies-row, OnlyCopies-both}
 use Rattle.aho_corasick.proofs.LinksSoFar.{IsLinking-next}
 use Rattle.aho_corasick.proofs.LinkedChild.{IsLinking-start, IsLinking-end}
+use Rattle.aho_corasick.proofs.Stops.{IfErr-given}
 use Rattle.aho_corasick.proofs.VisitedTransitions.{head_below}
 use Rattle.aho_corasick.proofs.noncontiguous.failure.fill_failure_transitions.Goals as goal
 
@@ -11,10 +17,14 @@ pub states-init : goal.states-init
 states-init c =
     let root_is = c.unanchored_start-root.ensures.start in
     let rows_is = ap (λ (t : Tables). t.rows) c.set_fail.ensures.set ∙ ap (λ (n : ℕ). set_fail_of c.args.table.now.rows n 0) root_is in
+    let ready = c.requires.ready in
+    let below : 2 < length c.args.table.now.rows = named_below ready.0 (is_node ready.0) (root_loop ready.0) ready.1.0 c.args.table.now.rows ready.1.2.trie 2 [] ready.1.2.trie.root in
     let queue_is : c.join.new.queue.items ≡ 2 ∷ [] =
     c.in_ok-join.ensures.joined ∙ ap (λ (l : List ℕ). l ++ c.unanchored_start-root.result ∷ []) c.new-queue.ensures.items ∙ ap (λ (n : ℕ). n ∷ []) root_is in
     record {
       within = omega arith;
+      copies = OnlyCopies-row c.args.table.now c.set_fail.new.self 2 (record (row_at c.args.table.now.rows 2) { fail = 0 }) below (λ e. omega arith) refl
+          (ap (λ (t : Tables). t.limit) c.set_fail.ensures.set) rows_is;
       linking = λ p names same ready.
           subst (λ (q : List ℕ). IsLinking p names q 0 0 c.set_fail.new.self.rows) (sym queue_is)
           (IsLinking-start p names c.args.table.now.rows c.set_fail.new.self.rows ready rows_is);
@@ -36,7 +46,8 @@ transitions-preserved c = record {
   counted = c.in_ok-visit.ensures.counted ∙ c.transitions.invariant.counted;
   longer = omega (arith, c.in_ok-visit.ensures.longer, c.transitions.invariant.longer);
   head = c.in_ok-visit.ensures.head ∙ c.transitions.invariant.head;
-  edges = λ i. c.in_ok-visit.ensures.edges i ∙ c.transitions.invariant.edges i;
+  same = OnlyCopies-both c.states.table c.transitions.table c.visit.new.table c.transitions.invariant.same c.in_ok-visit.ensures.copies;
+  copies = OnlyCopies-both c.args.table.now c.transitions.table c.visit.new.table c.transitions.invariant.copies c.in_ok-visit.ensures.copies;
   linking = λ p names same ready. c.in_ok-visit.ensures.linking p names same (c.transitions.invariant.linking p names same ready);
 }
 
@@ -47,10 +58,11 @@ states-preserved c =
     let head_is = c.transitions.invariant.head ∙ sym (c.index.ensures ∙ get_or_default c.states.queue.items c.states.head c.index.result.now 0 before) in
     let count : length (row_at c.transitions.table.rows (get_or c.transitions.queue.items c.states.head 0)).edges ≡ c.transitions_len-index-end.result =
     ap (λ (n : ℕ). length (row_at c.transitions.table.rows n).edges) head_is
-    ∙ ap length (c.transitions.invariant.edges c.index.result.now)
+    ∙ ap length (c.transitions.invariant.same.edges c.index.result.now)
     ∙ sym c.transitions_len-index-end.ensures.len in
     record {
       within = omega (arith, c.transitions.invariant.longer);
+      copies = c.transitions.invariant.copies;
       linking = λ p names same ready.
           IsLinking-next p names c.transitions.queue.items c.states.head c.transitions.index c.transitions.table.rows (c.transitions.invariant.linking p names same ready) inside (omega arith);
     }
@@ -60,4 +72,14 @@ returns c =
     let past : length c.states.queue.items ≤ c.states.head = omega (arith, c.states.queue.ok.0) in
     record {
       built = λ p names same ready. IsLinking-end p names c.states.queue.items c.states.head 0 c.states.table.rows past (c.states.invariant.linking p names same ready);
+      copies = c.states.invariant.copies;
+      refused = tt;
     }
+
+pub returns-in_err-visit-clause-refused : goal.returns-in_err-visit-clause-refused
+returns-in_err-visit-clause-refused c =
+    IfErr-given (IsReadyRefusal c.args.kind c.args.table.now) c.from_residual-in_err-visit.result c.in_err-visit.field-0.0 c.from_residual-in_err-visit.ensures.1
+    (λ p same ready none.
+    let copies = c.transitions.invariant.copies in
+    IsCopyRefusal-larger c.args.table.now.limit (matches_size p) c.transitions.table.limit (matches_size p) c.in_err-visit.field-0.0 copies.limit (omega arith)
+    (c.in_err-visit.ensures.refused p same (c.transitions.invariant.linking p (names_before p (length p.words)) same ready) (copies.fail_matches ∙ none)))

@@ -1,11 +1,12 @@
 use Rattle.std.proofs.Common.{◌≡◌, ◌≤◌, ◌+◌, ◌-◌, ℕ, List, Option, vec_len, slice_index}
 use Rattle.aho_base.specs.Patterns.{Patterns}
-use Rattle.aho_corasick.specs.Building.{IsReady, IsLinking, HasSameEdges, unlinked_count}
+use Rattle.aho_corasick.specs.Building.{IsReady, IsLinking, OnlyCopies, unlinked_count}
 use Rattle.aho_corasick.proofs.noncontiguous.failure.fill_failure_transitions.Given as goal
 
 abbrev pub invariant-states : goal.invariant-states
 invariant-states l = record {
   within : l.head ≤ vec_len l.queue;
+  copies : OnlyCopies l.fn.table l.table;
   linking : (p : Patterns) (names : List (Option (List ℕ))) → p.kind ≡ l.kind → IsReady p names l.fn.table.rows → IsLinking p names l.queue.items l.head 0 l.table.rows;
 }
 
@@ -17,6 +18,7 @@ invariant-transitions l = record {
   counted : unlinked_count l.table.rows + vec_len l.queue ≡ unlinked_count l.initial.table.rows + vec_len l.initial.queue;
   longer : vec_len l.initial.queue ≤ vec_len l.queue;
   head : slice_index l.queue.items l.head ≡ slice_index l.initial.queue.items l.head;
-  edges : HasSameEdges l.initial.table.rows l.table.rows;
+  same : OnlyCopies l.initial.table l.table;
+  copies : OnlyCopies l.fn.table l.table;
   linking : (p : Patterns) (names : List (Option (List ℕ))) → p.kind ≡ l.kind → IsReady p names l.fn.table.rows → IsLinking p names l.queue.items l.head l.index l.table.rows;
 }

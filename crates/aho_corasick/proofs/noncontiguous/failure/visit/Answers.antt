@@ -1,8 +1,11 @@
-use Rattle.std.proofs.Common.{◌≡◌, ◌≢◌, ◌∙◌, sym, arith}
-use Rattle.std.proofs.lemmas.Result.{on_ok_weaker}
+use Rattle.std.proofs.Common.{◌≡◌, ◌≢◌, ◌∙◌, sym, inr, arith}
+use Rattle.std.proofs.lemmas.Result.{on_ok_weaker, IfErr-weaker}
+use Rattle.aho_base.specs.declared.error.BuildError.TheVariants.{OutOfMemory}
+use Rattle.aho_corasick.specs.Sizes.{IsLinkingRefusal}
 use Rattle.aho_corasick.specs.Tables.{fail_in}
 use Rattle.aho_corasick.proofs.ComparedStates.{same-false, differ-false}
-use Rattle.aho_corasick.proofs.VisitedTransitions.{visit_child_below, visit_can, visit_link_below, visit_apart, visit_keeps, visit_counted, visit_longer, visit_head, visit_edges}
+use Rattle.aho_corasick.proofs.Stops.{IfErr-given}
+use Rattle.aho_corasick.proofs.VisitedTransitions.{visit_child_below, visit_can, visit_link_below, visit_apart, visit_keeps, visit_counted, visit_longer, visit_head, visit_refused, visit_copies}
 use Rattle.aho_corasick.proofs.noncontiguous.failure.visit.Goals as goal
 
 pub fail-requires : goal.fail-requires
@@ -66,6 +69,18 @@ returns c =
       )) c.join.ensures.joined;
       head = on_ok_weaker c.join.result (λ joined. visit_head c.args.kind c.args.queue.now.items c.args.head c.args.index c.args.table.now.rows c.index-parent.result.now c.transition-byte.result
           (omega (arith, c.args.queue.now.ok.0)) (omega arith) c.index-parent.ensures c.transition-byte.ensures.listed c.transition-byte.ensures.leads other free c.child_link-fail.result c.child_link-fail.ensures.links c.join.new.queue.items c.link.new.table.rows joined linked) c.join.ensures.joined;
-      edges = on_ok_weaker c.join.result (λ joined. visit_edges c.args.kind c.args.queue.now.items c.args.head c.args.index c.args.table.now.rows c.index-parent.result.now c.transition-byte.result
-          (omega (arith, c.args.queue.now.ok.0)) (omega arith) c.index-parent.ensures c.transition-byte.ensures.listed c.transition-byte.ensures.leads other free c.child_link-fail.result c.child_link-fail.ensures.links c.join.new.queue.items c.link.new.table.rows joined linked c.requires.linking) c.join.ensures.joined;
+      copies = on_ok_weaker c.join.result (λ joined. visit_copies c.args.kind c.args.queue.now.items c.args.head c.args.index c.args.table.now.rows c.index-parent.result.now c.transition-byte.result
+          (omega (arith, c.args.queue.now.ok.0)) (omega arith) c.index-parent.ensures c.transition-byte.ensures.listed c.transition-byte.ensures.leads other free c.child_link-fail.result c.child_link-fail.ensures.links
+          c.args.table.now.limit c.link.new.table c.requires.linking c.in_ok-link.ensures.limit linked) c.join.ensures.joined;
+      refused = IfErr-weaker c.join.result (λ error. error ≡ OutOfMemory) (IsLinkingRefusal c.args.kind c.args.queue.now.items c.args.head c.args.index c.args.table.now)
+          (λ error memory p same so_far none. inr memory) c.join.ensures.refused;
     }
+
+pub returns-in_err-link-clause-refused : goal.returns-in_err-link-clause-refused
+returns-in_err-link-clause-refused c =
+    let other : c.transition-byte.result.1 ≢ 1 = same-false c.eq.result c.transition-byte.result.1 1 c.eq.ensures c.if-eq.false in
+    let free : fail_in c.args.table.now.rows c.transition-byte.result.1 ≡ 1 = sym c.fail.ensures.fail ∙ differ-false c.ne.result c.fail.result 1 c.ne.ensures c.if-ne.false in
+    IfErr-given (IsLinkingRefusal c.args.kind c.args.queue.now.items c.args.head c.args.index c.args.table.now) c.from_residual.result c.in_err-link.field-0.0 c.from_residual.ensures.1
+    (visit_refused c.args.kind c.args.queue.now.items c.args.head c.args.index c.args.table.now.rows c.index-parent.result.now c.transition-byte.result
+    (omega (arith, c.args.queue.now.ok.0)) (omega arith) c.index-parent.ensures c.transition-byte.ensures.listed c.transition-byte.ensures.leads other free c.child_link-fail.result c.child_link-fail.ensures.links
+    c.args.table.now.limit c.in_err-link.field-0.0 c.in_err-link.ensures.refused)
