@@ -1,9 +1,9 @@
 -- How large the tables of an automaton become, and what a limit refuses. What a build asks for is a list of growths in their
 -- order; the cause of a refusal is the first of them that the limits refuse.
-use Rattle.std.specs.Prelude.{◌≡◌, ℕ, ◌+◌, ◌-◌, ◌*◌, Bool, not, ◌||◌, nat_eq, nat_lt, nat_le, List, [], ◌∷◌, ◌++◌, length, map, filter, flat_map, take, sum_by, count_by, find, slice_index, min, Option, Some, None, if◌then◌else◌}
+use Rattle.std.specs.Prelude.{◌≡◌, ℕ, ◌+◌, ◌-◌, ◌*◌, Bool, not, nat_eq, nat_lt, List, [], ◌∷◌, ◌++◌, length, map, filter, flat_map, take, sum_by, count_by, find, slice_index, min, Option, Some, None, if◌then◌else◌}
 use Rattle.std.specs.List.{list_any, range_with_len}
 use Rattle.aho_base.specs.Bytes.{folded}
-use Rattle.aho_base.specs.MatchList.{own_matches, matches_of}
+use Rattle.aho_base.specs.MatchList.{matches_of}
 use Rattle.aho_base.specs.Patterns.{Patterns, pattern_at, numbers}
 use Rattle.aho_base.specs.Trie.{begins, pattern_word, is_kept}
 use Rattle.aho_corasick.specs.Tables.{Row, transitions_count, matches_count}
@@ -105,6 +105,27 @@ cause limits p = find (is_refused limits) (growth p)
 -- the states in the order in which a build makes them, by their words
 abbrev pub names_before : Patterns → ℕ → List (Option (List ℕ))
 names_before p number = None ∷ None ∷ Some [] ∷ None ∷ map Some (nodes_before p number)
+
+-- the prefixes of a word that no kept pattern below this number begins with, from the shortest
+abbrev pub new_fronts : Patterns → ℕ → List ℕ → List (List ℕ)
+new_fronts p number word =
+    filter
+    (λ front. not (list_any (λ earlier. begins front (pattern_word p earlier)) (kept_before p number)))
+    (map (λ size. take size word) (range_with_len 1 (length word)))
+
+-- the nonempty nodes of the patterns below this number and of the first bytes of one more
+abbrev pub nodes_with : Patterns → ℕ → List ℕ → List (List ℕ)
+nodes_with p number more = nodes_before p number ++ new_fronts p number more
+
+-- the names of the states that have these nodes, in their order
+abbrev pub names_of : List (List ℕ) → List (Option (List ℕ))
+names_of words = None ∷ None ∷ Some [] ∷ None ∷ map Some words
+
+-- the table has a state for each of these nodes, the transitions into them, and this many listed patterns
+pub record HasNodes (p : Patterns) (words : List (List ℕ)) (kept : ℕ) (rows : List Row) : Type 0 where
+  pub states : length rows ≡ 4 + length words
+  pub transitions : transitions_count rows ≡ 769 + sum_by (entries_for p) words
+  pub matches : matches_count rows ≡ 1 + kept
 
 -- the trie of the patterns below this number has the states, transitions and matches that it should
 pub record IsCountedTrie (p : Patterns) (number : ℕ) (rows : List Row) : Type 0 where
