@@ -1,8 +1,8 @@
 -- The trie of the first patterns stays what it is when patterns are appended.
-use Rattle.std.proofs.Common.{◌≡◌, ℕ, zero, suc, ◌+◌, ◌<◌, ◌≤◌, Bool, not, ◌&&◌, ◌||◌, cond, nat_lt, List, [], ◌∷◌, ◌++◌, length, get_or, map, Option, Some, MatchBool, refl, sym, ap, subst, ◌∙◌, arith}
+use Rattle.std.proofs.Common.{◌≡◌, ℕ, zero, suc, ◌+◌, ◌<◌, ◌≤◌, Bool, true, false, not, ◌&&◌, ◌||◌, cond, nat_lt, List, [], ◌∷◌, ◌++◌, length, get_or, map, take, Option, Some, MatchBool, refl, sym, ap, subst, ◌∙◌, arith}
 use Rattle.std.proofs.lemmas.List.{get_or_append_left, get_or_push, length_push, length-map, map-append}
-use Rattle.std.specs.Prelude.{filter}
-use Rattle.std.specs.List.{list_any, range_with_len}
+use Rattle.std.specs.Prelude.{filter, sum_by}
+use Rattle.std.specs.List.{flat_map, list_any, range_with_len}
 use denote.Ref.{Bor}
 use Rattle.aho_base.specs.declared.search.MatchKind.{MatchKind}
 use Rattle.aho_base.specs.declared.search.MatchKind.TheVariants.{Standard, LeftmostFirst, LeftmostLongest}
@@ -10,7 +10,8 @@ use Rattle.aho_base.specs.Among.{is_node_among, own_among}
 use Rattle.aho_base.specs.Bytes.{folded_word}
 use Rattle.aho_base.specs.Patterns.{Patterns}
 use Rattle.aho_base.specs.Trie.{begins, is_kept, is_word, kept_by, pattern_word}
-use Rattle.aho_corasick.specs.Growing.{patterns_of, IsNumbered, AwaitsWord, AddsPattern, HoldsTrie}
+use Rattle.aho_corasick.specs.Growing.{patterns_of, IsNumbered, AwaitsWord, AddsPattern, HoldsFirst, HoldsTrie}
+use Rattle.aho_corasick.specs.Sizes.{kept_before, names_before, names_of, new_fronts, new_nodes, nodes_before, entries_for}
 use Rattle.aho_corasick.specs.Naming.{name_at, longer, missing_at, IsTrie, IsTrieOf}
 use Rattle.aho_corasick.specs.Tables.{Row, next_in}
 
@@ -25,6 +26,33 @@ filter-same f g a zero same = refl
 filter-same f g a (suc n) same =
     ap (λ (b : Bool). cond b (a ∷ filter f (range_with_len (a + 1) n)) (filter f (range_with_len (a + 1) n))) (same a (omega arith))
     ∙ ap (λ (l : List ℕ). cond (g a) (a ∷ l) l) (filter-same f g (a + 1) n (λ k less. same k (omega (arith, less))))
+
+filter-same_words : (f g : List ℕ → Bool) → ((word : List ℕ) → f word ≡ g word) → (words : List (List ℕ)) → filter f words ≡ filter g words
+filter-same_words f g same [] = refl
+filter-same_words f g same (word ∷ words) =
+    ap (λ (b : Bool). cond b (word ∷ filter f words) (filter f words)) (same word)
+    ∙ ap (λ (l : List (List ℕ)). cond (g word) (word ∷ l) l) (filter-same_words f g same words)
+
+-- what a filter of first numbers is mapped to, or tested by
+flat_map-filter_same : (f g : ℕ → List (List ℕ)) (test : ℕ → Bool) (a n : ℕ) → ((k : ℕ) → k < a + n → f k ≡ g k)
+    → flat_map f (filter test (range_with_len a n)) ≡ flat_map g (filter test (range_with_len a n))
+flat_map-filter_same f g test a zero same = refl
+flat_map-filter_same f g test a (suc n) same =
+    by (test a) (filter test (range_with_len (a + 1) n)) (flat_map-filter_same f g test (a + 1) n (λ k less. same k (omega (arith, less)))) (same a (omega arith))
+  where
+    by : (b : Bool) (ks : List ℕ) → flat_map f ks ≡ flat_map g ks → f a ≡ g a → flat_map f (cond b (a ∷ ks) ks) ≡ flat_map g (cond b (a ∷ ks) ks)
+    by true ks rest here = ap (λ (l : List (List ℕ)). l ++ flat_map f ks) here ∙ ap (λ (l : List (List ℕ)). g a ++ l) rest
+    by false ks rest here = rest
+
+list_any-filter_same : (f g : ℕ → Bool) (test : ℕ → Bool) (a n : ℕ) → ((k : ℕ) → k < a + n → f k ≡ g k)
+    → list_any f (filter test (range_with_len a n)) ≡ list_any g (filter test (range_with_len a n))
+list_any-filter_same f g test a zero same = refl
+list_any-filter_same f g test a (suc n) same =
+    by (test a) (filter test (range_with_len (a + 1) n)) (list_any-filter_same f g test (a + 1) n (λ k less. same k (omega (arith, less)))) (same a (omega arith))
+  where
+    by : (b : Bool) (ks : List ℕ) → list_any f ks ≡ list_any g ks → f a ≡ g a → list_any f (cond b (a ∷ ks) ks) ≡ list_any g (cond b (a ∷ ks) ks)
+    by true ks rest here = ap (λ (c : Bool). c || list_any f ks) here ∙ ap (λ (c : Bool). g a || c) rest
+    by false ks rest here = rest
 
 module _ (p : Patterns) (more : List (List ℕ)) where
   -- the patterns with more of them
@@ -87,12 +115,45 @@ module _ (p : Patterns) (more : List (List ℕ)) where
   }
 
   -- more patterns, of which none is in the trie yet
-  pub IsTrieOf-appended : (n : ℕ) (names : List (Option (List ℕ))) (rows : List Row) → n ≤ length p.words → IsTrieOf p n names rows → IsTrieOf with_more n names rows
+  IsTrieOf-appended : (n : ℕ) (names : List (Option (List ℕ))) (rows : List Row) → n ≤ length p.words → IsTrieOf p n names rows → IsTrieOf with_more n names rows
   IsTrieOf-appended n names rows within of = record {
     trie = IsTrie-appended (is_node_among p n) (is_node_among with_more n) 1 names rows (λ word. sym (is_node_among-appended n word within)) of.trie;
     lists = λ i word e. of.lists i word e ∙ sym (own_among-appended n word within);
     first = of.first;
   }
+
+  -- which are kept, and what they add, is the same
+  pub kept_before-appended : (n : ℕ) → n ≤ length p.words → kept_before with_more n ≡ kept_before p n
+  kept_before-appended n within = filter-same (is_kept with_more) (is_kept p) 0 n (λ k less. is_kept-more k (omega (arith, less, within)))
+
+  pub new_nodes-appended : (n : ℕ) → n < length p.words → new_nodes with_more n ≡ new_nodes p n
+  new_nodes-appended n below =
+      ap (λ (w : List ℕ). new_fronts with_more n w) (pattern_word-more n below)
+      ∙ ap (λ (ks : List ℕ). filter (λ front. not (list_any (λ earlier. begins front (pattern_word with_more earlier)) ks)) (map (λ size. take size (pattern_word p n)) (range_with_len 1 (length (pattern_word p n)))))
+      (kept_before-appended n (omega arith))
+      ∙ filter-same_words (λ front. not (list_any (λ earlier. begins front (pattern_word with_more earlier)) (kept_before p n)))
+      (λ front. not (list_any (λ earlier. begins front (pattern_word p earlier)) (kept_before p n)))
+      (λ front. ap not (list_any-filter_same (λ earlier. begins front (pattern_word with_more earlier)) (λ earlier. begins front (pattern_word p earlier)) (is_kept p) 0 n
+      (λ k less. ap (λ (w : List ℕ). begins front w) (pattern_word-more k (omega (arith, less, below))))))
+      (map (λ size. take size (pattern_word p n)) (range_with_len 1 (length (pattern_word p n))))
+
+  pub nodes_before-appended : (n : ℕ) → n ≤ length p.words → nodes_before with_more n ≡ nodes_before p n
+  nodes_before-appended n within =
+      ap (flat_map (new_nodes with_more)) (kept_before-appended n within)
+      ∙ flat_map-filter_same (new_nodes with_more) (new_nodes p) (is_kept p) 0 n (λ k less. new_nodes-appended k (omega (arith, less, within)))
+
+  pub HoldsFirst-appended : (n : ℕ) (rows : List Row) → n ≤ length p.words → HoldsFirst p n rows → HoldsFirst with_more n rows
+  HoldsFirst-appended n rows within holds =
+      let words : nodes_before with_more n ≡ nodes_before p n = nodes_before-appended n within in
+      record {
+        trie = subst (λ (w : List (List ℕ)). IsTrieOf with_more n (names_of w) rows) (sym words) (IsTrieOf-appended n (names_before p n) rows within holds.trie);
+        counted = record {
+          states = holds.counted.states ∙ ap (λ (w : List (List ℕ)). 4 + length w) (sym words);
+          transitions = holds.counted.transitions ∙ ap (λ (w : List (List ℕ)). 769 + sum_by (entries_for p) w) (sym words);
+          matches = holds.counted.matches ∙ ap (λ (ks : List ℕ). 1 + length ks) (sym (kept_before-appended n within));
+        };
+        listed = holds.listed;
+      }
 
 -- one item more
 module _ (kind : MatchKind) (ignore_case : Bool) (items : List (Bor (List ℕ))) (item : Bor (List ℕ)) where
@@ -105,31 +166,30 @@ module _ (kind : MatchKind) (ignore_case : Bool) (items : List (Bor (List ℕ)))
   words_next : map (λ (i : Bor (List ℕ)). i.now) (items ++ item ∷ []) ≡ words_before ++ item.now ∷ []
   words_next = map-append (λ (i : Bor (List ℕ)). i.now) items (item ∷ [])
 
-  IsNumbered-next : (number : ℕ) → number ≡ length words_before → IsNumbered patterns_next number kind ignore_case item.now
+  pub IsNumbered-next : (number : ℕ) → number ≡ length words_before → IsNumbered patterns_next number kind ignore_case item.now
   IsNumbered-next number e = record {
     kind_is = refl;
     case_is = refl;
     pattern_is = ap (λ (ws : List (List ℕ)). get_or ws number []) words_next ∙ get_or_push words_before item.now [] number (sym e);
   }
 
-  IsTrieOf-next : (number : ℕ) (names : List (Option (List ℕ))) (rows : List Row) → number ≡ length words_before
-      → IsTrieOf (patterns_of kind ignore_case items) (length words_before) names rows → IsTrieOf patterns_next number names rows
-  IsTrieOf-next number names rows e of =
-      let appended = IsTrieOf-appended (patterns_of kind ignore_case items) (item.now ∷ []) (length words_before) names rows (omega arith) of in
-      subst (λ (ws : List (List ℕ)). IsTrieOf (record { words = ws; kind = kind; ignore_case = ignore_case }) number names rows) (sym words_next)
-      (subst (λ (n : ℕ). IsTrieOf (record { words = words_before ++ item.now ∷ []; kind = kind; ignore_case = ignore_case }) n names rows) (sym e) appended)
+  pub HoldsFirst-next : (number : ℕ) (rows : List Row) → number ≡ length words_before
+      → HoldsFirst (patterns_of kind ignore_case items) (length words_before) rows → HoldsFirst patterns_next number rows
+  HoldsFirst-next number rows e holds =
+      let appended = HoldsFirst-appended (patterns_of kind ignore_case items) (item.now ∷ []) (length words_before) rows (omega arith) holds in
+      subst (λ (ws : List (List ℕ)). HoldsFirst (record { words = ws; kind = kind; ignore_case = ignore_case }) number rows) (sym words_next)
+      (subst (λ (n : ℕ). HoldsFirst (record { words = words_before ++ item.now ∷ []; kind = kind; ignore_case = ignore_case }) n rows) (sym e) appended)
 
   -- the trie awaits the item
   pub AwaitsWord-next : (number : ℕ) (rows : List Row) → number ≡ length words_before → HoldsTrie (patterns_of kind ignore_case items) rows → AwaitsWord kind ignore_case item.now rows
-  AwaitsWord-next number rows e holds = (patterns_next, (number, (holds.0, IsNumbered-next number e, IsTrieOf-next number holds.0 rows e holds.1)))
+  AwaitsWord-next number rows e holds = (patterns_next, (number, (IsNumbered-next number e, HoldsFirst-next number rows e holds)))
 
   -- and holds it once it is added
   pub HoldsTrie-next : (number : ℕ) (old new : List Row) → number ≡ length words_before → AddsPattern kind ignore_case item.now number old new
       → HoldsTrie (patterns_of kind ignore_case items) old → HoldsTrie patterns_next new
   HoldsTrie-next number old new e adds holds =
-      let added = adds patterns_next holds.0 (IsNumbered-next number e) (IsTrieOf-next number holds.0 old e holds.1) in
       let count : number + 1 ≡ length patterns_next.words = omega (arith, e, ap length words_next, length_push words_before item.now) in
-      (added.0, subst (λ (n : ℕ). IsTrieOf patterns_next n added.0 new) count added.1)
+      subst (λ (n : ℕ). HoldsFirst patterns_next n new) count (adds patterns_next (IsNumbered-next number e) (HoldsFirst-next number old e holds))
 
   -- its length is the last
   pub lengths-next : (lens : List ℕ) (len : ℕ) → lens ≡ map length words_before → len ≡ length item.now → lens ++ len ∷ [] ≡ map length patterns_next.words

@@ -1,5 +1,5 @@
 -- Where a pattern's bytes end, and that a pattern is left out exactly where the walk along it meets a pattern before its end.
-use Rattle.std.proofs.Common.{◌≡◌, ℕ, ◌+◌, ◌<◌, ◌≤◌, get_or, Bool, true, false, ◌&&◌, nat_lt, List, [], ◌∷◌, ◌++◌, length, take, drop, Option, Some, None, refl, sym, ap, subst, ◌∙◌, inl, inr, arith}
+use Rattle.std.proofs.Common.{◌≡◌, ◌≢◌, ℕ, ◌+◌, ◌<◌, ◌≤◌, get_or, Bool, true, false, ◌&&◌, nat_lt, List, [], ◌∷◌, ◌++◌, length, take, drop, Option, Some, None, refl, sym, ap, subst, ◌∙◌, inl, inr, arith}
 use Rattle.std.proofs.lemmas.Bool.{cases_Bool, cases_eq, ltb-true, lt-ltb}
 use Rattle.std.proofs.lemmas.List.{take-append-drop, take-map, length-map, length-take-le, take_all}
 use Rattle.std.proofs.Math.Seq.{take-append_seam}
@@ -10,11 +10,11 @@ use Rattle.aho_base.specs.Bytes.{folded, folded_word}
 use Rattle.aho_base.specs.Patterns.{Patterns}
 use Rattle.aho_base.specs.Trie.{is_kept, pattern_word}
 use Rattle.aho_base.proofs.Inserted.{left_out-walk, walk-left_out}
-use Rattle.aho_corasick.specs.Growing.{is_first, IsNumbered, EndsAt, HasChild, HasWalked}
-use Rattle.aho_corasick.specs.Naming.{name_at, IsTrieWith, IsTrieOf}
+use Rattle.aho_corasick.specs.Growing.{is_first, IsNumbered, EndsAt, HasChild, HasWalked, HoldsFirst, HoldsWith}
+use Rattle.aho_corasick.specs.Naming.{name_at, IsTrieWith}
 use Rattle.aho_corasick.specs.Tables.{Row, matches_in}
-use Rattle.aho_corasick.proofs.Ended.{IsTrieWith-back}
-use Rattle.aho_corasick.proofs.Insert.{IsTrieWith-start, IsTrieWith-byte}
+use Rattle.aho_corasick.specs.Sizes.{nodes_with, names_of}
+use Rattle.aho_corasick.proofs.CountedTrie.{HoldsWith-start, HoldsWith-byte, HoldsWith-back}
 use Rattle.aho_corasick.proofs.Changed.{name_at-below}
 use Rattle.aho_corasick.proofs.Nodes.{own_among-absent}
 
@@ -62,9 +62,23 @@ module _ (p : Patterns) (number : ℕ) (kind : MatchKind) (ignore_case : Bool) (
       sym (lt-ltb 0 (length (matches_in rows sid)) some) ∙ ap (λ (b : Bool). b && nat_lt 0 (length (matches_in rows sid))) (sym first) ∙ none in
       cc)
 
-  EndsAt-none : (sid k : ℕ) (names : List (Option (List ℕ))) (rows : List Row) → k < length word → (is_first kind && nat_lt 0 (length (matches_in rows sid))) ≡ true
-      → IsTrieWith p number (front_of k) names rows → name_at names sid ≡ Some (front_of k) → EndsAt p number rows None
-  EndsAt-none sid k names rows inside seen with_more at =
+  abbrev names_at : ℕ → List (Option (List ℕ))
+  names_at k = names_of (nodes_with p number (front_of k))
+
+  -- a pattern that is left out meets a pattern before its end
+  pub left_out-front : is_kept p number ≡ false → (k : ℕ) × (k < length word) × (own_among p number (front_of k) ≢ [])
+  left_out-front left =
+      let whole = sym (pattern_word-numbered p number kind ignore_case word numbered) in
+      let walk = left_out-walk p number left in
+      let u = walk.1.0 in
+      let is_front : u ≡ front_of (length u) =
+      sym (take-append_seam u walk.1.1) ∙ ap (take (length u)) (walk.1.2 ∙ sym whole) ∙ take-map (folded p) (length u) word in
+      (length u, omega (arith, walk.1.3, ap length whole, length-map word (folded p)), λ none. walk.1.4 (ap (own_among p number) is_front ∙ none))
+
+  EndsAt-none : (sid k : ℕ) (rows : List Row) → k < length word → (is_first kind && nat_lt 0 (length (matches_in rows sid))) ≡ true
+      → HoldsWith p number (front_of k) rows → name_at (names_at k) sid ≡ Some (front_of k) → EndsAt p number rows None
+  EndsAt-none sid k rows inside seen holds at =
+      let with_more = holds.trie in
       let both = both_hold (is_first kind) (nat_lt 0 (length (matches_in rows sid))) seen in
       let own : List ℕ = own_among p number (front_of k) in
       let some : 0 < length own = omega (arith, ltb-true 0 (length (matches_in rows sid)) both.1, ap length (with_more.lists sid (front_of k) at)) in
@@ -76,37 +90,35 @@ module _ (p : Patterns) (number : ℕ) (kind : MatchKind) (ignore_case : Bool) (
       let short : length (front_of k) < length (pattern_word p number) =
       omega (arith, inside, length-map (take k word) (folded p), length-take-le k word (omega (arith, inside)), ap length (pattern_word-numbered p number kind ignore_case word numbered), length-map word (folded p)) in (
         walk-left_out p number (front_of k) (drop k (folded_word p word)) (numbered.kind_is ∙ first_kind kind both.0) (front_of-word k) short (λ none. omega (arith, some, ap length none)),
-        (names, IsTrieWith-back p number (front_of k) names rows node with_more),
+        HoldsWith-back p number (front_of k) rows node holds,
       )
 
-  EndsAt-some : (sid : ℕ) (names : List (Option (List ℕ))) (rows : List Row) → ((k : ℕ) → k < length word → is_first kind ≡ true → own_among p number (front_of k) ≡ [])
-      → IsTrieWith p number (folded_word p word) names rows → name_at names sid ≡ Some (folded_word p word) → EndsAt p number rows (Some sid)
-  EndsAt-some sid names rows passed with_all at =
+  EndsAt-some : (sid : ℕ) (rows : List Row) → ((k : ℕ) → k < length word → is_first kind ≡ true → own_among p number (front_of k) ≡ [])
+      → HoldsWith p number (folded_word p word) rows → name_at (names_of (nodes_with p number (folded_word p word))) sid ≡ Some (folded_word p word) → EndsAt p number rows (Some sid)
+  EndsAt-some sid rows passed with_all at =
       let whole = sym (pattern_word-numbered p number kind ignore_case word numbered) in
       let kept : is_kept p number ≡ true =
       elim (cases_Bool (is_kept p number)) [
         | inl there ↦ there
         | inr left ↦
-            (let walk = left_out-walk p number left in
-            let u = walk.1.0 in
-            let is_front : u ≡ front_of (length u) =
-            sym (take-append_seam u walk.1.1) ∙ ap (take (length u)) (walk.1.2 ∙ sym whole) ∙ take-map (folded p) (length u) word in
-            let short : length u < length word = omega (arith, walk.1.3, ap length whole, length-map word (folded p)) in
-            absurd (walk.1.4 (ap (own_among p number) is_front ∙ passed (length u) short (kind_first kind (sym numbered.kind_is ∙ walk.0)))))
+            (let walk = left_out-front left in
+            let short : walk.0 < length word = walk.1 in
+            absurd (walk.2 (passed walk.0 short (kind_first kind (sym numbered.kind_is ∙ (left_out-walk p number left).0)))))
       ] in
-      (kept, (names, (subst (λ (w : List ℕ). IsTrieWith p number w names rows) whole with_all, at ∙ ap (λ (w : List ℕ). Some w) whole)))
+      subst (λ (w : List ℕ). (is_kept p number ≡ true) × HoldsWith p number w rows × (name_at (names_of (nodes_with p number w)) sid ≡ Some w)) whole (kept, with_all, at)
 
   -- the walk begins at the root
-  pub HasWalked-none : (sid : ℕ) (names : List (Option (List ℕ))) (rows : List Row) → sid ≡ 2 → IsTrieOf p number names rows → HasWalked p number word 0 sid rows
-  HasWalked-none sid names rows root of = record {
-    passed = λ k below first. absurd (omega arith);
-    names = names;
-    with_front = IsTrieWith-start p number names rows of;
-    held = ap (name_at names) root ∙ of.trie.root;
-  }
+  pub HasWalked-none : (sid : ℕ) (rows : List Row) → sid ≡ 2 → HoldsFirst p number rows → HasWalked p number word 0 sid rows
+  HasWalked-none sid rows root holds =
+      let begun = HoldsWith-start p number rows holds in
+      record {
+        passed = λ k below first. absurd (omega arith);
+        with_front = begun;
+        held = ap (name_at (names_at 0)) root ∙ begun.trie.trie.root;
+      }
 
   pub HasWalked-below : (count sid : ℕ) (rows : List Row) → HasWalked p number word count sid rows → sid < length rows
-  HasWalked-below count sid rows walked = omega (arith, name_at-below walked.names sid (front_of count) walked.held, walked.with_front.trie.sized)
+  HasWalked-below count sid rows walked = omega (arith, name_at-below (names_at count) sid (front_of count) walked.held, walked.with_front.trie.trie.sized)
 
   -- one byte more
   pub HasWalked-more : (count sid next : ℕ) (old new : List Row) → count < length word → get_or word count 0 < 256
@@ -115,29 +127,28 @@ module _ (p : Patterns) (number : ℕ) (kind : MatchKind) (ignore_case : Bool) (
   HasWalked-more count sid next old new below small none child walked =
       let has : HasChild p.ignore_case sid (get_or word count 0) (count + 1) old new next =
       subst (λ (b : Bool). HasChild b sid (get_or word count 0) (count + 1) old new next) (sym numbered.case_is) child in
-      let grown = IsTrieWith-byte p number word count walked.names old new sid count next below small refl walked.with_front walked.held has in
+      let grown = HoldsWith-byte p number word count sid next old new below small walked.with_front walked.held has in
       record {
         passed = λ k less first.
             elim (cases_eq k count) [
               | inl here ↦
                   ap (λ (n : ℕ). own_among p number (front_of n)) here
-                  ∙ passed_none sid count walked.names old none (ap is_first (sym numbered.kind_is) ∙ first) walked.with_front walked.held
+                  ∙ passed_none sid count (names_at count) old none (ap is_first (sym numbered.kind_is) ∙ first) walked.with_front.trie walked.held
               | inr earlier ↦ walked.passed k (omega arith) first
             ];
-        names = grown.0;
-        with_front = grown.1;
-        held = grown.2;
+        with_front = grown.0;
+        held = grown.1;
       }
 
   -- the walk ends before the word, or with it
   pub HasWalked-met : (count sid : ℕ) (rows : List Row) → count < length word → (is_first kind && nat_lt 0 (length (matches_in rows sid))) ≡ true
       → HasWalked p number word count sid rows → EndsAt p number rows None
-  HasWalked-met count sid rows inside seen walked = EndsAt-none sid count walked.names rows inside seen walked.with_front walked.held
+  HasWalked-met count sid rows inside seen walked = EndsAt-none sid count rows inside seen walked.with_front walked.held
 
   pub HasWalked-all : (count sid : ℕ) (rows : List Row) → length word ≤ count → HasWalked p number word count sid rows → EndsAt p number rows (Some sid)
   HasWalked-all count sid rows past walked =
       let whole : front_of count ≡ folded_word p word = ap (folded_word p) (take_all count word past) in
-      EndsAt-some sid walked.names rows
+      EndsAt-some sid rows
       (λ k less first. walked.passed k (omega (arith, less, past)) (ap is_first numbered.kind_is ∙ first))
-      (subst (λ (w : List ℕ). IsTrieWith p number w walked.names rows) whole walked.with_front)
-      (walked.held ∙ ap (λ (w : List ℕ). Some w) whole)
+      (subst (λ (w : List ℕ). HoldsWith p number w rows) whole walked.with_front)
+      (subst (λ (w : List ℕ). name_at (names_of (nodes_with p number w)) sid ≡ Some w) whole walked.held)

@@ -1,12 +1,13 @@
 -- A pattern's bytes are added one by one.
 use Rattle.std.proofs.Common.{◌≡◌, ℕ, ◌+◌, ◌<◌, ◌≤◌, Bool, true, false, ◌||◌, nat_eq, List, [], ◌∷◌, ◌++◌, length, get_or, take, Option, Some, None, MatchBool, bytes_eq, eq-eqb, refl, sym, ap, subst, ◌∙◌, inl, inr, arith}
-use Rattle.std.proofs.lemmas.Bool.{cases_Bool, eqb-true, or_parts, MatchBool-at_true, MatchBool-at_false}
-use Rattle.std.proofs.lemmas.List.{take_more, map-append, length-map, length-take-le}
+use Rattle.std.proofs.lemmas.Bool.{cases_Bool, eqb-true, or_cases, or_parts, MatchBool-at_true, MatchBool-at_false}
+use Rattle.std.proofs.lemmas.List.{take_more, map-append, length_push}
 use Rattle.aho_base.specs.Among.{is_node_among, own_among}
 use Rattle.aho_base.specs.Bytes.{folded, folded_word}
 use Rattle.aho_base.specs.Patterns.{Patterns}
 use Rattle.aho_base.specs.Trie.{begins}
-use Rattle.aho_corasick.specs.Growing.{Grows, HasChild}
+use Rattle.aho_base.proofs.Begins.{begins-true, begins_length}
+use Rattle.aho_corasick.specs.Growing.{Grows, HasChild, ListsMore}
 use Rattle.aho_corasick.specs.Tables.{Row, next_in}
 use Rattle.aho_corasick.specs.Naming.{name_at, longer, missing_at, AreFirst, IsTrie, Lists, IsTrieWith, IsTrieOf}
 use Rattle.aho_corasick.proofs.Changed.{name_at-push_new}
@@ -34,6 +35,12 @@ IsTrie-same p f g at_root names table same trie = record {
   reached = trie.reached;
 }
 
+MatchBool-from_true : {b : Bool} (P Q : Type 0) → b ≡ true → P → MatchBool b P Q
+MatchBool-from_true P Q e h = subst (λ (x : Bool). MatchBool x P Q) (sym e) h
+
+MatchBool-from_false : {b : Bool} (P Q : Type 0) → b ≡ false → Q → MatchBool b P Q
+MatchBool-from_false P Q e h = subst (λ (x : Bool). MatchBool x P Q) (sym e) h
+
 missing-nonempty : (at_root : ℕ) (word : List ℕ) → missing_at 1 word ≡ 1
 missing-nonempty at_root [] = refl
 missing-nonempty at_root (byte ∷ word) = refl
@@ -58,11 +65,24 @@ module _ (p : Patterns) (number : ℕ) where
         | inr other ↦ sym (also-other (words_with more) (longer p more byte) word other)
       ]
 
+  -- what one byte more changes: nothing where its word is a node of an earlier pattern
+  abbrev pub Extends : List ℕ → ℕ → ℕ → List (Option (List ℕ)) → List (Option (List ℕ)) → List Row → List Row → Type 0
+  Extends more state byte names names' old new =
+      MatchBool
+      (is_node_among p number (longer p more byte))
+      ((names' ≡ names) × (new ≡ old))
+      ((names' ≡ names ++ Some (longer p more byte) ∷ []) × Grows p.ignore_case state byte (length more + 1) old new × ListsMore p.ignore_case state byte old new)
+
+  pub not_longer : (more : List ℕ) (byte : ℕ) → begins (longer p more byte) more ≡ true → ⊥
+  not_longer more byte front =
+      omega (arith, begins_length (longer p more byte) more (begins-true (longer p more byte) more front), length_push more (folded p byte))
+
   -- one byte more
   pub IsTrieWith-child : (more : List ℕ) (names : List (Option (List ℕ))) (old new : List Row) (state byte sid : ℕ) → byte < 256
       → IsTrieWith p number more names old → name_at names state ≡ Some more
       → HasChild p.ignore_case state byte (length more + 1) old new sid
       → (names' : List (Option (List ℕ))) × IsTrieWith p number (longer p more byte) names' new × (name_at names' sid ≡ Some (longer p more byte))
+      × Extends more state byte names names' old new
   IsTrieWith-child more names old new state byte sid small with_more at child =
       let trie = with_more.trie in
       let four : 4 ≤ length old = AreFirst-four names old with_more.first in
@@ -77,9 +97,11 @@ module _ (p : Patterns) (number : ℕ) where
               | inr not_one ↦ not_one
             ] in
             let was : (sid ≡ next_in old state byte) × (new ≡ old) =
-            MatchBool-at_false ((sid ≡ length old) × Grows p.ignore_case state byte (length more + 1) old new) ((sid ≡ next_in old state byte) × (new ≡ old)) not_fail child in
+            MatchBool-at_false ((sid ≡ length old) × Grows p.ignore_case state byte (length more + 1) old new × ListsMore p.ignore_case state byte old new) ((sid ≡ next_in old state byte) × (new ≡ old)) not_fail child in
             let same : (word : List ℕ) → folded_word p word ≡ word → words_with more word ≡ words_with (longer p more byte) word =
-            λ word plain. absorbed more word byte there ∙ words_with-more more word byte in (
+            λ word plain. absorbed more word byte there ∙ words_with-more more word byte in
+            let node : is_node_among p number (longer p more byte) ≡ true =
+            elim (or_cases (is_node_among p number (longer p more byte)) (begins (longer p more byte) more) there) [ inl node ↦ node | inr front ↦ absurd (not_longer more byte front) ] in (
               names,
               record {
                 trie = subst (λ (t : List Row). IsTrie p (words_with (longer p more byte)) 1 names t) (sym was.1)
@@ -88,14 +110,16 @@ module _ (p : Patterns) (number : ℕ) where
                 first = subst (AreFirst names) (sym was.1) with_more.first;
               },
               ap (name_at names) was.0 ∙ leads,
+              MatchBool-from_true ((names ≡ names) × (new ≡ old))
+                  ((names ≡ names ++ Some (longer p more byte) ∷ []) × Grows p.ignore_case state byte (length more + 1) old new × ListsMore p.ignore_case state byte old new) node (refl, was.1),
             ))
         | inr absent ↦
             (let is_one : next_in old state byte ≡ 1 =
             MatchBool-at_false (name_at names (next_in old state byte) ≡ Some (longer p more byte)) (next_in old state byte ≡ missing_at 1 more) absent edge ∙ missing-nonempty 1 more in
-            let was : (sid ≡ length old) × Grows p.ignore_case state byte (length more + 1) old new =
-            MatchBool-at_true ((sid ≡ length old) × Grows p.ignore_case state byte (length more + 1) old new) ((sid ≡ next_in old state byte) × (new ≡ old)) (eq-eqb (next_in old state byte) 1 is_one) child in
-            let none = own_among-absent p number (longer p more byte)
-            (or_parts (is_node_among p number (longer p more byte)) (begins (longer p more byte) more) absent).0 in (
+            let was : (sid ≡ length old) × Grows p.ignore_case state byte (length more + 1) old new × ListsMore p.ignore_case state byte old new =
+            MatchBool-at_true ((sid ≡ length old) × Grows p.ignore_case state byte (length more + 1) old new × ListsMore p.ignore_case state byte old new) ((sid ≡ next_in old state byte) × (new ≡ old)) (eq-eqb (next_in old state byte) 1 is_one) child in
+            let no_node = (or_parts (is_node_among p number (longer p more byte)) (begins (longer p more byte) more) absent).0 in
+            let none = own_among-absent p number (longer p more byte) no_node in (
               names ++ Some (longer p more byte) ∷ [],
               record {
                 trie = IsTrie-same p (also (words_with more) (longer p more byte)) (words_with (longer p more byte)) 1 (names ++ Some (longer p more byte) ∷ []) new
@@ -105,6 +129,9 @@ module _ (p : Patterns) (number : ℕ) where
                 first = AreFirst-grows p (words_with more) 1 names old new state byte more trie at absent was.1 small four with_more.first;
               },
               ap (name_at (names ++ Some (longer p more byte) ∷ [])) (was.0 ∙ sym trie.sized) ∙ name_at-push_new names (Some (longer p more byte)),
+              MatchBool-from_false ((names ++ Some (longer p more byte) ∷ [] ≡ names) × (new ≡ old))
+                  ((names ++ Some (longer p more byte) ∷ [] ≡ names ++ Some (longer p more byte) ∷ []) × Grows p.ignore_case state byte (length more + 1) old new × ListsMore p.ignore_case state byte old new)
+                  no_node (refl, was.1, was.2),
             ))
       ]
 
@@ -122,17 +149,3 @@ pub folded_word-take-more : (p : Patterns) (word : List ℕ) (i : ℕ) → i < l
     → folded_word p (take (i + 1) word) ≡ longer p (folded_word p (take i word)) (get_or word i 0)
 folded_word-take-more p word i below =
     ap (folded_word p) (take_more word i 0 below) ∙ map-append (folded p) (take i word) (get_or word i 0 ∷ [])
-
--- one byte more of a pattern
-pub IsTrieWith-byte : (p : Patterns) (number : ℕ) (word : List ℕ) (i : ℕ) (names : List (Option (List ℕ))) (old new : List Row) (state depth sid : ℕ)
-    → i < length word → get_or word i 0 < 256 → depth ≡ i
-    → IsTrieWith p number (folded_word p (take i word)) names old → name_at names state ≡ Some (folded_word p (take i word))
-    → HasChild p.ignore_case state (get_or word i 0) (depth + 1) old new sid
-    → (names' : List (Option (List ℕ))) × IsTrieWith p number (folded_word p (take (i + 1) word)) names' new × (name_at names' sid ≡ Some (folded_word p (take (i + 1) word)))
-IsTrieWith-byte p number word i names old new state depth sid below small counted with_more at child =
-    let more : List ℕ = folded_word p (take i word) in
-    let long : depth + 1 ≡ length more + 1 = ap (λ (n : ℕ). n + 1) (counted ∙ sym (length-take-le i word (omega arith)) ∙ sym (length-map (take i word) (folded p))) in
-    let here : HasChild p.ignore_case state (get_or word i 0) (length more + 1) old new sid = subst (λ (n : ℕ). HasChild p.ignore_case state (get_or word i 0) n old new sid) long child in
-    subst (λ (w : List ℕ). (names' : List (Option (List ℕ))) × IsTrieWith p number w names' new × (name_at names' sid ≡ Some w))
-    (sym (folded_word-take-more p word i below))
-    (IsTrieWith-child p number more names old new state (get_or word i 0) sid small with_more at here)

@@ -5,10 +5,14 @@ pub mod Rows
 pub mod Entries
 pub mod Changed
 pub mod Grow
+pub mod ListedBytes
 pub mod Child
 pub mod Nodes
 pub mod Insert
+pub mod NodesInOrder
+pub mod LeadingBytes
 pub mod Ended
+pub mod CountedTrie
 pub mod Ends
 pub mod Start
 pub mod Appended

@@ -1,20 +1,28 @@
 -- States that take every byte, and the first four states.
-use Rattle.std.proofs.Common.{◌≡◌, ◌≢◌, ℕ, zero, suc, ◌+◌, ◌<◌, Bool, true, false, List, [], ◌∷◌, ◌++◌, length, Some, MatchBool, refl, sym, ap, subst, ◌∙◌, inl, inr, arith}
+use Rattle.std.proofs.Common.{◌≡◌, ◌≢◌, ℕ, zero, suc, ◌+◌, ◌<◌, Bool, true, false, List, [], ◌∷◌, ◌++◌, length, Some, MatchBool, cond, get_or, add-zero, add_assoc, refl, sym, ap, subst, ◌∙◌, inl, inr, arith}
 use Rattle.std.proofs.lemmas.Bool.{cases_eq}
-use Rattle.std.proofs.lemmas.List.{length-set}
+use Rattle.std.proofs.lemmas.List.{get_or_default, length-set}
 use Rattle.aho_base.specs.Among.{is_node_among}
 use Rattle.aho_base.specs.Bytes.{folded_word}
 use Rattle.aho_base.specs.Patterns.{Patterns}
 use Rattle.aho_base.proofs.Inserted.{is_node_among-none, own_among-none}
-use Rattle.aho_corasick.specs.Growing.{IsFilledBelow, start_names}
+use Rattle.aho_corasick.specs.Growing.{AreListed, HoldsFirst, IsFilledBelow, start_names}
 use Rattle.aho_corasick.specs.Naming.{name_at, longer, missing_at, IsTrieOf}
-use Rattle.aho_corasick.specs.Tables.{Row, new_row, row_at, next_in, depth_in, fail_in, matches_in, edge_at, with_edge, set_edge, set_fail_of}
+use Rattle.aho_corasick.specs.Tables.{Row, new_row, row_at, next_in, depth_in, fail_in, matches_in, edge_at, with_edge, set_edge, set_fail_of, lists_edge, lists_byte, IsRising, transitions_count, matches_count}
 use Rattle.aho_corasick.proofs.Entries.{edge_at-with_edge, edge_at-with_edge_other}
+use Rattle.aho_corasick.proofs.CountedTrie.{AreListed-rows}
+use Rattle.aho_corasick.proofs.ListedBytes.{transitions_count-set_edge, matches_count-set_edge, lists_byte-set_edge, lists_byte-set_edge_other, IsRising-set_edge}
+use Rattle.aho_corasick.proofs.Rows.{transitions_count-set, matches_count-set}
 use Rattle.aho_corasick.proofs.Nodes.{is_node_among-root}
 use Rattle.aho_corasick.proofs.Changed.{row_at-set_same, row_at-set_other}
 
-pub IsFilledBelow-none : (sid next : ℕ) (rows : List Row) → IsFilledBelow sid next 0 rows rows
-IsFilledBelow-none sid next rows = record {
+pub IsFilledBelow-none : (sid next : ℕ) (rows : List Row) → (row_at rows sid).edges ≡ [] → IsFilledBelow sid next 0 rows rows
+IsFilledBelow-none sid next rows empty = record {
+  rising = subst IsRising (sym empty) tt;
+  listed = λ byte small. absurd (omega arith);
+  unlisted = λ byte late. ap (λ (edges : List (ℕ × ℕ)). lists_edge edges byte) empty;
+  transitions_more = sym (add-zero (transitions_count rows));
+  matches_same = refl;
   sized = refl;
   edges = λ byte small. absurd (omega arith);
   matches = refl;
@@ -41,11 +49,25 @@ IsFilledBelow-more sid next count old rows new below filled new_is =
       fail = ap (λ (r : Row). r.fail) here ∙ filled.fail;
       depth = ap (λ (r : Row). r.depth) here ∙ filled.depth;
       others = λ i ne. row_at-set_other rows sid i row ne ∙ filled.others i ne;
+      rising = IsRising-set_edge rows sid count next below filled.rising;
+      listed = λ byte small.
+          elim (cases_eq byte count) [
+            | inl same ↦ ap (lists_byte (set_edge rows sid count next) sid) same ∙ lists_byte-set_edge rows sid count next below
+            | inr other ↦ lists_byte-set_edge_other rows sid count next below byte other ∙ filled.listed byte (omega arith)
+          ];
+      unlisted = λ byte late. lists_byte-set_edge_other rows sid count next below byte (λ e. omega arith) ∙ filled.unlisted byte (omega arith);
+      transitions_more = transitions_count-set_edge rows sid count next below filled.rising
+          ∙ ap (λ (b : Bool). transitions_count rows + cond b 0 1) (filled.unlisted count (omega arith))
+          ∙ ap (λ (n : ℕ). n + 1) filled.transitions_more ∙ add_assoc (transitions_count old) count 1;
+      matches_same = matches_count-set_edge rows sid count next below ∙ filled.matches_same;
     })
 
 -- what the four first states are once they are made
 record IsFirst (rows : List Row) : Type 0 where
   sized : length rows ≡ 4
+  listed : AreListed rows
+  transitions : transitions_count rows ≡ 769
+  matches : matches_count rows ≡ 1
   dead : (byte : ℕ) → byte < 256 → next_in rows 0 byte ≡ 0
   root : (byte : ℕ) → byte < 256 → next_in rows 2 byte ≡ 1
   anchored : (byte : ℕ) → byte < 256 → next_in rows 3 byte ≡ 1
@@ -91,6 +113,9 @@ module _ (sid next count : ℕ) (old new : List Row) (filled : IsFilledBelow sid
 -- all but the links
 record IsFilled (rows : List Row) : Type 0 where
   sized : length rows ≡ 4
+  listed : AreListed rows
+  transitions : transitions_count rows ≡ 769
+  matches : matches_count rows ≡ 1
   dead : (byte : ℕ) → byte < 256 → next_in rows 0 byte ≡ 0
   root : (byte : ℕ) → byte < 256 → next_in rows 2 byte ≡ 1
   anchored : (byte : ℕ) → byte < 256 → next_in rows 3 byte ≡ 1
@@ -98,9 +123,40 @@ record IsFilled (rows : List Row) : Type 0 where
   depths : (i : ℕ) → depth_in rows i ≡ 0
   unlinked : (i : ℕ) → fail_in rows i ≡ 1
 
+-- each list of the four rises, and three have every byte
+AreListed-from : (a b c : List Row) → IsFilledBelow 2 1 256 four a → IsFilledBelow 3 1 256 a b → IsFilledBelow 0 0 256 b c → AreListed c
+AreListed-from a b c fa fb fc =
+    let rest : (i : ℕ) → i ≢ 0 → i ≢ 2 → i ≢ 3 → row_at c i ≡ new_row 0 =
+    λ i no_dead no_root no_anchored. fc.others i no_dead ∙ fb.others i no_anchored ∙ fa.others i no_root ∙ four_row i in
+    record {
+      rising = λ i.
+          elim (cases_eq i 0) [
+            | inl dead ↦ subst (λ (n : ℕ). IsRising (row_at c n).edges) (sym dead) fc.rising
+            | inr no_dead ↦
+                elim (cases_eq i 3) [
+                  | inl anchored ↦ subst (λ (n : ℕ). IsRising (row_at c n).edges) (sym anchored) (subst (λ (r : Row). IsRising r.edges) (sym (fc.others 3 (λ e. cc))) fb.rising)
+                  | inr no_anchored ↦
+                      elim (cases_eq i 2) [
+                        | inl root ↦ subst (λ (n : ℕ). IsRising (row_at c n).edges) (sym root) (subst (λ (r : Row). IsRising r.edges) (sym (fc.others 2 (λ e. cc) ∙ fb.others 2 (λ e. cc))) fa.rising)
+                        | inr no_root ↦ subst (λ (r : Row). IsRising r.edges) (sym (rest i no_dead no_root no_anchored)) tt
+                      ]
+                ]
+          ];
+      dead_full = fc.listed;
+      root_full = λ byte small. ap (λ (r : Row). lists_edge r.edges byte) (fc.others 2 (λ e. cc) ∙ fb.others 2 (λ e. cc)) ∙ fa.listed byte small;
+      anchored_full = λ byte small. ap (λ (r : Row). lists_edge r.edges byte) (fc.others 3 (λ e. cc)) ∙ fb.listed byte small;
+      leading = λ i byte late small is one.
+          let none : lists_byte c i byte ≡ false = ap (λ (r : Row). lists_edge r.edges byte) (rest i (λ e. omega arith) (λ e. omega arith) (λ e. omega arith)) in
+          let clash : true ≡ false = sym is ∙ none in
+          cc;
+    }
+
 IsFilled-from : (a b c : List Row) → IsFilledBelow 2 1 256 four a → IsFilledBelow 3 1 256 a b → IsFilledBelow 0 0 256 b c → IsFilled c
 IsFilled-from a b c fa fb fc = record {
   sized = fc.sized ∙ fb.sized ∙ fa.sized;
+  listed = AreListed-from a b c fa fb fc;
+  transitions = omega (arith, fc.transitions_more, fb.transitions_more, fa.transitions_more);
+  matches = fc.matches_same ∙ fb.matches_same ∙ fa.matches_same;
   dead = fc.edges;
   root = λ byte small. ap (λ (r : Row). edge_at r.edges byte) (fc.others 2 (λ e. cc) ∙ fb.others 2 (λ e. cc)) ∙ fa.edges byte small;
   anchored = λ byte small. ap (λ (r : Row). edge_at r.edges byte) (fc.others 3 (λ e. cc)) ∙ fb.edges byte small;
@@ -139,6 +195,14 @@ fail-set_same rows sid fail below = ap (λ (r : Row). r.fail) (row_at-set_same r
 fail-set_other : (rows : List Row) (sid fail i : ℕ) → i ≢ sid → fail_in (set_fail_of rows sid fail) i ≡ fail_in rows i
 fail-set_other rows sid fail i ne = ap (λ (r : Row). r.fail) (row_at-set_other rows sid i (record (row_at rows sid) { fail = fail }) ne)
 
+-- nor do the counts change
+counts-set_fail : (rows : List Row) (sid fail : ℕ) → sid < length rows
+    → (transitions_count (set_fail_of rows sid fail) ≡ transitions_count rows) × (matches_count (set_fail_of rows sid fail) ≡ matches_count rows)
+counts-set_fail rows sid fail below =
+    let row : Row = record (row_at rows sid) { fail = fail } in
+    let old_is : row_at rows sid ≡ get_or rows sid (row_at rows sid) = get_or_default rows sid (new_row 0) (row_at rows sid) below in
+    (omega (arith, transitions_count-set rows sid row (row_at rows sid) below old_is), omega (arith, matches_count-set rows sid row (row_at rows sid) below old_is))
+
 IsFirst-linked : (rows : List Row) → IsFilled rows → IsFirst (linked_rows rows)
 IsFirst-linked rows filled =
     let a : List Row = set_fail_of rows 0 0 in
@@ -147,6 +211,9 @@ IsFirst-linked rows filled =
     let b_size : length b ≡ 4 = length-set a 1 (record (row_at a 1) { fail = 0 }) ∙ a_size in
     record {
       sized = length-set b 3 (record (row_at b 3) { fail = 0 }) ∙ b_size;
+      listed = AreListed-rows rows (linked_rows rows) (part-linked (λ (r : Row). r.edges) rows filled.sized (λ row. refl)) filled.listed;
+      transitions = (counts-set_fail b 3 0 (omega (arith, b_size))).0 ∙ (counts-set_fail a 1 0 (omega (arith, a_size))).0 ∙ (counts-set_fail rows 0 0 (omega (arith, filled.sized))).0 ∙ filled.transitions;
+      matches = (counts-set_fail b 3 0 (omega (arith, b_size))).1 ∙ (counts-set_fail a 1 0 (omega (arith, a_size))).1 ∙ (counts-set_fail rows 0 0 (omega (arith, filled.sized))).1 ∙ filled.matches;
       dead = λ byte small. part-linked (λ (r : Row). edge_at r.edges byte) rows filled.sized (λ row. refl) 0 ∙ filled.dead byte small;
       root = λ byte small. part-linked (λ (r : Row). edge_at r.edges byte) rows filled.sized (λ row. refl) 2 ∙ filled.root byte small;
       anchored = λ byte small. part-linked (λ (r : Row). edge_at r.edges byte) rows filled.sized (λ row. refl) 3 ∙ filled.anchored byte small;
@@ -211,15 +278,22 @@ IsTrieOf-start p rows start = record {
   };
 }
 
+HoldsFirst-start : (p : Patterns) (rows : List Row) → IsFirst rows → HoldsFirst p 0 rows
+HoldsFirst-start p rows start = record {
+  trie = IsTrieOf-start p rows start;
+  counted = record { states = start.sized; transitions = start.transitions; matches = start.matches };
+  listed = start.listed;
+}
+
 -- the rows with one more state
 abbrev pub Adds : List Row → List Row → ℕ → Type 0
 Adds old new sid = (sid ≡ length old) × (new ≡ old ++ new_row 0 ∷ [])
 
 -- the states as they are made
-pub IsTrieOf-made : (p : Patterns) (empty one two three all a b c d e f : List Row) (dead fail start anchored : ℕ) → empty ≡ [] → Adds empty one dead → Adds one two fail → Adds two three start → Adds three all anchored
+pub HoldsFirst-made : (p : Patterns) (empty one two three all a b c d e f : List Row) (dead fail start anchored : ℕ) → empty ≡ [] → Adds empty one dead → Adds one two fail → Adds two three start → Adds three all anchored
     → IsFilledBelow start fail 256 all a → IsFilledBelow anchored fail 256 a b → IsFilledBelow dead dead 256 b c
-    → d ≡ set_fail_of c dead dead → e ≡ set_fail_of d fail dead → f ≡ set_fail_of e anchored dead → IsTrieOf p 0 start_names f
-IsTrieOf-made p empty one two three all a b c d e f dead fail start anchored e0 e1 e2 e3 e4 fa fb fc d_is e_is f_is =
+    → d ≡ set_fail_of c dead dead → e ≡ set_fail_of d fail dead → f ≡ set_fail_of e anchored dead → HoldsFirst p 0 f
+HoldsFirst-made p empty one two three all a b c d e f dead fail start anchored e0 e1 e2 e3 e4 fa fb fc d_is e_is f_is =
     let one_is : one ≡ new_row 0 ∷ [] = e1.1 ∙ ap (λ (t : List Row). t ++ new_row 0 ∷ []) e0 in
     let two_is : two ≡ new_row 0 ∷ new_row 0 ∷ [] = e2.1 ∙ ap (λ (t : List Row). t ++ new_row 0 ∷ []) one_is in
     let three_is : three ≡ new_row 0 ∷ new_row 0 ∷ new_row 0 ∷ [] = e3.1 ∙ ap (λ (t : List Row). t ++ new_row 0 ∷ []) two_is in
@@ -237,4 +311,4 @@ IsTrieOf-made p empty one two three all a b c d e f dead fail start anchored e0 
     let e_rows : e ≡ set_fail_of (set_fail_of c 0 0) 1 0 = e_is ∙ ap (λ (t : List Row). set_fail_of t fail dead) d_rows ∙ ap (λ (n : ℕ). set_fail_of (set_fail_of c 0 0) n dead) fail_is ∙ ap (set_fail_of (set_fail_of c 0 0) 1) dead_is in
     let f_rows : f ≡ linked_rows c =
     f_is ∙ ap (λ (t : List Row). set_fail_of t anchored dead) e_rows ∙ ap (λ (n : ℕ). set_fail_of (set_fail_of (set_fail_of c 0 0) 1 0) n dead) anchored_is ∙ ap (set_fail_of (set_fail_of (set_fail_of c 0 0) 1 0) 3) dead_is in
-    subst (IsTrieOf p 0 start_names) (sym f_rows) (IsTrieOf-start p (linked_rows c) (IsFirst-linked c filled))
+    subst (HoldsFirst p 0) (sym f_rows) (HoldsFirst-start p (linked_rows c) (IsFirst-linked c filled))

@@ -1,5 +1,5 @@
 -- The trie of all patterns is that of the definitions: its states are the nodes, each with the patterns that are its word.
-use Rattle.std.proofs.Common.{◌≡◌, List, ℕ, length, Option, ◌∙◌}
+use Rattle.std.proofs.Common.{List, ℕ, length, Option, ◌∙◌}
 use Rattle.aho_base.specs.Among.{is_node_among}
 use Rattle.aho_base.specs.MatchList.{own_matches}
 use Rattle.aho_base.specs.Patterns.{Patterns}

@@ -1,5 +1,5 @@
 -- How the trie grows: by one state, by the bytes of one pattern, by one pattern, and from the four first states.
-use Rattle.std.specs.Prelude.{◌≡◌, ◌≢◌, ℕ, ◌+◌, ◌-◌, ◌<◌, ◌≤◌, ◌⊎◌, nat_eq, nat_le, ◌&&◌, if◌then◌else◌, Bool, true, false, List, [], ◌∷◌, map, length, take, Option, Some, None, MatchBool}
+use Rattle.std.specs.Prelude.{◌≡◌, ◌≢◌, ℕ, ◌+◌, ◌-◌, ◌<◌, ◌≤◌, ◌⊎◌, nat_eq, nat_le, not, ◌&&◌, if◌then◌else◌, Bool, true, false, List, [], ◌∷◌, map, length, take, Option, Some, None, MatchBool}
 use Rattle.std.specs.Iterator.{Yields}
 use Rattle.std.specs.List.{All}
 use denote.Ref.{Bor}
@@ -12,7 +12,8 @@ use Rattle.aho_base.specs.Bytes.{folded_word}
 use Rattle.aho_base.specs.Patterns.{Patterns, pattern_at}
 use Rattle.aho_base.specs.Trie.{is_kept, pattern_word}
 use Rattle.aho_corasick.specs.Naming.{name_at, IsTrieOf, IsTrieWith}
-use Rattle.aho_corasick.specs.Tables.{Row, row_at, next_in, fail_in, depth_in, matches_in}
+use Rattle.aho_corasick.specs.Sizes.{kept_before, names_before, nodes_with, names_of, HasNodes, IsCountedTrie}
+use Rattle.aho_corasick.specs.Tables.{Row, row_at, next_in, fail_in, depth_in, matches_in, lists_byte, IsRising, transitions_count, matches_count}
 
 -- the patterns of these byte strings, by their places
 abbrev pub patterns_of : MatchKind → Bool → List (Bor (List ℕ)) → Patterns
@@ -43,12 +44,38 @@ pub record Grows (ignore_case : Bool) (parent byte depth : ℕ) (old new : List 
   pub edge_byte : (other : ℕ) → other < 256 → folded_by ignore_case other ≡ folded_by ignore_case byte → next_in new parent other ≡ length old
   pub edge_other : (other : ℕ) → other < 256 → folded_by ignore_case other ≢ folded_by ignore_case byte → next_in new parent other ≡ next_in old parent other
 
+-- how many entries a transition by the byte takes: none where the state lists the byte already
+abbrev pub missing_in : List Row → ℕ → ℕ → ℕ
+missing_in rows sid byte = if lists_byte rows sid byte then 0 else 1
+
+-- and one by the byte and, under the case rule, by its other case
+abbrev pub missing_both : Bool → List Row → ℕ → ℕ → ℕ
+missing_both ignore_case rows sid byte =
+    missing_in rows sid byte + (if ignore_case && not (nat_eq (opposite byte) byte) then missing_in rows sid (opposite byte) else 0)
+
+-- each state's list rises by byte
+abbrev pub AllRising : List Row → Type 0
+AllRising rows = (i : ℕ) → IsRising (row_at rows i).edges
+
+-- what the states list after that change: the byte and its other case are new in the one list, and no pattern is
+pub record ListsMore (ignore_case : Bool) (parent byte : ℕ) (old new : List Row) : Type 0 where
+  pub rising : AllRising old → AllRising new
+  pub listed_new : (other : ℕ) → lists_byte new (length old) other ≡ false
+  pub listed_old : (i other : ℕ) → i < length old → i ≢ parent → lists_byte new i other ≡ lists_byte old i other
+  pub listed_more : (other : ℕ) → lists_byte old parent other ≡ true → lists_byte new parent other ≡ true
+  pub listed_other : (other : ℕ) → folded_by ignore_case other ≢ folded_by ignore_case byte → lists_byte new parent other ≡ lists_byte old parent other
+  pub transitions_more : AllRising old → transitions_count new ≡ transitions_count old + missing_both ignore_case old parent byte
+  pub matches_same : matches_count new ≡ matches_count old
+
 -- the state to which the byte leads, which was there or is new
 abbrev pub HasChild : Bool → ℕ → ℕ → ℕ → List Row → List Row → ℕ → Type 0
 HasChild ignore_case parent byte depth old new sid =
-    MatchBool (nat_eq (next_in old parent byte) 1) ((sid ≡ length old) × Grows ignore_case parent byte depth old new) ((sid ≡ next_in old parent byte) × (new ≡ old))
+    MatchBool
+    (nat_eq (next_in old parent byte) 1)
+    ((sid ≡ length old) × Grows ignore_case parent byte depth old new × ListsMore ignore_case parent byte old new)
+    ((sid ≡ next_in old parent byte) × (new ≡ old))
 
--- each byte below the count leads from the state to the next one, and nothing else was changed
+-- each byte below the count leads from the state to the next one, no other byte is listed, and nothing else was changed
 pub record IsFilledBelow (sid next count : ℕ) (old new : List Row) : Type 0 where
   pub sized : length new ≡ length old
   pub edges : (byte : ℕ) → byte < count → next_in new sid byte ≡ next
@@ -56,6 +83,11 @@ pub record IsFilledBelow (sid next count : ℕ) (old new : List Row) : Type 0 wh
   pub fail : fail_in new sid ≡ fail_in old sid
   pub depth : depth_in new sid ≡ depth_in old sid
   pub others : (i : ℕ) → i ≢ sid → row_at new i ≡ row_at old i
+  pub rising : IsRising (row_at new sid).edges
+  pub listed : (byte : ℕ) → byte < count → lists_byte new sid byte ≡ true
+  pub unlisted : (byte : ℕ) → count ≤ byte → lists_byte new sid byte ≡ false
+  pub transitions_more : transitions_count new ≡ transitions_count old + count
+  pub matches_same : matches_count new ≡ matches_count old
 
 -- the names of the first four states: DEAD, FAIL, the unanchored and the anchored start
 abbrev pub start_names : List (Option (List ℕ))
@@ -73,46 +105,67 @@ pub record IsNumbered (p : Patterns) (number : ℕ) (kind : MatchKind) (ignore_c
   pub case_is : p.ignore_case ≡ ignore_case
   pub pattern_is : pattern_at p number ≡ word
 
+-- how a trie's states list their bytes: each list rises, DEAD and the two starts list every byte, and a state of a nonempty
+-- word only bytes that lead on
+pub record AreListed (rows : List Row) : Type 0 where
+  pub rising : AllRising rows
+  pub dead_full : (byte : ℕ) → byte < 256 → lists_byte rows 0 byte ≡ true
+  pub root_full : (byte : ℕ) → byte < 256 → lists_byte rows 2 byte ≡ true
+  pub anchored_full : (byte : ℕ) → byte < 256 → lists_byte rows 3 byte ≡ true
+  pub leading : (i byte : ℕ) → 4 ≤ i → byte < 256 → lists_byte rows i byte ≡ true → next_in rows i byte ≢ 1
+
+-- the table is the trie of the patterns before this number, with its states in the order in which they are made, and as large
+-- as it should be
+pub record HoldsFirst (p : Patterns) (number : ℕ) (rows : List Row) : Type 0 where
+  pub trie : IsTrieOf p number (names_before p number) rows
+  pub counted : IsCountedTrie p number rows
+  pub listed : AreListed rows
+
+-- and that of the first bytes of one more word too
+pub record HoldsWith (p : Patterns) (number : ℕ) (more : List ℕ) (rows : List Row) : Type 0 where
+  pub trie : IsTrieWith p number more (names_of (nodes_with p number more)) rows
+  pub counted : HasNodes p (nodes_with p number more) (length (kept_before p number)) rows
+  pub listed : AreListed rows
+
 -- the table is a trie of the patterns before one that is the word
 abbrev pub AwaitsWord : MatchKind → Bool → List ℕ → List Row → Type 0
 AwaitsWord kind ignore_case word rows =
-    (p : Patterns) × ((number : ℕ) × ((names : List (Option (List ℕ))) × IsNumbered p number kind ignore_case word × IsTrieOf p number names rows))
+    (p : Patterns) × ((number : ℕ) × (IsNumbered p number kind ignore_case word × HoldsFirst p number rows))
 
 -- the walk along a pattern's word has taken its first bytes: they have their states, the last of which is held, and a kind
 -- that leaves patterns out has met no pattern before the last
 pub record HasWalked (p : Patterns) (number : ℕ) (word : List ℕ) (count sid : ℕ) (rows : List Row) : Type 0 where
   pub passed : (k : ℕ) → k < count → is_first p.kind ≡ true → own_among p number (folded_word p (take k word)) ≡ []
-  pub names : List (Option (List ℕ))
-  pub with_front : IsTrieWith p number (folded_word p (take count word)) names rows
-  pub held : name_at names sid ≡ Some (folded_word p (take count word))
+  pub with_front : HoldsWith p number (folded_word p (take count word)) rows
+  pub held : name_at (names_of (nodes_with p number (folded_word p (take count word)))) sid ≡ Some (folded_word p (take count word))
 
 -- what was a trie of the patterns before the word, by any patterns, has its first bytes
 abbrev pub WalksWord : MatchKind → Bool → List ℕ → ℕ → ℕ → List Row → List Row → Type 0
 WalksWord kind ignore_case word count sid old new =
-    (p : Patterns) (number : ℕ) (names : List (Option (List ℕ))) → IsNumbered p number kind ignore_case word → IsTrieOf p number names old → HasWalked p number word count sid new
+    (p : Patterns) (number : ℕ) → IsNumbered p number kind ignore_case word → HoldsFirst p number old → HasWalked p number word count sid new
 
 -- where the bytes of the pattern of this number end, in the trie that has them too; none where the pattern is left out and
 -- the trie is still that of the patterns before it
 abbrev pub EndsAt : Patterns → ℕ → List Row → Option ℕ → Type 0
-EndsAt p number rows None = (is_kept p number ≡ false) × ((names : List (Option (List ℕ))) × IsTrieOf p number names rows)
+EndsAt p number rows None = (is_kept p number ≡ false) × HoldsFirst p number rows
 EndsAt p number rows (Some sid) =
     (is_kept p number ≡ true)
-    × ((names : List (Option (List ℕ))) × (IsTrieWith p number (pattern_word p number) names rows × (name_at names sid ≡ Some (pattern_word p number))))
+    × HoldsWith p number (pattern_word p number) rows
+    × (name_at (names_of (nodes_with p number (pattern_word p number))) sid ≡ Some (pattern_word p number))
 
 -- what was a trie of the patterns before the word, by any patterns, has the word's bytes too
 abbrev pub AddsWord : MatchKind → Bool → List ℕ → List Row → List Row → Option ℕ → Type 0
 AddsWord kind ignore_case word old new end =
-    (p : Patterns) (number : ℕ) (names : List (Option (List ℕ))) → IsNumbered p number kind ignore_case word → IsTrieOf p number names old → EndsAt p number new end
+    (p : Patterns) (number : ℕ) → IsNumbered p number kind ignore_case word → HoldsFirst p number old → EndsAt p number new end
 
 -- and once its number is listed, it is the trie of one pattern more
 abbrev pub AddsPattern : MatchKind → Bool → List ℕ → ℕ → List Row → List Row → Type 0
 AddsPattern kind ignore_case word number old new =
-    (p : Patterns) (names : List (Option (List ℕ))) → IsNumbered p number kind ignore_case word → IsTrieOf p number names old
-    → (names' : List (Option (List ℕ))) × IsTrieOf p (number + 1) names' new
+    (p : Patterns) → IsNumbered p number kind ignore_case word → HoldsFirst p number old → HoldsFirst p (number + 1) new
 
 -- the table is the trie of these patterns
 abbrev pub HoldsTrie : Patterns → List Row → Type 0
-HoldsTrie p rows = (names : List (Option (List ℕ))) × IsTrieOf p (length p.words) names rows
+HoldsTrie p rows = HoldsFirst p (length p.words) rows
 
 -- a table of this limit refused to grow, or memory was wanted
 abbrev pub IsGrowthRefusal : ℕ → BuildError → Type 0

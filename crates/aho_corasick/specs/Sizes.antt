@@ -110,6 +110,27 @@ cause limits p = find (is_refused limits) (growth p)
 abbrev pub names_before : Patterns → ℕ → List (Option (List ℕ))
 names_before p number = None ∷ None ∷ Some [] ∷ None ∷ map Some (nodes_before p number)
 
+-- the prefixes of a word that no kept pattern below this number begins with, from the shortest
+abbrev pub new_fronts : Patterns → ℕ → List ℕ → List (List ℕ)
+new_fronts p number word =
+    filter
+    (λ front. not (list_any (λ earlier. begins front (pattern_word p earlier)) (kept_before p number)))
+    (map (λ size. take size word) (range_with_len 1 (length word)))
+
+-- the nonempty nodes of the patterns below this number and of the first bytes of one more
+abbrev pub nodes_with : Patterns → ℕ → List ℕ → List (List ℕ)
+nodes_with p number more = nodes_before p number ++ new_fronts p number more
+
+-- the names of the states that have these nodes, in their order
+abbrev pub names_of : List (List ℕ) → List (Option (List ℕ))
+names_of words = None ∷ None ∷ Some [] ∷ None ∷ map Some words
+
+-- the table has a state for each of these nodes, the transitions into them, and this many listed patterns
+pub record HasNodes (p : Patterns) (words : List (List ℕ)) (kept : ℕ) (rows : List Row) : Type 0 where
+  pub states : length rows ≡ 4 + length words
+  pub transitions : transitions_count rows ≡ 769 + sum_by (entries_for p) words
+  pub matches : matches_count rows ≡ 1 + kept
+
 -- the trie of the patterns below this number has the states, transitions and matches that it should
 pub record IsCountedTrie (p : Patterns) (number : ℕ) (rows : List Row) : Type 0 where
   pub states : length rows ≡ 4 + length (nodes_before p number)

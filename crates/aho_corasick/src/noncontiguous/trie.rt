@@ -1,13 +1,12 @@
 //! The trie of the patterns: the states of an automaton with their transitions and own patterns, before links are made.
 
-ghost use Rattle.std.specs.Prelude.{◌≡◌, ◌&&◌, ◌+◌, ◌<◌, ◌≤◌, ◌↔◌, ℕ, List, length, map, min, nat_lt, IsOk, IfOk, IfErr, OnOk};
+ghost use Rattle.std.specs.Prelude.{◌≡◌, ◌&&◌, ◌+◌, ◌<◌, ◌≤◌, ◌↔◌, ℕ, List, [], length, map, min, nat_lt, IsOk, IfOk, IfErr, OnOk};
 ghost use Rattle.std.specs.Iterator.{Drains, IsFinite};
 ghost use denote.Ref.{Bor};
 ghost use Rattle.aho_base.specs.declared.error.BuildError.TheVariants.{PatternIDOverflow, PatternTooLong};
 ghost use Rattle.aho_base.specs.Patterns.{Patterns};
-ghost use Rattle.aho_corasick.specs.Growing.{patterns_of, opposite, HasChild, IsFilledBelow, start_names, is_first, AwaitsWord, AddsWord, AddsPattern, HoldsTrie, IsGrowthRefusal, HasYielded, AreWithin, StopsAt};
-ghost use Rattle.aho_corasick.specs.Naming.{IsTrieOf};
-ghost use Rattle.aho_corasick.specs.Tables.{matches_in};
+ghost use Rattle.aho_corasick.specs.Growing.{patterns_of, opposite, HasChild, IsFilledBelow, is_first, AwaitsWord, AddsWord, AddsPattern, HoldsFirst, HoldsTrie, IsGrowthRefusal, HasYielded, AreWithin, StopsAt};
+ghost use Rattle.aho_corasick.specs.Tables.{row_at, matches_in};
 
 use crate::links::{FAIL, Table};
 use crate::noncontiguous::Limits;
@@ -120,6 +119,7 @@ fn add_word(
 /// Every byte leads from the state to the next one.
 fn init_full_state(table: &mut Table, sid: StateID, next: StateID) -> Result<(), BuildError>
     requires added { sid < length table.old.rows }
+    requires empty { (row_at table.old.rows sid).edges ≡ [] }
     ensures filled { IfOk result (λ _. IsFilledBelow sid next 256 table.old.rows table.new.rows) }
     ensures limit { OnOk result (table.new.limit ≡ table.old.limit) }
     ensures refused { IfErr result (IsGrowthRefusal table.old.limit) }
@@ -132,7 +132,7 @@ fn init_full_state(table: &mut Table, sid: StateID, next: StateID) -> Result<(),
 
 /// The dead state, the fail state and the two starts, of which none leads to a state.
 fn first_states(alloc: Global, limit: usize) -> Result<Table, BuildError>
-    ensures start { IfOk result (λ table. (p : Patterns) → IsTrieOf p 0 start_names table.rows) }
+    ensures start { IfOk result (λ table. (p : Patterns) → HoldsFirst p 0 table.rows) }
     ensures limit { IfOk result (λ table. table.limit ≡ min limit SmallIndex.MAX) }
     ensures refused { IfErr result (IsGrowthRefusal (min limit SmallIndex.MAX)) }
 {

@@ -1,15 +1,17 @@
-use Rattle.std.proofs.Common.{◌∙◌, sym, ap, arith}
+use Rattle.std.proofs.Common.{◌∙◌, length, sym, ap, arith}
 use Rattle.aho_base.specs.Laws.{longest}
 use Rattle.aho_corasick.specs.Building.{IsBuilt}
 use Rattle.aho_corasick.specs.Built.{IsSound-from_built, four_states}
+use Rattle.aho_corasick.specs.Sizes.{names_before}
 use Rattle.aho_corasick.proofs.noncontiguous.NFA.of_trie.Goals as goal
 
 pub invariant_of-result-clause-sound : goal.invariant_of-result-clause-sound
 invariant_of-result-clause-sound c =
     let h = c.requires.holds in
     let trie = h.1.1.1 in
-    let built : IsBuilt h.0 trie.0 c.link_states.new.table.rows = c.in_ok-link_states.ensures.built h.0 trie.0 h.1.0 trie.1 in
-    IsSound-from_built h.0 trie.0 c.link_states.new.table.rows built (four_states h.0 trie.0 c.link_states.new.table.rows built)
+    let names = names_before h.0 (length h.0.words) in
+    let built : IsBuilt h.0 names c.link_states.new.table.rows = c.in_ok-link_states.ensures.built h.0 names h.1.0 trie.trie in
+    IsSound-from_built h.0 names c.link_states.new.table.rows built (four_states h.0 names c.link_states.new.table.rows built)
     (omega (arith, c.len-states.ensures.len, c.len-states.ensures.bound))
     (omega (arith, c.longest_len.ensures.longest, c.longest_len.ensures.bound, ap longest (sym h.1.1.0 ∙ sym c.deref-2.ensures.value)))
 
@@ -18,7 +20,7 @@ returns c = record {
   of = λ p kind_is lens_are holds. record {
     kind_is = sym kind_is;
     lengths_are = lens_are;
-    names = holds.0;
-    built = c.in_ok-link_states.ensures.built p holds.0 kind_is holds.1;
+    names = names_before p (length p.words);
+    built = c.in_ok-link_states.ensures.built p (names_before p (length p.words)) kind_is holds.trie;
   };
 }

@@ -5,8 +5,8 @@ use Rattle.aho_corasick.proofs.noncontiguous.trie.add_word.Goals as goal
 
 pub loop-index-init : goal.loop-index-init
 loop-index-init c = record {
-  walked = λ p number names numbered of.
-      HasWalked-none p number c.args.kind c.args.ignore_case c.args.pattern.now numbered c.unanchored_start-state.result names c.args.table.now.rows c.unanchored_start-state.ensures.start of;
+  walked = λ p number numbered holds.
+      HasWalked-none p number c.args.kind c.args.ignore_case c.args.pattern.now numbered c.unanchored_start-state.result c.args.table.now.rows c.unanchored_start-state.ensures.start holds;
   limit = refl;
 }
 
@@ -14,37 +14,37 @@ pub passes_match-requires : goal.passes_match-requires
 passes_match-requires c =
     let some = c.requires.trie in
     record {
-      added = HasWalked-below some.0 some.1.0 c.args.kind c.args.ignore_case c.args.pattern.now some.1.1.1 c.loop-index.index c.loop-index.state c.loop-index.table.rows
-          (c.loop-index.invariant.walked some.0 some.1.0 some.1.1.0 some.1.1.1 some.1.1.2);
+      added = HasWalked-below some.0 some.1.0 c.args.kind c.args.ignore_case c.args.pattern.now some.1.1.0 c.loop-index.index c.loop-index.state c.loop-index.table.rows
+          (c.loop-index.invariant.walked some.0 some.1.0 some.1.1.0 some.1.1.1);
     }
 
 pub child-requires : goal.child-requires
 child-requires c =
     let some = c.requires.trie in
     record {
-      added = HasWalked-below some.0 some.1.0 c.args.kind c.args.ignore_case c.args.pattern.now some.1.1.1 c.loop-index.index c.loop-index.state c.loop-index.table.rows
-          (c.loop-index.invariant.walked some.0 some.1.0 some.1.1.0 some.1.1.1 some.1.1.2);
+      added = HasWalked-below some.0 some.1.0 c.args.kind c.args.ignore_case c.args.pattern.now some.1.1.0 c.loop-index.index c.loop-index.state c.loop-index.table.rows
+          (c.loop-index.invariant.walked some.0 some.1.0 some.1.1.0 some.1.1.1);
     }
 
 pub loop-index-preserved : goal.loop-index-preserved
 loop-index-preserved c = record {
-  walked = λ p number names numbered of.
+  walked = λ p number numbered holds.
       HasWalked-more p number c.args.kind c.args.ignore_case c.args.pattern.now numbered c.loop-index.index c.loop-index.state c.in_ok-state.state c.loop-index.table.rows c.child.new.table.rows
       c.loop-index-test.true (search rules) (sym c.passes_match.ensures.passes ∙ c.if-passes_match.false)
       (subst (λ (n : ℕ). HasChild c.args.ignore_case c.loop-index.state (get_or c.args.pattern.now c.loop-index.index 0) n c.loop-index.table.rows c.child.new.table.rows c.in_ok-state.state)
       c.small.ensures.value c.in_ok-state.ensures.child)
-      (c.loop-index.invariant.walked p number names numbered of);
+      (c.loop-index.invariant.walked p number numbered holds);
   limit = c.in_ok-state.ensures.limit ∙ c.loop-index.invariant.limit;
 }
 
 pub returns-then-passes_match-clause-ends : goal.returns-then-passes_match-clause-ends
 returns-then-passes_match-clause-ends c =
-    λ p number names numbered of.
+    λ p number numbered holds.
     HasWalked-met p number c.args.kind c.args.ignore_case c.args.pattern.now numbered c.loop-index.index c.loop-index.state c.loop-index.table.rows
-    c.loop-index-test.true (sym c.passes_match.ensures.passes ∙ c.if-passes_match.true) (c.loop-index.invariant.walked p number names numbered of)
+    c.loop-index-test.true (sym c.passes_match.ensures.passes ∙ c.if-passes_match.true) (c.loop-index.invariant.walked p number numbered holds)
 
 pub returns-clause-ends : goal.returns-clause-ends
 returns-clause-ends c =
-    λ p number names numbered of.
+    λ p number numbered holds.
     HasWalked-all p number c.args.kind c.args.ignore_case c.args.pattern.now numbered c.loop-index.index c.loop-index.state c.loop-index.table.rows
-    c.loop-index-test.false (c.loop-index.invariant.walked p number names numbered of)
+    c.loop-index-test.false (c.loop-index.invariant.walked p number numbered holds)

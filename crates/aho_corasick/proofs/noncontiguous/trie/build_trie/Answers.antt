@@ -4,7 +4,7 @@ use Rattle.std.proofs.iter.Next.{Yields-more}
 use denote.Ref.{Bor}
 use Rattle.aho_base.specs.declared.error.BuildError.{BuildError}
 use Rattle.aho_base.specs.declared.search.MatchKind.{MatchKind}
-use Rattle.aho_corasick.specs.Growing.{patterns_of, start_names, HasYielded, StopsAt}
+use Rattle.aho_corasick.specs.Growing.{patterns_of, HasYielded, StopsAt}
 use Rattle.aho_corasick.proofs.Appended.{AwaitsWord-next, HoldsTrie-next, lengths-next, place-next}
 use Rattle.aho_corasick.proofs.Stops.{IfErr-given, AreWithin-none, AreWithin-next, StopsAt-growth, StopsAt-number, StopsAt-length}
 use Rattle.aho_corasick.proofs.noncontiguous.trie.build_trie.Goals as goal
@@ -12,7 +12,7 @@ use Rattle.aho_corasick.proofs.noncontiguous.trie.build_trie.Goals as goal
 pub loop-pattern-init : goal.loop-pattern-init
 loop-pattern-init g c = record {
   lens = c.new.ensures.items;
-  trie = (start_names, c.in_ok-first_states.ensures.start (patterns_of c.args.kind c.args.ignore_case []));
+  trie = c.in_ok-first_states.ensures.start (patterns_of c.args.kind c.args.ignore_case []);
   limit = c.in_ok-first_states.ensures.limit;
   within = AreWithin-none (min c.args.limits.pattern 2147483646) (min c.args.limits.length 2147483646) (min c.args.limits.id 2147483646) c.args.kind c.args.ignore_case;
 }

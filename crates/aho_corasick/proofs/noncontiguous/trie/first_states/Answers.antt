@@ -1,6 +1,6 @@
 use Rattle.std.proofs.Common.{◌≡◌, ◌∙◌, ◌++◌, ◌∷◌, [], ℕ, List, ap}
 use Rattle.aho_corasick.specs.Tables.{Row, Tables, new_row}
-use Rattle.aho_corasick.proofs.Start.{IsTrieOf-made}
+use Rattle.aho_corasick.proofs.Start.{HoldsFirst-made}
 use Rattle.aho_corasick.proofs.noncontiguous.trie.first_states.Goals as goal
 
 rows_are : {old new : Tables} → old ≡ new → old.rows ≡ new.rows
@@ -14,7 +14,7 @@ returns-clause-start c =
     let depth = c.small-depth.result in
     let zero_is = c.small-depth.ensures.value in
     λ p.
-    IsTrieOf-made p c.in_ok-table.table.rows c.add_state.new.self.rows c.add_state-2.new.self.rows c.add_state-3.new.self.rows c.add_state-4.new.self.rows
+    HoldsFirst-made p c.in_ok-table.table.rows c.add_state.new.self.rows c.add_state-2.new.self.rows c.add_state-3.new.self.rows c.add_state-4.new.self.rows
     c.init_full_state.new.table.rows c.init_full_state-2.new.table.rows c.init_full_state-3.new.table.rows
     c.set_fail.new.self.rows c.set_fail-2.new.self.rows c.set_fail-3.new.self.rows
     c.in_ok-dead.dead c.in_ok-fail.fail c.in_ok-unanchored.unanchored c.in_ok-anchored.anchored (rows_are c.in_ok-table.ensures.empty)

@@ -1,7 +1,13 @@
-use Rattle.std.proofs.Common.{◌<◌, ◌∙◌, length, ap, arith}
+use Rattle.std.proofs.Common.{◌<◌, ◌∙◌, length, refl, ap, arith}
 use Rattle.aho_corasick.specs.Tables.{Tables}
-use Rattle.aho_corasick.proofs.Start.{IsFilledBelow-more}
+use Rattle.aho_corasick.proofs.Start.{IsFilledBelow-none, IsFilledBelow-more}
 use Rattle.aho_corasick.proofs.noncontiguous.trie.init_full_state.Goals as goal
+
+pub loop-byte-init : goal.loop-byte-init
+loop-byte-init c = record {
+  filled = IsFilledBelow-none c.args.sid c.args.next c.args.table.now.rows c.requires.empty;
+  limit = refl;
+}
 
 pub loop-byte-preserved : goal.loop-byte-preserved
 loop-byte-preserved c =
