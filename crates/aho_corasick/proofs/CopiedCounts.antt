@@ -15,9 +15,10 @@ use Rattle.aho_base.specs.Trie.{is_node}
 use Rattle.aho_base.proofs.ByLinks.{matches-root, matches-next}
 use Rattle.aho_base.proofs.Inserted.{own_among-all}
 use Rattle.aho_corasick.specs.Building.{IsLinking, IsBuilt, IsCopyRefusal, append_matches, link_row, root_loop}
+use Rattle.aho_corasick.specs.Growing.{HoldsTrie}
 use Rattle.aho_corasick.specs.Naming.{name_at, IsTrie}
 use Rattle.aho_corasick.specs.Refusals.{refusal_at}
-use Rattle.aho_corasick.specs.Sizes.{nodes, names_before, matches_size, IsFinishedTrie}
+use Rattle.aho_corasick.specs.Sizes.{nodes, names_before, matches_size}
 use Rattle.aho_corasick.specs.Tables.{Row, Tables, new_row, row_at, fail_in, matches_in, matches_count, set_fail_of}
 use Rattle.aho_corasick.proofs.ChangedRows.{row_at-set_same, row_at-set_other, part-set}
 use Rattle.aho_corasick.proofs.CopiedMatches.{copied_row}
@@ -181,7 +182,7 @@ module _ (p : Patterns) where
       (λ i word past named. ap (λ (l : List ℕ). length l) (built.linked i word named (named-nonempty (is_node p) (root_loop p) rows built.trie i word past named)).matches))
 
   -- and when the anchored start gets the root's
-  pub matches_count-start : (rows : List Row) → IsFinishedTrie p rows → matches_count rows + length (matches_in rows 2) ≤ matches_size p
+  pub matches_count-start : (rows : List Row) → HoldsTrie p rows → matches_count rows + length (matches_in rows 2) ≤ matches_size p
   matches_count-start rows finished =
       let trie = finished.trie.trie in
       let among : List ℕ → Bool = is_node_among p (length p.words) in
@@ -196,7 +197,7 @@ module _ (p : Patterns) where
       let total = total-le new (length-set rows 3 row ∙ size)
       (by_place (λ (a b : ℕ). a ≤ b) new
       (omega (arith, ap (λ (l : List ℕ). length l) (other 0 (λ e. omega arith) ∙ finished.trie.first.dead_matches)))
-      (omega (arith, ap (λ (l : List ℕ). length l) (other 1 (λ e. omega arith) ∙ finished.fail_matches)))
+      (omega (arith, ap (λ (l : List ℕ). length l) (other 1 (λ e. omega arith) ∙ finished.trie.first.fail_matches)))
       (own-le_list new 2 [] (other 2 (λ e. omega arith) ∙ own 2 [] trie.root))
       (own-le_list new 3 [] anchored)
       (λ i word past named. own-le_list new i word (other i (λ e. omega arith) ∙ own i word named))) in

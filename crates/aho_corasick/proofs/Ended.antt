@@ -53,12 +53,13 @@ some_is : (u v : List ℕ) → Some u ≡ Some v → u ≡ v
 some_is u v e = cc
 
 AreFirst-rows : (names : List (Option (List ℕ))) (old new : List Row) → ((i byte : ℕ) → next_in new i byte ≡ next_in old i byte) → ((i : ℕ) → depth_in new i ≡ depth_in old i)
-    → ((i : ℕ) → fail_in new i ≡ fail_in old i) → matches_in new 0 ≡ matches_in old 0 → matches_in new 3 ≡ matches_in old 3 → AreFirst names old → AreFirst names new
-AreFirst-rows names old new edges depths fails dead anchored first = record {
+    → ((i : ℕ) → fail_in new i ≡ fail_in old i) → matches_in new 0 ≡ matches_in old 0 → matches_in new 1 ≡ matches_in old 1 → matches_in new 3 ≡ matches_in old 3 → AreFirst names old → AreFirst names new
+AreFirst-rows names old new edges depths fails dead fail anchored first = record {
   dead_fail = fails 0 ∙ first.dead_fail;
   dead_matches = dead ∙ first.dead_matches;
   dead_depth = depths 0 ∙ first.dead_depth;
   fail_fail = fails 1 ∙ first.fail_fail;
+  fail_matches = fail ∙ first.fail_matches;
   anchored_fail = fails 3 ∙ first.anchored_fail;
   anchored_matches = anchored ∙ first.anchored_matches;
   anchored_depth = depths 3 ∙ first.anchored_depth;
@@ -101,6 +102,7 @@ module _ (p : Patterns) (number : ℕ) where
             ];
         first = AreFirst-rows names rows pushed edges depths fails
             (ap (λ (r : Row). r.matches) (row_at-set_other rows sid 0 row (apart 0 trie.dead)))
+            (ap (λ (r : Row). r.matches) (row_at-set_other rows sid 1 row (apart 1 trie.fail)))
             (ap (λ (r : Row). r.matches) (row_at-set_other rows sid 3 row (apart 3 trie.anchored))) with_all.first;
       })
 

@@ -271,6 +271,7 @@ IsTrieOf-start p rows start = record {
     dead_depth = start.depths 0;
     fail_fail = start.fail_fail;
     anchored_fail = start.anchored_fail;
+    fail_matches = start.no_matches 1;
     anchored_matches = start.no_matches 3;
     anchored_depth = start.depths 3;
     anchored_next = start.anchored;

@@ -7,14 +7,17 @@ use Rattle.aho_base.specs.Held.{held_after}
 use Rattle.aho_base.specs.Patterns.{Patterns}
 use Rattle.aho_corasick.specs.Building.{IsBuilt}
 use Rattle.aho_corasick.specs.Naming.{IsHeldAs}
+use Rattle.aho_corasick.specs.Sizes.{IsSized}
 use Rattle.aho_corasick.specs.Tables.{Row, matches_in, transitions_count, matches_count}
 
--- the kind and the lengths are the patterns', and by some naming of its states the table is the one that is built of them
+-- the kind and the lengths are the patterns', by some naming of its states the table is the one that is built of them, and it
+-- has as many entries as it should
 pub record IsOf (p : Patterns) (kind : MatchKind) (lengths : List ℕ) (rows : List Row) : Type 0 where
   pub kind_is : kind ≡ p.kind
   pub lengths_are : lengths ≡ map length p.words
   pub names : List (Option (List ℕ))
   pub built : IsBuilt p names rows
+  pub sized : IsSized p rows
 
 -- by every such naming the state is the one that is held after the word
 abbrev pub IsHeld : Patterns → List Row → Anchored → List ℕ → ℕ → Type 0

@@ -69,6 +69,7 @@ pub record AreFirst (names : List (Option (List ℕ))) (rows : List Row) : Type 
   pub dead_matches : matches_in rows 0 ≡ []
   pub dead_depth : depth_in rows 0 ≡ 0
   pub fail_fail : fail_in rows 1 ≡ 0
+  pub fail_matches : matches_in rows 1 ≡ []
   pub anchored_fail : fail_in rows 3 ≡ 0
   pub anchored_matches : matches_in rows 3 ≡ []
   pub anchored_depth : depth_in rows 3 ≡ 0

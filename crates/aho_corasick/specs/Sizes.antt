@@ -143,15 +143,6 @@ pub record IsSized (p : Patterns) (rows : List Row) : Type 0 where
   pub transitions : transitions_count rows ≡ transitions_size p
   pub matches : matches_count rows ≡ matches_size p
 
--- the trie of all patterns as a build hands it on to the links: its states stand in the order in which a build makes them,
--- both starts list every byte, and FAIL (1) lists no pattern
-pub record IsFinishedTrie (p : Patterns) (rows : List Row) : Type 0 where
-  pub trie : IsTrieOf p (length p.words) (names_before p (length p.words)) rows
-  pub counted : IsCountedTrie p (length p.words) rows
-  pub root_bytes : ListsAllBytes rows 2
-  pub anchored_bytes : ListsAllBytes rows 3
-  pub fail_matches : matches_in rows 1 ≡ []
-
 -- why the links were not all made, once the build has come so far: more patterns were not copied
 abbrev pub IsLinkingRefusal : MatchKind → List ℕ → ℕ → ℕ → Tables → BuildError → Type 0
 IsLinkingRefusal kind queue head part table error =

@@ -123,6 +123,7 @@ impl Automaton for NFA {
     ghost use Rattle.aho_base.specs.Patterns.{Patterns};
     ghost use Rattle.aho_base.specs.Step.{lookups};
     ghost use Rattle.aho_corasick.specs.Automata.{IsOf, IsHeld, start_of, is_special_in, is_start_in, memory_of};
+    ghost use Rattle.aho_corasick.specs.Sizes.{memory_size};
     ghost use Rattle.aho_corasick.specs.Tables.{depth_in, matches_in};
     ghost use Rattle.aho_corasick.specs.Walking.{IsState};
     ghost use Rattle.aho_corasick.specs.Laws.{reads_of, plain_of, dead_shallow_of};
@@ -220,7 +221,11 @@ impl Automaton for NFA {
         self.max_pattern_len
     }
 
-    fn memory_usage(&self) -> usize {
+    /// For the automaton of some patterns it is their `memory_size`.
+    fn memory_usage(&self) -> usize
+        ensures memory { result ≡ ⟦<NFA as Automaton>⟧.memory self.now }
+        ensures exact { (p : Patterns) → ⟦<NFA as Automaton>⟧.is_of self.now p → result ≡ memory_size p }
+    {
         20 * self.table.len()
             + 9 * self.table.transitions_count()
             + 8 * self.table.matches_count()

@@ -3,10 +3,11 @@
 ghost use Rattle.std.specs.Prelude.{◌≡◌, ◌≢◌, ℕ, ◌+◌, ◌<◌, ◌≤◌, [], ◌∷◌, ◌++◌, List, Option, length, vec_len, slice_index, OnOk, IfErr, IsOk};
 ghost use Rattle.aho_base.specs.declared.error.BuildError.TheVariants.{OutOfMemory};
 ghost use Rattle.aho_base.specs.Patterns.{Patterns};
+ghost use Rattle.aho_corasick.specs.Growing.{HoldsTrie};
 ghost use Rattle.aho_corasick.specs.Naming.{IsTrieOf};
 ghost use Rattle.aho_corasick.specs.Tables.{row_at, next_in, fail_in, matches_in, transitions_count, matches_count};
 ghost use Rattle.aho_corasick.specs.Building.{IsLedBelow, IsLedAsRoot, IsReady, IsBuilt, looped, stops_at, append_matches, link_row, CanStepBySome, StepsTo, CanLinkBySome, LinksTo, IsLinkingBySome, KeepsLinking, unlinked_count, ListsAllBytes, OnlyCopies, IsCopyRefusal};
-ghost use Rattle.aho_corasick.specs.Sizes.{matches_size, IsFinishedTrie, IsLinkingRefusal, IsReadyRefusal, IsSized};
+ghost use Rattle.aho_corasick.specs.Sizes.{matches_size, IsLinkingRefusal, IsReadyRefusal, IsSized};
 
 use crate::links::{DEAD, FAIL, Table};
 use aho_base::error::BuildError;
@@ -264,13 +265,13 @@ pub(super) fn link_states(
         (ListsAllBytes table.old.rows 2 → ListsAllBytes table.old.rows 3
         → transitions_count table.new.rows ≡ transitions_count table.old.rows) }
     ensures sized { OnOk result
-        ((p : Patterns) → p.kind ≡ kind → IsFinishedTrie p table.old.rows
+        ((p : Patterns) → p.kind ≡ kind → HoldsTrie p table.old.rows
         → IsSized p table.new.rows) }
     ensures within { OnOk result
-        ((p : Patterns) → p.kind ≡ kind → IsFinishedTrie p table.old.rows
+        ((p : Patterns) → p.kind ≡ kind → HoldsTrie p table.old.rows
         → matches_size p ≤ table.old.limit + 1) }
     ensures refused { IfErr result (λ error.
-        (p : Patterns) → p.kind ≡ kind → IsFinishedTrie p table.old.rows
+        (p : Patterns) → p.kind ≡ kind → HoldsTrie p table.old.rows
         → IsCopyRefusal table.old.limit (matches_size p) error) }
 {
     set_anchored_start_state(table)?;

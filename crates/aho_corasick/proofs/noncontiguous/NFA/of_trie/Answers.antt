@@ -22,5 +22,6 @@ returns c = record {
     lengths_are = lens_are;
     names = names_before p (length p.words);
     built = c.in_ok-link_states.ensures.built p (names_before p (length p.words)) kind_is holds.trie;
+    sized = c.in_ok-link_states.ensures.sized p kind_is holds;
   };
 }

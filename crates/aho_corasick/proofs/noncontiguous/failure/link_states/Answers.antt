@@ -1,8 +1,9 @@
 use Rattle.std.proofs.Common.{◌≡◌, ℕ, ◌+◌, ◌∙◌, List, Option, refl, ap, arith, length}
 use Rattle.aho_base.specs.Patterns.{Patterns}
 use Rattle.aho_corasick.specs.Building.{IsCopyRefusal, ListsAllBytes}
+use Rattle.aho_corasick.specs.Growing.{HoldsTrie}
 use Rattle.aho_corasick.specs.Naming.{IsTrieOf}
-use Rattle.aho_corasick.specs.Sizes.{IsFinishedTrie, names_before, matches_size}
+use Rattle.aho_corasick.specs.Sizes.{names_before, matches_size}
 use Rattle.aho_corasick.specs.Tables.{Row, matches_in, matches_count}
 use Rattle.aho_corasick.proofs.CopiedCounts.{IsCopyRefusal-larger, matches_count-start, matches_count-built}
 use Rattle.aho_corasick.proofs.CountedLinks.{ListsAllBytes-row, transitions_count-same}
@@ -27,20 +28,20 @@ fill_failure_transitions-requires c =
 
 pub returns-in_err-set_anchored_start_state-clause-refused : goal.returns-in_err-set_anchored_start_state-clause-refused
 returns-in_err-set_anchored_start_state-clause-refused c =
-    IfErr-given (λ error. (p : Patterns) → p.kind ≡ c.args.kind → IsFinishedTrie p c.args.table.now.rows → IsCopyRefusal c.args.table.now.limit (matches_size p) error)
+    IfErr-given (λ error. (p : Patterns) → p.kind ≡ c.args.kind → HoldsTrie p c.args.table.now.rows → IsCopyRefusal c.args.table.now.limit (matches_size p) error)
     c.from_residual.result c.in_err-set_anchored_start_state.field-0.0 c.from_residual.ensures.1
     (λ p same finished.
     IsCopyRefusal-larger c.args.table.now.limit (matches_size p) c.args.table.now.limit (matches_count c.args.table.now.rows + length (matches_in c.args.table.now.rows 2))
     c.in_err-set_anchored_start_state.field-0.0 refl (matches_count-start p c.args.table.now.rows finished)
-    (c.in_err-set_anchored_start_state.ensures.refused finished.anchored_bytes))
+    (c.in_err-set_anchored_start_state.ensures.refused finished.listed.anchored_full))
 
 pub returns-in_err-add_unanchored_start_state_loop-clause-refused : goal.returns-in_err-add_unanchored_start_state_loop-clause-refused
 returns-in_err-add_unanchored_start_state_loop-clause-refused c =
-    IfErr-given (λ error. (p : Patterns) → p.kind ≡ c.args.kind → IsFinishedTrie p c.args.table.now.rows → IsCopyRefusal c.args.table.now.limit (matches_size p) error)
+    IfErr-given (λ error. (p : Patterns) → p.kind ≡ c.args.kind → HoldsTrie p c.args.table.now.rows → IsCopyRefusal c.args.table.now.limit (matches_size p) error)
     c.from_residual-in_err-add_unanchored_start_state_loop.result c.in_err-add_unanchored_start_state_loop.field-0.0 c.from_residual-in_err-add_unanchored_start_state_loop.ensures.1
     (λ p same finished.
     let root_row = c.in_ok-set_anchored_start_state.ensures.led.others 2 (λ e. omega arith) in
-    let clash = c.in_err-add_unanchored_start_state_loop.ensures.full (ListsAllBytes-row c.args.table.now.rows c.set_anchored_start_state.new.table.rows 2 root_row finished.root_bytes) in
+    let clash = c.in_err-add_unanchored_start_state_loop.ensures.full (ListsAllBytes-row c.args.table.now.rows c.set_anchored_start_state.new.table.rows 2 root_row finished.listed.root_full) in
     cc)
 
 pub returns-in_err-fill_failure_transitions-clause-refused : goal.returns-in_err-fill_failure_transitions-clause-refused
@@ -48,14 +49,14 @@ returns-in_err-fill_failure_transitions-clause-refused c =
     let led = c.in_ok-set_anchored_start_state.ensures.led in
     let looped = c.in_ok-add_unanchored_start_state_loop.ensures.looped in
     let limit = c.in_ok-add_unanchored_start_state_loop.ensures.limit ∙ c.in_ok-set_anchored_start_state.ensures.limit in
-    IfErr-given (λ error. (p : Patterns) → p.kind ≡ c.args.kind → IsFinishedTrie p c.args.table.now.rows → IsCopyRefusal c.args.table.now.limit (matches_size p) error)
+    IfErr-given (λ error. (p : Patterns) → p.kind ≡ c.args.kind → HoldsTrie p c.args.table.now.rows → IsCopyRefusal c.args.table.now.limit (matches_size p) error)
     c.from_residual-in_err-fill_failure_transitions.result c.in_err-fill_failure_transitions.field-0.0 c.from_residual-in_err-fill_failure_transitions.ensures.1
     (λ p same finished.
     IsCopyRefusal-larger c.args.table.now.limit (matches_size p) c.add_unanchored_start_state_loop.new.table.limit (matches_size p)
     c.in_err-fill_failure_transitions.field-0.0 limit (omega arith)
     (c.in_err-fill_failure_transitions.ensures.refused p same
     (IsReady-of_kind p (names_before p (length p.words)) c.args.kind c.args.table.now.rows c.set_anchored_start_state.new.table.rows c.add_unanchored_start_state_loop.new.table.rows same finished.trie led looped)
-    (ap (λ (r : Row). r.matches) (looped.others 1 (λ e. omega arith) ∙ led.others 1 (λ e. omega arith)) ∙ finished.fail_matches)))
+    (ap (λ (r : Row). r.matches) (looped.others 1 (λ e. omega arith) ∙ led.others 1 (λ e. omega arith)) ∙ finished.trie.first.fail_matches)))
 
 pub returns : goal.returns
 returns c =
@@ -75,9 +76,9 @@ returns c =
     ∙ c.in_ok-set_anchored_start_state.ensures.transitions anchored in
     let built = λ (p : Patterns) (names : List (Option (List ℕ))) (same : p.kind ≡ c.args.kind) (of : IsTrieOf p (length p.words) names old).
     c.in_ok-fill_failure_transitions.ensures.built p names same (IsReady-of_kind p names c.args.kind old mid ready same of led looped) in
-    let matches = λ (p : Patterns) (same : p.kind ≡ c.args.kind) (finished : IsFinishedTrie p old).
+    let matches = λ (p : Patterns) (same : p.kind ≡ c.args.kind) (finished : HoldsTrie p old).
     matches_count-built p c.fill_failure_transitions.new.table.rows (built p (names_before p (length p.words)) same finished.trie)
-    (copies.fail_matches ∙ ap (λ (r : Row). r.matches) fail_row ∙ finished.fail_matches) in
+    (copies.fail_matches ∙ ap (λ (r : Row). r.matches) fail_row ∙ finished.trie.first.fail_matches) in
     record {
       built = built;
       limit = limit;
@@ -85,7 +86,7 @@ returns c =
       transitions = transitions;
       sized = λ p same finished. record {
         states = states ∙ finished.counted.states;
-        transitions = transitions finished.root_bytes finished.anchored_bytes ∙ finished.counted.transitions;
+        transitions = transitions finished.listed.root_full finished.listed.anchored_full ∙ finished.counted.transitions;
         matches = matches p same finished;
       };
       within = λ p same finished. omega (arith, matches p same finished, c.matches_count-matches.ensures.count, c.matches_count-matches.ensures.within, limit);
