@@ -28,5 +28,8 @@ pub mod LinksSoFar
 pub mod LinkedChild
 pub mod VisitedTransitions
 -- Why a build of the trie stops.
+pub mod Causes
+pub mod WithinLimit
+pub mod RefusedPattern
 pub mod Stops
 pub mod Whole

@@ -17,3 +17,8 @@ returns g c = record {
       ))
       c.of_trie.ensures.of;
 }
+
+pub of_trie-requires-clause-holds : goal.of_trie-requires-clause-holds
+of_trie-requires-clause-holds g c =
+    let built = c.in_ok-trie.ensures.built in
+    (patterns_of c.self.inside.match_kind c.self.inside.ascii_case_insensitive built.0, (refl, (built.1.1.0, built.1.1.1.0)))
