@@ -74,7 +74,7 @@ module _ (p : Patterns) (more : List (List ℕ)) where
       ap (λ (w : List ℕ). nat_lt (length w) (length (pattern_word with_more k)) && begins w (pattern_word with_more k)) (pattern_word-more j (omega (arith, less, below)))
       ∙ ap (λ (w : List ℕ). nat_lt (length (pattern_word p j)) (length w) && begins (pattern_word p j) w) (pattern_word-more k below)))
 
-  is_kept-more : (k : ℕ) → k < length p.words → is_kept with_more k ≡ is_kept p k
+  pub is_kept-more : (k : ℕ) → k < length p.words → is_kept with_more k ≡ is_kept p k
   unfolding is_kept
   is_kept-more k below = kept_by-more p.kind k below
 
@@ -157,13 +157,13 @@ module _ (p : Patterns) (more : List (List ℕ)) where
 
 -- one item more
 module _ (kind : MatchKind) (ignore_case : Bool) (items : List (Bor (List ℕ))) (item : Bor (List ℕ)) where
-  abbrev words_before : List (List ℕ)
+  abbrev pub words_before : List (List ℕ)
   words_before = map (λ (i : Bor (List ℕ)). i.now) items
 
-  abbrev patterns_next : Patterns
+  abbrev pub patterns_next : Patterns
   patterns_next = patterns_of kind ignore_case (items ++ item ∷ [])
 
-  words_next : map (λ (i : Bor (List ℕ)). i.now) (items ++ item ∷ []) ≡ words_before ++ item.now ∷ []
+  pub words_next : map (λ (i : Bor (List ℕ)). i.now) (items ++ item ∷ []) ≡ words_before ++ item.now ∷ []
   words_next = map-append (λ (i : Bor (List ℕ)). i.now) items (item ∷ [])
 
   pub IsNumbered-next : (number : ℕ) → number ≡ length words_before → IsNumbered patterns_next number kind ignore_case item.now
@@ -184,12 +184,14 @@ module _ (kind : MatchKind) (ignore_case : Bool) (items : List (Bor (List ℕ)))
   pub AwaitsWord-next : (number : ℕ) (rows : List Row) → number ≡ length words_before → HoldsTrie (patterns_of kind ignore_case items) rows → AwaitsWord kind ignore_case item.now rows
   AwaitsWord-next number rows e holds = (patterns_next, (number, (IsNumbered-next number e, HoldsFirst-next number rows e holds)))
 
+  pub count-next : (number : ℕ) → number ≡ length words_before → number + 1 ≡ length patterns_next.words
+  count-next number e = omega (arith, e, ap length words_next, length_push words_before item.now)
+
   -- and holds it once it is added
   pub HoldsTrie-next : (number : ℕ) (old new : List Row) → number ≡ length words_before → AddsPattern kind ignore_case item.now number old new
       → HoldsTrie (patterns_of kind ignore_case items) old → HoldsTrie patterns_next new
   HoldsTrie-next number old new e adds holds =
-      let count : number + 1 ≡ length patterns_next.words = omega (arith, e, ap length words_next, length_push words_before item.now) in
-      subst (λ (n : ℕ). HoldsFirst patterns_next n new) count (adds patterns_next (IsNumbered-next number e) (HoldsFirst-next number old e holds))
+      subst (λ (n : ℕ). HoldsFirst patterns_next n new) (count-next number e) (adds patterns_next (IsNumbered-next number e) (HoldsFirst-next number old e holds))
 
   -- its length is the last
   pub lengths-next : (lens : List ℕ) (len : ℕ) → lens ≡ map length words_before → len ≡ length item.now → lens ++ len ∷ [] ≡ map length patterns_next.words
@@ -199,3 +201,7 @@ module _ (kind : MatchKind) (ignore_case : Bool) (items : List (Bor (List ℕ)))
 
   pub place-next : (lens : List ℕ) (place : ℕ) → lens ≡ map length words_before → place ≡ length lens → place ≡ length words_before
   place-next lens place e at = at ∙ ap length e ∙ length-map words_before length
+
+-- the trie of all patterns is that of the last and those before it
+pub HoldsFirst-counted : (p : Patterns) (number : ℕ) (rows : List Row) → number + 1 ≡ length p.words → HoldsTrie p rows → HoldsFirst p (number + 1) rows
+HoldsFirst-counted p number rows counted holds = subst (λ (n : ℕ). HoldsFirst p n rows) (sym counted) holds

@@ -136,7 +136,7 @@ module _ (p : Patterns) (is_word : List ℕ → Bool) (names : List (Option (Lis
           let absent_too : is_word (longer p (x ∷ word) (opposite byte)) ≡ false = ap (λ (n : ℕ). is_word ((x ∷ word) ++ n ∷ [])) folds ∙ absent in
           ap (λ (n : ℕ). cond (not (nat_eq (opposite byte) byte)) n 0) (missing_one word x (opposite byte) at absent_too (opposite-small byte small))
 
-  missing-entries : (word : List ℕ) → name_at names state ≡ Some word → is_word (longer p word byte) ≡ false → missing_both p.ignore_case rows state byte ≡ entries_for p (longer p word byte)
+  pub missing-entries : (word : List ℕ) → name_at names state ≡ Some word → is_word (longer p word byte) ≡ false → missing_both p.ignore_case rows state byte ≡ entries_for p (longer p word byte)
   missing-entries [] at absent = missing-root at
   missing-entries (x ∷ word) at absent = missing-longer x word at absent
 

@@ -28,7 +28,7 @@ first_kind Standard e = cc
 first_kind LeftmostFirst e = refl
 first_kind LeftmostLongest e = cc
 
-kind_first : (kind : MatchKind) → kind ≡ LeftmostFirst → is_first kind ≡ true
+pub kind_first : (kind : MatchKind) → kind ≡ LeftmostFirst → is_first kind ≡ true
 kind_first Standard e = cc
 kind_first LeftmostFirst e = refl
 kind_first LeftmostLongest e = cc
@@ -46,13 +46,13 @@ module _ (p : Patterns) (number : ℕ) (kind : MatchKind) (ignore_case : Bool) (
   abbrev front_of : ℕ → List ℕ
   front_of k = folded_word p (take k word)
 
-  front_of-word : (k : ℕ) → front_of k ++ drop k (folded_word p word) ≡ pattern_word p number
+  pub front_of-word : (k : ℕ) → front_of k ++ drop k (folded_word p word) ≡ pattern_word p number
   front_of-word k =
       ap (λ (l : List ℕ). l ++ drop k (folded_word p word)) (sym (take-map (folded p) k word))
       ∙ take-append-drop k (folded_word p word) ∙ sym (pattern_word-numbered p number kind ignore_case word numbered)
 
   -- no pattern ends at a state that is passed
-  passed_none : (sid k : ℕ) (names : List (Option (List ℕ))) (rows : List Row) → (is_first kind && nat_lt 0 (length (matches_in rows sid))) ≡ false → is_first kind ≡ true
+  pub passed_none : (sid k : ℕ) (names : List (Option (List ℕ))) (rows : List Row) → (is_first kind && nat_lt 0 (length (matches_in rows sid))) ≡ false → is_first kind ≡ true
       → IsTrieWith p number (front_of k) names rows → name_at names sid ≡ Some (front_of k) → own_among p number (front_of k) ≡ []
   passed_none sid k names rows none first with_more at =
       empty_from (own_among p number (front_of k))

@@ -30,5 +30,9 @@ pub mod VisitedTransitions
 pub mod CountedLinks
 pub mod CopiedCounts
 -- Why a build of the trie stops.
+pub mod Causes
+pub mod WithinLimit
+pub mod RefusedPattern
+pub mod WholeCause
 pub mod Stops
 pub mod Whole

@@ -1,10 +1,10 @@
 -- How the trie grows: by one state, by the bytes of one pattern, by one pattern, and from the four first states.
-use Rattle.std.specs.Prelude.{◌≡◌, ◌≢◌, ℕ, ◌+◌, ◌-◌, ◌<◌, ◌≤◌, ◌⊎◌, nat_eq, nat_le, not, ◌&&◌, if◌then◌else◌, Bool, true, false, List, [], ◌∷◌, map, length, take, Option, Some, None, MatchBool}
-use Rattle.std.specs.Iterator.{Yields}
+use Rattle.std.specs.Prelude.{◌≡◌, ◌≢◌, ℕ, ◌+◌, ◌-◌, ◌<◌, ◌≤◌, ◌⊎◌, nat_eq, nat_le, not, ◌&&◌, if◌then◌else◌, Bool, true, false, List, [], ◌∷◌, map, length, take, sum_by, Option, Some, None, MatchBool}
+use Rattle.std.specs.Iterator.{Yields, Drains}
 use Rattle.std.specs.List.{All}
 use denote.Ref.{Bor}
 use Rattle.aho_base.specs.declared.error.BuildError.{BuildError}
-use Rattle.aho_base.specs.declared.error.BuildError.TheVariants.{StateIDOverflow, PatternIDOverflow, PatternTooLong, OutOfMemory}
+use Rattle.aho_base.specs.declared.error.BuildError.TheVariants.{StateIDOverflow, OutOfMemory}
 use Rattle.aho_base.specs.declared.search.MatchKind.{MatchKind}
 use Rattle.aho_base.specs.declared.search.MatchKind.TheVariants.{Standard, LeftmostFirst, LeftmostLongest}
 use Rattle.aho_base.specs.Among.{own_among}
@@ -12,7 +12,8 @@ use Rattle.aho_base.specs.Bytes.{folded_word}
 use Rattle.aho_base.specs.Patterns.{Patterns, pattern_at}
 use Rattle.aho_base.specs.Trie.{is_kept, pattern_word}
 use Rattle.aho_corasick.specs.Naming.{name_at, IsTrieOf, IsTrieWith}
-use Rattle.aho_corasick.specs.Sizes.{kept_before, names_before, nodes_with, names_of, HasNodes, IsCountedTrie}
+use Rattle.aho_corasick.specs.Sizes.{Growth, kept_before, names_before, nodes_before, nodes_with, names_of, entries_for, refusal_of, cause, HasNodes, IsCause, IsCountedTrie}
+use Rattle.aho_corasick.specs.declared.noncontiguous.Limits.{Limits}
 use Rattle.aho_corasick.specs.Tables.{Row, row_at, next_in, fail_in, depth_in, matches_in, lists_byte, IsRising, transitions_count, matches_count}
 
 -- the patterns of these byte strings, by their places
@@ -167,9 +168,34 @@ AddsPattern kind ignore_case word number old new =
 abbrev pub HoldsTrie : Patterns → List Row → Type 0
 HoldsTrie p rows = HoldsFirst p (length p.words) rows
 
--- a table of this limit refused to grow, or memory was wanted
-abbrev pub IsGrowthRefusal : ℕ → BuildError → Type 0
-IsGrowthRefusal limit error = (error ≡ StateIDOverflow limit (limit + 1)) ⊎ (error ≡ OutOfMemory)
+-- the tables have no more entries than the limit allows
+pub record IsWithinLimit (limit : ℕ) (rows : List Row) : Type 0 where
+  pub states : length rows ≤ limit + 1
+  pub transitions : transitions_count rows ≤ limit + 1
+  pub matches : matches_count rows ≤ limit + 1
+
+-- why a table is not to have this many entries: they are more than the limit allows, or memory was wanted
+abbrev pub IsRefusalOf : ℕ → ℕ → BuildError → Type 0
+IsRefusalOf limit size error = (error ≡ OutOfMemory) ⊎ ((error ≡ StateIDOverflow limit (limit + 1)) × (limit + 1 < size))
+
+-- why there is no state to which the byte leads: there was none, and there are too many states, or transitions
+abbrev pub IsChildRefusal : Bool → ℕ → ℕ → ℕ → List Row → BuildError → Type 0
+IsChildRefusal ignore_case limit parent byte rows error =
+    (next_in rows parent byte ≡ 1)
+    × (IsRefusalOf limit (length rows + 1) error ⊎ IsRefusalOf limit (transitions_count rows + missing_both ignore_case rows parent byte) error)
+
+-- why the pattern of this number is not in the trie: it is kept, and with it there are too many states, transitions or matches
+abbrev pub IsPatternRefusal : ℕ → Patterns → ℕ → BuildError → Type 0
+IsPatternRefusal limit p number error =
+    (is_kept p number ≡ true)
+    × (IsRefusalOf limit (4 + length (nodes_before p (number + 1))) error
+    ⊎ (IsRefusalOf limit (769 + sum_by (entries_for p) (nodes_before p (number + 1))) error
+    ⊎ IsRefusalOf limit (1 + length (kept_before p (number + 1))) error))
+
+-- why the word is not in what was a trie of the patterns before it, by any patterns
+abbrev pub IsWordRefusal : MatchKind → Bool → List ℕ → ℕ → List Row → BuildError → Type 0
+IsWordRefusal kind ignore_case word limit rows error =
+    (p : Patterns) (number : ℕ) → IsNumbered p number kind ignore_case word → HoldsFirst p number rows → IsPatternRefusal limit p number error
 
 -- the items that an iterator gives first
 abbrev pub HasYielded : {S A : Type 0} → (S → Option A → S → Type 0) → S → List A → Type 0
@@ -180,11 +206,15 @@ pub record AreWithin (pattern_limit length_limit : ℕ) (p : Patterns) : Type 0 
   pub numbers_within : length p.words ≤ pattern_limit + 1
   pub lengths_within : All (λ word. length word ≤ length_limit) p.words
 
--- why a build stopped that took these patterns: those before the last are within their limits, and the last has too great a
--- number, or it is too long, or a table would pass its limit, or memory was wanted
-abbrev pub StopsAt : ℕ → ℕ → ℕ → Patterns → BuildError → Type 0
-StopsAt pattern_limit length_limit index_limit p (PatternIDOverflow max requested) = (max ≡ pattern_limit) × (requested ≡ pattern_limit + 1) × (length p.words ≡ requested + 1)
-StopsAt pattern_limit length_limit index_limit p (PatternTooLong pattern len max) =
-    (max ≡ length_limit) × (length p.words ≡ pattern + 1) × (len ≡ length (pattern_at p pattern)) × (max < len)
-StopsAt pattern_limit length_limit index_limit p (StateIDOverflow max requested) = (max ≡ index_limit) × (requested ≡ index_limit + 1)
-StopsAt pattern_limit length_limit index_limit p OutOfMemory = Unit {0}
+-- the items of an automaton: those that the iterator gave until it ended, of which the limits refuse nothing
+abbrev pub AreAccepted : {S : Type 0} → (S → Option (Bor (List ℕ)) → S → Type 0) → S → MatchKind → Bool → Limits → List (Bor (List ℕ)) → Type 0
+AreAccepted gives state kind ignore_case limits items = Drains gives state items × (cause limits (patterns_of kind ignore_case items) ≡ None)
+
+-- why a build was refused where memory was found: the limits refuse a growth that the items ask for, none before it, and the
+-- error says which. It is met either when the last of these items was taken, whatever the iterator would have given after it,
+-- or when the iterator had ended.
+abbrev pub IsRefusal : {S : Type 0} → (S → Option (Bor (List ℕ)) → S → Type 0) → S → MatchKind → Bool → Limits → BuildError → Type 0
+IsRefusal gives state kind ignore_case limits error =
+    (items : List (Bor (List ℕ))) × ((refused : Growth) × ((error ≡ refusal_of limits refused)
+    × ((HasYielded gives state items × IsCause limits (patterns_of kind ignore_case items) refused)
+    ⊎ (Drains gives state items × (cause limits (patterns_of kind ignore_case items) ≡ Some refused)))))

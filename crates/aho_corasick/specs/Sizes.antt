@@ -1,8 +1,9 @@
 -- How large the tables of an automaton become, and what a limit refuses. What a build asks for is a list of growths in their
 -- order; the cause of a refusal is the first of them that the limits refuse.
-use Rattle.std.specs.Prelude.{◌≡◌, ℕ, ◌+◌, ◌-◌, ◌*◌, Bool, not, nat_eq, nat_lt, List, [], ◌∷◌, ◌++◌, length, map, filter, flat_map, take, sum_by, count_by, find, slice_index, min, Option, Some, None, if◌then◌else◌}
+use Rattle.std.specs.Prelude.{◌≡◌, ℕ, ◌+◌, ◌-◌, ◌*◌, ◌⊎◌, Bool, not, nat_eq, nat_lt, List, [], ◌∷◌, ◌++◌, length, map, filter, flat_map, take, sum_by, count_by, find, slice_index, min, Option, Some, None, if◌then◌else◌}
 use Rattle.std.specs.List.{list_any, range_with_len}
 use Rattle.aho_base.specs.declared.error.BuildError.{BuildError}
+use Rattle.aho_base.specs.declared.error.BuildError.TheVariants.{StateIDOverflow, PatternIDOverflow, PatternTooLong, OutOfMemory}
 use Rattle.aho_base.specs.declared.search.MatchKind.{MatchKind}
 use Rattle.aho_base.specs.Bytes.{folded}
 use Rattle.aho_base.specs.MatchList.{matches_of}
@@ -105,6 +106,29 @@ in_force limits = record { id = min limits.id 2147483646; pattern = min limits.p
 -- why a build is refused where memory is found: the first thing that the limits refuse
 abbrev pub cause : Limits → Patterns → Option Growth
 cause limits p = find (is_refused limits) (growth p)
+
+-- nothing is refused while these patterns are taken
+pub record IsAccepted (limits : Limits) (p : Patterns) : Type 0 where
+  pub none : find (is_refused limits) (trie_growth p) ≡ None
+
+-- the patterns with more of them behind
+abbrev pub followed_by : Patterns → List (List ℕ) → Patterns
+followed_by p more = record { words = p.words ++ more; kind = p.kind; ignore_case = p.ignore_case }
+
+-- the first thing that is refused while these patterns are taken, whatever patterns follow
+pub record IsCause (limits : Limits) (p : Patterns) (refused : Growth) : Type 0 where
+  pub first : find (is_refused limits) (trie_growth p) ≡ Some refused
+  pub longer : (more : List (List ℕ)) → cause limits (followed_by p more) ≡ Some refused
+
+-- the error that says so
+abbrev pub refusal_of : Limits → Growth → BuildError
+refusal_of limits (PatternNumber number) = PatternIDOverflow limits.pattern number
+refusal_of limits (PatternLength number size) = PatternTooLong number size limits.length
+refusal_of limits (TableIndex index) = StateIDOverflow limits.id index
+
+-- why a build stopped that took these patterns: memory was wanted, or it met the first thing that the limits refuse
+abbrev pub IsStopped : Limits → Patterns → BuildError → Type 0
+IsStopped limits p error = (error ≡ OutOfMemory) ⊎ ((refused : Growth) × IsCause limits p refused × (error ≡ refusal_of limits refused))
 
 -- the states in the order in which a build makes them, by their words
 abbrev pub names_before : Patterns → ℕ → List (Option (List ℕ))

@@ -36,15 +36,19 @@ pub struct NFA {
 }
 
 impl NFA {
-    ghost use Rattle.std.specs.Prelude.{ℕ, List, IfOk, length, map};
+    ghost use Rattle.std.specs.Prelude.{ℕ, ◌+◌, List, IfOk, length, map};
     ghost use Rattle.aho_base.specs.declared.search.Anchored.{Anchored};
-    ghost use Rattle.std.specs.Iterator.{Drains, IsFinite};
+    ghost use Rattle.std.specs.Iterator.{IsFinite};
     ghost use Rattle.aho_base.specs.Patterns.{Patterns};
     ghost use denote.Ref.{Bor};
     ghost use Rattle.aho_base.specs.declared.search.MatchKind.TheVariants.{Standard};
     ghost use Rattle.std.specs.Prelude.{false};
-    ghost use Rattle.aho_corasick.specs.Growing.{patterns_of, HoldsTrie};
+    ghost use Rattle.std.specs.Prelude.{◌⊎◌, IfErr};
+    ghost use Rattle.aho_base.specs.declared.error.BuildError.TheVariants.{OutOfMemory};
+    ghost use Rattle.aho_corasick.specs.Building.{IsCopyRefusal};
+    ghost use Rattle.aho_corasick.specs.Growing.{patterns_of, HoldsTrie, AreAccepted, IsRefusal};
     ghost use Rattle.aho_corasick.specs.Settings.{default_settings};
+    ghost use Rattle.aho_corasick.specs.Sizes.{matches_size};
 
     /// The automaton of these patterns, as a new `Builder` builds it.
     ///
@@ -57,7 +61,11 @@ impl NFA {
     ) -> Result<NFA, BuildError>
         requires can { I.can_next patterns }
         requires ends { IsFinite (I.remaining patterns) }
-        ensures of { IfOk result (λ nfa. (items : List (Bor (List ℕ))) × Drains I.next_gives patterns items × ⟦<NFA as Automaton>⟧.is_of nfa (patterns_of Standard false items)) }
+        ensures built { IfOk result (λ nfa. (items : List (Bor (List ℕ)))
+            × AreAccepted I.next_gives patterns Standard false default_settings.limits items
+            × ⟦<NFA as Automaton>⟧.is_of nfa (patterns_of Standard false items)) }
+        ensures refused { IfErr result (λ error. (error ≡ OutOfMemory)
+            ⊎ IsRefusal I.next_gives patterns Standard false default_settings.limits error) }
     {
         Builder::new().build(alloc, patterns)
     }
@@ -67,6 +75,8 @@ impl NFA {
         requires holds { (p : Patterns) × ((p.kind ≡ kind) × ((trie.lens.items ≡ map length p.words) × HoldsTrie p trie.table.rows)) }
         requires counted { length trie.lens.items ≤ 2147483647 }
         ensures of { IfOk result (λ nfa. (p : Patterns) → p.kind ≡ kind → trie.lens.items ≡ map length p.words → HoldsTrie p trie.table.rows → ⟦<NFA as Automaton>⟧.is_of nfa p) }
+        ensures within { IfOk result (λ nfa. (p : Patterns) → p.kind ≡ kind → HoldsTrie p trie.table.rows → matches_size p ≤ trie.table.limit + 1) }
+        ensures refused { IfErr result (λ error. (p : Patterns) → p.kind ≡ kind → HoldsTrie p trie.table.rows → IsCopyRefusal trie.table.limit (matches_size p) error) }
     {
         let Trie { mut table, lens } = trie;
         failure::link_states(alloc, &mut table, kind)?;
@@ -312,9 +322,12 @@ impl Default for Builder {
 
 impl Builder {
     ghost use Rattle.std.specs.Prelude.{List, IfOk};
-    ghost use Rattle.std.specs.Iterator.{Drains, IsFinite};
+    ghost use Rattle.std.specs.Iterator.{IsFinite};
     ghost use denote.Ref.{Bor};
-    ghost use Rattle.aho_corasick.specs.Growing.{patterns_of};
+    ghost use Rattle.std.specs.Prelude.{◌⊎◌, IfErr};
+    ghost use Rattle.aho_base.specs.declared.error.BuildError.TheVariants.{OutOfMemory};
+    ghost use Rattle.aho_corasick.specs.Growing.{patterns_of, AreAccepted, IsRefusal};
+    ghost use Rattle.aho_corasick.specs.Sizes.{in_force};
     ghost use Rattle.aho_corasick.specs.Settings.{Settings, default_settings};
 
     /// Standard, with regard to case, dense rows up to depth 3, a prefilter where one can be held, and the greatest limits.
@@ -347,7 +360,11 @@ impl Builder {
     ) -> Result<NFA, BuildError>
         requires can { I.can_next patterns }
         requires ends { IsFinite (I.remaining patterns) }
-        ensures of { IfOk result (λ nfa. (items : List (Bor (List ℕ))) × Drains I.next_gives patterns items × ⟦<NFA as Automaton>⟧.is_of nfa (patterns_of self.now.kind self.now.ignore_case items)) }
+        ensures built { IfOk result (λ nfa. (items : List (Bor (List ℕ)))
+            × AreAccepted I.next_gives patterns self.now.kind self.now.ignore_case (in_force self.now.limits) items
+            × ⟦<NFA as Automaton>⟧.is_of nfa (patterns_of self.now.kind self.now.ignore_case items)) }
+        ensures refused { IfErr result (λ error. (error ≡ OutOfMemory)
+            ⊎ IsRefusal I.next_gives patterns self.now.kind self.now.ignore_case (in_force self.now.limits) error) }
     {
         let trie = trie::build_trie(
             alloc,

@@ -5,8 +5,9 @@ ghost use Rattle.std.specs.Iterator.{Drains, IsFinite};
 ghost use denote.Ref.{Bor};
 ghost use Rattle.aho_base.specs.declared.error.BuildError.TheVariants.{PatternIDOverflow, PatternTooLong};
 ghost use Rattle.aho_base.specs.Patterns.{Patterns};
-ghost use Rattle.aho_corasick.specs.Growing.{patterns_of, opposite, HasChild, IsFilledBelow, is_first, AwaitsWord, AddsWord, AddsPattern, HoldsFirst, HoldsTrie, IsGrowthRefusal, HasYielded, AreWithin, StopsAt};
-ghost use Rattle.aho_corasick.specs.Tables.{row_at, matches_in};
+ghost use Rattle.aho_corasick.specs.Growing.{patterns_of, opposite, HasChild, IsFilledBelow, is_first, AwaitsWord, AddsWord, AddsPattern, AllRising, HoldsFirst, HoldsTrie, IsWithinLimit, IsRefusalOf, IsChildRefusal, IsWordRefusal, HasYielded, AreWithin};
+ghost use Rattle.aho_corasick.specs.Sizes.{in_force, IsAccepted, IsStopped};
+ghost use Rattle.aho_corasick.specs.Tables.{row_at, matches_in, transitions_count};
 
 use crate::links::{FAIL, Table};
 use crate::noncontiguous::Limits;
@@ -65,9 +66,11 @@ fn child(
     depth: SmallIndex,
 ) -> Result<StateID, BuildError>
     requires added { parent < length table.old.rows }
+    requires rising { AllRising table.old.rows }
     ensures child { IfOk result (HasChild ignore_case parent byte depth table.old.rows table.new.rows) }
     ensures limit { OnOk result (table.new.limit ≡ table.old.limit) }
-    ensures refused { IfErr result (IsGrowthRefusal table.old.limit) }
+    ensures within { OnOk result (IsWithinLimit table.old.limit table.old.rows → IsWithinLimit table.old.limit table.new.rows) }
+    ensures refused { IfErr result (IsChildRefusal ignore_case table.old.limit parent byte table.old.rows) }
 {
     let next = table.follow(parent, byte, &mut Work::new());
     if next != FAIL {
@@ -104,7 +107,8 @@ fn add_word(
     requires trie { AwaitsWord kind ignore_case pattern.now table.old.rows }
     ensures ends { IfOk result (AddsWord kind ignore_case pattern.now table.old.rows table.new.rows) }
     ensures limit { OnOk result (table.new.limit ≡ table.old.limit) }
-    ensures refused { IfErr result (IsGrowthRefusal table.old.limit) }
+    ensures within { OnOk result (IsWithinLimit table.old.limit table.old.rows → IsWithinLimit table.old.limit table.new.rows) }
+    ensures refused { IfErr result (IsWordRefusal kind ignore_case pattern.now table.old.limit table.old.rows) }
 {
     let mut state = unanchored_start();
     for (index, byte) in pattern.iter().enumerate() {
@@ -122,7 +126,8 @@ fn init_full_state(table: &mut Table, sid: StateID, next: StateID) -> Result<(),
     requires empty { (row_at table.old.rows sid).edges ≡ [] }
     ensures filled { IfOk result (λ _. IsFilledBelow sid next 256 table.old.rows table.new.rows) }
     ensures limit { OnOk result (table.new.limit ≡ table.old.limit) }
-    ensures refused { IfErr result (IsGrowthRefusal table.old.limit) }
+    ensures within { OnOk result (IsWithinLimit table.old.limit table.old.rows → IsWithinLimit table.old.limit table.new.rows) }
+    ensures refused { IfErr result (IsRefusalOf table.old.limit (transitions_count table.old.rows + 256)) }
 {
     for byte in 0..256u16 {
         table.set(sid, byte as u8, next)?;
@@ -134,7 +139,8 @@ fn init_full_state(table: &mut Table, sid: StateID, next: StateID) -> Result<(),
 fn first_states(alloc: Global, limit: usize) -> Result<Table, BuildError>
     ensures start { IfOk result (λ table. (p : Patterns) → HoldsFirst p 0 table.rows) }
     ensures limit { IfOk result (λ table. table.limit ≡ min limit SmallIndex.MAX) }
-    ensures refused { IfErr result (IsGrowthRefusal (min limit SmallIndex.MAX)) }
+    ensures within { IfOk result (λ table. IsWithinLimit (min limit SmallIndex.MAX) table.rows) }
+    ensures refused { IfErr result (IsRefusalOf (min limit SmallIndex.MAX) 769) }
 {
     let mut table = Table::new(alloc, limit)?;
     let depth = small(0);
@@ -202,7 +208,8 @@ fn add_pattern(
     requires trie { AwaitsWord kind ignore_case pattern.now table.old.rows }
     ensures adds { OnOk result (AddsPattern kind ignore_case pattern.now number table.old.rows table.new.rows) }
     ensures limit { OnOk result (table.new.limit ≡ table.old.limit) }
-    ensures refused { IfErr result (IsGrowthRefusal table.old.limit) }
+    ensures within { OnOk result (IsWithinLimit table.old.limit table.old.rows → IsWithinLimit table.old.limit table.new.rows) }
+    ensures refused { IfErr result (IsWordRefusal kind ignore_case pattern.now table.old.limit table.old.rows) }
 {
     if let Some(end) = add_word(table, kind, ignore_case, pattern)? {
         table.add_match(end, number)?;
@@ -228,10 +235,12 @@ pub(super) fn build_trie<'p, I: Iterator<Item = &'p [u8]> + Drop>(
     ensures built { IfOk result (λ trie. (items : List (Bor (List ℕ))) × (Drains I.next_gives patterns items
         × ((trie.lens.items ≡ map length (patterns_of kind ignore_case items).words)
         × (HoldsTrie (patterns_of kind ignore_case items) trie.table.rows
-        × AreWithin (min limits.pattern PatternID.MAX) (min limits.length SmallIndex.MAX) (patterns_of kind ignore_case items))))) }
+        × (AreWithin (min limits.pattern PatternID.MAX) (min limits.length SmallIndex.MAX) (patterns_of kind ignore_case items)
+        × IsAccepted (in_force limits) (patterns_of kind ignore_case items)))))) }
     ensures limit { IfOk result (λ trie. trie.table.limit ≡ min limits.id SmallIndex.MAX) }
+    ensures within { IfOk result (λ trie. IsWithinLimit (min limits.id SmallIndex.MAX) trie.table.rows) }
     ensures stopped { IfErr result (λ error. (items : List (Bor (List ℕ))) × (HasYielded I.next_gives patterns items
-        × StopsAt (min limits.pattern PatternID.MAX) (min limits.length SmallIndex.MAX) (min limits.id SmallIndex.MAX) (patterns_of kind ignore_case items) error)) }
+        × IsStopped (in_force limits) (patterns_of kind ignore_case items) error)) }
 {
     let mut trie = Trie {
         table: first_states(alloc, limits.id)?,
