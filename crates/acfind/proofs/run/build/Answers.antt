@@ -10,8 +10,8 @@ use Rattle.acfind.proofs.run.build.Goals as goal
 pub returns : goal.returns
 returns c =
     let nfa = c.in_ok-build.field-0 in
-    let built = c.in_ok-build.ensures.of in
-    let drained = built.1 in
+    let built = c.in_ok-build.ensures.built in
+    let drained = built.1.0 in
     let words : map (λ (item : Bor (List ℕ)). item.now) built.0 ≡ map string_bytes c.args.find.now.patterns.now =
     items_from_drains built.0 (drained.1.0, drained.1.1, λ _. (drained.0, drained.1.2))
     (YieldsList-from_map_by _ (λ (r : Bor (List ℕ)). r.now) string_bytes (YieldsList-from_slice c.args.find.now.patterns.now (cc)) (cc) (λ x r q k. search rules)) in
