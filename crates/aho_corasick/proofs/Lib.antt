@@ -32,4 +32,5 @@ pub mod Causes
 pub mod WithinLimit
 pub mod RefusedPattern
 pub mod Stops
+pub mod SizeChecks
 pub mod Whole
