@@ -90,9 +90,6 @@ module _ (limits : Limits) where
               )
         ]
 
-  pub IsStopped-memory : (p : Patterns) (error : BuildError) → error ≡ OutOfMemory → IsStopped limits p error
-  IsStopped-memory p error memory = inl memory
-
   -- at one pattern more
   module _ (kind : MatchKind) (ignore_case : Bool) (items : List (Bor (List ℕ))) (item : Bor (List ℕ)) (place : ℕ) (counted : place ≡ length (words_before kind ignore_case items item))
       (accepted : IsAccepted limits (patterns_of kind ignore_case items)) where
