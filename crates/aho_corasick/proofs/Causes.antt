@@ -1,17 +1,16 @@
 -- What a build asks for, one pattern after another, and the first of it that the limits refuse.
-use Rattle.std.proofs.Common.{◌≡◌, ℕ, zero, suc, ◌+◌, ◌<◌, ◌≤◌, ◌⊎◌, Bool, true, false, cond, nat_lt, List, [], ◌∷◌, ◌++◌, length, get_or, map, Option, Some, None, refl, sym, ap, subst, ◌∙◌, inl, inr, arith, append_assoc}
+use Rattle.std.proofs.Common.{◌≡◌, ℕ, zero, suc, ◌+◌, ◌-◌, ◌<◌, ◌≤◌, Bool, false, cond, nat_lt, List, [], ◌∷◌, ◌++◌, length, Option, Some, None, refl, sym, ap, ◌∙◌, inl, inr, arith, append_assoc}
 use Rattle.std.proofs.lemmas.Bool.{cases_Bool, cases_lt, lt-ltb, ltb-true}
 use Rattle.std.proofs.lemmas.Grind.{flat_map-append}
-use Rattle.std.proofs.lemmas.List.{append-nil, get_or_append_left, get_or_push, length_push, length-append, map-append}
+use Rattle.std.proofs.lemmas.List.{get_or_append_left, length-append}
 use Rattle.std.proofs.lemmas.List.Folds.{find-append}
 use Rattle.std.specs.Prelude.{find, sum_by}
 use Rattle.std.specs.List.{flat_map, range_with_len}
 use Rattle.std.specs.Option.{option_or}
-use Rattle.aho_base.specs.Patterns.{Patterns, pattern_at, numbers}
+use Rattle.aho_base.specs.Patterns.{Patterns, pattern_at}
 use Rattle.aho_base.specs.Trie.{is_kept}
 use Rattle.aho_corasick.proofs.Appended.{is_kept-more, kept_before-appended, new_nodes-appended, nodes_before-appended}
-use Rattle.aho_corasick.proofs.NodesInOrder.{nodes_before-kept, kept_before-kept}
-use Rattle.aho_corasick.specs.Sizes.{kept_before, new_nodes, nodes_before, entries_for, Growth, PatternNumber, PatternLength, TableIndex, is_refused, entries_from, growth_for_kept, growth_for, first_growth, trie_growth, growth, cause, followed_by, IsAccepted, IsCause}
+use Rattle.aho_corasick.specs.Sizes.{kept_before, new_nodes, nodes_before, entries_for, Growth, PatternNumber, PatternLength, TableIndex, is_refused, entries_from, growth_for_kept, growth_for, first_growth, trie_growth, cause, matches_size, followed_by, IsAccepted, IsCause}
 use Rattle.aho_corasick.specs.declared.noncontiguous.Limits.{Limits}
 
 range_with_len-split : (a n m : ℕ) → range_with_len a (n + m) ≡ range_with_len a n ++ range_with_len (a + n) m
@@ -103,3 +102,23 @@ module _ (limits : Limits) where
             ap (λ (b : Bool). cond b (Some (TableIndex size)) (find (is_refused limits) (entries_from (size + 1) added))) (ltb-false limits.id size below)
             ∙ entries_from-past (size + 1) added (omega arith) (omega arith)
       ]
+
+  -- where the trie is accepted, all is, unless the copied matches are too many
+  module _ (p : Patterns) (accepted : IsAccepted limits p) (room : 1 + length (kept_before p (length p.words)) ≤ limits.id + 1) where
+    abbrev own : ℕ
+    own = 1 + length (kept_before p (length p.words))
+
+    cause-copied : cause limits p ≡ find (is_refused limits) (entries_from own (matches_size p - own))
+    cause-copied = find-after (trie_growth p) (entries_from own (matches_size p - own)) accepted.none
+
+    pub cause-within : matches_size p ≤ limits.id + 1 → cause limits p ≡ None
+    cause-within few = cause-copied ∙ within (matches_size p) few
+      where
+        within : (size : ℕ) → size ≤ limits.id + 1 → find (is_refused limits) (entries_from own (size - own)) ≡ None
+        within size fits = entries_from-within own (size - own) (omega arith)
+
+    pub cause-past : limits.id + 1 < matches_size p → cause limits p ≡ Some (TableIndex (limits.id + 1))
+    cause-past many = cause-copied ∙ past (matches_size p) many
+      where
+        past : (size : ℕ) → limits.id + 1 < size → find (is_refused limits) (entries_from own (size - own)) ≡ Some (TableIndex (limits.id + 1))
+        past size more = entries_from-past own (size - own) room (omega arith)

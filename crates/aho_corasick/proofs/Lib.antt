@@ -35,4 +35,5 @@ pub mod WithinLimit
 pub mod RefusedPattern
 pub mod WholeCause
 pub mod Stops
+pub mod SizeChecks
 pub mod Whole

@@ -1,5 +1,5 @@
 -- A pattern of which a byte was refused is kept, and with it a table would be too large.
-use Rattle.std.proofs.Common.{◌≡◌, ℕ, ◌+◌, ◌<◌, ◌≤◌, ◌⊎◌, Bool, true, false, ◌&&◌, ◌||◌, nat_lt, List, [], ◌∷◌, ◌++◌, length, get_or, take, drop, Option, Some, None, refl, sym, ap, subst, ◌∙◌, inl, inr, arith, append_assoc}
+use Rattle.std.proofs.Common.{◌≡◌, ℕ, ◌+◌, ◌<◌, ◌≤◌, Bool, true, false, ◌&&◌, nat_lt, List, [], ◌∷◌, ◌++◌, length, get_or, take, drop, Option, Some, None, sym, ap, ◌∙◌, inl, inr, arith, append_assoc}
 use Rattle.std.proofs.lemmas.Bool.{cases_Bool, cases_eq, cases_lt, or_parts, MatchBool-at_true}
 use Rattle.std.proofs.lemmas.List.{take-append-drop, take-map, take-take, length_push, length-append}
 use Rattle.std.proofs.lemmas.List.Sums.{sum_by-append}
@@ -12,13 +12,13 @@ use Rattle.aho_base.specs.Patterns.{Patterns}
 use Rattle.aho_base.specs.Trie.{begins, is_kept, pattern_word}
 use Rattle.aho_base.proofs.Begins.{begins-from}
 use Rattle.aho_base.proofs.Inserted.{left_out-walk}
-use Rattle.aho_corasick.specs.Growing.{is_first, IsNumbered, HasWalked, HoldsWith, EndsAt, IsRefusalOf, IsChildRefusal, IsPatternRefusal, missing_both}
+use Rattle.aho_corasick.specs.Growing.{is_first, IsNumbered, HasWalked, EndsAt, IsChildRefusal, IsPatternRefusal, missing_both}
 use Rattle.aho_corasick.specs.Naming.{name_at, longer, missing_at}
 use Rattle.aho_corasick.specs.Refusals.{refusal_at}
 use Rattle.aho_corasick.specs.Sizes.{kept_before, names_of, nodes_before, nodes_with, new_fronts, entries_for}
 use Rattle.aho_corasick.specs.Tables.{Row, next_in, matches_in, transitions_count, matches_count}
 use Rattle.aho_corasick.proofs.CountedTrie.{missing-entries}
-use Rattle.aho_corasick.proofs.Ends.{pattern_word-numbered, front_of-word, left_out-front, passed_none, kind_first}
+use Rattle.aho_corasick.proofs.Ends.{front_of-word, left_out-front, passed_none, kind_first}
 use Rattle.aho_corasick.proofs.Insert.{words_with, folded_word-take-more}
 use Rattle.aho_corasick.proofs.Nodes.{is_node_among-front, own_among-absent}
 use Rattle.aho_corasick.proofs.NodesInOrder.{new_fronts-append, nodes_with-new, nodes_before-kept, kept_before-kept}
@@ -103,10 +103,10 @@ module _ (p : Patterns) (number : ℕ) (kind : MatchKind) (ignore_case : Bool) (
       ap (λ (w : List ℕ). w ++ drop (count + 1) (folded_word p word)) (sym next_front) ∙ front_of-word p number kind ignore_case word numbered (count + 1) in (
         further.0,
         nodes_before-kept p number (kept one)
-        ∙ ap (λ (w : List ℕ). nodes_before p number ++ new_fronts p number w) (sym whole)
-        ∙ ap (λ (l : List (List ℕ)). nodes_before p number ++ l) further.1
-        ∙ sym (append_assoc (nodes_before p number) (new_fronts p number (longer p more byte)) further.0)
-        ∙ ap (λ (l : List (List ℕ)). l ++ further.0) (nodes_with-new p number more (folded p byte) (no_node one)),
+            ∙ ap (λ (w : List ℕ). nodes_before p number ++ new_fronts p number w) (sym whole)
+            ∙ ap (λ (l : List (List ℕ)). nodes_before p number ++ l) further.1
+            ∙ sym (append_assoc (nodes_before p number) (new_fronts p number (longer p more byte)) further.0)
+            ∙ ap (λ (l : List (List ℕ)). l ++ further.0) (nodes_with-new p number more (folded p byte) (no_node one)),
       )
 
   length_more : (words rest all : List (List ℕ)) (one : List ℕ) → all ≡ (words ++ one ∷ []) ++ rest → length words + 1 ≤ length all
@@ -142,5 +142,5 @@ pub IsPatternRefusal-end : (p : Patterns) (number limit sid : ℕ) (rows : List 
 IsPatternRefusal-end p number limit sid rows error ends refused = (
   ends.0,
   inr (inr (IsRefusalOf-at limit (matches_count rows) (1 + length (kept_before p (number + 1))) error
-  (omega (arith, ends.1.counted.matches, ap length (kept_before-kept p number ends.0), length_push (kept_before p number) number)) refused)),
+      (omega (arith, ends.1.counted.matches, ap length (kept_before-kept p number ends.0), length_push (kept_before p number) number)) refused)),
 )

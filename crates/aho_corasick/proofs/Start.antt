@@ -1,12 +1,13 @@
 -- States that take every byte, and the first four states.
-use Rattle.std.proofs.Common.{◌≡◌, ◌≢◌, ℕ, zero, suc, ◌+◌, ◌<◌, Bool, true, false, List, [], ◌∷◌, ◌++◌, length, Some, MatchBool, cond, get_or, add-zero, add_assoc, refl, sym, ap, subst, ◌∙◌, inl, inr, arith}
+use Rattle.std.proofs.Common.{◌≡◌, ◌≢◌, ℕ, zero, suc, ◌+◌, ◌<◌, Bool, true, false, List, [], ◌∷◌, ◌++◌, length, Option, Some, MatchBool, cond, get_or, add-zero, add_assoc, refl, sym, ap, subst, ◌∙◌, inl, inr, arith}
 use Rattle.std.proofs.lemmas.Bool.{cases_eq}
 use Rattle.std.proofs.lemmas.List.{get_or_default, length-set}
 use Rattle.aho_base.specs.Among.{is_node_among}
 use Rattle.aho_base.specs.Bytes.{folded_word}
 use Rattle.aho_base.specs.Patterns.{Patterns}
 use Rattle.aho_base.proofs.Inserted.{is_node_among-none, own_among-none}
-use Rattle.aho_corasick.specs.Growing.{AreListed, HoldsFirst, IsFilledBelow, start_names}
+use Rattle.aho_corasick.specs.Growing.{AreListed, HoldsFirst, IsFilledBelow}
+use Rattle.aho_corasick.specs.Sizes.{names_of}
 use Rattle.aho_corasick.specs.Naming.{name_at, longer, missing_at, IsTrieOf}
 use Rattle.aho_corasick.specs.Tables.{Row, new_row, row_at, next_in, depth_in, fail_in, matches_in, edge_at, with_edge, set_edge, set_fail_of, lists_edge, lists_byte, IsRising, transitions_count, matches_count}
 use Rattle.aho_corasick.proofs.Entries.{edge_at-with_edge, edge_at-with_edge_other}
@@ -224,6 +225,10 @@ IsFirst-linked rows filled =
       root_fail = fail-set_other b 3 0 2 (λ e. cc) ∙ fail-set_other a 1 0 2 (λ e. cc) ∙ fail-set_other rows 0 0 2 (λ e. cc) ∙ filled.unlinked 2;
       anchored_fail = fail-set_same b 3 0 (omega (arith, b_size));
     }
+
+-- the names of the first four states: DEAD, FAIL, the unanchored and the anchored start
+abbrev start_names : List (Option (List ℕ))
+start_names = names_of []
 
 start_word : (i : ℕ) (word : List ℕ) → name_at start_names i ≡ Some word → (i ≡ 2) × (word ≡ [])
 start_word zero word e = cc

@@ -1,7 +1,7 @@
 -- Why a build stops, and that none has stopped before its patterns pass a limit.
-use Rattle.std.proofs.Common.{◌≡◌, ℕ, Bool, true, false, cond, Result, Ok, Err, ◌+◌, ◌<◌, ◌≤◌, ◌⊎◌, nat_lt, List, [], ◌∷◌, ◌++◌, length, get_or, map, Option, Some, None, refl, sym, ap, subst, ◌∙◌, inl, inr, arith}
+use Rattle.std.proofs.Common.{◌≡◌, ℕ, Bool, true, cond, Result, Ok, Err, ◌+◌, ◌<◌, ◌≤◌, ◌⊎◌, List, [], ◌∷◌, ◌++◌, length, Some, None, sym, ap, subst, ◌∙◌, inl, inr, arith}
 use Rattle.std.proofs.lemmas.Bool.{cases_Bool, cases_lt, lt-ltb}
-use Rattle.std.proofs.lemmas.List.{append-nil, length_push, length-append, map-append}
+use Rattle.std.proofs.lemmas.List.{append-nil, length_push, length-append}
 use Rattle.std.proofs.lemmas.List.Elements.{All-nil, All-push}
 use Rattle.std.proofs.lemmas.List.Sums.{sum_by-append}
 use Rattle.std.specs.Prelude.{find, sum_by}
@@ -12,7 +12,7 @@ use Rattle.aho_base.specs.declared.error.BuildError.{BuildError}
 use Rattle.aho_base.specs.declared.error.BuildError.TheVariants.{PatternIDOverflow, PatternTooLong, OutOfMemory}
 use Rattle.aho_base.specs.declared.search.MatchKind.{MatchKind}
 use Rattle.aho_base.specs.Patterns.{Patterns, pattern_at}
-use Rattle.aho_base.specs.Trie.{is_kept, pattern_word}
+use Rattle.aho_base.specs.Trie.{is_kept}
 use Rattle.aho_corasick.specs.Growing.{patterns_of, AreWithin, HoldsFirst, IsWithinLimit, IsRefusalOf, IsPatternRefusal}
 use Rattle.aho_corasick.specs.Sizes.{kept_before, new_nodes, nodes_before, entries_for, Growth, PatternNumber, PatternLength, TableIndex, is_refused, entries_from, growth_for_kept, growth_for, first_growth, trie_growth, followed_by, IsAccepted, IsStopped, refusal_of}
 use Rattle.aho_corasick.specs.declared.noncontiguous.Limits.{Limits}
@@ -83,12 +83,12 @@ module _ (limits : Limits) where
         elim refusal [
           | inl memory ↦ inl memory
           | inr full ↦
-              inr (TableIndex (limits.id + 1),
-              IsCause-found limits (patterns_of kind ignore_case []) (TableIndex (limits.id + 1)) (growth_of_none ∙ entries_from-past limits 0 769 (omega arith) full.1), full.0)
+              inr (
+                TableIndex (limits.id + 1),
+                IsCause-found limits (patterns_of kind ignore_case []) (TableIndex (limits.id + 1)) (growth_of_none ∙ entries_from-past limits 0 769 (omega arith) full.1),
+                full.0,
+              )
         ]
-
-  pub IsStopped-memory : (p : Patterns) (error : BuildError) → error ≡ OutOfMemory → IsStopped limits p error
-  IsStopped-memory p error memory = inl memory
 
   -- at one pattern more
   module _ (kind : MatchKind) (ignore_case : Bool) (items : List (Bor (List ℕ))) (item : Bor (List ℕ)) (place : ℕ) (counted : place ≡ length (words_before kind ignore_case items item))
@@ -175,7 +175,7 @@ module _ (limits : Limits) where
         -- or a table is too small for it
         past : (rows : List Row) (error : BuildError) → HoldsFirst next place rows → IsWithinLimit limits.id rows → is_kept next place ≡ true
             → (limits.id + 1 < 4 + length (nodes_before next (place + 1)))
-                ⊎ ((limits.id + 1 < 769 + sum_by (entries_for next) (nodes_before next (place + 1))) ⊎ (limits.id + 1 < 1 + length (kept_before next (place + 1))))
+            ⊎ ((limits.id + 1 < 769 + sum_by (entries_for next) (nodes_before next (place + 1))) ⊎ (limits.id + 1 < 1 + length (kept_before next (place + 1))))
             → find (is_refused limits) (trie_growth next) ≡ Some (TableIndex (limits.id + 1))
         past rows error holds within kept too_large =
             found_length ∙ ap (λ (b : Bool). find (is_refused limits) (rest_of b)) kept

@@ -90,10 +90,6 @@ pub record IsFilledBelow (sid next count : ℕ) (old new : List Row) : Type 0 wh
   pub transitions_more : transitions_count new ≡ transitions_count old + count
   pub matches_same : matches_count new ≡ matches_count old
 
--- the names of the first four states: DEAD, FAIL, the unanchored and the anchored start
-abbrev pub start_names : List (Option (List ℕ))
-start_names = None ∷ None ∷ Some [] ∷ None ∷ []
-
 -- whether the kind leaves patterns out
 abbrev pub is_first : MatchKind → Bool
 is_first Standard = false
