@@ -4,10 +4,23 @@
 //! Its contracts are the definitions themselves, so what it answers is what any other search has to answer.
 #![tactic(auto)]
 
+#[cfg(test)]
+mod automata;
+#[cfg(test)]
+mod building;
+#[cfg(test)]
+mod calls;
 pub mod every;
+#[cfg(test)]
+mod inputs;
+#[cfg(test)]
+mod lookups;
 pub mod pattern_set;
 pub mod plain;
 #[cfg(test)]
+mod reading;
+#[cfg(test)]
 mod rows;
+pub mod tally;
 
 pub use pattern_set::PatternSet;
