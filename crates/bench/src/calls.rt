@@ -3,6 +3,7 @@
 ghost use Rattle.std.specs.Prelude.{ℕ};
 
 use crate::automata::{listed, nfa_of, start_of, state_after};
+use crate::one_byte::OneByte;
 use aho_base::search::{Anchored, MatchKind, PatternID};
 use aho_search::automaton::Automaton;
 use std::process::Abort;
@@ -164,6 +165,9 @@ fn a_loop_over_the_calls_finds(rt: HostRuntime) {
         assert_eq!(rt; found_by_calls(&rt, &nfa, b"samwise"), Some(want));
         assert_eq!(rt; found_by_calls(&rt, &&nfa, b"samwise"), Some(want));
     }
+    let one = OneByte::new(b'w');
+    assert_eq!(rt; found_by_calls(&rt, &one, b"samwise"), Some((0, 3, 4)));
+    assert_eq!(rt; found_by_calls(&rt, &&one, b"sam"), None);
 }
 
 /// What an automaton tells of its patterns.

@@ -4,8 +4,10 @@ ghost use Rattle.std.specs.Prelude.{◌+◌, ◌<◌, ◌≤◌, ◌^◌, ℕ, l
 ghost use Rattle.aho_base.specs.Patterns.{Patterns};
 
 use crate::automata::nfa_of;
+use crate::one_byte::OneByte;
 use crate::reading::Reading;
 use crate::tally::Tally;
+use aho_base::error::MatchError;
 use aho_base::search::{Anchored, Bytes, Input, MatchKind, Span, Text};
 use aho_search::automaton::{Automaton, Counted, find_in};
 use std::test::Fail;
@@ -84,7 +86,7 @@ fn lookups_over<A: Automaton, T: Text>(
     text: &mut T,
     span: Span,
     anchored: Anchored,
-) -> Result<u128, Fail>
+) -> Result<u128, MatchError>
     requires of { (p : Patterns) × A.is_of automaton.now p }
     requires within { span.end ≤ length (T.bytes text.old) }
     requires ordered { span.start ≤ span.end + 1 }
@@ -128,5 +130,22 @@ fn searches_step_once_a_byte(rt: HostRuntime) -> Result<(), Fail> {
         assert_eq!(rt; tally.steps(), row.reads as u64, "{haystack:?}");
         assert_eq!(rt; tally.next_states(), 0, "{haystack:?}");
     }
+    Ok(())
+}
+
+#[test]
+fn one_byte_is_looked_up_once_a_byte(rt: HostRuntime) -> Result<(), Fail> {
+    let tally = Tally::new(OneByte::new(b'w'));
+    let haystack = b"samwise";
+    let span = Span { start: 1, end: 7 };
+    let mut text = Reading::new(haystack);
+    assert_eq!(rt; lookups_over(&tally, &mut text, span, Anchored::No)?, 3);
+    assert_eq!(rt; text.reads(), 3);
+    assert_eq!(rt; text.next_place(), 4);
+    assert_eq!(rt; tally.steps(), 3);
+    let mut text = Reading::new(haystack);
+    assert!(rt; lookups_over(&tally, &mut text, span, Anchored::Yes).is_err());
+    assert_eq!(rt; text.reads(), 0);
+    assert_eq!(rt; tally.steps(), 3);
     Ok(())
 }
