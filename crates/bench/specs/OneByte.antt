@@ -1,8 +1,8 @@
 -- What the automaton of one byte means. Its states are 0, where the byte was not read last, and 1, where it was.
-use Rattle.std.proofs.Common.{◌≡◌, ℕ, zero, suc, ◌<◌, Bool, arith, true, false, List, [], ◌∷◌, ◌++◌, length, map, refl, sym, ◌∙◌, ap, subst, nat_eq, eq-eqb, eqb-true}
-use Rattle.std.specs.Prelude.{Option, Some, None, is_none, Result, Ok, Err, if◌then◌else◌}
+use Rattle.std.proofs.Common.{◌≡◌, ℕ, zero, suc, ◌<◌, Bool, arith, true, false, List, [], ◌∷◌, ◌++◌, refl, sym, ◌∙◌, ap, subst, nat_eq, eq-eqb, eqb-true}
+use Rattle.std.specs.Prelude.{Option, Some, is_none, Result, Ok, Err, if◌then◌else◌}
 use Rattle.aho_base.proofs.NamedStates.{HeldBy, held_by_step, reads_by_names}
-use Rattle.aho_base.specs.Bytes.{folded, folded_word}
+use Rattle.aho_base.specs.Bytes.{folded}
 use Rattle.aho_base.specs.Failure.{is_cut, state_after}
 use Rattle.aho_base.specs.Laws.{Reads}
 use Rattle.aho_base.specs.MatchList.{matches_of, own_matches}
@@ -46,7 +46,7 @@ IsHeldByOne byte p anchored word sid = HeldBy p IsHeldState (word_of byte) ancho
 abbrev pub next_of : ℕ → ℕ → ℕ
 next_of byte x = if nat_eq x byte then 1 else 0
 
--- only 0 is a start
+-- whether a state is the start
 abbrev pub is_first : ℕ → Bool
 is_first sid = nat_eq sid 0
 
@@ -75,14 +75,17 @@ state_after-longer : (byte x : ℕ) → state_after (one_pattern byte) (byte ∷
 unfolding is_node is_kept pattern_word is_cut
 state_after-longer byte x = rw (nat_eq-same byte) refl
 
+-- and from each state
 follow-word : (byte sid x : ℕ) → follow (one_pattern byte) No (word_of byte sid) x ≡ word_of byte (next_of byte x)
 follow-word byte zero x = state_after-byte byte x (nat_eq x byte) refl
 follow-word byte (suc n) x = state_after-longer byte x ∙ state_after-byte byte x (nat_eq x byte) refl
 
+-- a state lists what its word does
 lists-word : (byte sid : ℕ) → list_of sid ≡ matches_of (one_pattern byte) (word_of byte sid)
 lists-word byte zero = sym (own-root byte)
 lists-word byte (suc n) = sym (ap (λ (xs : List ℕ). xs ++ own_matches (one_pattern byte) []) (own-byte byte) ∙ ap (λ (xs : List ℕ). 0 ∷ xs) (own-root byte))
 
+-- the laws at the byte's own pattern
 reads_byte : (byte : ℕ) → Reads (one_pattern byte) Standard (1 ∷ []) (IsHeldByOne byte (one_pattern byte)) list_of (λ sid. false) is_first
 reads_byte byte =
     reads_by_names (one_pattern byte) IsHeldState (word_of byte) Standard (1 ∷ []) list_of (λ sid. false) is_first refl refl
@@ -98,13 +101,9 @@ reads_byte byte =
     root : (byte sid : ℕ) → is_first sid ≡ true → word_of byte sid ≡ Some []
     root byte sid first = ap (word_of byte) (eqb-true sid 0 first)
 
--- the laws
+-- the laws, whatever the patterns are called
 pub reads_one : (byte : ℕ) (p : Patterns) → p ≡ one_pattern byte → Reads p Standard (1 ∷ []) (IsHeldByOne byte p) list_of (λ sid. false) is_first
 reads_one byte p of = subst (λ (q : Patterns). Reads q Standard (1 ∷ []) (IsHeldByOne byte q) list_of (λ sid. false) is_first) (sym of) (reads_byte byte)
-
--- the start is held before the first byte
-pub held-first : (byte : ℕ) (p : Patterns) → IsHeldByOne byte p No [] 0
-held-first byte p = (omega arith, refl)
 
 -- a state that follows is held after one more byte
 pub held-next : (byte : ℕ) (p : Patterns) (anchored : Anchored) (word : List ℕ) (x sid next : ℕ) → p ≡ one_pattern byte → next ≡ next_of byte x → IsHeldByOne byte p anchored word sid → IsHeldByOne byte p anchored (word ++ x ∷ []) next

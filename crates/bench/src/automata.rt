@@ -1,6 +1,5 @@
 //! Automata to test, and what is read off them by their own calls.
 
-ghost use Rattle.std.specs.Prelude.{ℕ, List, length};
 ghost use Rattle.aho_base.specs.Patterns.{Patterns};
 
 use aho_base::search::{Anchored, MatchKind, StateID};

@@ -1,7 +1,5 @@
 //! What a builder builds, and what its limits refuse.
 
-ghost use Rattle.std.specs.Prelude.{◌≤◌, ℕ, length};
-
 use aho_base::error::BuildError;
 use aho_base::search::{Input, MatchKind, PatternID};
 use aho_corasick::noncontiguous::{Builder, Limits, NFA};

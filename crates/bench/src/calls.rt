@@ -1,7 +1,5 @@
 //! What an automaton's own calls answer, one by one.
 
-ghost use Rattle.std.specs.Prelude.{ℕ};
-
 use crate::automata::{listed, nfa_of, start_of, state_after};
 use crate::one_byte::OneByte;
 use aho_base::search::{Anchored, MatchKind, PatternID};

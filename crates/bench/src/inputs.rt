@@ -1,6 +1,6 @@
 //! Every short input, and random ones: the automaton answers what the plain program does.
 
-ghost use Rattle.std.specs.Prelude.{ℕ, ◌+◌, ◌<◌, ◌≤◌, length};
+ghost use Rattle.std.specs.Prelude.{◌+◌, ◌<◌, ◌≤◌, length};
 ghost use Rattle.aho_base.specs.Patterns.{Patterns};
 
 use crate::automata::nfa_of;

@@ -1,6 +1,6 @@
 //! What searches over an automaton cost: look-ups of transitions, bytes read, and calls of its steps.
 
-ghost use Rattle.std.specs.Prelude.{◌+◌, ◌<◌, ◌≤◌, ◌^◌, ℕ, length};
+ghost use Rattle.std.specs.Prelude.{◌+◌, ◌<◌, ◌≤◌, ◌^◌, length};
 ghost use Rattle.aho_base.specs.Patterns.{Patterns};
 
 use crate::automata::nfa_of;

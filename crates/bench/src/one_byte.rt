@@ -1,8 +1,6 @@
 //! The automaton of one byte, which is written without a table: another automaton that a search can go over, and one that
 //! refuses anchored searches.
 
-ghost use Rattle.std.specs.Prelude.{◌≡◌, ℕ, List, [], ◌∷◌, ◌++◌, ◌<◌};
-ghost use Rattle.aho_base.specs.Patterns.{Patterns};
 ghost use Rattle.bench.specs.OneByte.{one_pattern};
 
 use aho_base::error::MatchError;

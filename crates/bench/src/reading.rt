@@ -1,6 +1,6 @@
 //! A text that tells how far it was read, and how often.
 
-ghost use Rattle.std.specs.Prelude.{◌≡◌, ℕ, length};
+ghost use Rattle.std.specs.Prelude.{◌≡◌};
 
 use aho_base::search::Text;
 

@@ -1,6 +1,5 @@
 //! An automaton that counts the calls of its steps.
 
-ghost use Rattle.std.specs.Prelude.{ℕ, ◌≡◌};
 ghost use Rattle.aho_base.specs.Patterns.{Patterns};
 
 use aho_base::error::MatchError;

@@ -1,4 +1,4 @@
-use Rattle.std.proofs.Common.{◌≢◌, sym, ◌∙◌, ap, cond, eq-eqb, nat_eq, arith}
+use Rattle.std.proofs.Common.{◌≢◌, sym, ◌∙◌, ap, cond, eq-eqb, arith}
 use Rattle.std.proofs.lemmas.Bool.Decides.{nat_tests}
 use Rattle.bench.specs.OneByte.{held-next}
 use Rattle.bench.proofs.one_byte.OneByteAutomaton.next_state.Goals as goal
