@@ -1,2 +1,3 @@
 pub mod Better
+pub mod OneByte
 pub mod Range

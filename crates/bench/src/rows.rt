@@ -1,12 +1,15 @@
 //! Worked rows: what a search answers, what iteration gives and what an overlapping search lists, for words that a reader
-//! can check by hand. One table; the test goes over it.
+//! can check by hand. One table; the test goes over it with the plain program and, for what a search answers, with the
+//! automaton.
 
 ghost use Rattle.std.specs.Prelude.{◌+◌, ◌≤◌, length};
 
+use crate::automata::nfa_of;
 use crate::every::{all, anchored, finds};
 use crate::pattern_set::PatternSet;
 use crate::plain::plain;
 use aho_base::search::{Anchored, Input, Match, MatchKind, PatternID, Span};
+use aho_search::automaton::Automaton;
 use std::alloc::{AllocError, Global};
 use std::test::Fail;
 
@@ -426,6 +429,8 @@ fn rows_are_met(rt: HostRuntime) -> Result<(), Fail> {
             let patterns = PatternSet::new(row.patterns, *kind, row.ignore_case);
             let input = input_of(row, span);
             let answer = plain(&patterns, &input).map(found_of);
+            let nfa = nfa_of(&rt, rt.alloc(), row.patterns, *kind, row.ignore_case);
+            assert_eq!(rt; nfa.try_find(&input)?.map(found_of), answer, "{}", row.name);
             match row.want {
                 Want::First(want) => assert_eq!(rt; answer, want, "{}", row.name),
                 Want::Finds(want) => {

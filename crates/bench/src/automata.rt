@@ -1,0 +1,65 @@
+//! Automata to test, and what is read off them by their own calls.
+
+ghost use Rattle.aho_base.specs.Patterns.{Patterns};
+
+use aho_base::search::{Anchored, MatchKind, StateID};
+use aho_corasick::noncontiguous::{Builder, NFA};
+use aho_search::automaton::Automaton;
+use std::alloc::{AllocError, Global};
+use std::process::Abort;
+
+/// The automaton of these patterns.
+pub(crate) fn nfa_of(
+    rt: &impl Abort,
+    alloc: Global,
+    words: &[&[u8]],
+    kind: MatchKind,
+    ignore_case: bool,
+) -> NFA
+    ensures of { (p : Patterns) × ⟦<NFA as Automaton>⟧.is_of result p }
+{
+    let mut builder = Builder::new();
+    builder.match_kind(kind).ascii_case_insensitive(ignore_case);
+    let nfa = builder.build(alloc, words.iter().copied());
+    nfa.expect(rt, "an automaton")
+}
+
+/// The start of an anchoring.
+pub(crate) fn start_of<A: Automaton>(rt: &impl Abort, automaton: &A, anchored: Anchored) -> StateID
+    ensures valid { A.valid automaton.now result }
+{
+    let start = automaton.start_state(anchored);
+    start.expect(rt, "a start")
+}
+
+/// The state after these bytes.
+pub(crate) fn state_after<A: Automaton>(
+    rt: &impl Abort,
+    automaton: &A,
+    anchored: Anchored,
+    word: &[u8],
+) -> StateID
+    ensures valid { A.valid automaton.now result }
+{
+    let mut sid = start_of(rt, automaton, anchored);
+    for byte in word {
+        sid = automaton.next_state(anchored, sid, *byte);
+    }
+    sid
+}
+
+/// The numbers of the patterns that a state lists, in its order.
+pub(crate) fn listed<A: Automaton>(
+    alloc: Global,
+    automaton: &A,
+    sid: StateID,
+) -> Result<Vec<usize>, AllocError>
+    requires valid { A.valid automaton.now sid }
+{
+    let mut numbers = Vec::new(alloc);
+    for index in 0..automaton.match_len(sid) {
+        let pattern = automaton.match_pattern(sid, index);
+        numbers.push(pattern.as_usize())?;
+    }
+    Ok(numbers)
+}

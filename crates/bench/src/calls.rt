@@ -1,0 +1,224 @@
+//! What an automaton's own calls answer, one by one.
+
+use crate::automata::{listed, nfa_of, start_of, state_after};
+use crate::one_byte::OneByte;
+use aho_base::search::{Anchored, MatchKind, PatternID};
+use aho_search::automaton::Automaton;
+use std::process::Abort;
+use std::test::Fail;
+
+/// An anchoring, the bytes that lead to a state from its start, and what the state lists; a dead state has no list.
+type Reached = (Anchored, &'static [u8], Option<&'static [usize]>);
+
+/// An automaton, with some of its states.
+struct States {
+    kind: MatchKind,
+    patterns: &'static [&'static [u8]],
+    reached: &'static [Reached],
+}
+
+const STATES: &[States] = &[
+    States {
+        kind: MatchKind::Standard,
+        patterns: &[b"abcd", b"cef"],
+        reached: &[
+            (Anchored::Yes, b"", Some(&[])),
+            (Anchored::Yes, b"a", Some(&[])),
+            (Anchored::Yes, b"ab", Some(&[])),
+            (Anchored::Yes, b"abc", Some(&[])),
+            (Anchored::Yes, b"abcd", Some(&[0])),
+            (Anchored::Yes, b"c", Some(&[])),
+            (Anchored::Yes, b"ce", Some(&[])),
+            (Anchored::Yes, b"cef", Some(&[1])),
+            (Anchored::Yes, b"abce", None),
+            (Anchored::No, b"abce", Some(&[])),
+            (Anchored::No, b"abcef", Some(&[1])),
+        ],
+    },
+    States {
+        kind: MatchKind::LeftmostLongest,
+        patterns: &[b"abcd", b"b", b"bce"],
+        reached: &[
+            (Anchored::Yes, b"a", Some(&[])),
+            (Anchored::Yes, b"ab", Some(&[1])),
+            (Anchored::Yes, b"abc", Some(&[])),
+            (Anchored::Yes, b"abcd", Some(&[0])),
+            (Anchored::Yes, b"b", Some(&[1])),
+            (Anchored::Yes, b"bc", Some(&[])),
+            (Anchored::Yes, b"bce", Some(&[2])),
+            (Anchored::No, b"abce", Some(&[2])),
+            (Anchored::No, b"bx", None),
+            (Anchored::No, b"bcex", None),
+            (Anchored::No, b"bxb", None),
+        ],
+    },
+    States {
+        kind: MatchKind::Standard,
+        patterns: &[b"", b"ab"],
+        reached: &[
+            (Anchored::Yes, b"", Some(&[0])),
+            (Anchored::No, b"", Some(&[0])),
+            (Anchored::Yes, b"ab", Some(&[1, 0])),
+        ],
+    },
+    States {
+        kind: MatchKind::LeftmostFirst,
+        patterns: &[b"xyz", b""],
+        reached: &[
+            (Anchored::Yes, b"", Some(&[1])),
+            (Anchored::No, b"", Some(&[1])),
+            (Anchored::Yes, b"xyz", Some(&[0])),
+            (Anchored::Yes, b"xa", None),
+            (Anchored::No, b"xa", None),
+        ],
+    },
+];
+
+#[test]
+fn states_list_their_patterns(rt: HostRuntime) -> Result<(), Fail> {
+    for states in STATES {
+        let nfa = nfa_of(&rt, rt.alloc(), states.patterns, states.kind, false);
+        for (anchored, word, listing) in states.reached {
+            let sid = state_after(&rt, &nfa, *anchored, word);
+            let want = listing.unwrap_or(&[]);
+            assert_eq!(rt; nfa.is_dead(sid), listing.is_none(), "{word:?}");
+            assert_eq!(rt; nfa.is_match(sid), !want.is_empty(), "{word:?}");
+            assert_eq!(rt;
+                nfa.is_special(sid),
+                listing.is_none() || !want.is_empty(),
+                "{word:?}"
+            );
+            assert_eq!(rt; listed(rt.alloc(), &nfa, sid)?.as_slice(), want, "{word:?}");
+        }
+    }
+    Ok(())
+}
+
+#[test]
+fn a_failed_word_goes_on_at_its_suffix(rt: HostRuntime) {
+    let nfa = nfa_of(
+        &rt,
+        rt.alloc(),
+        &[b"abcd", b"cef"],
+        MatchKind::Standard,
+        false,
+    );
+    let by_links = state_after(&rt, &nfa, Anchored::No, b"abce");
+    assert_eq!(rt; by_links, state_after(&rt, &nfa, Anchored::Yes, b"ce"));
+    assert_eq!(rt; by_links, state_after(&rt, &nfa, Anchored::No, b"ce"));
+}
+
+#[test]
+fn starts_are_told(rt: HostRuntime) {
+    let nfa = nfa_of(&rt, rt.alloc(), &[b"ab"], MatchKind::Standard, false);
+    for anchored in [Anchored::No, Anchored::Yes] {
+        assert!(rt; nfa.is_start(start_of(&rt, &nfa, anchored)));
+        assert!(rt; !nfa.is_start(state_after(&rt, &nfa, anchored, b"a")));
+    }
+    let back = state_after(&rt, &nfa, Anchored::No, b"ax");
+    assert_eq!(rt; back, start_of(&rt, &nfa, Anchored::No));
+    let dead = state_after(&rt, &nfa, Anchored::Yes, b"ax");
+    assert!(rt; nfa.is_dead(dead));
+    assert!(rt; !nfa.is_start(dead));
+}
+
+/// The first match of a search of the whole haystack, by a loop over an automaton's calls: the pattern's number, and
+/// where the match starts and ends.
+fn found_by_calls<A: Automaton>(
+    rt: &impl Abort,
+    automaton: &A,
+    haystack: &[u8],
+) -> Option<(usize, usize, usize)> {
+    let mut best = None;
+    let mut sid = start_of(rt, automaton, Anchored::No);
+    for at in 0..haystack.len() {
+        sid = automaton.next_state(Anchored::No, sid, haystack[at]);
+        if automaton.is_special(sid) {
+            if automaton.is_dead(sid) {
+                return best;
+            }
+            if automaton.is_match(sid) {
+                let pattern = automaton.match_pattern(sid, 0);
+                assert!(rt; pattern.as_usize() < automaton.patterns_len());
+                let len = automaton.pattern_len(pattern);
+                assert!(rt; len <= at + 1);
+                best = Some((pattern.as_usize(), at + 1 - len, at + 1));
+                if automaton.match_kind() == MatchKind::Standard {
+                    return best;
+                }
+            }
+        }
+    }
+    best
+}
+
+#[test]
+fn a_loop_over_the_calls_finds(rt: HostRuntime) {
+    for (kind, want) in [
+        (MatchKind::Standard, (1, 0, 3)),
+        (MatchKind::LeftmostFirst, (0, 0, 7)),
+        (MatchKind::LeftmostLongest, (0, 0, 7)),
+    ] {
+        let nfa = nfa_of(&rt, rt.alloc(), &[b"samwise", b"sam"], kind, false);
+        assert_eq!(rt; found_by_calls(&rt, &nfa, b"samwise"), Some(want));
+        assert_eq!(rt; found_by_calls(&rt, &&nfa, b"samwise"), Some(want));
+    }
+    let one = OneByte::new(b'w');
+    assert_eq!(rt; found_by_calls(&rt, &one, b"samwise"), Some((0, 3, 4)));
+    assert_eq!(rt; found_by_calls(&rt, &&one, b"sam"), None);
+}
+
+/// What an automaton tells of its patterns.
+struct Told {
+    kind: MatchKind,
+    patterns: &'static [&'static [u8]],
+    lens: &'static [usize],
+    shortest: usize,
+    longest: usize,
+    memory: usize,
+}
+
+const TOLD: &[Told] = &[
+    Told {
+        kind: MatchKind::LeftmostFirst,
+        patterns: &[b"abc"],
+        lens: &[3],
+        shortest: 3,
+        longest: 3,
+        memory: 7103,
+    },
+    Told {
+        kind: MatchKind::Standard,
+        patterns: &[b"", b"ab"],
+        lens: &[0, 2],
+        shortest: 0,
+        longest: 2,
+        memory: 7110,
+    },
+    Told {
+        kind: MatchKind::LeftmostLongest,
+        patterns: &[],
+        lens: &[],
+        shortest: usize::MAX,
+        longest: 0,
+        memory: 7013,
+    },
+];
+
+#[test]
+fn patterns_are_told(rt: HostRuntime) -> Result<(), Fail> {
+    for told in TOLD {
+        let nfa = nfa_of(&rt, rt.alloc(), told.patterns, told.kind, false);
+        assert_eq!(rt; nfa.match_kind(), told.kind);
+        assert_eq!(rt; nfa.min_pattern_len(), told.shortest);
+        assert_eq!(rt; nfa.max_pattern_len(), told.longest);
+        assert_eq!(rt; nfa.memory_usage(), told.memory);
+        assert_eq!(rt; nfa.patterns_len(), told.lens.len());
+        for (number, len) in told.lens.iter().enumerate() {
+            let pattern = PatternID::new(number)?;
+            assert!(rt; number < nfa.patterns_len());
+            assert_eq!(rt; nfa.pattern_len(pattern), *len);
+        }
+    }
+    Ok(())
+}

@@ -1,0 +1,151 @@
+//! What searches over an automaton cost: look-ups of transitions, bytes read, and calls of its steps.
+
+ghost use Rattle.std.specs.Prelude.{◌+◌, ◌<◌, ◌≤◌, ◌^◌, length};
+ghost use Rattle.aho_base.specs.Patterns.{Patterns};
+
+use crate::automata::nfa_of;
+use crate::one_byte::OneByte;
+use crate::reading::Reading;
+use crate::tally::Tally;
+use aho_base::error::MatchError;
+use aho_base::search::{Anchored, Bytes, Input, MatchKind, Span, Text};
+use aho_search::automaton::{Automaton, Counted, find_in};
+use std::test::Fail;
+
+/// A search, the look-ups that it makes, and the bytes that it reads, all from the span's start on.
+struct Row {
+    kind: MatchKind,
+    patterns: &'static [&'static [u8]],
+    haystack: &'static [u8],
+    span: Span,
+    anchored: Anchored,
+    lookups: u128,
+    reads: usize,
+}
+
+const ROWS: &[Row] = &[
+    Row {
+        kind: MatchKind::Standard,
+        patterns: &[b"abcd", b"cef"],
+        haystack: b"abcef",
+        span: Span { start: 0, end: 5 },
+        anchored: Anchored::No,
+        lookups: 6,
+        reads: 5,
+    },
+    Row {
+        kind: MatchKind::LeftmostLongest,
+        patterns: &[b"abcd", b"b", b"bce"],
+        haystack: b"abce",
+        span: Span { start: 0, end: 4 },
+        anchored: Anchored::No,
+        lookups: 5,
+        reads: 4,
+    },
+    Row {
+        kind: MatchKind::LeftmostLongest,
+        patterns: &[b"abcd", b"ab"],
+        haystack: b"abxxxxxxxx",
+        span: Span { start: 0, end: 10 },
+        anchored: Anchored::No,
+        lookups: 4,
+        reads: 3,
+    },
+    Row {
+        kind: MatchKind::Standard,
+        patterns: &[b"aaab"],
+        haystack: b"aaaaaaaa",
+        span: Span { start: 0, end: 8 },
+        anchored: Anchored::No,
+        lookups: 13,
+        reads: 8,
+    },
+    Row {
+        kind: MatchKind::Standard,
+        patterns: &[b"ab"],
+        haystack: b"aab",
+        span: Span { start: 0, end: 3 },
+        anchored: Anchored::Yes,
+        lookups: 2,
+        reads: 2,
+    },
+    Row {
+        kind: MatchKind::Standard,
+        patterns: &[b"ab"],
+        haystack: b"aab",
+        span: Span { start: 3, end: 2 },
+        anchored: Anchored::No,
+        lookups: 0,
+        reads: 0,
+    },
+];
+
+/// The look-ups of a search over this text.
+fn lookups_over<A: Automaton, T: Text>(
+    automaton: &A,
+    text: &mut T,
+    span: Span,
+    anchored: Anchored,
+) -> Result<u128, MatchError>
+    requires of { (p : Patterns) × A.is_of automaton.now p }
+    requires within { span.end ≤ length (T.bytes text.old) }
+    requires ordered { span.start ≤ span.end + 1 }
+    requires unread { T.next text.old ≤ span.start }
+    requires room { span.end < 2 ^ 63 }
+{
+    let mut walk = Counted::new(automaton);
+    let _found = find_in(&mut walk, text, span, anchored, false)?;
+    Ok(walk.lookups())
+}
+
+#[test]
+fn searches_cost_what_they_should(rt: HostRuntime) -> Result<(), Fail> {
+    for row in ROWS {
+        let nfa = nfa_of(&rt, rt.alloc(), row.patterns, row.kind, false);
+        let (haystack, span) = (row.haystack, row.span);
+        assert!(rt; span.end <= haystack.len());
+        assert!(rt; span.start <= span.end + 1);
+        let mut bytes = Bytes::new(haystack);
+        let lookups = lookups_over(&nfa, &mut bytes, span, row.anchored)?;
+        assert_eq!(rt; lookups, row.lookups, "{haystack:?}");
+        let mut text = Reading::new(haystack);
+        let lookups = lookups_over(&nfa, &mut text, span, row.anchored)?;
+        assert_eq!(rt; lookups, row.lookups, "{haystack:?}");
+        assert_eq!(rt; text.reads(), row.reads, "{haystack:?}");
+        assert_eq!(rt; text.next_place(), row.reads, "{haystack:?}");
+    }
+    Ok(())
+}
+
+#[test]
+fn searches_step_once_a_byte(rt: HostRuntime) -> Result<(), Fail> {
+    for row in ROWS {
+        let nfa = nfa_of(&rt, rt.alloc(), row.patterns, row.kind, false);
+        let tally = Tally::new(nfa);
+        let (haystack, span) = (row.haystack, row.span);
+        assert!(rt; span.end <= haystack.len());
+        assert!(rt; span.start <= span.end + 1);
+        let input = Input::new(haystack).span(span).anchored(row.anchored);
+        let _found = tally.try_find(&input)?;
+        assert_eq!(rt; tally.steps(), row.reads as u64, "{haystack:?}");
+        assert_eq!(rt; tally.next_states(), 0, "{haystack:?}");
+    }
+    Ok(())
+}
+
+#[test]
+fn one_byte_is_looked_up_once_a_byte(rt: HostRuntime) -> Result<(), Fail> {
+    let tally = Tally::new(OneByte::new(b'w'));
+    let haystack = b"samwise";
+    let span = Span { start: 1, end: 7 };
+    let mut text = Reading::new(haystack);
+    assert_eq!(rt; lookups_over(&tally, &mut text, span, Anchored::No)?, 3);
+    assert_eq!(rt; text.reads(), 3);
+    assert_eq!(rt; text.next_place(), 4);
+    assert_eq!(rt; tally.steps(), 3);
+    let mut text = Reading::new(haystack);
+    assert!(rt; lookups_over(&tally, &mut text, span, Anchored::Yes).is_err());
+    assert_eq!(rt; text.reads(), 0);
+    assert_eq!(rt; tally.steps(), 3);
+    Ok(())
+}

@@ -1,0 +1,183 @@
+//! The automaton of one byte, which is written without a table: another automaton that a search can go over, and one that
+//! refuses anchored searches.
+
+ghost use Rattle.bench.specs.OneByte.{one_pattern};
+
+use aho_base::error::MatchError;
+use aho_base::search::{Anchored, MatchKind, PatternID, StateID, Work};
+use aho_search::automaton::Automaton;
+use std::marker::Model;
+
+/// The automaton of a single pattern of one byte, under `Standard`. It has no start for anchored searches.
+#[derive(Drop)]
+pub struct OneByte {
+    byte: u8,
+}
+
+impl Model for OneByte {
+    ghost use Rattle.std.specs.Prelude.{ℕ};
+
+    ghost Value = { ℕ };
+
+    ghost view = { λ one. one.byte };
+}
+
+impl OneByte {
+    /// The automaton that finds this byte.
+    pub fn new(byte: u8) -> OneByte
+        ensures of { ⟦<OneByte as Automaton>⟧.is_of result (one_pattern byte) }
+    {
+        OneByte { byte }
+    }
+}
+
+impl Automaton for OneByte {
+    ghost use Rattle.std.specs.Prelude.{◌≡◌, ℕ, [], ◌∷◌, ◌<◌, true, false, refl};
+    ghost use Rattle.aho_base.specs.declared.search.MatchKind.TheVariants.{Standard};
+    ghost use Rattle.bench.specs.OneByte.{IsHeldByOne, all_special, is_first, list_of, one_pattern, reads_one, start_of_one};
+
+    ghost is_of = { λ one p. p ≡ one_pattern one };
+
+    ghost held = { λ one p anchored word sid. IsHeldByOne one p anchored word sid };
+
+    ghost valid = { λ one sid. sid < 2 };
+
+    ghost kind = { λ one. Standard };
+
+    ghost lengths = { λ one. 1 ∷ [] };
+
+    ghost list = { λ one sid. list_of sid };
+
+    ghost dead = { λ one sid. false };
+
+    ghost special = { λ one sid. true };
+
+    ghost starts = { λ one sid. is_first sid };
+
+    ghost depth = { λ one sid. 0 };
+
+    ghost start = { λ one anchored. start_of_one anchored };
+
+    ghost memory = { λ one. 1 };
+
+    fn start_state(&self, anchored: Anchored) -> Result<StateID, MatchError> {
+        match anchored {
+            Anchored::No => Ok(StateID::ZERO),
+            Anchored::Yes => Err(MatchError::invalid_input_anchored()),
+        }
+    }
+
+    fn next_state(&self, _anchored: Anchored, _sid: StateID, byte: u8) -> StateID {
+        if byte == self.byte {
+            StateID::ONE
+        } else {
+            StateID::ZERO
+        }
+    }
+
+    fn step(&self, anchored: Anchored, sid: StateID, byte: u8, work: &mut Work) -> StateID {
+        work.tick();
+        self.next_state(anchored, sid, byte)
+    }
+
+    fn is_special(&self, _sid: StateID) -> bool {
+        true
+    }
+
+    fn is_dead(&self, _sid: StateID) -> bool {
+        false
+    }
+
+    fn is_match(&self, sid: StateID) -> bool {
+        sid == StateID::ONE
+    }
+
+    fn is_start(&self, sid: StateID) -> bool {
+        sid == StateID::ZERO
+    }
+
+    fn match_kind(&self) -> MatchKind {
+        MatchKind::Standard
+    }
+
+    fn match_len(&self, sid: StateID) -> usize {
+        sid.as_usize()
+    }
+
+    fn match_pattern(&self, _sid: StateID, _index: usize) -> PatternID {
+        PatternID::new(0).unwrap()
+    }
+
+    fn patterns_len(&self) -> usize {
+        1
+    }
+
+    fn pattern_len(&self, _pid: PatternID) -> usize {
+        1
+    }
+
+    fn min_pattern_len(&self) -> usize {
+        1
+    }
+
+    fn max_pattern_len(&self) -> usize {
+        1
+    }
+
+    fn memory_usage(&self) -> usize {
+        1
+    }
+
+    ghost laws = { λ one p of. reads_one one p of };
+
+    ghost plain = { λ one sid valid. all_special sid };
+
+    ghost dead_shallow = { λ one sid valid dead. refl };
+}
+
+#[cfg(test)]
+mod tests {
+    use super::*;
+    use aho_base::error::MatchErrorKind;
+    use aho_base::search::{Input, Span};
+    use std::test::Fail;
+
+    #[test]
+    fn finds_its_byte(rt: HostRuntime) -> Result<(), Fail> {
+        let one = OneByte::new(b'c');
+        let found = one.try_find(&Input::new(b"abcc"))?;
+        let found = found.map(|m| (m.pattern().as_usize(), m.start(), m.end()));
+        assert_eq!(rt; found, Some((0, 2, 3)));
+        assert!(rt; one.try_find(&Input::new(b"ab"))?.is_none());
+        Ok(())
+    }
+
+    #[test]
+    fn anchored_searches_are_refused(rt: HostRuntime) -> Result<(), Fail> {
+        let one = OneByte::new(b'c');
+        let anchored = Input::new(b"c").anchored(Anchored::Yes);
+        let refusal = one.try_find(&anchored).map_err(|error| *error.kind());
+        assert_eq!(rt; refusal, Err(MatchErrorKind::InvalidInputAnchored));
+        let done = anchored.span(Span { start: 1, end: 0 });
+        assert!(rt; one.try_find(&done)?.is_none());
+        Ok(())
+    }
+
+    #[test]
+    fn its_pattern_is_told(rt: HostRuntime) -> Result<(), Fail> {
+        let one = OneByte::new(b'c');
+        let start = one.start_state(Anchored::No)?;
+        let found = one.next_state(Anchored::No, start, b'c');
+        assert!(rt; one.is_start(start) && !one.is_start(found));
+        assert!(rt; one.is_match(found) && !one.is_match(start));
+        assert!(rt; one.is_special(found) && !one.is_dead(found));
+        assert_eq!(rt; one.match_len(found), 1);
+        assert_eq!(rt; one.match_pattern(found, 0).as_usize(), 0);
+        assert_eq!(rt; one.match_kind(), MatchKind::Standard);
+        assert_eq!(rt; one.patterns_len(), 1);
+        assert_eq!(rt; one.pattern_len(PatternID::new(0)?), 1);
+        assert_eq!(rt; (one.min_pattern_len(), one.max_pattern_len()), (1, 1));
+        assert_eq!(rt; one.memory_usage(), 1);
+        Ok(())
+    }
+}
