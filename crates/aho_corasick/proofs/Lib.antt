@@ -33,7 +33,7 @@ pub mod CopiedCounts
 pub mod Causes
 pub mod WithinLimit
 pub mod RefusedPattern
-pub mod WholeCause
 pub mod Stops
+pub mod BuildRefusals
 pub mod SizeChecks
 pub mod Whole

@@ -9,8 +9,7 @@ use Rattle.aho_base.specs.Bytes.{folded}
 use Rattle.aho_base.specs.MatchList.{matches_of}
 use Rattle.aho_base.specs.Patterns.{Patterns, pattern_at, numbers}
 use Rattle.aho_base.specs.Trie.{begins, pattern_word, is_kept}
-use Rattle.aho_corasick.specs.Building.{ListsAllBytes, IsLinking, IsReady, IsCopyRefusal}
-use Rattle.aho_corasick.specs.Naming.{IsTrieOf}
+use Rattle.aho_corasick.specs.Building.{IsLinking, IsReady, IsCopyRefusal}
 use Rattle.aho_corasick.specs.Tables.{Row, Tables, matches_in, transitions_count, matches_count}
 use Rattle.aho_corasick.specs.declared.noncontiguous.Limits.{Limits}
 

@@ -8,7 +8,8 @@ use Rattle.aho_corasick.specs.Growing.{patterns_of, AreAccepted, IsRefusal}
 use Rattle.aho_corasick.specs.Settings.{Settings}
 use Rattle.aho_corasick.specs.Sizes.{kept_before, in_force}
 use Rattle.aho_corasick.proofs.Stops.{IfErr-given}
-use Rattle.aho_corasick.proofs.WholeCause.{IfOk-both, cause-accepted, IsRefusal-stopped, IsRefusal-copied}
+use Rattle.aho_corasick.proofs.BuildRefusals.{IfOk-both, IsRefusal-stopped, IsRefusal-copied}
+use Rattle.aho_corasick.proofs.Causes.{cause-within}
 use Rattle.aho_corasick.proofs.noncontiguous.Builder.build.Goals as goal
 
 pub of_trie-requires-clause-holds : goal.of_trie-requires-clause-holds
@@ -35,7 +36,7 @@ returns g c =
           (IfOk-both c.of_trie.result _ _ _
           (λ nfa is_of within. (
             items,
-            (built.1.0, cause-accepted (in_force inside.limits) p accepted room (omega (arith, within p refl holds, c.in_ok-trie.ensures.limit))),
+            (built.1.0, cause-within (in_force inside.limits) p accepted room (omega (arith, within p refl holds, c.in_ok-trie.ensures.limit))),
             is_of p refl built.1.1.0 holds,
           ))
           c.of_trie.ensures.of c.of_trie.ensures.within);

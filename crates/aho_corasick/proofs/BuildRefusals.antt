@@ -1,6 +1,5 @@
--- The first thing that the limits refuse, once all patterns are in the trie: none, or the first match that is not copied; and
--- what that says of a build.
-use Rattle.std.proofs.Common.{◌≡◌, ℕ, Bool, Result, Ok, Err, ◌+◌, ◌-◌, ◌<◌, ◌≤◌, ◌⊎◌, inl, inr, List, length, Option, Some, None, ◌∙◌, ap, arith}
+-- Why a build is refused: while it takes the patterns, or while it copies their matches.
+use Rattle.std.proofs.Common.{◌≡◌, ℕ, Bool, Result, Ok, Err, ◌+◌, ◌≤◌, ◌⊎◌, inl, inr, List, length, Option, ◌∙◌, ap, arith}
 use Rattle.std.specs.Iterator.{Drains}
 use Rattle.std.specs.Result.{IfOk}
 use denote.Ref.{Bor}
@@ -10,23 +9,9 @@ use Rattle.aho_base.specs.declared.search.MatchKind.{MatchKind}
 use Rattle.aho_base.specs.Patterns.{Patterns}
 use Rattle.aho_corasick.specs.Building.{IsCopyRefusal}
 use Rattle.aho_corasick.specs.Growing.{patterns_of, HasYielded, IsRefusal}
-use Rattle.aho_corasick.specs.Sizes.{Growth, kept_before, matches_size, TableIndex, entries_from, trie_growth, cause, in_force, IsAccepted, IsStopped}
+use Rattle.aho_corasick.specs.Sizes.{kept_before, matches_size, TableIndex, in_force, IsAccepted, IsStopped}
 use Rattle.aho_corasick.specs.declared.noncontiguous.Limits.{Limits}
-use Rattle.aho_corasick.proofs.Causes.{find-after, entries_from-within, entries_from-past}
-
-module _ (limits : Limits) (p : Patterns) (accepted : IsAccepted limits p) (room : 1 + length (kept_before p (length p.words)) ≤ limits.id + 1) where
-  abbrev listed : ℕ
-  listed = 1 + length (kept_before p (length p.words))
-
-  pub cause-accepted : matches_size p ≤ limits.id + 1 → cause limits p ≡ None
-  cause-accepted within =
-      find-after limits (trie_growth p) (entries_from listed (matches_size p - listed)) accepted.none
-      ∙ entries_from-within limits listed (matches_size p - listed) (omega (arith, within, room))
-
-  pub cause-copied : limits.id + 1 < matches_size p → cause limits p ≡ Some (TableIndex (limits.id + 1))
-  cause-copied past =
-      find-after limits (trie_growth p) (entries_from listed (matches_size p - listed)) accepted.none
-      ∙ entries_from-past limits listed (matches_size p - listed) room (omega (arith, past, room))
+use Rattle.aho_corasick.proofs.Causes.{cause-past}
 
 -- two facts of the value that was made
 pub IfOk-both : {T E : Type 0} (r : Result T E) (P Q R : T → Type 0) → ((x : T) → P x → Q x → R x) → IfOk r P → IfOk r Q → IfOk r R
@@ -57,7 +42,7 @@ module _ {S : Type 0} (gives : S → Option (Bor (List ℕ)) → S → Type 0) (
               items,
               (
                 TableIndex ((in_force limits).id + 1),
-                (full.0 ∙ ap (λ (n : ℕ). StateIDOverflow n (n + 1)) same, inr (drained, cause-copied (in_force limits) patterns accepted room (omega (arith, full.1, same)))),
+                (full.0 ∙ ap (λ (n : ℕ). StateIDOverflow n (n + 1)) same, inr (drained, cause-past (in_force limits) patterns accepted room (omega (arith, full.1, same)))),
               ),
             )
       ]
