@@ -1,7 +1,7 @@
 -- The table: where a list's bytes lead, and rows after a change.
 pub mod Edges
 pub mod Rows
--- The trie: entries, changes of a table by one call, one state more, one byte more, one pattern more.
+-- The trie: entries, changes of a table by one call, one state more, one byte more, one pattern more, and its counts.
 pub mod Entries
 pub mod Changed
 pub mod Grow
@@ -27,10 +27,11 @@ pub mod CopiedMatches
 pub mod LinksSoFar
 pub mod LinkedChild
 pub mod VisitedTransitions
--- Why a build of the trie stops.
+-- Why a build of the trie stops, and sizes and causes computed.
 pub mod Causes
 pub mod WithinLimit
 pub mod RefusedPattern
 pub mod Stops
 pub mod SizeChecks
+-- The trie of all patterns.
 pub mod Whole
