@@ -1,7 +1,7 @@
 -- The table: where a list's bytes lead, and rows after a change.
 pub mod Edges
 pub mod Rows
--- The trie: entries, changes of a table by one call, one state more, one byte more, one pattern more.
+-- The trie: entries, changes of a table by one call, one state more, one byte more, one pattern more, and its counts.
 pub mod Entries
 pub mod Changed
 pub mod Grow
@@ -29,11 +29,12 @@ pub mod LinkedChild
 pub mod VisitedTransitions
 pub mod CountedLinks
 pub mod CopiedCounts
--- Why a build of the trie stops.
+-- Why a build stops, and sizes and causes computed.
 pub mod Causes
 pub mod WithinLimit
 pub mod RefusedPattern
 pub mod Stops
 pub mod BuildRefusals
 pub mod SizeChecks
+-- The trie of all patterns.
 pub mod Whole
