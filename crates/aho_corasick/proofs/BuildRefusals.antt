@@ -7,9 +7,10 @@ use Rattle.aho_base.specs.declared.error.BuildError.{BuildError}
 use Rattle.aho_base.specs.declared.error.BuildError.TheVariants.{StateIDOverflow, OutOfMemory}
 use Rattle.aho_base.specs.declared.search.MatchKind.{MatchKind}
 use Rattle.aho_base.specs.Patterns.{Patterns}
-use Rattle.aho_corasick.specs.Building.{IsCopyRefusal}
-use Rattle.aho_corasick.specs.Growing.{patterns_of, HasYielded, IsRefusal}
-use Rattle.aho_corasick.specs.Sizes.{kept_before, matches_size, TableIndex, in_force, IsAccepted, IsStopped}
+use Rattle.aho_corasick.specs.Refusals.{IsRefusalOf}
+use Rattle.aho_corasick.specs.Taken.{patterns_of, HasYielded, IsRefusal}
+use Rattle.aho_corasick.specs.Sizes.{kept_before, matches_size, TableIndex, in_force}
+use Rattle.aho_corasick.specs.Counted.{IsAccepted, IsStopped}
 use Rattle.aho_corasick.specs.declared.noncontiguous.Limits.{Limits}
 use Rattle.aho_corasick.proofs.Causes.{cause-past}
 
@@ -32,12 +33,12 @@ module _ {S : Type 0} (gives : S → Option (Bor (List ℕ)) → S → Type 0) (
 
   -- or while it copied their matches
   pub IsRefusal-copied : (limit : ℕ) → limit ≡ (in_force limits).id → Drains gives state items → IsAccepted (in_force limits) patterns
-      → 1 + length (kept_before patterns (length patterns.words)) ≤ (in_force limits).id + 1 → IsCopyRefusal limit (matches_size patterns) error
+      → 1 + length (kept_before patterns (length patterns.words)) ≤ (in_force limits).id + 1 → IsRefusalOf limit (matches_size patterns) error
       → (error ≡ OutOfMemory) ⊎ IsRefusal gives state kind ignore_case (in_force limits) error
   IsRefusal-copied limit same drained accepted room refusal =
       elim refusal [
-        | inr memory ↦ inl memory
-        | inl full ↦
+        | inl memory ↦ inl memory
+        | inr full ↦
             inr (
               items,
               (

@@ -10,7 +10,8 @@ use Rattle.std.specs.Option.{option_or}
 use Rattle.aho_base.specs.Patterns.{Patterns, pattern_at}
 use Rattle.aho_base.specs.Trie.{is_kept}
 use Rattle.aho_corasick.proofs.Appended.{is_kept-more, kept_before-appended, new_nodes-appended, nodes_before-appended}
-use Rattle.aho_corasick.specs.Sizes.{kept_before, new_nodes, nodes_before, entries_for, Growth, PatternNumber, PatternLength, TableIndex, is_refused, entries_from, growth_for_kept, growth_for, first_growth, trie_growth, cause, matches_size, followed_by, IsAccepted, IsCause}
+use Rattle.aho_corasick.specs.Sizes.{kept_before, new_nodes, nodes_before, entries_for, Growth, PatternNumber, PatternLength, TableIndex, is_refused, entries_from, growth_for_kept, growth_for, first_growth, trie_growth, cause, matches_size, followed_by, IsCause}
+use Rattle.aho_corasick.specs.Counted.{IsAccepted}
 use Rattle.aho_corasick.specs.declared.noncontiguous.Limits.{Limits}
 
 range_with_len-split : (a n m : ℕ) → range_with_len a (n + m) ≡ range_with_len a n ++ range_with_len (a + n) m

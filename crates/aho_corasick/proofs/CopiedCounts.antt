@@ -2,11 +2,11 @@
 use Rattle.std.proofs.Common.{◌≡◌, ℕ, zero, suc, ◌+◌, ◌<◌, ◌≤◌, ◌≢◌, Bool, List, [], ◌∷◌, ◌++◌, length, get_or, take, map, Option, Some, None, refl, sym, ap, subst, ◌∙◌, inl, inr, arith}
 use Rattle.std.specs.Prelude.{sum_by}
 use Rattle.std.proofs.Math.ListN.{set}
-use Rattle.std.proofs.lemmas.Bool.{cases_lt, cases_eq, cond_below, cond_above}
+use Rattle.std.proofs.lemmas.Bool.{cases_eq}
 use Rattle.std.proofs.lemmas.List.{length-set, length-append, length-take-le, length-map, get_or-map}
 use Rattle.std.proofs.lemmas.List.Sums.{sum_by-cons, sum_by-set}
 use Rattle.aho_base.specs.declared.error.BuildError.{BuildError}
-use Rattle.aho_base.specs.declared.error.BuildError.TheVariants.{StateIDOverflow, OutOfMemory}
+use Rattle.aho_base.specs.declared.error.BuildError.TheVariants.{StateIDOverflow}
 use Rattle.aho_base.specs.Among.{is_node_among}
 use Rattle.aho_base.specs.MatchList.{own_matches, matches_of}
 use Rattle.aho_base.specs.Failure.{failure_of}
@@ -14,14 +14,16 @@ use Rattle.aho_base.specs.Patterns.{Patterns}
 use Rattle.aho_base.specs.Trie.{is_node}
 use Rattle.aho_base.proofs.ByLinks.{matches-root, matches-next}
 use Rattle.aho_base.proofs.Inserted.{own_among-all}
-use Rattle.aho_corasick.specs.Building.{IsLinking, IsBuilt, IsCopyRefusal, append_matches, link_row, root_loop}
+use Rattle.aho_corasick.specs.Building.{IsLinking, IsBuilt, append_matches, link_row, root_loop}
+use Rattle.aho_corasick.specs.Refusals.{IsRefusalOf, refusal_at}
 use Rattle.aho_corasick.specs.Growing.{HoldsTrie}
 use Rattle.aho_corasick.specs.Naming.{name_at, IsTrie}
-use Rattle.aho_corasick.specs.Refusals.{refusal_at}
-use Rattle.aho_corasick.specs.Sizes.{nodes, names_before, matches_size}
+use Rattle.aho_corasick.specs.Sizes.{nodes, matches_size}
+use Rattle.aho_corasick.specs.Counted.{names_before}
 use Rattle.aho_corasick.specs.Tables.{Row, Tables, new_row, row_at, fail_in, matches_in, matches_count, set_fail_of}
 use Rattle.aho_corasick.proofs.ChangedRows.{row_at-set_same, row_at-set_other, part-set}
 use Rattle.aho_corasick.proofs.CopiedMatches.{copied_row}
+use Rattle.aho_corasick.proofs.WithinLimit.{IsRefusalOf-at}
 use Rattle.aho_corasick.proofs.CountedLinks.{sum_by-places, matches_count-same}
 
 -- one row more of patterns
@@ -43,34 +45,31 @@ matches_count-link rows sid fail below =
 
 -- the next pattern of a list is refused
 pub copied_refused : (old rows : List Row) (to from i limit : ℕ) (error : BuildError) → to < length old → i < length (matches_in old from)
-    → rows ≡ set old to (copied_row old to from i) → error ≡ refusal_at limit (matches_count rows) → IsCopyRefusal limit (matches_count old + length (matches_in old from)) error
+    → rows ≡ set old to (copied_row old to from i) → error ≡ refusal_at limit (matches_count rows) → IsRefusalOf limit (matches_count old + length (matches_in old from)) error
 copied_refused old rows to from i limit error below inside rows_is is =
     let list : List ℕ = matches_in old from in
     let count : matches_count rows ≡ matches_count old + i =
     omega (arith, ap matches_count rows_is, matches_count-longer old to (copied_row old to from i) (take i list) below refl, length-take-le i list (omega arith)) in
-    elim (cases_lt limit (matches_count rows)) [
-      | inl full ↦ inl (is ∙ sym (cond_below limit (matches_count rows) (StateIDOverflow limit (limit + 1)) OutOfMemory full), omega arith)
-      | inr room ↦ inr (is ∙ sym (cond_above limit (matches_count rows) (StateIDOverflow limit (limit + 1)) OutOfMemory OutOfMemory room refl))
-    ]
+    IsRefusalOf-at limit (matches_count rows) (matches_count old + length list) error (omega arith) is
 
 -- a refusal below one size is one below a larger size
-pub IsCopyRefusal-larger : (limit larger limit' size : ℕ) (error : BuildError) → limit' ≡ limit → size ≤ larger → IsCopyRefusal limit' size error → IsCopyRefusal limit larger error
-IsCopyRefusal-larger limit larger limit' size error same le refusal =
+pub IsRefusalOf-larger : (limit larger limit' size : ℕ) (error : BuildError) → limit' ≡ limit → size ≤ larger → IsRefusalOf limit' size error → IsRefusalOf limit larger error
+IsRefusalOf-larger limit larger limit' size error same le refusal =
     elim refusal [
-      | inl full ↦ inl (full.0 ∙ ap (λ (n : ℕ). StateIDOverflow n (n + 1)) same, omega (arith, full.1, le, same))
-      | inr memory ↦ inr memory
+      | inl memory ↦ inl memory
+      | inr full ↦ inr (full.0 ∙ ap (λ (n : ℕ). StateIDOverflow n (n + 1)) same, omega (arith, full.1, le, same))
     ]
 
 -- a refusal after a state's link was set
 pub linked_refused : (old new : Tables) (sid fail : ℕ) (error : BuildError) → sid < length old.rows → new ≡ record old { rows = set_fail_of old.rows sid fail }
-    → IsCopyRefusal new.limit (matches_count new.rows + length (matches_in new.rows fail)) error → IsCopyRefusal old.limit (matches_count old.rows + length (matches_in old.rows fail)) error
+    → IsRefusalOf new.limit (matches_count new.rows + length (matches_in new.rows fail)) error → IsRefusalOf old.limit (matches_count old.rows + length (matches_in old.rows fail)) error
 linked_refused old new sid fail error below is refusal =
     let row : Row = record (row_at old.rows sid) { fail = fail } in
     let rows : new.rows ≡ set old.rows sid row = ap (λ (t : Tables). t.rows) is in
     let same : (i : ℕ) → matches_in new.rows i ≡ matches_in old.rows i =
     λ i. ap (λ (t : List Row). matches_in t i) rows ∙ part-set (λ (r : Row). r.matches) old.rows sid row below refl i in
     let count = matches_count-same old.rows new.rows (ap (λ (t : List Row). length t) rows ∙ length-set old.rows sid row) same in
-    IsCopyRefusal-larger old.limit (matches_count old.rows + length (matches_in old.rows fail)) new.limit (matches_count new.rows + length (matches_in new.rows fail)) error
+    IsRefusalOf-larger old.limit (matches_count old.rows + length (matches_in old.rows fail)) new.limit (matches_count new.rows + length (matches_in new.rows fail)) error
     (ap (λ (t : Tables). t.limit) is) (omega (arith, count, ap (λ (l : List ℕ). length l) (same fail))) refusal
 
 module _ (p : Patterns) where

@@ -13,7 +13,8 @@ use Rattle.aho_base.specs.Patterns.{Patterns}
 use Rattle.aho_base.specs.Trie.{begins, is_kept, pattern_word}
 use Rattle.aho_corasick.specs.Growing.{Grows, HasChild, ListsMore, AreListed, EndsAt, HoldsFirst, HoldsWith, missing_in, missing_both, opposite, folded_by}
 use Rattle.aho_corasick.specs.Naming.{name_at, longer, missing_at, IsTrie, IsTrieOf, IsTrieWith}
-use Rattle.aho_corasick.specs.Sizes.{kept_before, names_before, names_of, nodes_before, nodes_with, entries_for, bytes_leading_to, HasNodes}
+use Rattle.aho_corasick.specs.Sizes.{kept_before, nodes_before, entries_for, bytes_leading_to}
+use Rattle.aho_corasick.specs.Counted.{names_before, names_of, nodes_with, HasNodes}
 use Rattle.aho_corasick.specs.Tables.{Row, new_row, row_at, next_in, edge_at, lists_byte, lists_edge, IsRising, push_match, transitions_count, matches_count}
 use Rattle.aho_corasick.proofs.Changed.{name_at-below}
 use Rattle.aho_corasick.proofs.Ended.{part-set, IsTrieWith-end, IsTrieOf-left_out, IsTrieWith-back}

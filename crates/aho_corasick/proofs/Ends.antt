@@ -13,7 +13,7 @@ use Rattle.aho_base.proofs.Inserted.{left_out-walk, walk-left_out}
 use Rattle.aho_corasick.specs.Growing.{is_first, IsNumbered, EndsAt, HasChild, HasWalked, HoldsFirst, HoldsWith}
 use Rattle.aho_corasick.specs.Naming.{name_at, IsTrieWith}
 use Rattle.aho_corasick.specs.Tables.{Row, matches_in}
-use Rattle.aho_corasick.specs.Sizes.{nodes_with, names_of}
+use Rattle.aho_corasick.specs.Counted.{nodes_with, names_of}
 use Rattle.aho_corasick.proofs.CountedTrie.{HoldsWith-start, HoldsWith-byte, HoldsWith-back}
 use Rattle.aho_corasick.proofs.Changed.{name_at-below}
 use Rattle.aho_corasick.proofs.Nodes.{own_among-absent}

@@ -7,7 +7,7 @@ use Rattle.aho_base.specs.Bytes.{folded_word}
 use Rattle.aho_base.specs.Patterns.{Patterns}
 use Rattle.aho_base.proofs.Inserted.{is_node_among-none, own_among-none}
 use Rattle.aho_corasick.specs.Growing.{AreListed, HoldsFirst, IsFilledBelow}
-use Rattle.aho_corasick.specs.Sizes.{names_of}
+use Rattle.aho_corasick.specs.Counted.{names_of}
 use Rattle.aho_corasick.specs.Naming.{name_at, longer, missing_at, IsTrieOf}
 use Rattle.aho_corasick.specs.Tables.{Row, new_row, row_at, next_in, depth_in, fail_in, matches_in, edge_at, with_edge, set_edge, set_fail_of, lists_edge, lists_byte, IsRising, transitions_count, matches_count}
 use Rattle.aho_corasick.proofs.Entries.{edge_at-with_edge, edge_at-with_edge_other}

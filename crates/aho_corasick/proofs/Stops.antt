@@ -13,8 +13,11 @@ use Rattle.aho_base.specs.declared.error.BuildError.TheVariants.{PatternIDOverfl
 use Rattle.aho_base.specs.declared.search.MatchKind.{MatchKind}
 use Rattle.aho_base.specs.Patterns.{Patterns, pattern_at}
 use Rattle.aho_base.specs.Trie.{is_kept}
-use Rattle.aho_corasick.specs.Growing.{patterns_of, AreWithin, HoldsFirst, IsWithinLimit, IsRefusalOf, IsPatternRefusal}
-use Rattle.aho_corasick.specs.Sizes.{kept_before, new_nodes, nodes_before, entries_for, Growth, PatternNumber, PatternLength, TableIndex, is_refused, entries_from, growth_for_kept, growth_for, first_growth, trie_growth, followed_by, IsAccepted, IsStopped, refusal_of}
+use Rattle.aho_corasick.specs.Growing.{AreWithin, HoldsFirst, IsWithinLimit, IsPatternRefusal}
+use Rattle.aho_corasick.specs.Taken.{patterns_of}
+use Rattle.aho_corasick.specs.Refusals.{IsRefusalOf}
+use Rattle.aho_corasick.specs.Sizes.{kept_before, new_nodes, nodes_before, entries_for, Growth, PatternNumber, PatternLength, TableIndex, is_refused, entries_from, growth_for_kept, growth_for, first_growth, trie_growth, followed_by, refusal_of}
+use Rattle.aho_corasick.specs.Counted.{IsAccepted, IsStopped}
 use Rattle.aho_corasick.specs.declared.noncontiguous.Limits.{Limits}
 use Rattle.aho_corasick.specs.Tables.{Row}
 use Rattle.aho_corasick.proofs.Appended.{IsNumbered-next, patterns_next, words_before, words_next}

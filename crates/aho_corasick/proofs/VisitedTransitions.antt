@@ -6,12 +6,14 @@ use Rattle.aho_base.specs.declared.search.MatchKind.{MatchKind}
 use Rattle.aho_base.specs.Failure.{failure_of}
 use Rattle.aho_base.specs.Patterns.{Patterns}
 use Rattle.aho_base.specs.Trie.{is_node}
-use Rattle.aho_corasick.specs.Building.{root_loop, CanLink, CanLinkBySome, LinksTo, IsLinking, IsLinkingBySome, KeepsLinking, IsCopyRefusal, OnlyCopies, link_row, unlinked_count}
+use Rattle.aho_corasick.specs.Building.{root_loop, CanLink, CanLinkBySome, LinksTo, IsLinking, IsLinkingBySome, KeepsLinking, OnlyCopies, link_row, unlinked_count}
+use Rattle.aho_corasick.specs.Refusals.{IsRefusalOf}
 use Rattle.aho_corasick.specs.Naming.{name_at, longer, IsStateOf}
-use Rattle.aho_corasick.specs.Sizes.{names_before, matches_size}
+use Rattle.aho_corasick.specs.Sizes.{matches_size}
+use Rattle.aho_corasick.specs.Counted.{names_before}
 use Rattle.aho_corasick.specs.Tables.{Row, Tables, row_at, edge_in, next_in, fail_in, matches_in, matches_count}
 use Rattle.aho_corasick.proofs.ChangedRows.{named_below, row_at-set_other}
-use Rattle.aho_corasick.proofs.CopiedCounts.{IsCopyRefusal-larger, matches_count-link, matches_count-linking}
+use Rattle.aho_corasick.proofs.CopiedCounts.{IsRefusalOf-larger, matches_count-link, matches_count-linking}
 use Rattle.aho_corasick.proofs.CountedLinks.{OnlyCopies-row}
 use Rattle.aho_corasick.proofs.LinksSoFar.{head_word, head_can, child_below, child_is, link_known}
 use Rattle.aho_corasick.proofs.LinkedChild.{IsLinking-link, link_apart, unlinked_count-link}
@@ -77,8 +79,8 @@ module _ (kind : MatchKind) (queue : List ℕ) (head part : ℕ) (rows : List Ro
           link_apart some.0 some.1.0 queue head part rows some.1.2 inside byte small child fail child_next child_edge other free (fail_is some.0 some.1.0 some.1.1 some.1.2)
 
       -- the list of the link is not copied whole
-      pub visit_refused : (limit : ℕ) (error : BuildError) → IsCopyRefusal limit (matches_count rows + length (matches_in rows fail)) error
-          → (p : Patterns) → p.kind ≡ kind → IsLinking p (names_before p (length p.words)) queue head part rows → matches_in rows 1 ≡ [] → IsCopyRefusal limit (matches_size p) error
+      pub visit_refused : (limit : ℕ) (error : BuildError) → IsRefusalOf limit (matches_count rows + length (matches_in rows fail)) error
+          → (p : Patterns) → p.kind ≡ kind → IsLinking p (names_before p (length p.words)) queue head part rows → matches_in rows 1 ≡ [] → IsRefusalOf limit (matches_size p) error
       visit_refused limit error refusal p same so_far none =
           let names = names_before p (length p.words) in
           let row : Row = record (row_at rows child) { fail = fail; matches = (row_at rows child).matches ++ matches_in rows fail } in
@@ -86,7 +88,7 @@ module _ (kind : MatchKind) (queue : List ℕ) (head part : ℕ) (rows : List Ro
           let still_none : matches_in (link_row rows child fail) 1 ≡ [] = ap (λ (r : Row). r.matches) (row_at-set_other rows child 1 row (λ e. other (sym e))) ∙ none in
           let linked : IsLinking p names (queue ++ child ∷ []) head (part + 1) (link_row rows child fail) =
           IsLinking-link p names queue head part rows so_far inside byte small child fail child_next child_edge other free (fail_is p names same so_far) in
-          IsCopyRefusal-larger limit (matches_size p) limit (matches_count rows + length (matches_in rows fail)) error refl
+          IsRefusalOf-larger limit (matches_size p) limit (matches_count rows + length (matches_in rows fail)) error refl
           (omega (arith, matches_count-link rows child fail below, matches_count-linking p (queue ++ child ∷ []) head (part + 1) (link_row rows child fail) linked still_none))
           refusal
 

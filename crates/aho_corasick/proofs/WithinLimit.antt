@@ -4,8 +4,8 @@ use Rattle.std.proofs.lemmas.Bool.{cases_Bool, ltb-true}
 use Rattle.std.proofs.lemmas.List.{get_or_default, length_push, length-set}
 use Rattle.aho_base.specs.declared.error.BuildError.{BuildError}
 use Rattle.aho_base.specs.declared.error.BuildError.TheVariants.{StateIDOverflow, OutOfMemory}
-use Rattle.aho_corasick.specs.Growing.{AllRising, IsWithinLimit, IsRefusalOf, IsChildRefusal, missing_in, missing_both, opposite}
-use Rattle.aho_corasick.specs.Refusals.{refusal_at}
+use Rattle.aho_corasick.specs.Growing.{AllRising, IsWithinLimit, IsChildRefusal, missing_in, missing_both, opposite}
+use Rattle.aho_corasick.specs.Refusals.{IsRefusalOf, refusal_at}
 use Rattle.aho_corasick.specs.Tables.{Row, new_row, row_at, next_in, with_edge, set_edge, push_match, set_fail_of, lists_byte, transitions_count, matches_count}
 use Rattle.aho_corasick.proofs.Child.{transitions_count-one, lists_byte-one, lists_byte-one_other}
 use Rattle.aho_corasick.proofs.ListedBytes.{matches_count-set_edge, transitions_count-push, matches_count-push}

@@ -1,7 +1,5 @@
 -- How far a build has come: the trie is whole, the failure links are being made, the automaton is built.
-use Rattle.std.specs.Prelude.{◌≡◌, ◌≢◌, ℕ, ◌+◌, ◌<◌, ◌≤◌, ◌⊎◌, nat_eq, nat_lt, ◌&&◌, if◌then◌else◌, Bool, true, List, [], ◌∷◌, ◌++◌, length, sum_by, Option, Some, slice_index, slice_set}
-use Rattle.aho_base.specs.declared.error.BuildError.{BuildError}
-use Rattle.aho_base.specs.declared.error.BuildError.TheVariants.{StateIDOverflow, OutOfMemory}
+use Rattle.std.specs.Prelude.{◌≡◌, ◌≢◌, ℕ, ◌+◌, ◌<◌, ◌≤◌, nat_eq, nat_lt, ◌&&◌, if◌then◌else◌, Bool, true, List, [], ◌∷◌, ◌++◌, length, sum_by, Option, Some, slice_index, slice_set}
 use Rattle.aho_base.specs.declared.search.Anchored.TheVariants.{No}
 use Rattle.aho_base.specs.declared.search.MatchKind.{MatchKind}
 use Rattle.aho_base.specs.Bytes.{folded}
@@ -80,11 +78,6 @@ pub record OnlyCopies (old new : Tables) : Type 0 where
   pub states : length new.rows ≡ length old.rows
   pub edges : HasSameEdges old.rows new.rows
   pub fail_matches : matches_in new.rows 1 ≡ matches_in old.rows 1
-
--- why no more patterns were copied: the next one would have an index above the limit, and it is among the entries that the
--- table is to have in the end; else memory was wanted
-abbrev pub IsCopyRefusal : ℕ → ℕ → BuildError → Type 0
-IsCopyRefusal limit size error = ((error ≡ StateIDOverflow limit (limit + 1)) × (limit + 1 < size)) ⊎ (error ≡ OutOfMemory)
 
 -- before the links are made: the trie with its starts, each state with its own patterns and without a link
 pub record IsReady (p : Patterns) (names : List (Option (List ℕ))) (rows : List Row) : Type 0 where

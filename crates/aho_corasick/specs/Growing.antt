@@ -1,10 +1,7 @@
 -- How the trie grows: by one state, by the bytes of one pattern, by one pattern, and from the four first states.
-use Rattle.std.specs.Prelude.{◌≡◌, ◌≢◌, ℕ, ◌+◌, ◌-◌, ◌<◌, ◌≤◌, ◌⊎◌, nat_eq, nat_le, not, ◌&&◌, if◌then◌else◌, Bool, true, false, List, [], map, length, take, sum_by, Option, Some, None, MatchBool}
-use Rattle.std.specs.Iterator.{Yields, Drains}
+use Rattle.std.specs.Prelude.{◌≡◌, ◌≢◌, ℕ, ◌+◌, ◌-◌, ◌<◌, ◌≤◌, ◌⊎◌, nat_eq, nat_le, not, ◌&&◌, if◌then◌else◌, Bool, true, false, List, [], length, take, sum_by, Option, Some, None, MatchBool}
 use Rattle.std.specs.List.{All}
-use denote.Ref.{Bor}
 use Rattle.aho_base.specs.declared.error.BuildError.{BuildError}
-use Rattle.aho_base.specs.declared.error.BuildError.TheVariants.{StateIDOverflow, OutOfMemory}
 use Rattle.aho_base.specs.declared.search.MatchKind.{MatchKind}
 use Rattle.aho_base.specs.declared.search.MatchKind.TheVariants.{Standard, LeftmostFirst, LeftmostLongest}
 use Rattle.aho_base.specs.Among.{own_among}
@@ -12,13 +9,10 @@ use Rattle.aho_base.specs.Bytes.{folded_word}
 use Rattle.aho_base.specs.Patterns.{Patterns, pattern_at}
 use Rattle.aho_base.specs.Trie.{is_kept, pattern_word}
 use Rattle.aho_corasick.specs.Naming.{name_at, IsTrieOf, IsTrieWith}
-use Rattle.aho_corasick.specs.Sizes.{Growth, kept_before, names_before, nodes_before, nodes_with, names_of, entries_for, refusal_of, cause, HasNodes, IsCause, IsCountedTrie}
-use Rattle.aho_corasick.specs.declared.noncontiguous.Limits.{Limits}
+use Rattle.aho_corasick.specs.Refusals.{IsRefusalOf}
+use Rattle.aho_corasick.specs.Sizes.{kept_before, nodes_before, entries_for}
+use Rattle.aho_corasick.specs.Counted.{names_before, nodes_with, names_of, HasNodes, IsCountedTrie}
 use Rattle.aho_corasick.specs.Tables.{Row, row_at, next_in, fail_in, depth_in, matches_in, lists_byte, IsRising, transitions_count, matches_count}
-
--- the patterns of these byte strings, by their places
-abbrev pub patterns_of : MatchKind → Bool → List (Bor (List ℕ)) → Patterns
-patterns_of kind ignore_case items = record { words = map (λ item. item.now) items; kind = kind; ignore_case = ignore_case }
 
 -- the other case of an ASCII letter, and every other byte itself
 abbrev pub opposite : ℕ → ℕ
@@ -170,10 +164,6 @@ pub record IsWithinLimit (limit : ℕ) (rows : List Row) : Type 0 where
   pub transitions : transitions_count rows ≤ limit + 1
   pub matches : matches_count rows ≤ limit + 1
 
--- why a table is not to have this many entries: they are more than the limit allows, or memory was wanted
-abbrev pub IsRefusalOf : ℕ → ℕ → BuildError → Type 0
-IsRefusalOf limit size error = (error ≡ OutOfMemory) ⊎ ((error ≡ StateIDOverflow limit (limit + 1)) × (limit + 1 < size))
-
 -- why there is no state to which the byte leads: there was none, and there are too many states, or transitions
 abbrev pub IsChildRefusal : Bool → ℕ → ℕ → ℕ → List Row → BuildError → Type 0
 IsChildRefusal ignore_case limit parent byte rows error =
@@ -193,24 +183,7 @@ abbrev pub IsWordRefusal : MatchKind → Bool → List ℕ → ℕ → List Row 
 IsWordRefusal kind ignore_case word limit rows error =
     (p : Patterns) (number : ℕ) → IsNumbered p number kind ignore_case word → HoldsFirst p number rows → IsPatternRefusal limit p number error
 
--- the items that an iterator gives first
-abbrev pub HasYielded : {S A : Type 0} → (S → Option A → S → Type 0) → S → List A → Type 0
-HasYielded {S} gives state items = (later : S) × Yields gives state items later
-
 -- each pattern's number and length is within its limit
 pub record AreWithin (pattern_limit length_limit : ℕ) (p : Patterns) : Type 0 where
   pub numbers_within : length p.words ≤ pattern_limit + 1
   pub lengths_within : All (λ word. length word ≤ length_limit) p.words
-
--- the items of an automaton: those that the iterator gave until it ended, of which the limits refuse nothing
-abbrev pub AreAccepted : {S : Type 0} → (S → Option (Bor (List ℕ)) → S → Type 0) → S → MatchKind → Bool → Limits → List (Bor (List ℕ)) → Type 0
-AreAccepted gives state kind ignore_case limits items = Drains gives state items × (cause limits (patterns_of kind ignore_case items) ≡ None)
-
--- why a build was refused where memory was found: the limits refuse a growth that the items ask for, none before it, and the
--- error says which. It is met either when the last of these items was taken, whatever the iterator would have given after it,
--- or when the iterator had ended.
-abbrev pub IsRefusal : {S : Type 0} → (S → Option (Bor (List ℕ)) → S → Type 0) → S → MatchKind → Bool → Limits → BuildError → Type 0
-IsRefusal gives state kind ignore_case limits error =
-    (items : List (Bor (List ℕ))) × ((refused : Growth) × ((error ≡ refusal_of limits refused)
-    × ((HasYielded gives state items × IsCause limits (patterns_of kind ignore_case items) refused)
-    ⊎ (Drains gives state items × (cause limits (patterns_of kind ignore_case items) ≡ Some refused)))))

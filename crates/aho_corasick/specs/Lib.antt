@@ -9,3 +9,5 @@ pub mod Built
 pub mod Laws
 pub mod Settings
 pub mod Sizes
+pub mod Counted
+pub mod Taken

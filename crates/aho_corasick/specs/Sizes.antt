@@ -1,16 +1,14 @@
 -- How large the tables of an automaton become, and what a limit refuses. What a build asks for is a list of growths in their
 -- order; the cause of a refusal is the first of them that the limits refuse.
-use Rattle.std.specs.Prelude.{◌≡◌, ℕ, ◌+◌, ◌-◌, ◌*◌, ◌⊎◌, Bool, not, nat_eq, nat_lt, List, [], ◌∷◌, ◌++◌, length, map, filter, flat_map, take, sum_by, count_by, find, slice_index, min, Option, Some, None, if◌then◌else◌}
+use Rattle.std.specs.Prelude.{◌≡◌, ℕ, ◌+◌, ◌-◌, ◌*◌, Bool, not, nat_eq, nat_lt, List, [], ◌∷◌, ◌++◌, length, map, filter, flat_map, take, sum_by, count_by, find, slice_index, min, Option, Some, if◌then◌else◌}
 use Rattle.std.specs.List.{list_any, range_with_len}
 use Rattle.aho_base.specs.declared.error.BuildError.{BuildError}
-use Rattle.aho_base.specs.declared.error.BuildError.TheVariants.{StateIDOverflow, PatternIDOverflow, PatternTooLong, OutOfMemory}
-use Rattle.aho_base.specs.declared.search.MatchKind.{MatchKind}
+use Rattle.aho_base.specs.declared.error.BuildError.TheVariants.{StateIDOverflow, PatternIDOverflow, PatternTooLong}
 use Rattle.aho_base.specs.Bytes.{folded}
 use Rattle.aho_base.specs.MatchList.{matches_of}
 use Rattle.aho_base.specs.Patterns.{Patterns, pattern_at, numbers}
 use Rattle.aho_base.specs.Trie.{begins, pattern_word, is_kept}
-use Rattle.aho_corasick.specs.Building.{IsLinking, IsReady, IsCopyRefusal}
-use Rattle.aho_corasick.specs.Tables.{Row, Tables, matches_in, transitions_count, matches_count}
+use Rattle.aho_corasick.specs.Tables.{Row, transitions_count, matches_count}
 use Rattle.aho_corasick.specs.declared.noncontiguous.Limits.{Limits}
 
 -- the numbers below this one of the patterns that are kept
@@ -106,10 +104,6 @@ in_force limits = record { id = min limits.id 2147483646; pattern = min limits.p
 abbrev pub cause : Limits → Patterns → Option Growth
 cause limits p = find (is_refused limits) (growth p)
 
--- nothing is refused while these patterns are taken
-pub record IsAccepted (limits : Limits) (p : Patterns) : Type 0 where
-  pub none : find (is_refused limits) (trie_growth p) ≡ None
-
 -- the patterns with more of them behind
 abbrev pub followed_by : Patterns → List (List ℕ) → Patterns
 followed_by p more = record { words = p.words ++ more; kind = p.kind; ignore_case = p.ignore_case }
@@ -125,53 +119,8 @@ refusal_of limits (PatternNumber number) = PatternIDOverflow limits.pattern numb
 refusal_of limits (PatternLength number size) = PatternTooLong number size limits.length
 refusal_of limits (TableIndex index) = StateIDOverflow limits.id index
 
--- why a build stopped that took these patterns: memory was wanted, or it met the first thing that the limits refuse
-abbrev pub IsStopped : Limits → Patterns → BuildError → Type 0
-IsStopped limits p error = (error ≡ OutOfMemory) ⊎ ((refused : Growth) × IsCause limits p refused × (error ≡ refusal_of limits refused))
-
--- the states in the order in which a build makes them, by their words
-abbrev pub names_before : Patterns → ℕ → List (Option (List ℕ))
-names_before p number = None ∷ None ∷ Some [] ∷ None ∷ map Some (nodes_before p number)
-
--- the prefixes of a word that no kept pattern below this number begins with, from the shortest
-abbrev pub new_fronts : Patterns → ℕ → List ℕ → List (List ℕ)
-new_fronts p number word =
-    filter
-    (λ front. not (list_any (λ earlier. begins front (pattern_word p earlier)) (kept_before p number)))
-    (map (λ size. take size word) (range_with_len 1 (length word)))
-
--- the nonempty nodes of the patterns below this number and of the first bytes of one more
-abbrev pub nodes_with : Patterns → ℕ → List ℕ → List (List ℕ)
-nodes_with p number more = nodes_before p number ++ new_fronts p number more
-
--- the names of the states that have these nodes, in their order
-abbrev pub names_of : List (List ℕ) → List (Option (List ℕ))
-names_of words = None ∷ None ∷ Some [] ∷ None ∷ map Some words
-
--- the table has a state for each of these nodes, the transitions into them, and this many listed patterns
-pub record HasNodes (p : Patterns) (words : List (List ℕ)) (kept : ℕ) (rows : List Row) : Type 0 where
-  pub states : length rows ≡ 4 + length words
-  pub transitions : transitions_count rows ≡ 769 + sum_by (entries_for p) words
-  pub matches : matches_count rows ≡ 1 + kept
-
--- the trie of the patterns below this number has the states, transitions and matches that it should
-pub record IsCountedTrie (p : Patterns) (number : ℕ) (rows : List Row) : Type 0 where
-  pub states : length rows ≡ 4 + length (nodes_before p number)
-  pub transitions : transitions_count rows ≡ 769 + sum_by (entries_for p) (nodes_before p number)
-  pub matches : matches_count rows ≡ 1 + length (kept_before p number)
-
--- and an automaton of the patterns
+-- the tables of an automaton of the patterns
 pub record IsSized (p : Patterns) (rows : List Row) : Type 0 where
   pub states : length rows ≡ states_size p
   pub transitions : transitions_count rows ≡ transitions_size p
   pub matches : matches_count rows ≡ matches_size p
-
--- why the links were not all made, once the build has come so far: more patterns were not copied
-abbrev pub IsLinkingRefusal : MatchKind → List ℕ → ℕ → ℕ → Tables → BuildError → Type 0
-IsLinkingRefusal kind queue head part table error =
-    (p : Patterns) → p.kind ≡ kind → IsLinking p (names_before p (length p.words)) queue head part table.rows → matches_in table.rows 1 ≡ [] → IsCopyRefusal table.limit (matches_size p) error
-
--- or before the first one is made
-abbrev pub IsReadyRefusal : MatchKind → Tables → BuildError → Type 0
-IsReadyRefusal kind table error =
-    (p : Patterns) → p.kind ≡ kind → IsReady p (names_before p (length p.words)) table.rows → matches_in table.rows 1 ≡ [] → IsCopyRefusal table.limit (matches_size p) error

@@ -45,8 +45,9 @@ impl NFA {
     ghost use Rattle.std.specs.Prelude.{false};
     ghost use Rattle.std.specs.Prelude.{◌⊎◌, IfErr};
     ghost use Rattle.aho_base.specs.declared.error.BuildError.TheVariants.{OutOfMemory};
-    ghost use Rattle.aho_corasick.specs.Building.{IsCopyRefusal};
-    ghost use Rattle.aho_corasick.specs.Growing.{patterns_of, HoldsTrie, AreAccepted, IsRefusal};
+    ghost use Rattle.aho_corasick.specs.Refusals.{IsRefusalOf};
+    ghost use Rattle.aho_corasick.specs.Growing.{HoldsTrie};
+    ghost use Rattle.aho_corasick.specs.Taken.{patterns_of, AreAccepted, IsRefusal};
     ghost use Rattle.aho_corasick.specs.Settings.{default_settings};
     ghost use Rattle.aho_corasick.specs.Sizes.{matches_size};
 
@@ -76,19 +77,18 @@ impl NFA {
         requires counted { length trie.lens.items ≤ 2147483647 }
         ensures of { IfOk result (λ nfa. (p : Patterns) → p.kind ≡ kind → trie.lens.items ≡ map length p.words → HoldsTrie p trie.table.rows → ⟦<NFA as Automaton>⟧.is_of nfa p) }
         ensures within { IfOk result (λ nfa. (p : Patterns) → p.kind ≡ kind → HoldsTrie p trie.table.rows → matches_size p ≤ trie.table.limit + 1) }
-        ensures refused { IfErr result (λ error. (p : Patterns) → p.kind ≡ kind → HoldsTrie p trie.table.rows → IsCopyRefusal trie.table.limit (matches_size p) error) }
+        ensures refused { IfErr result (λ error. (p : Patterns) → p.kind ≡ kind → HoldsTrie p trie.table.rows → IsRefusalOf trie.table.limit (matches_size p) error) }
     {
         let Trie { mut table, lens } = trie;
         failure::link_states(alloc, &mut table, kind)?;
         let _states = table.len();
-        let (start_unanchored, start_anchored) = start_states();
         Ok(NFA {
             match_kind: kind,
             min_pattern_len: shortest_len(&lens),
             max_pattern_len: longest_len(&lens),
             table,
-            start_unanchored,
-            start_anchored,
+            start_unanchored: trie::unanchored_start(),
+            start_anchored: failure::anchored_start(),
             pattern_lens: lens,
         })
     }
@@ -250,16 +250,6 @@ impl Automaton for NFA {
     ghost dead_shallow = { λ n sid valid. dead_shallow_of n.table.rows sid n.sound };
 }
 
-/// The numbers of the unanchored and of the anchored start.
-fn start_states() -> (StateID, StateID)
-    ensures numbers { result ≡ (2, 3) }
-{
-    let (Ok(unanchored), Ok(anchored)) = (StateID::new(2), StateID::new(3)) else {
-        unreachable!()
-    };
-    (unanchored, anchored)
-}
-
 /// The least of the lengths, in bytes; the greatest `usize` where there is none.
 fn shortest_len(lens: &[SmallIndex]) -> usize
     ensures shortest { result ≡ shortest lens.now }
@@ -326,7 +316,7 @@ impl Builder {
     ghost use denote.Ref.{Bor};
     ghost use Rattle.std.specs.Prelude.{◌⊎◌, IfErr};
     ghost use Rattle.aho_base.specs.declared.error.BuildError.TheVariants.{OutOfMemory};
-    ghost use Rattle.aho_corasick.specs.Growing.{patterns_of, AreAccepted, IsRefusal};
+    ghost use Rattle.aho_corasick.specs.Taken.{patterns_of, AreAccepted, IsRefusal};
     ghost use Rattle.aho_corasick.specs.Sizes.{in_force};
     ghost use Rattle.aho_corasick.specs.Settings.{Settings, default_settings};
 

@@ -6,26 +6,19 @@ ghost use Rattle.aho_base.specs.Patterns.{Patterns};
 ghost use Rattle.aho_corasick.specs.Growing.{HoldsTrie};
 ghost use Rattle.aho_corasick.specs.Naming.{IsTrieOf};
 ghost use Rattle.aho_corasick.specs.Tables.{row_at, next_in, fail_in, matches_in, transitions_count, matches_count};
-ghost use Rattle.aho_corasick.specs.Building.{IsLedBelow, IsLedAsRoot, IsReady, IsBuilt, looped, stops_at, append_matches, link_row, CanStepBySome, StepsTo, CanLinkBySome, LinksTo, IsLinkingBySome, KeepsLinking, unlinked_count, ListsAllBytes, OnlyCopies, IsCopyRefusal};
-ghost use Rattle.aho_corasick.specs.Sizes.{matches_size, IsLinkingRefusal, IsReadyRefusal, IsSized};
+ghost use Rattle.aho_corasick.specs.Building.{IsLedBelow, IsLedAsRoot, IsReady, IsBuilt, looped, stops_at, append_matches, link_row, CanStepBySome, StepsTo, CanLinkBySome, LinksTo, IsLinkingBySome, KeepsLinking, unlinked_count, ListsAllBytes, OnlyCopies};
+ghost use Rattle.aho_corasick.specs.Refusals.{IsRefusalOf};
+ghost use Rattle.aho_corasick.specs.Sizes.{matches_size, IsSized};
+ghost use Rattle.aho_corasick.specs.Counted.{IsLinkingRefusal, IsReadyRefusal};
 
 use crate::links::{DEAD, FAIL, Table};
+use crate::noncontiguous::trie::unanchored_start;
 use aho_base::error::BuildError;
 use aho_base::search::{MatchKind, StateID, Work};
 use std::alloc::Global;
 
-/// The root of the trie: the start of the searches that are not anchored.
-fn unanchored_start() -> StateID
-    ensures start { result ≡ 2 }
-{
-    let Ok(start) = StateID::new(2) else {
-        unreachable!()
-    };
-    start
-}
-
 /// The start of the anchored searches.
-fn anchored_start() -> StateID
+pub(super) fn anchored_start() -> StateID
     ensures start { result ≡ 3 }
 {
     let Ok(start) = StateID::new(3) else {
@@ -50,7 +43,7 @@ fn copy_matches(table: &mut Table, from: StateID, to: StateID) -> Result<(), Bui
     ensures copied { OnOk result (table.new.rows ≡ append_matches table.old.rows to from) }
     ensures limit { OnOk result (table.new.limit ≡ table.old.limit) }
     ensures refused { IfErr result
-        (IsCopyRefusal table.old.limit
+        (IsRefusalOf table.old.limit
         (matches_count table.old.rows + length (matches_in table.old.rows from))) }
 {
     for index in 0..table.match_len(from) {
@@ -70,7 +63,7 @@ fn set_anchored_start_state(table: &mut Table) -> Result<(), BuildError>
         → transitions_count table.new.rows ≡ transitions_count table.old.rows) }
     ensures refused { IfErr result (λ error.
         ListsAllBytes table.old.rows 3
-        → IsCopyRefusal table.old.limit
+        → IsRefusalOf table.old.limit
         (matches_count table.old.rows + length (matches_in table.old.rows 2)) error) }
 {
     let root = unanchored_start();
@@ -160,7 +153,7 @@ fn link(table: &mut Table, sid: StateID, fail: StateID) -> Result<(), BuildError
     ensures linked { OnOk result (table.new.rows ≡ link_row table.old.rows sid fail) }
     ensures limit { OnOk result (table.new.limit ≡ table.old.limit) }
     ensures refused { IfErr result
-        (IsCopyRefusal table.old.limit
+        (IsRefusalOf table.old.limit
         (matches_count table.old.rows + length (matches_in table.old.rows fail))) }
 {
     table.set_fail(sid, fail);
@@ -272,7 +265,7 @@ pub(super) fn link_states(
         → matches_size p ≤ table.old.limit + 1) }
     ensures refused { IfErr result (λ error.
         (p : Patterns) → p.kind ≡ kind → HoldsTrie p table.old.rows
-        → IsCopyRefusal table.old.limit (matches_size p) error) }
+        → IsRefusalOf table.old.limit (matches_size p) error) }
 {
     set_anchored_start_state(table)?;
     add_unanchored_start_state_loop(table, kind)?;

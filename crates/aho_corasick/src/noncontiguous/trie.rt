@@ -5,8 +5,11 @@ ghost use Rattle.std.specs.Iterator.{Drains, IsFinite};
 ghost use denote.Ref.{Bor};
 ghost use Rattle.aho_base.specs.declared.error.BuildError.TheVariants.{PatternIDOverflow, PatternTooLong};
 ghost use Rattle.aho_base.specs.Patterns.{Patterns};
-ghost use Rattle.aho_corasick.specs.Growing.{patterns_of, opposite, HasChild, IsFilledBelow, is_first, AwaitsWord, AddsWord, AddsPattern, AllRising, HoldsFirst, HoldsTrie, IsWithinLimit, IsRefusalOf, IsChildRefusal, IsWordRefusal, HasYielded, AreWithin};
-ghost use Rattle.aho_corasick.specs.Sizes.{in_force, IsAccepted, IsStopped};
+ghost use Rattle.aho_corasick.specs.Growing.{opposite, HasChild, IsFilledBelow, is_first, AwaitsWord, AddsWord, AddsPattern, AllRising, HoldsFirst, HoldsTrie, IsWithinLimit, IsChildRefusal, IsWordRefusal, AreWithin};
+ghost use Rattle.aho_corasick.specs.Taken.{patterns_of, HasYielded};
+ghost use Rattle.aho_corasick.specs.Refusals.{IsRefusalOf};
+ghost use Rattle.aho_corasick.specs.Sizes.{in_force};
+ghost use Rattle.aho_corasick.specs.Counted.{IsAccepted, IsStopped};
 ghost use Rattle.aho_corasick.specs.Tables.{row_at, matches_in, transitions_count};
 
 use crate::links::{FAIL, Table};
@@ -47,8 +50,8 @@ fn small(value: usize) -> SmallIndex
     index
 }
 
-/// The state from which each pattern's bytes are led.
-fn unanchored_start() -> StateID
+/// The root of the trie, from which each pattern's bytes are led: the start of the searches that are not anchored.
+pub(super) fn unanchored_start() -> StateID
     ensures start { result ≡ 2 }
 {
     let Ok(start) = StateID::new(2) else {

@@ -4,7 +4,7 @@ use Rattle.std.proofs.lemmas.Result.{IfErr-weaker}
 use denote.Ref.{Bor}
 use Rattle.aho_base.specs.declared.error.BuildError.TheVariants.{OutOfMemory}
 use Rattle.aho_corasick.specs.Automata.{IsOf}
-use Rattle.aho_corasick.specs.Growing.{patterns_of, AreAccepted, IsRefusal}
+use Rattle.aho_corasick.specs.Taken.{patterns_of, AreAccepted, IsRefusal}
 use Rattle.aho_corasick.specs.Settings.{Settings}
 use Rattle.aho_corasick.specs.Sizes.{kept_before, in_force}
 use Rattle.aho_corasick.proofs.Stops.{IfErr-given}

@@ -3,7 +3,7 @@ use Rattle.std.specs.Result.{IfErr, IfOk}
 use denote.Ref.{Bor}
 use Rattle.aho_base.specs.declared.error.BuildError.TheVariants.{OutOfMemory}
 use Rattle.aho_corasick.specs.Automata.{IsOf}
-use Rattle.aho_corasick.specs.Growing.{patterns_of, AreAccepted, IsRefusal}
+use Rattle.aho_corasick.specs.Taken.{patterns_of, AreAccepted, IsRefusal}
 use Rattle.aho_corasick.specs.Settings.{Settings}
 use Rattle.aho_corasick.specs.Sizes.{in_force}
 use Rattle.aho_corasick.proofs.noncontiguous.NFA.new.Goals as goal

@@ -1,10 +1,12 @@
 use Rattle.std.proofs.Common.{◌≡◌, ◌∙◌, length, sym, ap, arith}
 use Rattle.aho_base.specs.Laws.{longest}
 use Rattle.aho_base.specs.Patterns.{Patterns}
-use Rattle.aho_corasick.specs.Building.{IsBuilt, IsCopyRefusal}
+use Rattle.aho_corasick.specs.Building.{IsBuilt}
+use Rattle.aho_corasick.specs.Refusals.{IsRefusalOf}
 use Rattle.aho_corasick.specs.Built.{IsSound-from_built, four_states}
 use Rattle.aho_corasick.specs.Growing.{HoldsTrie}
-use Rattle.aho_corasick.specs.Sizes.{names_before, matches_size}
+use Rattle.aho_corasick.specs.Sizes.{matches_size}
+use Rattle.aho_corasick.specs.Counted.{names_before}
 use Rattle.aho_corasick.proofs.Stops.{IfErr-given}
 use Rattle.aho_corasick.proofs.noncontiguous.NFA.of_trie.Goals as goal
 
@@ -33,5 +35,5 @@ returns c = record {
 
 pub returns-in_err-link_states-clause-refused : goal.returns-in_err-link_states-clause-refused
 returns-in_err-link_states-clause-refused c =
-    IfErr-given (λ error. (p : Patterns) → p.kind ≡ c.args.kind → HoldsTrie p c.args.trie.table.rows → IsCopyRefusal c.args.trie.table.limit (matches_size p) error)
+    IfErr-given (λ error. (p : Patterns) → p.kind ≡ c.args.kind → HoldsTrie p c.args.trie.table.rows → IsRefusalOf c.args.trie.table.limit (matches_size p) error)
     c.from_residual.result c.in_err-link_states.field-0.0 c.from_residual.ensures.1 c.in_err-link_states.ensures.refused

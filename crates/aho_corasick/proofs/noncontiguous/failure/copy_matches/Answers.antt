@@ -1,6 +1,5 @@
 use Rattle.std.proofs.Common.{◌+◌, ◌<◌, ◌≤◌, ◌∙◌, ap, arith, length, refl, ℕ}
-use Rattle.aho_corasick.specs.Building.{IsCopyRefusal}
-use Rattle.aho_corasick.specs.Refusals.{refusal_at}
+use Rattle.aho_corasick.specs.Refusals.{IsRefusalOf, refusal_at}
 use Rattle.aho_corasick.specs.Tables.{Tables, matches_in, matches_count}
 use Rattle.aho_corasick.proofs.CopiedCounts.{copied_refused}
 use Rattle.aho_corasick.proofs.CopiedMatches.{copied_none, copied_more, copied_all}
@@ -22,7 +21,7 @@ loop-index-preserved c =
 pub returns-in_err-add_match-clause-refused : goal.returns-in_err-add_match-clause-refused
 returns-in_err-add_match-clause-refused c =
     let below : c.loop-index.index < length (matches_in c.args.table.now.rows c.args.from) = omega (arith, c.match_len-index-end.ensures.len) in
-    IfErr-given (IsCopyRefusal c.args.table.now.limit (matches_count c.args.table.now.rows + length (matches_in c.args.table.now.rows c.args.from)))
+    IfErr-given (IsRefusalOf c.args.table.now.limit (matches_count c.args.table.now.rows + length (matches_in c.args.table.now.rows c.args.from)))
     c.from_residual.result c.in_err-add_match.field-0.0 c.from_residual.ensures.1
     (copied_refused c.args.table.now.rows c.loop-index.table.rows c.args.to c.args.from c.loop-index.index c.args.table.now.limit c.in_err-add_match.field-0.0 c.requires.to below
     c.loop-index.invariant.rows (c.in_err-add_match.ensures.refused ∙ ap (λ (n : ℕ). refusal_at n (matches_count c.loop-index.table.rows)) c.loop-index.invariant.limit))

@@ -2,10 +2,11 @@ use Rattle.std.proofs.Common.{◌≡◌, ◌≤◌, ◌<◌, ◌++◌, ◌∷◌
 use Rattle.std.proofs.lemmas.List.{get_or_default}
 use Rattle.aho_base.specs.Trie.{is_node}
 use Rattle.aho_corasick.specs.Building.{IsLinking, root_loop}
-use Rattle.aho_corasick.specs.Sizes.{IsReadyRefusal, names_before, matches_size}
+use Rattle.aho_corasick.specs.Sizes.{matches_size}
+use Rattle.aho_corasick.specs.Counted.{IsReadyRefusal, names_before}
 use Rattle.aho_corasick.specs.Tables.{Tables, row_at, set_fail_of}
 use Rattle.aho_corasick.proofs.ChangedRows.{named_below}
-use Rattle.aho_corasick.proofs.CopiedCounts.{IsCopyRefusal-larger}
+use Rattle.aho_corasick.proofs.CopiedCounts.{IsRefusalOf-larger}
 use Rattle.aho_corasick.proofs.CountedLinks.{OnlyCopies-row, OnlyCopies-both}
 use Rattle.aho_corasick.proofs.LinksSoFar.{IsLinking-next}
 use Rattle.aho_corasick.proofs.LinkedChild.{IsLinking-start, IsLinking-end}
@@ -81,5 +82,5 @@ returns-in_err-visit-clause-refused c =
     IfErr-given (IsReadyRefusal c.args.kind c.args.table.now) c.from_residual-in_err-visit.result c.in_err-visit.field-0.0 c.from_residual-in_err-visit.ensures.1
     (λ p same ready none.
     let copies = c.transitions.invariant.copies in
-    IsCopyRefusal-larger c.args.table.now.limit (matches_size p) c.transitions.table.limit (matches_size p) c.in_err-visit.field-0.0 copies.limit (omega arith)
+    IsRefusalOf-larger c.args.table.now.limit (matches_size p) c.transitions.table.limit (matches_size p) c.in_err-visit.field-0.0 copies.limit (omega arith)
     (c.in_err-visit.ensures.refused p same (c.transitions.invariant.linking p (names_before p (length p.words)) same ready) (copies.fail_matches ∙ none)))

@@ -1,11 +1,13 @@
 use Rattle.std.proofs.Common.{◌≡◌, ℕ, ◌+◌, ◌∙◌, List, Option, refl, ap, arith, length}
 use Rattle.aho_base.specs.Patterns.{Patterns}
-use Rattle.aho_corasick.specs.Building.{IsCopyRefusal, ListsAllBytes}
+use Rattle.aho_corasick.specs.Building.{ListsAllBytes}
+use Rattle.aho_corasick.specs.Refusals.{IsRefusalOf}
 use Rattle.aho_corasick.specs.Growing.{HoldsTrie}
 use Rattle.aho_corasick.specs.Naming.{IsTrieOf}
-use Rattle.aho_corasick.specs.Sizes.{names_before, matches_size}
+use Rattle.aho_corasick.specs.Sizes.{matches_size}
+use Rattle.aho_corasick.specs.Counted.{names_before}
 use Rattle.aho_corasick.specs.Tables.{Row, matches_in, matches_count}
-use Rattle.aho_corasick.proofs.CopiedCounts.{IsCopyRefusal-larger, matches_count-start, matches_count-built}
+use Rattle.aho_corasick.proofs.CopiedCounts.{IsRefusalOf-larger, matches_count-start, matches_count-built}
 use Rattle.aho_corasick.proofs.CountedLinks.{ListsAllBytes-row, transitions_count-same}
 use Rattle.aho_corasick.proofs.ReadyStarts.{IsReady-of_kind}
 use Rattle.aho_corasick.proofs.Stops.{IfErr-given}
@@ -28,16 +30,16 @@ fill_failure_transitions-requires c =
 
 pub returns-in_err-set_anchored_start_state-clause-refused : goal.returns-in_err-set_anchored_start_state-clause-refused
 returns-in_err-set_anchored_start_state-clause-refused c =
-    IfErr-given (λ error. (p : Patterns) → p.kind ≡ c.args.kind → HoldsTrie p c.args.table.now.rows → IsCopyRefusal c.args.table.now.limit (matches_size p) error)
+    IfErr-given (λ error. (p : Patterns) → p.kind ≡ c.args.kind → HoldsTrie p c.args.table.now.rows → IsRefusalOf c.args.table.now.limit (matches_size p) error)
     c.from_residual.result c.in_err-set_anchored_start_state.field-0.0 c.from_residual.ensures.1
     (λ p same finished.
-    IsCopyRefusal-larger c.args.table.now.limit (matches_size p) c.args.table.now.limit (matches_count c.args.table.now.rows + length (matches_in c.args.table.now.rows 2))
+    IsRefusalOf-larger c.args.table.now.limit (matches_size p) c.args.table.now.limit (matches_count c.args.table.now.rows + length (matches_in c.args.table.now.rows 2))
     c.in_err-set_anchored_start_state.field-0.0 refl (matches_count-start p c.args.table.now.rows finished)
     (c.in_err-set_anchored_start_state.ensures.refused finished.listed.anchored_full))
 
 pub returns-in_err-add_unanchored_start_state_loop-clause-refused : goal.returns-in_err-add_unanchored_start_state_loop-clause-refused
 returns-in_err-add_unanchored_start_state_loop-clause-refused c =
-    IfErr-given (λ error. (p : Patterns) → p.kind ≡ c.args.kind → HoldsTrie p c.args.table.now.rows → IsCopyRefusal c.args.table.now.limit (matches_size p) error)
+    IfErr-given (λ error. (p : Patterns) → p.kind ≡ c.args.kind → HoldsTrie p c.args.table.now.rows → IsRefusalOf c.args.table.now.limit (matches_size p) error)
     c.from_residual-in_err-add_unanchored_start_state_loop.result c.in_err-add_unanchored_start_state_loop.field-0.0 c.from_residual-in_err-add_unanchored_start_state_loop.ensures.1
     (λ p same finished.
     let root_row = c.in_ok-set_anchored_start_state.ensures.led.others 2 (λ e. omega arith) in
@@ -49,10 +51,10 @@ returns-in_err-fill_failure_transitions-clause-refused c =
     let led = c.in_ok-set_anchored_start_state.ensures.led in
     let looped = c.in_ok-add_unanchored_start_state_loop.ensures.looped in
     let limit = c.in_ok-add_unanchored_start_state_loop.ensures.limit ∙ c.in_ok-set_anchored_start_state.ensures.limit in
-    IfErr-given (λ error. (p : Patterns) → p.kind ≡ c.args.kind → HoldsTrie p c.args.table.now.rows → IsCopyRefusal c.args.table.now.limit (matches_size p) error)
+    IfErr-given (λ error. (p : Patterns) → p.kind ≡ c.args.kind → HoldsTrie p c.args.table.now.rows → IsRefusalOf c.args.table.now.limit (matches_size p) error)
     c.from_residual-in_err-fill_failure_transitions.result c.in_err-fill_failure_transitions.field-0.0 c.from_residual-in_err-fill_failure_transitions.ensures.1
     (λ p same finished.
-    IsCopyRefusal-larger c.args.table.now.limit (matches_size p) c.add_unanchored_start_state_loop.new.table.limit (matches_size p)
+    IsRefusalOf-larger c.args.table.now.limit (matches_size p) c.add_unanchored_start_state_loop.new.table.limit (matches_size p)
     c.in_err-fill_failure_transitions.field-0.0 limit (omega arith)
     (c.in_err-fill_failure_transitions.ensures.refused p same
     (IsReady-of_kind p (names_before p (length p.words)) c.args.kind c.args.table.now.rows c.set_anchored_start_state.new.table.rows c.add_unanchored_start_state_loop.new.table.rows same finished.trie led looped)

@@ -1,8 +1,9 @@
 use Rattle.std.proofs.Common.{◌≡◌, ◌+◌, ◌<◌, ◌∙◌, ap, refl, subst, arith, length, ℕ}
 use Rattle.std.proofs.lemmas.Result.{on_ok_weaker, IfErr-weaker}
-use Rattle.aho_corasick.specs.Building.{IsLedBelow, append_matches, ListsAllBytes, IsCopyRefusal}
+use Rattle.aho_corasick.specs.Building.{IsLedBelow, append_matches, ListsAllBytes}
+use Rattle.aho_corasick.specs.Refusals.{IsRefusalOf}
 use Rattle.aho_corasick.specs.Tables.{Tables, Row, next_in, matches_in, matches_count, set_edge, edge_at, lists_byte}
-use Rattle.aho_corasick.proofs.CopiedCounts.{IsCopyRefusal-larger}
+use Rattle.aho_corasick.proofs.CopiedCounts.{IsRefusalOf-larger}
 use Rattle.aho_corasick.proofs.CountedLinks.{ListsAllBytes-set, transitions_count-append, matches_count-led}
 use Rattle.aho_corasick.proofs.ReadyStarts.{IsLedBelow-none, IsLedBelow-set, IsLedAsRoot-both}
 use Rattle.aho_corasick.proofs.Stops.{IfErr-given}
@@ -36,7 +37,7 @@ loop-byte-preserved c =
 
 pub returns-in_err-set-clause-refused : goal.returns-in_err-set-clause-refused
 returns-in_err-set-clause-refused c =
-    IfErr-given (λ error. ListsAllBytes c.args.table.now.rows 3 → IsCopyRefusal c.args.table.now.limit (matches_count c.args.table.now.rows + length (matches_in c.args.table.now.rows 2)) error)
+    IfErr-given (λ error. ListsAllBytes c.args.table.now.rows 3 → IsRefusalOf c.args.table.now.limit (matches_count c.args.table.now.rows + length (matches_in c.args.table.now.rows 2)) error)
     c.from_residual.result c.in_err-set.field-0.0 c.from_residual.ensures.1
     (λ listed.
     let clash =
@@ -62,10 +63,10 @@ returns c =
           (omega (arith, c.loop-byte.invariant.led.sized, c.anchored_start-anchored.ensures.start, c.requires.starts)) is
           ∙ c.loop-byte.invariant.transitions listed)
           c.copy_matches.ensures.copied;
-      refused = IfErr-weaker c.copy_matches.result (IsCopyRefusal c.loop-byte.table.limit (matches_count c.loop-byte.table.rows + length (matches_in c.loop-byte.table.rows c.unanchored_start-root.result)))
-          (λ error. ListsAllBytes c.args.table.now.rows 3 → IsCopyRefusal c.args.table.now.limit (matches_count c.args.table.now.rows + length (matches_in c.args.table.now.rows 2)) error)
+      refused = IfErr-weaker c.copy_matches.result (IsRefusalOf c.loop-byte.table.limit (matches_count c.loop-byte.table.rows + length (matches_in c.loop-byte.table.rows c.unanchored_start-root.result)))
+          (λ error. ListsAllBytes c.args.table.now.rows 3 → IsRefusalOf c.args.table.now.limit (matches_count c.args.table.now.rows + length (matches_in c.args.table.now.rows 2)) error)
           (λ error refusal listed.
-          IsCopyRefusal-larger c.args.table.now.limit (matches_count c.args.table.now.rows + length (matches_in c.args.table.now.rows 2))
+          IsRefusalOf-larger c.args.table.now.limit (matches_count c.args.table.now.rows + length (matches_in c.args.table.now.rows 2))
           c.loop-byte.table.limit (matches_count c.loop-byte.table.rows + length (matches_in c.loop-byte.table.rows c.unanchored_start-root.result)) error
           c.loop-byte.invariant.limit
           (omega (

@@ -1,7 +1,7 @@
-use Rattle.std.proofs.Common.{◌≡◌, ◌≢◌, ◌∙◌, sym, inr, arith}
+use Rattle.std.proofs.Common.{◌≡◌, ◌≢◌, ◌∙◌, sym, inl, arith}
 use Rattle.std.proofs.lemmas.Result.{on_ok_weaker, IfErr-weaker}
 use Rattle.aho_base.specs.declared.error.BuildError.TheVariants.{OutOfMemory}
-use Rattle.aho_corasick.specs.Sizes.{IsLinkingRefusal}
+use Rattle.aho_corasick.specs.Counted.{IsLinkingRefusal}
 use Rattle.aho_corasick.specs.Tables.{fail_in}
 use Rattle.aho_corasick.proofs.ComparedStates.{same-false, differ-false}
 use Rattle.aho_corasick.proofs.Stops.{IfErr-given}
@@ -73,7 +73,7 @@ returns c =
           (omega (arith, c.args.queue.now.ok.0)) (omega arith) c.index-parent.ensures c.transition-byte.ensures.listed c.transition-byte.ensures.leads other free c.child_link-fail.result c.child_link-fail.ensures.links
           c.args.table.now.limit c.link.new.table c.requires.linking c.in_ok-link.ensures.limit linked) c.join.ensures.joined;
       refused = IfErr-weaker c.join.result (λ error. error ≡ OutOfMemory) (IsLinkingRefusal c.args.kind c.args.queue.now.items c.args.head c.args.index c.args.table.now)
-          (λ error memory p same so_far none. inr memory) c.join.ensures.refused;
+          (λ error memory p same so_far none. inl memory) c.join.ensures.refused;
     }
 
 pub returns-in_err-link-clause-refused : goal.returns-in_err-link-clause-refused

@@ -5,8 +5,10 @@ use denote.Ref.{Bor}
 use Rattle.aho_base.specs.declared.error.BuildError.{BuildError}
 use Rattle.aho_base.specs.declared.error.BuildError.TheVariants.{PatternTooLong}
 use Rattle.aho_base.specs.declared.search.MatchKind.{MatchKind}
-use Rattle.aho_corasick.specs.Growing.{patterns_of, HasYielded, IsWithinLimit, IsPatternRefusal}
-use Rattle.aho_corasick.specs.Sizes.{in_force, IsStopped}
+use Rattle.aho_corasick.specs.Growing.{IsWithinLimit, IsPatternRefusal}
+use Rattle.aho_corasick.specs.Taken.{patterns_of, HasYielded}
+use Rattle.aho_corasick.specs.Sizes.{in_force}
+use Rattle.aho_corasick.specs.Counted.{IsStopped}
 use Rattle.aho_corasick.specs.declared.noncontiguous.Limits.{Limits}
 use Rattle.aho_corasick.proofs.Appended.{AwaitsWord-next, HoldsFirst-next, HoldsFirst-counted, HoldsTrie-next, IsNumbered-next, count-next, lengths-next, patterns_next, place-next}
 use Rattle.aho_corasick.proofs.Stops.{IfErr-given, AreWithin-none, AreWithin-next, HoldsFirst-room, IsAccepted-none, IsAccepted-next, IsStopped-first, IsStopped-number, IsStopped-length, IsStopped-pattern}

@@ -1,6 +1,8 @@
 use Rattle.std.proofs.Common.{◌≡◌, length, map, min}
-use Rattle.aho_corasick.specs.Growing.{patterns_of, AreWithin, HoldsTrie, IsWithinLimit}
-use Rattle.aho_corasick.specs.Sizes.{in_force, IsAccepted}
+use Rattle.aho_corasick.specs.Growing.{AreWithin, HoldsTrie, IsWithinLimit}
+use Rattle.aho_corasick.specs.Taken.{patterns_of}
+use Rattle.aho_corasick.specs.Sizes.{in_force}
+use Rattle.aho_corasick.specs.Counted.{IsAccepted}
 use Rattle.aho_corasick.proofs.noncontiguous.trie.build_trie.Given as goal
 
 abbrev pub invariant-loop-pattern : goal.invariant-loop-pattern
