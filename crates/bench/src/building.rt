@@ -217,3 +217,26 @@ fn a_builder_builds_as_it_is_set(rt: HostRuntime) -> Result<(), Fail> {
     );
     Ok(())
 }
+
+#[test]
+fn a_clone_is_as_large_and_finds_as_much(rt: HostRuntime) -> Result<(), Fail> {
+    let alloc = rt.alloc();
+    let patterns: [&[u8]; 3] = [b"abc", b"AB", b"abcd"];
+    let mut builder = Builder::new();
+    builder
+        .match_kind(MatchKind::LeftmostLongest)
+        .ascii_case_insensitive(true);
+    let nfa = builder.build(alloc, patterns.iter().copied())?;
+    let clone = nfa.try_clone()?;
+    assert_eq!(rt; clone.memory_usage(), nfa.memory_usage());
+    assert_eq!(rt; clone.min_pattern_len(), 2);
+    assert_eq!(rt; clone.max_pattern_len(), 4);
+    assert_eq!(rt; clone.patterns_len(), 3);
+    let found = clone.try_find(&Input::new(b"xABCDx"))?;
+    assert_eq!(rt;
+        found.map(|m| (m.pattern().as_usize(), m.start(), m.end())),
+        Some((2, 1, 5))
+    );
+    assert!(rt; clone.try_find(&Input::new(b"xAxBx"))?.is_none());
+    Ok(())
+}
