@@ -17,7 +17,17 @@ use aho_search::automaton::Automaton;
 use std::alloc::{AllocError, Global};
 use std::marker::Model;
 
-/// A noncontiguous automaton.
+/// A noncontiguous automaton: the trie of some patterns with failure links (Aho and Corasick 1975), for any of the three
+/// match kinds, with or without regard to the case of ASCII letters. It answers anchored and unanchored searches.
+///
+/// It takes memory in proportion to its transitions and listed patterns while it is built, and none while it is searched.
+///
+/// ```
+/// let patterns: [&[u8]; 2] = [b"samwise", b"sam"];
+/// let nfa = NFA::builder().match_kind(MatchKind::LeftmostFirst).build(alloc, patterns.iter().copied())?;
+/// let found = nfa.try_find(&Input::new(b"samwise"))?;
+/// // pattern 0 at 0..7
+/// ```
 #[derive(Drop)]
 pub struct NFA {
     match_kind: MatchKind,
@@ -55,7 +65,8 @@ impl NFA {
     ///
     /// # Errors
     ///
-    /// Too many patterns, a pattern that is too long, a full table, or want of memory.
+    /// `PatternIDOverflow`, `PatternTooLong` or `StateIDOverflow` where a pattern's number, its length in bytes, or an index
+    /// of a table is above the greatest; else want of memory.
     pub fn new<'p, I: Iterator<Item = &'p [u8]> + Drop>(
         alloc: Global,
         patterns: I,
@@ -284,7 +295,7 @@ pub struct Limits {
     pub length: usize,
 }
 
-/// How an automaton is built.
+/// How an automaton is built: the match kind, the case rule, the limits, and two settings that are kept for later layouts.
 #[derive(Clone, Drop)]
 pub struct Builder {
     match_kind: MatchKind,
@@ -341,8 +352,10 @@ impl Builder {
     ///
     /// # Errors
     ///
-    /// For each pattern in turn: its number is above the limit, its length is above the limit, a table would pass the
-    /// limit, or memory is wanted. The builder can be used again.
+    /// The first that the limits refuse of what is asked for: for each pattern in turn its number (`PatternIDOverflow`), its
+    /// length in bytes (`PatternTooLong`), and the indexes of its states, transitions and match (`StateIDOverflow`); after
+    /// the last pattern the indexes of the copied matches. Else want of memory. No pattern is taken after a refusal, and the
+    /// builder can be used again.
     pub fn build<'p, I: Iterator<Item = &'p [u8]> + Drop>(
         &self,
         alloc: Global,
