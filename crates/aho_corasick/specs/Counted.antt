@@ -12,10 +12,6 @@ use Rattle.aho_corasick.specs.Sizes.{kept_before, nodes_before, entries_for, mat
 use Rattle.aho_corasick.specs.Tables.{Row, Tables, matches_in, transitions_count, matches_count}
 use Rattle.aho_corasick.specs.declared.noncontiguous.Limits.{Limits}
 
--- the states in the order in which a build makes them, by their words
-abbrev pub names_before : Patterns → ℕ → List (Option (List ℕ))
-names_before p number = None ∷ None ∷ Some [] ∷ None ∷ map Some (nodes_before p number)
-
 -- the prefixes of a word that no kept pattern below this number begins with, from the shortest
 abbrev pub new_fronts : Patterns → ℕ → List ℕ → List (List ℕ)
 new_fronts p number word =
@@ -31,6 +27,10 @@ nodes_with p number more = nodes_before p number ++ new_fronts p number more
 abbrev pub names_of : List (List ℕ) → List (Option (List ℕ))
 names_of words = None ∷ None ∷ Some [] ∷ None ∷ map Some words
 
+-- the states in the order in which a build makes them, by their words
+abbrev pub names_before : Patterns → ℕ → List (Option (List ℕ))
+names_before p number = names_of (nodes_before p number)
+
 -- the table has a state for each of these nodes, the transitions into them, and this many listed patterns
 pub record HasNodes (p : Patterns) (words : List (List ℕ)) (kept : ℕ) (rows : List Row) : Type 0 where
   pub states : length rows ≡ 4 + length words
@@ -38,10 +38,8 @@ pub record HasNodes (p : Patterns) (words : List (List ℕ)) (kept : ℕ) (rows 
   pub matches : matches_count rows ≡ 1 + kept
 
 -- the trie of the patterns below this number has the states, transitions and matches that it should
-pub record IsCountedTrie (p : Patterns) (number : ℕ) (rows : List Row) : Type 0 where
-  pub states : length rows ≡ 4 + length (nodes_before p number)
-  pub transitions : transitions_count rows ≡ 769 + sum_by (entries_for p) (nodes_before p number)
-  pub matches : matches_count rows ≡ 1 + length (kept_before p number)
+abbrev pub IsCountedTrie : Patterns → ℕ → List Row → Type 0
+IsCountedTrie p number rows = HasNodes p (nodes_before p number) (length (kept_before p number)) rows
 
 -- nothing is refused while these patterns are taken
 pub record IsAccepted (limits : Limits) (p : Patterns) : Type 0 where
