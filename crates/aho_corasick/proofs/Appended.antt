@@ -12,8 +12,8 @@ use Rattle.aho_base.specs.Patterns.{Patterns}
 use Rattle.aho_base.specs.Trie.{begins, is_kept, is_word, kept_by, pattern_word}
 use Rattle.aho_corasick.specs.Growing.{IsNumbered, AwaitsWord, AddsPattern, HoldsFirst, HoldsTrie}
 use Rattle.aho_corasick.specs.Taken.{patterns_of}
-use Rattle.aho_corasick.specs.Sizes.{kept_before, new_nodes, nodes_before, entries_for}
-use Rattle.aho_corasick.specs.Counted.{names_before, names_of, new_fronts}
+use Rattle.aho_corasick.specs.Sizes.{kept_before, new_nodes, nodes_before, entries_for, new_fronts}
+use Rattle.aho_corasick.specs.Counted.{names_before, names_of}
 use Rattle.aho_corasick.specs.Naming.{name_at, longer, missing_at, IsTrie, IsTrieOf}
 use Rattle.aho_corasick.specs.Tables.{Row, next_in}
 

@@ -11,8 +11,8 @@ use Rattle.aho_base.specs.Trie.{begins, is_kept, pattern_word}
 use Rattle.aho_base.proofs.Begins.{begins-from}
 use Rattle.aho_base.proofs.Ranges.{filter-range_with_len_more}
 use Rattle.aho_corasick.proofs.Nodes.{is_node_among-front}
-use Rattle.aho_corasick.specs.Sizes.{kept_before, new_nodes, nodes_before}
-use Rattle.aho_corasick.specs.Counted.{new_fronts, nodes_with, names_of}
+use Rattle.aho_corasick.specs.Sizes.{kept_before, new_nodes, nodes_before, new_fronts}
+use Rattle.aho_corasick.specs.Counted.{nodes_with, names_of}
 
 any-filter : (f g : ℕ → Bool) (ks : List ℕ) → list_any f (filter g ks) ≡ list_any (λ k. g k && f k) ks
 any-filter f g [] = refl

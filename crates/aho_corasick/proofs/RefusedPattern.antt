@@ -15,8 +15,8 @@ use Rattle.aho_base.proofs.Inserted.{left_out-walk}
 use Rattle.aho_corasick.specs.Growing.{is_first, IsNumbered, HasWalked, EndsAt, IsChildRefusal, IsPatternRefusal, missing_both}
 use Rattle.aho_corasick.specs.Naming.{name_at, longer, missing_at}
 use Rattle.aho_corasick.specs.Refusals.{refusal_at}
-use Rattle.aho_corasick.specs.Sizes.{kept_before, nodes_before, entries_for}
-use Rattle.aho_corasick.specs.Counted.{names_of, nodes_with, new_fronts}
+use Rattle.aho_corasick.specs.Sizes.{kept_before, nodes_before, entries_for, new_fronts}
+use Rattle.aho_corasick.specs.Counted.{names_of, nodes_with}
 use Rattle.aho_corasick.specs.Tables.{Row, next_in, matches_in, transitions_count, matches_count}
 use Rattle.aho_corasick.proofs.CountedTrie.{missing-entries}
 use Rattle.aho_corasick.proofs.Ends.{front_of-word, left_out-front, passed_none, kind_first}

@@ -1,23 +1,14 @@
 -- The sizes of a build on its way: what the trie has so far, in which order, and why the trie or the links stopped.
-use Rattle.std.specs.Prelude.{◌≡◌, ℕ, ◌+◌, ◌⊎◌, not, List, [], ◌∷◌, ◌++◌, length, map, filter, take, sum_by, find, Option, Some, None}
-use Rattle.std.specs.List.{list_any, range_with_len}
+use Rattle.std.specs.Prelude.{◌≡◌, ℕ, ◌+◌, ◌⊎◌, List, [], ◌∷◌, ◌++◌, length, map, sum_by, find, Option, Some, None}
 use Rattle.aho_base.specs.declared.error.BuildError.{BuildError}
 use Rattle.aho_base.specs.declared.error.BuildError.TheVariants.{OutOfMemory}
 use Rattle.aho_base.specs.declared.search.MatchKind.{MatchKind}
 use Rattle.aho_base.specs.Patterns.{Patterns}
-use Rattle.aho_base.specs.Trie.{begins, pattern_word}
 use Rattle.aho_corasick.specs.Building.{IsLinking, IsReady}
 use Rattle.aho_corasick.specs.Refusals.{IsRefusalOf}
-use Rattle.aho_corasick.specs.Sizes.{kept_before, nodes_before, entries_for, matches_size, Growth, is_refused, trie_growth, refusal_of, IsCause}
+use Rattle.aho_corasick.specs.Sizes.{kept_before, new_fronts, nodes_before, entries_for, matches_size, Growth, is_refused, trie_growth, refusal_of, IsCause}
 use Rattle.aho_corasick.specs.Tables.{Row, Tables, matches_in, transitions_count, matches_count}
 use Rattle.aho_corasick.specs.declared.noncontiguous.Limits.{Limits}
-
--- the prefixes of a word that no kept pattern below this number begins with, from the shortest
-abbrev pub new_fronts : Patterns → ℕ → List ℕ → List (List ℕ)
-new_fronts p number word =
-    filter
-    (λ front. not (list_any (λ earlier. begins front (pattern_word p earlier)) (kept_before p number)))
-    (map (λ size. take size word) (range_with_len 1 (length word)))
 
 -- the nonempty nodes of the patterns below this number and of the first bytes of one more
 abbrev pub nodes_with : Patterns → ℕ → List ℕ → List (List ℕ)

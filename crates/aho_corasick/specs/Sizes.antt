@@ -15,12 +15,16 @@ use Rattle.aho_corasick.specs.declared.noncontiguous.Limits.{Limits}
 abbrev pub kept_before : Patterns → ℕ → List ℕ
 kept_before p number = filter (is_kept p) (range_with_len 0 number)
 
--- the prefixes of a pattern that no earlier kept pattern begins with, from the shortest
-abbrev pub new_nodes : Patterns → ℕ → List (List ℕ)
-new_nodes p number =
+-- the prefixes of a word that no kept pattern below this number begins with, from the shortest
+abbrev pub new_fronts : Patterns → ℕ → List ℕ → List (List ℕ)
+new_fronts p number word =
     filter
-    (λ word. not (list_any (λ earlier. begins word (pattern_word p earlier)) (kept_before p number)))
-    (map (λ size. take size (pattern_word p number)) (range_with_len 1 (length (pattern_word p number))))
+    (λ front. not (list_any (λ earlier. begins front (pattern_word p earlier)) (kept_before p number)))
+    (map (λ size. take size word) (range_with_len 1 (length word)))
+
+-- those of a pattern
+abbrev pub new_nodes : Patterns → ℕ → List (List ℕ)
+new_nodes p number = new_fronts p number (pattern_word p number)
 
 -- the nonempty nodes of the kept patterns below this number, each once, in the order in which a build meets them
 abbrev pub nodes_before : Patterns → ℕ → List (List ℕ)
