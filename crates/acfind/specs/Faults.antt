@@ -1,8 +1,8 @@
 -- What a fault is told by: its status and its text.
-use Rattle.std.specs.Prelude.{ℕ, List, codes}
+use Rattle.std.specs.Prelude.{ℕ, List, ◌++◌, codes}
 use Rattle.aho_base.specs.Texts.{build_error_text, match_error_text}
 use Rattle.acfind.specs.declared.fault.Fault.{Fault}
-use Rattle.acfind.specs.declared.fault.Fault.TheVariants.{Usage, Build, Search, OutOfMemory, Read, Write}
+use Rattle.acfind.specs.declared.fault.Fault.TheVariants.{Usage, Build, Search, OutOfMemory, Read, Write, WriteZero}
 
 -- 3 where a device fails, and else 2
 abbrev pub status_of_fault : Fault → ℕ
@@ -12,6 +12,7 @@ status_of_fault (Search error) = 2
 status_of_fault OutOfMemory = 2
 status_of_fault Read = 3
 status_of_fault Write = 3
+status_of_fault WriteZero = 3
 
 -- what `{}` writes of a fault
 abbrev pub fault_text : Fault → List ℕ
@@ -21,3 +22,18 @@ fault_text (Search error) = match_error_text error
 fault_text OutOfMemory = codes "out of memory"
 fault_text Read = codes "read fault"
 fault_text Write = codes "write fault"
+fault_text WriteZero = codes "write took no bytes"
+
+-- the line that tells it
+abbrev pub line_of_fault : Fault → List ℕ
+line_of_fault fault = fault_text fault ++ codes "\n"
+
+-- what a fault of right words leaves: a refused build leaves all unread, only a write's fault something written
+abbrev pub Leaves : (unread unwritten begun : Type 0) → Fault → Type 0
+Leaves unread unwritten begun Usage = ⊥
+Leaves unread unwritten begun (Build error) = unread × unwritten
+Leaves unread unwritten begun (Search error) = ⊥
+Leaves unread unwritten begun OutOfMemory = unwritten
+Leaves unread unwritten begun Read = unwritten
+Leaves unread unwritten begun Write = begun
+Leaves unread unwritten begun WriteZero = begun

@@ -1,4 +1,4 @@
-pub mod Answers
 pub mod Asked
 pub mod Faults
+pub mod Answers
 pub mod Words

@@ -16,19 +16,21 @@ kind_by word =
 -- PATTERN..: at least one
 abbrev pub patterns_by : MatchKind → Bool → List (List ℕ) → Option Patterns
 patterns_by kind ignore_case [] = None
-patterns_by kind ignore_case (word ∷ words) = Some (record { words = word ∷ words; kind = kind; ignore_case = ignore_case })
+patterns_by kind ignore_case (word ∷ words) =
+    Some (record { words = word ∷ words; kind = kind; ignore_case = ignore_case })
 
 -- [-i] PATTERN..: `-i` sets the case rule in the first place, and is a pattern in any other
 abbrev pub cased_by : MatchKind → List (List ℕ) → Option Patterns
 cased_by kind [] = None
-cased_by kind (word ∷ words) = if bytes_eq word (codes "-i") then patterns_by kind true words else patterns_by kind false (word ∷ words)
+cased_by kind (word ∷ words) =
+    if bytes_eq word (codes "-i") then patterns_by kind true words else patterns_by kind false (word ∷ words)
 
 -- KIND [-i] PATTERN..
 abbrev pub find_by : List (List ℕ) → Option Patterns
 find_by [] = None
 find_by (word ∷ words) = option_and_then (λ kind. cased_by kind words) (kind_by word)
 
--- find KIND [-i] PATTERN..: the patterns with their match kind and case rule, or none where the words are wrong
+-- find KIND [-i] PATTERN..: the patterns with their kind and case rule, or none where the words are wrong
 abbrev pub asked_by : List (List ℕ) → Option Patterns
 asked_by [] = None
 asked_by (word ∷ words) = if bytes_eq word (codes "find") then find_by words else None

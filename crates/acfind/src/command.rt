@@ -63,7 +63,8 @@ fn parse_cased(kind: MatchKind, words: &[String]) -> Option<Find<'_>>
 
 /// PATTERN..
 fn parse_patterns(kind: MatchKind, ignore_case: bool, words: &[String]) -> Option<Find<'_>>
-    ensures asked { option_map patterns_of result ≡ patterns_by kind ignore_case (map string_bytes words.now) }
+    ensures asked { option_map patterns_of result
+        ≡ patterns_by kind ignore_case (map string_bytes words.now) }
 {
     if words.is_empty() {
         return None;

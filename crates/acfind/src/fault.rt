@@ -1,10 +1,14 @@
 //! Why a call answers nothing.
 
-ghost use Rattle.std.specs.Prelude.{◌≡◌};
+ghost use Rattle.std.specs.Prelude.{◌≡◌, IfOk};
 
 use aho_base::error::{BuildError, MatchError};
 use std::alloc::AllocError;
 use std::fmt;
+use std::fmt::{InlineText, Write};
+
+/// The room for a fault's line. The longest is that of a pattern's number, with two numbers of twenty digits: 130 bytes.
+const LINE_CAPACITY: usize = 160;
 
 /// Why a call answers nothing.
 #[derive(Drop)]
@@ -21,10 +25,13 @@ pub enum Fault {
     Read,
     /// Standard output cannot be written.
     Write,
+    /// A write to standard output took no bytes.
+    WriteZero,
 }
 
 impl Fault {
-    ghost use Rattle.acfind.specs.Faults.{status_of_fault};
+    ghost use Rattle.std.specs.Fmt.InlineText.{inline_text};
+    ghost use Rattle.acfind.specs.Faults.{status_of_fault, line_of_fault};
 
     /// The exit status: 3 where a device fails, and else 2.
     pub fn status(&self) -> u8
@@ -32,8 +39,17 @@ impl Fault {
     {
         match self {
             Fault::Usage | Fault::Build(_) | Fault::Search(_) | Fault::OutOfMemory => 2,
-            Fault::Read | Fault::Write => 3,
+            Fault::Read | Fault::Write | Fault::WriteZero => 3,
         }
+    }
+
+    /// The text and a line end. It takes no memory, so want of memory can be told too.
+    pub fn line(&self) -> Result<InlineText<{ LINE_CAPACITY }>, fmt::Error>
+        ensures line { IfOk result (λ line. inline_text line ≡ line_of_fault self.now) }
+    {
+        let mut line = InlineText::new();
+        writeln!(line, "{self}")?;
+        Ok(line)
     }
 }
 
@@ -84,6 +100,7 @@ impl fmt::Display for Fault {
             Fault::OutOfMemory => f.write_str("out of memory"),
             Fault::Read => f.write_str("read fault"),
             Fault::Write => f.write_str("write fault"),
+            Fault::WriteZero => f.write_str("write took no bytes"),
         }
     }
 }

@@ -5,6 +5,14 @@
 //! or writing fails, and then a line on standard error says why.
 #![tactic(auto)]
 
+ghost use Rattle.std.specs.Prelude.{◌≢◌, ◌≡◌, ◌<◌, ◌≤◌, map, Some, None, IfOk, IfErr, OnErr, string_bytes};
+ghost use Rattle.std.specs.IoError.{error_kind};
+ghost use Rattle.std.specs.Process.{exit_status};
+ghost use Rattle.aho_base.specs.Patterns.{Patterns};
+ghost use Rattle.acfind.specs.Answers.{AppendsBeginning, Tells};
+ghost use Rattle.acfind.specs.Faults.{status_of_fault, line_of_fault};
+ghost use Rattle.acfind.specs.Words.{asked_by};
+
 mod command;
 mod fault;
 mod print;
@@ -12,30 +20,69 @@ mod run;
 
 use fault::Fault;
 use run::{report, run};
-use std::io::{BufWriter, ErrorKind};
+use std::alloc::{Alloc, Global};
+use std::env::Env;
+use std::io::{BufWriter, ErrorKind, Read, Write};
 use std::process::ExitCode;
 use std::{env, io};
 
 fn main(rt: HostRuntime) -> ExitCode {
-    let status = match words(&rt) {
-        Ok(words) => run(
-            rt.alloc(),
-            words.as_slice(),
-            &mut rt.stdin(),
-            &mut buffered(&rt),
-            &mut rt.stderr(),
-        ),
-        Err(fault) => report(&fault, &mut rt.stderr()),
+    exit_code(
+        rt.alloc(),
+        words(&rt),
+        &mut rt.stdin(),
+        &mut buffered(&rt),
+        &mut rt.stderr(),
+    )
+}
+
+/// Runs on the words, or tells why there are none, and ends with the status.
+fn exit_code<R: Read, W: Write, E: Write>(
+    alloc: Global,
+    words: Result<Vec<String>, Fault>,
+    input: &mut R,
+    output: &mut W,
+    errors: &mut E,
+) -> ExitCode
+    // Where there are no words, the fault is told and nothing else is done.
+    ensures faulty { IfErr words (λ fault. exit_status result ≡ status_of_fault fault) }
+    ensures told { IfErr words (λ fault.
+        AppendsBeginning (E.contents errors.old) (E.contents errors.new) (line_of_fault fault)) }
+    ensures unread { OnErr words (input.new ≡ input.old) }
+    ensures unwritten { OnErr words (output.new ≡ output.old) }
+
+    // Where there are words, the status is that of the run.
+    ensures usage { IfOk words (λ words.
+        asked_by (map string_bytes words.items) ≡ None → exit_status result ≡ 2) }
+    ensures tells { IfOk words (λ words. (p : Patterns)
+        → asked_by (map string_bytes words.items) ≡ Some p → exit_status result < 2
+        → Tells p (R.remaining input.old) (R.remaining input.new)
+        (W.contents output.old) (W.contents output.new) (exit_status result)) }
+    ensures bound { exit_status result ≤ 3 }
+{
+    let status = match words {
+        Ok(words) => run(alloc, words.as_slice(), input, output, errors),
+        Err(fault) => report(&fault, errors),
     };
     ExitCode::from(status)
 }
 
-/// The words after the program's name. Words that are not UTF-8 are wrong words.
-fn words(rt: &HostRuntime) -> Result<Vec<String>, Fault> {
+/// The words after the program's name, in order.
+fn words<R: Env + Alloc<A = Global>>(rt: &R) -> Result<Vec<String>, Fault> {
     match env::args(rt) {
         Ok(words) => Ok(words.skip(1).collect(rt.alloc())?),
-        Err(error) if error.kind() == ErrorKind::OutOfMemory => Err(Fault::OutOfMemory),
-        Err(_) => Err(Fault::Usage),
+        Err(error) => Err(fault_of_words(&error)),
+    }
+}
+
+/// Why there are no words: memory is wanted, or one of them is not UTF-8, and such words are wrong.
+fn fault_of_words(error: &io::Error) -> Fault
+    ensures memory { error_kind error.now ≡ ErrorKind.OutOfMemory → result ≡ Fault.OutOfMemory }
+    ensures other { error_kind error.now ≢ ErrorKind.OutOfMemory → result ≡ Fault.Usage }
+{
+    match error.kind() {
+        ErrorKind::OutOfMemory => Fault::OutOfMemory,
+        _ => Fault::Usage,
     }
 }
 
@@ -46,3 +93,6 @@ fn buffered(rt: &HostRuntime) -> BufWriter<io::Stdout> {
         Err(_) => BufWriter::with_capacity(rt.alloc(), 0, rt.stdout()).unwrap(),
     }
 }
+
+#[cfg(test)]
+mod tests;

@@ -70,6 +70,8 @@ pub record Reads {S : Type 0} (p : Patterns) (kind : MatchKind) (lengths : List 
   -- a leftmost kind is dead just where the word's own state is; until then a match's start is near
   pub dead_is : (w : List ℕ) (s : S) → kind ≢ Standard → held No w s → dead s ≡ is_none (held_after p No w)
   pub near : (w : List ℕ) (s : S) (m : Occurrence) → kind ≢ Standard → held No w s → dead s ≡ false → BestAfter p No w (Some m) → length w ≤ m.start + longest lengths
+  -- an anchored search is dead once it has read more than the longest pattern
+  pub anchored_near : (w : List ℕ) (s : S) → held Yes w s → dead s ≡ false → length w ≤ longest lengths
   -- Standard: match lists are the suffixes; anchored the same until the search has ended, where the word begins no pattern
   pub lists : (w : List ℕ) (s : S) → kind ≡ Standard → held No w s → list s ≡ patterns_ending p w
   pub anchored_lists : (w : List ℕ) (s : S) → kind ≡ Standard → held Yes w s → dead s ≡ false → list s ≡ patterns_ending p w

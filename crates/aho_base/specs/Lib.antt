@@ -1,4 +1,5 @@
 -- In the order of docs/RULES.md.
+pub mod Numbers
 pub mod Patterns
 pub mod Search
 pub mod Bytes
@@ -18,6 +19,6 @@ pub mod Step
 pub mod Held
 pub mod Among
 pub mod Laws
-pub mod WordStatements
-pub mod Statements
 pub mod Texts
+pub mod Steps
+pub mod Impls

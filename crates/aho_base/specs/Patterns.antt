@@ -1,4 +1,4 @@
--- What is searched for. Every definition of this library takes this one record.
+-- What is searched for. Every definition that speaks of patterns takes this one record.
 use Rattle.std.specs.Prelude.{ℕ, List, [], Bool, length, slice_index_or}
 use Rattle.std.specs.List.{range_with_len}
 use Rattle.aho_base.specs.declared.search.MatchKind.{MatchKind}

@@ -5,6 +5,7 @@ ghost use Rattle.aho_base.specs.Texts.{kind_name};
 ghost use Rattle.aho_base.specs.declared.error.MatchErrorKind.TheVariants.{InvalidInputAnchored, InvalidInputUnanchored, UnsupportedStream, UnsupportedOverlapping, UnsupportedEmpty};
 
 use crate::search::{MatchKind, PatternID};
+use std::error::Error;
 use std::fmt;
 use std::marker::Model;
 
@@ -64,6 +65,8 @@ impl fmt::Display for BuildError {
         }
     }
 }
+
+impl Error for BuildError {}
 
 /// The reasons for which a search is refused.
 #[derive(Clone, Copy, Debug, PartialEq, Eq)]
@@ -197,6 +200,8 @@ impl fmt::Display for MatchError {
         }
     }
 }
+
+impl Error for MatchError {}
 
 #[cfg(test)]
 mod tests {

@@ -3,5 +3,5 @@
 #![tactic(auto)]
 
 pub mod error;
-pub mod laws;
+pub mod impls;
 pub mod search;

@@ -39,7 +39,10 @@ impl Model for Match {
 
     ghost invariant = { λ m. m.span.start ≤ m.span.end };
 
-    ghost inverse = { λ found. record { pattern = found.pattern; span = record { start = found.start; end = found.end } } };
+    ghost inverse = { λ found. record {
+      pattern = found.pattern;
+      span = record { start = found.start; end = found.end };
+    } };
 }
 
 impl Match {
@@ -116,8 +119,8 @@ pub enum MatchKind {
 
 /// What is searched, and how: a haystack with a span of it, anchored or not, earliest or not.
 ///
-/// The span lies in the haystack, and its start is at most one above its end. A search whose start is above its end is
-/// done: it finds nothing.
+/// The span lies in the haystack, and its start is at most one above its end. A search whose start
+/// is above its end is done: it finds nothing.
 #[derive(Clone)]
 pub struct Input<'h> {
     haystack: &'h [u8],
@@ -143,9 +146,16 @@ impl<'h> Model for Input<'h> {
 
     ghost Value = { Search };
 
-    ghost view = { λ input. record { haystack = input.haystack.now; start = input.span.start; end = input.span.end; anchored = input.anchored; earliest = input.earliest } };
+    ghost view = { λ input. record {
+      haystack = input.haystack.now;
+      start = input.span.start;
+      end = input.span.end;
+      anchored = input.anchored;
+      earliest = input.earliest;
+    } };
 
-    ghost invariant = { λ input. (input.span.end ≤ length input.haystack.now) × (input.span.start ≤ input.span.end + 1) };
+    ghost invariant = { λ input. (input.span.end ≤ length input.haystack.now)
+        × (input.span.start ≤ input.span.end + 1) };
 }
 
 impl<'h> Input<'h> {
@@ -155,7 +165,13 @@ impl<'h> Input<'h> {
 
     /// The whole haystack, not anchored, not earliest.
     pub fn new(haystack: &'h [u8]) -> Input<'h>
-        ensures whole { result ≡ record { haystack = haystack.now; start = 0; end = length haystack.now; anchored = No; earliest = false } }
+        ensures whole { result ≡ record {
+          haystack = haystack.now;
+          start = 0;
+          end = length haystack.now;
+          anchored = No;
+          earliest = false;
+        } }
     {
         Input {
             haystack,

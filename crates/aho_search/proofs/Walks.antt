@@ -3,7 +3,7 @@ use Rattle.std.proofs.Common.{◌≡◌, ◌≢◌, ℕ, ◌+◌, ◌-◌, ◌<�
 use Rattle.std.specs.Prelude.{Option, Some, None, is_some, slice_range}
 use Rattle.std.proofs.lemmas.Bool.{cases_lt}
 use Rattle.aho_base.specs.declared.search.Anchored.{Anchored}
-use Rattle.aho_base.specs.declared.search.Anchored.TheVariants.{No}
+use Rattle.aho_base.specs.declared.search.Anchored.TheVariants.{No, Yes}
 use Rattle.aho_base.specs.declared.search.MatchKind.{MatchKind}
 use Rattle.aho_base.specs.declared.search.MatchKind.TheVariants.{Standard}
 use Rattle.aho_base.specs.Answer.{IsAnswer}
@@ -164,3 +164,9 @@ module _ {p : Patterns} {kind : MatchKind} {lengths : List ℕ} {held : Anchored
   near_further at sid best m unanchored leftmost within alive s e =
       near_of_part at sid s.part m leftmost within alive (subst (λ (x : Anchored). held x (slice_range haystack start at) sid) unanchored s.held_now)
       (subst (λ (x : Anchored). BestAfter p x (slice_range haystack start at) s.part) unanchored s.part_best) (s.is ∙ e)
+
+  -- until the state is dead, an anchored search has read no more than the longest pattern
+  pub anchored_near_further : (at sid : ℕ) (best : Option Occurrence) → anchored ≡ Yes → start ≤ at → at ≤ length haystack → dead sid ≡ false → Stands at sid best → at ≤ start + longest lengths
+  anchored_near_further at sid best is_anchored le within alive s =
+      let is_held : held Yes (slice_range haystack start at) sid = subst (λ (x : Anchored). held x (slice_range haystack start at) sid) is_anchored s.held_now in
+      omega (arith, laws.anchored_near (slice_range haystack start at) sid is_held alive, length_part haystack start at within)

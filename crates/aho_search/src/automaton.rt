@@ -1,26 +1,26 @@
 //! Automata: what each state tells of the bytes that were read, and the search that follows from it.
 //!
 //! An automaton is read one byte at a time. It starts in the state that `start_state` answers, and each byte leads to
-//! the next state. A state lists the patterns that end where it stands, the best of them first, and `try_find` reads
-//! the answer of a search off these lists. What it takes for that to be the right answer are the trait's laws: whoever
-//! implements the trait proves them once, and each search is proved from them alone.
+//! the next state. A state lists patterns, the best that ends where it stands first, and `try_find` reads the answer of
+//! a search off these lists. What it takes for that to be the right answer are the trait's laws: whoever implements the
+//! trait proves them once, and each search is proved from them alone.
 
 ghost use Rattle.std.specs.Prelude.{◌≡◌, ℕ, List, [], ◌∷◌, ◌++◌, Bool, true, false, Option, Result, IsOk, IfOk, IfErr, Ok, Err, None, Some, ◌+◌, ◌<◌, ◌≤◌, ◌^◌, ◌↔◌, IsTrue, length, slice_get, slice_index};
 ghost use Rattle.aho_base.specs.Answer.{IsAnswer};
 ghost use Rattle.aho_base.specs.Laws.{Reads, longest, shortest};
+ghost use Rattle.aho_base.specs.Numbers.{greatest_index};
 ghost use Rattle.aho_base.specs.Patterns.{Patterns};
 ghost use Rattle.aho_base.specs.declared.error.MatchErrorKind.{MatchErrorKind};
 ghost use Rattle.aho_base.specs.declared.search.Anchored.{Anchored};
 ghost use Rattle.aho_base.specs.declared.search.MatchKind.{MatchKind};
+ghost use Rattle.aho_base.specs.Steps.{GoesOn, IsPaid};
 
 pub use crate::find::find_in;
 pub use crate::walk::{Counted, Walk};
 use aho_base::error::MatchError;
-use aho_base::search::{
-    Anchored, Bytes, Input, Match, MatchKind, PatternID, SmallIndex, Span, StateID, Work,
-};
+use aho_base::search::{Anchored, Bytes, Input, Match, MatchKind, PatternID, Span, StateID, Work};
 
-/// An automaton that reads bytes, and tells which patterns end where it stands.
+/// An automaton that reads bytes, and tells the best match that ends where it stands.
 pub trait Automaton {
     /// It is the automaton of these patterns, under their match kind and case rule.
     ghost is_of: { Self → Patterns → Type 0 };
@@ -37,20 +37,26 @@ pub trait Automaton {
     /// The lengths of the patterns, by number.
     ghost lengths: { Self → List ℕ };
 
-    /// The patterns that end where the state is held, the best of them first.
+    /// The patterns that the state lists, the best that ends where it is held first; for `Standard` all that end there.
     ghost list: { Self → ℕ → List ℕ };
 
-    /// Whether the state is dead: no byte leads away from it, and it lists no pattern.
+    /// Whether the state is dead: each byte leads to a dead state again, and it lists no pattern.
     ghost dead: { Self → ℕ → Bool };
 
-    /// Whether a search has to look at the state.
+    /// Whether a search has to look at the state: each dead state is special, and each that lists a pattern.
     ghost special: { Self → ℕ → Bool };
 
-    /// Whether the state is a start.
+    /// Whether the state is a start: an unanchored search that holds it again goes on as if it began there.
     ghost starts: { Self → ℕ → Bool };
 
-    /// How far the state is from the start: what its steps back may cost.
+    /// How far the state is from the start of a search, where it is 0: what the steps back may cost.
     ghost depth: { Self → ℕ → ℕ };
+
+    /// The state that a byte leads to: `next_state` and `step` both answer it.
+    ghost next: { Self → Anchored → ℕ → ℕ → ℕ };
+
+    /// The look-ups of a step, by the bytes that were read and the byte that follows.
+    ghost lookups: { Self → Patterns → Anchored → List ℕ → ℕ → ℕ };
 
     /// What `start_state` answers.
     ghost start: { Self → Anchored → Result ℕ MatchErrorKind };
@@ -67,14 +73,17 @@ pub trait Automaton {
         ensures start { result ≡ start self.now anchored }
         ensures valid { IfOk result (valid self.now) }
         ensures shallow { IfOk result (λ sid. depth self.now sid ≡ 0) }
-        ensures begins { IfOk result (λ sid. (p : Patterns) → is_of self.now p → held self.now p anchored [] sid) };
+        ensures begins { IfOk result (λ sid. (p : Patterns) → is_of self.now p →
+            held self.now p anchored [] sid) };
 
     /// The state after one more byte.
     fn next_state(&self, anchored: Anchored, sid: StateID, byte: u8) -> StateID
         requires valid { valid self.now sid }
+        ensures next { result ≡ next self.now anchored sid byte }
         ensures valid { valid self.now result }
-        ensures goes_on { (p : Patterns) (word : List ℕ) → is_of self.now p → held self.now p anchored word sid →
-            held self.now p anchored (word ++ byte ∷ []) result };
+        ensures dead_stays { dead self.now sid ≡ true → dead self.now result ≡ true }
+        ensures goes_on { (p : Patterns) → is_of self.now p →
+            GoesOn (held self.now p anchored) sid byte result };
 
     /// The state after one more byte, with each look-up of a transition added to `work`.
     ///
@@ -82,11 +91,16 @@ pub trait Automaton {
     fn step(&self, anchored: Anchored, sid: StateID, byte: u8, work: &mut Work) -> StateID
         requires valid { valid self.now sid }
         requires room { work.old + depth self.now sid + 2 < 2 ^ 128 }
+        ensures next { result ≡ next self.now anchored sid byte }
         ensures valid { valid self.now result }
-        ensures goes_on { (p : Patterns) (word : List ℕ) → is_of self.now p → held self.now p anchored word sid →
-            held self.now p anchored (word ++ byte ∷ []) result }
-        ensures cost { work.new + depth self.now result ≤ work.old + depth self.now sid + 2 }
-        ensures grows { work.old ≤ work.new };
+        ensures dead_stays { dead self.now sid ≡ true → dead self.now result ≡ true }
+        ensures goes_on { (p : Patterns) → is_of self.now p →
+            GoesOn (held self.now p anchored) sid byte result }
+        ensures cost { IsPaid (depth self.now) sid result work.old work.new }
+        ensures grows { work.old ≤ work.new }
+        ensures counted { (p : Patterns) (word : List ℕ) → is_of self.now p →
+            held self.now p anchored word sid →
+            work.new ≡ work.old + lookups self.now p anchored word byte };
 
     /// Whether a search has to look at the state: each dead state is special, and each that lists a pattern.
     fn is_special(&self, sid: StateID) -> bool
@@ -103,7 +117,7 @@ pub trait Automaton {
         requires valid { valid self.now sid }
         ensures is_match { IsTrue result ↔ (0 < length (list self.now sid)) };
 
-    /// Whether the state is a start, in which nothing was read that a match could begin with.
+    /// Whether the state is a start, so that no match that ends later starts before it.
     fn is_start(&self, sid: StateID) -> bool
         requires valid { valid self.now sid }
         ensures starts { result ≡ starts self.now sid };
@@ -139,14 +153,14 @@ pub trait Automaton {
     /// How many bytes the longest pattern has; 0 where there is no pattern.
     fn max_pattern_len(&self) -> usize
         ensures longest { result ≡ longest (lengths self.now) }
-        ensures bound { result ≤ SmallIndex.MAX };
+        ensures bound { result ≤ greatest_index };
 
-    /// How many bytes of memory it holds.
+    /// How many bytes of memory it holds, by the stated sizes of its parts.
     fn memory_usage(&self) -> usize
         ensures memory { result ≡ memory self.now };
 
     /// What the states tell of the bytes that were read: the first pattern that a state lists is the best that ends
-    /// there, a dead state is final, and what begins in a start begins there.
+    /// there, a dead state is final, and what ends after a start that is held again starts there or later.
     ghost laws: { (a : Self) (p : Patterns) → is_of a p →
         Reads p (kind a) (lengths a) (held a p) (list a) (dead a) (starts a) };
 
@@ -155,12 +169,17 @@ pub trait Automaton {
         (dead a sid ≡ false) × (list a sid ≡ []) };
 
     /// A dead state is no further than the start.
-    ghost dead_shallow: { (a : Self) (sid : ℕ) → valid a sid → dead a sid ≡ true → depth a sid ≡ 0 };
+    ghost dead_shallow: { (a : Self) (sid : ℕ) → valid a sid → dead a sid ≡ true →
+        depth a sid ≡ 0 };
+
+    /// Nor is any start.
+    ghost starts_shallow: { (a : Self) (sid : ℕ) → valid a sid → starts a sid ≡ true →
+        depth a sid ≡ 0 };
 
     /// The match that the input's search finds: the best by the automaton's match kind or, where the input asks for
     /// the earliest, the best of those that end first. None is found where nothing matches.
     ///
-    /// It reads each byte of the span at most once, and takes no memory.
+    /// It is one call of `find_in`, so it reads each byte of the span at most once, and takes no memory.
     ///
     /// # Errors
     ///
@@ -213,6 +232,10 @@ impl<A: Automaton> Automaton for &A {
     ghost starts = { λ a sid. A.starts a.now sid };
 
     ghost depth = { λ a sid. A.depth a.now sid };
+
+    ghost next = { λ a anchored sid byte. A.next a.now anchored sid byte };
+
+    ghost lookups = { λ a p anchored word byte. A.lookups a.now p anchored word byte };
 
     ghost start = { λ a anchored. A.start a.now anchored };
 
@@ -283,4 +306,6 @@ impl<A: Automaton> Automaton for &A {
     ghost plain = { λ a. A.plain a.now };
 
     ghost dead_shallow = { λ a. A.dead_shallow a.now };
+
+    ghost starts_shallow = { λ a. A.starts_shallow a.now };
 }

@@ -31,12 +31,12 @@
 
 ghost use Rattle.std.specs.Prelude.{◌≡◌, ℕ, ◌+◌, ◌-◌, ◌*◌, ◌<◌, ◌≤◌, ◌^◌, IsOk, IfOk, IfErr, Ok, Err, None, Some, Result, length};
 ghost use Rattle.aho_base.specs.Answer.{IsAnswer};
-ghost use Rattle.aho_base.specs.Laws.{Fits, first_is_answer, furthest, told};
+ghost use Rattle.aho_base.specs.Laws.{Fits, first_is_answer, furthest, longest, told};
 ghost use Rattle.aho_base.specs.Occurrence.{Occurrence};
 ghost use Rattle.aho_base.specs.Patterns.{Patterns};
 ghost use Rattle.aho_base.specs.Search.{search_of};
 ghost use Rattle.aho_base.specs.declared.error.MatchErrorKind.{MatchErrorKind};
-ghost use Rattle.aho_base.specs.declared.search.Anchored.TheVariants.{No};
+ghost use Rattle.aho_base.specs.declared.search.Anchored.TheVariants.{No, Yes};
 ghost use Rattle.aho_search.specs.Reading.{ReadsUpTo};
 
 use crate::walk::Walk;
@@ -55,8 +55,10 @@ fn told_at<W: Walk>(
 ) -> Option<Match>
     requires valid { W.Of.valid (W.of walk.now) sid }
     requires ordered { start ≤ at }
-    requires fits { Fits (W.Of.lengths (W.of walk.now)) (at - start) (W.Of.list (W.of walk.now) sid) }
-    ensures told { result ≡ told (W.Of.lengths (W.of walk.now)) anchored start at (W.Of.list (W.of walk.now) sid) }
+    requires fits { Fits (W.Of.lengths (W.of walk.now)) (at - start)
+        (W.Of.list (W.of walk.now) sid) }
+    ensures told { result ≡ told (W.Of.lengths (W.of walk.now)) anchored start at
+        (W.Of.list (W.of walk.now) sid) }
 {
     if !walk.is_match(sid) {
         return None;
@@ -112,18 +114,27 @@ pub fn find_in<W: Walk, T: Text>(
         W.Of.start (W.of walk.old) anchored ≡ Err reason → result ≡ Err reason }
     ensures done { span.end < span.start → result ≡ Ok None }
 
-    // What stays, and what it costs.
+    // What stays, and what it costs: two look-ups at most for each byte that it passes from the span's start on.
     ensures same_walk { W.of walk.new ≡ W.of walk.old }
     ensures same_text { T.bytes text.new ≡ T.bytes text.old }
-    ensures cost { W.lookups walk.new ≤ W.lookups walk.old + 2 * (span.end - span.start) }
+    ensures cost { W.lookups walk.new ≤ W.lookups walk.old + 2 * (T.next text.new - span.start) }
+    ensures cost_of_span { W.lookups walk.new ≤ W.lookups walk.old + 2 * (span.end - span.start) }
     ensures grows { W.lookups walk.old ≤ W.lookups walk.new }
 
-    // How far it reads: of an unanchored search that finds a match not far past that match.
+    // How far it reads: an unanchored search not far past the match that it finds, an anchored one not far past the longest
+    // pattern.
     ensures read { ReadsUpTo (T.next text.old) (T.next text.new) span.end }
     ensures near { anchored ≡ No → (m : Occurrence) → result ≡ Ok (Some m) →
         ReadsUpTo (T.next text.old) (T.next text.new)
         (furthest (W.Of.kind (W.of walk.old)) earliest (W.Of.lengths (W.of walk.old)) m) }
-    ensures untouched { span.end < span.start → T.next text.new ≡ T.next text.old }
+    ensures anchored_near { anchored ≡ Yes → ReadsUpTo (T.next text.old) (T.next text.new)
+        (span.start + longest (W.Of.lengths (W.of walk.old)) + 1) }
+
+    // A search that is refused or done reads nothing and looks nothing up.
+    ensures refused_unread { IfErr result (λ reason. T.next text.new ≡ T.next text.old) }
+    ensures refused_uncounted { IfErr result (λ reason. W.lookups walk.new ≡ W.lookups walk.old) }
+    ensures done_unread { span.end < span.start → T.next text.new ≡ T.next text.old }
+    ensures done_uncounted { span.end < span.start → W.lookups walk.new ≡ W.lookups walk.old }
 {
     let Span { start, end } = span;
     if start > end {

@@ -2,8 +2,9 @@
 //!
 //! A search holds a `Walk`, and never the automaton itself. So it can take no step that is not counted.
 
-ghost use Rattle.std.specs.Prelude.{◌≡◌, ℕ, List, [], ◌∷◌, ◌++◌, Some, ◌+◌, ◌<◌, ◌≤◌, ◌^◌, ◌↔◌, IsTrue, IfOk, length, slice_get, slice_index};
+ghost use Rattle.std.specs.Prelude.{◌≡◌, ℕ, List, [], ◌∷◌, ◌++◌, Some, ◌+◌, ◌<◌, ◌≤◌, ◌^◌, ◌↔◌, true, IsTrue, IfOk, length, slice_get, slice_index};
 ghost use Rattle.aho_base.specs.Patterns.{Patterns};
+ghost use Rattle.aho_base.specs.Steps.{GoesOn, IsPaid};
 
 use crate::automaton::Automaton;
 use aho_base::error::MatchError;
@@ -39,13 +40,19 @@ pub trait Walk {
         requires valid { Self.Of.valid (of self.old) sid }
         requires room { lookups self.old + Self.Of.depth (of self.old) sid + 2 < 2 ^ 128 }
         ensures same { of self.new ≡ of self.old }
+        ensures next { result ≡ Self.Of.next (of self.old) anchored sid byte }
         ensures valid { Self.Of.valid (of self.old) result }
-        ensures goes_on { (p : Patterns) (word : List ℕ) → Self.Of.is_of (of self.old) p →
+        ensures dead_stays { Self.Of.dead (of self.old) sid ≡ true →
+            Self.Of.dead (of self.old) result ≡ true }
+        ensures goes_on { (p : Patterns) → Self.Of.is_of (of self.old) p →
+            GoesOn (Self.Of.held (of self.old) p anchored) sid byte result }
+        ensures cost { IsPaid (Self.Of.depth (of self.old)) sid result
+            (lookups self.old) (lookups self.new) }
+        ensures grows { lookups self.old ≤ lookups self.new }
+        ensures counted { (p : Patterns) (word : List ℕ) → Self.Of.is_of (of self.old) p →
             Self.Of.held (of self.old) p anchored word sid →
-            Self.Of.held (of self.old) p anchored (word ++ byte ∷ []) result }
-        ensures cost { lookups self.new + Self.Of.depth (of self.old) result ≤
-            lookups self.old + Self.Of.depth (of self.old) sid + 2 }
-        ensures grows { lookups self.old ≤ lookups self.new };
+            lookups self.new ≡
+            lookups self.old + Self.Of.lookups (of self.old) p anchored word byte };
 
     /// Whether a search has to look at the state.
     fn is_special(&self, sid: StateID) -> bool

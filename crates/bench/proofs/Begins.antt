@@ -1,15 +1,16 @@
--- Words that begin others, by the words that are the same.
-use Rattle.std.proofs.Common.{◌≡◌, ℕ, ◌<◌, true, false, List, ◌++◌, length, take, drop, sym, ◌∙◌, ap, arith, inl, inr, length-append}
+-- Words that begin others, by the words that are the same; and where none does.
+use Rattle.std.proofs.Common.{◌≡◌, ℕ, ◌+◌, ◌<◌, Bool, true, false, List, ◌++◌, length, take, drop, sym, ◌∙◌, ap, arith, inl, inr, length-append}
 use Rattle.std.specs.Bool.{Decides}
+use Rattle.std.specs.List.{list_any, range_with_len}
 use Rattle.std.proofs.Math.Seq.{take-append_seam}
 use Rattle.std.proofs.lemmas.Bool.{cases_Bool}
 use Rattle.std.proofs.lemmas.Bool.Decides.{same_from_decides}
 use Rattle.std.proofs.lemmas.List.{length-map, take-map, take-append-drop}
-use Rattle.aho_base.proofs.Begins.{begins-true, begins-from}
+use Rattle.aho_laws.proofs.Begins.{begins-true, begins-from, any-true}
 use Rattle.aho_base.specs.Bytes.{folded, folded_word, IsSameWord, is_same_word}
 use Rattle.aho_base.specs.Patterns.{Patterns}
 use Rattle.aho_base.specs.Trie.{begins}
-use Rattle.aho_base.proofs.SameWords.{is_same_word-Decides}
+use Rattle.aho_laws.proofs.SameWords.{is_same_word-Decides}
 
 module _ (p : Patterns) (word pattern : List ℕ) where
   begins-same : begins (folded_word p word) (folded_word p pattern) ≡ true → IsSameWord p word (take (length word) pattern)
@@ -42,3 +43,11 @@ module _ (p : Patterns) (word pattern : List ℕ) where
             absurd (omega (arith, ap length t.1, length-append (folded_word p word) t.0, length-map word (folded p), length-map pattern (folded p))))
         | inr none ↦ none
       ]
+
+-- no number of the range passes the test
+pub list_any-none : (test : ℕ → Bool) (n : ℕ) → ((k : ℕ) → k < n → test k ≡ false) → list_any test (range_with_len 0 n) ≡ false
+list_any-none test n fails =
+    elim (cases_Bool (list_any test (range_with_len 0 n))) [
+      | inl passes ↦ (let found = any-true test 0 n passes in let fails_there = fails found.0 (omega (arith, found.2)) in let passes_there = found.3 in cc)
+      | inr none ↦ none
+    ]

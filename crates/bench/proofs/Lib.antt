@@ -1,6 +1,5 @@
 pub mod WordTests
-pub mod Numbers
-pub mod Best
-pub mod AtRange
+pub mod BestOfTwo
+pub mod BestAtRange
 pub mod Begins
-pub mod Bounds
+pub mod ListedEnds

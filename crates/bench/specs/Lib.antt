@@ -1,3 +1,4 @@
 pub mod Better
 pub mod OneByte
 pub mod Range
+pub mod Callers

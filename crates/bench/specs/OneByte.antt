@@ -1,7 +1,7 @@
 -- What the automaton of one byte means. Its states are 0, where the byte was not read last, and 1, where it was.
 use Rattle.std.proofs.Common.{◌≡◌, ℕ, zero, suc, ◌<◌, Bool, arith, true, false, List, [], ◌∷◌, ◌++◌, refl, sym, ◌∙◌, ap, subst, nat_eq, eq-eqb, eqb-true}
 use Rattle.std.specs.Prelude.{Option, Some, is_none, Result, Ok, Err, if◌then◌else◌}
-use Rattle.aho_base.proofs.NamedStates.{HeldBy, held_by_step, reads_by_names}
+use Rattle.aho_laws.proofs.NamedStates.{HeldBy, held_by_step, reads_by_names}
 use Rattle.aho_base.specs.Bytes.{folded}
 use Rattle.aho_base.specs.Failure.{is_cut, state_after}
 use Rattle.aho_base.specs.Laws.{Reads}

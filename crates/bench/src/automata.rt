@@ -1,5 +1,6 @@
 //! Automata to test, and what is read off them by their own calls.
 
+ghost use Rattle.std.specs.Prelude.{◌≡◌};
 ghost use Rattle.aho_base.specs.Patterns.{Patterns};
 
 use aho_base::search::{Anchored, MatchKind, StateID};
@@ -18,8 +19,20 @@ pub(crate) fn nfa_of(
 ) -> NFA
     ensures of { (p : Patterns) × ⟦<NFA as Automaton>⟧.is_of result p }
 {
+    nfa_by(rt, alloc, &builder_of(kind, ignore_case), words)
+}
+
+/// A builder of this match kind and case rule.
+pub(crate) fn builder_of(kind: MatchKind, ignore_case: bool) -> Builder {
     let mut builder = Builder::new();
     builder.match_kind(kind).ascii_case_insensitive(ignore_case);
+    builder
+}
+
+/// The automaton that a builder makes of these patterns.
+pub(crate) fn nfa_by(rt: &impl Abort, alloc: Global, builder: &Builder, words: &[&[u8]]) -> NFA
+    ensures of { (p : Patterns) × ⟦<NFA as Automaton>⟧.is_of result p }
+{
     let nfa = builder.build(alloc, words.iter().copied());
     nfa.expect(rt, "an automaton")
 }
@@ -27,6 +40,7 @@ pub(crate) fn nfa_of(
 /// The start of an anchoring.
 pub(crate) fn start_of<A: Automaton>(rt: &impl Abort, automaton: &A, anchored: Anchored) -> StateID
     ensures valid { A.valid automaton.now result }
+    ensures shallow { A.depth automaton.now result ≡ 0 }
 {
     let start = automaton.start_state(anchored);
     start.expect(rt, "a start")

@@ -1,10 +1,12 @@
 //! What a builder builds, and what its limits refuse.
 
+use crate::automata::builder_of;
 use aho_base::error::BuildError;
-use aho_base::search::{Input, MatchKind, PatternID};
+use aho_base::search::{Input, Match, MatchKind, PatternID};
 use aho_corasick::noncontiguous::{Builder, Limits, NFA};
 use aho_search::automaton::Automaton;
 use std::alloc::{AllocError, Global};
+use std::process::Abort;
 use std::test::Fail;
 
 const NO_LIMITS: Limits = Limits {
@@ -23,9 +25,22 @@ fn refusal(alloc: Global, patterns: &[&[u8]], limits: Limits) -> Option<BuildErr
     }
 }
 
-/// Why these patterns are refused under this limit on indexes alone.
-fn refusal_by_id(alloc: Global, patterns: &[&[u8]], id: usize) -> Option<BuildError> {
-    refusal(alloc, patterns, Limits { id, ..NO_LIMITS })
+/// These patterns are refused so under these limits. A message tells the case by its name.
+fn check(
+    rt: &impl Abort,
+    alloc: Global,
+    name: &str,
+    patterns: &[&[u8]],
+    limits: Limits,
+    want: Option<BuildError>,
+) {
+    let refusal = refusal(alloc, patterns, limits);
+    assert_eq!(rt; refusal, want, "{name}: {patterns:?} {limits:?}");
+}
+
+/// A limit on indexes alone.
+fn by_id(id: usize) -> Limits {
+    Limits { id, ..NO_LIMITS }
 }
 
 /// A table would pass this limit by one.
@@ -59,126 +74,226 @@ fn beginnings(alloc: Global, word: &[u8]) -> Result<Vec<&[u8]>, AllocError> {
 }
 
 #[test]
-fn indexes_are_limited(rt: HostRuntime) -> Result<(), Fail> {
+fn indexes_are_limited(rt: HostRuntime) {
     let alloc = rt.alloc();
-    assert_eq!(rt; refusal_by_id(alloc, &[b"abc"], 770), None);
-    assert_eq!(rt; refusal_by_id(alloc, &[b"abcd"], 770), is_full(770));
-    assert_eq!(rt; refusal_by_id(alloc, &[], 768), None);
-    assert_eq!(rt; refusal_by_id(alloc, &[], 767), is_full(767));
-    assert_eq!(rt; refusal_by_id(alloc, &[], 2), is_full(2));
-    for (pattern, most) in [(b"a".as_slice(), 768), (b"".as_slice(), 384)] {
+    check(
+        &rt,
+        alloc,
+        "as many transitions as fit",
+        &[b"abc"],
+        by_id(770),
+        None,
+    );
+    check(
+        &rt,
+        alloc,
+        "a transition too many",
+        &[b"abcd"],
+        by_id(770),
+        is_full(770),
+    );
+    check(
+        &rt,
+        alloc,
+        "the starts' transitions fit",
+        &[],
+        by_id(768),
+        None,
+    );
+    check(
+        &rt,
+        alloc,
+        "no room for the starts' transitions",
+        &[],
+        by_id(767),
+        is_full(767),
+    );
+    check(
+        &rt,
+        alloc,
+        "no room for the starts",
+        &[],
+        by_id(2),
+        is_full(2),
+    );
+}
+
+#[test]
+fn listed_patterns_are_limited(rt: HostRuntime) -> Result<(), Fail> {
+    let alloc = rt.alloc();
+    for (name, pattern, most) in [
+        ("matches of one state", b"a".as_slice(), 768),
+        ("matches of both starts", b"".as_slice(), 384),
+    ] {
         let patterns = repeated(alloc, pattern, most)?;
-        assert_eq!(rt; refusal_by_id(alloc, &patterns, 768), None);
+        check(&rt, alloc, name, &patterns, by_id(768), None);
         let patterns = repeated(alloc, pattern, most + 1)?;
-        assert_eq!(rt; refusal_by_id(alloc, &patterns, 768), is_full(768));
+        check(&rt, alloc, name, &patterns, by_id(768), is_full(768));
     }
-    let patterns = beginnings(alloc, &[b'a'; 44])?;
-    assert_eq!(rt; refusal_by_id(alloc, &patterns, 1000), None);
-    let patterns = beginnings(alloc, &[b'a'; 45])?;
-    assert_eq!(rt; refusal_by_id(alloc, &patterns, 1000), is_full(1000));
     Ok(())
 }
 
 #[test]
+fn copied_matches_are_limited(rt: HostRuntime) -> Result<(), Fail> {
+    let alloc = rt.alloc();
+    let limits = by_id(1000);
+    let patterns = beginnings(alloc, &[b'a'; 44])?;
+    check(
+        &rt,
+        alloc,
+        "as many copied matches as fit",
+        &patterns,
+        limits,
+        None,
+    );
+    let patterns = beginnings(alloc, &[b'a'; 45])?;
+    check(
+        &rt,
+        alloc,
+        "a copied match too many",
+        &patterns,
+        limits,
+        is_full(1000),
+    );
+    Ok(())
+}
+
+/// A pattern is longer than this limit.
+fn is_too_long(number: usize, len: usize, max: usize) -> Result<Option<BuildError>, Fail> {
+    let pattern = PatternID::new(number)?;
+    Ok(Some(BuildError::PatternTooLong { pattern, len, max }))
+}
+
+#[test]
 fn lengths_are_limited(rt: HostRuntime) -> Result<(), Fail> {
+    let alloc = rt.alloc();
     let short = Limits {
         length: 2,
         ..NO_LIMITS
     };
-    assert_eq!(rt; refusal(rt.alloc(), &[b"ab", b"ab"], short), None);
-    let too_long = BuildError::PatternTooLong {
-        pattern: PatternID::new(1)?,
-        len: 3,
-        max: 2,
-    };
-    assert_eq!(rt;
-        refusal(rt.alloc(), &[b"ab", b"abc"], short),
-        Some(too_long)
+    check(
+        &rt,
+        alloc,
+        "as long as allowed",
+        &[b"ab", b"ab"],
+        short,
+        None,
+    );
+    check(
+        &rt,
+        alloc,
+        "a byte too long",
+        &[b"ab", b"abc"],
+        short,
+        is_too_long(1, 3, 2)?,
     );
     Ok(())
 }
 
 #[test]
 fn numbers_are_limited_before_lengths(rt: HostRuntime) -> Result<(), Fail> {
+    let alloc = rt.alloc();
     let one = Limits {
         pattern: 0,
         ..NO_LIMITS
     };
-    let one_more = BuildError::PatternIDOverflow {
-        max: 0,
-        requested: 1,
-    };
-    assert_eq!(rt; refusal(rt.alloc(), &[b"a"], one), None);
-    assert_eq!(rt; refusal(rt.alloc(), &[b"a", b"b"], one), Some(one_more));
     let one_short = Limits { length: 2, ..one };
-    let too_long = BuildError::PatternTooLong {
-        pattern: PatternID::new(0)?,
-        len: 3,
-        max: 2,
-    };
-    assert_eq!(rt;
-        refusal(rt.alloc(), &[b"abc", b"b"], one_short),
-        Some(too_long)
-    );
-    let one_more = BuildError::PatternIDOverflow {
+    let one_more = Some(BuildError::PatternIDOverflow {
         max: 0,
         requested: 1,
-    };
-    assert_eq!(rt;
-        refusal(rt.alloc(), &[b"a", b"abc"], one_short),
-        Some(one_more)
+    });
+    check(&rt, alloc, "one pattern", &[b"a"], one, None);
+    check(
+        &rt,
+        alloc,
+        "a pattern too many",
+        &[b"a", b"b"],
+        one,
+        one_more.clone()?,
+    );
+    check(
+        &rt,
+        alloc,
+        "the first too long",
+        &[b"abc", b"b"],
+        one_short,
+        is_too_long(0, 3, 2)?,
+    );
+    check(
+        &rt,
+        alloc,
+        "the one too many too long",
+        &[b"a", b"abc"],
+        one_short,
+        one_more,
     );
     Ok(())
 }
 
-/// Where a builder's automaton of these patterns finds its first match, from the number of the pattern on.
-fn found(
-    builder: &Builder,
+/// A match, from the number of the pattern on.
+type Found = (usize, usize, usize);
+
+fn found_of(m: Match) -> Found {
+    (m.pattern().as_usize(), m.start(), m.end())
+}
+
+/// A builder's automaton of these patterns finds this first. A message tells the case by its name.
+fn check_found(
+    rt: &impl Abort,
     alloc: Global,
+    (name, builder): (&str, &Builder),
     patterns: &[&[u8]],
     haystack: &[u8],
-) -> Result<Option<(usize, usize, usize)>, Fail> {
+    want: Option<Found>,
+) -> Result<(), Fail> {
     let nfa = builder.build(alloc, patterns.iter().copied())?;
-    let found = nfa.try_find(&Input::new(haystack))?;
-    Ok(found.map(|m| (m.pattern().as_usize(), m.start(), m.end())))
+    let found = nfa.try_find(&Input::new(haystack))?.map(found_of);
+    assert_eq!(rt;
+        found,
+        want,
+        "{name}: {:?} {patterns:?} {haystack:?}",
+        nfa.match_kind()
+    );
+    Ok(())
 }
 
 #[test]
 fn a_builder_that_refused_builds_again(rt: HostRuntime) -> Result<(), Fail> {
     let alloc = rt.alloc();
     let mut builder = Builder::new();
-    builder.limits(Limits {
-        id: 770,
-        ..NO_LIMITS
-    });
+    builder.limits(by_id(770));
     let patterns: [&[u8]; 1] = [b"abcd"];
-    assert!(rt; builder.build(alloc, patterns.iter().copied()).is_err());
-    assert_eq!(rt;
-        found(&builder, alloc, &[b"abc"], b"xabc")?,
-        Some((0, 1, 4))
+    assert!(rt;
+        builder.build(alloc, patterns.iter().copied()).is_err(),
+        "Standard {patterns:?} with states up to 770"
     );
-    assert_eq!(rt;
-        found(&builder, alloc, &[b"", b"abc"], b"abc")?,
-        Some((0, 0, 0))
-    );
-    Ok(())
+    let again = ("built after a refusal", &builder);
+    check_found(&rt, alloc, again, &[b"abc"], b"xabc", Some((0, 1, 4)))?;
+    check_found(&rt, alloc, again, &[b"", b"abc"], b"abc", Some((0, 0, 0)))
 }
 
 #[test]
 fn a_new_builder_is_standard_with_regard_to_case(rt: HostRuntime) -> Result<(), Fail> {
     let alloc = rt.alloc();
     let patterns: [&[u8]; 3] = [b"abc", b"AB", b"ab"];
-    for builder in [
-        Builder::new(),
-        Builder::default(),
-        NFA::builder(),
-        NFA::builder().clone()?,
+    for (name, builder) in [
+        ("Builder::new", Builder::new()),
+        ("Builder::default", Builder::default()),
+        ("NFA::builder", NFA::builder()),
+        ("a clone", NFA::builder().clone()?),
     ] {
-        assert_eq!(rt; found(&builder, alloc, &patterns, b"abc")?, Some((2, 0, 2)));
+        check_found(
+            &rt,
+            alloc,
+            (name, &builder),
+            &patterns,
+            b"abc",
+            Some((2, 0, 2)),
+        )?;
     }
     let nfa = NFA::new(alloc, patterns.iter().copied())?;
-    assert_eq!(rt; nfa.match_kind(), MatchKind::Standard);
-    assert_eq!(rt; nfa.patterns_len(), 3);
+    assert_eq!(rt; nfa.match_kind(), MatchKind::Standard, "NFA::new");
+    assert_eq!(rt; nfa.patterns_len(), 3, "NFA::new");
     Ok(())
 }
 
@@ -191,52 +306,45 @@ fn a_builder_builds_as_it_is_set(rt: HostRuntime) -> Result<(), Fail> {
     let first = builder.clone()?;
     builder.match_kind(MatchKind::LeftmostLongest);
     let longest = builder.clone()?;
-    builder
-        .match_kind(MatchKind::Standard)
-        .ascii_case_insensitive(true)
-        .dense_depth(0)
-        .prefilter(false);
-    assert_eq!(rt; found(&first, alloc, &patterns, b"abcd")?, Some((0, 0, 3)));
-    assert_eq!(rt;
-        found(&longest, alloc, &patterns, b"abcd")?,
-        Some((2, 0, 4))
-    );
-    assert_eq!(rt;
-        found(&builder, alloc, &patterns, b"abcd")?,
-        Some((1, 0, 2))
-    );
+    for (name, builder, want) in [
+        ("set to the least number", first, (0, 0, 3)),
+        ("set to the longest", longest, (2, 0, 4)),
+        (
+            "set to both cases",
+            builder_of(MatchKind::Standard, true),
+            (1, 0, 2),
+        ),
+        ("set back to one case", set_back(), (0, 0, 3)),
+    ] {
+        check_found(&rt, alloc, (name, &builder), &patterns, b"abcd", Some(want))?;
+    }
+    Ok(())
+}
+
+/// A builder that was set to both cases and to few patterns, and then back.
+fn set_back() -> Builder {
+    let mut builder = builder_of(MatchKind::Standard, true);
     builder.limits(Limits {
         pattern: 1,
         ..NO_LIMITS
     });
-    assert!(rt; builder.build(alloc, patterns.iter().copied()).is_err());
     builder.ascii_case_insensitive(false).limits(NO_LIMITS);
-    assert_eq!(rt;
-        found(&builder, alloc, &patterns, b"abcd")?,
-        Some((0, 0, 3))
-    );
-    Ok(())
+    builder
 }
 
 #[test]
 fn a_clone_is_as_large_and_finds_as_much(rt: HostRuntime) -> Result<(), Fail> {
     let alloc = rt.alloc();
     let patterns: [&[u8]; 3] = [b"abc", b"AB", b"abcd"];
-    let mut builder = Builder::new();
-    builder
-        .match_kind(MatchKind::LeftmostLongest)
-        .ascii_case_insensitive(true);
+    let builder = builder_of(MatchKind::LeftmostLongest, true);
     let nfa = builder.build(alloc, patterns.iter().copied())?;
     let clone = nfa.try_clone()?;
     assert_eq!(rt; clone.memory_usage(), nfa.memory_usage());
-    assert_eq!(rt; clone.min_pattern_len(), 2);
-    assert_eq!(rt; clone.max_pattern_len(), 4);
-    assert_eq!(rt; clone.patterns_len(), 3);
-    let found = clone.try_find(&Input::new(b"xABCDx"))?;
-    assert_eq!(rt;
-        found.map(|m| (m.pattern().as_usize(), m.start(), m.end())),
-        Some((2, 1, 5))
-    );
-    assert!(rt; clone.try_find(&Input::new(b"xAxBx"))?.is_none());
+    let lens = (clone.min_pattern_len(), clone.max_pattern_len());
+    assert_eq!(rt; (lens, clone.patterns_len()), ((2, 4), 3));
+    for (haystack, want) in [(b"xABCDx", Some((2, 1, 5))), (b"xAxBxx", None)] {
+        let found = clone.try_find(&Input::new(haystack))?.map(found_of);
+        assert_eq!(rt; found, want, "a clone of {patterns:?} in {haystack:?}");
+    }
     Ok(())
 }

@@ -1,8 +1,10 @@
 //! What an automaton's own calls answer, one by one.
 
+ghost use Rattle.std.specs.Prelude.{◌+◌, ◌<◌, ◌^◌};
+
 use crate::automata::{listed, nfa_of, start_of, state_after};
 use crate::one_byte::OneByte;
-use aho_base::search::{Anchored, MatchKind, PatternID};
+use aho_base::search::{Anchored, MatchKind, PatternID, StateID, Work};
 use aho_search::automaton::Automaton;
 use std::process::Abort;
 use std::test::Fail;
@@ -81,14 +83,15 @@ fn states_list_their_patterns(rt: HostRuntime) -> Result<(), Fail> {
         for (anchored, word, listing) in states.reached {
             let sid = state_after(&rt, &nfa, *anchored, word);
             let want = listing.unwrap_or(&[]);
-            assert_eq!(rt; nfa.is_dead(sid), listing.is_none(), "{word:?}");
-            assert_eq!(rt; nfa.is_match(sid), !want.is_empty(), "{word:?}");
+            let case = (states.kind, states.patterns, *anchored, *word);
+            assert_eq!(rt; nfa.is_dead(sid), listing.is_none(), "{case:?}");
+            assert_eq!(rt; nfa.is_match(sid), !want.is_empty(), "{case:?}");
             assert_eq!(rt;
                 nfa.is_special(sid),
                 listing.is_none() || !want.is_empty(),
-                "{word:?}"
+                "{case:?}"
             );
-            assert_eq!(rt; listed(rt.alloc(), &nfa, sid)?.as_slice(), want, "{word:?}");
+            assert_eq!(rt; listed(rt.alloc(), &nfa, sid)?.as_slice(), want, "{case:?}");
         }
     }
     Ok(())
@@ -112,14 +115,66 @@ fn a_failed_word_goes_on_at_its_suffix(rt: HostRuntime) {
 fn starts_are_told(rt: HostRuntime) {
     let nfa = nfa_of(&rt, rt.alloc(), &[b"ab"], MatchKind::Standard, false);
     for anchored in [Anchored::No, Anchored::Yes] {
-        assert!(rt; nfa.is_start(start_of(&rt, &nfa, anchored)));
-        assert!(rt; !nfa.is_start(state_after(&rt, &nfa, anchored, b"a")));
+        let start = start_of(&rt, &nfa, anchored);
+        assert!(rt; nfa.is_start(start), "{anchored:?}");
+        let after = state_after(&rt, &nfa, anchored, b"a");
+        assert!(rt; !nfa.is_start(after), "{anchored:?} after a");
     }
     let back = state_after(&rt, &nfa, Anchored::No, b"ax");
     assert_eq!(rt; back, start_of(&rt, &nfa, Anchored::No));
     let dead = state_after(&rt, &nfa, Anchored::Yes, b"ax");
     assert!(rt; nfa.is_dead(dead));
     assert!(rt; !nfa.is_start(dead));
+}
+
+/// From the state that is held after this word, each byte leads `step` where it leads `next_state`.
+fn assert_steps_agree_from<A: Automaton>(
+    rt: &impl Abort,
+    automaton: &A,
+    anchored: Anchored,
+    sid: StateID,
+    word: &[u8],
+)
+    requires valid { A.valid automaton.now sid }
+    requires room { A.depth automaton.now sid + 2 < 2 ^ 128 }
+{
+    let kind = automaton.match_kind();
+    for byte in 0..=u8::MAX {
+        let next = automaton.next_state(anchored, sid, byte);
+        let stepped = automaton.step(anchored, sid, byte, &mut Work::new());
+        assert_eq!(rt; stepped, next, "{kind:?} {anchored:?} {word:?} {byte}");
+    }
+}
+
+/// The same from each state on the way of a word.
+fn assert_steps_agree_along<A: Automaton>(
+    rt: &impl Abort,
+    automaton: &A,
+    anchored: Anchored,
+    word: &[u8],
+) {
+    let mut work = Work::new();
+    let mut sid = start_of(rt, automaton, anchored);
+    assert_steps_agree_from(rt, automaton, anchored, sid, &word[..0]);
+    for at in 0..word.len() {
+        sid = automaton.step(anchored, sid, word[at], &mut work);
+        assert_steps_agree_from(rt, automaton, anchored, sid, &word[..at + 1]);
+    }
+}
+
+#[test]
+fn a_step_leads_where_next_state_does(rt: HostRuntime) {
+    for states in STATES {
+        let nfa = nfa_of(&rt, rt.alloc(), states.patterns, states.kind, false);
+        for (_, word, _) in states.reached {
+            for anchored in [Anchored::No, Anchored::Yes] {
+                assert_steps_agree_along(&rt, &nfa, anchored, word);
+            }
+        }
+    }
+    let one = OneByte::new(b'w');
+    assert_steps_agree_along(&rt, &one, Anchored::No, b"samwise");
+    assert_steps_agree_along(&rt, &&one, Anchored::No, b"samwise");
 }
 
 /// The first match of a search of the whole haystack, by a loop over an automaton's calls: the pattern's number, and
@@ -160,8 +215,13 @@ fn a_loop_over_the_calls_finds(rt: HostRuntime) {
         (MatchKind::LeftmostLongest, (0, 0, 7)),
     ] {
         let nfa = nfa_of(&rt, rt.alloc(), &[b"samwise", b"sam"], kind, false);
-        assert_eq!(rt; found_by_calls(&rt, &nfa, b"samwise"), Some(want));
-        assert_eq!(rt; found_by_calls(&rt, &&nfa, b"samwise"), Some(want));
+        assert_eq!(rt;
+            found_by_calls(&rt, &nfa, b"samwise"),
+            Some(want),
+            "{kind:?}"
+        );
+        let by_reference = found_by_calls(&rt, &&nfa, b"samwise");
+        assert_eq!(rt; by_reference, Some(want), "{kind:?} by a reference");
     }
     let one = OneByte::new(b'w');
     assert_eq!(rt; found_by_calls(&rt, &one, b"samwise"), Some((0, 3, 4)));
@@ -209,15 +269,16 @@ const TOLD: &[Told] = &[
 fn patterns_are_told(rt: HostRuntime) -> Result<(), Fail> {
     for told in TOLD {
         let nfa = nfa_of(&rt, rt.alloc(), told.patterns, told.kind, false);
-        assert_eq!(rt; nfa.match_kind(), told.kind);
-        assert_eq!(rt; nfa.min_pattern_len(), told.shortest);
-        assert_eq!(rt; nfa.max_pattern_len(), told.longest);
-        assert_eq!(rt; nfa.memory_usage(), told.memory);
-        assert_eq!(rt; nfa.patterns_len(), told.lens.len());
+        let case = (told.kind, told.patterns);
+        assert_eq!(rt; nfa.match_kind(), told.kind, "{case:?}");
+        assert_eq!(rt; nfa.min_pattern_len(), told.shortest, "{case:?}");
+        assert_eq!(rt; nfa.max_pattern_len(), told.longest, "{case:?}");
+        assert_eq!(rt; nfa.memory_usage(), told.memory, "{case:?}");
+        assert_eq!(rt; nfa.patterns_len(), told.lens.len(), "{case:?}");
         for (number, len) in told.lens.iter().enumerate() {
             let pattern = PatternID::new(number)?;
-            assert!(rt; number < nfa.patterns_len());
-            assert_eq!(rt; nfa.pattern_len(pattern), *len);
+            assert!(rt; number < nfa.patterns_len(), "{case:?}");
+            assert_eq!(rt; nfa.pattern_len(pattern), *len, "{case:?}");
         }
     }
     Ok(())

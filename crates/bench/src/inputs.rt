@@ -3,11 +3,11 @@
 ghost use Rattle.std.specs.Prelude.{◌+◌, ◌<◌, ◌≤◌, length};
 ghost use Rattle.aho_base.specs.Patterns.{Patterns};
 
-use crate::automata::nfa_of;
+use crate::automata::{builder_of, nfa_by, nfa_of};
 use crate::pattern_set::PatternSet;
 use crate::plain::plain;
 use aho_base::search::{Anchored, Input, MatchKind, PatternID, Span};
-use aho_corasick::noncontiguous::NFA;
+use aho_corasick::noncontiguous::{Limits, NFA};
 use aho_search::automaton::Automaton;
 use std::alloc::{AllocError, Global};
 use std::process::Abort;
@@ -19,8 +19,15 @@ const KINDS: [MatchKind; 3] = [
     MatchKind::LeftmostLongest,
 ];
 
-/// Searches this span in each way.
-fn search_span(rt: &impl Abort, patterns: &PatternSet<'_>, nfa: &NFA, haystack: &[u8], span: Span)
+/// Searches this span in each way. A message tells the case by its name.
+fn search_span(
+    rt: &impl Abort,
+    name: &str,
+    patterns: &PatternSet<'_>,
+    nfa: &NFA,
+    haystack: &[u8],
+    span: Span,
+)
     requires of { (p : Patterns) × ⟦<NFA as Automaton>⟧.is_of nfa.now p }
     requires within { span.end ≤ length haystack.now }
     requires ordered { span.start ≤ span.end + 1 }
@@ -32,24 +39,29 @@ fn search_span(rt: &impl Abort, patterns: &PatternSet<'_>, nfa: &NFA, haystack: 
                 .anchored(anchored)
                 .earliest(earliest);
             let answer = nfa.try_find(&input).expect(rt, "an answer");
-            assert_eq!(rt; answer, plain(patterns, &input), "{haystack:?} {span:?}");
+            assert_eq!(rt;
+                answer,
+                plain(patterns, &input),
+                "{name}: {patterns:?} {haystack:?} {span:?} {anchored:?} earliest {earliest}"
+            );
         }
     }
 }
 
 /// Searches every span of this haystack in each way.
-fn search_spans(rt: &impl Abort, patterns: &PatternSet<'_>, nfa: &NFA, haystack: &[u8])
+fn search_spans(rt: &impl Abort, name: &str, patterns: &PatternSet<'_>, nfa: &NFA, haystack: &[u8])
     requires of { (p : Patterns) × ⟦<NFA as Automaton>⟧.is_of nfa.now p }
 {
     for end in 0..=haystack.len() {
         for start in 0..=end + 1 {
-            search_span(rt, patterns, nfa, haystack, Span { start, end });
+            search_span(rt, name, patterns, nfa, haystack, Span { start, end });
         }
     }
 }
 
 /// Some patterns, to be searched for in haystacks over two letters.
 struct Case {
+    name: &'static str,
     patterns: &'static [&'static [u8]],
     ignore_case: bool,
     letters: [u8; 2],
@@ -57,46 +69,55 @@ struct Case {
 
 const CASES: &[Case] = &[
     Case {
+        name: "no patterns",
         patterns: &[],
         ignore_case: false,
         letters: *b"ab",
     },
     Case {
+        name: "an empty pattern",
         patterns: &[b"", b"ab"],
         ignore_case: false,
         letters: *b"ab",
     },
     Case {
+        name: "each pattern twice or a part of another",
         patterns: &[b"ab", b"", b"ab", b"", b"a"],
         ignore_case: false,
         letters: *b"ab",
     },
     Case {
+        name: "patterns that end others",
         patterns: &[b"aab", b"ab", b"b", b"aabb", b"ba"],
         ignore_case: false,
         letters: *b"ab",
     },
     Case {
+        name: "runs of one letter",
         patterns: &[b"a", b"aa", b"aaa", b"baaa", b"abab"],
         ignore_case: false,
         letters: *b"ab",
     },
     Case {
+        name: "patterns that overlap",
         patterns: &[b"abba", b"bb", b"bab", b"bbaa"],
         ignore_case: false,
         letters: *b"ab",
     },
     Case {
+        name: "both cases, one pattern in four spellings",
         patterns: &[b"aA", b"Aa", b"AAA", b"a"],
         ignore_case: true,
         letters: *b"aA",
     },
     Case {
+        name: "both cases, with an empty pattern",
         patterns: &[b"aAB", b"BA", b"ab", b""],
         ignore_case: true,
         letters: *b"Ab",
     },
     Case {
+        name: "with regard to case",
         patterns: &[b"aAB", b"AB", b"Ab", b"abaa"],
         ignore_case: false,
         letters: *b"Ab",
@@ -117,19 +138,96 @@ fn haystack_of(number: usize, letters: [u8; 2]) -> [u8; 6] {
     haystack
 }
 
+/// The sizes of haystacks, and how many there are of each.
+const SIZES: [(usize, usize); 7] = [(0, 1), (1, 2), (2, 4), (3, 8), (4, 16), (5, 32), (6, 64)];
+
+/// Searches each haystack of these sizes.
+fn search_haystacks(
+    rt: &impl Abort,
+    case: &Case,
+    patterns: &PatternSet<'_>,
+    nfa: &NFA,
+    sizes: &[(usize, usize)],
+)
+    requires of { (p : Patterns) × ⟦<NFA as Automaton>⟧.is_of nfa.now p }
+{
+    for (size, count) in sizes {
+        for number in 0..*count {
+            let haystack = haystack_of(number, case.letters);
+            assert!(rt; *size <= haystack.len());
+            search_spans(rt, case.name, patterns, nfa, &haystack[..*size]);
+        }
+    }
+}
+
 #[test]
 fn short_inputs_are_searched(rt: HostRuntime) {
     for case in CASES {
-        assert!(rt; case.patterns.len() <= PatternID::MAX);
+        assert!(rt; case.patterns.len() <= PatternID::MAX.as_usize());
         for kind in KINDS {
             let patterns = PatternSet::new(case.patterns, kind, case.ignore_case);
             let nfa = nfa_of(&rt, rt.alloc(), case.patterns, kind, case.ignore_case);
-            for (size, count) in [(0, 1), (1, 2), (2, 4), (3, 8), (4, 16), (5, 32), (6, 64)] {
-                for number in 0..count {
-                    let haystack = haystack_of(number, case.letters);
-                    assert!(rt; size <= haystack.len());
-                    search_spans(&rt, &patterns, &nfa, &haystack[..size]);
-                }
+            search_haystacks(&rt, case, &patterns, &nfa, &SIZES);
+        }
+    }
+}
+
+/// What a builder is told besides what is searched for.
+struct Settings {
+    dense_depth: usize,
+    prefilter: bool,
+    limits: Limits,
+}
+
+const WIDE: Limits = Limits {
+    id: usize::MAX,
+    pattern: usize::MAX,
+    length: usize::MAX,
+};
+
+const NARROW: Limits = Limits {
+    id: 2000,
+    pattern: 5,
+    length: 4,
+};
+
+const SETTINGS: &[Settings] = &[
+    Settings {
+        dense_depth: 0,
+        prefilter: false,
+        limits: WIDE,
+    },
+    Settings {
+        dense_depth: 1,
+        prefilter: true,
+        limits: NARROW,
+    },
+    Settings {
+        dense_depth: 3,
+        prefilter: false,
+        limits: NARROW,
+    },
+    Settings {
+        dense_depth: usize::MAX,
+        prefilter: true,
+        limits: WIDE,
+    },
+];
+
+#[test]
+fn settings_change_no_answer(rt: HostRuntime) {
+    for case in CASES {
+        assert!(rt; case.patterns.len() <= PatternID::MAX.as_usize());
+        for kind in KINDS {
+            let patterns = PatternSet::new(case.patterns, kind, case.ignore_case);
+            for settings in SETTINGS {
+                let mut builder = builder_of(kind, case.ignore_case);
+                builder
+                    .dense_depth(settings.dense_depth)
+                    .prefilter(settings.prefilter)
+                    .limits(settings.limits);
+                let nfa = nfa_by(&rt, rt.alloc(), &builder, case.patterns);
+                search_haystacks(&rt, case, &patterns, &nfa, &SIZES[..4]);
             }
         }
     }
@@ -181,31 +279,54 @@ impl Random {
     }
 }
 
-#[test]
-fn random_inputs_are_searched(rt: HostRuntime) -> Result<(), Fail> {
+/// Searches ranges of random bytes of an alphabet for ranges of them, 100 times.
+fn search_random(
+    rt: &impl Abort,
+    alloc: Global,
+    name: &str,
+    alphabet: &[u8],
+) -> Result<(), AllocError>
+    requires some { 0 < length alphabet.now }
+{
     let mut random = Random {
         state: 88172645463325252,
     };
-    let mut every_byte = [0; 256];
-    for (number, byte) in every_byte.iter_mut().enumerate() {
-        *byte = (number % 256) as u8;
-    }
-    let alphabets: [&[u8]; 4] = [b"ab", b"abc", b"aAb", &every_byte];
-    for alphabet in alphabets {
-        assert!(rt; alphabet.len() > 0);
-        for _ in 0..100 {
-            let mut bytes = [0; 40];
-            random.fill(&mut bytes, alphabet);
-            let words = random.ranges(rt.alloc(), &bytes)?;
-            assert!(rt; words.len() <= PatternID::MAX);
-            for kind in KINDS {
-                for ignore_case in [false, true] {
-                    let patterns = PatternSet::new(&words, kind, ignore_case);
-                    let nfa = nfa_of(&rt, rt.alloc(), &words, kind, ignore_case);
-                    search_spans(&rt, &patterns, &nfa, random.range(&bytes, 12));
-                }
+    for _ in 0..100 {
+        let mut bytes = [0; 40];
+        random.fill(&mut bytes, alphabet);
+        let words = random.ranges(alloc, &bytes)?;
+        assert!(rt; words.len() <= PatternID::MAX.as_usize());
+        for kind in KINDS {
+            for ignore_case in [false, true] {
+                let patterns = PatternSet::new(&words, kind, ignore_case);
+                let nfa = nfa_of(rt, alloc, &words, kind, ignore_case);
+                search_spans(rt, name, &patterns, &nfa, random.range(&bytes, 12));
             }
         }
     }
     Ok(())
+}
+
+#[test]
+fn random_inputs_over_two_letters_are_searched(rt: HostRuntime) -> Result<(), Fail> {
+    Ok(search_random(&rt, rt.alloc(), "two letters", b"ab")?)
+}
+
+#[test]
+fn random_inputs_over_three_letters_are_searched(rt: HostRuntime) -> Result<(), Fail> {
+    Ok(search_random(&rt, rt.alloc(), "three letters", b"abc")?)
+}
+
+#[test]
+fn random_inputs_over_both_cases_are_searched(rt: HostRuntime) -> Result<(), Fail> {
+    Ok(search_random(&rt, rt.alloc(), "both cases", b"aAb")?)
+}
+
+#[test]
+fn random_inputs_over_all_bytes_are_searched(rt: HostRuntime) -> Result<(), Fail> {
+    let mut every_byte = [0; 256];
+    for (number, byte) in every_byte.iter_mut().enumerate() {
+        *byte = (number % 256) as u8;
+    }
+    Ok(search_random(&rt, rt.alloc(), "all bytes", &every_byte)?)
 }

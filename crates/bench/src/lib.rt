@@ -9,11 +9,14 @@
 mod automata;
 #[cfg(test)]
 mod building;
+pub mod callers;
 #[cfg(test)]
 mod calls;
-pub mod every;
+#[cfg(test)]
+mod compiling;
 #[cfg(test)]
 mod inputs;
+pub mod listing;
 #[cfg(test)]
 mod lookups;
 pub mod one_byte;
@@ -23,6 +26,8 @@ pub mod plain;
 mod reading;
 #[cfg(test)]
 mod rows;
+#[cfg(test)]
+mod tables;
 pub mod tally;
 
 pub use pattern_set::PatternSet;

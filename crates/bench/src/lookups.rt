@@ -103,16 +103,17 @@ fn searches_cost_what_they_should(rt: HostRuntime) -> Result<(), Fail> {
     for row in ROWS {
         let nfa = nfa_of(&rt, rt.alloc(), row.patterns, row.kind, false);
         let (haystack, span) = (row.haystack, row.span);
-        assert!(rt; span.end <= haystack.len());
-        assert!(rt; span.start <= span.end + 1);
+        let case = (row.kind, row.patterns, haystack, span, row.anchored);
+        assert!(rt; span.end <= haystack.len(), "{case:?}");
+        assert!(rt; span.start <= span.end + 1, "{case:?}");
         let mut bytes = Bytes::new(haystack);
         let lookups = lookups_over(&nfa, &mut bytes, span, row.anchored)?;
-        assert_eq!(rt; lookups, row.lookups, "{haystack:?}");
+        assert_eq!(rt; lookups, row.lookups, "{case:?}");
         let mut text = Reading::new(haystack);
         let lookups = lookups_over(&nfa, &mut text, span, row.anchored)?;
-        assert_eq!(rt; lookups, row.lookups, "{haystack:?}");
-        assert_eq!(rt; text.reads(), row.reads, "{haystack:?}");
-        assert_eq!(rt; text.next_place(), row.reads, "{haystack:?}");
+        assert_eq!(rt; lookups, row.lookups, "{case:?}");
+        assert_eq!(rt; text.reads(), row.reads, "{case:?}");
+        assert_eq!(rt; text.next_place(), row.reads, "{case:?}");
     }
     Ok(())
 }
@@ -123,12 +124,13 @@ fn searches_step_once_a_byte(rt: HostRuntime) -> Result<(), Fail> {
         let nfa = nfa_of(&rt, rt.alloc(), row.patterns, row.kind, false);
         let tally = Tally::new(nfa);
         let (haystack, span) = (row.haystack, row.span);
-        assert!(rt; span.end <= haystack.len());
-        assert!(rt; span.start <= span.end + 1);
+        let case = (row.kind, row.patterns, haystack, span, row.anchored);
+        assert!(rt; span.end <= haystack.len(), "{case:?}");
+        assert!(rt; span.start <= span.end + 1, "{case:?}");
         let input = Input::new(haystack).span(span).anchored(row.anchored);
         let _found = tally.try_find(&input)?;
-        assert_eq!(rt; tally.steps(), row.reads as u64, "{haystack:?}");
-        assert_eq!(rt; tally.next_states(), 0, "{haystack:?}");
+        assert_eq!(rt; tally.steps(), row.reads as u64, "{case:?}");
+        assert_eq!(rt; tally.next_states(), 0, "{case:?}");
     }
     Ok(())
 }

@@ -34,7 +34,7 @@ impl OneByte {
 impl Automaton for OneByte {
     ghost use Rattle.std.specs.Prelude.{◌≡◌, ℕ, [], ◌∷◌, ◌<◌, true, false, refl};
     ghost use Rattle.aho_base.specs.declared.search.MatchKind.TheVariants.{Standard};
-    ghost use Rattle.bench.specs.OneByte.{IsHeldByOne, all_special, is_first, list_of, one_pattern, reads_one, start_of_one};
+    ghost use Rattle.bench.specs.OneByte.{IsHeldByOne, all_special, is_first, list_of, next_of, one_pattern, reads_one, start_of_one};
 
     ghost is_of = { λ one p. p ≡ one_pattern one };
 
@@ -55,6 +55,10 @@ impl Automaton for OneByte {
     ghost starts = { λ one sid. is_first sid };
 
     ghost depth = { λ one sid. 0 };
+
+    ghost next = { λ one anchored sid byte. next_of one byte };
+
+    ghost lookups = { λ one p anchored word byte. 1 };
 
     ghost start = { λ one anchored. start_of_one anchored };
 
@@ -133,6 +137,8 @@ impl Automaton for OneByte {
     ghost plain = { λ one sid valid. all_special sid };
 
     ghost dead_shallow = { λ one sid valid dead. refl };
+
+    ghost starts_shallow = { λ one sid valid starts. refl };
 }
 
 #[cfg(test)]

@@ -1,14 +1,16 @@
 //! What the plain searches look for.
 
 ghost use Rattle.std.specs.Prelude.{◌≡◌, ◌+◌, ◌<◌, ◌≤◌, length, map};
+ghost use Rattle.aho_base.specs.Numbers.{greatest_index};
 ghost use Rattle.aho_base.specs.Patterns.{Patterns, pattern_at};
 
-use aho_base::search::{MatchKind, PatternID};
+use aho_base::search::MatchKind;
 use std::marker::Model;
 
 /// The patterns of a search, with the match kind and the case rule.
 ///
 /// Patterns are numbered from 0 on, in the order in which they were given.
+#[derive(Debug)]
 pub struct PatternSet<'p> {
     words: &'p [&'p [u8]],
     kind: MatchKind,
@@ -31,7 +33,11 @@ impl<'p> Model for PatternSet<'p> {
 
     ghost Value = { Patterns };
 
-    ghost view = { λ set. record { words = map (λ w. w.now) set.words.now; kind = set.kind; ignore_case = set.ignore_case } };
+    ghost view = { λ set. record {
+      words = map (λ w. w.now) set.words.now;
+      kind = set.kind;
+      ignore_case = set.ignore_case;
+    } };
 
     // each pattern has a number
     ghost invariant = { λ set. length set.words.now ≤ 2147483647 };
@@ -44,8 +50,12 @@ impl<'p> PatternSet<'p> {
     ///
     /// There are at most `PatternID::MAX + 1` patterns, so that each has a number.
     pub fn new(words: &'p [&'p [u8]], kind: MatchKind, ignore_case: bool) -> PatternSet<'p>
-        requires numbered { length words.now ≤ PatternID.MAX + 1 }
-        ensures made { result ≡ record { words = map (λ w. w.now) words.now; kind = kind; ignore_case = ignore_case } }
+        requires numbered { length words.now ≤ greatest_index + 1 }
+        ensures made { result ≡ record {
+          words = map (λ w. w.now) words.now;
+          kind = kind;
+          ignore_case = ignore_case;
+        } }
     {
         PatternSet {
             words,
@@ -57,7 +67,7 @@ impl<'p> PatternSet<'p> {
     /// How many patterns there are.
     pub(crate) fn patterns_len(&self) -> usize
         ensures patterns_len { result ≡ length self.now.words }
-        ensures numbered { result ≤ PatternID.MAX + 1 }
+        ensures numbered { result ≤ greatest_index + 1 }
     {
         self.words.len()
     }

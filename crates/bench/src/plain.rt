@@ -27,7 +27,7 @@ fn folded_byte(patterns: &PatternSet<'_>, byte: u8) -> u8
 }
 
 /// Whether two words are the same: of one length, with bytes that are the same one by one.
-#[tactic(auto, using(aho_base::proofs::SameWords::same_words, crate::proofs::WordTests::tests))]
+#[tactic(auto, using(aho_laws::proofs::SameWords::same_words, crate::proofs::WordTests::tests))]
 pub(crate) fn is_same_word(patterns: &PatternSet<'_>, x: &[u8], y: &[u8]) -> bool
     ensures is_same_word { result ≡ is_same_word patterns.now x.now y.now }
 {
@@ -87,7 +87,8 @@ pub(crate) fn stands_at(patterns: &PatternSet<'_>, number: usize, haystack: &[u8
     requires there { number < length patterns.now.words }
     requires ordered { at.start ≤ at.end }
     requires within { at.end ≤ length haystack.now }
-    ensures stands_at { result ≡ is_same_word patterns.now (pattern_at patterns.now number) (slice_range haystack.now at.start at.end) }
+    ensures stands_at { result ≡ is_same_word patterns.now
+        (pattern_at patterns.now number) (slice_range haystack.now at.start at.end) }
 {
     is_same_word(
         patterns,
@@ -121,7 +122,8 @@ fn best_at(patterns: &PatternSet<'_>, input: &Input<'_>, at: Span) -> Option<Mat
     requires after_start { input.now.start ≤ at.start }
     requires ordered { at.start ≤ at.end }
     requires before_end { at.end ≤ input.now.end }
-    ensures best { IsBestOrNone patterns.now.kind (OccursAt patterns.now input.now at.start at.end) result }
+    ensures best { IsBestOrNone patterns.now.kind
+        (OccursAt patterns.now input.now at.start at.end) result }
 {
     let _end = input.end();
     if !is_admitted(input, at.start) {
@@ -139,7 +141,8 @@ fn best_at(patterns: &PatternSet<'_>, input: &Input<'_>, at: Span) -> Option<Mat
 fn best_ending(patterns: &PatternSet<'_>, input: &Input<'_>, end: usize) -> Option<Match>
     requires after_start { input.now.start ≤ end }
     requires before_end { end ≤ input.now.end }
-    ensures best { IsBestOrNone patterns.now.kind (OccursEndingAt patterns.now input.now end) result }
+    ensures best { IsBestOrNone patterns.now.kind
+        (OccursEndingAt patterns.now input.now end) result }
 {
     let mut best = None;
     for start in input.start()..=end {

@@ -5,18 +5,20 @@
 ghost use Rattle.std.specs.Prelude.{◌+◌, ◌≤◌, length};
 
 use crate::automata::nfa_of;
-use crate::every::{all, anchored, finds};
+use crate::listing::{all, anchored, finds};
 use crate::pattern_set::PatternSet;
 use crate::plain::plain;
 use aho_base::search::{Anchored, Input, Match, MatchKind, PatternID, Span};
 use aho_search::automaton::Automaton;
 use std::alloc::{AllocError, Global};
+use std::process::Abort;
 use std::test::Fail;
 
 /// A pattern's number, and where its match starts and ends.
 type Found = (usize, usize, usize);
 
 /// What is wanted of a row.
+#[derive(Debug)]
 enum Want {
     /// What the search answers.
     First(Option<Found>),
@@ -27,6 +29,7 @@ enum Want {
 }
 
 /// A search, at each of the match kinds, with what is wanted. No span is the whole haystack.
+#[derive(Debug)]
 struct Row {
     name: &'static str,
     kinds: &'static [MatchKind],
@@ -418,39 +421,57 @@ fn input_of(row: &Row, span: Span) -> Input<'static>
         .earliest(row.earliest)
 }
 
+/// The matches that are wanted of a row beside its answer, as the plain program has them.
+fn listed(
+    alloc: Global,
+    row: &Row,
+    patterns: &PatternSet<'_>,
+    input: Input<'_>,
+) -> Result<Vec<Found>, AllocError> {
+    let (haystack, span) = (input.haystack(), input.get_span());
+    let matches = match (&row.want, row.anchored) {
+        (Want::First(_), _) => Vec::new(alloc),
+        (Want::Finds(_), _) => finds(alloc, patterns, input)?,
+        (Want::Listing(_), Anchored::No) => all(alloc, patterns, haystack, span)?,
+        (Want::Listing(_), Anchored::Yes) => anchored(alloc, patterns, haystack, span)?,
+    };
+    all_found(alloc, &matches)
+}
+
+/// Whether this is what is wanted of a row.
+fn is_wanted(row: &Row, answer: Option<Found>, listed: &[Found]) -> bool {
+    match row.want {
+        Want::First(want) => answer == want,
+        Want::Finds(want) => listed == want && answer == want.first().copied(),
+        Want::Listing(want) => listed == want,
+    }
+}
+
+/// The plain program and the automaton answer what is wanted of a row, at one match kind.
+fn row_is_met(rt: &impl Abort, alloc: Global, row: &Row, kind: MatchKind) -> Result<(), Fail> {
+    let span = span_of(row);
+    assert!(rt; row.patterns.len() <= PatternID::MAX.as_usize());
+    assert!(rt; span.end <= row.haystack.len());
+    assert!(rt; span.start <= span.end + 1);
+    let patterns = PatternSet::new(row.patterns, kind, row.ignore_case);
+    let input = input_of(row, span);
+    let answer = plain(&patterns, &input);
+    let nfa = nfa_of(rt, alloc, row.patterns, kind, row.ignore_case);
+    assert_eq!(rt; nfa.try_find(&input)?, answer, "{kind:?} {row:?}");
+    let listed = listed(alloc, row, &patterns, input)?;
+    let found = answer.map(found_of);
+    assert!(rt;
+        is_wanted(row, found, &listed),
+        "{kind:?} {row:?}: {found:?} {listed:?}"
+    );
+    Ok(())
+}
+
 #[test]
 fn rows_are_met(rt: HostRuntime) -> Result<(), Fail> {
     for row in ROWS {
-        let span = span_of(row);
-        assert!(rt; row.patterns.len() <= PatternID::MAX);
-        assert!(rt; span.end <= row.haystack.len());
-        assert!(rt; span.start <= span.end + 1);
         for kind in row.kinds {
-            let patterns = PatternSet::new(row.patterns, *kind, row.ignore_case);
-            let input = input_of(row, span);
-            let answer = plain(&patterns, &input).map(found_of);
-            let nfa = nfa_of(&rt, rt.alloc(), row.patterns, *kind, row.ignore_case);
-            assert_eq!(rt; nfa.try_find(&input)?.map(found_of), answer, "{}", row.name);
-            match row.want {
-                Want::First(want) => assert_eq!(rt; answer, want, "{}", row.name),
-                Want::Finds(want) => {
-                    assert_eq!(rt; answer, want.first().copied(), "{}", row.name);
-                    let found = all_found(rt.alloc(), &finds(rt.alloc(), &patterns, input)?)?;
-                    assert_eq!(rt; found.as_slice(), want, "{}", row.name);
-                }
-                Want::Listing(want) => {
-                    let listed = match row.anchored {
-                        Anchored::No => all(rt.alloc(), &patterns, row.haystack, span)?,
-                        Anchored::Yes => anchored(rt.alloc(), &patterns, row.haystack, span)?,
-                    };
-                    assert_eq!(rt;
-                        all_found(rt.alloc(), &listed)?.as_slice(),
-                        want,
-                        "{}",
-                        row.name
-                    );
-                }
-            }
+            row_is_met(&rt, rt.alloc(), row, *kind)?;
         }
     }
     Ok(())

@@ -20,7 +20,8 @@ pub struct Tally<A> {
 impl<A: Automaton> Tally<A> {
     /// A tally over this automaton, with nothing counted yet.
     pub fn new(automaton: A) -> Tally<A>
-        ensures of { (p : Patterns) → A.is_of automaton p → ⟦<Tally<A> as Automaton>⟧.is_of result p }
+        ensures of { (p : Patterns)
+            → A.is_of automaton p → ⟦<Tally<A> as Automaton>⟧.is_of result p }
     {
         Tally {
             automaton,
@@ -60,6 +61,10 @@ impl<A: Automaton> Automaton for Tally<A> {
     ghost starts = { λ a sid. A.starts a.automaton sid };
 
     ghost depth = { λ a sid. A.depth a.automaton sid };
+
+    ghost next = { λ a anchored sid byte. A.next a.automaton anchored sid byte };
+
+    ghost lookups = { λ a p anchored word byte. A.lookups a.automaton p anchored word byte };
 
     ghost start = { λ a anchored. A.start a.automaton anchored };
 
@@ -133,4 +138,6 @@ impl<A: Automaton> Automaton for Tally<A> {
     ghost plain = { λ a. A.plain a.automaton };
 
     ghost dead_shallow = { λ a. A.dead_shallow a.automaton };
+
+    ghost starts_shallow = { λ a. A.starts_shallow a.automaton };
 }

@@ -1,71 +1,106 @@
-//! Runs over words and bytes in memory, and over devices that fail.
+//! Runs over words and bytes in memory, and over devices that fail. Each message names its case.
 
 use super::*;
+use aho_base::error::{BuildError, MatchError};
+use aho_base::search::{MatchKind, PatternID};
 use std::alloc::AllocError;
+use std::io;
+use std::io::ErrorKind;
 use std::test::Fail;
 
 const USAGE: &str = "usage: acfind find KIND [-i] PATTERN.. | overlap PATTERN.. | replace P R ..\n";
 
-/// A reader that gives some bytes and then fails.
+/// A reader that gives some bytes, then fails once, and then gives some more.
 #[derive(Drop)]
 struct Broken<'b> {
     first: &'b [u8],
-    kind: ErrorKind,
+    kind: Option<ErrorKind>,
+    rest: &'b [u8],
 }
 
 impl<'b> Read for Broken<'b> {
     fn read(&mut self, buf: &mut [u8]) -> io::Result<usize> {
-        if self.first.is_empty() {
-            return Err(io::Error::from(self.kind));
+        if !self.first.is_empty() {
+            return self.first.read(buf);
         }
-        self.first.read(buf)
+        match self.kind.take() {
+            Some(kind) => Err(io::Error::from(kind)),
+            None => self.rest.read(buf),
+        }
     }
 }
 
-/// A writer that refuses to flush, and each write unless it takes them.
+/// A reader that gives a byte at a time.
 #[derive(Drop)]
-struct Refusing {
-    takes: bool,
+struct Slow<'b> {
+    rest: &'b [u8],
 }
 
-impl Write for Refusing {
-    fn write(&mut self, buf: &[u8]) -> io::Result<usize> {
-        if self.takes {
-            Ok(buf.len())
-        } else {
-            Err(io::Error::from(ErrorKind::BrokenPipe))
-        }
-    }
-
-    fn flush(&mut self) -> io::Result<()> {
-        Err(io::Error::from(ErrorKind::BrokenPipe))
+impl<'b> Read for Slow<'b> {
+    fn read(&mut self, buf: &mut [u8]) -> io::Result<usize> {
+        let most = buf.len().min(1);
+        self.rest.read(&mut buf[..most])
     }
 }
 
-/// A writer that takes a byte at a time, after an interruption.
+/// What a writer does with a write once it has taken its first bytes.
+#[derive(Clone, Copy)]
+enum Then {
+    /// It goes on to take them.
+    Takes,
+    /// It takes none.
+    TakesNone,
+    /// It fails once, and then takes them.
+    Fails(ErrorKind),
+}
+
+/// A writer that takes a byte at a time, `first` of them at least, and keeps what it took until it is flushed.
 #[derive(Drop)]
-struct Piecewise {
-    written: Vec<u8>,
-    ready: bool,
+struct Device {
+    first: usize,
+    then: Then,
+    flush: Option<ErrorKind>,
+    held: Vec<u8>,
+    flushed: Vec<u8>,
 }
 
-impl Write for Piecewise {
-    fn write(&mut self, buf: &[u8]) -> io::Result<usize> {
-        if !self.ready {
-            self.ready = true;
-            return Err(io::Error::from(ErrorKind::Interrupted));
+impl Device {
+    fn new(alloc: Global, first: usize, then: Then, flush: Option<ErrorKind>) -> Device {
+        Device {
+            first,
+            then,
+            flush,
+            held: Vec::new(alloc),
+            flushed: Vec::new(alloc),
         }
-        self.ready = false;
-        match buf.first() {
-            Some(byte) => {
-                self.written.push(*byte)?;
-                Ok(1)
+    }
+}
+
+impl Write for Device {
+    fn write(&mut self, buf: &[u8]) -> io::Result<usize> {
+        let Some(byte) = buf.first() else {
+            return Ok(0);
+        };
+        if self.held.len() >= self.first {
+            match self.then {
+                Then::Takes => {}
+                Then::TakesNone => return Ok(0),
+                Then::Fails(kind) => {
+                    self.then = Then::Takes;
+                    return Err(io::Error::from(kind));
+                }
             }
-            None => Ok(0),
         }
+        self.held.push(*byte)?;
+        Ok(1)
     }
 
     fn flush(&mut self) -> io::Result<()> {
+        if let Some(kind) = self.flush.take() {
+            return Err(io::Error::from(kind));
+        }
+        self.flushed.extend_from_slice(self.held.as_slice())?;
+        self.held.truncate(0);
         Ok(())
     }
 }
@@ -78,23 +113,22 @@ fn texts(alloc: Global, words: &[&str]) -> Result<Vec<String>, AllocError> {
     Ok(texts)
 }
 
-/// Runs on an input in memory, and answers what was written on output and errors.
-fn run_on(
+/// Runs on an input, and answers what was written on output and errors.
+fn run_on<R: Read>(
     alloc: Global,
     words: &[&str],
-    input: &[u8],
+    input: &mut R,
 ) -> Result<(u8, Vec<u8>, Vec<u8>), AllocError> {
     let words = texts(alloc, words)?;
-    let mut rest = input;
     let mut output = Vec::new(alloc);
     let mut errors = Vec::new(alloc);
-    let status = run(alloc, words.as_slice(), &mut rest, &mut output, &mut errors);
+    let status = run(alloc, words.as_slice(), input, &mut output, &mut errors);
     Ok((status, output, errors))
 }
 
 #[test]
 fn prints_the_first_match(rt: HostRuntime) -> Result<(), Fail> {
-    let rows: [(&[&str], &[u8], u8, &str); 9] = [
+    let rows: [(&[&str], &[u8], u8, &str); 13] = [
         (
             &["find", "standard", "b", "abc", "abcd"],
             b"abcd",
@@ -108,6 +142,14 @@ fn prints_the_first_match(rt: HostRuntime) -> Result<(), Fail> {
             0,
             "0 0 7\n",
         ),
+        (
+            &["find", "first", "sam", "samwise"],
+            b"samwise",
+            0,
+            "0 0 3\n",
+        ),
+        (&["find", "first", "a", "b"], b"b", 0, "1 0 1\n"),
+        (&["find", "first", "b", "a"], b"b", 0, "0 0 1\n"),
         (
             &["find", "longest", "abcd", "b", "bce"],
             b"abce",
@@ -124,20 +166,27 @@ fn prints_the_first_match(rt: HostRuntime) -> Result<(), Fail> {
         (&["find", "standard", "-i", "-i"], b"-I", 0, "0 0 2\n"),
         (&["find", "first", ""], b"", 0, "0 0 0\n"),
         (&["find", "standard", "b"], b"\xff\x00b", 0, "0 2 3\n"),
+        (&["find", "standard", "\u{e9}"], b"\xc3\xa9", 0, "0 0 2\n"),
     ];
     for (words, input, status, printed) in rows {
-        let (found, output, errors) = run_on(rt.alloc(), words, input)?;
-        assert_eq!(rt; found, status);
-        assert_eq!(rt; output.as_slice(), printed.as_bytes());
-        assert!(rt; errors.is_empty());
+        let mut rest = input;
+        let (found, output, errors) = run_on(rt.alloc(), words, &mut rest)?;
+        assert_eq!(rt; found, status, "{words:?} on {input:?}");
+        assert_eq!(rt;
+            output.as_slice(),
+            printed.as_bytes(),
+            "{words:?} on {input:?}"
+        );
+        assert!(rt; errors.is_empty(), "{words:?} on {input:?}");
     }
     Ok(())
 }
 
 #[test]
 fn tells_wrong_words(rt: HostRuntime) -> Result<(), Fail> {
-    let rows: [&[&str]; 8] = [
+    let rows: [&[&str]; 9] = [
         &[],
+        &[""],
         &["find"],
         &["find", "standard"],
         &["find", "standard", "-i"],
@@ -147,34 +196,70 @@ fn tells_wrong_words(rt: HostRuntime) -> Result<(), Fail> {
         &["replace", "a", "b"],
     ];
     for words in rows {
-        let (found, output, errors) = run_on(rt.alloc(), words, b"a")?;
-        assert_eq!(rt; found, 2);
-        assert!(rt; output.is_empty());
-        assert_eq!(rt; errors.as_slice(), USAGE.as_bytes());
+        let mut input: &[u8] = b"a";
+        let (found, output, errors) = run_on(rt.alloc(), words, &mut input)?;
+        assert_eq!(rt; found, 2, "{words:?}");
+        assert!(rt; output.is_empty(), "{words:?}");
+        assert_eq!(rt; errors.as_slice(), USAGE.as_bytes(), "{words:?}");
+    }
+    Ok(())
+}
+
+#[test]
+fn reads_an_input_of_several_pieces(rt: HostRuntime) -> Result<(), Fail> {
+    let words = ["find", "standard", "b"];
+    for (length, printed) in [
+        (PIECE - 1, "0 16383 16384\n"),
+        (PIECE, "0 16384 16385\n"),
+        (3 * PIECE, "0 49152 49153\n"),
+    ] {
+        let mut text = Vec::new(rt.alloc());
+        text.resize(length, b'a')?;
+        text.extend_from_slice(b"bb")?;
+        let mut input = text.as_slice();
+        let (found, output, _errors) = run_on(rt.alloc(), &words, &mut input)?;
+        assert_eq!(rt; found, 0, "{length} bytes");
+        assert_eq!(rt; output.as_slice(), printed.as_bytes(), "{length} bytes");
+        assert!(rt; input.is_empty(), "{length} bytes");
+        let mut slow = Slow {
+            rest: text.as_slice(),
+        };
+        let (found, output, _errors) = run_on(rt.alloc(), &words, &mut slow)?;
+        assert_eq!(rt; found, 0, "{length} bytes, one by one");
+        assert_eq!(rt;
+            output.as_slice(),
+            printed.as_bytes(),
+            "{length} bytes, one by one"
+        );
+        assert!(rt; slow.rest.is_empty(), "{length} bytes, one by one");
     }
     Ok(())
 }
 
 #[test]
 fn tells_a_reader_that_fails(rt: HostRuntime) -> Result<(), Fail> {
-    let words = texts(rt.alloc(), &["find", "standard", "b"])?;
-    for (kind, status, told) in [
-        (ErrorKind::Other, 3, "read fault\n"),
-        (ErrorKind::OutOfMemory, 2, "out of memory\n"),
+    let first: &[u8] = b"ab";
+    for kind in [
+        ErrorKind::Other,
+        ErrorKind::OutOfMemory,
+        ErrorKind::Interrupted,
     ] {
-        let mut input = Broken { first: b"ab", kind };
-        let mut output = Vec::new(rt.alloc());
-        let mut errors = Vec::new(rt.alloc());
-        let found = run(
-            rt.alloc(),
-            words.as_slice(),
-            &mut input,
-            &mut output,
-            &mut errors,
-        );
-        assert_eq!(rt; found, status);
-        assert!(rt; output.is_empty());
-        assert_eq!(rt; errors.as_slice(), told.as_bytes());
+        for first in [b"", first] {
+            let mut input = Broken {
+                first,
+                kind: Some(kind),
+                rest: b"b",
+            };
+            let words = ["find", "standard", "b"];
+            let (found, output, errors) = run_on(rt.alloc(), &words, &mut input)?;
+            assert_eq!(rt; found, 3, "{kind:?} after {first:?}");
+            assert!(rt; output.is_empty(), "{kind:?} after {first:?}");
+            assert_eq!(rt;
+                errors.as_slice(),
+                "read fault\n".as_bytes(),
+                "{kind:?} after {first:?}"
+            );
+        }
     }
     Ok(())
 }
@@ -182,9 +267,123 @@ fn tells_a_reader_that_fails(rt: HostRuntime) -> Result<(), Fail> {
 #[test]
 fn tells_a_writer_that_fails(rt: HostRuntime) -> Result<(), Fail> {
     let words = texts(rt.alloc(), &["find", "standard", "b"])?;
-    for takes in [false, true] {
-        let mut output = Refusing { takes };
-        let mut errors = Vec::new(rt.alloc());
+    let line = b"0 1 2\n";
+    let rows = [
+        (
+            "it is broken",
+            Then::Fails(ErrorKind::BrokenPipe),
+            None,
+            "write fault\n",
+        ),
+        (
+            "it is interrupted",
+            Then::Fails(ErrorKind::Interrupted),
+            None,
+            "write fault\n",
+        ),
+        (
+            "memory is wanted",
+            Then::Fails(ErrorKind::OutOfMemory),
+            None,
+            "write fault\n",
+        ),
+        (
+            "no byte is taken",
+            Then::TakesNone,
+            None,
+            "write took no bytes\n",
+        ),
+        (
+            "a buffer's write took no byte",
+            Then::Fails(ErrorKind::WriteZero),
+            None,
+            "write took no bytes\n",
+        ),
+        (
+            "a flush fails",
+            Then::Takes,
+            Some(ErrorKind::BrokenPipe),
+            "write fault\n",
+        ),
+        (
+            "a flush is interrupted",
+            Then::Takes,
+            Some(ErrorKind::Interrupted),
+            "write fault\n",
+        ),
+        (
+            "a buffer's flush took no byte",
+            Then::Takes,
+            Some(ErrorKind::WriteZero),
+            "write took no bytes\n",
+        ),
+    ];
+    for (case, then, flush, told) in rows {
+        for first in [0, 1, 5] {
+            let mut output = Device::new(rt.alloc(), first, then, flush);
+            let mut errors = Vec::new(rt.alloc());
+            let mut input: &[u8] = b"ab";
+            let found = run(
+                rt.alloc(),
+                words.as_slice(),
+                &mut input,
+                &mut output,
+                &mut errors,
+            );
+            let held = match then {
+                Then::Takes => line.len(),
+                Then::TakesNone | Then::Fails(_) => first,
+            };
+            assert_eq!(rt; found, 3, "{case} after {first}");
+            assert_eq!(rt;
+                output.held.as_slice(),
+                &line[..held],
+                "{case} after {first}"
+            );
+            assert!(rt; output.flushed.is_empty(), "{case} after {first}");
+            assert_eq!(rt; errors.as_slice(), told.as_bytes(), "{case} after {first}");
+        }
+    }
+    Ok(())
+}
+
+#[test]
+fn keeps_the_status_where_errors_cannot_be_told(rt: HostRuntime) -> Result<(), Fail> {
+    let right = texts(rt.alloc(), &["find", "standard", "b"])?;
+    let wrong = texts(rt.alloc(), &["find"])?;
+    for then in [Then::TakesNone, Then::Fails(ErrorKind::Interrupted)] {
+        for (case, words, status, told) in [
+            ("wrong words", &wrong, 2, USAGE),
+            ("a reader that fails", &right, 3, "read fault\n"),
+        ] {
+            let mut output = Vec::new(rt.alloc());
+            let mut errors = Device::new(rt.alloc(), 4, then, None);
+            let mut input = Broken {
+                first: b"",
+                kind: Some(ErrorKind::Other),
+                rest: b"",
+            };
+            let found = run(
+                rt.alloc(),
+                words.as_slice(),
+                &mut input,
+                &mut output,
+                &mut errors,
+            );
+            assert_eq!(rt; found, status, "{case}");
+            assert!(rt; output.is_empty(), "{case}");
+            assert_eq!(rt; errors.held.as_slice(), &told.as_bytes()[..4], "{case}");
+        }
+    }
+    Ok(())
+}
+
+#[test]
+fn writes_in_pieces_and_flushes(rt: HostRuntime) -> Result<(), Fail> {
+    for (kind, status, printed, told) in [("standard", 0, "0 1 2\n", ""), ("none", 2, "", USAGE)] {
+        let words = texts(rt.alloc(), &["find", kind, "b"])?;
+        let mut output = Device::new(rt.alloc(), 0, Then::Takes, None);
+        let mut errors = Device::new(rt.alloc(), 0, Then::Takes, None);
         let mut input: &[u8] = b"ab";
         let found = run(
             rt.alloc(),
@@ -193,61 +392,62 @@ fn tells_a_writer_that_fails(rt: HostRuntime) -> Result<(), Fail> {
             &mut output,
             &mut errors,
         );
-        assert_eq!(rt; found, 3);
-        assert_eq!(rt; errors.as_slice(), "write fault\n".as_bytes());
+        assert_eq!(rt; found, status, "{kind}");
+        assert_eq!(rt; output.flushed.as_slice(), printed.as_bytes(), "{kind}");
+        assert_eq!(rt; errors.flushed.as_slice(), told.as_bytes(), "{kind}");
     }
     Ok(())
 }
 
+/// The longest line has room.
 #[test]
-fn keeps_the_status_where_errors_cannot_be_told(rt: HostRuntime) -> Result<(), Fail> {
-    let mut errors = Refusing { takes: false };
-    let mut output = Vec::new(rt.alloc());
-    let mut input: &[u8] = b"ab";
-    let words = texts(rt.alloc(), &["find"])?;
-    let found = run(
-        rt.alloc(),
-        words.as_slice(),
-        &mut input,
-        &mut output,
-        &mut errors,
-    );
-    assert_eq!(rt; found, 2);
-    let words = texts(rt.alloc(), &["find", "standard", "b"])?;
-    let mut input = Broken {
-        first: b"",
-        kind: ErrorKind::Other,
-    };
-    let found = run(
-        rt.alloc(),
-        words.as_slice(),
-        &mut input,
-        &mut output,
-        &mut errors,
-    );
-    assert_eq!(rt; found, 3);
-    assert!(rt; output.is_empty());
-    Ok(())
-}
-
-#[test]
-fn writes_in_pieces(rt: HostRuntime) -> Result<(), Fail> {
-    let words = texts(rt.alloc(), &["find", "standard", "b"])?;
-    let mut output = Piecewise {
-        written: Vec::new(rt.alloc()),
-        ready: false,
-    };
-    let mut errors = Vec::new(rt.alloc());
-    let mut input: &[u8] = b"ab";
-    let found = run(
-        rt.alloc(),
-        words.as_slice(),
-        &mut input,
-        &mut output,
-        &mut errors,
-    );
-    assert_eq!(rt; found, 0);
-    assert_eq!(rt; output.written.as_slice(), "0 1 2\n".as_bytes());
-    assert!(rt; errors.is_empty());
+fn tells_each_fault_in_a_line(rt: HostRuntime) -> Result<(), Fail> {
+    let max = u64::MAX;
+    let rows = [
+        (Fault::Usage, 2, USAGE),
+        (
+            Fault::Build(BuildError::StateIDOverflow {
+                max,
+                requested: max,
+            }),
+            2,
+            "state identifier overflow: failed to create state ID from 18446744073709551615, which exceeds the max of \
+             18446744073709551615\n",
+        ),
+        (
+            Fault::Build(BuildError::PatternIDOverflow {
+                max,
+                requested: max,
+            }),
+            2,
+            "pattern identifier overflow: failed to create pattern ID from 18446744073709551615, which exceeds the max of \
+             18446744073709551615\n",
+        ),
+        (
+            Fault::Build(BuildError::PatternTooLong {
+                pattern: PatternID::new(7)?,
+                len: usize::MAX,
+                max: usize::MAX,
+            }),
+            2,
+            "pattern 7 with length 18446744073709551615 exceeds the maximum pattern length of 18446744073709551615\n",
+        ),
+        (Fault::Build(BuildError::OutOfMemory), 2, "out of memory\n"),
+        (
+            Fault::Search(MatchError::unsupported_overlapping(MatchKind::LeftmostLongest)),
+            2,
+            "match kind LeftmostLongest does not support overlapping searches\n",
+        ),
+        (Fault::OutOfMemory, 2, "out of memory\n"),
+        (Fault::Read, 3, "read fault\n"),
+        (Fault::Write, 3, "write fault\n"),
+        (Fault::WriteZero, 3, "write took no bytes\n"),
+    ];
+    for (fault, status, told) in &rows {
+        let mut errors = Vec::new(rt.alloc());
+        let found = report(fault, &mut errors);
+        assert_eq!(rt; found, *status, "{fault}");
+        assert_eq!(rt; errors.as_slice(), told.as_bytes(), "{fault}");
+    }
     Ok(())
 }

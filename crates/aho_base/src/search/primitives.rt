@@ -1,6 +1,7 @@
 //! Numbers of patterns and states, and indexes of tables: each at most `MAX`.
 
 ghost use Rattle.std.specs.Prelude.{◌≡◌, ℕ, ◌<◌, ◌≤◌, IfOk, IfErr, ◌↔◌, IsOk};
+ghost use Rattle.aho_base.specs.Numbers.{greatest_index};
 
 use std::marker::Model;
 
@@ -12,19 +13,20 @@ pub struct SmallIndex {
 
 impl Model for SmallIndex {
     ghost use Rattle.std.specs.Prelude.{ℕ, ◌≤◌};
+    ghost use Rattle.aho_base.specs.Numbers.{greatest_index};
 
     ghost Value = { ℕ };
 
     ghost view = { λ index. index.value };
 
-    ghost invariant = { λ index. index.value ≤ 2147483646 };
+    ghost invariant = { λ index. index.value ≤ greatest_index };
 
     ghost inverse = { λ number. record { value = number } };
 }
 
 impl SmallIndex {
     /// The greatest index.
-    pub const MAX: usize = 2147483646;
+    pub const MAX: SmallIndex = SmallIndex { value: 2147483646 };
 
     /// The index of this value.
     ///
@@ -32,11 +34,11 @@ impl SmallIndex {
     ///
     /// A number above `MAX` is refused.
     pub fn new(index: usize) -> Result<SmallIndex, SmallIndexError>
-        ensures accepted { IsOk result ↔ (index ≤ Self.MAX) }
+        ensures accepted { IsOk result ↔ (index ≤ greatest_index) }
         ensures value { IfOk result (λ made. made ≡ index) }
         ensures attempted { IfErr result (λ error. error ≡ index) }
     {
-        if index <= Self::MAX {
+        if index <= Self::MAX.as_usize() {
             Ok(SmallIndex {
                 value: index as u32,
             })
@@ -50,9 +52,19 @@ impl SmallIndex {
     /// The index as a `usize`.
     pub fn as_usize(self) -> usize
         ensures value { result ≡ self }
-        ensures bound { result ≤ Self.MAX }
+        ensures bound { result ≤ greatest_index }
     {
         self.value as usize
+    }
+
+    /// The index of a value that is known to be small enough.
+    pub fn new_unchecked(index: usize) -> SmallIndex
+        requires within { index ≤ greatest_index }
+        ensures value { result ≡ index }
+    {
+        SmallIndex {
+            value: index as u32,
+        }
     }
 }
 
@@ -99,7 +111,9 @@ impl Model for PatternID {
 
 impl PatternID {
     /// The greatest number of a pattern.
-    pub const MAX: usize = 2147483646;
+    pub const MAX: PatternID = PatternID {
+        index: SmallIndex::MAX,
+    };
 
     /// The pattern of this number.
     ///
@@ -107,7 +121,7 @@ impl PatternID {
     ///
     /// A number above `MAX` is refused.
     pub fn new(index: usize) -> Result<PatternID, PatternIDError>
-        ensures accepted { IsOk result ↔ (index ≤ Self.MAX) }
+        ensures accepted { IsOk result ↔ (index ≤ greatest_index) }
         ensures value { IfOk result (λ made. made ≡ index) }
         ensures attempted { IfErr result (λ error. error ≡ index) }
     {
@@ -120,9 +134,19 @@ impl PatternID {
     /// The number as a `usize`.
     pub fn as_usize(self) -> usize
         ensures value { result ≡ self }
-        ensures bound { result ≤ Self.MAX }
+        ensures bound { result ≤ greatest_index }
     {
         self.index.as_usize()
+    }
+
+    /// The pattern of a number that is known to be small enough.
+    pub fn new_unchecked(index: usize) -> PatternID
+        requires within { index ≤ greatest_index }
+        ensures value { result ≡ index }
+    {
+        PatternID {
+            index: SmallIndex::new_unchecked(index),
+        }
     }
 }
 
@@ -169,7 +193,9 @@ impl Model for StateID {
 
 impl StateID {
     /// The greatest number of a state.
-    pub const MAX: usize = 2147483646;
+    pub const MAX: StateID = StateID {
+        index: SmallIndex::MAX,
+    };
 
     /// The number of the first state.
     pub const ZERO: StateID = StateID {
@@ -187,7 +213,7 @@ impl StateID {
     ///
     /// A number above `MAX` is refused.
     pub fn new(index: usize) -> Result<StateID, StateIDError>
-        ensures accepted { IsOk result ↔ (index ≤ Self.MAX) }
+        ensures accepted { IsOk result ↔ (index ≤ greatest_index) }
         ensures value { IfOk result (λ made. made ≡ index) }
         ensures attempted { IfErr result (λ error. error ≡ index) }
     {
@@ -200,9 +226,19 @@ impl StateID {
     /// The number as a `usize`.
     pub fn as_usize(self) -> usize
         ensures value { result ≡ self }
-        ensures bound { result ≤ Self.MAX }
+        ensures bound { result ≤ greatest_index }
     {
         self.index.as_usize()
+    }
+
+    /// The state of a number that is known to be small enough.
+    pub fn new_unchecked(index: usize) -> StateID
+        requires within { index ≤ greatest_index }
+        ensures value { result ≡ index }
+    {
+        StateID {
+            index: SmallIndex::new_unchecked(index),
+        }
     }
 }
 

@@ -1,7 +1,7 @@
 use Rattle.std.proofs.Common.{◌≡◌, [], drop, ap, arith}
 use Rattle.std.proofs.Math.ListN.{drop_of_length-le}
 use Rattle.aho_base.specs.Laws.{shortest}
-use Rattle.aho_corasick.proofs.Lengths.{min-shortest}
+use Rattle.aho_build.proofs.ShortestLength.{min-shortest}
 use Rattle.aho_corasick.proofs.noncontiguous.shortest_len.Goals as goal
 
 pub loop-len-init : goal.loop-len-init

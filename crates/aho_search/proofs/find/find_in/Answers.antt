@@ -4,11 +4,10 @@ use Rattle.std.specs.Prelude.{slice_range}
 use Rattle.aho_base.specs.Laws.{first_is_answer}
 use Rattle.aho_base.specs.Patterns.{Patterns}
 use Rattle.aho_search.proofs.Told.{is_none}
-use Rattle.aho_search.proofs.Walks.{Standing, stands_at_start, stands_silent, stands_unlisted, stands_first, stands_last, answer_at_end, answer_when_dead, answer_found, not_before, later, near_at_start, near_further}
+use Rattle.aho_search.proofs.Walks.{Standing, stands_at_start, stands_silent, stands_unlisted, stands_first, stands_last, answer_at_end, answer_when_dead, answer_found, not_before, later, near_at_start, near_further, anchored_near_further}
 use Rattle.aho_search.proofs.find.find_in.Given.{Over}
-use Rattle.aho_search.proofs.find.find_in.Goals.{After-step-sid, Joined-else-stops, Joined-is_special}
+use Rattle.aho_search.proofs.find.find_in.Goals.{After-step-sid, Joined-else-stops, Joined-is_special, then-is_special+else-is_dead+in-Some+else-stops-2, then-is_special+else-is_dead+in_default, else-is_special, else-stops-via-then-stops+else-is_some, else-stops-via-else-stops}
 use Rattle.aho_search.proofs.find.find_in.Goals as goal
-use Rattle.aho_search.proofs.find.find_in.Goals.{then-is_special+else-is_dead+in-Some+else-stops-2, then-is_special+else-is_dead+in_default, else-is_special, else-stops-via-then-stops+else-is_some, else-stops-via-else-stops}
 
 -- a match that is told before the first byte is the answer of a search that stops there
 pub returns-then-is_some-clause-found : goal.returns-then-is_some-clause-found
@@ -32,6 +31,7 @@ loop-at-init g c = record {
   valid = c.in_ok-sid.ensures.valid;
   quiet = λ stops. elim c.else-stops.branch [ else-stops-via-then-stops+else-is_some w ↦ is_none _ w.if-is_some.ensures | else-stops-via-else-stops w ↦ cc (c.stops_at_first-stops.ensures.first, w.if-stops.false, stops) ];
   near = λ unanchored leftmost m e. near_at_start (g.met.W.Of.Automaton.laws _ _ c.requires.of.1) _ _ _ _ _ m (omega arith) (begun g c _ c.requires.of.1) e;
+  anchored_near = λ is_anchored. omega arith;
   stands = begun g c;
 }
 
@@ -45,7 +45,7 @@ held_after : (g : Over) (c : After-step-sid g) (p : Patterns) → g.W.Of.Automat
 held_after g c p of =
     let read : c.byte-byte.result ≡ get_or (g.T.Text.bytes c.args.text.now) c.loop-at.at 0 = c.byte-byte.ensures.read ∙ ap (λ xs. get_or xs c.loop-at.at 0) c.loop-at.invariant.same_text in
     subst (λ (x : ℕ). g.W.Of.Automaton.held (g.W.Walk.of c.args.walk.now) p c.args.anchored (slice_range (g.T.Text.bytes c.args.text.now) c.args.span.start c.loop-at.at ++ x ∷ []) c.step-sid.result) read
-    ((rw c.loop-at.invariant.same_walk at c.step-sid.ensures.goes_on) p _ of (c.loop-at.invariant.stands p of).held_now)
+    ((rw c.loop-at.invariant.same_walk at c.step-sid.ensures.goes_on) p of _ (c.loop-at.invariant.stands p of).held_now)
 
 -- what is held at a dead state is the answer
 pub returns-then-is_dead-clause-found : goal.returns-then-is_dead-clause-found
@@ -113,6 +113,7 @@ loop-at-preserved g c =
         | else-is_special w ↦ w.best-is ∙ c.loop-at.invariant.quiet stops
       ];
       near = λ unanchored leftmost m e. near_further (g.met.W.Of.Automaton.laws _ _ c.requires.of.1) _ _ _ (c.loop-at.at + 1) _ _ m unanchored leftmost (omega arith) (alive g c) (stood g c _ c.requires.of.1) e;
+      anchored_near = λ is_anchored. anchored_near_further (g.met.W.Of.Automaton.laws _ _ c.requires.of.1) _ _ _ (c.loop-at.at + 1) _ _ is_anchored (omega arith) (omega arith) (alive g c) (stood g c _ c.requires.of.1);
       stands = stood g c;
     }
 

@@ -4,7 +4,7 @@ use Rattle.std.specs.Prelude.{Some, None}
 use Rattle.aho_base.specs.Laws.{first_is_answer, longest}
 use Rattle.aho_base.specs.Occurrence.{Occurrence}
 use Rattle.aho_base.specs.Patterns.{Patterns}
-use Rattle.aho_base.specs.declared.search.Anchored.TheVariants.{No}
+use Rattle.aho_base.specs.declared.search.Anchored.TheVariants.{No, Yes}
 use Rattle.aho_base.specs.declared.search.MatchKind.TheVariants.{Standard}
 use Rattle.aho_search.proofs.Walks.{Standing}
 use Rattle.aho_search.proofs.find.find_in.Given as goal
@@ -13,6 +13,7 @@ use Rattle.aho_search.proofs.find.find_in.Given as goal
 -- `paid`: two look-ups for each byte that was read pay for the look-ups so far, and the state's depth is left over;
 -- `quiet`: a search that stops at its first match has none yet;
 -- `near`: a leftmost search is not far past the start of the match that it holds;
+-- `anchored_near`: an anchored search has not read more than the longest pattern;
 -- `stands`: the state is held after the bytes that were read, and the best so far is theirs.
 abbrev pub invariant-loop-at : goal.invariant-loop-at
 invariant-loop-at g l =
@@ -21,10 +22,11 @@ invariant-loop-at g l =
       same_walk : g.W.Walk.of l.walk ≡ automaton;
       same_text : g.T.Text.bytes l.text ≡ g.T.Text.bytes l.initial.text;
       unread : g.T.Text.next l.text ≤ l.at;
-      paid : g.W.Walk.lookups l.walk + g.W.Of.Automaton.depth automaton l.sid ≤ g.W.Walk.lookups l.initial.walk + 2 * (l.at - l.start);
+      paid : g.W.Walk.lookups l.walk + g.W.Of.Automaton.depth automaton l.sid ≤ g.W.Walk.lookups l.initial.walk + 2 * (g.T.Text.next l.text - l.start);
       grows : g.W.Walk.lookups l.initial.walk ≤ g.W.Walk.lookups l.walk;
       valid : g.W.Of.Automaton.valid automaton l.sid;
       quiet : first_is_answer (g.W.Of.Automaton.kind automaton) l.earliest ≡ true → l.best ≡ None;
       near : l.anchored ≡ No → g.W.Of.Automaton.kind automaton ≢ Standard → (m : Occurrence) → l.best ≡ Some m → l.at ≤ m.start + longest (g.W.Of.Automaton.lengths automaton);
+      anchored_near : l.anchored ≡ Yes → l.at ≤ l.start + longest (g.W.Of.Automaton.lengths automaton);
       stands : (p : Patterns) → g.W.Of.Automaton.is_of automaton p → Standing p (g.W.Of.Automaton.held automaton p) l.anchored (g.T.Text.bytes l.initial.text) l.start l.at l.sid l.best;
     }

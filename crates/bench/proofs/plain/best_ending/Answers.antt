@@ -1,6 +1,6 @@
 use Rattle.std.proofs.Common.{inl, inr, arith}
 use Rattle.std.proofs.lemmas.Bool.{cases_lt}
-use Rattle.bench.proofs.Best.{IsBestOrNone-union}
+use Rattle.bench.proofs.BestOfTwo.{IsBestOrNone-union}
 use Rattle.bench.proofs.plain.best_ending.Goals as goal
 
 pub loop-start-preserved : goal.loop-start-preserved

@@ -1,5 +1,10 @@
-use Rattle.aho_corasick.specs.Laws.{goes_on_of}
+use Rattle.std.proofs.Common.{◌∙◌, ap, arith, nat_eq}
+use Rattle.aho_build.proofs.AutomatonLaws.{goes_on_of}
+use Rattle.aho_build.proofs.StepResults.{dead-stays}
 use Rattle.aho_corasick.proofs.noncontiguous.NFAAutomaton.step.Goals as goal
 
 pub returns-clause-goes_on : goal.returns-clause-goes_on
-returns-clause-goes_on c p word of held = goes_on_of p c.args.self.now.table.rows c.args.anchored word c.args.byte c.args.sid c.step.result held c.step.ensures.follows
+returns-clause-goes_on c p of word held = goes_on_of p c.args.self.now.special c.args.self.now.table.states c.args.anchored word c.args.byte c.args.sid c.step.result held c.step.ensures.follows
+
+pub returns-clause-dead_stays : goal.returns-clause-dead_stays
+returns-clause-dead_stays c dead = ap (λ n. nat_eq n 0) c.step.ensures.next ∙ dead-stays c.args.self.now.table.states c.args.byte c.args.anchored c.args.sid c.args.self.now.sound (omega arith) dead

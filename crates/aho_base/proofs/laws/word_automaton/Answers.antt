@@ -1,9 +1,0 @@
-use Rattle.aho_base.proofs.LookUps.{lookups_bound}
-use Rattle.aho_base.proofs.WordAutomaton.{word_automaton}
-use Rattle.aho_base.proofs.laws.word_automaton.Goals as goal
-
-pub returns-clause-laws : goal.returns-clause-laws
-returns-clause-laws c = λ p. word_automaton p
-
-pub returns-clause-look_ups : goal.returns-clause-look_ups
-returns-clause-look_ups c = λ p. lookups_bound p

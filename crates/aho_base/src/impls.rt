@@ -1,0 +1,80 @@
+//! What the impls of std's traits answer, and what the constants are, each the contract of a
+//! function. `Debug` and `Drop` have no meaning to state.
+
+ghost use Rattle.std.specs.Prelude.{◌≡◌};
+ghost use Rattle.aho_base.specs.Impls.{ClonesTheSame, ComparesNumbers, EqualsTheSame};
+ghost use Rattle.aho_base.specs.Numbers.{greatest_index};
+ghost use Rattle.aho_base.specs.declared.search.MatchKind.{MatchKind};
+ghost use Rattle.aho_base.specs.declared.search.MatchKind.TheVariants.{Standard};
+
+use crate::error::{BuildError, MatchError, MatchErrorKind};
+use crate::search::{
+    Anchored, Input, Match, MatchKind, PatternID, PatternIDError, SmallIndex, SmallIndexError,
+    Span, StateID, StateIDError,
+};
+
+/// A clone is its original, in all of its fields, and is never refused.
+pub fn clones_the_same()
+    ensures span { ClonesTheSame ⟦<Span as Clone>⟧ }
+    ensures matches { ClonesTheSame ⟦<Match as Clone>⟧ }
+    ensures anchored { ClonesTheSame ⟦<Anchored as Clone>⟧ }
+    ensures match_kind { ClonesTheSame ⟦<MatchKind as Clone>⟧ }
+    ensures input { ClonesTheSame ⟦<Input<'static> as Clone>⟧ }
+    ensures index { ClonesTheSame ⟦<SmallIndex as Clone>⟧ }
+    ensures index_error { ClonesTheSame ⟦<SmallIndexError as Clone>⟧ }
+    ensures pattern { ClonesTheSame ⟦<PatternID as Clone>⟧ }
+    ensures pattern_error { ClonesTheSame ⟦<PatternIDError as Clone>⟧ }
+    ensures state { ClonesTheSame ⟦<StateID as Clone>⟧ }
+    ensures state_error { ClonesTheSame ⟦<StateIDError as Clone>⟧ }
+    ensures build_error { ClonesTheSame ⟦<BuildError as Clone>⟧ }
+    ensures match_error { ClonesTheSame ⟦<MatchError as Clone>⟧ }
+    ensures match_error_kind { ClonesTheSame ⟦<MatchErrorKind as Clone>⟧ }
+{}
+
+/// Two values are equal just where all of their fields are the same.
+pub fn equals_the_same()
+    ensures span { EqualsTheSame ⟦<Span as PartialEq>⟧ }
+    ensures matches { EqualsTheSame ⟦<Match as PartialEq>⟧ }
+    ensures anchored { EqualsTheSame ⟦<Anchored as PartialEq>⟧ }
+    ensures match_kind { EqualsTheSame ⟦<MatchKind as PartialEq>⟧ }
+    ensures index { EqualsTheSame ⟦<SmallIndex as PartialEq>⟧ }
+    ensures index_error { EqualsTheSame ⟦<SmallIndexError as PartialEq>⟧ }
+    ensures pattern { EqualsTheSame ⟦<PatternID as PartialEq>⟧ }
+    ensures pattern_error { EqualsTheSame ⟦<PatternIDError as PartialEq>⟧ }
+    ensures state { EqualsTheSame ⟦<StateID as PartialEq>⟧ }
+    ensures state_error { EqualsTheSame ⟦<StateIDError as PartialEq>⟧ }
+    ensures build_error { EqualsTheSame ⟦<BuildError as PartialEq>⟧ }
+    ensures match_error { EqualsTheSame ⟦<MatchError as PartialEq>⟧ }
+    ensures match_error_kind { EqualsTheSame ⟦<MatchErrorKind as PartialEq>⟧ }
+{}
+
+/// Indexes, patterns and states are in the order of their numbers. `Ord` asks that `<` and its
+/// like are the same order.
+pub fn compares_numbers()
+    ensures index { ComparesNumbers ⟦<SmallIndex as Ord>⟧.cmp }
+    ensures pattern { ComparesNumbers ⟦<PatternID as Ord>⟧.cmp }
+    ensures state { ComparesNumbers ⟦<StateID as Ord>⟧.cmp }
+{}
+
+/// The match kind is standard where none is given.
+pub fn is_standard_by_default()
+    ensures standard { (kind : MatchKind)
+        → ⟦<MatchKind as Default>⟧.is_default kind → kind ≡ Standard }
+{}
+
+/// The numbers of the first two states.
+pub fn first_states() -> (StateID, StateID)
+    ensures zero { result.0 ≡ 0 }
+    ensures one { result.1 ≡ 1 }
+{
+    (StateID::ZERO, StateID::ONE)
+}
+
+/// The greatest numbers.
+pub fn greatest() -> (SmallIndex, PatternID, StateID)
+    ensures index { result.0 ≡ greatest_index }
+    ensures pattern { result.1 ≡ greatest_index }
+    ensures state { result.2 ≡ greatest_index }
+{
+    (SmallIndex::MAX, PatternID::MAX, StateID::MAX)
+}

@@ -1,0 +1,129 @@
+-- Sizes and causes of a few patterns, computed.
+use Rattle.std.specs.Prelude.{◌≡◌, ℕ, true, false, List, [], ◌∷◌, codes, Some, None, refl}
+use Rattle.aho_base.specs.declared.search.MatchKind.{MatchKind}
+use Rattle.aho_base.specs.declared.search.MatchKind.TheVariants.{Standard, LeftmostFirst}
+use Rattle.aho_base.specs.Failure.{is_cut}
+use Rattle.aho_base.specs.MatchList.{own_matches}
+use Rattle.aho_base.specs.Patterns.{Patterns}
+use Rattle.aho_base.specs.Trie.{is_kept, is_node, pattern_word}
+use Rattle.aho_build.specs.Sizes.{states_size, transitions_size, matches_size, memory_size}
+use Rattle.aho_build.specs.Refusals.{cause, PatternNumber, PatternLength, TableIndex}
+use Rattle.aho_build.specs.Settings.{default_settings}
+use Rattle.aho_build.specs.declared.settings.Settings.{Settings}
+
+abbrev of_kind : MatchKind → List (List ℕ) → Patterns
+of_kind kind words = record { words = words; kind = kind; ignore_case = false }
+
+abbrev folded_of : List (List ℕ) → Patterns
+folded_of words = record { words = words; kind = Standard; ignore_case = true }
+
+-- ---- sizes
+
+-- one pattern has three nodes, of which the root's transition is there from the start
+states_of_one : states_size (of_kind Standard (codes "abc" ∷ [])) ≡ 7
+unfolding is_kept pattern_word
+states_of_one = refl
+
+transitions_of_one : transitions_size (of_kind Standard (codes "abc" ∷ [])) ≡ 771
+unfolding is_kept pattern_word
+transitions_of_one = refl
+
+matches_of_one : matches_size (of_kind Standard (codes "abc" ∷ [])) ≡ 2
+unfolding is_kept pattern_word own_matches is_node is_cut
+matches_of_one = refl
+
+memory_of_one : memory_size (of_kind Standard (codes "abc" ∷ [])) ≡ 7103
+unfolding is_kept pattern_word own_matches is_node is_cut
+memory_of_one = refl
+
+-- a letter has two transitions under the case rule
+transitions_of_folded : transitions_size (folded_of (codes "aBc" ∷ [])) ≡ 773
+unfolding is_kept pattern_word
+transitions_of_folded = refl
+
+-- an empty pattern is listed by each start, and by what ends in it
+states_of_empty : states_size (of_kind Standard ([] ∷ codes "ab" ∷ [])) ≡ 6
+unfolding is_kept pattern_word
+states_of_empty = refl
+
+matches_of_empty : matches_size (of_kind Standard ([] ∷ codes "ab" ∷ [])) ≡ 6
+unfolding is_kept pattern_word own_matches is_node is_cut
+matches_of_empty = refl
+
+memory_of_empty : memory_size (of_kind Standard ([] ∷ codes "ab" ∷ [])) ≡ 7110
+unfolding is_kept pattern_word own_matches is_node is_cut
+memory_of_empty = refl
+
+-- but under LeftmostFirst not behind the first bytes of a pattern
+matches_of_empty_last : matches_size (of_kind LeftmostFirst (codes "xyz" ∷ [] ∷ [])) ≡ 4
+unfolding is_kept pattern_word own_matches is_node is_cut
+matches_of_empty_last = refl
+
+-- and what it begins is left out
+states_of_empty_first : states_size (of_kind LeftmostFirst ([] ∷ codes "xyz" ∷ [])) ≡ 4
+unfolding is_kept pattern_word
+states_of_empty_first = refl
+
+transitions_of_empty_first : transitions_size (of_kind LeftmostFirst ([] ∷ codes "xyz" ∷ [])) ≡ 769
+unfolding is_kept pattern_word
+transitions_of_empty_first = refl
+
+matches_of_empty_first : matches_size (of_kind LeftmostFirst ([] ∷ codes "xyz" ∷ [])) ≡ 3
+unfolding is_kept pattern_word own_matches is_node is_cut
+matches_of_empty_first = refl
+
+memory_of_none : memory_size (of_kind Standard []) ≡ 7013
+unfolding is_kept pattern_word own_matches is_node is_cut
+memory_of_none = refl
+
+-- ---- causes
+
+abbrev with_id : ℕ → Settings
+with_id id = record default_settings { limits = record { id = id; pattern = 2147483646; length = 2147483646 } }
+
+-- the entry at the limit is allowed
+cause_at_limit : cause (with_id 770) (of_kind Standard (codes "abc" ∷ [])) ≡ None
+unfolding is_kept pattern_word own_matches is_node is_cut
+cause_at_limit = refl
+
+cause_past_limit : cause (with_id 770) (of_kind Standard (codes "abcd" ∷ [])) ≡ Some (TableIndex 771)
+unfolding is_kept pattern_word own_matches is_node is_cut
+cause_past_limit = refl
+
+cause_of_none : cause (with_id 768) (of_kind Standard []) ≡ None
+unfolding is_kept pattern_word own_matches is_node is_cut
+cause_of_none = refl
+
+cause_of_none_past : cause (with_id 767) (of_kind Standard []) ≡ Some (TableIndex 768)
+unfolding is_kept pattern_word own_matches is_node is_cut
+cause_of_none_past = refl
+
+cause_of_few : cause (with_id 2) (of_kind Standard []) ≡ Some (TableIndex 3)
+unfolding is_kept pattern_word own_matches is_node is_cut
+cause_of_few = refl
+
+abbrev with_length : ℕ → Settings
+with_length length = record default_settings { limits = record { id = 2147483646; pattern = 2147483646; length = length } }
+
+abbrev with_pattern : ℕ → Settings
+with_pattern pattern = record default_settings { limits = record { id = 2147483646; pattern = pattern; length = 2147483646 } }
+
+abbrev with_both : ℕ → ℕ → Settings
+with_both pattern length = record default_settings { limits = record { id = 2147483646; pattern = pattern; length = length } }
+
+cause_of_length : cause (with_length 2) (of_kind Standard (codes "ab" ∷ codes "abc" ∷ [])) ≡ Some (PatternLength 1 3)
+unfolding is_kept pattern_word own_matches is_node is_cut
+cause_of_length = refl
+
+cause_of_number : cause (with_pattern 0) (of_kind Standard (codes "a" ∷ codes "b" ∷ [])) ≡ Some (PatternNumber 1)
+unfolding is_kept pattern_word own_matches is_node is_cut
+cause_of_number = refl
+
+-- what comes first is named
+cause_of_length_first : cause (with_both 0 2) (of_kind Standard (codes "abc" ∷ codes "b" ∷ [])) ≡ Some (PatternLength 0 3)
+unfolding is_kept pattern_word own_matches is_node is_cut
+cause_of_length_first = refl
+
+cause_of_number_first : cause (with_both 0 2) (of_kind Standard (codes "a" ∷ codes "abc" ∷ [])) ≡ Some (PatternNumber 1)
+unfolding is_kept pattern_word own_matches is_node is_cut
+cause_of_number_first = refl

@@ -1,0 +1,36 @@
+use Rattle.std.proofs.Common.{◌+◌, ◌<◌, ◌≤◌, ◌∙◌, ap, arith, length, refl, ℕ}
+use Rattle.aho_table.specs.Refusal.{IsRefusalOf, refusal_at}
+use Rattle.aho_table.specs.Table.{Tables, matches_in, matches_count}
+use Rattle.aho_build.proofs.MatchTotals.{copied_refused}
+use Rattle.aho_build.proofs.CopiedMatches.{copied_none, copied_more, copied_all}
+use Rattle.aho_build.proofs.StoppedBuilds.{IfErr-given}
+use Rattle.aho_build.proofs.compiler.failure.copy_matches.Goals as goal
+
+pub loop-index-init : goal.loop-index-init
+loop-index-init c = record { states = copied_none c.args.table.now.states c.args.to c.args.from; limit = refl }
+
+pub loop-index-preserved : goal.loop-index-preserved
+loop-index-preserved c =
+    let below : c.loop-index.index < length (matches_in c.args.table.now.states c.args.from) = omega (arith, c.match_len-index-end.ensures.len) in
+    record {
+      states = copied_more c.args.table.now.states c.loop-index.table.states c.add_match.new.self.states c.args.to c.args.from c.loop-index.index c.match_pattern-pattern.result c.requires.to c.requires.apart below
+          c.loop-index.invariant.states c.match_pattern-pattern.ensures.listed (ap (λ (t : Tables). t.states) c.in_ok-add_match.ensures.listed);
+      limit = ap (λ (t : Tables). t.limit) c.in_ok-add_match.ensures.listed ∙ c.loop-index.invariant.limit;
+    }
+
+pub returns-in_err-add_match-clause-refused : goal.returns-in_err-add_match-clause-refused
+returns-in_err-add_match-clause-refused c =
+    let below : c.loop-index.index < length (matches_in c.args.table.now.states c.args.from) = omega (arith, c.match_len-index-end.ensures.len) in
+    IfErr-given (IsRefusalOf c.args.table.now.limit (matches_count c.args.table.now.states + length (matches_in c.args.table.now.states c.args.from)))
+    c.from_residual.result c.in_err-add_match.field-0.0 c.from_residual.ensures.1
+    (copied_refused c.args.table.now.states c.loop-index.table.states c.args.to c.args.from c.loop-index.index c.args.table.now.limit c.in_err-add_match.field-0.0 c.requires.to below
+    c.loop-index.invariant.states (c.in_err-add_match.ensures.refused ∙ ap (λ (n : ℕ). refusal_at n (matches_count c.loop-index.table.states)) c.loop-index.invariant.limit))
+
+pub returns : goal.returns
+returns c =
+    let past : length (matches_in c.args.table.now.states c.args.from) ≤ c.loop-index.index = omega (arith, c.match_len-index-end.ensures.len) in
+    record {
+      copied = copied_all c.args.table.now.states c.loop-index.table.states c.args.to c.args.from c.loop-index.index past c.loop-index.invariant.states;
+      limit = c.loop-index.invariant.limit;
+      refused = tt;
+    }

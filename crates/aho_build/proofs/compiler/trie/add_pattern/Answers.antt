@@ -1,0 +1,41 @@
+use Rattle.std.proofs.Common.{◌≡◌, ℕ, ◌∙◌, Some, None, ap, sym, subst, ◌+◌}
+use Rattle.aho_build.specs.TrieGrowth.{EndsAt, IsWordRefusal}
+use Rattle.aho_build.specs.Trie.{HoldsFirst}
+use Rattle.aho_table.specs.Refusal.{refusal_at}
+use Rattle.aho_table.specs.Table.{Tables, matches_count}
+use Rattle.aho_build.proofs.CountedTrie.{EndsAt-below, HoldsFirst-end, HoldsFirst-left_out}
+use Rattle.aho_build.proofs.RefusedPattern.{IsPatternRefusal-end}
+use Rattle.aho_build.proofs.StoppedBuilds.{IfErr-given}
+use Rattle.aho_build.proofs.compiler.trie.add_pattern.Goals as goal
+use Rattle.aho_build.proofs.compiler.trie.add_pattern.Goals.{in-Some+in_ok-add_match, in_default}
+
+pub add_match-requires : goal.add_match-requires
+add_match-requires c =
+    let some = c.requires.trie in
+    let ends : EndsAt some.0 some.1.0 c.add_word.new.table.states (Some c.in-Some.end) =
+    subst (EndsAt some.0 some.1.0 c.add_word.new.table.states) c.in-Some.is (c.in_ok-end.ensures.ends some.0 some.1.0 some.1.1.0 some.1.1.1) in
+    record { added = EndsAt-below some.0 some.1.0 c.in-Some.end c.add_word.new.table.states ends }
+
+pub returns-clause-adds : goal.returns-clause-adds
+returns-clause-adds c =
+    let number = c.args.number in
+    let states = c.add_word.new.table.states in
+    λ p numbered holds.
+    elim c.match-branch-2.branch [
+      | in-Some+in_ok-add_match w ↦
+          (let ends : EndsAt p number states (Some w.in-Some.end) = subst (EndsAt p number states) w.in-Some.is (c.in_ok-end.ensures.ends p number numbered holds) in
+          HoldsFirst-end p number w.in-Some.end states c.match-branch-2.table.states ends.0 ends.1 ends.2 (ap (λ (t : Tables). t.states) (w.table-is ∙ w.in_ok-add_match.ensures.listed)))
+      | in_default w ↦
+          (let ends : EndsAt p number states None = subst (EndsAt p number states) w.in_default.is (c.in_ok-end.ensures.ends p number numbered holds) in
+          subst (λ (t : Tables). HoldsFirst p (number + 1) t.states) (sym w.table-is) (HoldsFirst-left_out p number states ends.0 ends.1))
+    ]
+
+pub returns-in_err-add_match-clause-refused : goal.returns-in_err-add_match-clause-refused
+returns-in_err-add_match-clause-refused c =
+    let states = c.add_word.new.table.states in
+    let error = c.in_err-add_match.field-0.0 in
+    IfErr-given (IsWordRefusal c.args.settings.now c.args.pattern.now c.args.table.now.limit c.args.table.now.states) c.from_residual-in_err-add_match.result error c.from_residual-in_err-add_match.ensures.1
+    (λ p number numbered holds.
+    IsPatternRefusal-end p number c.args.table.now.limit c.in-Some.end states error
+    (subst (EndsAt p number states) c.in-Some.is (c.in_ok-end.ensures.ends p number numbered holds))
+    (subst (λ (n : ℕ). error ≡ refusal_at n (matches_count states)) c.in_ok-end.ensures.limit c.in_err-add_match.ensures.refused))

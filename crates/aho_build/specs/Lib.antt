@@ -1,0 +1,13 @@
+pub mod FirstStates
+pub mod Settings
+pub mod StateNames
+pub mod Sizes
+pub mod Trie
+pub mod TrieGrowth
+pub mod Refusals
+pub mod Items
+pub mod Starts
+pub mod FailureLinks
+pub mod Built
+pub mod Walking
+pub mod Automaton

@@ -1,0 +1,64 @@
+//! The phases of a build, in their order.
+
+ghost use Rattle.std.specs.Prelude.{◌+◌, ◌≤◌, length, IfOk, IfErr};
+ghost use Rattle.std.specs.Iterator.{IsFinite};
+ghost use Rattle.aho_build.specs.Automaton.{IsOf};
+ghost use Rattle.aho_build.specs.Items.{IsFailure, OfAccepted};
+ghost use Rattle.aho_base.specs.Numbers.{greatest_index};
+
+pub mod failure;
+pub mod starts;
+pub mod trie;
+
+use crate::settings::Settings;
+use crate::special::Special;
+use aho_base::error::BuildError;
+use aho_base::search::SmallIndex;
+use aho_table::links::Table;
+use std::alloc::Global;
+use trie::Trie;
+
+/// What a build makes of some patterns.
+#[derive(Drop)]
+pub struct Compiled {
+    pub table: Table,
+    /// By the patterns' numbers, in bytes.
+    pub pattern_lens: Vec<SmallIndex>,
+    /// Where its searches start.
+    pub special: Special,
+    ghost counted: { length pattern_lens.items ≤ greatest_index + 1 },
+}
+
+/// The automaton of these patterns, which are numbered from 0 on as they come.
+///
+/// # Errors
+///
+/// The first that the limits refuse of what is asked for: for each pattern in turn its number (`PatternIDOverflow`), its
+/// length in bytes (`PatternTooLong`), and the indexes of its states, transitions and match (`StateIDOverflow`); after the
+/// last pattern the indexes of the copied matches. Or want of memory, at any time.
+pub fn compile<'p, I: Iterator<Item = &'p [u8]> + Drop>(
+    alloc: Global,
+    settings: &Settings,
+    patterns: I,
+) -> Result<Compiled, BuildError>
+    requires can { I.can_next patterns }
+    requires ends { IsFinite (I.remaining patterns) }
+    ensures built { IfOk result (λ compiled. OfAccepted I.next_gives patterns settings.now
+        (λ p. IsOf p settings.now.kind compiled.pattern_lens.items
+        compiled.special compiled.table.states)) }
+    ensures refused { IfErr result (IsFailure I.next_gives patterns settings.now) }
+{
+    let mut trie = trie::build_trie(alloc, settings, patterns)?;
+    let table = &mut trie.table;
+    failure::set_anchored_start_state(table)?;
+    failure::add_unanchored_start_state_loop(table, settings.kind)?;
+    // Dense rows come here: the links are then followed through them.
+    failure::fill_failure_transitions(alloc, table, settings.kind)?;
+    // Shuffling comes here, and after it the prefilter.
+    trie.table.facts();
+    Ok(Compiled {
+        table: trie.table,
+        pattern_lens: trie.lens,
+        special: Special::in_order_of_creation(),
+    })
+}

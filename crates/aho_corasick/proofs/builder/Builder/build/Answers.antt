@@ -1,0 +1,27 @@
+use Rattle.std.proofs.Common.{subst}
+use Rattle.std.specs.Result.{IfErr}
+use Rattle.aho_build.specs.Automaton.{IsOf}
+use Rattle.aho_build.specs.Items.{patterns_of, IsFailure, OfAccepted}
+use Rattle.aho_build.specs.declared.settings.Settings.{Settings}
+use Rattle.aho_build.proofs.StoppedBuilds.{IfErr-given}
+use Rattle.aho_corasick.proofs.builder.Builder.build.Goals as goal
+
+pub of_compiled-requires : goal.of_compiled-requires
+of_compiled-requires g c =
+    let built = c.in_ok-compiled.ensures.built in
+    record { of = (patterns_of c.self.inside.settings built.0, built.2) }
+
+pub returns-clause-built : goal.returns-clause-built
+returns-clause-built g c =
+    let built = c.in_ok-compiled.ensures.built in
+    subst
+    (λ (s : Settings). OfAccepted g.I.Iterator.next_gives c.args.patterns s (λ p. IsOf p c.of_compiled.result.match_kind c.of_compiled.result.pattern_lens.items c.of_compiled.result.special c.of_compiled.result.table.states))
+    c.self.view_is (built.0, built.1, c.of_compiled.ensures.of (patterns_of c.self.inside.settings built.0) built.2)
+
+pub returns-in_err-compiled-clause-refused : goal.returns-in_err-compiled-clause-refused
+returns-in_err-compiled-clause-refused g c =
+    subst
+    (λ (s : Settings). IfErr c.from_residual.result (IsFailure g.I.Iterator.next_gives c.args.patterns s))
+    c.self.view_is
+    (IfErr-given (IsFailure g.I.Iterator.next_gives c.args.patterns c.self.inside.settings)
+    c.from_residual.result c.in_err-compiled.field-0.0 c.from_residual.ensures.1 c.in_err-compiled.ensures.refused)

@@ -1,0 +1,121 @@
+//! The settings of an automaton, and its build.
+
+ghost use Rattle.std.specs.Prelude.{◌≡◌};
+ghost use Rattle.aho_build.specs.Settings.{default_settings};
+
+use crate::noncontiguous::NFA;
+use aho_base::error::BuildError;
+use aho_base::search::MatchKind;
+use aho_build::compiler;
+pub use aho_build::settings::Limits;
+use aho_build::settings::Settings;
+use aho_search::automaton::Automaton;
+use std::alloc::Global;
+use std::marker::Model;
+
+/// How an automaton is built: the match kind, the case rule, the limits, and two settings that are kept for later layouts.
+#[derive(Clone, Drop)]
+pub struct Builder {
+    settings: Settings,
+}
+
+impl Model for Builder {
+    ghost use Rattle.aho_build.specs.declared.settings.Settings.{Settings};
+
+    ghost Value = { Settings };
+
+    ghost view = { λ b. b.settings };
+
+    ghost inverse = { λ s. record { settings = s } };
+}
+
+impl Default for Builder {
+    ghost is_default = { λ builder. builder ≡ default_settings };
+
+    fn default() -> Builder {
+        Builder::new()
+    }
+}
+
+impl Builder {
+    ghost use Rattle.std.specs.Prelude.{IfOk, IfErr};
+    ghost use Rattle.std.specs.Iterator.{IsFinite};
+    ghost use Rattle.aho_build.specs.Items.{IsFailure, OfAccepted};
+
+    /// Standard, with regard to case, dense rows up to depth 3, a prefilter where one can be held, and the greatest limits.
+    pub fn new() -> Builder
+        ensures new { result ≡ default_settings }
+    {
+        Builder {
+            settings: Settings::default(),
+        }
+    }
+
+    /// The automaton of these patterns, which are numbered from 0 on as they come.
+    ///
+    /// # Errors
+    ///
+    /// The first that the limits refuse of what is asked for: for each pattern in turn its number (`PatternIDOverflow`), its
+    /// length in bytes (`PatternTooLong`), and the indexes of its states, transitions and match (`StateIDOverflow`); after
+    /// the last pattern the indexes of the copied matches. Patterns that come after one that is refused change nothing of
+    /// the error. Or want of memory, at any time. The builder can be used again.
+    pub fn build<'p, I: Iterator<Item = &'p [u8]> + Drop>(
+        &self,
+        alloc: Global,
+        patterns: I,
+    ) -> Result<NFA, BuildError>
+        requires can { I.can_next patterns }
+        requires ends { IsFinite (I.remaining patterns) }
+        ensures built { IfOk result (λ nfa.
+            OfAccepted I.next_gives patterns self.now (⟦<NFA as Automaton>⟧.is_of nfa)) }
+        ensures refused { IfErr result (IsFailure I.next_gives patterns self.now) }
+    {
+        let compiled = compiler::compile(alloc, &self.settings, patterns)?;
+        Ok(NFA::of_compiled(self.settings.kind, compiled))
+    }
+
+    /// Which of several matches is found.
+    pub fn match_kind(&mut self, kind: MatchKind) -> &mut Builder
+        ensures same { result.ghost_name ≡ self.entry.ghost_name }
+        ensures set { result.now ≡ record self.old { kind = kind } }
+    {
+        self.settings.kind = kind;
+        self
+    }
+
+    /// Whether ASCII letters are the same in both cases.
+    pub fn ascii_case_insensitive(&mut self, yes: bool) -> &mut Builder
+        ensures same { result.ghost_name ≡ self.entry.ghost_name }
+        ensures set { result.now ≡ record self.old { ignore_case = yes } }
+    {
+        self.settings.ignore_case = yes;
+        self
+    }
+
+    /// Up to which distance from the start states have dense rows. It is kept, and has no effect yet.
+    pub fn dense_depth(&mut self, depth: usize) -> &mut Builder
+        ensures same { result.ghost_name ≡ self.entry.ghost_name }
+        ensures set { result.now ≡ record self.old { dense_depth = depth } }
+    {
+        self.settings.dense_depth = depth;
+        self
+    }
+
+    /// Whether a prefilter may be held. It is kept, and has no effect yet.
+    pub fn prefilter(&mut self, yes: bool) -> &mut Builder
+        ensures same { result.ghost_name ≡ self.entry.ghost_name }
+        ensures set { result.now ≡ record self.old { prefilter = yes } }
+    {
+        self.settings.prefilter = yes;
+        self
+    }
+
+    /// The greatest numbers that a build may use.
+    pub fn limits(&mut self, limits: Limits) -> &mut Builder
+        ensures same { result.ghost_name ≡ self.entry.ghost_name }
+        ensures set { result.now ≡ record self.old { limits = limits } }
+    {
+        self.settings.limits = limits;
+        self
+    }
+}

@@ -1,0 +1,5 @@
+//! Laws that show the definitions are the right ones, each the contract of a function that does nothing.
+#![tactic(auto)]
+
+pub mod search;
+pub mod trie;

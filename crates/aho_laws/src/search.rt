@@ -1,0 +1,126 @@
+//! Laws of what a search, an iteration, a listing and a replacement answer.
+
+ghost use Rattle.std.specs.Prelude.{◌≡◌, ◌≤◌, ◌⊎◌, ◌↔◌, ℕ, true, List, Option, length, slice_range, Some, None};
+ghost use Rattle.aho_base.specs.Answer.{IsAnswer};
+ghost use Rattle.aho_base.specs.Best.{IsBest, IsBestOrNone};
+ghost use Rattle.aho_base.specs.Iteration.{AreFinds};
+ghost use Rattle.aho_base.specs.Listing.{IsMember, IsListedBy};
+ghost use Rattle.aho_base.specs.Occurrence.{Occurrence};
+ghost use Rattle.aho_base.specs.Occurs.{Occurs, OccursIn};
+ghost use Rattle.aho_base.specs.Order.{IsBefore};
+ghost use Rattle.aho_base.specs.Overlapping.{all_occurrences, anchored_occurrences};
+ghost use Rattle.aho_base.specs.Patterns.{Patterns};
+ghost use Rattle.aho_base.specs.Replacement.{replaced_by};
+ghost use Rattle.aho_base.specs.Search.{Search};
+ghost use Rattle.aho_laws.specs.SearchLaws.{EndsBefore, IsFollowedBy, IsFrontOfPattern};
+ghost use Rattle.aho_base.specs.declared.search.Anchored.{Anchored};
+ghost use Rattle.aho_base.specs.declared.search.Anchored.TheVariants.{No};
+ghost use Rattle.aho_base.specs.declared.search.MatchKind.{MatchKind};
+ghost use Rattle.aho_base.specs.declared.search.MatchKind.TheVariants.{Standard};
+
+/// Each match kind orders strictly: nothing is before itself, and what is before a second that is
+/// before a third is before the third. Of two occurrences of one span, one is before the other,
+/// unless they are equal.
+pub fn orders_strictly()
+    ensures irreflexive { (kind : MatchKind) (x : Occurrence) → IsBefore kind x x → ⊥ }
+    ensures transitive { (kind : MatchKind) (x y z : Occurrence)
+        → IsBefore kind x y → IsBefore kind y z → IsBefore kind x z }
+    ensures total { (p : Patterns) (kind : MatchKind) (anchored : Anchored) (haystack : List ℕ)
+        (start end : ℕ) (x y : Occurrence)
+        → Occurs p anchored haystack start end x → Occurs p anchored haystack start end y
+        → (x ≡ y) ⊎ (IsBefore kind x y ⊎ IsBefore kind y x) }
+{}
+
+/// By each match kind the best occurrence of a span is the one that no occurrence of it is before.
+pub fn best_is_before_the_others()
+    // What no occurrence is before is the best.
+    ensures first_is_best { (p : Patterns) (kind : MatchKind) (anchored : Anchored)
+        (haystack : List ℕ) (start end : ℕ) (m : Occurrence)
+        → Occurs p anchored haystack start end m
+        → ((other : Occurrence) → Occurs p anchored haystack start end other
+        → IsBefore kind other m → ⊥)
+        → IsBest kind (Occurs p anchored haystack start end) m }
+    // No occurrence is before the best.
+    ensures best_is_first { (p : Patterns) (kind : MatchKind) (anchored : Anchored)
+        (haystack : List ℕ) (start end : ℕ) (m other : Occurrence)
+        → IsBest kind (Occurs p anchored haystack start end) m
+        → Occurs p anchored haystack start end other → IsBefore kind other m → ⊥ }
+{}
+
+/// A search has at most one answer, whatever its haystack and its span are.
+pub fn has_one_answer()
+    ensures unique { (p : Patterns) (search : Search) (x y : Option Occurrence)
+        → IsAnswer p search x → IsAnswer p search y → x ≡ y }
+{}
+
+/// A search whose span ends within its haystack has an answer, earliest or not, anchored or not:
+/// an occurrence in the search where there is one, and else none.
+pub fn answers_where_something_occurs()
+    ensures some { (p : Patterns) (search : Search) (m : Occurrence)
+        → search.end ≤ length search.haystack → OccursIn p search m
+        → (found : Occurrence) × IsAnswer p search (Some found) }
+    ensures exists { (p : Patterns) (search : Search)
+        → search.end ≤ length search.haystack
+        → (answer : Option Occurrence) × IsAnswer p search answer }
+    ensures occurs { (p : Patterns) (search : Search) (found : Occurrence)
+        → IsAnswer p search (Some found) → OccursIn p search found }
+    ensures none { (p : Patterns) (search : Search) (m : Occurrence)
+        → IsAnswer p search None → OccursIn p search m → ⊥ }
+{}
+
+/// An earliest search has one answer by all match kinds: the best occurrence by the standard kind.
+pub fn kinds_agree_on_earliest()
+    ensures any_kind { (p : Patterns) (kind : MatchKind) (search : Search)
+        (answer : Option Occurrence)
+        → search.earliest ≡ true → IsAnswer p search answer
+        → IsAnswer (record p { kind = kind }) search answer }
+    ensures standard { (p : Patterns) (search : Search) (answer : Option Occurrence)
+        → search.earliest ≡ true → IsAnswer p search answer
+        → IsBestOrNone Standard (OccursIn p search) answer }
+{}
+
+/// The list of all occurrences has just the occurrences of the span, and the anchored list just
+/// those of them that end where the bytes from the span's start on begin some pattern. Both are in
+/// the strict order of the standard kind, so each occurrence stands there once.
+pub fn lists_each_occurrence()
+    ensures members { (p : Patterns) (haystack : List ℕ) (start end : ℕ) (m : Occurrence)
+        → end ≤ length haystack
+        → (IsMember (all_occurrences p haystack start end) m ↔ Occurs p No haystack start end m) }
+    ensures order { (p : Patterns) (haystack : List ℕ) (start end : ℕ)
+        → IsListedBy (IsBefore Standard) (all_occurrences p haystack start end) }
+    ensures anchored_members { (p : Patterns) (haystack : List ℕ) (start end : ℕ) (m : Occurrence)
+        → end ≤ length haystack
+        → (IsMember (anchored_occurrences p haystack start end) m
+        ↔ (Occurs p No haystack start end m
+        × IsFrontOfPattern p (slice_range haystack start m.end))) }
+    ensures anchored_order { (p : Patterns) (haystack : List ℕ) (start end : ℕ)
+        → IsListedBy (IsBefore Standard) (anchored_occurrences p haystack start end) }
+{}
+
+/// The matches of an iteration occur in the span, are disjoint and rise. Over a span that ends
+/// within the haystack an iteration comes to its end, and never has two lists of matches.
+pub fn finds_rise()
+    ensures rising { (p : Patterns) (search : Search) (ms : List Occurrence)
+        → AreFinds p search None ms → IsListedBy IsFollowedBy ms }
+    ensures occur { (p : Patterns) (search : Search) (ms : List Occurrence) (m : Occurrence)
+        → AreFinds p search None ms → IsMember ms m
+        → Occurs p No search.haystack search.start search.end m }
+    ensures unique { (p : Patterns) (search : Search) (ms ns : List Occurrence)
+        → AreFinds p search None ms → AreFinds p search None ns → ms ≡ ns }
+    ensures exists { (p : Patterns) (search : Search)
+        → search.end ≤ length search.haystack
+        → (ms : List Occurrence) × AreFinds p search None ms }
+{}
+
+/// Disjoint, rising ranges of a haystack that are each replaced by their own bytes leave it as it
+/// is, and so do the matches of an iteration.
+pub fn replacing_by_its_own_bytes()
+    ensures ranges { (haystack : List ℕ) (ms : List Occurrence)
+        → IsListedBy EndsBefore ms
+        → ((m : Occurrence) → IsMember ms m → m.start ≤ m.end)
+        → replaced_by haystack ms (λ m. slice_range haystack m.start m.end) ≡ haystack }
+    ensures finds { (p : Patterns) (search : Search) (ms : List Occurrence)
+        → AreFinds p search None ms
+        → replaced_by search.haystack ms (λ m. slice_range search.haystack m.start m.end)
+        ≡ search.haystack }
+{}

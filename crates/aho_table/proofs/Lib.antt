@@ -1,0 +1,6 @@
+-- a list of transitions that rises by byte: what it answers, and what one entry more makes of it
+pub mod TransitionLists
+-- a table of states whose states are read, changed and added
+pub mod States
+-- why a table is not to have so many entries
+pub mod Refusals

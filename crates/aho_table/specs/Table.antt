@@ -1,0 +1,108 @@
+-- What a `Table` is seen as: for each state a list of transitions, a list of patterns, a failure link and a depth.
+use Rattle.std.specs.Prelude.{◌≡◌, ◌≢◌, ℕ, ◌+◌, ◌<◌, ◌≤◌, Bool, List, [], ◌∷◌, ◌++◌, length, nat_eq, nat_lt, sum_by, if◌then◌else◌, slice_index_or, slice_set}
+use Rattle.std.specs.List.{All, list_any}
+use Rattle.aho_table.specs.declared.links.Child.{Child}
+use Rattle.aho_table.specs.declared.links.Child.TheVariants.{Found, Added}
+
+-- the number of the dead state, to which every byte leads back
+abbrev pub dead_id : ℕ
+dead_id = 0
+
+-- the number that stands for no state: a byte that leads nowhere leads to it, and so does a link that is still to be set
+abbrev pub fail_id : ℕ
+fail_id = 1
+
+-- one state: its transitions, rising by byte, its patterns, its failure link and its distance from the start
+pub record State : Type 0 where
+  pub transitions : List (ℕ × ℕ)
+  pub matches : List ℕ
+  pub fail : ℕ
+  pub depth : ℕ
+
+-- the states, and the greatest index that a table may use
+pub record Tables : Type 0 where
+  pub states : List State
+  pub limit : ℕ
+
+-- where the byte leads, and 1 (FAIL) where nothing is listed for it
+abbrev pub transition_at : List (ℕ × ℕ) → ℕ → ℕ
+transition_at [] byte = 1
+transition_at (transition ∷ transitions) byte = if nat_eq transition.0 byte then transition.1 else transition_at transitions byte
+
+-- the list with this entry for the byte, in the bytes' order
+abbrev pub with_transition : List (ℕ × ℕ) → ℕ → ℕ → List (ℕ × ℕ)
+with_transition [] byte next = (byte, next) ∷ []
+with_transition (transition ∷ transitions) byte next =
+    if nat_lt transition.0 byte then transition ∷ with_transition transitions byte next
+    else if nat_eq transition.0 byte then (byte, next) ∷ transitions
+    else (byte, next) ∷ transition ∷ transitions
+
+-- each entry's byte is below all that follow it
+abbrev pub IsRising : List (ℕ × ℕ) → Type 0
+IsRising [] = Unit {0}
+IsRising (transition ∷ transitions) = All (λ later. transition.0 < later.0) transitions × IsRising transitions
+
+-- whether the state lists the byte
+abbrev pub lists_transition : List (ℕ × ℕ) → ℕ → Bool
+lists_transition transitions byte = list_any (λ transition. nat_eq transition.0 byte) transitions
+
+-- a state that was just added: nothing is listed, and its link (1) is still to be set
+abbrev pub new_state : ℕ → State
+new_state depth = record { transitions = []; matches = []; fail = 1; depth = depth }
+
+abbrev pub state_at : List State → ℕ → State
+state_at states sid = slice_index_or states sid (new_state 0)
+
+abbrev pub next_in : List State → ℕ → ℕ → ℕ
+next_in states sid byte = transition_at (state_at states sid).transitions byte
+
+-- the transition of this place in the state's list; past its end one that leads nowhere
+abbrev pub transition_in : List State → ℕ → ℕ → ℕ × ℕ
+transition_in states sid index = slice_index_or (state_at states sid).transitions index (0, 1)
+
+abbrev pub matches_in : List State → ℕ → List ℕ
+matches_in states sid = (state_at states sid).matches
+
+abbrev pub fail_in : List State → ℕ → ℕ
+fail_in states sid = (state_at states sid).fail
+
+abbrev pub depth_in : List State → ℕ → ℕ
+depth_in states sid = (state_at states sid).depth
+
+abbrev pub lists_byte : List State → ℕ → ℕ → Bool
+lists_byte states sid byte = lists_transition (state_at states sid).transitions byte
+
+-- the states with one state's state changed
+abbrev pub set_transition : List State → ℕ → ℕ → ℕ → List State
+set_transition states sid byte next = slice_set states sid (record (state_at states sid) { transitions = with_transition (state_at states sid).transitions byte next })
+
+abbrev pub push_match : List State → ℕ → ℕ → List State
+push_match states sid pattern = slice_set states sid (record (state_at states sid) { matches = (state_at states sid).matches ++ pattern ∷ [] })
+
+abbrev pub set_fail_of : List State → ℕ → ℕ → List State
+set_fail_of states sid fail = slice_set states sid (record (state_at states sid) { fail = fail })
+
+-- the entries of the two tables that the states share, the dummy at index 0 among them
+abbrev pub transitions_count : List State → ℕ
+transitions_count states = 1 + sum_by (λ (state : State). length state.transitions) states
+
+abbrev pub matches_count : List State → ℕ
+matches_count states = 1 + sum_by (λ (state : State). length state.matches) states
+
+-- the tables have no more entries than the limit allows
+pub record IsWithinLimit (limit : ℕ) (states : List State) : Type 0 where
+  pub state_count : length states ≤ limit + 1
+  pub transitions : transitions_count states ≤ limit + 1
+  pub matches : matches_count states ≤ limit + 1
+
+-- each state's list rises by byte
+abbrev pub AllRising : List State → Type 0
+AllRising states = (i : ℕ) → IsRising (state_at states i).transitions
+
+-- what the byte leads to, in a table that had other states before: a state that was there, or one that was added for it
+abbrev pub IsLedTo : ℕ → ℕ → ℕ → List State → List State → Child → Type 0
+IsLedTo sid byte depth old new (Found next) = (next_in old sid byte ≢ fail_id) × (next ≡ next_in old sid byte) × (new ≡ old)
+IsLedTo sid byte depth old new (Added next) =
+    (next_in old sid byte ≡ fail_id)
+    × (next ≡ length old)
+    × (new ≡ set_transition (old ++ new_state depth ∷ []) sid byte next)

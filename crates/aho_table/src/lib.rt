@@ -1,0 +1,5 @@
+//! The table of an automaton's states.
+#![tactic(auto)]
+
+pub mod impls;
+pub mod links;

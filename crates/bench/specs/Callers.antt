@@ -1,0 +1,9 @@
+-- The settings of the callers.
+use Rattle.std.specs.Prelude.{true}
+use Rattle.aho_base.specs.declared.search.MatchKind.TheVariants.{LeftmostFirst}
+use Rattle.aho_build.specs.Settings.{default_settings}
+use Rattle.aho_build.specs.declared.settings.Settings.{Settings}
+
+-- the pattern of least number is found first, in both cases
+abbrev pub both_cases : Settings
+both_cases = record default_settings { kind = LeftmostFirst; ignore_case = true }

@@ -1,0 +1,138 @@
+//! What the tables of a few states answer.
+
+ghost use Rattle.std.specs.Prelude.{◌≡◌, length};
+ghost use Rattle.std.specs.Iterator.{IsFinite};
+
+use aho_base::error::BuildError;
+use aho_base::search::{PatternID, SmallIndex, StateID, Work};
+use aho_table::links::{DEAD, FAIL, Table};
+use std::alloc::{AllocError, Global};
+use std::process::Abort;
+
+fn index(rt: &impl Abort, number: usize) -> SmallIndex {
+    SmallIndex::new(number).expect(rt, "a small index")
+}
+
+fn pattern(rt: &impl Abort, number: usize) -> PatternID {
+    PatternID::new(number).expect(rt, "a pattern's number")
+}
+
+// A table of two states, with three more entries in each of its tables at most.
+fn two_states(rt: &impl Abort, alloc: Global) -> Table
+    ensures two { length result.states ≡ 2 }
+{
+    let mut table = Table::new(alloc, 3).expect(rt, "an empty table");
+    assert!(rt; table.is_empty());
+    let dead = table.add_state(index(rt, 0)).expect(rt, "a state");
+    let fail = table.add_state(index(rt, 3)).expect(rt, "another state");
+    assert_eq!(rt; dead, DEAD);
+    assert_eq!(rt; fail, FAIL);
+    assert_eq!(rt; table.len(), 2);
+    table
+}
+
+fn lead(rt: &impl Abort, table: &mut Table, byte: u8, next: StateID)
+    requires two { length table.old.states ≡ 2 }
+    ensures two { length table.new.states ≡ 2 }
+{
+    table.set(FAIL, byte, next).expect(rt, "a transition");
+}
+
+#[test]
+fn states_answer_what_was_listed(rt: HostRuntime) {
+    assert_eq!(rt; DEAD.as_usize(), 0);
+    assert_eq!(rt; FAIL.as_usize(), 1);
+    let mut table = two_states(&rt, rt.alloc());
+    assert!(rt; !table.is_empty());
+    assert_eq!(rt; table.fail(FAIL), FAIL);
+    table.set_fail(FAIL, DEAD);
+    assert_eq!(rt; table.fail(FAIL), DEAD);
+    assert_eq!(rt; table.depth(FAIL), 3);
+    lead(&rt, &mut table, b'm', FAIL);
+    lead(&rt, &mut table, b'z', DEAD);
+    lead(&rt, &mut table, b'a', FAIL);
+    lead(&rt, &mut table, b'm', DEAD);
+    let mut work = Work::new();
+    assert_eq!(rt; table.follow(FAIL, b'a', &mut work), FAIL);
+    assert_eq!(rt; table.follow(FAIL, b'm', &mut work), DEAD);
+    assert_eq!(rt; table.follow(FAIL, b'n', &mut work), FAIL);
+    assert_eq!(rt; table.follow(DEAD, b'z', &mut work), FAIL);
+    assert_eq!(rt; work.count(), 4);
+    assert_eq!(rt; table.transitions_len(FAIL), 3);
+    assert_eq!(rt; table.transition(FAIL, 1), (b'm', DEAD));
+    assert_eq!(rt; table.transitions_count(), 4);
+}
+
+// The pairs that an iterator gives, in its order.
+fn collected<I: Iterator<Item = (u8, StateID)> + Drop>(
+    alloc: Global,
+    pairs: I,
+) -> Result<Vec<(u8, StateID)>, AllocError>
+    requires can { I.can_next pairs }
+    requires ends { IsFinite (I.remaining pairs) }
+{
+    pairs.collect(alloc)
+}
+
+#[test]
+fn iterators_give_what_was_listed(rt: HostRuntime) {
+    let mut table = two_states(&rt, rt.alloc());
+    lead(&rt, &mut table, b'm', FAIL);
+    lead(&rt, &mut table, b'z', DEAD);
+    lead(&rt, &mut table, b'a', DEAD);
+    let pairs = collected(rt.alloc(), table.transitions(FAIL)).expect(&rt, "memory");
+    assert!(rt; pairs.as_slice() == [(b'a', DEAD), (b'm', FAIL), (b'z', DEAD)].as_slice());
+    assert_eq!(rt; table.transitions(DEAD).count(), 0);
+    let (first, second) = (pattern(&rt, 7), pattern(&rt, 2));
+    table.add_match(DEAD, first).expect(&rt, "a pattern");
+    table.add_match(DEAD, second).expect(&rt, "another pattern");
+    let patterns: Vec<PatternID> = table
+        .matches(DEAD)
+        .collect(rt.alloc())
+        .expect(&rt, "memory");
+    assert!(rt; patterns.as_slice() == [first, second].as_slice());
+    assert_eq!(rt; table.match_len(DEAD), 2);
+    assert_eq!(rt; table.match_pattern(DEAD, 1), second);
+    assert_eq!(rt; table.matches_count(), 3);
+    assert_eq!(rt; table.matches(FAIL).count(), 0);
+}
+
+// The refusal of the entry past the third.
+fn overflow() -> BuildError {
+    BuildError::StateIDOverflow {
+        max: 3,
+        requested: 4,
+    }
+}
+
+#[test]
+fn full_tables_stay_as_they_were(rt: HostRuntime) {
+    let mut table = two_states(&rt, rt.alloc());
+    lead(&rt, &mut table, b'c', DEAD);
+    lead(&rt, &mut table, b'a', DEAD);
+    lead(&rt, &mut table, b'b', DEAD);
+    assert_eq!(rt; table.set(FAIL, b'd', DEAD), Err(overflow()));
+    assert_eq!(rt; table.transitions_len(FAIL), 3);
+    lead(&rt, &mut table, b'b', FAIL);
+    assert_eq!(rt; table.transitions_len(FAIL), 3);
+    assert_eq!(rt; table.transition(FAIL, 1), (b'b', FAIL));
+    for _ in 0..3 {
+        assert_eq!(rt; table.len(), 2);
+        table
+            .add_match(FAIL, pattern(&rt, 5))
+            .expect(&rt, "a pattern");
+    }
+    assert_eq!(rt; table.len(), 2);
+    assert_eq!(rt; table.add_match(FAIL, pattern(&rt, 5)), Err(overflow()));
+    assert_eq!(rt; table.match_len(FAIL), 3);
+    table.add_state(index(&rt, 1)).expect(&rt, "a third state");
+    table.add_state(index(&rt, 1)).expect(&rt, "a fourth state");
+    assert_eq!(rt; table.add_state(index(&rt, 1)), Err(overflow()));
+    assert_eq!(rt; table.len(), 4);
+    assert_eq!(rt; table.match_len(FAIL), 3);
+    let clone = table.try_clone().expect(&rt, "memory");
+    assert_eq!(rt; clone.len(), 4);
+    assert_eq!(rt; clone.transitions_len(FAIL), 3);
+    assert_eq!(rt; clone.transition(FAIL, 1), (b'b', FAIL));
+    assert_eq!(rt; clone.match_len(FAIL), 3);
+}
