@@ -29,7 +29,7 @@
 //! look-ups are paid by depth: with each byte, the look-ups so far and the state's depth grow together by at most two.
 //! The depth is 0 at the start and never less. So a walk makes at most two look-ups for each byte that it reads.
 
-ghost use Rattle.std.specs.Prelude.{◌≡◌, ℕ, ◌+◌, ◌-◌, ◌*◌, ◌<◌, ◌≤◌, ◌^◌, IsOk, IfOk, IfErr, Ok, Err, None, Some, Result, length};
+ghost use Rattle.std.specs.Prelude.{◌≡◌, ℕ, [], ◌+◌, ◌-◌, ◌*◌, ◌<◌, ◌≤◌, ◌^◌, IsOk, IfOk, IfErr, Ok, Err, None, Some, Result, length};
 ghost use Rattle.aho_base.specs.Answer.{IsAnswer};
 ghost use Rattle.aho_base.specs.Laws.{Fits, first_is_answer, furthest, longest, told};
 ghost use Rattle.aho_base.specs.Occurrence.{Occurrence};
@@ -85,6 +85,63 @@ fn stops_at_first<W: Walk>(walk: &W, earliest: bool) -> bool
     }
 }
 
+/// What a search from a state that is held after no byte answers, over the bytes of a span that is not done.
+///
+/// Its clauses are those of `find_in`, which says what they mean.
+fn find_from<W: Walk, T: Text>(
+    walk: &mut W,
+    text: &mut T,
+    span: Span,
+    anchored: Anchored,
+    earliest: bool,
+    mut sid: StateID,
+) -> Option<Match>
+    requires within { span.end ≤ length (T.bytes text.old) }
+    requires ordered { span.start ≤ span.end }
+    requires unread { T.next text.old ≤ span.start }
+    requires room { W.lookups walk.old + 2 * (span.end - span.start) < 2 ^ 128 }
+    requires of { (p : Patterns) × W.Of.is_of (W.of walk.old) p }
+    requires valid { W.Of.valid (W.of walk.old) sid }
+    requires shallow { W.Of.depth (W.of walk.old) sid ≡ 0 }
+    requires begins { (p : Patterns) → W.Of.is_of (W.of walk.old) p →
+        W.Of.held (W.of walk.old) p anchored [] sid }
+    ensures found { (p : Patterns) → W.Of.is_of (W.of walk.old) p →
+        IsAnswer p (search_of (T.bytes text.old) span anchored earliest) result }
+    ensures same_walk { W.of walk.new ≡ W.of walk.old }
+    ensures same_text { T.bytes text.new ≡ T.bytes text.old }
+    ensures cost { W.lookups walk.new ≤ W.lookups walk.old + 2 * (T.next text.new - span.start) }
+    ensures grows { W.lookups walk.old ≤ W.lookups walk.new }
+    ensures read { ReadsUpTo (T.next text.old) (T.next text.new) span.end }
+    ensures near { anchored ≡ No → (m : Occurrence) → result ≡ Some m →
+        ReadsUpTo (T.next text.old) (T.next text.new)
+        (furthest (W.Of.kind (W.of walk.old)) earliest (W.Of.lengths (W.of walk.old)) m) }
+    ensures anchored_near { anchored ≡ Yes → ReadsUpTo (T.next text.old) (T.next text.new)
+        (span.start + longest (W.Of.lengths (W.of walk.old)) + 1) }
+{
+    let Span { start, end } = span;
+    let stops = stops_at_first(walk, earliest);
+    let mut best = told_at(walk, anchored, sid, start, start);
+    if stops && best.is_some() {
+        return best;
+    }
+    for at in start..end {
+        let byte = text.byte(at);
+        sid = walk.step(anchored, sid, byte);
+        if walk.is_special(sid) {
+            if walk.is_dead(sid) {
+                return best;
+            }
+            if let Some(m) = told_at(walk, anchored, sid, start, at + 1) {
+                best = Some(m);
+                if stops {
+                    return best;
+                }
+            }
+        }
+    }
+    best
+}
+
 /// The match that the search of a span finds, by a walk that reads each byte at most once and takes no memory.
 ///
 /// A span whose start is above its end is done: nothing is found, and nothing is read.
@@ -136,30 +193,9 @@ pub fn find_in<W: Walk, T: Text>(
     ensures done_unread { span.end < span.start → T.next text.new ≡ T.next text.old }
     ensures done_uncounted { span.end < span.start → W.lookups walk.new ≡ W.lookups walk.old }
 {
-    let Span { start, end } = span;
-    if start > end {
+    if span.start > span.end {
         return Ok(None);
     }
-    let stops = stops_at_first(walk, earliest);
-    let mut sid = walk.start_state(anchored)?;
-    let mut best = told_at(walk, anchored, sid, start, start);
-    if stops && best.is_some() {
-        return Ok(best);
-    }
-    for at in start..end {
-        let byte = text.byte(at);
-        sid = walk.step(anchored, sid, byte);
-        if walk.is_special(sid) {
-            if walk.is_dead(sid) {
-                return Ok(best);
-            }
-            if let Some(m) = told_at(walk, anchored, sid, start, at + 1) {
-                best = Some(m);
-                if stops {
-                    return Ok(best);
-                }
-            }
-        }
-    }
-    Ok(best)
+    let sid = walk.start_state(anchored)?;
+    Ok(find_from(walk, text, span, anchored, earliest, sid))
 }

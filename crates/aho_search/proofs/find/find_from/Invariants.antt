@@ -7,7 +7,7 @@ use Rattle.aho_base.specs.Patterns.{Patterns}
 use Rattle.aho_base.specs.declared.search.Anchored.TheVariants.{No, Yes}
 use Rattle.aho_base.specs.declared.search.MatchKind.TheVariants.{Standard}
 use Rattle.aho_search.proofs.Walks.{Standing}
-use Rattle.aho_search.proofs.find.find_in.Given as goal
+use Rattle.aho_search.proofs.find.find_from.Given as goal
 
 -- Over the same automaton and the same text, of which nothing from `at` on was read:
 -- `paid`: two look-ups for each byte that was read pay for the look-ups so far, and the state's depth is left over;

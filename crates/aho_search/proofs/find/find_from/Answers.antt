@@ -5,30 +5,30 @@ use Rattle.aho_base.specs.Laws.{first_is_answer}
 use Rattle.aho_base.specs.Patterns.{Patterns}
 use Rattle.aho_search.proofs.Told.{is_none}
 use Rattle.aho_search.proofs.Walks.{Standing, stands_at_start, stands_silent, stands_unlisted, stands_first, stands_last, answer_at_end, answer_when_dead, answer_found, not_before, later, near_at_start, near_further, anchored_near_further}
-use Rattle.aho_search.proofs.find.find_in.Given.{Over}
-use Rattle.aho_search.proofs.find.find_in.Goals.{After-step-sid, Joined-else-stops, Joined-is_special, then-is_special+else-is_dead+in-Some+else-stops-2, then-is_special+else-is_dead+in_default, else-is_special, else-stops-via-then-stops+else-is_some, else-stops-via-else-stops}
-use Rattle.aho_search.proofs.find.find_in.Goals as goal
+use Rattle.aho_search.proofs.find.find_from.Given.{Over}
+use Rattle.aho_search.proofs.find.find_from.Goals.{After-step-sid, Joined-else-stops, Joined-is_special, then-is_special+else-is_dead+in-Some+else-stops-2, then-is_special+else-is_dead+in_default, else-is_special, else-stops-via-then-stops+else-is_some, else-stops-via-else-stops}
+use Rattle.aho_search.proofs.find.find_from.Goals as goal
 
 -- a match that is told before the first byte is the answer of a search that stops there
 pub returns-then-is_some-clause-found : goal.returns-then-is_some-clause-found
 returns-then-is_some-clause-found g c p of =
     let laws = g.met.W.Of.Automaton.laws (g.W.Walk.of c.args.walk.now) p of in
     answer_found laws _ _ _ _ c.args.span.start _ _ _ (cc (c.stops_at_first-stops.ensures.first, c.if-stops.true)) (search rules) (omega arith) (omega arith) (omega arith) (not_before p _ _ _)
-    (stands_at_start laws _ _ _ _ _ (c.in_ok-sid.ensures.begins p of) c.told_at-best.ensures.told)
+    (stands_at_start laws _ _ _ _ _ (c.requires.begins p of) c.told_at-best.ensures.told)
 
 -- before the first byte
 begun : (g : Over) (c : Joined-else-stops g) (p : Patterns) → g.W.Of.Automaton.is_of (g.W.Walk.of c.args.walk.now) p
-    → Standing p (g.W.Of.Automaton.held (g.W.Walk.of c.args.walk.now) p) c.args.anchored (g.T.Text.bytes c.args.text.now) c.args.span.start c.args.span.start c.in_ok-sid.sid c.told_at-best.result
-begun g c p of = stands_at_start (g.met.W.Of.Automaton.laws _ p of) _ _ _ _ _ (c.in_ok-sid.ensures.begins p of) c.told_at-best.ensures.told
+    → Standing p (g.W.Of.Automaton.held (g.W.Walk.of c.args.walk.now) p) c.args.anchored (g.T.Text.bytes c.args.text.now) c.args.span.start c.args.span.start c.args.sid c.told_at-best.result
+begun g c p of = stands_at_start (g.met.W.Of.Automaton.laws _ p of) _ _ _ _ _ (c.requires.begins p of) c.told_at-best.ensures.told
 
 pub loop-at-init : goal.loop-at-init
 loop-at-init g c = record {
   same_walk = refl;
   same_text = refl;
   unread = c.requires.unread;
-  paid = omega (arith, c.in_ok-sid.ensures.shallow);
+  paid = omega (arith, c.requires.shallow);
   grows = omega arith;
-  valid = c.in_ok-sid.ensures.valid;
+  valid = c.requires.valid;
   quiet = λ stops. elim c.else-stops.branch [ else-stops-via-then-stops+else-is_some w ↦ is_none _ w.if-is_some.ensures | else-stops-via-else-stops w ↦ cc (c.stops_at_first-stops.ensures.first, w.if-stops.false, stops) ];
   near = λ unanchored leftmost m e. near_at_start (g.met.W.Of.Automaton.laws _ _ c.requires.of.1) _ _ _ _ _ m (omega arith) (begun g c _ c.requires.of.1) e;
   anchored_near = λ is_anchored. omega arith;
