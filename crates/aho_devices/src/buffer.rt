@@ -75,7 +75,7 @@ impl Buffer {
 
     /// Whether there is no room for a further byte.
     pub fn is_full(&self) -> bool
-        ensures full { IsTrue result ↔ (length self.now.bytes ≡ self.now.size) }
+        ensures full { IsTrue result ↔ (self.now.size ≤ length self.now.bytes) }
     {
         self.end == self.buf.len()
     }
