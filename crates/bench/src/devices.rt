@@ -1,11 +1,15 @@
 //! What the buffer and `write_whole` do with devices that cut, end and fail.
 
+ghost use Rattle.std.specs.Prelude.{◌≤◌};
+ghost use Rattle.aho_base.specs.Numbers.{greatest_index};
+
 use crate::scripted::{ScriptedSink, ScriptedSource, Turn};
 use aho_base::error::{Fault, StreamError};
 use aho_devices::adapters::{FromRead, FromWrite};
 use aho_devices::buffer::{Buffer, Filled};
 use aho_devices::device::Source;
 use aho_devices::write::write_whole;
+use std::alloc::{AllocError, Global};
 use std::process::Abort;
 use std::test::Fail;
 
@@ -99,21 +103,29 @@ fn a_roll_keeps_the_last_bytes(rt: HostRuntime) -> Result<(), Fail> {
     Ok(())
 }
 
+// More bytes than any buffer of these tests holds.
+fn many_bytes(alloc: Global) -> Result<Vec<u8>, AllocError> {
+    vec![in alloc; 7; 100_000]
+}
+
+// How many bytes one fill of an empty buffer reads, where the source gives all that is asked for.
+fn read_at_once(rt: &impl Abort, alloc: Global, min_buffer_len: usize) -> Result<u64, Fail>
+    requires small { min_buffer_len ≤ greatest_index }
+{
+    let bytes = many_bytes(alloc)?;
+    let mut source = ScriptedSource::new(bytes.as_slice(), &[]);
+    let mut buffer = Buffer::new(alloc, min_buffer_len)?;
+    let filled = fill(rt, &mut buffer, &mut source, 100_000)?;
+    assert!(rt; buffer.is_full());
+    Ok(filled.read)
+}
+
 #[test]
 fn a_buffer_has_its_length(rt: HostRuntime) -> Result<(), Fail> {
-    let bytes = vec![in rt.alloc(); 7u8; 100_000]?;
-    for (least, length) in [
-        (0, 65_536),
-        (8_192, 65_536),
-        (8_193, 65_544),
-        (10_000, 80_000),
-    ] {
-        let mut source = ScriptedSource::new(bytes.as_slice(), &[]);
-        let mut buffer = Buffer::new(rt.alloc(), least)?;
-        let filled = fill(&rt, &mut buffer, &mut source, 100_000)?;
-        assert_eq!(rt; filled.read, length, "at {least}");
-        assert!(rt; buffer.is_full());
-    }
+    assert_eq!(rt; read_at_once(&rt, rt.alloc(), 0)?, 65_536);
+    assert_eq!(rt; read_at_once(&rt, rt.alloc(), 8_192)?, 65_536);
+    assert_eq!(rt; read_at_once(&rt, rt.alloc(), 8_193)?, 65_544);
+    assert_eq!(rt; read_at_once(&rt, rt.alloc(), 10_000)?, 80_000);
     Ok(())
 }
 
