@@ -1,6 +1,6 @@
 //! A caller of each main call of an automaton, with what it may promise in turn.
 
-ghost use Rattle.std.specs.Prelude.{◌≡◌, ◌+◌, ◌*◌, ◌-◌, ◌<◌, ◌≤◌, ◌^◌, ℕ, List, IfOk, OnOk, false, length};
+ghost use Rattle.std.specs.Prelude.{◌≡◌, ◌+◌, ◌*◌, ◌-◌, ◌<◌, ◌≤◌, ◌^◌, ℕ, List, IfOk, false, length};
 ghost use Rattle.std.specs.Io.KnownBytes.{Appends, Consumes};
 ghost use Rattle.aho_base.specs.Answer.{IsAnswer};
 ghost use Rattle.aho_base.specs.Patterns.{Patterns};
@@ -97,7 +97,7 @@ pub fn pass_on<R: Source, W: Sink>(
     sink: &mut W,
     room: u64,
 ) -> Result<u64, StreamError>
-    ensures passed { OnOk result ((bytes : List ℕ)
+    ensures passed { IfOk result (λ count. (bytes : List ℕ) × (length bytes ≡ count)
         × Consumes (R.remaining source.old) (R.remaining source.new) bytes
         × Appends (W.taken sink.old) (W.taken sink.new) bytes) }
     ensures limited { IfOk result (λ count. count ≤ room) }
