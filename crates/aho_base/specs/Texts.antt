@@ -5,6 +5,10 @@ use Rattle.aho_base.specs.declared.error.BuildError.{BuildError}
 use Rattle.aho_base.specs.declared.error.BuildError.TheVariants.{StateIDOverflow, PatternIDOverflow, PatternTooLong, OutOfMemory}
 use Rattle.aho_base.specs.declared.error.MatchErrorKind.{MatchErrorKind}
 use Rattle.aho_base.specs.declared.error.MatchErrorKind.TheVariants.{InvalidInputAnchored, InvalidInputUnanchored, UnsupportedStream, UnsupportedOverlapping, UnsupportedEmpty}
+use Rattle.aho_base.specs.declared.error.replace.ReplaceError.{ReplaceError}
+use Rattle.aho_base.specs.declared.error.replace.ReplaceError.TheVariants.{Match as RefusedMatch, Memory as NoMemory}
+use Rattle.aho_base.specs.declared.error.stream.StreamError.{StreamError}
+use Rattle.aho_base.specs.declared.error.stream.StreamError.TheVariants.{Match, Read, Write, WriteZero, Memory, PositionLimit}
 use Rattle.aho_base.specs.declared.search.MatchKind.{MatchKind}
 use Rattle.aho_base.specs.declared.search.MatchKind.TheVariants.{Standard, LeftmostFirst, LeftmostLongest}
 
@@ -34,3 +38,17 @@ match_error_text InvalidInputUnanchored = codes "unanchored searches are not sup
 match_error_text (UnsupportedStream got) = codes "match kind " ++ (kind_name got ++ codes " does not support stream searching")
 match_error_text (UnsupportedOverlapping got) = codes "match kind " ++ (kind_name got ++ codes " does not support overlapping searches")
 match_error_text UnsupportedEmpty = codes "matching with an empty pattern string is not supported for this operation"
+
+-- why a replacement in memory stopped
+abbrev pub replace_error_text : ReplaceError → List ℕ
+replace_error_text (RefusedMatch cause) = match_error_text cause
+replace_error_text NoMemory = codes "out of memory"
+
+-- why a stream stopped
+abbrev pub stream_error_text : StreamError → List ℕ
+stream_error_text (Match cause) = match_error_text cause
+stream_error_text (Read fault) = codes "read fault"
+stream_error_text (Write fault) = codes "write fault"
+stream_error_text WriteZero = codes "write took no bytes"
+stream_error_text Memory = codes "out of memory"
+stream_error_text PositionLimit = codes "position limit reached"

@@ -1,13 +1,18 @@
-//! Why a build or a search is refused.
+//! Why a build or a search is refused, and why a replacement or a stream stopped.
 
 ghost use Rattle.std.specs.Prelude.{◌≡◌};
 ghost use Rattle.aho_base.specs.Texts.{kind_name};
 ghost use Rattle.aho_base.specs.declared.error.MatchErrorKind.TheVariants.{InvalidInputAnchored, InvalidInputUnanchored, UnsupportedStream, UnsupportedOverlapping, UnsupportedEmpty};
 
+mod replace;
+mod stream;
+
 use crate::search::{MatchKind, PatternID};
+pub use replace::ReplaceError;
 use std::error::Error;
 use std::fmt;
 use std::marker::Model;
+pub use stream::{Fault, StreamError};
 
 /// Why an automaton was not built.
 #[derive(Clone, Debug, PartialEq, Eq, Drop)]

@@ -4,14 +4,18 @@
 ghost use Rattle.std.specs.Prelude.{◌≡◌};
 ghost use Rattle.aho_base.specs.Impls.{ClonesTheSame, ComparesNumbers, EqualsTheSame};
 ghost use Rattle.aho_base.specs.Numbers.{greatest_index};
+ghost use Rattle.aho_base.specs.declared.error.MatchErrorKind.{MatchErrorKind};
+ghost use Rattle.aho_base.specs.declared.error.replace.ReplaceError.{ReplaceError};
+ghost use Rattle.aho_base.specs.declared.error.stream.StreamError.{StreamError};
 ghost use Rattle.aho_base.specs.declared.search.MatchKind.{MatchKind};
 ghost use Rattle.aho_base.specs.declared.search.MatchKind.TheVariants.{Standard};
 
-use crate::error::{BuildError, MatchError, MatchErrorKind};
+use crate::error::{BuildError, Fault, MatchError, MatchErrorKind, ReplaceError, StreamError};
 use crate::search::{
     Anchored, Input, Match, MatchKind, PatternID, PatternIDError, SmallIndex, SmallIndexError,
     Span, StateID, StateIDError,
 };
+use std::alloc::AllocError;
 
 /// A clone is its original, in all of its fields, and is never refused.
 pub fn clones_the_same()
@@ -29,6 +33,9 @@ pub fn clones_the_same()
     ensures build_error { ClonesTheSame ⟦<BuildError as Clone>⟧ }
     ensures match_error { ClonesTheSame ⟦<MatchError as Clone>⟧ }
     ensures match_error_kind { ClonesTheSame ⟦<MatchErrorKind as Clone>⟧ }
+    ensures replace_error { ClonesTheSame ⟦<ReplaceError as Clone>⟧ }
+    ensures fault { ClonesTheSame ⟦<Fault as Clone>⟧ }
+    ensures stream_error { ClonesTheSame ⟦<StreamError as Clone>⟧ }
 {}
 
 /// Two values are equal just where all of their fields are the same.
@@ -46,6 +53,9 @@ pub fn equals_the_same()
     ensures build_error { EqualsTheSame ⟦<BuildError as PartialEq>⟧ }
     ensures match_error { EqualsTheSame ⟦<MatchError as PartialEq>⟧ }
     ensures match_error_kind { EqualsTheSame ⟦<MatchErrorKind as PartialEq>⟧ }
+    ensures replace_error { EqualsTheSame ⟦<ReplaceError as PartialEq>⟧ }
+    ensures fault { EqualsTheSame ⟦<Fault as PartialEq>⟧ }
+    ensures stream_error { EqualsTheSame ⟦<StreamError as PartialEq>⟧ }
 {}
 
 /// Indexes, patterns and states are in the order of their numbers. `Ord` asks that `<` and its
@@ -78,3 +88,19 @@ pub fn greatest() -> (SmallIndex, PatternID, StateID)
 {
     (SmallIndex::MAX, PatternID::MAX, StateID::MAX)
 }
+
+/// An error that a call passes on by `?` tells its cause.
+pub fn errors_tell_their_cause()
+    ensures refused_replacement { (cause : MatchErrorKind) (error : ReplaceError)
+        → ⟦<ReplaceError as From<MatchError>>⟧.from_gives cause error
+        → error ≡ ReplaceError.Match cause }
+    ensures replacement_without_memory { (cause : AllocError) (error : ReplaceError)
+        → ⟦<ReplaceError as From<AllocError>>⟧.from_gives cause error
+        → error ≡ ReplaceError.Memory }
+    ensures refused_stream { (cause : MatchErrorKind) (error : StreamError)
+        → ⟦<StreamError as From<MatchError>>⟧.from_gives cause error
+        → error ≡ StreamError.Match cause }
+    ensures stream_without_memory { (cause : AllocError) (error : StreamError)
+        → ⟦<StreamError as From<AllocError>>⟧.from_gives cause error
+        → error ≡ StreamError.Memory }
+{}

@@ -1,6 +1,7 @@
 //! A caller of each main call of an automaton, with what it may promise in turn.
 
-ghost use Rattle.std.specs.Prelude.{◌≡◌, ◌+◌, ◌*◌, ◌-◌, ◌<◌, ◌≤◌, ◌^◌, IfOk, false, length};
+ghost use Rattle.std.specs.Prelude.{◌≡◌, ◌+◌, ◌*◌, ◌-◌, ◌<◌, ◌≤◌, ◌^◌, ℕ, List, IfOk, false, length};
+ghost use Rattle.std.specs.Io.KnownBytes.{Appends, Consumes};
 ghost use Rattle.aho_base.specs.Answer.{IsAnswer};
 ghost use Rattle.aho_base.specs.Patterns.{Patterns};
 ghost use Rattle.aho_base.specs.Search.{search_of};
@@ -9,10 +10,13 @@ ghost use Rattle.aho_build.specs.Items.{patterns_of};
 ghost use Rattle.aho_build.specs.Settings.{default_settings};
 ghost use Rattle.bench.specs.Callers.{both_cases};
 
-use aho_base::error::BuildError;
+use aho_base::error::{BuildError, StreamError};
 use aho_base::search::{Anchored, Bytes, Input, Match, MatchKind, Span};
 use aho_corasick::answers::answer_of;
 use aho_corasick::noncontiguous::{Builder, NFA};
+use aho_devices::buffer::Buffer;
+use aho_devices::device::{Sink, Source};
+use aho_devices::write::write_whole;
 use aho_search::automaton::{Automaton, Counted, find_in};
 use std::alloc::Global;
 
@@ -84,4 +88,22 @@ pub fn lookups_of(nfa: &NFA, haystack: &[u8]) -> u128
         false,
     );
     walk.lookups()
+}
+
+/// Writes to the sink what one fill of a buffer reads from the source, and answers how many bytes these are, at most `room`.
+pub fn pass_on<R: Source, W: Sink>(
+    alloc: Global,
+    source: &mut R,
+    sink: &mut W,
+    room: u64,
+) -> Result<u64, StreamError>
+    ensures passed { IfOk result (λ count. (bytes : List ℕ) × (length bytes ≡ count)
+        × Consumes (R.remaining source.old) (R.remaining source.new) bytes
+        × Appends (W.taken sink.old) (W.taken sink.new) bytes) }
+    ensures limited { IfOk result (λ count. count ≤ room) }
+{
+    let mut buffer = Buffer::new(alloc, 1)?;
+    let filled = buffer.fill(source, room)?;
+    write_whole(sink, buffer.buffer())?;
+    Ok(filled.read)
 }

@@ -15,6 +15,8 @@ mod calls;
 #[cfg(test)]
 mod compiling;
 #[cfg(test)]
+mod devices;
+#[cfg(test)]
 mod inputs;
 pub mod listing;
 #[cfg(test)]
@@ -26,6 +28,8 @@ pub mod plain;
 mod reading;
 #[cfg(test)]
 mod rows;
+#[cfg(test)]
+mod scripted;
 #[cfg(test)]
 mod tables;
 pub mod tally;

@@ -1,0 +1,7 @@
+//! What gives the bytes of a stream and what takes them, with their failures counted, and the buffer between them.
+#![tactic(auto)]
+
+pub mod adapters;
+pub mod buffer;
+pub mod device;
+pub mod write;
