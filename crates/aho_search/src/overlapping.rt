@@ -1,0 +1,179 @@
+//! Overlapping search: every match of a span, one call after another.
+
+ghost use Rattle.std.specs.Prelude.{◌≡◌, ◌≢◌, ℕ, ◌+◌, ◌<◌, ◌≤◌, ◌^◌, min, IsOk, IfOk, IfErr, IfSome, Ok, Err, None, Some, length, slice_get, slice_index};
+ghost use Rattle.aho_base.specs.Laws.{Fits};
+ghost use Rattle.aho_base.specs.Overlapping.{overlapping};
+ghost use Rattle.aho_base.specs.Patterns.{Patterns};
+ghost use Rattle.aho_base.specs.Progress.{FitsFrom, FitsSearch, IsPartWay, StandsAt, fresh, without_match};
+ghost use Rattle.aho_base.specs.declared.error.MatchErrorKind.{MatchErrorKind};
+ghost use Rattle.aho_base.specs.declared.error.MatchErrorKind.TheVariants.{UnsupportedOverlapping};
+ghost use Rattle.aho_base.specs.declared.search.MatchKind.TheVariants.{Standard};
+ghost use Rattle.aho_search.specs.Overlaps.{WalksOn, ended, ends_at, left, left_at};
+
+use crate::automaton::Automaton;
+use aho_base::error::MatchError;
+use aho_base::search::{Anchored, Input, Match, MatchKind, Span, StateID};
+use std::marker::Model;
+
+/// How far an overlapping search is, and the match that the last call found.
+///
+/// A new search begins with `start`. The same state is then handed to each call on the same automaton and input, and
+/// each call puts the next match into it.
+#[derive(Clone, Drop)]
+pub struct OverlappingState {
+    mat: Option<Match>,
+    id: Option<StateID>,
+    at: usize,
+    next_match_index: Option<usize>,
+}
+
+impl Model for OverlappingState {
+    ghost use Rattle.aho_base.specs.Progress.{Progress};
+
+    ghost Value = { Progress };
+
+    ghost view = { λ state. record {
+      mat = state.mat;
+      id = state.id;
+      at = state.at;
+      next_match_index = state.next_match_index;
+    } };
+}
+
+impl OverlappingState {
+    /// The state with which a search begins. It has no match.
+    pub fn start() -> OverlappingState
+        ensures fresh { result ≡ fresh }
+    {
+        OverlappingState {
+            mat: None,
+            id: None,
+            at: 0,
+            next_match_index: None,
+        }
+    }
+
+    /// The match that the last call found; none where it found none, or was refused.
+    pub fn get_match(&self) -> Option<Match>
+        ensures mat { result ≡ self.now.mat }
+    {
+        self.mat
+    }
+}
+
+/// The match of a pattern that a state lists, which ends at the place where the state is held.
+fn listed_match<A: Automaton>(automaton: &A, sid: StateID, index: usize, at: usize) -> Match
+    requires valid { A.valid automaton.now sid }
+    requires within { index < length (A.list automaton.now sid) }
+    requires fits { Fits (A.lengths automaton.now) at (A.list automaton.now sid) }
+    ensures listed { result
+        ≡ ended (A.lengths automaton.now) at (slice_index (A.list automaton.now sid) index) }
+{
+    let pattern = automaton.match_pattern(sid, index);
+    let len = automaton.pattern_len(pattern);
+    let range = Span {
+        start: at - len,
+        end: at,
+    };
+    Match::new(pattern, range)
+}
+
+/// Whether an anchored search has ended in this state.
+fn has_ended<A: Automaton>(automaton: &A, anchored: Anchored, sid: StateID) -> bool
+    requires valid { A.valid automaton.now sid }
+    ensures ended { result ≡ ends_at anchored (A.dead automaton.now sid) }
+{
+    match anchored {
+        Anchored::No => false,
+        Anchored::Yes => automaton.is_dead(sid),
+    }
+}
+
+/// The next state that lists a pattern, with the place where it is held; none where the span ends first.
+fn walk_on<A: Automaton>(
+    automaton: &A,
+    input: &Input<'_>,
+    sid: StateID,
+    at: usize,
+) -> Option<(StateID, usize)>
+    requires standard { A.kind automaton.now ≡ Standard }
+    requires stands { (p : Patterns) × A.is_of automaton.now p
+        × StandsAt (A.valid automaton.now) (A.held automaton.now p) p input.now sid at }
+    ensures walks { (p : Patterns) → A.is_of automaton.now p
+        → StandsAt (A.valid automaton.now) (A.held automaton.now p) p input.now sid at
+        → WalksOn (A.valid automaton.now) (A.held automaton.now p) p input.now at result }
+    ensures lists { IfSome result (λ next. 0 < length (A.list automaton.now next.0)) }
+{
+    let haystack = input.haystack();
+    let anchored = input.get_anchored();
+    let mut sid = sid;
+    for place in at..input.end() {
+        sid = automaton.next_state(anchored, sid, haystack[place]);
+        if automaton.is_special(sid) {
+            if automaton.match_len(sid) > 0 {
+                return Some((sid, place + 1));
+            }
+            if has_ended(automaton, anchored, sid) {
+                return None;
+            }
+        }
+    }
+    None
+}
+
+/// The state with the match of a listed pattern.
+fn give<A: Automaton>(automaton: &A, sid: StateID, at: usize, index: usize) -> OverlappingState
+    requires valid { A.valid automaton.now sid }
+    requires within { index < length (A.list automaton.now sid) }
+    requires fits { Fits (A.lengths automaton.now) at (A.list automaton.now sid) }
+    requires room { index + 1 < 2 ^ 64 }
+    ensures given { result ≡ record {
+      mat = Some (ended (A.lengths automaton.now) at (slice_index (A.list automaton.now sid) index));
+      id = Some sid;
+      at = at;
+      next_match_index = Some (index + 1);
+    } }
+{
+    OverlappingState {
+        mat: Some(listed_match(automaton, sid, index, at)),
+        id: Some(sid),
+        at,
+        next_match_index: Some(index + 1),
+    }
+}
+
+/// The state after the next match from a place on, of whose listed patterns the first `index` were given.
+fn next_match<A: Automaton>(
+    automaton: &A,
+    input: &Input<'_>,
+    sid: StateID,
+    at: usize,
+    index: usize,
+) -> OverlappingState
+    requires standard { A.kind automaton.now ≡ Standard }
+    requires part_way { (p : Patterns) × (n : ℕ) × A.is_of automaton.now p
+        × IsPartWay (A.valid automaton.now) (A.held automaton.now p) p input.now sid at index n }
+    ensures found { (p : Patterns) (n : ℕ) → A.is_of automaton.now p
+        → IsPartWay (A.valid automaton.now) (A.held automaton.now p) p input.now sid at index n
+        → result.mat ≡ slice_get (overlapping p input.now) n }
+    ensures fits { (p : Patterns) (n : ℕ) → A.is_of automaton.now p
+        → IsPartWay (A.valid automaton.now) (A.held automaton.now p) p input.now sid at index n
+        → FitsFrom (A.valid automaton.now) (A.held automaton.now p) p input.now
+        result.id result.at result.next_match_index
+        (min (n + 1) (length (overlapping p input.now))) }
+    ensures fewer { IfSome result.mat (λ _. left (length (A.lengths automaton.now)) input.now result
+        < left_at (length (A.lengths automaton.now)) input.now at index) }
+{
+    if index < automaton.match_len(sid) {
+        return give(automaton, sid, at, index);
+    }
+    match walk_on(automaton, input, sid, at) {
+        Some((sid, at)) => give(automaton, sid, at, 0),
+        None => OverlappingState {
+            mat: None,
+            id: Some(sid),
+            at,
+            next_match_index: None,
+        },
+    }
+}
