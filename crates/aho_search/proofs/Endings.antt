@@ -33,7 +33,7 @@ abbrev number_of : Occurrence → ℕ
 number_of m = m.pattern
 
 -- where no number passes none is left
-none_pass : (test : ℕ → Bool) (a n : ℕ) → ((k : ℕ) → a ≤ k → k < a + n → test k ≡ true → ⊥) → filter test (range_with_len a n) ≡ []
+pub none_pass : (test : ℕ → Bool) (a n : ℕ) → ((k : ℕ) → a ≤ k → k < a + n → test k ≡ true → ⊥) → filter test (range_with_len a n) ≡ []
 none_pass test a zero none = refl
 none_pass test a (suc n) none =
     let rest = filter test (range_with_len (a + 1) n) in
@@ -88,11 +88,11 @@ module _ (p : Patterns) where
 
   module _ (haystack : List ℕ) where
     -- the test of a pattern at a range
-    abbrev Test : ℕ → ℕ → ℕ → Bool
+    abbrev pub Test : ℕ → ℕ → ℕ → Bool
     Test from end number = is_same_word p (pattern_at p number) (slice_range haystack from end)
 
     -- a pattern that passes is as long as its range
-    as_long : (from end k : ℕ) → end ≤ length haystack → Test from end k ≡ true → length (pattern_at p k) ≡ end - from
+    pub as_long : (from end k : ℕ) → end ≤ length haystack → Test from end k ≡ true → length (pattern_at p k) ≡ end - from
     as_long from end k within h = same_length (pattern_at p k) (slice_range haystack from end) h ∙ length_part haystack from end within
 
     -- it occurs there

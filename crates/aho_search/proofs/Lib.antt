@@ -5,3 +5,5 @@ pub mod Origins
 pub mod Listing
 pub mod PartWay
 pub mod Endings
+pub mod Counts
+pub mod Gives

@@ -151,6 +151,7 @@ fn next_match<A: Automaton>(
     index: usize,
 ) -> OverlappingState
     requires standard { A.kind automaton.now ≡ Standard }
+    requires within { input.now.end ≤ length input.now.haystack }
     requires part_way { (p : Patterns) × (n : ℕ) × A.is_of automaton.now p
         × IsPartWay (A.valid automaton.now) (A.held automaton.now p) p input.now sid at index n }
     ensures found { (p : Patterns) (n : ℕ) → A.is_of automaton.now p
@@ -176,4 +177,60 @@ fn next_match<A: Automaton>(
             next_match_index: None,
         },
     }
+}
+
+/// The body of `Automaton::try_find_overlapping`.
+pub(crate) fn find_overlapping<A: Automaton>(
+    automaton: &A,
+    input: &Input<'_>,
+    state: &mut OverlappingState,
+) -> Result<(), MatchError>
+    requires fits { (p : Patterns) × (n : ℕ) × A.is_of automaton.now p
+        × FitsSearch (A.valid automaton.now) (A.held automaton.now p) p input.now state.old n }
+
+    // When it is refused, and what that leaves.
+    ensures unsupported { A.kind automaton.now ≢ Standard
+        → result ≡ Err (UnsupportedOverlapping (A.kind automaton.now)) }
+    ensures error { A.kind automaton.now ≡ Standard
+        → IfErr result (λ reason. A.start automaton.now input.now.anchored ≡ Err reason) }
+    ensures ok { (sid : ℕ) → A.kind automaton.now ≡ Standard
+        → A.start automaton.now input.now.anchored ≡ Ok sid → IsOk result }
+    ensures refused { (reason : MatchErrorKind) → A.kind automaton.now ≡ Standard
+        → state.old.id ≡ None → input.now.start ≤ input.now.end
+        → A.start automaton.now input.now.anchored ≡ Err reason → result ≡ Err reason }
+    ensures cleared { IfErr result (λ _. state.new ≡ without_match state.old) }
+
+    // What is found.
+    ensures done { A.kind automaton.now ≡ Standard → input.now.end < input.now.start
+        → (result ≡ Ok tt) × (state.new ≡ without_match state.old) }
+    ensures found { (p : Patterns) (n : ℕ) → A.is_of automaton.now p
+        → FitsSearch (A.valid automaton.now) (A.held automaton.now p) p input.now state.old n
+        → IfOk result (λ _. state.new.mat ≡ slice_get (overlapping p input.now) n) }
+    ensures fits { (p : Patterns) (n : ℕ) → A.is_of automaton.now p
+        → FitsSearch (A.valid automaton.now) (A.held automaton.now p) p input.now state.old n
+        → IfOk result (λ _. FitsSearch (A.valid automaton.now) (A.held automaton.now p) p input.now
+        state.new (min (n + 1) (length (overlapping p input.now)))) }
+    ensures fewer { IfSome state.new.mat (λ _.
+        left (length (A.lengths automaton.now)) input.now state.new
+        < left (length (A.lengths automaton.now)) input.now state.old) }
+{
+    state.mat = None;
+    let kind = automaton.match_kind();
+    if kind != MatchKind::Standard {
+        return Err(MatchError::unsupported_overlapping(kind));
+    }
+    if input.start() > input.end() {
+        return Ok(());
+    }
+    match (state.id, state.next_match_index) {
+        (None, _) => {
+            let sid = automaton.start_state(input.get_anchored())?;
+            *state = next_match(automaton, input, sid, input.start(), 0);
+        }
+        (Some(sid), Some(index)) => {
+            *state = next_match(automaton, input, sid, state.at, index);
+        }
+        (Some(_), None) => {}
+    }
+    Ok(())
 }
