@@ -10,13 +10,13 @@ use Rattle.aho_base.specs.declared.search.MatchKind.TheVariants.{Standard}
 use Rattle.aho_base.specs.Laws.{Fits, Reads}
 use Rattle.aho_base.specs.Overlapping.{overlapping}
 use Rattle.aho_base.specs.Patterns.{Patterns}
-use Rattle.aho_base.specs.Progress.{FitsFrom, IsPartWay, StandsAt}
+use Rattle.aho_base.specs.Progress.{FitsBy, FitsFrom, FitsSearch, IsPartWay, Progress, StandsAt}
 use Rattle.aho_base.specs.Search.{Search}
 use Rattle.aho_search.specs.Overlaps.{NoneEnds, ended, left_at}
 use Rattle.aho_search.proofs.Counts.{ending_bound}
 use Rattle.aho_search.proofs.Endings.{lists_here}
-use Rattle.aho_search.proofs.PartWay.{all_found, here, moved_on, next_here}
-use Rattle.aho_search.proofs.Places.{length_part}
+use Rattle.aho_search.proofs.PartWay.{all_found, begun, here, moved_on, next_here}
+use Rattle.aho_search.proofs.Places.{length_part, no_part}
 
 -- an element of a list of numbers, changed
 slice_get-changed : {X : Type 0} (f : ℕ → X) (xs : List ℕ) (i : ℕ) → i < length xs → slice_get (map f xs) i ≡ Some (f (slice_index xs i))
@@ -25,6 +25,29 @@ slice_get-changed f (x ∷ xs) zero below = refl
 slice_get-changed f (x ∷ xs) (suc i) below = slice_get-changed f xs i (omega arith)
 
 module _ {p : Patterns} {kind : MatchKind} {lengths : List ℕ} {held : Anchored → List ℕ → ℕ → Type 0} {list : ℕ → List ℕ} {dead starts : ℕ → Bool} (laws : Reads p kind lengths held list dead starts) (standard : kind ≡ Standard) (valid : ℕ → Type 0) (search : Search) (within : search.end ≤ length search.haystack) where
+  -- of a Standard automaton
+  pub from_fits : (progress : Progress) (n : ℕ) → FitsSearch valid held p search progress n → FitsFrom valid held p search progress.id progress.at progress.next_match_index n
+  from_fits progress n = subst (λ (k : MatchKind). FitsBy k valid held p search progress n) (sym laws.kind_is ∙ standard)
+
+  pub to_fits : (progress : Progress) (n : ℕ) → FitsFrom valid held p search progress.id progress.at progress.next_match_index n → FitsSearch valid held p search progress n
+  to_fits progress n = subst (λ (k : MatchKind). FitsBy k valid held p search progress n) (sym standard ∙ laws.kind_is)
+
+  -- before the first byte
+  pub part_way_at_start : (sid at : ℕ) (anchored : Anchored) → at ≡ search.start → anchored ≡ search.anchored → search.start ≤ search.end → valid sid → held anchored [] sid → IsPartWay valid held p search sid at 0 0
+  part_way_at_start sid at anchored begins same ordered is_state is_held =
+      subst (λ (x : ℕ). IsPartWay valid held p search sid x 0 0) (sym begins)
+      (begun valid held p search sid
+      (record {
+        origin = search.start;
+        after_start = omega arith;
+        before_place = omega arith;
+        in_span = ordered;
+        from_start = λ e. refl;
+        apart = λ m o less. absurd (omega (arith, less, o.after_start));
+        is_state = is_state;
+        is_held = subst (λ (w : List ℕ). held search.anchored w sid) (sym (no_part search.haystack search.start)) (subst (λ (a : Anchored). held a [] sid) same is_held);
+      }))
+
   -- a listed pattern is no longer than what was read
   pub fits_here : (sid at : ℕ) → StandsAt valid held p search sid at → Fits lengths at (list sid)
   fits_here sid at s =

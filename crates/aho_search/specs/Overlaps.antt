@@ -1,10 +1,14 @@
 -- What the steps of an overlapping search promise.
-use Rattle.std.specs.Prelude.{◌≡◌, ℕ, ◌+◌, ◌-◌, ◌*◌, ◌<◌, Bool, false, List, [], Option, Some, None, slice_index}
+use Rattle.std.specs.Prelude.{◌≡◌, ℕ, ◌+◌, ◌-◌, ◌*◌, ◌<◌, min, Bool, false, List, [], length, Option, Some, None, Result, Ok, slice_get, slice_index}
+use Rattle.aho_base.specs.declared.error.MatchErrorKind.{MatchErrorKind}
 use Rattle.aho_base.specs.declared.search.Anchored.{Anchored}
 use Rattle.aho_base.specs.declared.search.Anchored.TheVariants.{No, Yes}
+use Rattle.aho_base.specs.declared.search.MatchKind.{MatchKind}
+use Rattle.aho_base.specs.declared.search.MatchKind.TheVariants.{Standard}
 use Rattle.aho_base.specs.Occurrence.{Occurrence, occurrence}
+use Rattle.aho_base.specs.Overlapping.{overlapping}
 use Rattle.aho_base.specs.Patterns.{Patterns}
-use Rattle.aho_base.specs.Progress.{Progress, StandsAt, listed_at}
+use Rattle.aho_base.specs.Progress.{FitsSearch, Progress, StandsAt, listed_at}
 use Rattle.aho_base.specs.Search.{Search}
 
 -- the match of a pattern that ends at a place
@@ -36,3 +40,16 @@ left_from patterns search (Some sid) at (Some index) = left_at patterns search a
 
 abbrev pub left : ℕ → Search → Progress → ℕ
 left patterns search progress = left_from patterns search progress.id progress.at progress.next_match_index
+
+-- when `next` may be called: the search is not refused, and the state fits it
+pub record CanGive {A : Type 0} (is_of : A → Patterns → Type 0) (kind : A → MatchKind) (start : A → Anchored → Result ℕ MatchErrorKind) (valid : A → ℕ → Type 0) (held : A → Patterns → Anchored → List ℕ → ℕ → Type 0) (automaton : A) (search : Search) (progress : Progress) : Type 0 where
+  pub standard : kind automaton ≡ Standard
+  pub first : (sid : ℕ) × (start automaton search.anchored ≡ Ok sid)
+  pub fits : (p : Patterns) × (n : ℕ) × is_of automaton p × FitsSearch (valid automaton) (held automaton p) p search progress n
+
+-- a call of `next`: from a state that fits the search with n found it gives the one numbered n, or none where all were found
+pub record GivesNext {A : Type 0} (is_of : A → Patterns → Type 0) (valid : A → ℕ → Type 0) (held : A → Patterns → Anchored → List ℕ → ℕ → Type 0) (automaton : A) (search : Search) (progress : Progress) (given : Option Occurrence) (automaton' : A) (search' : Search) (progress' : Progress) : Type 0 where
+  pub same_automaton : automaton' ≡ automaton
+  pub same_search : search' ≡ search
+  pub given_is : (p : Patterns) (n : ℕ) → is_of automaton p → FitsSearch (valid automaton) (held automaton p) p search progress n → given ≡ slice_get (overlapping p search) n
+  pub fits : (p : Patterns) (n : ℕ) → is_of automaton p → FitsSearch (valid automaton) (held automaton p) p search progress n → FitsSearch (valid automaton) (held automaton p) p search progress' (min (n + 1) (length (overlapping p search)))

@@ -1,5 +1,6 @@
 //! Overlapping search: every match of a span, one call after another.
 
+ghost use Rattle.std.specs.Iterator.{at_most};
 ghost use Rattle.std.specs.Prelude.{◌≡◌, ◌≢◌, ℕ, ◌+◌, ◌<◌, ◌≤◌, ◌^◌, min, IsOk, IfOk, IfErr, IfSome, Ok, Err, None, Some, length, slice_get, slice_index};
 ghost use Rattle.aho_base.specs.Laws.{Fits};
 ghost use Rattle.aho_base.specs.Overlapping.{overlapping};
@@ -8,11 +9,12 @@ ghost use Rattle.aho_base.specs.Progress.{FitsFrom, FitsSearch, IsPartWay, Stand
 ghost use Rattle.aho_base.specs.declared.error.MatchErrorKind.{MatchErrorKind};
 ghost use Rattle.aho_base.specs.declared.error.MatchErrorKind.TheVariants.{UnsupportedOverlapping};
 ghost use Rattle.aho_base.specs.declared.search.MatchKind.TheVariants.{Standard};
-ghost use Rattle.aho_search.specs.Overlaps.{WalksOn, ended, ends_at, left, left_at};
+ghost use Rattle.aho_search.specs.Overlaps.{CanGive, GivesNext, WalksOn, ended, ends_at, left, left_at};
 
 use crate::automaton::Automaton;
 use aho_base::error::MatchError;
 use aho_base::search::{Anchored, Input, Match, MatchKind, Span, StateID};
+use std::iter::FusedIterator;
 use std::marker::Model;
 
 /// How far an overlapping search is, and the match that the last call found.
@@ -234,3 +236,54 @@ pub(crate) fn find_overlapping<A: Automaton>(
     }
     Ok(())
 }
+
+/// The matches of an overlapping search, one after another: by end, then start, then number.
+///
+/// It takes no memory.
+#[derive(Drop)]
+pub struct FindOverlappingIter<'a, 'h, A> {
+    automaton: &'a A,
+    input: Input<'h>,
+    state: OverlappingState,
+}
+
+impl<'a, 'h, A: Automaton> FindOverlappingIter<'a, 'h, A> {
+    /// The body of `Automaton::try_find_overlapping_iter`.
+    pub(crate) fn new(
+        automaton: &'a A,
+        input: Input<'h>,
+    ) -> Result<FindOverlappingIter<'a, 'h, A>, MatchError> {
+        let kind = automaton.match_kind();
+        if kind != MatchKind::Standard {
+            return Err(MatchError::unsupported_overlapping(kind));
+        }
+        if input.get_anchored() == Anchored::Yes {
+            return Err(MatchError::invalid_input_anchored());
+        }
+        let _sid = automaton.start_state(Anchored::No)?;
+        Ok(FindOverlappingIter {
+            automaton,
+            input,
+            state: OverlappingState::start(),
+        })
+    }
+}
+
+impl<'a, 'h, A: Automaton> Iterator for FindOverlappingIter<'a, 'h, A> {
+    type Item = Match;
+
+    ghost can_next = { λ it. CanGive A.is_of A.kind A.start A.valid A.held it.automaton.now it.input
+        it.state };
+
+    ghost next_gives = { λ it given after. GivesNext A.is_of A.valid A.held it.automaton.now it.input
+        it.state given after.automaton.now after.input after.state };
+
+    ghost remaining = { λ it. at_most (left (length (A.lengths it.automaton.now)) it.input it.state) };
+
+    fn next(&mut self) -> Option<Match> {
+        let _found = find_overlapping(self.automaton, &self.input, &mut self.state);
+        self.state.get_match()
+    }
+}
+
+impl<'a, 'h, A: Automaton> FusedIterator for FindOverlappingIter<'a, 'h, A> {}
