@@ -7,3 +7,4 @@ pub mod PartWay
 pub mod Endings
 pub mod Counts
 pub mod Gives
+pub mod Drained

@@ -1,5 +1,7 @@
 -- What the steps of an overlapping search promise.
-use Rattle.std.specs.Prelude.{◌≡◌, ℕ, ◌+◌, ◌-◌, ◌*◌, ◌<◌, min, Bool, false, List, [], length, Option, Some, None, Result, Ok, slice_get, slice_index}
+use Rattle.std.specs.Prelude.{◌≡◌, ℕ, ◌+◌, ◌-◌, ◌*◌, ◌<◌, min, Bool, false, List, [], ◌∷◌, length, Option, Some, None, Result, Ok, slice_get, slice_index}
+use Rattle.std.specs.Iterator.{YieldsThen}
+use Rattle.std.specs.List.{All}
 use Rattle.aho_base.specs.declared.error.MatchErrorKind.{MatchErrorKind}
 use Rattle.aho_base.specs.declared.search.Anchored.{Anchored}
 use Rattle.aho_base.specs.declared.search.Anchored.TheVariants.{No, Yes}
@@ -53,3 +55,12 @@ pub record GivesNext {A : Type 0} (is_of : A → Patterns → Type 0) (valid : A
   pub same_search : search' ≡ search
   pub given_is : (p : Patterns) (n : ℕ) → is_of automaton p → FitsSearch (valid automaton) (held automaton p) p search progress n → given ≡ slice_get (overlapping p search) n
   pub fits : (p : Patterns) (n : ℕ) → is_of automaton p → FitsSearch (valid automaton) (held automaton p) p search progress n → FitsSearch (valid automaton) (held automaton p) p search progress' (min (n + 1) (length (overlapping p search)))
+
+-- calls of `next` gave these, one after another
+abbrev pub Gives : {S A : Type 0} → (S → Option A → S → Type 0) → S → List (Option A) → S → Type 0
+Gives steps s [] t = s ≡ t
+Gives {S} steps s (given ∷ rest) t = (after : S) × steps s given after × Gives steps after rest t
+
+-- once a call gave none, every later one gives none
+abbrev pub IsFused : {S A : Type 0} → (S → Option A → S → Type 0) → S → Type 0
+IsFused {S} {A} steps s = (ms : List A) (u t : S) (rest : List (Option A)) → YieldsThen steps s ms None u → Gives steps u rest t → All (λ given. given ≡ None) rest

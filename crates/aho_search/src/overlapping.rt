@@ -248,24 +248,17 @@ pub struct FindOverlappingIter<'a, 'h, A> {
 }
 
 impl<'a, 'h, A: Automaton> FindOverlappingIter<'a, 'h, A> {
-    /// The body of `Automaton::try_find_overlapping_iter`.
-    pub(crate) fn new(
-        automaton: &'a A,
-        input: Input<'h>,
-    ) -> Result<FindOverlappingIter<'a, 'h, A>, MatchError> {
-        let kind = automaton.match_kind();
-        if kind != MatchKind::Standard {
-            return Err(MatchError::unsupported_overlapping(kind));
-        }
-        if input.get_anchored() == Anchored::Yes {
-            return Err(MatchError::invalid_input_anchored());
-        }
-        let _sid = automaton.start_state(Anchored::No)?;
-        Ok(FindOverlappingIter {
+    /// The iterator before its first match.
+    pub(crate) fn new(automaton: &'a A, input: Input<'h>) -> FindOverlappingIter<'a, 'h, A>
+        ensures automaton { result.automaton.now ≡ automaton.entry.now }
+        ensures input { result.input ≡ input.entry }
+        ensures fresh { result.state ≡ fresh }
+    {
+        FindOverlappingIter {
             automaton,
             input,
             state: OverlappingState::start(),
-        })
+        }
     }
 }
 
