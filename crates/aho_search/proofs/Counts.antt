@@ -1,5 +1,5 @@
 -- At one place no more occurrences end than there are patterns.
-use Rattle.std.proofs.Common.{◌≡◌, ℕ, zero, suc, ◌+◌, ◌-◌, ◌<◌, ◌≤◌, inl, inr, Bool, true, false, List, [], ◌∷◌, ◌++◌, map, length, refl, sym, ◌∙◌, ap, subst, arith, length-append}
+use Rattle.std.proofs.Common.{◌≡◌, ℕ, zero, suc, ◌+◌, ◌-◌, ◌<◌, ◌≤◌, inl, inr, Bool, true, List, [], ◌∷◌, length, refl, ap, arith, length-append}
 use Rattle.std.specs.Prelude.{slice_range}
 use Rattle.std.specs.List.{filter, flat_map, range_with_len}
 use Rattle.std.proofs.lemmas.Bool.{cases_Bool, cond-true, cond-false}
@@ -62,15 +62,23 @@ module _ (p : Patterns) (haystack : List ℕ) where
   as_many : (end : ℕ) (places : List ℕ) → length (flat_map (λ at. occurrences_at p haystack at end) places) ≡ length (flat_map (λ at. filter (Test p haystack at end) (numbers p)) places)
   as_many end [] = refl
   as_many end (at ∷ places) =
-      omega (arith, as_many end places, length-map (filter (Test p haystack at end) (numbers p)) (occurrence at end),
-      length-append (occurrences_at p haystack at end) (flat_map (λ at. occurrences_at p haystack at end) places),
-      length-append (filter (Test p haystack at end) (numbers p)) (flat_map (λ at. filter (Test p haystack at end) (numbers p)) places))
+      omega (
+        arith,
+        as_many end places,
+        length-map (filter (Test p haystack at end) (numbers p)) (occurrence at end),
+        length-append (occurrences_at p haystack at end) (flat_map (λ at. occurrences_at p haystack at end) places),
+        length-append (filter (Test p haystack at end) (numbers p)) (flat_map (λ at. filter (Test p haystack at end) (numbers p)) places),
+      )
 
   occurrences_bound : (start end : ℕ) → end ≤ length haystack → length (occurrences_ending p haystack start end) ≤ length p.words
   occurrences_bound start end within =
-      omega (arith, as_many end (range_with_len start (end + 1 - start)), length-range_with_len 0 (length p.words),
-      no_more_than (λ at. Test p haystack at end) (numbers p) start (end + 1 - start)
-      (λ k x y low high low' high' t u. omega (arith, as_long p haystack x end k within t, as_long p haystack y end k within u)))
+      omega (
+        arith,
+        as_many end (range_with_len start (end + 1 - start)),
+        length-range_with_len 0 (length p.words),
+        no_more_than (λ at. Test p haystack at end) (numbers p) start (end + 1 - start)
+            (λ k x y low high low' high' t u. omega (arith, as_long p haystack x end k within t, as_long p haystack y end k within u)),
+      )
 
   pub ending_bound : (anchored : Anchored) (start end : ℕ) → end ≤ length haystack → length (ending p haystack start anchored end) ≤ length p.words
   ending_bound No start end within = occurrences_bound start end within

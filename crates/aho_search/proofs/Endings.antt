@@ -1,6 +1,6 @@
 -- What a state lists, as what ends where it is held.
-use Rattle.std.proofs.Common.{◌≡◌, ℕ, zero, suc, ◌+◌, ◌-◌, ◌<◌, ◌≤◌, inl, inr, Bool, true, false, ◌||◌, List, [], ◌∷◌, ◌++◌, map, length, take, drop, get_or, refl, sym, ◌∙◌, ap, subst, arith, append_assoc, length-append}
-use Rattle.std.specs.Prelude.{None, not, slice_index, slice_index_or, slice_range}
+use Rattle.std.proofs.Common.{◌≡◌, ℕ, zero, suc, ◌+◌, ◌-◌, ◌<◌, ◌≤◌, inl, inr, Bool, true, false, ◌||◌, List, [], ◌∷◌, ◌++◌, map, length, drop, get_or, refl, sym, ◌∙◌, ap, subst, arith, append_assoc}
+use Rattle.std.specs.Prelude.{not, slice_index, slice_range}
 use Rattle.std.specs.List.{filter, flat_map, list_any, range_with_len}
 use Rattle.std.proofs.Math.ListN.{get_or-map}
 use Rattle.std.proofs.lemmas.Bool.{cases_Bool, cases_lt, cond-true, cond-false}
@@ -19,7 +19,7 @@ use Rattle.aho_base.specs.Bytes.{IsSameWord, folded_word, is_same_word}
 use Rattle.aho_base.specs.Laws.{BestAfter, Reads, patterns_ending, told}
 use Rattle.aho_base.specs.Occurrence.{Occurrence, occurrence}
 use Rattle.aho_base.specs.Occurs.{Occurs}
-use Rattle.aho_base.specs.Overlapping.{begins_some, occurrences_at, occurrences_ending, overlapping, places}
+use Rattle.aho_base.specs.Overlapping.{begins_some, occurrences_at, occurrences_ending}
 use Rattle.aho_base.specs.Patterns.{Patterns, numbers, pattern_at}
 use Rattle.aho_base.specs.Progress.{StandsAt}
 use Rattle.aho_base.specs.Search.{Search}

@@ -1,18 +1,17 @@
 -- How many an overlapping search has found, from one call to the next.
-use Rattle.std.proofs.Common.{◌≡◌, ℕ, zero, suc, ◌+◌, ◌-◌, ◌*◌, ◌<◌, ◌≤◌, inl, inr, min, List, [], ◌∷◌, ◌++◌, length, take, get_or, refl, sym, ◌∙◌, ap, subst, arith, append_assoc, length-append}
-use Rattle.std.specs.Prelude.{Option, Some, None, slice_get, slice_range}
-use Rattle.std.proofs.Math.Nat.{mul-le-mul_left}
+use Rattle.std.proofs.Common.{◌≡◌, ℕ, zero, suc, ◌+◌, ◌-◌, ◌<◌, ◌≤◌, inl, inr, min, List, [], ◌∷◌, ◌++◌, length, take, get_or, refl, sym, ◌∙◌, ap, subst, arith, length-append}
+use Rattle.std.specs.Prelude.{Some, None, slice_get, slice_range}
 use Rattle.std.proofs.Math.Seq.{take-append-add}
 use Rattle.std.proofs.lemmas.Bool.{cases_lt}
-use Rattle.std.proofs.lemmas.List.{append-nil, length-take-le, take-append-le}
+use Rattle.std.proofs.lemmas.List.{length-take-le, take-append-le}
 use Rattle.std.proofs.lemmas.Option.{slice_get_past}
 use Rattle.aho_base.specs.declared.search.Anchored.{Anchored}
 use Rattle.aho_base.specs.Occurrence.{Occurrence}
 use Rattle.aho_base.specs.Overlapping.{overlapping}
 use Rattle.aho_base.specs.Patterns.{Patterns}
-use Rattle.aho_base.specs.Progress.{FitsFrom, IsPartWay, StandsAt, listed_at, listed_before}
+use Rattle.aho_base.specs.Progress.{IsPartWay, StandsAt, listed_at, listed_before}
 use Rattle.aho_base.specs.Search.{Search}
-use Rattle.aho_search.specs.Overlaps.{NoneEnds, left_at}
+use Rattle.aho_search.specs.Overlaps.{NoneEnds}
 use Rattle.aho_search.proofs.Listing.{at_part, before_part, ending, listed, listed_between, listing, listing_parts}
 use Rattle.aho_search.proofs.Places.{part_more}
 
@@ -123,10 +122,10 @@ module _ (valid : ℕ → Type 0) (held : Anchored → List ℕ → ℕ → Type
       let high : at ≤ search.end = w.stands.in_span in
       let count : n ≡ length (before p search at) + index = found_so_far sid at index n w in (
         ap (λ xs. slice_get xs n) (parts p search at low high)
-        ∙ ap (slice_get (before p search at ++ (here p search at ++ after p search at))) count
-        ∙ slice_get-append (before p search at) (here p search at ++ after p search at) index
-        ∙ slice_get-front (here p search at) (after p search at) index below
-        ∙ is,
+            ∙ ap (slice_get (before p search at ++ (here p search at ++ after p search at))) count
+            ∙ slice_get-append (before p search at) (here p search at ++ after p search at) index
+            ∙ slice_get-front (here p search at) (after p search at) index below
+            ∙ is,
         omega (arith, sized p search at low high),
         part_way sid at (index + 1) (n + 1) w.stands (omega arith) (omega arith),
       )

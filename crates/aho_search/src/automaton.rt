@@ -24,8 +24,8 @@ ghost use Rattle.aho_search.specs.Overlaps.{IsFused};
 ghost use Rattle.aho_base.specs.Steps.{GoesOn, IsPaid};
 
 pub use crate::find::find_in;
-pub use crate::overlapping::{FindOverlappingIter, OverlappingState};
 use crate::overlapping::find_overlapping;
+pub use crate::overlapping::{FindOverlappingIter, OverlappingState};
 pub use crate::walk::{Counted, Walk};
 use aho_base::error::MatchError;
 use aho_base::search::{Anchored, Bytes, Input, Match, MatchKind, PatternID, Span, StateID, Work};

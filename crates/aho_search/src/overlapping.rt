@@ -1,7 +1,23 @@
-//! Overlapping search: every match of a span, one call after another.
+//! Overlapping search: every match of a span, one after another.
+//!
+//! # What a state keeps between two calls
+//!
+//! A search that has begun stands at a place: `id` is the state that is held after the bytes up to `at`. Under
+//! `Standard` a state lists the patterns that end where it is held, the longest first and then by number, which is the
+//! order of the listing. So `at` and `next_match_index`, the number of the patterns listed there that were given, say
+//! how many matches were found. Once nothing is left, `next_match_index` is none.
+//!
+//! # How it goes on
+//!
+//! - Where the state lists one more pattern, that is the next match. Patterns that end together are read off the list by
+//!   their index, so a list costs time in proportion to its length, and no byte is read again.
+//! - Else it walks to the next state that lists a pattern, and gives the first of them.
+//! - An anchored search ends at a dead state: from there on the bytes begin no pattern. Any other search walks to the end
+//!   of its span, for the laws say of a dead state that the best match stays, and not that none ends later.
 
 ghost use Rattle.std.specs.Iterator.{at_most};
 ghost use Rattle.std.specs.Prelude.{◌≡◌, ◌≢◌, ℕ, ◌+◌, ◌<◌, ◌≤◌, ◌^◌, min, IsOk, IfOk, IfErr, IfSome, Ok, Err, None, Some, length, slice_get, slice_index};
+ghost use Rattle.aho_base.specs.Impls.{ClonesTheSame};
 ghost use Rattle.aho_base.specs.Laws.{Fits};
 ghost use Rattle.aho_base.specs.Overlapping.{overlapping};
 ghost use Rattle.aho_base.specs.Patterns.{Patterns};
@@ -43,7 +59,7 @@ impl Model for OverlappingState {
 }
 
 impl OverlappingState {
-    /// The state with which a search begins. It has no match.
+    /// The state with which a search begins. It has no match, and takes no memory.
     pub fn start() -> OverlappingState
         ensures fresh { result ≡ fresh }
     {
@@ -181,7 +197,7 @@ fn next_match<A: Automaton>(
     }
 }
 
-/// The body of `Automaton::try_find_overlapping`.
+/// Puts the next match into the state: the body of `Automaton::try_find_overlapping`.
 pub(crate) fn find_overlapping<A: Automaton>(
     automaton: &A,
     input: &Input<'_>,
@@ -239,7 +255,7 @@ pub(crate) fn find_overlapping<A: Automaton>(
 
 /// The matches of an overlapping search, one after another: by end, then start, then number.
 ///
-/// It takes no memory.
+/// `Automaton::try_find_overlapping_iter` makes it. Once it has given none it gives none again. It takes no memory.
 #[derive(Drop)]
 pub struct FindOverlappingIter<'a, 'h, A> {
     automaton: &'a A,
@@ -280,3 +296,8 @@ impl<'a, 'h, A: Automaton> Iterator for FindOverlappingIter<'a, 'h, A> {
 }
 
 impl<'a, 'h, A: Automaton> FusedIterator for FindOverlappingIter<'a, 'h, A> {}
+
+/// A clone of a state is that state, and is never refused.
+pub fn clones_the_same()
+    ensures state { ClonesTheSame ⟦<OverlappingState as Clone>⟧ }
+{}

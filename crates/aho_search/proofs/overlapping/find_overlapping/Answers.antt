@@ -1,12 +1,12 @@
 -- What is found, and what the state fits then.
-use Rattle.std.proofs.Common.{◌≡◌, ◌+◌, ◌≤◌, ℕ, min, List, length, refl, sym, arith, rules, ◌∙◌, ap, subst}
+use Rattle.std.proofs.Common.{◌≡◌, ◌+◌, ℕ, min, List, length, refl, sym, arith, rules, ◌∙◌, ap, subst}
 use Rattle.std.specs.Prelude.{◌↔◌, Option, Some, None, slice_get}
 use Rattle.std.proofs.lemmas.Option.{slice_get_past}
 use Rattle.aho_base.specs.declared.search.Anchored.{Anchored}
 use Rattle.aho_base.specs.declared.search.MatchKind.TheVariants.{Standard}
 use Rattle.aho_base.specs.Overlapping.{overlapping}
 use Rattle.aho_base.specs.Patterns.{Patterns}
-use Rattle.aho_base.specs.Progress.{FitsFrom, FitsSearch, IsPartWay, Progress}
+use Rattle.aho_base.specs.Progress.{FitsFrom, FitsSearch, Progress}
 use Rattle.aho_base.specs.Search.{Search}
 use Rattle.aho_search.proofs.Gives.{from_fits, part_way_at_start, to_fits}
 use Rattle.aho_search.proofs.overlapping.find_overlapping.Given.{Over}

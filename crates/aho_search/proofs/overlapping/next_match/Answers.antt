@@ -1,5 +1,5 @@
 -- What is found, here or at a later place.
-use Rattle.std.proofs.Common.{sym, arith, ◌∙◌, ap, subst}
+use Rattle.std.proofs.Common.{arith, ◌∙◌, ap}
 use Rattle.aho_search.proofs.Gives.{fewer_here, fewer_later, fits_here, gives, gives_later, gives_none}
 use Rattle.aho_search.proofs.overlapping.next_match.Goals as goal
 

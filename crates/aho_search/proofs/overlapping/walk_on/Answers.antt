@@ -1,5 +1,5 @@
 -- Each way out of the walk, and each turn of its loop.
-use Rattle.std.proofs.Common.{◌≡◌, ◌+◌, ◌∷◌, ◌++◌, inl, inr, refl, sym, ◌∙◌, ap, subst, arith, ℕ, Bool, true, false, List, [], get_or, map}
+use Rattle.std.proofs.Common.{◌≡◌, ◌+◌, ◌∷◌, ◌++◌, inl, inr, refl, sym, ◌∙◌, ap, subst, arith, ℕ, Bool, true, List, [], get_or, map}
 use Rattle.std.proofs.lemmas.Bool.{cases_lt}
 use Rattle.std.proofs.lemmas.List.{nil_from_length}
 use Rattle.aho_base.specs.declared.search.Anchored.{Anchored}
@@ -77,9 +77,9 @@ returns-then-has_ended-clause-walks g c p of began =
     let why = why_ended _ _ c.if-has_ended.ensures.ended in
     let low = place_low _ _ p c.args.input.now _ _ (c.loop-place.invariant.stands p of began) in
     λ end least most.
-        elim (cases_lt end (c.loop-place.place + 1)) [
-          | inl sooner ↦ c.loop-place.invariant.none p of began end least sooner
-          | inr ge ↦
-              here_is p c.args.input.now end (omega arith) (omega arith)
-              ∙ dead_ends (g.met.A.Automaton.laws c.args.automaton.now p of) c.requires.standard _ c.args.input.now _ _ end (omega arith) (sym c.get_anchored-anchored.ensures.anchored ∙ why.0) (omega arith) s why.1 (omega arith) (omega arith)
-        ]
+    elim (cases_lt end (c.loop-place.place + 1)) [
+      | inl sooner ↦ c.loop-place.invariant.none p of began end least sooner
+      | inr ge ↦
+          here_is p c.args.input.now end (omega arith) (omega arith)
+          ∙ dead_ends (g.met.A.Automaton.laws c.args.automaton.now p of) c.requires.standard _ c.args.input.now _ _ end (omega arith) (sym c.get_anchored-anchored.ensures.anchored ∙ why.0) (omega arith) s why.1 (omega arith) (omega arith)
+    ]

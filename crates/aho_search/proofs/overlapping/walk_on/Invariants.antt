@@ -1,5 +1,5 @@
 -- What the loop keeps.
-use Rattle.std.proofs.Common.{◌≡◌, ◌+◌}
+use Rattle.std.proofs.Common.{◌+◌}
 use Rattle.aho_base.specs.Patterns.{Patterns}
 use Rattle.aho_base.specs.Progress.{StandsAt}
 use Rattle.aho_search.specs.Overlaps.{NoneEnds}

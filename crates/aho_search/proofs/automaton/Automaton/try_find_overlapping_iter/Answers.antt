@@ -1,5 +1,5 @@
 -- The iterator gives the listing, whatever patterns the automaton is of.
-use Rattle.std.proofs.Common.{◌≡◌, ℕ, List, ap, arith, rules, ◌∙◌}
+use Rattle.std.proofs.Common.{◌≡◌, ap, arith, rules, ◌∙◌}
 use Rattle.aho_base.specs.declared.search.Anchored.{Anchored}
 use Rattle.aho_base.specs.declared.search.Anchored.TheVariants.{No}
 use Rattle.aho_base.specs.Overlapping.{overlapping, overlapping_by}
