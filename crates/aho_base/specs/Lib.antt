@@ -12,6 +12,7 @@ pub mod Iteration
 pub mod Listing
 pub mod Trie
 pub mod Overlapping
+pub mod Progress
 pub mod Replacement
 pub mod Failure
 pub mod MatchList

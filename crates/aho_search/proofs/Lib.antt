@@ -3,3 +3,9 @@ pub mod Told
 pub mod Walks
 pub mod Origins
 pub mod Finds
+pub mod Listing
+pub mod PartWay
+pub mod Endings
+pub mod Counts
+pub mod Gives
+pub mod Drained

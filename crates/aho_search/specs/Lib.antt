@@ -1,3 +1,4 @@
 pub mod Reading
 pub mod Clones
 pub mod Finding
+pub mod Overlaps

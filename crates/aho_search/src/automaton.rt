@@ -5,23 +5,31 @@
 //! a search off these lists. What it takes for that to be the right answer are the trait's laws: whoever implements the
 //! trait proves them once, and each search is proved from them alone.
 
-ghost use Rattle.std.specs.Prelude.{◌≡◌, ℕ, List, [], ◌∷◌, ◌++◌, Bool, true, false, Option, Result, IsOk, IfOk, IfErr, Ok, Err, None, Some, ◌+◌, ◌-◌, ◌<◌, ◌≤◌, ◌^◌, ◌↔◌, IsTrue, length, slice_get, slice_index};
-ghost use Rattle.std.specs.Iterator.{UpTo};
+ghost use Rattle.std.specs.Prelude.{◌≡◌, ℕ, List, [], ◌∷◌, ◌++◌, Bool, true, false, Option, Result, IsOk, IfOk, IfErr, Ok, Err, None, Some, ◌+◌, ◌-◌, ◌<◌, ◌≤◌, ◌^◌, ◌↔◌, IsTrue, length, slice_get, slice_index, ◌≢◌, ◌*◌, min};
+ghost use Rattle.std.specs.Iterator.{UpTo, Drains};
 ghost use Rattle.std.specs.Iterator.Runs.{EachRunFrom};
 ghost use Rattle.aho_base.specs.Answer.{IsAnswer};
 ghost use Rattle.aho_base.specs.Iteration.{AreFinds};
 ghost use Rattle.aho_base.specs.Laws.{Reads, longest, shortest};
 ghost use Rattle.aho_base.specs.Numbers.{greatest_index};
 ghost use Rattle.aho_base.specs.Occurrence.{Occurrence};
+ghost use Rattle.aho_base.specs.Overlapping.{all_occurrences, overlapping};
 ghost use Rattle.aho_base.specs.Patterns.{Patterns};
+ghost use Rattle.aho_base.specs.Progress.{FitsSearch, without_match};
 ghost use Rattle.aho_base.specs.declared.error.MatchErrorKind.{MatchErrorKind};
+ghost use Rattle.aho_base.specs.declared.error.MatchErrorKind.TheVariants.{InvalidInputAnchored, UnsupportedOverlapping};
 ghost use Rattle.aho_base.specs.declared.search.Anchored.{Anchored};
+ghost use Rattle.aho_base.specs.declared.search.Anchored.TheVariants.{No, Yes};
 ghost use Rattle.aho_base.specs.declared.search.MatchKind.{MatchKind};
+ghost use Rattle.aho_base.specs.declared.search.MatchKind.TheVariants.{Standard};
+ghost use Rattle.aho_search.specs.Overlaps.{IsFused};
 ghost use Rattle.aho_base.specs.Steps.{GoesOn, IsPaid};
 ghost use Rattle.aho_search.specs.Finding.{AreFirstFinds};
 
 pub use crate::find::find_in;
 pub use crate::iter::FindIter;
+use crate::overlapping::find_overlapping;
+pub use crate::overlapping::{FindOverlappingIter, OverlappingState};
 pub use crate::walk::{Counted, Walk};
 use aho_base::error::MatchError;
 use aho_base::search::{Anchored, Bytes, Input, Match, MatchKind, PatternID, Span, StateID, Work};
@@ -248,6 +256,98 @@ pub trait Automaton {
         ensures ok { (sid : ℕ) → start self.now input.entry.anchored ≡ Ok sid → IsOk result }
     {
         FindIter::new(self, input)
+    }
+
+    /// Puts the next match of an overlapping search into the state, or none where all were found.
+    ///
+    /// The matches come by end, then start, then number. An anchored search gives those that end where the bytes from the
+    /// span's start on begin some pattern, wherever in the span they start. The state is a fresh one, or one that calls on
+    /// this automaton and this input left; calls that were refused in between don't matter. Whether the input asks for the
+    /// earliest plays no part.
+    ///
+    /// It goes on where the call before stopped, and takes no memory.
+    ///
+    /// # Errors
+    ///
+    /// A leftmost kind is refused first, with `UnsupportedOverlapping`, for a done input too and whatever the state. Then
+    /// a fresh state is refused exactly where `start_state` refuses the input's anchoring and the input is not done. A
+    /// refused call clears the state's match and changes nothing else.
+    final fn try_find_overlapping(
+        &self,
+        input: &Input,
+        state: &mut OverlappingState,
+    ) -> Result<(), MatchError>
+    where
+        Self: Sized,
+        requires fits { (p : Patterns) × (n : ℕ) × is_of self.now p
+            × FitsSearch (valid self.now) (held self.now p) p input.now state.old n }
+        ensures unsupported { kind self.now ≢ Standard
+            → result ≡ Err (UnsupportedOverlapping (kind self.now)) }
+        ensures error { kind self.now ≡ Standard
+            → IfErr result (λ reason. start self.now input.now.anchored ≡ Err reason) }
+        ensures ok { (sid : ℕ) → kind self.now ≡ Standard
+            → start self.now input.now.anchored ≡ Ok sid → IsOk result }
+        ensures refused { (reason : MatchErrorKind) → kind self.now ≡ Standard
+            → state.old.id ≡ None → input.now.start ≤ input.now.end
+            → start self.now input.now.anchored ≡ Err reason → result ≡ Err reason }
+        ensures cleared { IfErr result (λ _. state.new ≡ without_match state.old) }
+        ensures done { kind self.now ≡ Standard → input.now.end < input.now.start
+            → (result ≡ Ok tt) × (state.new ≡ without_match state.old) }
+        ensures found { (p : Patterns) (n : ℕ) → is_of self.now p
+            → FitsSearch (valid self.now) (held self.now p) p input.now state.old n
+            → IfOk result (λ _. state.new.mat ≡ slice_get (overlapping p input.now) n) }
+        ensures fits { (p : Patterns) (n : ℕ) → is_of self.now p
+            → FitsSearch (valid self.now) (held self.now p) p input.now state.old n
+            → IfOk result (λ _. FitsSearch (valid self.now) (held self.now p) p input.now state.new
+            (min (n + 1) (length (overlapping p input.now)))) }
+    {
+        find_overlapping(self, input, state)
+    }
+
+    /// The matches of an overlapping search, one after another: by end, then start, then number.
+    ///
+    /// It gives no more than `patterns_len` matches for each place of the span from its start to its end, and takes no
+    /// memory.
+    ///
+    /// # Errors
+    ///
+    /// In this order: a leftmost kind is refused with `UnsupportedOverlapping`, an anchored input with
+    /// `InvalidInputAnchored`, and else what `start_state` refuses, for a done input too.
+    final fn try_find_overlapping_iter<'a, 'h>(
+        &'a self,
+        input: Input<'h>,
+    ) -> Result<FindOverlappingIter<'a, 'h, Self>, MatchError>
+    where
+        Self: Sized,
+        ensures unsupported { kind self.now ≢ Standard
+            → result ≡ Err (UnsupportedOverlapping (kind self.now)) }
+        ensures anchored { kind self.now ≡ Standard → input.entry.anchored ≡ Yes
+            → result ≡ Err InvalidInputAnchored }
+        ensures refused { (reason : MatchErrorKind) → kind self.now ≡ Standard
+            → input.entry.anchored ≡ No → start self.now No ≡ Err reason → result ≡ Err reason }
+        ensures ok { (sid : ℕ) → kind self.now ≡ Standard → input.entry.anchored ≡ No
+            → start self.now No ≡ Ok sid → IsOk result }
+        ensures ready { (p : Patterns) → is_of self.now p
+            → IfOk result ⟦<FindOverlappingIter<'a, 'h, Self> as Iterator>⟧.can_next }
+        ensures bound { IfOk result (λ it.
+            UpTo (⟦<FindOverlappingIter<'a, 'h, Self> as Iterator>⟧.remaining it)
+            (length (lengths self.now) * (input.entry.end + 1 - input.entry.start))) }
+        ensures lists { (p : Patterns) → is_of self.now p → IfOk result (λ it.
+            (ms : List Occurrence)
+            → Drains ⟦<FindOverlappingIter<'a, 'h, Self> as Iterator>⟧.next_gives it ms
+            → ms ≡ all_occurrences p input.entry.haystack input.entry.start input.entry.end) }
+        ensures fused { (p : Patterns) → is_of self.now p
+            → IfOk result (IsFused ⟦<FindOverlappingIter<'a, 'h, Self> as Iterator>⟧.next_gives) }
+    {
+        let kind = self.match_kind();
+        if kind != MatchKind::Standard {
+            return Err(MatchError::unsupported_overlapping(kind));
+        }
+        if input.get_anchored() == Anchored::Yes {
+            return Err(MatchError::invalid_input_anchored());
+        }
+        let _sid = self.start_state(Anchored::No)?;
+        Ok(FindOverlappingIter::new(self, input))
     }
 }
 

@@ -1,19 +1,22 @@
 //! A caller of each main call of an automaton, with what it may promise in turn.
 
-ghost use Rattle.std.specs.Prelude.{◌≡◌, ◌+◌, ◌*◌, ◌-◌, ◌<◌, ◌≤◌, ◌^◌, ℕ, List, IfOk, false, length, IsOk, None, map};
 ghost use Rattle.std.specs.Io.KnownBytes.{Appends, Consumes};
+ghost use Rattle.std.specs.Prelude.{◌≡◌, ◌+◌, ◌*◌, ◌-◌, ◌<◌, ◌≤◌, ◌^◌, ℕ, List, IfOk, false, length, IsOk, None, map};
 ghost use Rattle.aho_base.specs.Answer.{IsAnswer};
 ghost use Rattle.aho_base.specs.Iteration.{AreFinds};
 ghost use Rattle.aho_base.specs.Occurrence.{Occurrence};
+ghost use Rattle.aho_base.specs.Overlapping.{all_occurrences};
 ghost use Rattle.aho_base.specs.Patterns.{Patterns};
 ghost use Rattle.aho_base.specs.Search.{search_of};
 ghost use Rattle.aho_base.specs.declared.search.Anchored.TheVariants.{No, Yes};
+ghost use Rattle.aho_base.specs.declared.search.MatchKind.TheVariants.{Standard};
 ghost use Rattle.aho_build.specs.Items.{patterns_of};
 ghost use Rattle.aho_build.specs.Settings.{default_settings};
 ghost use Rattle.aho_search.specs.Finding.{AreFirstFinds};
 ghost use Rattle.bench.specs.Callers.{both_cases};
 
 use aho_base::error::{BuildError, StreamError};
+use aho_base::error::BuildError;
 use aho_base::search::{Anchored, Bytes, Input, Match, MatchKind, Span};
 use aho_corasick::answers::answer_of;
 use aho_corasick::noncontiguous::{Builder, NFA};
@@ -210,4 +213,44 @@ pub fn first_matches<A: Automaton>(
         .unwrap()
         .take(count)
         .collect(alloc)
+}
+
+/// All matches of a haystack, those that overlap too: by end, then start, then number.
+///
+/// # Errors
+///
+/// The error says that memory ran out.
+pub fn find_all(alloc: Global, nfa: &NFA, haystack: &[u8]) -> Result<Vec<Match>, AllocError>
+    requires of { (p : Patterns) × ⟦<NFA as Automaton>⟧.is_of nfa.now p }
+    requires standard { ⟦<NFA as Automaton>⟧.kind nfa.now ≡ Standard }
+    ensures all { (p : Patterns) → ⟦<NFA as Automaton>⟧.is_of nfa.now p → IfOk result (λ found.
+        found.items ≡ all_occurrences p haystack.now 0 (length haystack.now)) }
+{
+    match nfa.try_find_overlapping_iter(Input::new(haystack)) {
+        Ok(matches) => matches.collect(alloc),
+        Err(_) => unreachable!(),
+    }
+}
+
+/// Where all matches of a haystack end, those that overlap too.
+///
+/// # Errors
+///
+/// The error says that memory ran out.
+pub fn ends_of_all(alloc: Global, nfa: &NFA, haystack: &[u8]) -> Result<Vec<usize>, AllocError>
+    requires of { (p : Patterns) × ⟦<NFA as Automaton>⟧.is_of nfa.now p }
+    requires standard { ⟦<NFA as Automaton>⟧.kind nfa.now ≡ Standard }
+    ensures ends { (p : Patterns) → ⟦<NFA as Automaton>⟧.is_of nfa.now p → IfOk result (λ ends.
+        ends.items ≡ map (λ m. m.end) (all_occurrences p haystack.now 0 (length haystack.now))) }
+{
+    let mut ends = Vec::new(alloc);
+    match nfa.try_find_overlapping_iter(Input::new(haystack)) {
+        Ok(matches) => {
+            for m in matches {
+                ends.push(m.end())?;
+            }
+        }
+        Err(_) => unreachable!(),
+    }
+    Ok(ends)
 }

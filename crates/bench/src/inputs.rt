@@ -1,9 +1,11 @@
-//! Every short input, and random ones: the automaton answers what the plain program does.
+//! Every short input, and random ones: the automaton answers and lists what the plain program does.
 
 ghost use Rattle.std.specs.Prelude.{◌+◌, ◌<◌, ◌≤◌, length};
 ghost use Rattle.aho_base.specs.Patterns.{Patterns};
 
 use crate::automata::{builder_of, nfa_by, nfa_of};
+use crate::listing::{all, anchored};
+use crate::overlaps::{found_by_calls, found_by_iterator};
 use crate::pattern_set::PatternSet;
 use crate::plain::plain;
 use aho_base::search::{Anchored, Input, MatchKind, PatternID, Span};
@@ -57,6 +59,52 @@ fn search_spans(rt: &impl Abort, name: &str, patterns: &PatternSet<'_>, nfa: &NF
             search_span(rt, name, patterns, nfa, haystack, Span { start, end });
         }
     }
+}
+
+/// Lists what matches in this span, anchored and not, by the calls and by the iterator.
+fn list_span(
+    rt: &impl Abort,
+    alloc: Global,
+    name: &str,
+    patterns: &PatternSet<'_>,
+    nfa: &NFA,
+    haystack: &[u8],
+    span: Span,
+) -> Result<(), AllocError>
+    requires of { (p : Patterns) × ⟦<NFA as Automaton>⟧.is_of nfa.now p }
+    requires within { span.end ≤ length haystack.now }
+    requires ordered { span.start ≤ span.end + 1 }
+{
+    let input = Input::new(haystack).span(span);
+    let want = all(alloc, patterns, haystack, span)?;
+    let by_calls = found_by_calls(rt, alloc, nfa, &input)?;
+    assert_eq!(rt; by_calls, want, "{name}: {patterns:?} {haystack:?} {span:?}");
+    let from_start = input.clone()?.anchored(Anchored::Yes);
+    let by_iterator = found_by_iterator(rt, alloc, nfa, input)?;
+    assert_eq!(rt; by_iterator, want, "{name}: iterator {patterns:?} {haystack:?} {span:?}");
+    let want = anchored(alloc, patterns, haystack, span)?;
+    let by_calls = found_by_calls(rt, alloc, nfa, &from_start)?;
+    assert_eq!(rt; by_calls, want, "{name}: anchored {patterns:?} {haystack:?} {span:?}");
+    Ok(())
+}
+
+/// Lists what matches in every span of this haystack.
+fn list_spans(
+    rt: &impl Abort,
+    alloc: Global,
+    name: &str,
+    patterns: &PatternSet<'_>,
+    nfa: &NFA,
+    haystack: &[u8],
+) -> Result<(), AllocError>
+    requires of { (p : Patterns) × ⟦<NFA as Automaton>⟧.is_of nfa.now p }
+{
+    for end in 0..=haystack.len() {
+        for start in 0..=end + 1 {
+            list_span(rt, alloc, name, patterns, nfa, haystack, Span { start, end })?;
+        }
+    }
+    Ok(())
 }
 
 /// Some patterns, to be searched for in haystacks over two letters.
@@ -172,6 +220,29 @@ fn short_inputs_are_searched(rt: HostRuntime) {
     }
 }
 
+#[test]
+fn short_inputs_are_listed(rt: HostRuntime) -> Result<(), Fail> {
+    for case in CASES {
+        assert!(rt; case.patterns.len() <= PatternID::MAX.as_usize());
+        let patterns = PatternSet::new(case.patterns, MatchKind::Standard, case.ignore_case);
+        let nfa = nfa_of(
+            &rt,
+            rt.alloc(),
+            case.patterns,
+            MatchKind::Standard,
+            case.ignore_case,
+        );
+        for (size, count) in SIZES {
+            for number in 0..count {
+                let haystack = haystack_of(number, case.letters);
+                assert!(rt; size <= haystack.len());
+                list_spans(&rt, rt.alloc(), case.name, &patterns, &nfa, &haystack[..size])?;
+            }
+        }
+    }
+    Ok(())
+}
+
 /// What a builder is told besides what is searched for.
 struct Settings {
     dense_depth: usize,
@@ -279,7 +350,7 @@ impl Random {
     }
 }
 
-/// Searches ranges of random bytes of an alphabet for ranges of them, 100 times.
+/// Searches ranges of random bytes of an alphabet for ranges of them, 100 times, and lists what matches there.
 fn search_random(
     rt: &impl Abort,
     alloc: Global,
@@ -300,7 +371,11 @@ fn search_random(
             for ignore_case in [false, true] {
                 let patterns = PatternSet::new(&words, kind, ignore_case);
                 let nfa = nfa_of(rt, alloc, &words, kind, ignore_case);
-                search_spans(rt, name, &patterns, &nfa, random.range(&bytes, 12));
+                let haystack = random.range(&bytes, 12);
+                search_spans(rt, name, &patterns, &nfa, haystack);
+                if kind == MatchKind::Standard {
+                    list_spans(rt, alloc, name, &patterns, &nfa, haystack)?;
+                }
             }
         }
     }

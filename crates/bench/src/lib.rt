@@ -22,6 +22,8 @@ pub mod listing;
 #[cfg(test)]
 mod lookups;
 pub mod one_byte;
+#[cfg(test)]
+mod overlaps;
 pub mod pattern_set;
 pub mod plain;
 #[cfg(test)]

@@ -1,14 +1,17 @@
 //! Worked rows: what a search answers, what iteration gives and what an overlapping search lists, for words that a reader
-//! can check by hand. One table; the test goes over it with the plain program and, for what a search answers, with the
-//! automaton.
+//! can check by hand. One table; the test goes over it with the plain program and, for what a search answers and what an
+//! overlapping search lists, with the automaton.
 
 ghost use Rattle.std.specs.Prelude.{◌+◌, ◌≤◌, length};
+ghost use Rattle.aho_base.specs.Patterns.{Patterns};
 
 use crate::automata::nfa_of;
 use crate::listing::{all, anchored, finds};
+use crate::overlaps::{found_by_calls, found_by_iterator};
 use crate::pattern_set::PatternSet;
 use crate::plain::plain;
 use aho_base::search::{Anchored, Input, Match, MatchKind, PatternID, Span};
+use aho_corasick::noncontiguous::NFA;
 use aho_search::automaton::Automaton;
 use std::alloc::{AllocError, Global};
 use std::process::Abort;
@@ -447,6 +450,29 @@ fn is_wanted(row: &Row, answer: Option<Found>, listed: &[Found]) -> bool {
     }
 }
 
+/// The automaton lists what is wanted of a row whose listing is wanted, by its calls and, where it is not anchored, by its
+/// iterator.
+fn is_listed(
+    rt: &impl Abort,
+    alloc: Global,
+    row: &Row,
+    nfa: &NFA,
+    input: Input<'_>,
+) -> Result<(), Fail>
+    requires of { (p : Patterns) × ⟦<NFA as Automaton>⟧.is_of nfa.now p }
+{
+    let Want::Listing(want) = row.want else {
+        return Ok(());
+    };
+    let by_calls = all_found(alloc, &found_by_calls(rt, alloc, nfa, &input)?)?;
+    assert_eq!(rt; by_calls.as_slice(), want, "{row:?}");
+    if row.anchored == Anchored::No {
+        let by_iterator = all_found(alloc, &found_by_iterator(rt, alloc, nfa, input)?)?;
+        assert_eq!(rt; by_iterator.as_slice(), want, "{row:?}");
+    }
+    Ok(())
+}
+
 /// The plain program and the automaton answer what is wanted of a row, at one match kind.
 fn row_is_met(rt: &impl Abort, alloc: Global, row: &Row, kind: MatchKind) -> Result<(), Fail> {
     let span = span_of(row);
@@ -458,6 +484,7 @@ fn row_is_met(rt: &impl Abort, alloc: Global, row: &Row, kind: MatchKind) -> Res
     let answer = plain(&patterns, &input);
     let nfa = nfa_of(rt, alloc, row.patterns, kind, row.ignore_case);
     assert_eq!(rt; nfa.try_find(&input)?, answer, "{kind:?} {row:?}");
+    is_listed(rt, alloc, row, &nfa, input.clone()?)?;
     let listed = listed(alloc, row, &patterns, input)?;
     let found = answer.map(found_of);
     assert!(rt;

@@ -1,0 +1,303 @@
+//! Overlapping search: every match of a span, one after another.
+//!
+//! # What a state keeps between two calls
+//!
+//! A search that has begun stands at a place: `id` is the state that is held after the bytes up to `at`. Under
+//! `Standard` a state lists the patterns that end where it is held, the longest first and then by number, which is the
+//! order of the listing. So `at` and `next_match_index`, the number of the patterns listed there that were given, say
+//! how many matches were found. Once nothing is left, `next_match_index` is none.
+//!
+//! # How it goes on
+//!
+//! - Where the state lists one more pattern, that is the next match. Patterns that end together are read off the list by
+//!   their index, so a list costs time in proportion to its length, and no byte is read again.
+//! - Else it walks to the next state that lists a pattern, and gives the first of them.
+//! - An anchored search ends at a dead state: from there on the bytes begin no pattern. Any other search walks to the end
+//!   of its span, for the laws say of a dead state that the best match stays, and not that none ends later.
+
+ghost use Rattle.std.specs.Iterator.{at_most};
+ghost use Rattle.std.specs.Prelude.{◌≡◌, ◌≢◌, ℕ, ◌+◌, ◌<◌, ◌≤◌, ◌^◌, min, IsOk, IfOk, IfErr, IfSome, Ok, Err, None, Some, length, slice_get, slice_index};
+ghost use Rattle.aho_base.specs.Impls.{ClonesTheSame};
+ghost use Rattle.aho_base.specs.Laws.{Fits};
+ghost use Rattle.aho_base.specs.Overlapping.{overlapping};
+ghost use Rattle.aho_base.specs.Patterns.{Patterns};
+ghost use Rattle.aho_base.specs.Progress.{FitsFrom, FitsSearch, IsPartWay, StandsAt, fresh, without_match};
+ghost use Rattle.aho_base.specs.declared.error.MatchErrorKind.{MatchErrorKind};
+ghost use Rattle.aho_base.specs.declared.error.MatchErrorKind.TheVariants.{UnsupportedOverlapping};
+ghost use Rattle.aho_base.specs.declared.search.MatchKind.TheVariants.{Standard};
+ghost use Rattle.aho_search.specs.Overlaps.{CanGive, GivesNext, WalksOn, ended, ends_at, left, left_at};
+
+use crate::automaton::Automaton;
+use aho_base::error::MatchError;
+use aho_base::search::{Anchored, Input, Match, MatchKind, Span, StateID};
+use std::iter::FusedIterator;
+use std::marker::Model;
+
+/// How far an overlapping search is, and the match that the last call found.
+///
+/// A new search begins with `start`. The same state is then handed to each call on the same automaton and input, and
+/// each call puts the next match into it.
+#[derive(Clone, Drop)]
+pub struct OverlappingState {
+    mat: Option<Match>,
+    id: Option<StateID>,
+    at: usize,
+    next_match_index: Option<usize>,
+}
+
+impl Model for OverlappingState {
+    ghost use Rattle.aho_base.specs.Progress.{Progress};
+
+    ghost Value = { Progress };
+
+    ghost view = { λ state. record {
+      mat = state.mat;
+      id = state.id;
+      at = state.at;
+      next_match_index = state.next_match_index;
+    } };
+}
+
+impl OverlappingState {
+    /// The state with which a search begins. It has no match, and takes no memory.
+    pub fn start() -> OverlappingState
+        ensures fresh { result ≡ fresh }
+    {
+        OverlappingState {
+            mat: None,
+            id: None,
+            at: 0,
+            next_match_index: None,
+        }
+    }
+
+    /// The match that the last call found; none where it found none, or was refused.
+    pub fn get_match(&self) -> Option<Match>
+        ensures mat { result ≡ self.now.mat }
+    {
+        self.mat
+    }
+}
+
+/// The match of a pattern that a state lists, which ends at the place where the state is held.
+fn listed_match<A: Automaton>(automaton: &A, sid: StateID, index: usize, at: usize) -> Match
+    requires valid { A.valid automaton.now sid }
+    requires within { index < length (A.list automaton.now sid) }
+    requires fits { Fits (A.lengths automaton.now) at (A.list automaton.now sid) }
+    ensures listed { result
+        ≡ ended (A.lengths automaton.now) at (slice_index (A.list automaton.now sid) index) }
+{
+    let pattern = automaton.match_pattern(sid, index);
+    let len = automaton.pattern_len(pattern);
+    let range = Span {
+        start: at - len,
+        end: at,
+    };
+    Match::new(pattern, range)
+}
+
+/// Whether an anchored search has ended in this state.
+fn has_ended<A: Automaton>(automaton: &A, anchored: Anchored, sid: StateID) -> bool
+    requires valid { A.valid automaton.now sid }
+    ensures ended { result ≡ ends_at anchored (A.dead automaton.now sid) }
+{
+    match anchored {
+        Anchored::No => false,
+        Anchored::Yes => automaton.is_dead(sid),
+    }
+}
+
+/// The next state that lists a pattern, with the place where it is held; none where the span ends first.
+fn walk_on<A: Automaton>(
+    automaton: &A,
+    input: &Input<'_>,
+    sid: StateID,
+    at: usize,
+) -> Option<(StateID, usize)>
+    requires standard { A.kind automaton.now ≡ Standard }
+    requires stands { (p : Patterns) × A.is_of automaton.now p
+        × StandsAt (A.valid automaton.now) (A.held automaton.now p) p input.now sid at }
+    ensures walks { (p : Patterns) → A.is_of automaton.now p
+        → StandsAt (A.valid automaton.now) (A.held automaton.now p) p input.now sid at
+        → WalksOn (A.valid automaton.now) (A.held automaton.now p) p input.now at result }
+    ensures lists { IfSome result (λ next. 0 < length (A.list automaton.now next.0)) }
+{
+    let haystack = input.haystack();
+    let anchored = input.get_anchored();
+    let mut sid = sid;
+    for place in at..input.end() {
+        sid = automaton.next_state(anchored, sid, haystack[place]);
+        if automaton.is_special(sid) {
+            if automaton.match_len(sid) > 0 {
+                return Some((sid, place + 1));
+            }
+            if has_ended(automaton, anchored, sid) {
+                return None;
+            }
+        }
+    }
+    None
+}
+
+/// The state with the match of a listed pattern.
+fn give<A: Automaton>(automaton: &A, sid: StateID, at: usize, index: usize) -> OverlappingState
+    requires valid { A.valid automaton.now sid }
+    requires within { index < length (A.list automaton.now sid) }
+    requires fits { Fits (A.lengths automaton.now) at (A.list automaton.now sid) }
+    requires room { index + 1 < 2 ^ 64 }
+    ensures given { result ≡ record {
+      mat = Some (ended (A.lengths automaton.now) at (slice_index (A.list automaton.now sid) index));
+      id = Some sid;
+      at = at;
+      next_match_index = Some (index + 1);
+    } }
+{
+    OverlappingState {
+        mat: Some(listed_match(automaton, sid, index, at)),
+        id: Some(sid),
+        at,
+        next_match_index: Some(index + 1),
+    }
+}
+
+/// The state after the next match from a place on, of whose listed patterns the first `index` were given.
+fn next_match<A: Automaton>(
+    automaton: &A,
+    input: &Input<'_>,
+    sid: StateID,
+    at: usize,
+    index: usize,
+) -> OverlappingState
+    requires standard { A.kind automaton.now ≡ Standard }
+    requires within { input.now.end ≤ length input.now.haystack }
+    requires part_way { (p : Patterns) × (n : ℕ) × A.is_of automaton.now p
+        × IsPartWay (A.valid automaton.now) (A.held automaton.now p) p input.now sid at index n }
+    ensures found { (p : Patterns) (n : ℕ) → A.is_of automaton.now p
+        → IsPartWay (A.valid automaton.now) (A.held automaton.now p) p input.now sid at index n
+        → result.mat ≡ slice_get (overlapping p input.now) n }
+    ensures fits { (p : Patterns) (n : ℕ) → A.is_of automaton.now p
+        → IsPartWay (A.valid automaton.now) (A.held automaton.now p) p input.now sid at index n
+        → FitsFrom (A.valid automaton.now) (A.held automaton.now p) p input.now
+        result.id result.at result.next_match_index
+        (min (n + 1) (length (overlapping p input.now))) }
+    ensures fewer { IfSome result.mat (λ _. left (length (A.lengths automaton.now)) input.now result
+        < left_at (length (A.lengths automaton.now)) input.now at index) }
+{
+    if index < automaton.match_len(sid) {
+        return give(automaton, sid, at, index);
+    }
+    match walk_on(automaton, input, sid, at) {
+        Some((sid, at)) => give(automaton, sid, at, 0),
+        None => OverlappingState {
+            mat: None,
+            id: Some(sid),
+            at,
+            next_match_index: None,
+        },
+    }
+}
+
+/// Puts the next match into the state: the body of `Automaton::try_find_overlapping`.
+pub(crate) fn find_overlapping<A: Automaton>(
+    automaton: &A,
+    input: &Input<'_>,
+    state: &mut OverlappingState,
+) -> Result<(), MatchError>
+    requires fits { (p : Patterns) × (n : ℕ) × A.is_of automaton.now p
+        × FitsSearch (A.valid automaton.now) (A.held automaton.now p) p input.now state.old n }
+
+    // When it is refused, and what that leaves.
+    ensures unsupported { A.kind automaton.now ≢ Standard
+        → result ≡ Err (UnsupportedOverlapping (A.kind automaton.now)) }
+    ensures error { A.kind automaton.now ≡ Standard
+        → IfErr result (λ reason. A.start automaton.now input.now.anchored ≡ Err reason) }
+    ensures ok { (sid : ℕ) → A.kind automaton.now ≡ Standard
+        → A.start automaton.now input.now.anchored ≡ Ok sid → IsOk result }
+    ensures refused { (reason : MatchErrorKind) → A.kind automaton.now ≡ Standard
+        → state.old.id ≡ None → input.now.start ≤ input.now.end
+        → A.start automaton.now input.now.anchored ≡ Err reason → result ≡ Err reason }
+    ensures cleared { IfErr result (λ _. state.new ≡ without_match state.old) }
+
+    // What is found.
+    ensures done { A.kind automaton.now ≡ Standard → input.now.end < input.now.start
+        → (result ≡ Ok tt) × (state.new ≡ without_match state.old) }
+    ensures found { (p : Patterns) (n : ℕ) → A.is_of automaton.now p
+        → FitsSearch (A.valid automaton.now) (A.held automaton.now p) p input.now state.old n
+        → IfOk result (λ _. state.new.mat ≡ slice_get (overlapping p input.now) n) }
+    ensures fits { (p : Patterns) (n : ℕ) → A.is_of automaton.now p
+        → FitsSearch (A.valid automaton.now) (A.held automaton.now p) p input.now state.old n
+        → IfOk result (λ _. FitsSearch (A.valid automaton.now) (A.held automaton.now p) p input.now
+        state.new (min (n + 1) (length (overlapping p input.now)))) }
+    ensures fewer { IfSome state.new.mat (λ _.
+        left (length (A.lengths automaton.now)) input.now state.new
+        < left (length (A.lengths automaton.now)) input.now state.old) }
+{
+    state.mat = None;
+    let kind = automaton.match_kind();
+    if kind != MatchKind::Standard {
+        return Err(MatchError::unsupported_overlapping(kind));
+    }
+    if input.start() > input.end() {
+        return Ok(());
+    }
+    match (state.id, state.next_match_index) {
+        (None, _) => {
+            let sid = automaton.start_state(input.get_anchored())?;
+            *state = next_match(automaton, input, sid, input.start(), 0);
+        }
+        (Some(sid), Some(index)) => {
+            *state = next_match(automaton, input, sid, state.at, index);
+        }
+        (Some(_), None) => {}
+    }
+    Ok(())
+}
+
+/// The matches of an overlapping search, one after another: by end, then start, then number.
+///
+/// `Automaton::try_find_overlapping_iter` makes it. Once it has given none it gives none again. It takes no memory.
+#[derive(Drop)]
+pub struct FindOverlappingIter<'a, 'h, A> {
+    automaton: &'a A,
+    input: Input<'h>,
+    state: OverlappingState,
+}
+
+impl<'a, 'h, A: Automaton> FindOverlappingIter<'a, 'h, A> {
+    /// The iterator before its first match.
+    pub(crate) fn new(automaton: &'a A, input: Input<'h>) -> FindOverlappingIter<'a, 'h, A>
+        ensures automaton { result.automaton.now ≡ automaton.entry.now }
+        ensures input { result.input ≡ input.entry }
+        ensures fresh { result.state ≡ fresh }
+    {
+        FindOverlappingIter {
+            automaton,
+            input,
+            state: OverlappingState::start(),
+        }
+    }
+}
+
+impl<'a, 'h, A: Automaton> Iterator for FindOverlappingIter<'a, 'h, A> {
+    type Item = Match;
+
+    ghost can_next = { λ it. CanGive A.is_of A.kind A.start A.valid A.held it.automaton.now it.input
+        it.state };
+
+    ghost next_gives = { λ it given after. GivesNext A.is_of A.valid A.held it.automaton.now it.input
+        it.state given after.automaton.now after.input after.state };
+
+    ghost remaining = { λ it. at_most (left (length (A.lengths it.automaton.now)) it.input it.state) };
+
+    fn next(&mut self) -> Option<Match> {
+        let _found = find_overlapping(self.automaton, &self.input, &mut self.state);
+        self.state.get_match()
+    }
+}
+
+impl<'a, 'h, A: Automaton> FusedIterator for FindOverlappingIter<'a, 'h, A> {}
+
+/// A clone of a state is that state, and is never refused.
+pub fn clones_the_same()
+    ensures state { ClonesTheSame ⟦<OverlappingState as Clone>⟧ }
+{}

@@ -1,0 +1,140 @@
+//! Overlapping search: what its calls and its iterator find, one after another, and what they refuse.
+
+ghost use Rattle.std.specs.Prelude.{◌+◌, ◌≤◌, length};
+ghost use Rattle.aho_base.specs.Patterns.{Patterns};
+ghost use Rattle.aho_base.specs.Progress.{FitsSearch};
+
+use crate::automata::nfa_of;
+use crate::one_byte::OneByte;
+use aho_base::error::MatchError;
+use aho_base::search::{Anchored, Input, Match, MatchKind, PatternID, Span};
+use aho_search::automaton::{Automaton, OverlappingState};
+use std::alloc::{AllocError, Global};
+use std::process::Abort;
+use std::test::Fail;
+
+/// More matches than any search here has.
+const MANY: usize = 10_000;
+
+/// The matches that one call after another finds, up to the first call that finds none.
+pub(crate) fn found_by_calls<A: Automaton>(
+    rt: &impl Abort,
+    alloc: Global,
+    automaton: &A,
+    input: &Input<'_>,
+) -> Result<Vec<Match>, AllocError>
+    requires of { (p : Patterns) × A.is_of automaton.now p }
+{
+    let mut found = Vec::new(alloc);
+    let mut state = OverlappingState::start();
+    for _ in 0..MANY {
+        let call = automaton.try_find_overlapping(input, &mut state);
+        call.expect(rt, "a search that is not refused");
+        let Some(m) = state.get_match() else {
+            return Ok(found);
+        };
+        found.push(m)?;
+    }
+    panic!(rt; "no end of matches");
+}
+
+/// The matches that the iterator gives.
+pub(crate) fn found_by_iterator<A: Automaton>(
+    rt: &impl Abort,
+    alloc: Global,
+    automaton: &A,
+    input: Input<'_>,
+) -> Result<Vec<Match>, AllocError>
+    requires of { (p : Patterns) × A.is_of automaton.now p }
+{
+    let matches = automaton.try_find_overlapping_iter(input);
+    matches.expect(rt, "an iterator").collect(alloc)
+}
+
+/// A match of the pattern of this number.
+fn match_of(rt: &impl Abort, pattern: usize, start: usize, end: usize) -> Option<Match>
+    requires ordered { start ≤ end }
+{
+    let pattern = PatternID::new(pattern).expect(rt, "a number");
+    Some(Match::new(pattern, Span { start, end }))
+}
+
+fn anchored(haystack: &[u8]) -> Input<'_> {
+    Input::new(haystack).anchored(Anchored::Yes)
+}
+
+/// An input that is done.
+fn done(haystack: &[u8]) -> Input<'_> {
+    Input::new(haystack).span(Span { start: 1, end: 0 })
+}
+
+#[test]
+fn a_refused_call_leaves_the_search_where_it_was(rt: HostRuntime) -> Result<(), Fail> {
+    let standard = nfa_of(&rt, rt.alloc(), &[b"a"], MatchKind::Standard, false);
+    let first = nfa_of(&rt, rt.alloc(), &[b"a"], MatchKind::LeftmostFirst, false);
+    let input = Input::new(b"aa");
+    let mut state = OverlappingState::start();
+    assert_eq!(rt; state.get_match(), None, "before the first call");
+    standard.try_find_overlapping(&input, &mut state)?;
+    assert_eq!(rt; state.get_match(), match_of(&rt, 0, 0, 1), "the first call");
+    let copy = state.clone()?;
+    assert_eq!(rt;
+        first.try_find_overlapping(&input, &mut state),
+        Err(MatchError::unsupported_overlapping(MatchKind::LeftmostFirst)),
+        "the leftmost kind"
+    );
+    assert_eq!(rt; state.get_match(), None, "after the refused call");
+    assert_eq!(rt; copy.get_match(), match_of(&rt, 0, 0, 1), "a clone");
+    standard.try_find_overlapping(&input, &mut state)?;
+    assert_eq!(rt; state.get_match(), match_of(&rt, 0, 1, 2), "the second call");
+    Ok(())
+}
+
+#[test]
+fn a_leftmost_kind_is_refused_first(rt: HostRuntime) {
+    let longest = nfa_of(&rt, rt.alloc(), &[b"a"], MatchKind::LeftmostLongest, false);
+    let want = MatchError::unsupported_overlapping(MatchKind::LeftmostLongest);
+    let mut state = OverlappingState::start();
+    assert_eq!(rt;
+        longest.try_find_overlapping(&done(b"a"), &mut state),
+        Err(want),
+        "a done input"
+    );
+    let refused = longest.try_find_overlapping_iter(anchored(b"a"));
+    let want = MatchError::unsupported_overlapping(MatchKind::LeftmostLongest);
+    assert_eq!(rt; refused.err(), Some(want), "an anchored iterator");
+}
+
+#[test]
+fn anchored_iterators_are_refused(rt: HostRuntime) {
+    let nfa = nfa_of(&rt, rt.alloc(), &[b"a"], MatchKind::Standard, false);
+    let refused = nfa.try_find_overlapping_iter(anchored(b"a"));
+    assert_eq!(rt; refused.err(), Some(MatchError::invalid_input_anchored()));
+}
+
+#[test]
+fn an_iterator_gives_none_again(rt: HostRuntime) -> Result<(), Fail> {
+    let nfa = nfa_of(&rt, rt.alloc(), &[b"a"], MatchKind::Standard, false);
+    let mut matches = nfa.try_find_overlapping_iter(Input::new(b"ba"))?;
+    assert_eq!(rt; matches.next(), match_of(&rt, 0, 1, 2), "the match");
+    assert_eq!(rt; matches.next(), None, "the end");
+    assert_eq!(rt; matches.next(), None, "after the end");
+    Ok(())
+}
+
+#[test]
+fn a_start_that_is_refused_is_told(rt: HostRuntime) -> Result<(), Fail> {
+    let one = OneByte::new(b'a');
+    let mut state = OverlappingState::start();
+    assert_eq!(rt;
+        one.try_find_overlapping(&anchored(b"a"), &mut state),
+        Err(MatchError::invalid_input_anchored()),
+        "an anchored call"
+    );
+    assert_eq!(rt; state.get_match(), None, "after the anchored call");
+    one.try_find_overlapping(&done(b"a").anchored(Anchored::Yes), &mut state)?;
+    assert_eq!(rt; state.get_match(), None, "a done input");
+    let found = found_by_calls(&rt, rt.alloc(), &one, &Input::new(b"aba"))?;
+    assert_eq!(rt; found.len(), 2, "the same state, not anchored");
+    Ok(())
+}
