@@ -2,3 +2,4 @@ pub mod Places
 pub mod Told
 pub mod Walks
 pub mod Origins
+pub mod Finds

@@ -5,10 +5,13 @@
 //! a search off these lists. What it takes for that to be the right answer are the trait's laws: whoever implements the
 //! trait proves them once, and each search is proved from them alone.
 
-ghost use Rattle.std.specs.Prelude.{◌≡◌, ℕ, List, [], ◌∷◌, ◌++◌, Bool, true, false, Option, Result, IsOk, IfOk, IfErr, Ok, Err, None, Some, ◌+◌, ◌<◌, ◌≤◌, ◌^◌, ◌↔◌, IsTrue, length, slice_get, slice_index};
+ghost use Rattle.std.specs.Prelude.{◌≡◌, ℕ, List, [], ◌∷◌, ◌++◌, Bool, true, false, Option, Result, IsOk, IfOk, IfErr, Ok, Err, None, Some, ◌+◌, ◌-◌, ◌<◌, ◌≤◌, ◌^◌, ◌↔◌, IsTrue, length, slice_get, slice_index};
+ghost use Rattle.std.specs.Iterator.{Drains, UpTo};
 ghost use Rattle.aho_base.specs.Answer.{IsAnswer};
+ghost use Rattle.aho_base.specs.Iteration.{AreFinds};
 ghost use Rattle.aho_base.specs.Laws.{Reads, longest, shortest};
 ghost use Rattle.aho_base.specs.Numbers.{greatest_index};
+ghost use Rattle.aho_base.specs.Occurrence.{Occurrence};
 ghost use Rattle.aho_base.specs.Patterns.{Patterns};
 ghost use Rattle.aho_base.specs.declared.error.MatchErrorKind.{MatchErrorKind};
 ghost use Rattle.aho_base.specs.declared.search.Anchored.{Anchored};
@@ -16,6 +19,7 @@ ghost use Rattle.aho_base.specs.declared.search.MatchKind.{MatchKind};
 ghost use Rattle.aho_base.specs.Steps.{GoesOn, IsPaid};
 
 pub use crate::find::find_in;
+pub use crate::iter::FindIter;
 pub use crate::walk::{Counted, Walk};
 use aho_base::error::MatchError;
 use aho_base::search::{Anchored, Bytes, Input, Match, MatchKind, PatternID, Span, StateID, Work};
@@ -208,6 +212,37 @@ pub trait Automaton {
             input.get_anchored(),
             input.get_earliest(),
         )
+    }
+
+    /// The matches of the input's search, one after another: each is what the search from the end of the match before
+    /// finds. An empty match is not given where the match before ended; there the search goes on from one place further.
+    ///
+    /// Anchored, a match has to start where its search does. The iterator takes no memory, and searches only as matches
+    /// are asked for, each time by one or two calls of `try_find`. After `None` it gives `None` again.
+    ///
+    /// # Errors
+    ///
+    /// It is refused exactly where `start_state` refuses the input's anchoring, for an input that is done as well. No
+    /// later search is refused.
+    final fn try_find_iter<'a, 'h>(
+        &'a self,
+        input: Input<'h>,
+    ) -> Result<FindIter<'a, 'h, Self>, MatchError>
+    where
+        Self: Sized,
+        requires of { (p : Patterns) × is_of self.now p }
+        ensures ready { IfOk result (λ it.
+            ⟦<FindIter<'a, 'h, Self> as Iterator>⟧.can_next it) }
+        ensures finds { (p : Patterns) → is_of self.now p → IfOk result (λ it.
+            (ms : List Occurrence) → Drains ⟦<FindIter<'a, 'h, Self> as Iterator>⟧.next_gives it ms →
+            AreFinds p input.entry None ms) }
+        ensures bound { IfOk result (λ it.
+            UpTo (⟦<FindIter<'a, 'h, Self> as Iterator>⟧.remaining it)
+            (input.entry.end + 1 - input.entry.start)) }
+        ensures error { IfErr result (λ reason. start self.now input.entry.anchored ≡ Err reason) }
+        ensures ok { (sid : ℕ) → start self.now input.entry.anchored ≡ Ok sid → IsOk result }
+    {
+        FindIter::new(self, input)
     }
 }
 

@@ -3,4 +3,5 @@
 
 pub mod automaton;
 pub mod find;
+pub mod iter;
 pub mod walk;

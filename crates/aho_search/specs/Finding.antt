@@ -1,0 +1,23 @@
+-- What an iterator over matches has before and after it gives the next one.
+use Rattle.std.specs.Prelude.{ℕ, suc, ◌+◌, ◌-◌, Bool, false, nat_eq, cond, Option, Some, None}
+use Rattle.aho_base.specs.Occurrence.{Occurrence}
+use Rattle.aho_base.specs.Search.{Search}
+
+-- after a match the search goes on where it ended; after none it is done
+abbrev pub search_after : Search → Option Occurrence → Search
+search_after search None = record search { start = suc search.end }
+search_after search (Some m) = record search { start = m.end }
+
+-- where the last match ended, once this was given
+abbrev pub last_after : Option ℕ → Option Occurrence → Option ℕ
+last_after last None = last
+last_after last (Some m) = Some m.end
+
+-- whether the last match ended at this place
+abbrev pub ended_at : Option ℕ → ℕ → Bool
+ended_at None place = false
+ended_at (Some last) place = nat_eq last place
+
+-- the places where a further match may end: those from the start of the search on, but not where the last match ended
+abbrev pub places_left : Search → Option ℕ → ℕ
+places_left search last = search.end + 1 - search.start - cond (ended_at last search.start) 1 0
