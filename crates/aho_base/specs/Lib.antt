@@ -13,6 +13,7 @@ pub mod Listing
 pub mod Trie
 pub mod Overlapping
 pub mod Replacement
+pub mod ClosureRun
 pub mod Failure
 pub mod MatchList
 pub mod Step

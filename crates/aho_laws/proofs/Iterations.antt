@@ -35,7 +35,8 @@ module _ (p : Patterns) where
             inr (subst (IsAnswer p search) (sym same) h.1, ap (repeats_end last) same ∙ differs))
       ]
 
-  find-occurs : (search : Search) (last : Option ℕ) (m : Occurrence) → IsNextFind p search last (Some m) → Occurs p No search.haystack search.start search.end m
+  -- a find occurs in the span
+  pub find-occurs : (search : Search) (last : Option ℕ) (m : Occurrence) → IsNextFind p search last (Some m) → Occurs p No search.haystack search.start search.end m
   find-occurs search last m h =
       elim (find-cases search last (Some m) h) [
         | inl again ↦ Occurs-unanchored p search.anchored search.haystack (suc search.start) search.start search.end m (omega arith) (IsAnswer-occurs p (later_search search) m again)

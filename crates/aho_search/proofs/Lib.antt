@@ -3,3 +3,5 @@ pub mod Told
 pub mod Walks
 pub mod Origins
 pub mod Finds
+pub mod NextFinds
+pub mod RunsLeft

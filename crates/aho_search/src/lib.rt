@@ -4,4 +4,5 @@
 pub mod automaton;
 pub mod find;
 pub mod iter;
+pub mod replace;
 pub mod walk;
