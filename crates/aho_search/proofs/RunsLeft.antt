@@ -1,5 +1,5 @@
 -- A run of a replacement closure, from one match that an iteration finds to the next.
-use Rattle.std.proofs.Common.{◌≡◌, ℕ, ◌≤◌, Bool, true, false, List, [], ◌∷◌, length, Option, Some, None, Result, Ok, Err, inl, inr, refl, sym, ap, subst, ◌∙◌, drop, take, ◌-◌}
+use Rattle.std.proofs.Common.{◌≡◌, ℕ, ◌≤◌, Bool, true, false, List, [], ◌∷◌, length, Option, Some, None, Result, Ok, Err, inl, inr, refl, sym, ap, subst, ◌∙◌, drop, take, ◌-◌, cond}
 use Rattle.std.specs.Prelude.{IsErr, alloc_error, slice_range}
 use Rattle.std.specs.declared.alloc.AllocError.{AllocError}
 use Rattle.std.proofs.lemmas.List.{take_rest}
@@ -7,6 +7,7 @@ use Rattle.aho_base.specs.ClosureRun.{ClosureRun, CopiesWhole}
 use Rattle.aho_base.specs.Iteration.{AreFinds, IsNextFind}
 use Rattle.aho_base.specs.Occurrence.{Occurrence}
 use Rattle.aho_base.specs.Patterns.{Patterns}
+use Rattle.aho_base.specs.Replacement.{is_on_boundaries, on_boundaries}
 use Rattle.aho_base.specs.Search.{Search, plain_search}
 use Rattle.aho_search.proofs.NextFinds.{finds-next, finds-none}
 
@@ -97,3 +98,10 @@ module _ {F S E : Type 0} (copies : S → List ℕ → Result (Unit {0}) E → S
               let same : keep rest ≡ m ∷ keep later = ap keep split ∙ kept later in
               (next, whole (Err reason) next after_call
                   (subst (λ l. ClosureRun copies calls haystack at l closure dst (Err reason) next after_call) (sym same) (inr (lent, gap, (Err reason, next, after_call, called, (refl, refl, refl))))))
+
+-- which matches of a text are kept
+pub on_boundaries-kept : (text : List ℕ) (m : Occurrence) → is_on_boundaries text m ≡ true → (ms : List Occurrence) → on_boundaries text (m ∷ ms) ≡ m ∷ on_boundaries text ms
+on_boundaries-kept text m on ms = ap (λ (b : Bool). cond b (m ∷ on_boundaries text ms) (on_boundaries text ms)) on
+
+pub on_boundaries-skipped : (text : List ℕ) (m : Occurrence) → is_on_boundaries text m ≡ false → (ms : List Occurrence) → on_boundaries text (m ∷ ms) ≡ on_boundaries text ms
+on_boundaries-skipped text m off ms = ap (λ (b : Bool). cond b (m ∷ on_boundaries text ms) (on_boundaries text ms)) off

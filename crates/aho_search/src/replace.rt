@@ -1,10 +1,11 @@
 //! Replacement in memory: a haystack is copied with other bytes in the places of its matches.
 
-ghost use Rattle.std.specs.Prelude.{◌≡◌, ℕ, ◌<◌, ◌≤◌, false, List, None, Ok, Option, length};
+ghost use Rattle.std.specs.Prelude.{◌≡◌, ℕ, IfOk, IsTrue, IsCharBoundary, ◌++◌, List, [], None, Ok, OnOk, length, map, slice_index_or, string_bytes, true, vec_items};
 ghost use Rattle.aho_base.specs.ClosureRun.{CalledOn, ClosureRun, CopiesWhole};
 ghost use Rattle.aho_base.specs.Iteration.{AreFinds};
 ghost use Rattle.aho_base.specs.Occurrence.{Occurrence};
 ghost use Rattle.aho_base.specs.Patterns.{Patterns};
+ghost use Rattle.aho_base.specs.Replacement.{is_on_boundaries, on_boundaries};
 ghost use Rattle.aho_base.specs.Search.{plain_search};
 
 use crate::automaton::Automaton;
@@ -30,7 +31,7 @@ where
     requires callable { F.IsAlwaysCallable replace_with }
     ensures run { (p : Patterns) (ms : List Occurrence) → A.is_of finds.entry.automaton.now p →
         AreFinds p (plain_search haystack.now) None ms →
-        (last : F) × ClosureRun (CopiesWhole (λ d. d.items)) (CalledOn F.FnMut)
+        (last : F) × ClosureRun (CopiesWhole vec_items) (CalledOn F.FnMut)
         haystack.now 0 ms replace_with dst.old result last dst.new }
 {
     let mut copied = 0;
@@ -44,4 +45,83 @@ where
         }
     }
     dst.extend_from_slice(&haystack[copied..])
+}
+
+/// Whether a match starts and ends at character boundaries of a text.
+fn is_on_boundaries(text: &str, m: &Match) -> bool
+    ensures test { result ≡ is_on_boundaries text.now m.now }
+    ensures start { IsTrue result → IsCharBoundary text.now m.now.start }
+    ensures end { IsTrue result → IsCharBoundary text.now m.now.end }
+{
+    text.is_char_boundary(m.start()) && text.is_char_boundary(m.end())
+}
+
+/// Appends the text to `dst`, with what the closure appends in the places of the matches that start and end at character
+/// boundaries.
+///
+/// These are all matches of the text, and none was given yet.
+pub(crate) fn replace_text<A: Automaton, F>(
+    finds: FindIter<'_, '_, A>,
+    text: &str,
+    dst: &mut String,
+    mut replace_with: F,
+) -> Result<(), AllocError>
+where
+    F: FnMut(&Match, &str, &mut String) -> Result<bool, AllocError>,
+    requires of { (p : Patterns) × A.is_of finds.automaton.now p }
+    requires starts { (sid : ℕ) × (A.start finds.automaton.now finds.input.anchored ≡ Ok sid) }
+    requires whole { finds.input ≡ plain_search text.now }
+    requires first { finds.last_match_end ≡ None }
+    requires callable { F.IsAlwaysCallable replace_with }
+    ensures run { (p : Patterns) (ms : List Occurrence) → A.is_of finds.entry.automaton.now p →
+        AreFinds p (plain_search text.now) None ms →
+        (last : F) × ClosureRun (CopiesWhole string_bytes) (CalledOn F.FnMut)
+        text.now 0 (on_boundaries text.now ms) replace_with dst.old result last dst.new }
+{
+    let mut copied = 0;
+    for m in finds {
+        if !is_on_boundaries(text, &m) {
+            continue;
+        }
+        let (start, end) = (m.start(), m.end());
+        dst.push_str(&text[copied..start])?;
+        copied = end;
+        let matched = &text[start..end];
+        if !replace_with(&m, matched, dst)? {
+            return dst.push_str(&text[copied..]);
+        }
+    }
+    dst.push_str(&text[copied..])
+}
+
+/// Appends the piece of a match's pattern, and says that the replacing goes on.
+pub(crate) fn append_piece(
+    dst: &mut Vec<u8>,
+    pieces: &[&[u8]],
+    m: &Match,
+) -> Result<bool, AllocError>
+    ensures goes_on { IfOk result (λ goes_on. goes_on ≡ true) }
+    ensures appended { OnOk result (vec_items dst.new ≡ vec_items dst.old
+        ++ slice_index_or (map (λ piece. piece.now) pieces.now) m.now.pattern []) }
+{
+    if let Some(piece) = pieces.get(m.pattern().as_usize()) {
+        dst.extend_from_slice(piece)?;
+    }
+    Ok(true)
+}
+
+/// Appends the text of a match's pattern, and says that the replacing goes on.
+pub(crate) fn append_text(
+    dst: &mut String,
+    pieces: &[&str],
+    m: &Match,
+) -> Result<bool, AllocError>
+    ensures goes_on { IfOk result (λ goes_on. goes_on ≡ true) }
+    ensures appended { OnOk result (string_bytes dst.new ≡ string_bytes dst.old
+        ++ slice_index_or (map (λ piece. piece.now) pieces.now) m.now.pattern []) }
+{
+    if let Some(piece) = pieces.get(m.pattern().as_usize()) {
+        dst.push_str(piece)?;
+    }
+    Ok(true)
 }

@@ -1,5 +1,5 @@
 use Rattle.std.proofs.Common.{rules, Vec, Global, of_calls, ◌≡◌, ℕ, ◌++◌, ◌≤◌, List, None, Some, Ok, Err, Option, true, false, length, drop, refl, sym, ap, subst, ◌∙◌, arith, alloc_error}
-use Rattle.std.specs.Prelude.{slice_range}
+use Rattle.std.specs.Prelude.{slice_range, vec_items}
 use Rattle.aho_base.specs.ClosureRun.{CalledOn, CopiesWhole}
 use Rattle.aho_base.specs.Iteration.{IsNextFind}
 use Rattle.aho_base.specs.Patterns.{Patterns}
@@ -20,7 +20,7 @@ returns-in_err-extend_from_slice g c =
     let within : it.input.end ≤ length it.input.haystack = rw inv.searched (omega arith) in
     record {
       run = rw (refused c.from_residual.result c.from_residual.ensures.0)
-          (Runs-refused_copy (CopiesWhole (λ d. d.items)) (CalledOn g.F.FnMut) c.args.haystack.now is_of (λ ms. ms) c.args.replace_with c.args.dst.now
+          (Runs-refused_copy (CopiesWhole vec_items) (CalledOn g.F.FnMut) c.args.haystack.now is_of (λ ms. ms) c.args.replace_with c.args.dst.now
           it.input it.last_match_end c.loop-m.copied c.loop-m.replace_with c.loop-m.dst inv.left m within found (λ ms. refl)
           alloc_error c.extend_from_slice.new.self c.in_err-extend_from_slice.ensures.items);
     }
@@ -40,7 +40,7 @@ returns-in_err-replace_with g c =
     let err_called = subst (λ r. CalledOn g.F.FnMut c.loop-m.replace_with m (slice_range c.args.haystack.now m.start m.end) c.extend_from_slice.new.self r c.replace_with.new.self c.replace_with.new.arg4) c.in_err-replace_with.was called in
     record {
       run = rw (refused c.from_residual-in_err-replace_with.result c.from_residual-in_err-replace_with.ensures.0)
-          (Runs-refused_call (CopiesWhole (λ d. d.items)) (CalledOn g.F.FnMut) c.args.haystack.now is_of (λ ms. ms) c.args.replace_with c.args.dst.now
+          (Runs-refused_call (CopiesWhole vec_items) (CalledOn g.F.FnMut) c.args.haystack.now is_of (λ ms. ms) c.args.replace_with c.args.dst.now
           it.input it.last_match_end c.loop-m.copied c.loop-m.replace_with c.loop-m.dst inv.left m within found (λ ms. refl)
           c.extend_from_slice.new.self gap c.replace_with.new.self c.replace_with.new.arg4 alloc_error err_called);
     }
@@ -59,11 +59,11 @@ returns-then-not-branch g c =
     record { found = _; bytes = _; lent = _; left = _; shows = (refl, piece, refl, refl); called = c.replace_with.ensures } in
     let false_called = subst (λ r. CalledOn g.F.FnMut c.loop-m.replace_with m (slice_range c.args.haystack.now m.start m.end) c.extend_from_slice.new.self r c.replace_with.new.self c.replace_with.new.arg4) (c.in_ok-replace_with.was ∙ ap Ok c.if-not-branch.true) called in
     record {
-      run = Runs-false (CopiesWhole (λ d. d.items)) (CalledOn g.F.FnMut) c.args.haystack.now is_of (λ ms. ms) c.args.replace_with c.args.dst.now
+      run = Runs-false (CopiesWhole vec_items) (CalledOn g.F.FnMut) c.args.haystack.now is_of (λ ms. ms) c.args.replace_with c.args.dst.now
           it.input it.last_match_end c.loop-m.copied c.loop-m.replace_with c.loop-m.dst inv.left m within found (λ ms. refl)
           c.extend_from_slice.new.self gap c.replace_with.new.self c.replace_with.new.arg4 false_called
           c.extend_from_slice-then-not-branch.result c.extend_from_slice-then-not-branch.new.self
-          (subst (λ (k : ℕ). CopiesWhole {E = AllocError} (λ d. d.items) c.replace_with.new.arg4 (drop k c.args.haystack.now) c.extend_from_slice-then-not-branch.result c.extend_from_slice-then-not-branch.new.self) c.end-end.ensures.end (rest_copied (λ (d : Vec ℕ Global). d.items) c.replace_with.new.arg4 c.extend_from_slice-then-not-branch.new.self c.args.haystack.now c.end-end.result c.extend_from_slice-then-not-branch.result c.extend_from_slice-then-not-branch.ensures.items));
+          (subst (λ (k : ℕ). CopiesWhole {E = AllocError} vec_items c.replace_with.new.arg4 (drop k c.args.haystack.now) c.extend_from_slice-then-not-branch.result c.extend_from_slice-then-not-branch.new.self) c.end-end.ensures.end (rest_copied vec_items c.replace_with.new.arg4 c.extend_from_slice-then-not-branch.new.self c.args.haystack.now c.end-end.result c.extend_from_slice-then-not-branch.result c.extend_from_slice-then-not-branch.ensures.items));
     }
 
 pub loop-m-preserved : goal.loop-m-preserved
@@ -81,7 +81,7 @@ loop-m-preserved g c =
     let true_called = subst (λ r. CalledOn g.F.FnMut c.loop-m.replace_with m (slice_range c.args.haystack.now m.start m.end) c.extend_from_slice.new.self r c.replace_with.new.self c.replace_with.new.arg4) (c.in_ok-replace_with.was ∙ ap Ok c.if-not-branch.false) called in
     let moved = c.in-Some.ensures.steps.1 in
     let bounds = find-within c.requires.of.0 it.input it.last_match_end m (found c.requires.of.0 c.requires.of.1) in
-    let left = IsLeft-true (CopiesWhole (λ d. d.items)) (CalledOn g.F.FnMut) c.args.haystack.now is_of (λ ms. ms) c.args.replace_with c.args.dst.now
+    let left = IsLeft-true (CopiesWhole vec_items) (CalledOn g.F.FnMut) c.args.haystack.now is_of (λ ms. ms) c.args.replace_with c.args.dst.now
         it.input it.last_match_end c.loop-m.copied c.loop-m.replace_with c.loop-m.dst inv.left m within found (λ ms. refl)
         c.extend_from_slice.new.self gap c.replace_with.new.self c.replace_with.new.arg4 true_called in
     record {
@@ -101,9 +101,9 @@ returns g c =
     let is_of = g.A.Automaton.is_of c.args.finds.automaton.now in
     let found : (p : Patterns) → is_of p → IsNextFind p it.input it.last_match_end None = λ p of. c.in-None.ensures.steps.0 p (rw inv.same of) in
     record {
-      run = Runs-end (CopiesWhole (λ d. d.items)) (CalledOn g.F.FnMut) c.args.haystack.now is_of (λ ms. ms) c.args.replace_with c.args.dst.now
+      run = Runs-end (CopiesWhole vec_items) (CalledOn g.F.FnMut) c.args.haystack.now is_of (λ ms. ms) c.args.replace_with c.args.dst.now
           it.input it.last_match_end c.loop-m.copied c.loop-m.replace_with c.loop-m.dst inv.left found refl
-          c.extend_from_slice-2.result c.extend_from_slice-2.new.self (rest_copied (λ (d : Vec ℕ Global). d.items) c.loop-m.dst c.extend_from_slice-2.new.self c.args.haystack.now c.loop-m.copied c.extend_from_slice-2.result c.extend_from_slice-2.ensures.items);
+          c.extend_from_slice-2.result c.extend_from_slice-2.new.self (rest_copied vec_items c.loop-m.dst c.extend_from_slice-2.new.self c.args.haystack.now c.loop-m.copied c.extend_from_slice-2.result c.extend_from_slice-2.ensures.items);
     }
 
 pub slice_bounds-matched-end : goal.slice_bounds-matched-end

@@ -1,4 +1,4 @@
-use Rattle.std.proofs.Common.{◌≡◌, ℕ, ◌≤◌, length}
+use Rattle.std.proofs.Common.{◌≡◌, ℕ, ◌≤◌, length, vec_items}
 use Rattle.aho_base.specs.ClosureRun.{CalledOn, CopiesWhole}
 use Rattle.aho_base.specs.Search.{plain_search}
 use Rattle.aho_search.proofs.RunsLeft.{IsLeft}
@@ -12,6 +12,6 @@ invariant-loop-m g l = record {
   same : l.m-iterator.automaton ≡ l.fn.finds.automaton;
   searched : l.m-iterator.input ≡ record (plain_search l.haystack) { start = l.copied };
   within : l.copied ≤ length l.haystack;
-  left : IsLeft (CopiesWhole (λ d. d.items)) (CalledOn g.F.FnMut) l.haystack (g.A.Automaton.is_of l.fn.finds.automaton.now) (λ ms. ms) l.fn.replace_with l.fn.dst
+  left : IsLeft (CopiesWhole vec_items) (CalledOn g.F.FnMut) l.haystack (g.A.Automaton.is_of l.fn.finds.automaton.now) (λ ms. ms) l.fn.replace_with l.fn.dst
       l.m-iterator.input l.m-iterator.last_match_end l.copied l.replace_with l.dst;
 }
