@@ -2,6 +2,7 @@
 use Rattle.std.specs.Prelude.{◌≡◌, ◌⊎◌, ℕ, Bool, List, [], ◌∷◌, ◌++◌, Result, Ok, Err, MatchBool, MatchResult, drop, if◌then◌else◌, is_ok, slice_range}
 use Rattle.std.specs.Borrow.{Bor, MutBor}
 use Rattle.std.specs.Fn.{Called, Mut}
+use Rattle.std.specs.declared.alloc.AllocError.{AllocError}
 use Rattle.aho_base.specs.Occurrence.{Occurrence}
 
 -- F are the closure's states, S the destinations, E the reasons for which a copy or a call is refused
@@ -40,3 +41,9 @@ pub record CalledOn {F S R : Type 0} (calls : Mut F (Bor Occurrence × (Bor (Lis
   pub left : MutBor S
   pub shows : (found.now ≡ m) × (bytes.now ≡ piece) × (lent.now ≡ old) × (left.now ≡ new)
   pub called : Called calls closure (found, (bytes, (lent, tt))) (answer, (left, tt)) next
+
+-- a replacement in memory of these matches, with this closure and to this destination, may end so
+abbrev pub RunsInMemory : {F S : Type 0} → Mut F (Bor Occurrence × (Bor (List ℕ) × (MutBor S × Unit {0}))) (Result Bool AllocError × (MutBor S × Unit {0}))
+    → (S → List ℕ) → List ℕ → List Occurrence → F → S → Result (Unit {0}) AllocError → S → Type 0
+RunsInMemory {F} calls bytes_of haystack ms closure old result new =
+    (last : F) × ClosureRun (CopiesWhole bytes_of) (CalledOn calls) haystack 0 ms closure old result last new

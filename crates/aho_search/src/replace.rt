@@ -1,11 +1,11 @@
 //! Replacement in memory: a haystack is copied with other bytes in the places of its matches.
 
-ghost use Rattle.std.specs.Prelude.{◌≡◌, ℕ, IfOk, IsTrue, IsCharBoundary, ◌++◌, List, [], None, Ok, OnOk, length, map, slice_index_or, string_bytes, true, vec_items};
-ghost use Rattle.aho_base.specs.ClosureRun.{CalledOn, ClosureRun, CopiesWhole};
+ghost use Rattle.std.specs.Prelude.{◌≡◌, ℕ, IfOk, IsTrue, IsCharBoundary, ◌++◌, List, [], None, Ok, OnOk, slice_index_or, string_bytes, true, vec_items};
+ghost use Rattle.aho_base.specs.ClosureRun.{RunsInMemory};
 ghost use Rattle.aho_base.specs.Iteration.{AreFinds};
 ghost use Rattle.aho_base.specs.Occurrence.{Occurrence};
 ghost use Rattle.aho_base.specs.Patterns.{Patterns};
-ghost use Rattle.aho_base.specs.Replacement.{is_on_boundaries, on_boundaries};
+ghost use Rattle.aho_base.specs.Replacement.{is_on_boundaries, on_boundaries, pieces_of};
 ghost use Rattle.aho_base.specs.Search.{plain_search};
 
 use crate::automaton::Automaton;
@@ -31,8 +31,7 @@ where
     requires callable { F.IsAlwaysCallable replace_with }
     ensures run { (p : Patterns) (ms : List Occurrence) → A.is_of finds.entry.automaton.now p →
         AreFinds p (plain_search haystack.now) None ms →
-        (last : F) × ClosureRun (CopiesWhole vec_items) (CalledOn F.FnMut)
-        haystack.now 0 ms replace_with dst.old result last dst.new }
+        RunsInMemory F.FnMut vec_items haystack.now ms replace_with dst.old result dst.new }
 {
     let mut copied = 0;
     for m in finds {
@@ -75,8 +74,8 @@ where
     requires callable { F.IsAlwaysCallable replace_with }
     ensures run { (p : Patterns) (ms : List Occurrence) → A.is_of finds.entry.automaton.now p →
         AreFinds p (plain_search text.now) None ms →
-        (last : F) × ClosureRun (CopiesWhole string_bytes) (CalledOn F.FnMut)
-        text.now 0 (on_boundaries text.now ms) replace_with dst.old result last dst.new }
+        RunsInMemory F.FnMut string_bytes text.now (on_boundaries text.now ms)
+        replace_with dst.old result dst.new }
 {
     let mut copied = 0;
     for m in finds {
@@ -102,7 +101,7 @@ pub(crate) fn append_piece(
 ) -> Result<bool, AllocError>
     ensures goes_on { IfOk result (λ goes_on. goes_on ≡ true) }
     ensures appended { OnOk result (vec_items dst.new ≡ vec_items dst.old
-        ++ slice_index_or (map (λ piece. piece.now) pieces.now) m.now.pattern []) }
+        ++ slice_index_or (pieces_of pieces.now) m.now.pattern []) }
 {
     if let Some(piece) = pieces.get(m.pattern().as_usize()) {
         dst.extend_from_slice(piece)?;
@@ -118,7 +117,7 @@ pub(crate) fn append_text(
 ) -> Result<bool, AllocError>
     ensures goes_on { IfOk result (λ goes_on. goes_on ≡ true) }
     ensures appended { OnOk result (string_bytes dst.new ≡ string_bytes dst.old
-        ++ slice_index_or (map (λ piece. piece.now) pieces.now) m.now.pattern []) }
+        ++ slice_index_or (pieces_of pieces.now) m.now.pattern []) }
 {
     if let Some(piece) = pieces.get(m.pattern().as_usize()) {
         dst.push_str(piece)?;
