@@ -7,12 +7,11 @@ use Rattle.aho_base.specs.Occurrence.{Occurrence}
 
 -- F are the closure's states, S the destinations, E the reasons for which a copy or a call is refused
 module _ {F S E : Type 0}
-  -- copying these bytes to a destination may end so, and leave this destination
-  (copies : S → List ℕ → Result (Unit {0}) E → S → Type 0)
-  -- calling the closure on a match, its bytes and a destination may answer so, and leave this closure and destination
-  (calls : F → Occurrence → List ℕ → S → Result Bool E → F → S → Type 0)
-  (haystack : List ℕ) where
-
+    -- copying these bytes to a destination may end so, and leave this destination
+    (copies : S → List ℕ → Result (Unit {0}) E → S → Type 0)
+    -- calling the closure on a match, its bytes and a destination may answer so, and leave this closure and destination
+    (calls : F → Occurrence → List ℕ → S → Result Bool E → F → S → Type 0)
+    (haystack : List ℕ) where
   -- from a place of the haystack on: the bytes up to the next match are copied, the closure is called on that match, and where
   -- it answers true the run goes on at the match's end. After the last match, or the first false, the rest is copied. A refusal
   -- ends the run where it stands.

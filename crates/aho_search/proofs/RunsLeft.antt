@@ -76,9 +76,12 @@ module _ {F S E : Type 0} (copies : S → List ℕ → Result (Unit {0}) E → S
           IsLeft-true called p ms of finds =
               let (rest, searched, whole) = left p ms of finds in
               let (later, split, after) = finds-next p search ended m rest within searched (found p of) in
-              let same : keep rest ≡ m ∷ keep later = ap keep split ∙ kept later in
-              (later, after, λ result last new run. whole result last new
-                  (subst (λ l. ClosureRun copies calls haystack at l closure dst result last new) (sym same) (inr (lent, gap, (Ok true, next, after_call, called, run)))))
+              let same : keep rest ≡ m ∷ keep later = ap keep split ∙ kept later in (
+                later,
+                after,
+                λ result last new run. whole result last new
+                    (subst (λ l. ClosureRun copies calls haystack at l closure dst result last new) (sym same) (inr (lent, gap, (Ok true, next, after_call, called, run)))),
+              )
 
           -- the closure said to stop, and the rest is copied
           pub Runs-false : calls closure m (slice_range haystack m.start m.end) lent (Ok false) next after_call
@@ -86,18 +89,22 @@ module _ {F S E : Type 0} (copies : S → List ℕ → Result (Unit {0}) E → S
           Runs-false called result new copied p ms of finds =
               let (rest, searched, whole) = left p ms of finds in
               let (later, split, after) = finds-next p search ended m rest within searched (found p of) in
-              let same : keep rest ≡ m ∷ keep later = ap keep split ∙ kept later in
-              (next, whole result next new
-                  (subst (λ l. ClosureRun copies calls haystack at l closure dst result next new) (sym same) (inr (lent, gap, (Ok false, next, after_call, called, (refl, copied))))))
+              let same : keep rest ≡ m ∷ keep later = ap keep split ∙ kept later in (
+                next,
+                whole result next new
+                    (subst (λ l. ClosureRun copies calls haystack at l closure dst result next new) (sym same) (inr (lent, gap, (Ok false, next, after_call, called, (refl, copied))))),
+              )
 
           -- the closure was refused
           pub Runs-refused_call : (reason : E) → calls closure m (slice_range haystack m.start m.end) lent (Err reason) next after_call → Runs (Err reason) after_call
           Runs-refused_call reason called p ms of finds =
               let (rest, searched, whole) = left p ms of finds in
               let (later, split, after) = finds-next p search ended m rest within searched (found p of) in
-              let same : keep rest ≡ m ∷ keep later = ap keep split ∙ kept later in
-              (next, whole (Err reason) next after_call
-                  (subst (λ l. ClosureRun copies calls haystack at l closure dst (Err reason) next after_call) (sym same) (inr (lent, gap, (Err reason, next, after_call, called, (refl, refl, refl))))))
+              let same : keep rest ≡ m ∷ keep later = ap keep split ∙ kept later in (
+                next,
+                whole (Err reason) next after_call
+                    (subst (λ l. ClosureRun copies calls haystack at l closure dst (Err reason) next after_call) (sym same) (inr (lent, gap, (Err reason, next, after_call, called, (refl, refl, refl))))),
+              )
 
 -- which matches of a text are kept
 pub on_boundaries-kept : (text : List ℕ) (m : Occurrence) → is_on_boundaries text m ≡ true → (ms : List Occurrence) → on_boundaries text (m ∷ ms) ≡ m ∷ on_boundaries text ms

@@ -85,8 +85,8 @@ where
         let (start, end) = (m.start(), m.end());
         dst.push_str(&text[copied..start])?;
         copied = end;
-        let matched = &text[start..end];
-        if !replace_with(&m, matched, dst)? {
+        let found = &text[start..end];
+        if !replace_with(&m, found, dst)? {
             return dst.push_str(&text[copied..]);
         }
     }
@@ -110,11 +110,7 @@ pub(crate) fn append_piece(
 }
 
 /// Appends the text of a match's pattern, and says that the replacing goes on.
-pub(crate) fn append_text(
-    dst: &mut String,
-    pieces: &[&str],
-    m: &Match,
-) -> Result<bool, AllocError>
+pub(crate) fn append_text(dst: &mut String, pieces: &[&str], m: &Match) -> Result<bool, AllocError>
     ensures goes_on { IfOk result (λ goes_on. goes_on ≡ true) }
     ensures appended { OnOk result (string_bytes dst.new ≡ string_bytes dst.old
         ++ slice_index_or (pieces_of pieces.now) m.now.pattern []) }

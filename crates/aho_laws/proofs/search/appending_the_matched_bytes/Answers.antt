@@ -1,9 +1,8 @@
 use Rattle.std.proofs.Common.{None, arith}
-use Rattle.std.specs.declared.alloc.AllocError.{AllocError}
 use Rattle.aho_base.specs.ClosureRun.{CalledOn}
 use Rattle.aho_base.specs.Replacement.{is_on_boundaries, on_boundaries}
 use Rattle.aho_base.specs.Search.{plain_search}
-use Rattle.aho_laws.specs.SearchLaws.{EndsBefore, IsFollowedBy}
+use Rattle.aho_laws.specs.SearchLaws.{EndsBefore}
 use Rattle.aho_laws.proofs.ClosureRuns.{ClosureRun-own}
 use Rattle.aho_laws.proofs.Iterations.{finds-apart, finds-ordered}
 use Rattle.aho_laws.proofs.Members.{listed-filter, member-of_filter}

@@ -1,4 +1,4 @@
-use Rattle.std.proofs.Common.{◌≡◌, ◌∙◌, None, List, ℕ, false}
+use Rattle.std.proofs.Common.{◌≡◌, ◌∙◌, None, List, false}
 use Rattle.std.specs.Prelude.{slice_range}
 use Rattle.aho_base.specs.Iteration.{AreFinds}
 use Rattle.aho_base.specs.Listing.{IsMember}

@@ -1,4 +1,4 @@
-use Rattle.std.proofs.Common.{rules, Vec, Global, of_calls, ◌≡◌, ℕ, ◌++◌, ◌≤◌, List, None, Some, Ok, Err, Option, true, false, length, drop, refl, sym, ap, subst, ◌∙◌, arith, alloc_error}
+use Rattle.std.proofs.Common.{rules, of_calls, ◌≡◌, ℕ, ◌++◌, ◌≤◌, None, Some, Ok, length, drop, refl, ap, subst, ◌∙◌, arith, alloc_error}
 use Rattle.std.specs.Prelude.{slice_range, vec_items}
 use Rattle.aho_base.specs.ClosureRun.{CalledOn, CopiesWhole}
 use Rattle.aho_base.specs.Iteration.{IsNextFind}
@@ -7,7 +7,7 @@ use Rattle.aho_base.specs.Search.{Search}
 use Rattle.std.specs.declared.alloc.AllocError.{AllocError}
 use Rattle.aho_search.specs.declared.iter.FindIter.{FindIter}
 use Rattle.aho_search.proofs.NextFinds.{find-within}
-use Rattle.aho_search.proofs.RunsLeft.{IsLeft, IsLeft-begin, IsLeft-true, Runs-end, Runs-false, Runs-refused_call, Runs-refused_copy, refused, rest_copied}
+use Rattle.aho_search.proofs.RunsLeft.{IsLeft-true, Runs-end, Runs-false, Runs-refused_call, Runs-refused_copy, refused, rest_copied}
 use Rattle.aho_search.proofs.replace.replace_bytes.Goals as goal
 
 pub returns-in_err-extend_from_slice : goal.returns-in_err-extend_from_slice
@@ -82,8 +82,8 @@ loop-m-preserved g c =
     let moved = c.in-Some.ensures.steps.1 in
     let bounds = find-within c.requires.of.0 it.input it.last_match_end m (found c.requires.of.0 c.requires.of.1) in
     let left = IsLeft-true (CopiesWhole vec_items) (CalledOn g.F.FnMut) c.args.haystack.now is_of (λ ms. ms) c.args.replace_with c.args.dst.now
-        it.input it.last_match_end c.loop-m.copied c.loop-m.replace_with c.loop-m.dst inv.left m within found (λ ms. refl)
-        c.extend_from_slice.new.self gap c.replace_with.new.self c.replace_with.new.arg4 true_called in
+    it.input it.last_match_end c.loop-m.copied c.loop-m.replace_with c.loop-m.dst inv.left m within found (λ ms. refl)
+    c.extend_from_slice.new.self gap c.replace_with.new.self c.replace_with.new.arg4 true_called in
     record {
       can_next = c.in-Some.ensures.goes.keeps;
       is_finite = tt;

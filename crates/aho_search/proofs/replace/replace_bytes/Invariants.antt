@@ -1,4 +1,4 @@
-use Rattle.std.proofs.Common.{◌≡◌, ℕ, ◌≤◌, length, vec_items}
+use Rattle.std.proofs.Common.{◌≡◌, ◌≤◌, length, vec_items}
 use Rattle.aho_base.specs.ClosureRun.{CalledOn, CopiesWhole}
 use Rattle.aho_base.specs.Search.{plain_search}
 use Rattle.aho_search.proofs.RunsLeft.{IsLeft}

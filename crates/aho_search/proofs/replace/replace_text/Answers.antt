@@ -1,4 +1,4 @@
-use Rattle.std.proofs.Common.{rules, of_calls, ◌≡◌, ℕ, ◌++◌, ◌≤◌, List, None, Some, Ok, Err, Option, true, false, length, drop, refl, sym, ap, subst, ◌∙◌, arith, alloc_error, string_bytes}
+use Rattle.std.proofs.Common.{rules, of_calls, ◌≡◌, ℕ, ◌++◌, ◌≤◌, List, None, Some, Ok, length, drop, refl, sym, ap, subst, ◌∙◌, arith, alloc_error, string_bytes}
 use Rattle.std.specs.Prelude.{slice_range}
 use Rattle.std.specs.declared.alloc.AllocError.{AllocError}
 use Rattle.std.proofs.lemmas.Str.{IsCharBoundary-start}
@@ -6,7 +6,6 @@ use Rattle.aho_base.specs.ClosureRun.{CalledOn, CopiesWhole}
 use Rattle.aho_base.specs.Iteration.{IsNextFind}
 use Rattle.aho_base.specs.Patterns.{Patterns}
 use Rattle.aho_base.specs.Replacement.{on_boundaries}
-use Rattle.aho_base.specs.Search.{Search}
 use Rattle.aho_search.specs.declared.iter.FindIter.{FindIter}
 use Rattle.aho_search.proofs.NextFinds.{find-within}
 use Rattle.aho_search.proofs.RunsLeft.{IsLeft-begin, IsLeft-skip, IsLeft-true, Runs-end, Runs-false, Runs-refused_call, Runs-refused_copy, on_boundaries-kept, on_boundaries-skipped, refused}
@@ -39,7 +38,7 @@ loop-m-preserved-then-not-is_on_boundaries g c =
     let moved = c.in-Some.ensures.steps.1 in
     let bounds = find-within c.requires.of.0 it.input it.last_match_end m (found c.requires.of.0 c.requires.of.1) in
     let left = IsLeft-skip (CopiesWhole string_bytes) (CalledOn g.F.FnMut) c.args.text.now is_of (on_boundaries c.args.text.now) c.args.replace_with c.args.dst.now
-        it.input it.last_match_end c.loop-m.copied c.loop-m.replace_with c.loop-m.dst inv.left m within found skipped in
+    it.input it.last_match_end c.loop-m.copied c.loop-m.replace_with c.loop-m.dst inv.left m within found skipped in
     record {
       can_next = c.in-Some.ensures.goes.keeps;
       is_finite = tt;
@@ -79,7 +78,7 @@ returns-in_err-replace_with g c =
     let kept = on_boundaries-kept c.args.text.now m (sym c.is_on_boundaries.ensures.test ∙ c.if-not-is_on_boundaries.false) in
     let gap : string_bytes c.push_str.new.self ≡ string_bytes c.loop-m.dst ++ slice_range c.args.text.now c.loop-m.copied m.start = c.in_ok-push_str.ensures.bytes
     ∙ ap (λ (bytes : List ℕ). string_bytes c.loop-m.dst ++ bytes) (c.range.ensures.value ∙ ap (λ (k : ℕ). slice_range c.args.text.now c.loop-m.copied k) c.start-start.ensures.start) in
-    let piece : c.range-matched.result.now ≡ slice_range c.args.text.now m.start m.end = c.range-matched.ensures.value ∙ rw (c.start-start.ensures.start, c.end-end.ensures.end) in
+    let piece : c.range-found.result.now ≡ slice_range c.args.text.now m.start m.end = c.range-found.ensures.value ∙ rw (c.start-start.ensures.start, c.end-end.ensures.end) in
     let called : CalledOn g.F.FnMut c.loop-m.replace_with m (slice_range c.args.text.now m.start m.end) c.push_str.new.self c.replace_with.result c.replace_with.new.self c.replace_with.new.arg4 =
     record { found = _; bytes = _; lent = _; left = _; shows = (refl, piece, refl, refl); called = c.replace_with.ensures } in
     let err_called = subst (λ r. CalledOn g.F.FnMut c.loop-m.replace_with m (slice_range c.args.text.now m.start m.end) c.push_str.new.self r c.replace_with.new.self c.replace_with.new.arg4) c.in_err-replace_with.was called in
@@ -101,7 +100,7 @@ returns-then-not-branch g c =
     let kept = on_boundaries-kept c.args.text.now m (sym c.is_on_boundaries.ensures.test ∙ c.if-not-is_on_boundaries.false) in
     let gap : string_bytes c.push_str.new.self ≡ string_bytes c.loop-m.dst ++ slice_range c.args.text.now c.loop-m.copied m.start = c.in_ok-push_str.ensures.bytes
     ∙ ap (λ (bytes : List ℕ). string_bytes c.loop-m.dst ++ bytes) (c.range.ensures.value ∙ ap (λ (k : ℕ). slice_range c.args.text.now c.loop-m.copied k) c.start-start.ensures.start) in
-    let piece : c.range-matched.result.now ≡ slice_range c.args.text.now m.start m.end = c.range-matched.ensures.value ∙ rw (c.start-start.ensures.start, c.end-end.ensures.end) in
+    let piece : c.range-found.result.now ≡ slice_range c.args.text.now m.start m.end = c.range-found.ensures.value ∙ rw (c.start-start.ensures.start, c.end-end.ensures.end) in
     let called : CalledOn g.F.FnMut c.loop-m.replace_with m (slice_range c.args.text.now m.start m.end) c.push_str.new.self c.replace_with.result c.replace_with.new.self c.replace_with.new.arg4 =
     record { found = _; bytes = _; lent = _; left = _; shows = (refl, piece, refl, refl); called = c.replace_with.ensures } in
     let false_called = subst (λ r. CalledOn g.F.FnMut c.loop-m.replace_with m (slice_range c.args.text.now m.start m.end) c.push_str.new.self r c.replace_with.new.self c.replace_with.new.arg4) (c.in_ok-replace_with.was ∙ ap Ok c.if-not-branch.true) called in
@@ -125,14 +124,14 @@ loop-m-preserved g c =
     let kept = on_boundaries-kept c.args.text.now m (sym c.is_on_boundaries.ensures.test ∙ c.if-not-is_on_boundaries.false) in
     let gap : string_bytes c.push_str.new.self ≡ string_bytes c.loop-m.dst ++ slice_range c.args.text.now c.loop-m.copied m.start = c.in_ok-push_str.ensures.bytes
     ∙ ap (λ (bytes : List ℕ). string_bytes c.loop-m.dst ++ bytes) (c.range.ensures.value ∙ ap (λ (k : ℕ). slice_range c.args.text.now c.loop-m.copied k) c.start-start.ensures.start) in
-    let piece : c.range-matched.result.now ≡ slice_range c.args.text.now m.start m.end = c.range-matched.ensures.value ∙ rw (c.start-start.ensures.start, c.end-end.ensures.end) in
+    let piece : c.range-found.result.now ≡ slice_range c.args.text.now m.start m.end = c.range-found.ensures.value ∙ rw (c.start-start.ensures.start, c.end-end.ensures.end) in
     let called : CalledOn g.F.FnMut c.loop-m.replace_with m (slice_range c.args.text.now m.start m.end) c.push_str.new.self c.replace_with.result c.replace_with.new.self c.replace_with.new.arg4 =
     record { found = _; bytes = _; lent = _; left = _; shows = (refl, piece, refl, refl); called = c.replace_with.ensures } in
     let true_called = subst (λ r. CalledOn g.F.FnMut c.loop-m.replace_with m (slice_range c.args.text.now m.start m.end) c.push_str.new.self r c.replace_with.new.self c.replace_with.new.arg4) (c.in_ok-replace_with.was ∙ ap Ok c.if-not-branch.false) called in
     let moved = c.in-Some.ensures.steps.1 in
     let left = IsLeft-true (CopiesWhole string_bytes) (CalledOn g.F.FnMut) c.args.text.now is_of (on_boundaries c.args.text.now) c.args.replace_with c.args.dst.now
-        it.input it.last_match_end c.loop-m.copied c.loop-m.replace_with c.loop-m.dst inv.left m within found kept
-        c.push_str.new.self gap c.replace_with.new.self c.replace_with.new.arg4 true_called in
+    it.input it.last_match_end c.loop-m.copied c.loop-m.replace_with c.loop-m.dst inv.left m within found kept
+    c.push_str.new.self gap c.replace_with.new.self c.replace_with.new.arg4 true_called in
     record {
       can_next = c.in-Some.ensures.goes.keeps;
       is_finite = tt;

@@ -1,4 +1,4 @@
-use Rattle.std.proofs.Common.{◌≡◌, ℕ, ◌≤◌, IsCharBoundary, length, string_bytes}
+use Rattle.std.proofs.Common.{◌≡◌, ◌≤◌, IsCharBoundary, string_bytes}
 use Rattle.aho_base.specs.ClosureRun.{CalledOn, CopiesWhole}
 use Rattle.aho_base.specs.Replacement.{on_boundaries}
 use Rattle.aho_base.specs.Search.{plain_search}

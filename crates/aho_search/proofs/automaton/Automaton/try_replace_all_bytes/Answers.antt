@@ -1,4 +1,4 @@
-use Rattle.std.proofs.Common.{rules, ◌≡◌, ℕ, List, [], ◌++◌, Ok, ◌∙◌, ap, slice_index_or, vec_items}
+use Rattle.std.proofs.Common.{rules, ℕ, List, [], ◌++◌, ◌∙◌, ap, slice_index_or, vec_items}
 use Rattle.aho_base.specs.ClosureRun.{CalledOn}
 use Rattle.aho_base.specs.Replacement.{pieces_of, replaced}
 use Rattle.aho_laws.proofs.ClosureRuns.{ClosureRun-pieces}
