@@ -1,25 +1,38 @@
 -- One call of `next` after another gives the finds.
-use Rattle.std.proofs.Common.{◌≡◌, List, [], ◌∷◌, Option, None, sym, subst}
-use Rattle.std.specs.Iterator.{Drains, Yields}
+use Rattle.std.proofs.Common.{◌≡◌, List, [], ◌∷◌, Option, None, sym, subst, true}
+use Rattle.std.specs.Iterator.{Yields}
+use Rattle.std.specs.Iterator.Runs.{Run, YieldsRun}
 use Rattle.aho_base.specs.Iteration.{AreFinds, IsNextFind}
 use Rattle.aho_base.specs.Occurrence.{Occurrence}
 use Rattle.aho_base.specs.Patterns.{Patterns}
 use Rattle.aho_search.specs.declared.iter.FindIter.{FindIter}
-use Rattle.aho_search.specs.Finding.{last_after, search_after}
+use Rattle.aho_search.specs.Finding.{AreFirstFinds, GivesNext}
 
 -- a call of `next` gives the next find, and leaves the iterator to go on after it
 abbrev find_steps : {A : Type 0} → (A → Patterns → Type 0) → FindIter A → Option Occurrence → FindIter A → Type 0
-find_steps is_of it found rest =
-    ((p : Patterns) → is_of it.automaton.now p → IsNextFind p it.input it.last_match_end found)
-    × (rest ≡ record it { input = search_after it.input found; last_match_end = last_after it.last_match_end found })
+find_steps is_of it found rest = (rest.automaton ≡ it.automaton) × GivesNext (is_of it.automaton.now) it.input it.last_match_end found rest.input rest.last_match_end
 
 module _ {A : Type 0} (is_of : A → Patterns → Type 0) (p : Patterns) where
   -- where calls gave these matches and then none, these are the finds
   yielded-finds : (ms : List Occurrence) (it last rest : FindIter A) → is_of it.automaton.now p → Yields (find_steps is_of) it ms last → find_steps is_of last None rest → AreFinds p it.input it.last_match_end ms
-  yielded-finds [] it last rest of same ends = subst (λ (x : FindIter A). IsNextFind p x.input x.last_match_end None) (sym same) (ends.0 p (subst (λ (x : FindIter A). is_of x.automaton.now p) same of))
+  yielded-finds [] it last rest of same ends = subst (λ (x : FindIter A). IsNextFind p x.input x.last_match_end None) (sym same) (ends.1.next p (subst (λ (x : FindIter A). is_of x.automaton.now p) same of))
   yielded-finds (m ∷ ms) it last rest of yields ends =
-      let stays = subst (λ (x : FindIter A). is_of x.automaton.now p) (sym yields.1.1) of in
-      (yields.1.0 p of, subst (λ (x : FindIter A). AreFinds p x.input x.last_match_end ms) yields.1.1 (yielded-finds ms yields.0 last rest stays yields.2 ends))
+      let first = yields.1 in
+      let stays = subst (λ (a : _). is_of a.now p) (sym first.0) of in
+      (first.1.next p of, rw first.1.ended at (rw first.1.goes_on at (yielded-finds ms yields.0 last rest stays yields.2 ends)))
 
-  pub drained-finds : (ms : List Occurrence) (it : FindIter A) → is_of it.automaton.now p → Drains (find_steps is_of) it ms → AreFinds p it.input it.last_match_end ms
-  drained-finds ms it of drained = let then = drained.1 in yielded-finds ms it then.0 drained.0 of then.1 then.2
+  -- whatever follows, they are the first finds
+  yielded-first_finds : (ms : List Occurrence) (it last : FindIter A) → is_of it.automaton.now p → Yields (find_steps is_of) it ms last → AreFirstFinds p it.input it.last_match_end ms
+  yielded-first_finds [] it last of same = tt
+  yielded-first_finds (m ∷ ms) it last of yields =
+      let first = yields.1 in
+      let stays = subst (λ (a : _). is_of a.now p) (sym first.0) of in
+      (first.1.next p of, rw first.1.ended at (rw first.1.goes_on at (yielded-first_finds ms yields.0 last stays yields.2)))
+
+  pub run-finds : (run : Run (find_steps is_of)) → run.whole ≡ true → is_of run.from.automaton.now p → AreFinds p run.from.input run.from.last_match_end run.items
+  unfolding YieldsRun
+  run-finds run whole of = let then = run.gave.0.2 whole in yielded-finds run.items run.from run.gave.0.0 then.0 of run.gave.0.1 then.1
+
+  pub run-first_finds : (run : Run (find_steps is_of)) → is_of run.from.automaton.now p → AreFirstFinds p run.from.input run.from.last_match_end run.items
+  unfolding YieldsRun
+  run-first_finds run of = yielded-first_finds run.items run.from run.gave.0.0 of run.gave.0.1

@@ -1,6 +1,8 @@
 -- What an iterator over matches has before and after it gives the next one.
-use Rattle.std.specs.Prelude.{ℕ, suc, ◌+◌, ◌-◌, Bool, false, nat_eq, cond, Option, Some, None}
+use Rattle.std.specs.Prelude.{◌≡◌, ℕ, suc, ◌+◌, ◌-◌, Bool, false, nat_eq, cond, List, [], ◌∷◌, Option, Some, None}
+use Rattle.aho_base.specs.Iteration.{IsNextFind}
 use Rattle.aho_base.specs.Occurrence.{Occurrence}
+use Rattle.aho_base.specs.Patterns.{Patterns}
 use Rattle.aho_base.specs.Search.{Search}
 
 -- after a match the search goes on where it ended; after none it is done
@@ -21,3 +23,14 @@ ended_at (Some last) place = nat_eq last place
 -- the places where a further match may end: those from the start of the search on, but not where the last match ended
 abbrev pub places_left : Search → Option ℕ → ℕ
 places_left search last = search.end + 1 - search.start - cond (ended_at last search.start) 1 0
+
+-- what was given is the next find, whatever patterns the automaton is of, and the search goes on after it
+pub record GivesNext (IsOf : Patterns → Type 0) (search : Search) (last : Option ℕ) (found : Option Occurrence) (search' : Search) (last' : Option ℕ) : Type 0 where
+  pub next : (p : Patterns) → IsOf p → IsNextFind p search last found
+  pub goes_on : search' ≡ search_after search found
+  pub ended : last' ≡ last_after last found
+
+-- the matches that iteration gives first: as many as these, and more may follow
+abbrev pub AreFirstFinds : Patterns → Search → Option ℕ → List Occurrence → Type 0
+AreFirstFinds p search last [] = Unit {0}
+AreFirstFinds p search last (m ∷ ms) = IsNextFind p search last (Some m) × AreFirstFinds p (record search { start = m.end }) (Some m.end) ms

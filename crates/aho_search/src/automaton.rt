@@ -6,7 +6,8 @@
 //! trait proves them once, and each search is proved from them alone.
 
 ghost use Rattle.std.specs.Prelude.{◌≡◌, ℕ, List, [], ◌∷◌, ◌++◌, Bool, true, false, Option, Result, IsOk, IfOk, IfErr, OnOk, Ok, Err, None, Some, ◌+◌, ◌-◌, ◌<◌, ◌≤◌, ◌^◌, ◌↔◌, IsTrue, alloc_error, length, slice_get, slice_index, string_bytes, vec_items};
-ghost use Rattle.std.specs.Iterator.{Drains, UpTo};
+ghost use Rattle.std.specs.Iterator.{UpTo};
+ghost use Rattle.std.specs.Iterator.Runs.{EachRunFrom};
 ghost use Rattle.aho_base.specs.Answer.{IsAnswer};
 ghost use Rattle.aho_base.specs.ClosureRun.{RunsInMemory};
 ghost use Rattle.aho_base.specs.Iteration.{AreFinds};
@@ -22,6 +23,7 @@ ghost use Rattle.aho_base.specs.declared.search.Anchored.TheVariants.{No};
 ghost use Rattle.aho_base.specs.declared.search.Anchored.{Anchored};
 ghost use Rattle.aho_base.specs.declared.search.MatchKind.{MatchKind};
 ghost use Rattle.aho_base.specs.Steps.{GoesOn, IsPaid};
+ghost use Rattle.aho_search.specs.Finding.{AreFirstFinds};
 
 pub use crate::find::find_in;
 pub use crate::iter::FindIter;
@@ -241,8 +243,11 @@ pub trait Automaton {
         ensures ready { IfOk result (λ it.
             ⟦<FindIter<'a, 'h, Self> as Iterator>⟧.can_next it) }
         ensures finds { (p : Patterns) → is_of self.now p → IfOk result (λ it.
-            (ms : List Occurrence) → Drains ⟦<FindIter<'a, 'h, Self> as Iterator>⟧.next_gives it ms →
-            AreFinds p input.entry None ms) }
+            EachRunFrom ⟦<FindIter<'a, 'h, Self> as Iterator>⟧.next_gives it (λ run.
+            run.whole ≡ true → AreFinds p input.entry None run.items)) }
+        ensures first { (p : Patterns) → is_of self.now p → IfOk result (λ it.
+            EachRunFrom ⟦<FindIter<'a, 'h, Self> as Iterator>⟧.next_gives it (λ run.
+            AreFirstFinds p input.entry None run.items)) }
         ensures bound { IfOk result (λ it.
             UpTo (⟦<FindIter<'a, 'h, Self> as Iterator>⟧.remaining it)
             (input.entry.end + 1 - input.entry.start)) }

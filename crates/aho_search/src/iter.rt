@@ -1,12 +1,13 @@
 //! The matches of a search, one after another.
 
 ghost use Rattle.std.specs.Prelude.{◌≡◌, ℕ, List, ◌+◌, ◌-◌, ◌<◌, ◌≤◌, IsOk, IfOk, IfErr, IfSome, Ok, Err, None, Some, suc, true};
-ghost use Rattle.std.specs.Iterator.{Drains, UpTo, at_most};
+ghost use Rattle.std.specs.Iterator.{UpTo, at_most};
+ghost use Rattle.std.specs.Iterator.Runs.{EachRunFrom};
 ghost use Rattle.aho_base.specs.Answer.{IsAnswer};
 ghost use Rattle.aho_base.specs.Iteration.{AreFinds, IsNextFind};
 ghost use Rattle.aho_base.specs.Occurrence.{Occurrence};
 ghost use Rattle.aho_base.specs.Patterns.{Patterns};
-ghost use Rattle.aho_search.specs.Finding.{last_after, places_left, search_after};
+ghost use Rattle.aho_search.specs.Finding.{AreFirstFinds, GivesNext, last_after, places_left, search_after};
 
 use crate::automaton::Automaton;
 use aho_base::error::MatchError;
@@ -40,8 +41,11 @@ impl<'a, 'h, A: Automaton> FindIter<'a, 'h, A> {
         ensures ready { IfOk result (λ it.
             ⟦<FindIter<'a, 'h, A> as Iterator>⟧.can_next it) }
         ensures finds { (p : Patterns) → A.is_of automaton.entry.now p → IfOk result (λ it.
-            (ms : List Occurrence) → Drains ⟦<FindIter<'a, 'h, A> as Iterator>⟧.next_gives it ms →
-            AreFinds p input.entry None ms) }
+            EachRunFrom ⟦<FindIter<'a, 'h, A> as Iterator>⟧.next_gives it (λ run.
+            run.whole ≡ true → AreFinds p input.entry None run.items)) }
+        ensures first { (p : Patterns) → A.is_of automaton.entry.now p → IfOk result (λ it.
+            EachRunFrom ⟦<FindIter<'a, 'h, A> as Iterator>⟧.next_gives it (λ run.
+            AreFirstFinds p input.entry None run.items)) }
         ensures bound { IfOk result (λ it.
             UpTo (⟦<FindIter<'a, 'h, A> as Iterator>⟧.remaining it)
             (input.entry.end + 1 - input.entry.start)) }
@@ -61,8 +65,7 @@ impl<'a, 'h, A: Automaton> FindIter<'a, 'h, A> {
     /// What the search of what is left finds.
     fn search(&self) -> Option<Match>
         requires of { (p : Patterns) × A.is_of self.now.automaton.now p }
-        requires starts { (sid : ℕ) ×
-            (A.start self.now.automaton.now self.now.input.anchored ≡ Ok sid) }
+        requires starts { IsOk (A.start self.now.automaton.now self.now.input.anchored) }
         ensures found { (p : Patterns) → A.is_of self.now.automaton.now p →
             IsAnswer p self.now.input result }
     {
@@ -72,8 +75,7 @@ impl<'a, 'h, A: Automaton> FindIter<'a, 'h, A> {
     /// The match from one place on, where an empty match at the last match's end was found.
     fn handle_overlapping_empty_match(&mut self) -> Option<Match>
         requires of { (p : Patterns) × A.is_of self.old.automaton.now p }
-        requires starts { (sid : ℕ) ×
-            (A.start self.old.automaton.now self.old.input.anchored ≡ Ok sid) }
+        requires starts { IsOk (A.start self.old.automaton.now self.old.input.anchored) }
         requires room { self.old.input.start ≤ self.old.input.end }
         ensures found { (p : Patterns) → A.is_of self.old.automaton.now p →
             IsAnswer p (record self.old.input { start = suc self.old.input.start }) result }
@@ -90,8 +92,7 @@ impl<'a, 'h, A: Automaton> FindIter<'a, 'h, A> {
     /// search from one place on finds. At most the start is moved.
     fn next_find(&mut self) -> Option<Match>
         requires of { (p : Patterns) × A.is_of self.old.automaton.now p }
-        requires starts { (sid : ℕ) ×
-            (A.start self.old.automaton.now self.old.input.anchored ≡ Ok sid) }
+        requires starts { IsOk (A.start self.old.automaton.now self.old.input.anchored) }
         ensures next { (p : Patterns) → A.is_of self.old.automaton.now p →
             IsNextFind p self.old.input self.old.last_match_end result }
         ensures within { IfSome result (λ m. m.end ≤ self.old.input.end) }
@@ -117,15 +118,11 @@ impl<'a, 'h, A: Automaton> Iterator for FindIter<'a, 'h, A> {
     type Item = Match;
 
     ghost can_next = { λ it. ((p : Patterns) × A.is_of it.automaton.now p)
-        × ((sid : ℕ) × (A.start it.automaton.now it.input.anchored ≡ Ok sid)) };
+        × IsOk (A.start it.automaton.now it.input.anchored) };
 
-    ghost next_gives = { λ it found rest.
-        ((p : Patterns) → A.is_of it.automaton.now p →
-        IsNextFind p it.input it.last_match_end found)
-        × (rest ≡ record it {
-          input = search_after it.input found;
-          last_match_end = last_after it.last_match_end found;
-        }) };
+    ghost next_gives = { λ it found rest. (rest.automaton ≡ it.automaton)
+        × GivesNext (A.is_of it.automaton.now) it.input it.last_match_end found
+        rest.input rest.last_match_end };
 
     ghost remaining = { λ it. at_most (places_left it.input it.last_match_end) };
 

@@ -1,6 +1,6 @@
 //! Replacement in memory: a haystack is copied with other bytes in the places of its matches.
 
-ghost use Rattle.std.specs.Prelude.{◌≡◌, ℕ, IfOk, IsTrue, IsCharBoundary, ◌++◌, List, [], None, Ok, OnOk, slice_index_or, string_bytes, true, vec_items};
+ghost use Rattle.std.specs.Prelude.{◌≡◌, IsOk, ℕ, IfOk, IsTrue, IsCharBoundary, ◌++◌, List, [], None, OnOk, slice_index_or, string_bytes, true, vec_items};
 ghost use Rattle.aho_base.specs.ClosureRun.{RunsInMemory};
 ghost use Rattle.aho_base.specs.Iteration.{AreFinds};
 ghost use Rattle.aho_base.specs.Occurrence.{Occurrence};
@@ -25,7 +25,7 @@ pub(crate) fn replace_bytes<A: Automaton, F>(
 where
     F: FnMut(&Match, &[u8], &mut Vec<u8>) -> Result<bool, AllocError>,
     requires of { (p : Patterns) × A.is_of finds.automaton.now p }
-    requires starts { (sid : ℕ) × (A.start finds.automaton.now finds.input.anchored ≡ Ok sid) }
+    requires starts { IsOk (A.start finds.automaton.now finds.input.anchored) }
     requires whole { finds.input ≡ plain_search haystack.now }
     requires first { finds.last_match_end ≡ None }
     requires callable { F.IsAlwaysCallable replace_with }
@@ -68,7 +68,7 @@ pub(crate) fn replace_text<A: Automaton, F>(
 where
     F: FnMut(&Match, &str, &mut String) -> Result<bool, AllocError>,
     requires of { (p : Patterns) × A.is_of finds.automaton.now p }
-    requires starts { (sid : ℕ) × (A.start finds.automaton.now finds.input.anchored ≡ Ok sid) }
+    requires starts { IsOk (A.start finds.automaton.now finds.input.anchored) }
     requires whole { finds.input ≡ plain_search text.now }
     requires first { finds.last_match_end ≡ None }
     requires callable { F.IsAlwaysCallable replace_with }

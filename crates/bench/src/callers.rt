@@ -1,12 +1,15 @@
 //! A caller of each main call of an automaton, with what it may promise in turn.
 
-ghost use Rattle.std.specs.Prelude.{◌≡◌, ◌+◌, ◌*◌, ◌-◌, ◌<◌, ◌≤◌, ◌^◌, IfOk, false, length};
+ghost use Rattle.std.specs.Prelude.{◌≡◌, ◌+◌, ◌*◌, ◌-◌, ◌<◌, ◌≤◌, ◌^◌, IfOk, IsOk, List, None, false, length, map};
 ghost use Rattle.aho_base.specs.Answer.{IsAnswer};
+ghost use Rattle.aho_base.specs.Iteration.{AreFinds};
+ghost use Rattle.aho_base.specs.Occurrence.{Occurrence};
 ghost use Rattle.aho_base.specs.Patterns.{Patterns};
 ghost use Rattle.aho_base.specs.Search.{search_of};
 ghost use Rattle.aho_base.specs.declared.search.Anchored.TheVariants.{No, Yes};
 ghost use Rattle.aho_build.specs.Items.{patterns_of};
 ghost use Rattle.aho_build.specs.Settings.{default_settings};
+ghost use Rattle.aho_search.specs.Finding.{AreFirstFinds};
 ghost use Rattle.bench.specs.Callers.{both_cases};
 
 use aho_base::error::BuildError;
@@ -14,7 +17,7 @@ use aho_base::search::{Anchored, Bytes, Input, Match, MatchKind, Span};
 use aho_corasick::answers::answer_of;
 use aho_corasick::noncontiguous::{Builder, NFA};
 use aho_search::automaton::{Automaton, Counted, find_in};
-use std::alloc::Global;
+use std::alloc::{AllocError, Global};
 
 /// The automaton of these patterns as a new builder builds it.
 pub fn standard_automaton(alloc: Global, patterns: &[&[u8]]) -> Result<NFA, BuildError>
@@ -84,4 +87,105 @@ pub fn lookups_of(nfa: &NFA, haystack: &[u8]) -> u128
         false,
     );
     walk.lookups()
+}
+
+/// The matches of iteration in order, by a loop, over an automaton that has a start for the input's anchoring.
+///
+/// # Errors
+///
+/// The error says that memory ran out.
+pub fn each_match<A: Automaton>(
+    alloc: Global,
+    automaton: &A,
+    input: Input<'_>,
+) -> Result<Vec<Match>, AllocError>
+    requires of { (p : Patterns) × A.is_of automaton.now p }
+    requires starts { IsOk (A.start automaton.now input.anchored) }
+    ensures finds { (p : Patterns) → A.is_of automaton.now p →
+        IfOk result (λ found. AreFinds p input.entry None found.items) }
+{
+    let mut found = Vec::new(alloc);
+    for m in automaton.try_find_iter(input).unwrap() {
+        found.push(m)?;
+    }
+    Ok(found)
+}
+
+/// The same by `collect`.
+///
+/// # Errors
+///
+/// The error says that memory ran out.
+pub fn all_matches<A: Automaton>(
+    alloc: Global,
+    automaton: &A,
+    input: Input<'_>,
+) -> Result<Vec<Match>, AllocError>
+    requires of { (p : Patterns) × A.is_of automaton.now p }
+    requires starts { IsOk (A.start automaton.now input.anchored) }
+    ensures finds { (p : Patterns) → A.is_of automaton.now p →
+        IfOk result (λ found. AreFinds p input.entry None found.items) }
+{
+    automaton.try_find_iter(input).unwrap().collect(alloc)
+}
+
+/// Where the matches of iteration end, in order.
+///
+/// # Errors
+///
+/// The error says that memory ran out.
+pub fn match_ends<A: Automaton>(
+    alloc: Global,
+    automaton: &A,
+    input: Input<'_>,
+) -> Result<Vec<usize>, AllocError>
+    requires of { (p : Patterns) × A.is_of automaton.now p }
+    requires starts { IsOk (A.start automaton.now input.anchored) }
+    ensures ends { (p : Patterns) → A.is_of automaton.now p →
+        IfOk result (λ ends. (ms : List Occurrence) × AreFinds p input.entry None ms
+        × (ends.items ≡ map (λ m. m.end) ms)) }
+{
+    automaton
+        .try_find_iter(input)
+        .unwrap()
+        .map(|m| m.end())
+        .collect(alloc)
+}
+
+/// The matches of iteration over a haystack. An `NFA` refuses no search.
+///
+/// # Errors
+///
+/// The error says that memory ran out.
+pub fn matches_in(alloc: Global, nfa: &NFA, haystack: &[u8]) -> Result<Vec<Match>, AllocError>
+    requires of { (p : Patterns) × ⟦<NFA as Automaton>⟧.is_of nfa.now p }
+    ensures finds { (p : Patterns) → ⟦<NFA as Automaton>⟧.is_of nfa.now p →
+        IfOk result (λ found. AreFinds p
+        (search_of haystack.now (record { start = 0; end = length haystack.now }) No false)
+        None found.items) }
+{
+    all_matches(alloc, nfa, Input::new(haystack))
+}
+
+/// So many of the first matches of iteration, or all where there are fewer.
+///
+/// # Errors
+///
+/// The error says that memory ran out.
+pub fn first_matches<A: Automaton>(
+    alloc: Global,
+    automaton: &A,
+    input: Input<'_>,
+    count: usize,
+) -> Result<Vec<Match>, AllocError>
+    requires of { (p : Patterns) × A.is_of automaton.now p }
+    requires starts { IsOk (A.start automaton.now input.anchored) }
+    ensures first { (p : Patterns) → A.is_of automaton.now p →
+        IfOk result (λ found. AreFirstFinds p input.entry None found.items) }
+{
+    automaton
+        .try_find_iter(input)
+        .unwrap()
+        .take(count)
+        .collect(alloc)
 }

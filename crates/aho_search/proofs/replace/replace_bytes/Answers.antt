@@ -16,7 +16,7 @@ returns-in_err-extend_from_slice g c =
     let m = c.in-Some.m in
     let it = c.loop-m.m-iterator in
     let is_of = g.A.Automaton.is_of c.args.finds.automaton.now in
-    let found : (p : Patterns) → is_of p → IsNextFind p it.input it.last_match_end (Some m) = λ p of. c.in-Some.ensures.steps.0 p (rw inv.same of) in
+    let found : (p : Patterns) → is_of p → IsNextFind p it.input it.last_match_end (Some m) = λ p of. c.in-Some.ensures.steps.1.next p (rw inv.same of) in
     let within : it.input.end ≤ length it.input.haystack = rw inv.searched (omega arith) in
     record {
       run = rw (refused c.from_residual.result c.from_residual.ensures.0)
@@ -31,7 +31,7 @@ returns-in_err-replace_with g c =
     let m = c.in-Some.m in
     let it = c.loop-m.m-iterator in
     let is_of = g.A.Automaton.is_of c.args.finds.automaton.now in
-    let found : (p : Patterns) → is_of p → IsNextFind p it.input it.last_match_end (Some m) = λ p of. c.in-Some.ensures.steps.0 p (rw inv.same of) in
+    let found : (p : Patterns) → is_of p → IsNextFind p it.input it.last_match_end (Some m) = λ p of. c.in-Some.ensures.steps.1.next p (rw inv.same of) in
     let within : it.input.end ≤ length it.input.haystack = rw inv.searched (omega arith) in
     let gap : c.extend_from_slice.new.self.items ≡ c.loop-m.dst.items ++ slice_range c.args.haystack.now c.loop-m.copied m.start = c.in_ok-extend_from_slice.ensures.items ∙ ap (λ (k : ℕ). c.loop-m.dst.items ++ slice_range c.args.haystack.now c.loop-m.copied k) c.start-start.ensures.start in
     let piece : slice_range c.args.haystack.now c.start-start.result c.end-end.result ≡ slice_range c.args.haystack.now m.start m.end = rw (c.start-start.ensures.start, c.end-end.ensures.end) in
@@ -51,7 +51,7 @@ returns-then-not-branch g c =
     let m = c.in-Some.m in
     let it = c.loop-m.m-iterator in
     let is_of = g.A.Automaton.is_of c.args.finds.automaton.now in
-    let found : (p : Patterns) → is_of p → IsNextFind p it.input it.last_match_end (Some m) = λ p of. c.in-Some.ensures.steps.0 p (rw inv.same of) in
+    let found : (p : Patterns) → is_of p → IsNextFind p it.input it.last_match_end (Some m) = λ p of. c.in-Some.ensures.steps.1.next p (rw inv.same of) in
     let within : it.input.end ≤ length it.input.haystack = rw inv.searched (omega arith) in
     let gap : c.extend_from_slice.new.self.items ≡ c.loop-m.dst.items ++ slice_range c.args.haystack.now c.loop-m.copied m.start = c.in_ok-extend_from_slice.ensures.items ∙ ap (λ (k : ℕ). c.loop-m.dst.items ++ slice_range c.args.haystack.now c.loop-m.copied k) c.start-start.ensures.start in
     let piece : slice_range c.args.haystack.now c.start-start.result c.end-end.result ≡ slice_range c.args.haystack.now m.start m.end = rw (c.start-start.ensures.start, c.end-end.ensures.end) in
@@ -72,14 +72,15 @@ loop-m-preserved g c =
     let m = c.in-Some.m in
     let it = c.loop-m.m-iterator in
     let is_of = g.A.Automaton.is_of c.args.finds.automaton.now in
-    let found : (p : Patterns) → is_of p → IsNextFind p it.input it.last_match_end (Some m) = λ p of. c.in-Some.ensures.steps.0 p (rw inv.same of) in
+    let found : (p : Patterns) → is_of p → IsNextFind p it.input it.last_match_end (Some m) = λ p of. c.in-Some.ensures.steps.1.next p (rw inv.same of) in
     let within : it.input.end ≤ length it.input.haystack = rw inv.searched (omega arith) in
     let gap : c.extend_from_slice.new.self.items ≡ c.loop-m.dst.items ++ slice_range c.args.haystack.now c.loop-m.copied m.start = c.in_ok-extend_from_slice.ensures.items ∙ ap (λ (k : ℕ). c.loop-m.dst.items ++ slice_range c.args.haystack.now c.loop-m.copied k) c.start-start.ensures.start in
     let piece : slice_range c.args.haystack.now c.start-start.result c.end-end.result ≡ slice_range c.args.haystack.now m.start m.end = rw (c.start-start.ensures.start, c.end-end.ensures.end) in
     let called : CalledOn g.F.FnMut c.loop-m.replace_with m (slice_range c.args.haystack.now m.start m.end) c.extend_from_slice.new.self c.replace_with.result c.replace_with.new.self c.replace_with.new.arg4 =
     record { found = _; bytes = _; lent = _; left = _; shows = (refl, piece, refl, refl); called = c.replace_with.ensures } in
     let true_called = subst (λ r. CalledOn g.F.FnMut c.loop-m.replace_with m (slice_range c.args.haystack.now m.start m.end) c.extend_from_slice.new.self r c.replace_with.new.self c.replace_with.new.arg4) (c.in_ok-replace_with.was ∙ ap Ok c.if-not-branch.false) called in
-    let moved = c.in-Some.ensures.steps.1 in
+    let moved : c.next.new.self.input ≡ record it.input { start = m.end } = c.in-Some.ensures.steps.1.goes_on in
+    let ended : c.next.new.self.last_match_end ≡ Some m.end = c.in-Some.ensures.steps.1.ended in
     let bounds = find-within c.requires.of.0 it.input it.last_match_end m (found c.requires.of.0 c.requires.of.1) in
     let left = IsLeft-true (CopiesWhole vec_items) (CalledOn g.F.FnMut) c.args.haystack.now is_of (λ ms. ms) c.args.replace_with c.args.dst.now
     it.input it.last_match_end c.loop-m.copied c.loop-m.replace_with c.loop-m.dst inv.left m within found (λ ms. refl)
@@ -88,10 +89,10 @@ loop-m-preserved g c =
       can_next = c.in-Some.ensures.goes.keeps;
       is_finite = tt;
       callable = search (rules, of_calls);
-      same = ap (λ (x : FindIter _). x.automaton) moved ∙ inv.same;
-      searched = ap (λ (x : FindIter _). x.input) moved ∙ rw (inv.searched, c.end-end.ensures.end);
+      same = c.in-Some.ensures.steps.0 ∙ inv.same;
+      searched = moved ∙ rw (inv.searched, c.end-end.ensures.end);
       within = rw c.end-end.ensures.end (subst (λ (x : Search). m.end ≤ x.end) inv.searched bounds.2);
-      left = rw (moved, c.end-end.ensures.end) left;
+      left = rw (moved, ended, c.end-end.ensures.end) left;
     }
 
 pub returns : goal.returns
@@ -99,7 +100,7 @@ returns g c =
     let inv = c.loop-m.invariant in
     let it = c.loop-m.m-iterator in
     let is_of = g.A.Automaton.is_of c.args.finds.automaton.now in
-    let found : (p : Patterns) → is_of p → IsNextFind p it.input it.last_match_end None = λ p of. c.in-None.ensures.steps.0 p (rw inv.same of) in
+    let found : (p : Patterns) → is_of p → IsNextFind p it.input it.last_match_end None = λ p of. c.in-None.ensures.steps.1.next p (rw inv.same of) in
     record {
       run = Runs-end (CopiesWhole vec_items) (CalledOn g.F.FnMut) c.args.haystack.now is_of (λ ms. ms) c.args.replace_with c.args.dst.now
           it.input it.last_match_end c.loop-m.copied c.loop-m.replace_with c.loop-m.dst inv.left found refl
@@ -111,7 +112,7 @@ slice_bounds-matched-end g c =
     let inv = c.loop-m.invariant in
     let m = c.in-Some.m in
     let it = c.loop-m.m-iterator in
-    let found : IsNextFind c.requires.of.0 it.input it.last_match_end (Some m) = c.in-Some.ensures.steps.0 c.requires.of.0 (rw inv.same c.requires.of.1) in
+    let found : IsNextFind c.requires.of.0 it.input it.last_match_end (Some m) = c.in-Some.ensures.steps.1.next c.requires.of.0 (rw inv.same c.requires.of.1) in
     let bounds = find-within c.requires.of.0 it.input it.last_match_end m found in
     let end : c.end-end.result ≤ length c.args.haystack.now = rw c.end-end.ensures.end (subst (λ (x : Search). m.end ≤ x.end) inv.searched bounds.2) in
     end

@@ -32,10 +32,11 @@ loop-m-preserved-then-not-is_on_boundaries g c =
     let m = c.in-Some.m in
     let it = c.loop-m.m-iterator in
     let is_of = g.A.Automaton.is_of c.args.finds.automaton.now in
-    let found : (p : Patterns) → is_of p → IsNextFind p it.input it.last_match_end (Some m) = λ p of. c.in-Some.ensures.steps.0 p (rw inv.same of) in
+    let found : (p : Patterns) → is_of p → IsNextFind p it.input it.last_match_end (Some m) = λ p of. c.in-Some.ensures.steps.1.next p (rw inv.same of) in
     let within : it.input.end ≤ length it.input.haystack = rw inv.searched (omega arith) in
     let skipped = on_boundaries-skipped c.args.text.now m (sym c.is_on_boundaries.ensures.test ∙ c.if-not-is_on_boundaries.true) in
-    let moved = c.in-Some.ensures.steps.1 in
+    let moved : c.next.new.self.input ≡ record it.input { start = m.end } = c.in-Some.ensures.steps.1.goes_on in
+    let ended : c.next.new.self.last_match_end ≡ Some m.end = c.in-Some.ensures.steps.1.ended in
     let bounds = find-within c.requires.of.0 it.input it.last_match_end m (found c.requires.of.0 c.requires.of.1) in
     let left = IsLeft-skip (CopiesWhole string_bytes) (CalledOn g.F.FnMut) c.args.text.now is_of (on_boundaries c.args.text.now) c.args.replace_with c.args.dst.now
     it.input it.last_match_end c.loop-m.copied c.loop-m.replace_with c.loop-m.dst inv.left m within found skipped in
@@ -43,11 +44,11 @@ loop-m-preserved-then-not-is_on_boundaries g c =
       can_next = c.in-Some.ensures.goes.keeps;
       is_finite = tt;
       callable = inv.callable;
-      same = ap (λ (x : FindIter _). x.automaton) moved ∙ inv.same;
+      same = c.in-Some.ensures.steps.0 ∙ inv.same;
       searched = rw moved (rw inv.searched refl);
       passed = rw moved (omega (arith, inv.passed, bounds));
       boundary = inv.boundary;
-      left = rw moved left;
+      left = rw (moved, ended) left;
     }
 
 pub returns-in_err-push_str : goal.returns-in_err-push_str
@@ -56,7 +57,7 @@ returns-in_err-push_str g c =
     let m = c.in-Some.m in
     let it = c.loop-m.m-iterator in
     let is_of = g.A.Automaton.is_of c.args.finds.automaton.now in
-    let found : (p : Patterns) → is_of p → IsNextFind p it.input it.last_match_end (Some m) = λ p of. c.in-Some.ensures.steps.0 p (rw inv.same of) in
+    let found : (p : Patterns) → is_of p → IsNextFind p it.input it.last_match_end (Some m) = λ p of. c.in-Some.ensures.steps.1.next p (rw inv.same of) in
     let within : it.input.end ≤ length it.input.haystack = rw inv.searched (omega arith) in
     let kept = on_boundaries-kept c.args.text.now m (sym c.is_on_boundaries.ensures.test ∙ c.if-not-is_on_boundaries.false) in
     let copied : string_bytes c.push_str.new.self ≡ string_bytes c.loop-m.dst = c.in_err-push_str.ensures.bytes in
@@ -73,7 +74,7 @@ returns-in_err-replace_with g c =
     let m = c.in-Some.m in
     let it = c.loop-m.m-iterator in
     let is_of = g.A.Automaton.is_of c.args.finds.automaton.now in
-    let found : (p : Patterns) → is_of p → IsNextFind p it.input it.last_match_end (Some m) = λ p of. c.in-Some.ensures.steps.0 p (rw inv.same of) in
+    let found : (p : Patterns) → is_of p → IsNextFind p it.input it.last_match_end (Some m) = λ p of. c.in-Some.ensures.steps.1.next p (rw inv.same of) in
     let within : it.input.end ≤ length it.input.haystack = rw inv.searched (omega arith) in
     let kept = on_boundaries-kept c.args.text.now m (sym c.is_on_boundaries.ensures.test ∙ c.if-not-is_on_boundaries.false) in
     let gap : string_bytes c.push_str.new.self ≡ string_bytes c.loop-m.dst ++ slice_range c.args.text.now c.loop-m.copied m.start = c.in_ok-push_str.ensures.bytes
@@ -95,7 +96,7 @@ returns-then-not-branch g c =
     let m = c.in-Some.m in
     let it = c.loop-m.m-iterator in
     let is_of = g.A.Automaton.is_of c.args.finds.automaton.now in
-    let found : (p : Patterns) → is_of p → IsNextFind p it.input it.last_match_end (Some m) = λ p of. c.in-Some.ensures.steps.0 p (rw inv.same of) in
+    let found : (p : Patterns) → is_of p → IsNextFind p it.input it.last_match_end (Some m) = λ p of. c.in-Some.ensures.steps.1.next p (rw inv.same of) in
     let within : it.input.end ≤ length it.input.haystack = rw inv.searched (omega arith) in
     let kept = on_boundaries-kept c.args.text.now m (sym c.is_on_boundaries.ensures.test ∙ c.if-not-is_on_boundaries.false) in
     let gap : string_bytes c.push_str.new.self ≡ string_bytes c.loop-m.dst ++ slice_range c.args.text.now c.loop-m.copied m.start = c.in_ok-push_str.ensures.bytes
@@ -119,7 +120,7 @@ loop-m-preserved g c =
     let m = c.in-Some.m in
     let it = c.loop-m.m-iterator in
     let is_of = g.A.Automaton.is_of c.args.finds.automaton.now in
-    let found : (p : Patterns) → is_of p → IsNextFind p it.input it.last_match_end (Some m) = λ p of. c.in-Some.ensures.steps.0 p (rw inv.same of) in
+    let found : (p : Patterns) → is_of p → IsNextFind p it.input it.last_match_end (Some m) = λ p of. c.in-Some.ensures.steps.1.next p (rw inv.same of) in
     let within : it.input.end ≤ length it.input.haystack = rw inv.searched (omega arith) in
     let kept = on_boundaries-kept c.args.text.now m (sym c.is_on_boundaries.ensures.test ∙ c.if-not-is_on_boundaries.false) in
     let gap : string_bytes c.push_str.new.self ≡ string_bytes c.loop-m.dst ++ slice_range c.args.text.now c.loop-m.copied m.start = c.in_ok-push_str.ensures.bytes
@@ -128,7 +129,8 @@ loop-m-preserved g c =
     let called : CalledOn g.F.FnMut c.loop-m.replace_with m (slice_range c.args.text.now m.start m.end) c.push_str.new.self c.replace_with.result c.replace_with.new.self c.replace_with.new.arg4 =
     record { found = _; bytes = _; lent = _; left = _; shows = (refl, piece, refl, refl); called = c.replace_with.ensures } in
     let true_called = subst (λ r. CalledOn g.F.FnMut c.loop-m.replace_with m (slice_range c.args.text.now m.start m.end) c.push_str.new.self r c.replace_with.new.self c.replace_with.new.arg4) (c.in_ok-replace_with.was ∙ ap Ok c.if-not-branch.false) called in
-    let moved = c.in-Some.ensures.steps.1 in
+    let moved : c.next.new.self.input ≡ record it.input { start = m.end } = c.in-Some.ensures.steps.1.goes_on in
+    let ended : c.next.new.self.last_match_end ≡ Some m.end = c.in-Some.ensures.steps.1.ended in
     let left = IsLeft-true (CopiesWhole string_bytes) (CalledOn g.F.FnMut) c.args.text.now is_of (on_boundaries c.args.text.now) c.args.replace_with c.args.dst.now
     it.input it.last_match_end c.loop-m.copied c.loop-m.replace_with c.loop-m.dst inv.left m within found kept
     c.push_str.new.self gap c.replace_with.new.self c.replace_with.new.arg4 true_called in
@@ -136,11 +138,11 @@ loop-m-preserved g c =
       can_next = c.in-Some.ensures.goes.keeps;
       is_finite = tt;
       callable = search (rules, of_calls);
-      same = ap (λ (x : FindIter _). x.automaton) moved ∙ inv.same;
+      same = c.in-Some.ensures.steps.0 ∙ inv.same;
       searched = rw moved (rw inv.searched refl);
       passed = rw (moved, c.end-end.ensures.end) (omega arith);
       boundary = rw c.end-end.ensures.end (c.is_on_boundaries.ensures.end c.if-not-is_on_boundaries.false);
-      left = rw (moved, c.end-end.ensures.end) left;
+      left = rw (moved, ended, c.end-end.ensures.end) left;
     }
 
 pub returns : goal.returns
@@ -148,7 +150,7 @@ returns g c =
     let inv = c.loop-m.invariant in
     let it = c.loop-m.m-iterator in
     let is_of = g.A.Automaton.is_of c.args.finds.automaton.now in
-    let found : (p : Patterns) → is_of p → IsNextFind p it.input it.last_match_end None = λ p of. c.in-None.ensures.steps.0 p (rw inv.same of) in
+    let found : (p : Patterns) → is_of p → IsNextFind p it.input it.last_match_end None = λ p of. c.in-None.ensures.steps.1.next p (rw inv.same of) in
     record {
       run = Runs-end (CopiesWhole string_bytes) (CalledOn g.F.FnMut) c.args.text.now is_of (on_boundaries c.args.text.now) c.args.replace_with c.args.dst.now
           it.input it.last_match_end c.loop-m.copied c.loop-m.replace_with c.loop-m.dst inv.left found refl

@@ -1,6 +1,8 @@
-use Rattle.std.specs.Prelude.{None}
-use Rattle.aho_search.proofs.Finds.{drained-finds}
+use Rattle.aho_search.proofs.Finds.{run-finds, run-first_finds}
 use Rattle.aho_search.proofs.iter.FindIter.new.Goals as goal
 
 pub returns-clause-finds : goal.returns-clause-finds
-returns-clause-finds g c = λ p of ms. drained-finds g.A.Automaton.is_of p ms (record { automaton = c.args.automaton; input = c.args.input; last_match_end = None }) of
+returns-clause-finds g c = λ p of run seen from whole. let h = run-finds g.A.Automaton.is_of p run whole in rw from at h of
+
+pub returns-clause-first : goal.returns-clause-first
+returns-clause-first g c = λ p of run seen from. let h = run-first_finds g.A.Automaton.is_of p run in rw from at h of
