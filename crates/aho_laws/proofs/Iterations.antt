@@ -10,7 +10,8 @@ use Rattle.aho_base.specs.Occurrence.{Occurrence}
 use Rattle.aho_base.specs.Occurs.{Occurs}
 use Rattle.aho_base.specs.Patterns.{Patterns}
 use Rattle.aho_base.specs.Search.{Search}
-use Rattle.aho_laws.specs.SearchLaws.{IsFollowedBy}
+use Rattle.aho_laws.specs.SearchLaws.{EndsBefore, IsFollowedBy}
+use Rattle.aho_laws.proofs.Members.{listed-by_weaker}
 use Rattle.aho_laws.proofs.Answers.{IsAnswer-exists, IsAnswer-occurs, IsAnswer-unique, Occurs-unanchored}
 
 module _ (p : Patterns) where
@@ -35,7 +36,8 @@ module _ (p : Patterns) where
             inr (subst (IsAnswer p search) (sym same) h.1, ap (repeats_end last) same ∙ differs))
       ]
 
-  find-occurs : (search : Search) (last : Option ℕ) (m : Occurrence) → IsNextFind p search last (Some m) → Occurs p No search.haystack search.start search.end m
+  -- a find occurs in the span
+  pub find-occurs : (search : Search) (last : Option ℕ) (m : Occurrence) → IsNextFind p search last (Some m) → Occurs p No search.haystack search.start search.end m
   find-occurs search last m h =
       elim (find-cases search last (Some m) h) [
         | inl again ↦ Occurs-unanchored p search.anchored search.haystack (suc search.start) search.start search.end m (omega arith) (IsAnswer-occurs p (later_search search) m again)
@@ -91,6 +93,13 @@ module _ (p : Patterns) where
     λ n later. (let t = finds-after ms (record search { start = m.end }) n h.1 later in (t.0.after_start, t.1)),
     finds-listed ms (record search { start = m.end }) (Some m.end) h.1,
   )
+
+  pub finds-apart : (ms : List Occurrence) (search : Search) (last : Option ℕ) → AreFinds p search last ms → IsListedBy EndsBefore ms
+  finds-apart ms search last h = listed-by_weaker IsFollowedBy EndsBefore ms (λ m n both. both.0) (finds-listed ms search last h)
+
+  -- no match starts after its end
+  pub finds-ordered : (ms : List Occurrence) (search : Search) (last : Option ℕ) → AreFinds p search last ms → (m : Occurrence) → IsMember ms m → m.start ≤ m.end
+  finds-ordered ms search last h m in_ms = Occurs-ordered search.haystack search.start search.end m (finds-occur ms search last m h in_ms)
 
   find-unique : (search : Search) (last : Option ℕ) (x y : Option Occurrence) → IsNextFind p search last x → IsNextFind p search last y → x ≡ y
   find-unique search last x y h k =

@@ -15,6 +15,10 @@ pub mod Answers
 pub mod Iterations
 -- a haystack whose matches are replaced
 pub mod Replacements
+-- the test of a character boundary
+pub mod Boundaries
+-- what a run of a replacement closure appends
+pub mod ClosureRuns
 -- The word automaton has its laws: in the order in which docs/WORD_AUTOMATON.md goes through them.
 -- words that begin other words, and numbers that pass a test
 pub mod Begins

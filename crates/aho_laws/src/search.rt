@@ -1,8 +1,9 @@
 //! Laws of what a search, an iteration, a listing and a replacement answer.
 
-ghost use Rattle.std.specs.Prelude.{◌≡◌, ◌≤◌, ◌⊎◌, ◌↔◌, ℕ, true, List, Option, length, slice_range, Some, None};
+ghost use Rattle.std.specs.Prelude.{◌≡◌, ◌≤◌, ◌⊎◌, ◌↔◌, ◌++◌, ℕ, true, false, List, Option, length, slice_range, IsCharBoundary, Ok, Some, None};
 ghost use Rattle.aho_base.specs.Answer.{IsAnswer};
 ghost use Rattle.aho_base.specs.Best.{IsBest, IsBestOrNone};
+ghost use Rattle.aho_base.specs.ClosureRun.{CalledOn, ClosureRun, CopiesWhole};
 ghost use Rattle.aho_base.specs.Iteration.{AreFinds};
 ghost use Rattle.aho_base.specs.Listing.{IsMember, IsListedBy};
 ghost use Rattle.aho_base.specs.Occurrence.{Occurrence};
@@ -10,13 +11,16 @@ ghost use Rattle.aho_base.specs.Occurs.{Occurs, OccursIn};
 ghost use Rattle.aho_base.specs.Order.{IsBefore};
 ghost use Rattle.aho_base.specs.Overlapping.{all_occurrences, anchored_occurrences};
 ghost use Rattle.aho_base.specs.Patterns.{Patterns};
-ghost use Rattle.aho_base.specs.Replacement.{replaced_by};
-ghost use Rattle.aho_base.specs.Search.{Search};
-ghost use Rattle.aho_laws.specs.SearchLaws.{EndsBefore, IsFollowedBy, IsFrontOfPattern};
+ghost use Rattle.aho_base.specs.Replacement.{is_char_boundary, on_boundaries, replaced, replaced_by};
+ghost use Rattle.aho_base.specs.Search.{Search, plain_search};
+ghost use Rattle.aho_laws.specs.SearchLaws.{AppendsMatched, EndsBefore, IsFollowedBy, IsFrontOfPattern};
 ghost use Rattle.aho_base.specs.declared.search.Anchored.{Anchored};
 ghost use Rattle.aho_base.specs.declared.search.Anchored.TheVariants.{No};
 ghost use Rattle.aho_base.specs.declared.search.MatchKind.{MatchKind};
 ghost use Rattle.aho_base.specs.declared.search.MatchKind.TheVariants.{Standard};
+
+use aho_base::search::Match;
+use std::alloc::AllocError;
 
 /// Each match kind orders strictly: nothing is before itself, and what is before a second that is
 /// before a third is before the third. Of two occurrences of one span, one is before the other,
@@ -113,7 +117,8 @@ pub fn finds_rise()
 {}
 
 /// Disjoint, rising ranges of a haystack that are each replaced by their own bytes leave it as it
-/// is, and so do the matches of an iteration.
+/// is, and so do the matches of an iteration, of a text as well. Where the case rule is off, those
+/// bytes are the patterns.
 pub fn replacing_by_its_own_bytes()
     ensures ranges { (haystack : List ℕ) (ms : List Occurrence)
         → IsListedBy EndsBefore ms
@@ -123,4 +128,50 @@ pub fn replacing_by_its_own_bytes()
         → AreFinds p search None ms
         → replaced_by search.haystack ms (λ m. slice_range search.haystack m.start m.end)
         ≡ search.haystack }
+    ensures finds_of_text { (p : Patterns) (search : Search) (ms : List Occurrence)
+        → AreFinds p search None ms
+        → replaced_by search.haystack (on_boundaries search.haystack ms)
+        (λ m. slice_range search.haystack m.start m.end) ≡ search.haystack }
+    ensures patterns { (p : Patterns) (search : Search) (ms : List Occurrence)
+        → p.ignore_case ≡ false → AreFinds p search None ms
+        → replaced search.haystack ms p.words ≡ search.haystack }
+    ensures patterns_of_text { (p : Patterns) (search : Search) (ms : List Occurrence)
+        → p.ignore_case ≡ false → AreFinds p search None ms
+        → replaced search.haystack (on_boundaries search.haystack ms) p.words ≡ search.haystack }
+{}
+
+/// A place of a text is a boundary by the test just where a character begins there or the text ends.
+pub fn tests_boundaries()
+    ensures boundary { (text : List ℕ) (at : ℕ)
+        → ((is_char_boundary text at ≡ true) ↔ IsCharBoundary text at) }
+{}
+
+/// A closure that appends the bytes that matched, whatever it answers, makes a replacement append
+/// the haystack: over any disjoint, rising ranges, and over the matches of an iteration, of a text
+/// as well. `S` is the destination, and `bytes_of` says what is in it.
+pub fn appending_the_matched_bytes<S, F>()
+where
+    F: FnMut(&Match, &[u8], &mut S) -> Result<bool, AllocError>,
+    ensures ranges { (bytes_of : S → List ℕ) (haystack : List ℕ) (ms : List Occurrence)
+        (closure last : F) (old new : S)
+        → AppendsMatched F.FnMut bytes_of
+        → IsListedBy EndsBefore ms
+        → ((m : Occurrence) → IsMember ms m → m.start ≤ m.end)
+        → ClosureRun (CopiesWhole bytes_of) (CalledOn F.FnMut) haystack 0 ms closure old (Ok tt)
+        last new
+        → bytes_of new ≡ bytes_of old ++ haystack }
+    ensures finds { (bytes_of : S → List ℕ) (p : Patterns) (haystack : List ℕ)
+        (ms : List Occurrence) (closure last : F) (old new : S)
+        → AppendsMatched F.FnMut bytes_of
+        → AreFinds p (plain_search haystack) None ms
+        → ClosureRun (CopiesWhole bytes_of) (CalledOn F.FnMut) haystack 0 ms closure old (Ok tt)
+        last new
+        → bytes_of new ≡ bytes_of old ++ haystack }
+    ensures finds_of_text { (bytes_of : S → List ℕ) (p : Patterns) (haystack : List ℕ)
+        (ms : List Occurrence) (closure last : F) (old new : S)
+        → AppendsMatched F.FnMut bytes_of
+        → AreFinds p (plain_search haystack) None ms
+        → ClosureRun (CopiesWhole bytes_of) (CalledOn F.FnMut) haystack 0
+        (on_boundaries haystack ms) closure old (Ok tt) last new
+        → bytes_of new ≡ bytes_of old ++ haystack }
 {}

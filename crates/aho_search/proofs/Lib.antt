@@ -9,3 +9,5 @@ pub mod Endings
 pub mod Counts
 pub mod Gives
 pub mod Drained
+pub mod NextFinds
+pub mod RunsLeft

@@ -5,10 +5,11 @@
 //! a search off these lists. What it takes for that to be the right answer are the trait's laws: whoever implements the
 //! trait proves them once, and each search is proved from them alone.
 
-ghost use Rattle.std.specs.Prelude.{◌≡◌, ℕ, List, [], ◌∷◌, ◌++◌, Bool, true, false, Option, Result, IsOk, IfOk, IfErr, Ok, Err, None, Some, ◌+◌, ◌-◌, ◌<◌, ◌≤◌, ◌^◌, ◌↔◌, IsTrue, length, slice_get, slice_index, ◌≢◌, ◌*◌, min};
+ghost use Rattle.std.specs.Prelude.{◌≡◌, ℕ, List, [], ◌∷◌, ◌++◌, Bool, true, false, Option, Result, IsOk, IfOk, IfErr, Ok, Err, None, Some, ◌+◌, ◌-◌, ◌<◌, ◌≤◌, ◌^◌, ◌↔◌, IsTrue, length, slice_get, slice_index, ◌≢◌, ◌*◌, min, OnOk, alloc_error, string_bytes, vec_items};
 ghost use Rattle.std.specs.Iterator.{UpTo, Drains};
 ghost use Rattle.std.specs.Iterator.Runs.{EachRunFrom};
 ghost use Rattle.aho_base.specs.Answer.{IsAnswer};
+ghost use Rattle.aho_base.specs.ClosureRun.{RunsInMemory};
 ghost use Rattle.aho_base.specs.Iteration.{AreFinds};
 ghost use Rattle.aho_base.specs.Laws.{Reads, longest, shortest};
 ghost use Rattle.aho_base.specs.Numbers.{greatest_index};
@@ -18,6 +19,10 @@ ghost use Rattle.aho_base.specs.Patterns.{Patterns};
 ghost use Rattle.aho_base.specs.Progress.{FitsSearch, without_match};
 ghost use Rattle.aho_base.specs.declared.error.MatchErrorKind.{MatchErrorKind};
 ghost use Rattle.aho_base.specs.declared.error.MatchErrorKind.TheVariants.{InvalidInputAnchored, UnsupportedOverlapping};
+ghost use Rattle.aho_base.specs.Replacement.{on_boundaries, pieces_of, replaced};
+ghost use Rattle.aho_base.specs.Search.{plain_search};
+ghost use Rattle.aho_base.specs.declared.error.replace.ReplaceError.{ReplaceError};
+ghost use Rattle.aho_base.specs.declared.search.Anchored.TheVariants.{No};
 ghost use Rattle.aho_base.specs.declared.search.Anchored.{Anchored};
 ghost use Rattle.aho_base.specs.declared.search.Anchored.TheVariants.{No, Yes};
 ghost use Rattle.aho_base.specs.declared.search.MatchKind.{MatchKind};
@@ -30,9 +35,11 @@ pub use crate::find::find_in;
 pub use crate::iter::FindIter;
 use crate::overlapping::find_overlapping;
 pub use crate::overlapping::{FindOverlappingIter, OverlappingState};
+use crate::replace::{append_piece, append_text, replace_bytes, replace_text};
 pub use crate::walk::{Counted, Walk};
-use aho_base::error::MatchError;
+use aho_base::error::{MatchError, ReplaceError};
 use aho_base::search::{Anchored, Bytes, Input, Match, MatchKind, PatternID, Span, StateID, Work};
+use std::alloc::{AllocError, Global};
 
 /// An automaton that reads bytes, and tells the best match that ends where it stands.
 pub trait Automaton {
@@ -348,6 +355,157 @@ pub trait Automaton {
         }
         let _sid = self.start_state(Anchored::No)?;
         Ok(FindOverlappingIter::new(self, input))
+    }
+
+    /// The haystack with each match replaced by the text of its pattern. A match that starts or ends inside a character is
+    /// skipped: its bytes stay.
+    ///
+    /// There is one replacement for each pattern. The text that is given is made with `alloc`.
+    ///
+    /// # Errors
+    ///
+    /// `Match` exactly where `start_state` refuses unanchored searches. `Memory` where a growth is refused.
+    final fn try_replace_all(
+        &self,
+        alloc: Global,
+        haystack: &str,
+        replace_with: &[&str],
+    ) -> Result<String, ReplaceError>
+    where
+        Self: Sized,
+        requires of { (p : Patterns) × is_of self.now p }
+        requires one_each { length replace_with.now ≡ length (lengths self.now) }
+        ensures replaced { (p : Patterns) (ms : List Occurrence) → is_of self.now p →
+            AreFinds p (plain_search haystack.now) None ms →
+            IfOk result (λ text. string_bytes text ≡
+            replaced haystack.now (on_boundaries haystack.now ms) (pieces_of replace_with.now)) }
+        ensures refused { (reason : MatchErrorKind) → start self.now No ≡ Err reason →
+            result ≡ Err (ReplaceError.Match reason) }
+        ensures error { (reason : MatchErrorKind) → result ≡ Err (ReplaceError.Match reason) →
+            start self.now No ≡ Err reason }
+    {
+        let mut dst = String::new(alloc);
+        self.try_replace_all_with(haystack, &mut dst, |m, _matched, dst| {
+            append_text(dst, replace_with, m)
+        })?;
+        Ok(dst)
+    }
+
+    /// The haystack with each match replaced by the bytes for its pattern.
+    ///
+    /// There is one replacement for each pattern. The bytes that are given are made with `alloc`.
+    ///
+    /// # Errors
+    ///
+    /// As those of `try_replace_all`.
+    final fn try_replace_all_bytes(
+        &self,
+        alloc: Global,
+        haystack: &[u8],
+        replace_with: &[&[u8]],
+    ) -> Result<Vec<u8>, ReplaceError>
+    where
+        Self: Sized,
+        requires of { (p : Patterns) × is_of self.now p }
+        requires one_each { length replace_with.now ≡ length (lengths self.now) }
+        ensures replaced { (p : Patterns) (ms : List Occurrence) → is_of self.now p →
+            AreFinds p (plain_search haystack.now) None ms →
+            IfOk result (λ bytes. vec_items bytes ≡
+            replaced haystack.now ms (pieces_of replace_with.now)) }
+        ensures refused { (reason : MatchErrorKind) → start self.now No ≡ Err reason →
+            result ≡ Err (ReplaceError.Match reason) }
+        ensures error { (reason : MatchErrorKind) → result ≡ Err (ReplaceError.Match reason) →
+            start self.now No ≡ Err reason }
+    {
+        let mut dst = Vec::new(alloc);
+        self.try_replace_all_with_bytes(haystack, &mut dst, |m, _matched, dst| {
+            append_piece(dst, replace_with, m)
+        })?;
+        Ok(dst)
+    }
+
+    /// Appends the haystack to `dst`, with what the closure appends in the place of each match. The closure is called with
+    /// the match, the text that matched and `dst`; where it answers false no more is replaced, and the rest of the haystack
+    /// is copied. A match that starts or ends inside a character is skipped: its bytes stay.
+    ///
+    /// It takes memory where `dst` grows, and what the closure takes.
+    ///
+    /// # Errors
+    ///
+    /// `Match` exactly where `start_state` refuses unanchored searches; then `dst` stays. `Memory` where a growth of `dst`
+    /// is refused, or the closure answers so: then `dst` has what it had, all that was copied in whole pieces before, and
+    /// what the closure appended.
+    final fn try_replace_all_with<F>(
+        &self,
+        haystack: &str,
+        dst: &mut String,
+        replace_with: F,
+    ) -> Result<(), ReplaceError>
+    where
+        Self: Sized,
+        F: FnMut(&Match, &str, &mut String) -> Result<bool, AllocError>,
+        requires of { (p : Patterns) × is_of self.now p }
+        requires callable { F.IsAlwaysCallable replace_with }
+        ensures run { (p : Patterns) (ms : List Occurrence) → is_of self.now p →
+            AreFinds p (plain_search haystack.now) None ms →
+            OnOk result (RunsInMemory F.FnMut string_bytes haystack.now
+            (on_boundaries haystack.now ms) replace_with dst.old (Ok tt) dst.new) }
+        ensures stopped { (p : Patterns) (ms : List Occurrence) → is_of self.now p →
+            AreFinds p (plain_search haystack.now) None ms →
+            result ≡ Err ReplaceError.Memory →
+            RunsInMemory F.FnMut string_bytes haystack.now
+            (on_boundaries haystack.now ms) replace_with dst.old (Err alloc_error) dst.new }
+        ensures refused { (reason : MatchErrorKind) → start self.now No ≡ Err reason →
+            result ≡ Err (ReplaceError.Match reason) }
+        ensures error { (reason : MatchErrorKind) → result ≡ Err (ReplaceError.Match reason) →
+            start self.now No ≡ Err reason }
+        ensures unchanged { (reason : MatchErrorKind) → result ≡ Err (ReplaceError.Match reason) →
+            dst.new ≡ dst.old }
+    {
+        let finds = FindIter::new(self, Input::new(haystack.as_bytes()))?;
+        replace_text(finds, haystack, dst, replace_with)?;
+        Ok(())
+    }
+
+    /// Appends the haystack to `dst`, with what the closure appends in the place of each match. The closure is called with
+    /// the match, the bytes that matched and `dst`; where it answers false no more is replaced, and the rest of the
+    /// haystack is copied.
+    ///
+    /// It takes memory where `dst` grows, and what the closure takes.
+    ///
+    /// # Errors
+    ///
+    /// As those of `try_replace_all_with`.
+    final fn try_replace_all_with_bytes<F>(
+        &self,
+        haystack: &[u8],
+        dst: &mut Vec<u8>,
+        replace_with: F,
+    ) -> Result<(), ReplaceError>
+    where
+        Self: Sized,
+        F: FnMut(&Match, &[u8], &mut Vec<u8>) -> Result<bool, AllocError>,
+        requires of { (p : Patterns) × is_of self.now p }
+        requires callable { F.IsAlwaysCallable replace_with }
+        ensures run { (p : Patterns) (ms : List Occurrence) → is_of self.now p →
+            AreFinds p (plain_search haystack.now) None ms →
+            OnOk result (RunsInMemory F.FnMut vec_items haystack.now
+            ms replace_with dst.old (Ok tt) dst.new) }
+        ensures stopped { (p : Patterns) (ms : List Occurrence) → is_of self.now p →
+            AreFinds p (plain_search haystack.now) None ms →
+            result ≡ Err ReplaceError.Memory →
+            RunsInMemory F.FnMut vec_items haystack.now
+            ms replace_with dst.old (Err alloc_error) dst.new }
+        ensures refused { (reason : MatchErrorKind) → start self.now No ≡ Err reason →
+            result ≡ Err (ReplaceError.Match reason) }
+        ensures error { (reason : MatchErrorKind) → result ≡ Err (ReplaceError.Match reason) →
+            start self.now No ≡ Err reason }
+        ensures unchanged { (reason : MatchErrorKind) → result ≡ Err (ReplaceError.Match reason) →
+            dst.new ≡ dst.old }
+    {
+        let finds = FindIter::new(self, Input::new(haystack))?;
+        replace_bytes(finds, haystack, dst, replace_with)?;
+        Ok(())
     }
 }
 

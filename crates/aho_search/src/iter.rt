@@ -33,6 +33,11 @@ impl<'a, 'h, A: Automaton> FindIter<'a, 'h, A> {
     /// It is refused exactly where `start_state` refuses the input's anchoring.
     pub(crate) fn new(automaton: &'a A, input: Input<'h>) -> Result<FindIter<'a, 'h, A>, MatchError>
         requires of { (p : Patterns) × A.is_of automaton.now p }
+        ensures made { IfOk result (λ it. it ≡ record {
+          automaton = automaton.entry;
+          input = input.entry;
+          last_match_end = None;
+        }) }
         ensures ready { IfOk result (λ it.
             ⟦<FindIter<'a, 'h, A> as Iterator>⟧.can_next it) }
         ensures finds { (p : Patterns) → A.is_of automaton.entry.now p → IfOk result (λ it.

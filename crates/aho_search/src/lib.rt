@@ -5,4 +5,5 @@ pub mod automaton;
 pub mod find;
 pub mod iter;
 pub mod overlapping;
+pub mod replace;
 pub mod walk;

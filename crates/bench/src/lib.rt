@@ -29,6 +29,8 @@ pub mod plain;
 #[cfg(test)]
 mod reading;
 #[cfg(test)]
+mod replacing;
+#[cfg(test)]
 mod rows;
 #[cfg(test)]
 mod scripted;

@@ -1,0 +1,319 @@
+//! Replacement in memory: worked rows, and short inputs against a plain replacement that goes from byte to byte.
+
+ghost use Rattle.std.specs.Prelude.{◌≡◌, length};
+ghost use Rattle.aho_base.specs.Patterns.{Patterns};
+
+use crate::automata::nfa_of;
+use crate::listing::finds;
+use crate::pattern_set::PatternSet;
+use aho_base::error::ReplaceError;
+use aho_base::search::{Input, Match, MatchKind, PatternID};
+use aho_corasick::noncontiguous::NFA;
+use aho_search::automaton::Automaton;
+use std::alloc::{AllocError, Global};
+use std::process::Abort;
+use std::test::Fail;
+
+/// A haystack with what is wanted in its place, where each pattern is replaced by its piece.
+struct Row {
+    name: &'static str,
+    kind: MatchKind,
+    patterns: &'static [&'static [u8]],
+    pieces: &'static [&'static str],
+    haystack: &'static str,
+    /// What the text becomes.
+    text: &'static str,
+    /// What its bytes become.
+    bytes: &'static [u8],
+}
+
+const ROWS: &[Row] = &[
+    Row {
+        name: "each word by another",
+        kind: MatchKind::Standard,
+        patterns: &[b"fox", b"brown", b"quick"],
+        pieces: &["sloth", "grey", "slow"],
+        haystack: "The quick brown fox.",
+        text: "The slow grey sloth.",
+        bytes: b"The slow grey sloth.",
+    },
+    Row {
+        name: "an empty pattern among letters",
+        kind: MatchKind::LeftmostLongest,
+        patterns: &[b""],
+        pieces: &["-"],
+        haystack: "ab",
+        text: "-a-b-",
+        bytes: b"-a-b-",
+    },
+    Row {
+        name: "an empty pattern at a letter of two bytes",
+        kind: MatchKind::LeftmostLongest,
+        patterns: &[b""],
+        pieces: &["-"],
+        haystack: "é",
+        text: "-é-",
+        bytes: &[0x2d, 0xc3, 0x2d, 0xa9, 0x2d],
+    },
+    Row {
+        name: "a byte inside a letter",
+        kind: MatchKind::Standard,
+        patterns: &[&[0xa9]],
+        pieces: &["e"],
+        haystack: "é",
+        text: "é",
+        bytes: &[0xc3, 0x65],
+    },
+    Row {
+        name: "a skipped match between two others",
+        kind: MatchKind::Standard,
+        patterns: &[&[0xa9], b"a"],
+        pieces: &["e", "o"],
+        haystack: "aéa",
+        text: "oéo",
+        bytes: &[0x6f, 0xc3, 0x65, 0x6f],
+    },
+    Row {
+        name: "no patterns",
+        kind: MatchKind::LeftmostFirst,
+        patterns: &[],
+        pieces: &[],
+        haystack: "aé",
+        text: "aé",
+        bytes: &[0x61, 0xc3, 0xa9],
+    },
+];
+
+/// The bytes of these texts.
+fn bytes_of<'t>(alloc: Global, texts: &[&'t str]) -> Result<Vec<&'t [u8]>, AllocError> {
+    let mut all = Vec::new(alloc);
+    for text in texts {
+        all.push(text.as_bytes())?;
+    }
+    Ok(all)
+}
+
+#[test]
+fn rows_are_replaced(rt: HostRuntime) -> Result<(), Fail> {
+    let alloc = rt.alloc();
+    for row in ROWS {
+        let nfa = nfa_of(&rt, alloc, row.patterns, row.kind, false);
+        let pieces = bytes_of(alloc, row.pieces)?;
+        assert_eq!(&rt; row.pieces.len(), nfa.patterns_len(), "{}", row.name);
+        assert_eq!(&rt; pieces.len(), nfa.patterns_len(), "{}", row.name);
+        let text = nfa.try_replace_all(alloc, row.haystack, row.pieces)?;
+        assert_eq!(&rt; text.as_str(), row.text, "{}", row.name);
+        let bytes = nfa.try_replace_all_bytes(alloc, row.haystack.as_bytes(), &pieces)?;
+        assert_eq!(&rt; bytes.as_slice(), row.bytes, "{}", row.name);
+    }
+    Ok(())
+}
+
+#[test]
+fn the_rest_is_copied_after_false(rt: HostRuntime) -> Result<(), Fail> {
+    let nfa = nfa_of(&rt, rt.alloc(), &[b"a"], MatchKind::Standard, false);
+    let mut dst = Vec::new(rt.alloc());
+    nfa.try_replace_all_with_bytes(b"aba", &mut dst, |_m, _matched, dst| {
+        dst.extend_from_slice(b"X")?;
+        Ok(false)
+    })?;
+    assert_eq!(&rt; dst.as_slice(), b"Xba".as_slice());
+    Ok(())
+}
+
+#[test]
+fn want_of_memory_leaves_what_was_appended(rt: HostRuntime) -> Result<(), Fail> {
+    let nfa = nfa_of(&rt, rt.alloc(), &[b"a"], MatchKind::Standard, false);
+    let mut dst = Vec::from_slice(rt.alloc(), b"z")?;
+    let answer = nfa.try_replace_all_with_bytes(b"bac", &mut dst, |_m, _matched, dst| {
+        dst.extend_from_slice(b"X")?;
+        Err(AllocError)
+    });
+    assert_eq!(&rt; answer, Err(ReplaceError::Memory));
+    assert_eq!(&rt; dst.as_slice(), b"zbX".as_slice());
+    Ok(())
+}
+
+#[test]
+fn what_the_destination_had_stays_before(rt: HostRuntime) -> Result<(), Fail> {
+    let nfa = nfa_of(&rt, rt.alloc(), &[b"a"], MatchKind::Standard, false);
+    let mut dst = String::new(rt.alloc());
+    dst.push_str("z")?;
+    nfa.try_replace_all_with("bac", &mut dst, |_m, _matched, dst| {
+        dst.push_str("X")?;
+        Ok(true)
+    })?;
+    assert_eq!(&rt; dst.as_str(), "zbXc");
+    Ok(())
+}
+
+/// Patterns with their pieces, and texts to be searched.
+struct Case {
+    name: &'static str,
+    patterns: &'static [&'static [u8]],
+    pieces: &'static [&'static str],
+    haystacks: &'static [&'static str],
+}
+
+const SHORT: &[&str] = &[
+    "", "a", "b", "ab", "ba", "aa", "aab", "aba", "abb", "bab", "abab", "aabb", "ababa", "bbaab",
+];
+
+const LETTERS: &[&str] = &["", "a", "é", "aé", "éa", "éé", "aéa", "éaé", "aéèa", "日a本"];
+
+const CASES: &[Case] = &[
+    Case {
+        name: "an empty pattern and two letters",
+        patterns: &[b"", b"ab"],
+        pieces: &["-", "xyz"],
+        haystacks: SHORT,
+    },
+    Case {
+        name: "an empty piece",
+        patterns: &[b"a", b"bb"],
+        pieces: &["", "abba"],
+        haystacks: SHORT,
+    },
+    Case {
+        name: "patterns that begin others",
+        patterns: &[b"ab", b"a", b"abab", b"ba"],
+        pieces: &["1", "22", "", "é"],
+        haystacks: SHORT,
+    },
+    Case {
+        name: "parts of letters",
+        patterns: &[&[0xc3], &[0xa9], &[0xa9, 0x61], &[0x97]],
+        pieces: &["1", "2", "3", "4"],
+        haystacks: LETTERS,
+    },
+    Case {
+        name: "letters and parts of them",
+        patterns: &[&[0xc3, 0xa9], b"", &[0xa9], &[0xe6, 0x9c, 0xac], b"a"],
+        pieces: &["e", ".", "2", "moto", "é"],
+        haystacks: LETTERS,
+    },
+];
+
+const KINDS: [MatchKind; 3] = [
+    MatchKind::Standard,
+    MatchKind::LeftmostFirst,
+    MatchKind::LeftmostLongest,
+];
+
+/// The haystack from byte to byte: at each place the pieces of the matches that start there, and then the byte, unless a
+/// match has it.
+fn plainly_replaced(
+    alloc: Global,
+    haystack: &[u8],
+    matches: &[Match],
+    pieces: &[&[u8]],
+) -> Result<Vec<u8>, AllocError> {
+    let mut bytes = Vec::new(alloc);
+    for at in 0..=haystack.len() {
+        let mut is_matched = false;
+        for m in matches {
+            if m.start() == at && let Some(piece) = pieces.get(m.pattern().as_usize()) {
+                bytes.extend_from_slice(piece)?;
+            }
+            is_matched |= m.start() <= at && at < m.end();
+        }
+        if !is_matched && let Some(byte) = haystack.get(at) {
+            bytes.push(*byte)?;
+        }
+    }
+    Ok(bytes)
+}
+
+/// The matches that start and end at character boundaries.
+fn on_boundaries(alloc: Global, text: &str, matches: &[Match]) -> Result<Vec<Match>, AllocError> {
+    let mut kept = Vec::new(alloc);
+    for m in matches {
+        if text.is_char_boundary(m.start()) && text.is_char_boundary(m.end()) {
+            kept.push(*m)?;
+        }
+    }
+    Ok(kept)
+}
+
+/// Each call replaces as the plain replacement does, and a closure that appends what matched changes nothing.
+fn replaces_as_plainly(
+    rt: &impl Abort,
+    alloc: Global,
+    case: &Case,
+    kind: MatchKind,
+    nfa: &NFA,
+    text: &str,
+) -> Result<(), Fail>
+    requires of { (p : Patterns) × ⟦<NFA as Automaton>⟧.is_of nfa.now p }
+{
+    let (name, texts) = (case.name, case.pieces);
+    let pieces = bytes_of(alloc, texts)?;
+    assert!(rt; case.patterns.len() <= PatternID::MAX.as_usize());
+    assert_eq!(rt; texts.len(), nfa.patterns_len());
+    assert_eq!(rt; pieces.len(), nfa.patterns_len());
+    let patterns = PatternSet::new(case.patterns, kind, false);
+    let matches = finds(alloc, &patterns, Input::new(text.as_bytes()))?;
+    let kept = on_boundaries(alloc, text, &matches)?;
+    let bytes_wanted = plainly_replaced(alloc, text.as_bytes(), &matches, &pieces)?;
+    let text_wanted = plainly_replaced(alloc, text.as_bytes(), &kept, &pieces)?;
+
+    let bytes = nfa.try_replace_all_bytes(alloc, text.as_bytes(), &pieces)?;
+    assert_eq!(rt; bytes.as_slice(), bytes_wanted.as_slice(), "{name}: {kind:?} {text:?}");
+    let replaced = nfa.try_replace_all(alloc, text, texts)?;
+    assert_eq!(rt; replaced.as_bytes(), text_wanted.as_slice(), "{name}: {kind:?} {text:?}");
+
+    let mut bytes = Vec::new(alloc);
+    nfa.try_replace_all_with_bytes(text.as_bytes(), &mut bytes, |m, _matched, dst| {
+        if let Some(piece) = pieces.get(m.pattern().as_usize()) {
+            dst.extend_from_slice(piece)?;
+        }
+        Ok(true)
+    })?;
+    assert_eq!(rt; bytes.as_slice(), bytes_wanted.as_slice(), "{name}: {kind:?} {text:?} by a closure");
+    let mut replaced = String::new(alloc);
+    nfa.try_replace_all_with(text, &mut replaced, |m, _matched, dst| {
+        if let Some(piece) = texts.get(m.pattern().as_usize()) {
+            dst.push_str(piece)?;
+        }
+        Ok(true)
+    })?;
+    assert_eq!(rt; replaced.as_bytes(), text_wanted.as_slice(), "{name}: {kind:?} {text:?} by a closure");
+    Ok(())
+}
+
+#[test]
+fn short_inputs_are_replaced(rt: HostRuntime) -> Result<(), Fail> {
+    for case in CASES {
+        for kind in KINDS {
+            let nfa = nfa_of(&rt, rt.alloc(), case.patterns, kind, false);
+            for text in case.haystacks {
+                replaces_as_plainly(&rt, rt.alloc(), case, kind, &nfa, text)?;
+            }
+        }
+    }
+    Ok(())
+}
+
+#[test]
+fn what_matched_in_its_place_changes_nothing(rt: HostRuntime) -> Result<(), Fail> {
+    for case in CASES {
+        let nfa = nfa_of(&rt, rt.alloc(), case.patterns, MatchKind::LeftmostFirst, false);
+        for text in case.haystacks {
+            for goes_on in [false, true] {
+                let mut bytes = Vec::new(rt.alloc());
+                nfa.try_replace_all_with_bytes(text.as_bytes(), &mut bytes, |_m, matched, dst| {
+                    dst.extend_from_slice(matched)?;
+                    Ok(goes_on)
+                })?;
+                assert_eq!(&rt; bytes.as_slice(), text.as_bytes(), "{}: {text:?}", case.name);
+                let mut same = String::new(rt.alloc());
+                nfa.try_replace_all_with(text, &mut same, |_m, matched, dst| {
+                    dst.push_str(matched)?;
+                    Ok(goes_on)
+                })?;
+                assert_eq!(&rt; same.as_str(), *text, "{}: {text:?}", case.name);
+            }
+        }
+    }
+    Ok(())
+}
