@@ -16,6 +16,8 @@ mod calls;
 mod compiling;
 #[cfg(test)]
 mod inputs;
+#[cfg(test)]
+mod iteration;
 pub mod listing;
 #[cfg(test)]
 mod lookups;
