@@ -1,5 +1,5 @@
 -- What an iterator over matches has before and after it gives the next one.
-use Rattle.std.specs.Prelude.{◌≡◌, ℕ, suc, ◌+◌, ◌-◌, Bool, false, nat_eq, cond, List, [], ◌∷◌, Option, Some, None}
+use Rattle.std.specs.Prelude.{◌≡◌, ℕ, suc, ◌+◌, ◌-◌, ◌<◌, Bool, false, nat_eq, cond, List, [], ◌∷◌, Option, Some, None}
 use Rattle.aho_base.specs.Iteration.{IsNextFind}
 use Rattle.aho_base.specs.Occurrence.{Occurrence}
 use Rattle.aho_base.specs.Patterns.{Patterns}
@@ -27,6 +27,8 @@ places_left search last = search.end + 1 - search.start - cond (ended_at last se
 -- what was given is the next find, whatever patterns the automaton is of, and the search goes on after it
 pub record GivesNext (IsOf : Patterns → Type 0) (search : Search) (last : Option ℕ) (found : Option Occurrence) (search' : Search) (last' : Option ℕ) : Type 0 where
   pub next : (p : Patterns) → IsOf p → IsNextFind p search last found
+  -- nothing is left of a search that is done, so that none comes again after none
+  pub done : search.end < search.start → found ≡ None
   pub goes_on : search' ≡ search_after search found
   pub ended : last' ≡ last_after last found
 

@@ -96,6 +96,7 @@ impl<'a, 'h, A: Automaton> FindIter<'a, 'h, A> {
         ensures next { (p : Patterns) → A.is_of self.old.automaton.now p →
             IsNextFind p self.old.input self.old.last_match_end result }
         ensures within { IfSome result (λ m. m.end ≤ self.old.input.end) }
+        ensures done { self.old.input.end < self.old.input.start → result ≡ None }
         ensures fewer { IfSome result (λ m. places_left (search_after self.old.input result)
             (last_after self.old.last_match_end result)
             < places_left self.old.input self.old.last_match_end) }

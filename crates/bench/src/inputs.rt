@@ -1,10 +1,12 @@
-//! Every short input, and random ones: the automaton answers and lists what the plain program does.
+//! Every short input, and random ones: the automaton answers and lists what the plain program does, and iteration gives
+//! what it lists.
 
 ghost use Rattle.std.specs.Prelude.{◌+◌, ◌<◌, ◌≤◌, length};
 ghost use Rattle.aho_base.specs.Patterns.{Patterns};
 
 use crate::automata::{builder_of, nfa_by, nfa_of};
-use crate::listing::{all, anchored};
+use crate::callers::all_matches;
+use crate::listing::{all, anchored, finds};
 use crate::overlaps::{found_by_calls, found_by_iterator};
 use crate::pattern_set::PatternSet;
 use crate::plain::plain;
@@ -21,9 +23,26 @@ const KINDS: [MatchKind; 3] = [
     MatchKind::LeftmostLongest,
 ];
 
+/// The same input again.
+fn copy_of<'h>(input: &Input<'h>) -> Input<'h> {
+    Input::new(input.haystack())
+        .span(input.get_span())
+        .anchored(input.get_anchored())
+        .earliest(input.get_earliest())
+}
+
+/// How matches are asked for.
+#[derive(Clone, Copy)]
+enum Way {
+    Once,
+    OneAfterAnother,
+}
+
 /// Searches this span in each way. A message tells the case by its name.
 fn search_span(
     rt: &impl Abort,
+    alloc: Global,
+    way: Way,
     name: &str,
     patterns: &PatternSet<'_>,
     nfa: &NFA,
@@ -40,23 +59,37 @@ fn search_span(
                 .span(span)
                 .anchored(anchored)
                 .earliest(earliest);
-            let answer = nfa.try_find(&input).expect(rt, "an answer");
-            assert_eq!(rt;
-                answer,
-                plain(patterns, &input),
-                "{name}: {patterns:?} {haystack:?} {span:?} {anchored:?} earliest {earliest}"
-            );
+            let case = (name, patterns, haystack, span, anchored, earliest);
+            match way {
+                Way::Once => {
+                    let answer = nfa.try_find(&input).expect(rt, "an answer");
+                    assert_eq!(rt; answer, plain(patterns, &input), "{case:?}");
+                }
+                Way::OneAfterAnother => {
+                    let wanted = finds(alloc, patterns, copy_of(&input)).expect(rt, "memory");
+                    let found = all_matches(alloc, nfa, input).expect(rt, "memory");
+                    assert_eq!(rt; found, wanted, "{case:?} by iteration");
+                }
+            }
         }
     }
 }
 
 /// Searches every span of this haystack in each way.
-fn search_spans(rt: &impl Abort, name: &str, patterns: &PatternSet<'_>, nfa: &NFA, haystack: &[u8])
+fn search_spans(
+    rt: &impl Abort,
+    alloc: Global,
+    way: Way,
+    name: &str,
+    patterns: &PatternSet<'_>,
+    nfa: &NFA,
+    haystack: &[u8],
+)
     requires of { (p : Patterns) × ⟦<NFA as Automaton>⟧.is_of nfa.now p }
 {
     for end in 0..=haystack.len() {
         for start in 0..=end + 1 {
-            search_span(rt, name, patterns, nfa, haystack, Span { start, end });
+            search_span(rt, alloc, way, name, patterns, nfa, haystack, Span { start, end });
         }
     }
 }
@@ -192,6 +225,8 @@ const SIZES: [(usize, usize); 7] = [(0, 1), (1, 2), (2, 4), (3, 8), (4, 16), (5,
 /// Searches each haystack of these sizes.
 fn search_haystacks(
     rt: &impl Abort,
+    alloc: Global,
+    way: Way,
     case: &Case,
     patterns: &PatternSet<'_>,
     nfa: &NFA,
@@ -203,21 +238,31 @@ fn search_haystacks(
         for number in 0..*count {
             let haystack = haystack_of(number, case.letters);
             assert!(rt; *size <= haystack.len());
-            search_spans(rt, case.name, patterns, nfa, &haystack[..*size]);
+            search_spans(rt, alloc, way, case.name, patterns, nfa, &haystack[..*size]);
+        }
+    }
+}
+
+/// Searches the haystacks of these sizes for the patterns of each case, at each of the match kinds.
+fn search_cases(rt: &impl Abort, alloc: Global, way: Way, sizes: &[(usize, usize)]) {
+    for case in CASES {
+        assert!(rt; case.patterns.len() <= PatternID::MAX.as_usize());
+        for kind in KINDS {
+            let patterns = PatternSet::new(case.patterns, kind, case.ignore_case);
+            let nfa = nfa_of(rt, alloc, case.patterns, kind, case.ignore_case);
+            search_haystacks(rt, alloc, way, case, &patterns, &nfa, sizes);
         }
     }
 }
 
 #[test]
 fn short_inputs_are_searched(rt: HostRuntime) {
-    for case in CASES {
-        assert!(rt; case.patterns.len() <= PatternID::MAX.as_usize());
-        for kind in KINDS {
-            let patterns = PatternSet::new(case.patterns, kind, case.ignore_case);
-            let nfa = nfa_of(&rt, rt.alloc(), case.patterns, kind, case.ignore_case);
-            search_haystacks(&rt, case, &patterns, &nfa, &SIZES);
-        }
-    }
+    search_cases(&rt, rt.alloc(), Way::Once, &SIZES);
+}
+
+#[test]
+fn shorter_inputs_are_iterated(rt: HostRuntime) {
+    search_cases(&rt, rt.alloc(), Way::OneAfterAnother, &SIZES[..5]);
 }
 
 #[test]
@@ -298,7 +343,7 @@ fn settings_change_no_answer(rt: HostRuntime) {
                     .prefilter(settings.prefilter)
                     .limits(settings.limits);
                 let nfa = nfa_by(&rt, rt.alloc(), &builder, case.patterns);
-                search_haystacks(&rt, case, &patterns, &nfa, &SIZES[..4]);
+                search_haystacks(&rt, rt.alloc(), Way::Once, case, &patterns, &nfa, &SIZES[..4]);
             }
         }
     }
@@ -372,10 +417,12 @@ fn search_random(
                 let patterns = PatternSet::new(&words, kind, ignore_case);
                 let nfa = nfa_of(rt, alloc, &words, kind, ignore_case);
                 let haystack = random.range(&bytes, 12);
-                search_spans(rt, name, &patterns, &nfa, haystack);
+                search_spans(rt, alloc, Way::Once, name, &patterns, &nfa, haystack);
                 if kind == MatchKind::Standard {
                     list_spans(rt, alloc, name, &patterns, &nfa, haystack)?;
                 }
+                let haystack = random.range(&bytes, 8);
+                search_spans(rt, alloc, Way::OneAfterAnother, name, &patterns, &nfa, haystack);
             }
         }
     }

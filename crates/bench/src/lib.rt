@@ -18,6 +18,8 @@ mod compiling;
 mod devices;
 #[cfg(test)]
 mod inputs;
+#[cfg(test)]
+mod iteration;
 pub mod listing;
 #[cfg(test)]
 mod lookups;

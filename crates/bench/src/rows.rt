@@ -1,11 +1,11 @@
 //! Worked rows: what a search answers, what iteration gives and what an overlapping search lists, for words that a reader
-//! can check by hand. One table; the test goes over it with the plain program and, for what a search answers and what an
-//! overlapping search lists, with the automaton.
+//! can check by hand. One table; the test goes over it with the plain program and with the automaton.
 
 ghost use Rattle.std.specs.Prelude.{◌+◌, ◌≤◌, length};
 ghost use Rattle.aho_base.specs.Patterns.{Patterns};
 
 use crate::automata::nfa_of;
+use crate::callers::all_matches;
 use crate::listing::{all, anchored, finds};
 use crate::overlaps::{found_by_calls, found_by_iterator};
 use crate::pattern_set::PatternSet;
@@ -205,6 +205,15 @@ const ROWS: &[Row] = &[
         haystack: b"ab",
         span: Some(Span { start: 3, end: 2 }),
         want: Want::First(None),
+        ..PLAIN
+    },
+    Row {
+        name: "iteration over a span that starts above its end",
+        kinds: ANY,
+        patterns: &[b"", b"a"],
+        haystack: b"ab",
+        span: Some(Span { start: 3, end: 2 }),
+        want: Want::Finds(&[]),
         ..PLAIN
     },
     Row {
@@ -441,6 +450,29 @@ fn listed(
     all_found(alloc, &matches)
 }
 
+/// What iteration over the automaton gives.
+fn iterated(
+    alloc: Global,
+    row: &Row,
+    nfa: &NFA,
+    input: Input<'_>,
+) -> Result<Vec<Found>, AllocError>
+    requires of { (p : Patterns) × ⟦<NFA as Automaton>⟧.is_of nfa.now p }
+{
+    match row.want {
+        Want::Finds(_) => all_found(alloc, &all_matches(alloc, nfa, input)?),
+        Want::First(_) | Want::Listing(_) => Ok(Vec::new(alloc)),
+    }
+}
+
+/// Whether iteration over the automaton is to give this.
+fn is_iterated(row: &Row, found: &[Found]) -> bool {
+    match row.want {
+        Want::Finds(want) => found == want,
+        Want::First(_) | Want::Listing(_) => found.is_empty(),
+    }
+}
+
 /// Whether this is what is wanted of a row.
 fn is_wanted(row: &Row, answer: Option<Found>, listed: &[Found]) -> bool {
     match row.want {
@@ -485,11 +517,16 @@ fn row_is_met(rt: &impl Abort, alloc: Global, row: &Row, kind: MatchKind) -> Res
     let nfa = nfa_of(rt, alloc, row.patterns, kind, row.ignore_case);
     assert_eq!(rt; nfa.try_find(&input)?, answer, "{kind:?} {row:?}");
     is_listed(rt, alloc, row, &nfa, input.clone()?)?;
+    let iterated = iterated(alloc, row, &nfa, input_of(row, span))?;
     let listed = listed(alloc, row, &patterns, input)?;
     let found = answer.map(found_of);
     assert!(rt;
         is_wanted(row, found, &listed),
         "{kind:?} {row:?}: {found:?} {listed:?}"
+    );
+    assert!(rt;
+        is_iterated(row, &iterated),
+        "{kind:?} {row:?}: {iterated:?} by iteration"
     );
     Ok(())
 }
