@@ -5,14 +5,15 @@ ghost use Rattle.aho_base.specs.Answer.{IsAnswer};
 ghost use Rattle.aho_base.specs.Iteration.{AreFinds};
 ghost use Rattle.aho_base.specs.Occurrence.{Occurrence};
 ghost use Rattle.aho_base.specs.Patterns.{Patterns};
-ghost use Rattle.aho_base.specs.Search.{search_of};
+ghost use Rattle.aho_base.specs.Replacement.{pieces_of, replaced};
+ghost use Rattle.aho_base.specs.Search.{plain_search, search_of};
 ghost use Rattle.aho_base.specs.declared.search.Anchored.TheVariants.{No, Yes};
 ghost use Rattle.aho_build.specs.Items.{patterns_of};
 ghost use Rattle.aho_build.specs.Settings.{default_settings};
 ghost use Rattle.aho_search.specs.Finding.{AreFirstFinds};
 ghost use Rattle.bench.specs.Callers.{both_cases};
 
-use aho_base::error::BuildError;
+use aho_base::error::{BuildError, ReplaceError};
 use aho_base::search::{Anchored, Bytes, Input, Match, MatchKind, Span};
 use aho_corasick::answers::answer_of;
 use aho_corasick::noncontiguous::{Builder, NFA};
@@ -188,4 +189,30 @@ pub fn first_matches<A: Automaton>(
         .unwrap()
         .take(count)
         .collect(alloc)
+}
+
+/// The haystack with each match replaced by the bytes for its pattern. An `NFA` refuses no search.
+///
+/// There is one piece for each pattern.
+///
+/// # Errors
+///
+/// The error says that memory ran out.
+pub fn replaced_in(
+    alloc: Global,
+    nfa: &NFA,
+    haystack: &[u8],
+    pieces: &[&[u8]],
+) -> Result<Vec<u8>, AllocError>
+    requires of { (p : Patterns) × ⟦<NFA as Automaton>⟧.is_of nfa.now p }
+    requires one_each { length pieces.now ≡ length (⟦<NFA as Automaton>⟧.lengths nfa.now) }
+    ensures replaced { (p : Patterns) (ms : List Occurrence) →
+        ⟦<NFA as Automaton>⟧.is_of nfa.now p → AreFinds p (plain_search haystack.now) None ms →
+        IfOk result (λ bytes. bytes.items ≡ replaced haystack.now ms (pieces_of pieces.now)) }
+{
+    match nfa.try_replace_all_bytes(alloc, haystack, pieces) {
+        Ok(bytes) => Ok(bytes),
+        Err(ReplaceError::Memory) => Err(AllocError),
+        Err(ReplaceError::Match(_)) => unreachable!(),
+    }
 }
