@@ -7,7 +7,8 @@ ghost use Rattle.aho_base.specs.Iteration.{AreFinds};
 ghost use Rattle.aho_base.specs.Occurrence.{Occurrence};
 ghost use Rattle.aho_base.specs.Overlapping.{all_occurrences};
 ghost use Rattle.aho_base.specs.Patterns.{Patterns};
-ghost use Rattle.aho_base.specs.Search.{search_of};
+ghost use Rattle.aho_base.specs.Replacement.{pieces_of, replaced};
+ghost use Rattle.aho_base.specs.Search.{search_of, plain_search};
 ghost use Rattle.aho_base.specs.declared.search.Anchored.TheVariants.{No, Yes};
 ghost use Rattle.aho_base.specs.declared.search.MatchKind.TheVariants.{Standard};
 ghost use Rattle.aho_build.specs.Items.{patterns_of};
@@ -15,7 +16,7 @@ ghost use Rattle.aho_build.specs.Settings.{default_settings};
 ghost use Rattle.aho_search.specs.Finding.{AreFirstFinds};
 ghost use Rattle.bench.specs.Callers.{both_cases};
 
-use aho_base::error::{BuildError, StreamError};
+use aho_base::error::{BuildError, StreamError, ReplaceError};
 use aho_base::search::{Anchored, Bytes, Input, Match, MatchKind, Span};
 use aho_corasick::answers::answer_of;
 use aho_corasick::noncontiguous::{Builder, NFA};
@@ -252,4 +253,30 @@ pub fn ends_of_all(alloc: Global, nfa: &NFA, haystack: &[u8]) -> Result<Vec<usiz
         Err(_) => unreachable!(),
     }
     Ok(ends)
+}
+
+/// The haystack with each match replaced by the bytes for its pattern. An `NFA` refuses no search.
+///
+/// There is one piece for each pattern.
+///
+/// # Errors
+///
+/// The error says that memory ran out.
+pub fn replaced_in(
+    alloc: Global,
+    nfa: &NFA,
+    haystack: &[u8],
+    pieces: &[&[u8]],
+) -> Result<Vec<u8>, AllocError>
+    requires of { (p : Patterns) × ⟦<NFA as Automaton>⟧.is_of nfa.now p }
+    requires one_each { length pieces.now ≡ length (⟦<NFA as Automaton>⟧.lengths nfa.now) }
+    ensures replaced { (p : Patterns) (ms : List Occurrence) →
+        ⟦<NFA as Automaton>⟧.is_of nfa.now p → AreFinds p (plain_search haystack.now) None ms →
+        IfOk result (λ bytes. bytes.items ≡ replaced haystack.now ms (pieces_of pieces.now)) }
+{
+    match nfa.try_replace_all_bytes(alloc, haystack, pieces) {
+        Ok(bytes) => Ok(bytes),
+        Err(ReplaceError::Memory) => Err(AllocError),
+        Err(ReplaceError::Match(_)) => unreachable!(),
+    }
 }
