@@ -37,8 +37,8 @@ impl Model for Buffer {
 }
 
 impl Buffer {
-    /// An empty buffer that keeps `min_buffer_len` bytes at a roll, and one where that is 0. Its length is 8 times as many
-    /// bytes, and 65536 at least. It takes all its memory here, and want of it is the only error.
+    /// An empty buffer that keeps `min_buffer_len` bytes at a roll, and one where that is 0. Its length is 8 times as
+    /// many bytes, and 65536 at least. It takes all its memory here, and want of it is the only error.
     pub fn new(alloc: Global, min_buffer_len: usize) -> Result<Buffer, AllocError>
         requires small { min_buffer_len ≤ greatest_index }
         ensures empty { IfOk result (λ b. b.bytes ≡ []) }
@@ -91,9 +91,9 @@ impl Buffer {
         self.end = self.least;
     }
 
-    /// Reads at least once, and on until `min_buffer_len` bytes are held, a read is empty or fails, or `room` bytes were
-    /// read. No read asks for more than what is left of `room`. With no room at all nothing is read, and `PositionLimit` is
-    /// answered. What was read before a fault is kept. It takes no memory.
+    /// Reads at least once, and on until `min_buffer_len` bytes are held, a read is empty or fails, or `room` bytes
+    /// were read. No read asks for more than what is left of `room`. With no room at all nothing is read, and
+    /// `PositionLimit` is answered. What was read before a fault is kept. It takes no memory.
     pub fn fill<R: Source>(&mut self, source: &mut R, room: u64) -> Result<Filled, StreamError>
         requires free { length self.old.bytes < self.old.size }
         ensures gained { Gains self.old self.new (R.remaining source.old) (R.remaining source.new) }

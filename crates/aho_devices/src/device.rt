@@ -19,8 +19,8 @@ pub trait Source {
     /// How many reads that had room have given nothing.
     ghost empty_reads: { Self → ℕ };
 
-    /// Puts bytes at the front of `buf`, and says how many. None where there is room means that the stream has ended for
-    /// now: a later read may give more. A read that fails gives nothing.
+    /// Puts bytes at the front of `buf`, and says how many. None where there is room means that the stream has ended
+    /// for now: a later read may give more. A read that fails gives nothing.
     fn read(&mut self, buf: &mut [u8]) -> Result<usize, Fault>
         ensures within { IfOk result (λ count. count ≤ length buf.new) }
         ensures given { MatchResult result

@@ -96,7 +96,7 @@ pub fn lookups_of(nfa: &NFA, haystack: &[u8]) -> u128
     walk.lookups()
 }
 
-/// Writes to the sink what one fill of a buffer reads from the source, and answers how many bytes these are, at most `room`.
+/// Writes to the sink what one fill of a buffer reads from the source, `room` bytes at most, and answers how many.
 pub fn pass_on<R: Source, W: Sink>(
     alloc: Global,
     source: &mut R,
