@@ -52,26 +52,3 @@ impl fmt::Display for ReplaceError {
 }
 
 impl Error for ReplaceError {}
-
-#[cfg(test)]
-mod tests {
-    use super::*;
-    use std::test::Fail;
-
-    #[test]
-    fn replace_errors_are_told(rt: HostRuntime) -> Result<(), Fail> {
-        let alloc = rt.alloc();
-        let cases = [
-            (
-                ReplaceError::from(MatchError::unsupported_empty()),
-                "matching with an empty pattern string is not supported for this operation",
-            ),
-            (ReplaceError::from(AllocError), "out of memory"),
-        ];
-        for (error, want) in cases {
-            let text = format!(in alloc; "{}", error)?;
-            assert_eq!(rt; text.as_str(), want);
-        }
-        Ok(())
-    }
-}

@@ -68,31 +68,3 @@ impl fmt::Display for StreamError {
 }
 
 impl Error for StreamError {}
-
-#[cfg(test)]
-mod tests {
-    use super::*;
-    use crate::search::MatchKind;
-    use std::test::Fail;
-
-    #[test]
-    fn stream_errors_are_told(rt: HostRuntime) -> Result<(), Fail> {
-        let alloc = rt.alloc();
-        let cases = [
-            (
-                StreamError::from(MatchError::unsupported_stream(MatchKind::LeftmostFirst)),
-                "match kind LeftmostFirst does not support stream searching",
-            ),
-            (StreamError::Read(Fault), "read fault"),
-            (StreamError::Write(Fault), "write fault"),
-            (StreamError::WriteZero, "write took no bytes"),
-            (StreamError::from(AllocError), "out of memory"),
-            (StreamError::PositionLimit, "position limit reached"),
-        ];
-        for (error, want) in cases {
-            let text = format!(in alloc; "{}", error)?;
-            assert_eq!(rt; text.as_str(), want);
-        }
-        Ok(())
-    }
-}

@@ -1,6 +1,6 @@
 -- The state that is held is one of the automaton, and the look-ups so far pay for its depth.
 use Rattle.std.proofs.Common.{◌+◌, ◌*◌, ◌≤◌}
-use Rattle.bench.proofs.calls.assert_steps_agree_along.Given as goal
+use Rattle.bench_tests.proofs.calls.assert_steps_agree_along.Given as goal
 
 abbrev pub invariant-loop-at : goal.invariant-loop-at
 invariant-loop-at g l = record {

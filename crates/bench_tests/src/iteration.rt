@@ -3,9 +3,9 @@
 ghost use Rattle.aho_base.specs.Patterns.{Patterns};
 
 use crate::automata::nfa_of;
-use crate::callers::{first_matches, match_ends, matches_in};
-use crate::one_byte::OneByte;
-use crate::tally::Tally;
+use bench::callers::{first_matches, match_ends, matches_in};
+use bench::one_byte::OneByte;
+use bench::tally::Tally;
 use aho_base::error::MatchError;
 use aho_base::search::{Anchored, Input, Match, MatchKind, Span};
 use aho_search::automaton::Automaton;

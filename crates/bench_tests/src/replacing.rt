@@ -4,8 +4,8 @@ ghost use Rattle.std.specs.Prelude.{◌≡◌, length};
 ghost use Rattle.aho_base.specs.Patterns.{Patterns};
 
 use crate::automata::nfa_of;
-use crate::listing::finds;
-use crate::pattern_set::PatternSet;
+use bench::listing::finds;
+use bench::pattern_set::PatternSet;
 use aho_base::error::ReplaceError;
 use aho_base::search::{Input, Match, MatchKind, PatternID};
 use aho_corasick::noncontiguous::NFA;

@@ -5,11 +5,11 @@ ghost use Rattle.std.specs.Prelude.{◌+◌, ◌≤◌, length};
 ghost use Rattle.aho_base.specs.Patterns.{Patterns};
 
 use crate::automata::nfa_of;
-use crate::callers::all_matches;
-use crate::listing::{all, anchored, finds};
+use bench::callers::all_matches;
+use bench::listing::{all, anchored, finds};
 use crate::overlaps::{found_by_calls, found_by_iterator};
-use crate::pattern_set::PatternSet;
-use crate::plain::plain;
+use bench::pattern_set::PatternSet;
+use bench::plain::plain;
 use aho_base::search::{Anchored, Input, Match, MatchKind, PatternID, Span};
 use aho_corasick::noncontiguous::NFA;
 use aho_search::automaton::Automaton;

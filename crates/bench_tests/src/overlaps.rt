@@ -5,7 +5,7 @@ ghost use Rattle.aho_base.specs.Patterns.{Patterns};
 ghost use Rattle.aho_base.specs.Progress.{FitsSearch};
 
 use crate::automata::nfa_of;
-use crate::one_byte::OneByte;
+use bench::one_byte::OneByte;
 use aho_base::error::MatchError;
 use aho_base::search::{Anchored, Input, Match, MatchKind, PatternID, Span};
 use aho_search::automaton::{Automaton, OverlappingState};

@@ -4,9 +4,9 @@ ghost use Rattle.std.specs.Prelude.{◌+◌, ◌<◌, ◌≤◌, ◌^◌, length
 ghost use Rattle.aho_base.specs.Patterns.{Patterns};
 
 use crate::automata::nfa_of;
-use crate::one_byte::OneByte;
+use bench::one_byte::OneByte;
 use crate::reading::Reading;
-use crate::tally::Tally;
+use bench::tally::Tally;
 use aho_base::error::MatchError;
 use aho_base::search::{Anchored, Bytes, Input, MatchKind, Span, Text};
 use aho_search::automaton::{Automaton, Counted, find_in};

@@ -3,7 +3,7 @@
 ghost use Rattle.std.specs.Prelude.{◌+◌, ◌<◌, ◌^◌};
 
 use crate::automata::{listed, nfa_of, start_of, state_after};
-use crate::one_byte::OneByte;
+use bench::one_byte::OneByte;
 use aho_base::search::{Anchored, MatchKind, PatternID, StateID, Work};
 use aho_search::automaton::Automaton;
 use std::process::Abort;

@@ -1,0 +1,36 @@
+//! The tests of the libraries: the worked rows, every short input and random ones, refusals and limits, and devices whose
+//! calls go by a list.
+#![tactic(auto)]
+
+#[cfg(test)]
+mod automata;
+#[cfg(test)]
+mod building;
+#[cfg(test)]
+mod calls;
+#[cfg(test)]
+mod compiling;
+#[cfg(test)]
+mod devices;
+#[cfg(test)]
+mod errors;
+#[cfg(test)]
+mod inputs;
+#[cfg(test)]
+mod iteration;
+#[cfg(test)]
+mod lookups;
+#[cfg(test)]
+mod one_byte;
+#[cfg(test)]
+mod overlaps;
+#[cfg(test)]
+mod reading;
+#[cfg(test)]
+mod replacing;
+#[cfg(test)]
+mod rows;
+#[cfg(test)]
+mod scripted;
+#[cfg(test)]
+mod tables;
