@@ -1,6 +1,6 @@
-//! Worked rows: what a search answers, what iteration gives and what an overlapping search lists, for words that a reader
-//! can check by hand. One table; the test goes over it with the plain program and, for what a search answers and what an
-//! overlapping search lists, with the automaton.
+//! Worked rows: what a search answers, what iteration gives and what an overlapping search lists, for words that a
+//! reader can check by hand. One table; the test goes over it with the plain program and, for what a search answers and
+//! what an overlapping search lists, with the automaton.
 
 ghost use Rattle.std.specs.Prelude.{◌+◌, ◌≤◌, length};
 ghost use Rattle.aho_base.specs.Patterns.{Patterns};
@@ -450,8 +450,8 @@ fn is_wanted(row: &Row, answer: Option<Found>, listed: &[Found]) -> bool {
     }
 }
 
-/// The automaton lists what is wanted of a row whose listing is wanted, by its calls and, where it is not anchored, by its
-/// iterator.
+/// The automaton lists what is wanted of a row whose listing is wanted, by its calls and, where it is not anchored, by
+/// its iterator.
 fn is_listed(
     rt: &impl Abort,
     alloc: Global,
