@@ -27,9 +27,9 @@ ghost use Rattle.aho_base.specs.declared.search.Anchored.{Anchored};
 ghost use Rattle.aho_base.specs.declared.search.Anchored.TheVariants.{No, Yes};
 ghost use Rattle.aho_base.specs.declared.search.MatchKind.{MatchKind};
 ghost use Rattle.aho_base.specs.declared.search.MatchKind.TheVariants.{Standard};
-ghost use Rattle.aho_search.specs.Overlaps.{IsFused};
 ghost use Rattle.aho_base.specs.Steps.{GoesOn, IsPaid};
 ghost use Rattle.aho_search.specs.Finding.{AreFirstFinds};
+ghost use Rattle.aho_search.specs.Overlaps.{IsFused};
 
 pub use crate::find::find_in;
 pub use crate::iter::FindIter;
@@ -267,18 +267,18 @@ pub trait Automaton {
 
     /// Puts the next match of an overlapping search into the state, or none where all were found.
     ///
-    /// The matches come by end, then start, then number. An anchored search gives those that end where the bytes from the
-    /// span's start on begin some pattern, wherever in the span they start. The state is a fresh one, or one that calls on
-    /// this automaton and this input left; calls that were refused in between don't matter. Whether the input asks for the
-    /// earliest plays no part.
+    /// The matches come by end, then start, then number. An anchored search gives those that end where the bytes from
+    /// the span's start on begin some pattern, wherever in the span they start. The state is a fresh one, or one that
+    /// calls on this automaton and this input left; calls that were refused in between don't matter. Whether the input
+    /// asks for the earliest plays no part.
     ///
     /// It goes on where the call before stopped, and takes no memory.
     ///
     /// # Errors
     ///
-    /// A leftmost kind is refused first, with `UnsupportedOverlapping`, for a done input too and whatever the state. Then
-    /// a fresh state is refused exactly where `start_state` refuses the input's anchoring and the input is not done. A
-    /// refused call clears the state's match and changes nothing else.
+    /// A leftmost kind is refused first, with `UnsupportedOverlapping`, for a done input too and whatever the state.
+    /// Else a fresh state is refused exactly where `start_state` refuses the input's anchoring and the input is not
+    /// done, and a state that has begun never. A refused call clears the state's match and changes nothing else.
     final fn try_find_overlapping(
         &self,
         input: &Input,
@@ -297,6 +297,8 @@ pub trait Automaton {
         ensures refused { (reason : MatchErrorKind) → kind self.now ≡ Standard
             → state.old.id ≡ None → input.now.start ≤ input.now.end
             → start self.now input.now.anchored ≡ Err reason → result ≡ Err reason }
+        ensures begun { (sid : ℕ) → kind self.now ≡ Standard → state.old.id ≡ Some sid
+            → IsOk result }
         ensures cleared { IfErr result (λ _. state.new ≡ without_match state.old) }
         ensures done { kind self.now ≡ Standard → input.now.end < input.now.start
             → (result ≡ Ok tt) × (state.new ≡ without_match state.old) }

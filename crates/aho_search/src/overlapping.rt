@@ -9,11 +9,11 @@
 //!
 //! # How it goes on
 //!
-//! - Where the state lists one more pattern, that is the next match. Patterns that end together are read off the list by
-//!   their index, so a list costs time in proportion to its length, and no byte is read again.
+//! - Where the state lists one more pattern, that is the next match. Patterns that end together are read off the list
+//!   by their index, so a list costs time in proportion to its length, and no byte is read again.
 //! - Else it walks to the next state that lists a pattern, and gives the first of them.
-//! - An anchored search ends at a dead state: from there on the bytes begin no pattern. Any other search walks to the end
-//!   of its span, for the laws say of a dead state that the best match stays, and not that none ends later.
+//! - An anchored search ends at a dead state: from there on the bytes begin no pattern. Any other search walks to the
+//!   end of its span, for the laws say of a dead state that the best match stays, and not that none ends later.
 
 ghost use Rattle.std.specs.Iterator.{at_most};
 ghost use Rattle.std.specs.Prelude.{◌≡◌, ◌≢◌, ℕ, ◌+◌, ◌<◌, ◌≤◌, ◌^◌, min, IsOk, IfOk, IfErr, IfSome, Ok, Err, None, Some, length, slice_get, slice_index};
@@ -146,7 +146,8 @@ fn give<A: Automaton>(automaton: &A, sid: StateID, at: usize, index: usize) -> O
     requires fits { Fits (A.lengths automaton.now) at (A.list automaton.now sid) }
     requires room { index + 1 < 2 ^ 64 }
     ensures given { result ≡ record {
-      mat = Some (ended (A.lengths automaton.now) at (slice_index (A.list automaton.now sid) index));
+      mat = Some (ended (A.lengths automaton.now) at
+          (slice_index (A.list automaton.now sid) index));
       id = Some sid;
       at = at;
       next_match_index = Some (index + 1);
@@ -216,6 +217,8 @@ pub(crate) fn find_overlapping<A: Automaton>(
     ensures refused { (reason : MatchErrorKind) → A.kind automaton.now ≡ Standard
         → state.old.id ≡ None → input.now.start ≤ input.now.end
         → A.start automaton.now input.now.anchored ≡ Err reason → result ≡ Err reason }
+    ensures begun { (sid : ℕ) → A.kind automaton.now ≡ Standard → state.old.id ≡ Some sid
+        → IsOk result }
     ensures cleared { IfErr result (λ _. state.new ≡ without_match state.old) }
 
     // What is found.
@@ -284,10 +287,11 @@ impl<'a, 'h, A: Automaton> Iterator for FindOverlappingIter<'a, 'h, A> {
     ghost can_next = { λ it. CanGive A.is_of A.kind A.start A.valid A.held it.automaton.now it.input
         it.state };
 
-    ghost next_gives = { λ it given after. GivesNext A.is_of A.valid A.held it.automaton.now it.input
-        it.state given after.automaton.now after.input after.state };
+    ghost next_gives = { λ it given after. GivesNext A.is_of A.valid A.held it.automaton.now
+        it.input it.state given after.automaton.now after.input after.state };
 
-    ghost remaining = { λ it. at_most (left (length (A.lengths it.automaton.now)) it.input it.state) };
+    ghost remaining = { λ it.
+        at_most (left (length (A.lengths it.automaton.now)) it.input it.state) };
 
     fn next(&mut self) -> Option<Match> {
         let _found = find_overlapping(self.automaton, &self.input, &mut self.state);

@@ -111,13 +111,25 @@ fn list_span(
     let input = Input::new(haystack).span(span);
     let want = all(alloc, patterns, haystack, span)?;
     let by_calls = found_by_calls(rt, alloc, nfa, &input)?;
-    assert_eq!(rt; by_calls, want, "{name}: {patterns:?} {haystack:?} {span:?}");
+    assert_eq!(rt;
+        by_calls,
+        want,
+        "{name}: {patterns:?} {haystack:?} {span:?}"
+    );
     let from_start = input.clone()?.anchored(Anchored::Yes);
     let by_iterator = found_by_iterator(rt, alloc, nfa, input)?;
-    assert_eq!(rt; by_iterator, want, "{name}: iterator {patterns:?} {haystack:?} {span:?}");
+    assert_eq!(rt;
+        by_iterator,
+        want,
+        "{name}: iterator {patterns:?} {haystack:?} {span:?}"
+    );
     let want = anchored(alloc, patterns, haystack, span)?;
     let by_calls = found_by_calls(rt, alloc, nfa, &from_start)?;
-    assert_eq!(rt; by_calls, want, "{name}: anchored {patterns:?} {haystack:?} {span:?}");
+    assert_eq!(rt;
+        by_calls,
+        want,
+        "{name}: anchored {patterns:?} {haystack:?} {span:?}"
+    );
     Ok(())
 }
 
@@ -134,7 +146,15 @@ fn list_spans(
 {
     for end in 0..=haystack.len() {
         for start in 0..=end + 1 {
-            list_span(rt, alloc, name, patterns, nfa, haystack, Span { start, end })?;
+            list_span(
+                rt,
+                alloc,
+                name,
+                patterns,
+                nfa,
+                haystack,
+                Span { start, end },
+            )?;
         }
     }
     Ok(())
@@ -281,7 +301,14 @@ fn short_inputs_are_listed(rt: HostRuntime) -> Result<(), Fail> {
             for number in 0..count {
                 let haystack = haystack_of(number, case.letters);
                 assert!(rt; size <= haystack.len());
-                list_spans(&rt, rt.alloc(), case.name, &patterns, &nfa, &haystack[..size])?;
+                list_spans(
+                    &rt,
+                    rt.alloc(),
+                    case.name,
+                    &patterns,
+                    &nfa,
+                    &haystack[..size],
+                )?;
             }
         }
     }

@@ -86,7 +86,11 @@ fn a_refused_call_leaves_the_search_where_it_was(rt: HostRuntime) -> Result<(), 
     assert_eq!(rt; state.get_match(), None, "after the refused call");
     assert_eq!(rt; copy.get_match(), match_of(&rt, 0, 0, 1), "a clone");
     standard.try_find_overlapping(&input, &mut state)?;
-    assert_eq!(rt; state.get_match(), match_of(&rt, 0, 1, 2), "the second call");
+    assert_eq!(rt;
+        state.get_match(),
+        match_of(&rt, 0, 1, 2),
+        "the second call"
+    );
     Ok(())
 }
 

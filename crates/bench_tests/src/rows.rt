@@ -482,8 +482,8 @@ fn is_wanted(row: &Row, answer: Option<Found>, listed: &[Found]) -> bool {
     }
 }
 
-/// The automaton lists what is wanted of a row whose listing is wanted, by its calls and, where it is not anchored, by its
-/// iterator.
+/// The automaton lists what is wanted of a row whose listing is wanted, by its calls and, where it is not anchored, by
+/// its iterator.
 fn is_listed(
     rt: &impl Abort,
     alloc: Global,
