@@ -24,8 +24,13 @@ const KINDS: [MatchKind; 3] = [
 
 /// The same input again.
 fn copy_of<'h>(input: &Input<'h>) -> Input<'h> {
+    let end = input.end();
+    let span = Span {
+        start: input.start(),
+        end,
+    };
     Input::new(input.haystack())
-        .span(input.get_span())
+        .span(span)
         .anchored(input.get_anchored())
         .earliest(input.get_earliest())
 }
@@ -88,7 +93,16 @@ fn search_spans(
 {
     for end in 0..=haystack.len() {
         for start in 0..=end + 1 {
-            search_span(rt, alloc, way, name, patterns, nfa, haystack, Span { start, end });
+            search_span(
+                rt,
+                alloc,
+                way,
+                name,
+                patterns,
+                nfa,
+                haystack,
+                Span { start, end },
+            );
         }
     }
 }
@@ -273,7 +287,15 @@ fn settings_change_no_answer(rt: HostRuntime) {
                     .prefilter(settings.prefilter)
                     .limits(settings.limits);
                 let nfa = nfa_by(&rt, rt.alloc(), &builder, case.patterns);
-                search_haystacks(&rt, rt.alloc(), Way::Once, case, &patterns, &nfa, &SIZES[..4]);
+                search_haystacks(
+                    &rt,
+                    rt.alloc(),
+                    Way::Once,
+                    case,
+                    &patterns,
+                    &nfa,
+                    &SIZES[..4],
+                );
             }
         }
     }
@@ -349,7 +371,15 @@ fn search_random(
                 let haystack = random.range(&bytes, 12);
                 search_spans(rt, alloc, Way::Once, name, &patterns, &nfa, haystack);
                 let haystack = random.range(&bytes, 8);
-                search_spans(rt, alloc, Way::OneAfterAnother, name, &patterns, &nfa, haystack);
+                search_spans(
+                    rt,
+                    alloc,
+                    Way::OneAfterAnother,
+                    name,
+                    &patterns,
+                    &nfa,
+                    haystack,
+                );
             }
         }
     }
