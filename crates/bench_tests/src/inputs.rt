@@ -25,8 +25,13 @@ const KINDS: [MatchKind; 3] = [
 
 /// The same input again.
 fn copy_of<'h>(input: &Input<'h>) -> Input<'h> {
+    let end = input.end();
+    let span = Span {
+        start: input.start(),
+        end,
+    };
     Input::new(input.haystack())
-        .span(input.get_span())
+        .span(span)
         .anchored(input.get_anchored())
         .earliest(input.get_earliest())
 }
@@ -89,7 +94,16 @@ fn search_spans(
 {
     for end in 0..=haystack.len() {
         for start in 0..=end + 1 {
-            search_span(rt, alloc, way, name, patterns, nfa, haystack, Span { start, end });
+            search_span(
+                rt,
+                alloc,
+                way,
+                name,
+                patterns,
+                nfa,
+                haystack,
+                Span { start, end },
+            );
         }
     }
 }
@@ -370,7 +384,15 @@ fn settings_change_no_answer(rt: HostRuntime) {
                     .prefilter(settings.prefilter)
                     .limits(settings.limits);
                 let nfa = nfa_by(&rt, rt.alloc(), &builder, case.patterns);
-                search_haystacks(&rt, rt.alloc(), Way::Once, case, &patterns, &nfa, &SIZES[..4]);
+                search_haystacks(
+                    &rt,
+                    rt.alloc(),
+                    Way::Once,
+                    case,
+                    &patterns,
+                    &nfa,
+                    &SIZES[..4],
+                );
             }
         }
     }
@@ -449,7 +471,15 @@ fn search_random(
                     list_spans(rt, alloc, name, &patterns, &nfa, haystack)?;
                 }
                 let haystack = random.range(&bytes, 8);
-                search_spans(rt, alloc, Way::OneAfterAnother, name, &patterns, &nfa, haystack);
+                search_spans(
+                    rt,
+                    alloc,
+                    Way::OneAfterAnother,
+                    name,
+                    &patterns,
+                    &nfa,
+                    haystack,
+                );
             }
         }
     }

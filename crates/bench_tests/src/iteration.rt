@@ -18,8 +18,16 @@ fn found_of(m: Match) -> (usize, usize, usize) {
 
 #[test]
 fn none_comes_again(rt: HostRuntime) {
-    let nfa = nfa_of(&rt, rt.alloc(), &[b"xyz", b""], MatchKind::LeftmostFirst, false);
-    let mut it = nfa.try_find_iter(Input::new(b"x")).expect(&rt, "an iterator");
+    let nfa = nfa_of(
+        &rt,
+        rt.alloc(),
+        &[b"xyz", b""],
+        MatchKind::LeftmostFirst,
+        false,
+    );
+    let mut it = nfa
+        .try_find_iter(Input::new(b"x"))
+        .expect(&rt, "an iterator");
     assert_eq!(rt; it.next().map(found_of), Some((1, 0, 0)));
     assert_eq!(rt; it.next().map(found_of), Some((1, 1, 1)));
     assert_eq!(rt; it.next(), None);
@@ -31,8 +39,14 @@ fn callers_are_given_matches(rt: HostRuntime) -> Result<(), Fail> {
     let alloc = rt.alloc();
     let nfa = nfa_of(&rt, alloc, &[b"ab", b"b"], MatchKind::Standard, false);
     assert_eq!(rt; matches_in(alloc, &nfa, b"abxb")?.len(), 2);
-    assert_eq!(rt; match_ends(alloc, &nfa, Input::new(b"abxb"))?.as_slice(), [2, 4].as_slice());
-    assert_eq!(rt; first_matches(alloc, &nfa, Input::new(b"abxb"), 1)?.len(), 1);
+    assert_eq!(rt;
+        match_ends(alloc, &nfa, Input::new(b"abxb"))?.as_slice(),
+        [2, 4].as_slice()
+    );
+    assert_eq!(rt;
+        first_matches(alloc, &nfa, Input::new(b"abxb"), 1)?.len(),
+        1
+    );
     Ok(())
 }
 
@@ -40,10 +54,16 @@ fn callers_are_given_matches(rt: HostRuntime) -> Result<(), Fail> {
 fn other_automata_are_iterated(rt: HostRuntime) -> Result<(), Fail> {
     let one = OneByte::new(b'w');
     let input = Input::new(b"wow");
-    assert_eq!(rt; match_ends(rt.alloc(), &one, input)?.as_slice(), [1, 3].as_slice());
+    assert_eq!(rt;
+        match_ends(rt.alloc(), &one, input)?.as_slice(),
+        [1, 3].as_slice()
+    );
     let tally = Tally::new(one);
     let input = Input::new(b"wow");
-    assert_eq!(rt; match_ends(rt.alloc(), &tally, input)?.as_slice(), [1, 3].as_slice());
+    assert_eq!(rt;
+        match_ends(rt.alloc(), &tally, input)?.as_slice(),
+        [1, 3].as_slice()
+    );
     assert_eq!(rt; tally.steps(), 3);
     Ok(())
 }
@@ -54,6 +74,10 @@ fn a_refusal_comes_before_the_first_match(rt: HostRuntime) {
     for span in [Span { start: 0, end: 3 }, Span { start: 3, end: 2 }] {
         let input = Input::new(b"wow").span(span).anchored(Anchored::Yes);
         let refusal = one.try_find_iter(input).err();
-        assert_eq!(rt; refusal, Some(MatchError::invalid_input_anchored()), "{span:?}");
+        assert_eq!(rt;
+            refusal,
+            Some(MatchError::invalid_input_anchored()),
+            "{span:?}"
+        );
     }
 }

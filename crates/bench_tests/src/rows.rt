@@ -451,12 +451,7 @@ fn listed(
 }
 
 /// What iteration over the automaton gives.
-fn iterated(
-    alloc: Global,
-    row: &Row,
-    nfa: &NFA,
-    input: Input<'_>,
-) -> Result<Vec<Found>, AllocError>
+fn iterated(alloc: Global, row: &Row, nfa: &NFA, input: Input<'_>) -> Result<Vec<Found>, AllocError>
     requires of { (p : Patterns) × ⟦<NFA as Automaton>⟧.is_of nfa.now p }
 {
     match row.want {
