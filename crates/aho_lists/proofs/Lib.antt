@@ -1,0 +1,4 @@
+pub mod Runs
+pub mod Stores
+pub mod Changes
+pub mod TransitionRuns
