@@ -132,3 +132,10 @@ passed-next (pass apart rises rest) ne less = pass apart rises (passed-next rest
 pub last-passed : {X : Type 0} {entries : Entries X} {last at : ℕ} {xs : List X} → IsRun entries last at xs → IsPassed entries last last at
 last-passed (here is eq) = stop is
 last-passed (on ne less run eq) = pass ne less (last-passed run)
+
+-- from a place that is passed the run goes on
+pub run-from : {X : Type 0} {entries : Entries X} {last place at : ℕ} {xs : List X} → IsRun entries last at xs → IsPassed entries last place at → (ys : List X) × IsRun entries last place ys
+run-from {X = X} {entries = entries} {last = last} {xs = xs} (here is eq) (stop same) = (xs, subst (λ (n : ℕ). IsRun entries last n xs) same (here is eq))
+run-from (here is eq) (pass ne rises rest) = absurd (ne is)
+run-from {X = X} {entries = entries} {last = last} {xs = xs} (on ne less run eq) (stop same) = (xs, subst (λ (n : ℕ). IsRun entries last n xs) same (on ne less run eq))
+run-from (on ne less run eq) (pass apart rises rest) = run-from run rest

@@ -1,5 +1,6 @@
 -- The vectors of the stores: what stands at each place.
-use Rattle.std.specs.Prelude.{◌≡◌, ◌≢◌, ℕ, zero, suc, ◌+◌, ◌<◌, ◌≤◌, ◌⊎◌, List, [], ◌∷◌, ◌++◌, length, slice_index_or}
+use Rattle.std.specs.Prelude.{◌≡◌, ◌≢◌, ℕ, zero, suc, ◌+◌, ◌<◌, ◌≤◌, ◌⊎◌, List, [], ◌∷◌, ◌++◌, length, map, slice_index_or, slice_set}
+use Rattle.std.specs.List.{range_with_len}
 use Rattle.aho_lists.specs.Rings.{Entries, AreRings, IsRun, IsPassed}
 use Rattle.aho_lists.specs.declared.transitions.Transition.{Transition}
 use Rattle.aho_lists.specs.declared.matches.Match.{Match}
@@ -15,6 +16,24 @@ transition_entries entries = record {
   link = λ place. (transition_of entries place).link;
   key = λ place. (transition_of entries place).byte;
 }
+
+-- the entries of a list in which every byte leads to the same state, where the first of them has this index
+unfoldable pub full_entries : ℕ → ℕ → List Transition
+full_entries first next =
+    map (λ byte. record { byte = byte; next = next; link = first + byte + 1 }) (range_with_len 0 255) ++ record { byte = 255; next = next; link = first } ∷ []
+
+-- the entries, where the one at this place leads to another state
+abbrev pub redirected : List Transition → ℕ → ℕ → List Transition
+redirected entries place next = slice_set entries place (record (transition_of entries place) { next = next })
+
+-- the entries, where the one at this place links to another
+abbrev pub relinked : List Transition → ℕ → ℕ → List Transition
+relinked entries place link = slice_set entries place (record (transition_of entries place) { link = link })
+
+-- the entries and one more, which stands in a list behind this place
+abbrev pub linked_behind : List Transition → ℕ → ℕ → ℕ → List Transition
+linked_behind entries place byte next =
+    relinked entries place (length entries) ++ record { byte = byte; next = next; link = (transition_of entries place).link } ∷ []
 
 abbrev pub match_of : List Match → ℕ → Match
 match_of entries place = slice_index_or entries place (record { pattern = 0; link = 0 })

@@ -1,5 +1,5 @@
 -- Lists in one vector: each entry links to the next of its list, and the last one back to the first.
-use Rattle.std.specs.Prelude.{◌≡◌, ◌≢◌, ℕ, zero, suc, ◌-◌, ◌<◌, ◌≤◌, List, [], ◌∷◌, map, nat_eq, nat_lt, if◌then◌else◌}
+use Rattle.std.specs.Prelude.{Option, Some, None, IfSome, ◌≡◌, ◌≢◌, ℕ, zero, suc, ◌-◌, ◌<◌, ◌≤◌, List, [], ◌∷◌, map, nat_eq, nat_lt, if◌then◌else◌}
 use Rattle.std.specs.List.{range_with_len}
 
 -- what stands at each place: an item, the place that it links to, and a key, which rises along a list
@@ -29,6 +29,11 @@ list_ending entries last =
 unfoldable pub lists_of : {X : Type 0} → Entries X → ℕ → List (List X)
 lists_of entries count = map (list_ending entries) (range_with_len 0 count)
 
+-- what is left of a list from a place on
+unfoldable pub rest_from : {X : Type 0} → Entries X → Option ℕ → ℕ → List X
+rest_from entries None last = []
+rest_from entries (Some at) last = list_to entries at last
+
 -- the links from this place lead to the last one, where keys rise on the way, and pass these items
 pub data IsRun {X : Type 0} (entries : Entries X) (last : ℕ) : ℕ → List X → Type 0 where
   here : {at : ℕ} {xs : List X} → at ≡ last → xs ≡ entries.item last ∷ [] → IsRun entries last at xs
@@ -45,3 +50,8 @@ pub record AreRings {X : Type 0} (entries : Entries X) (count : ℕ) : Type 0 wh
   pub some : 0 < count
   pub within : (i : ℕ) → i < count → entries.link i < count
   pub joined : (last : ℕ) → 0 < last → last < count → entries.key (entries.link last) ≤ entries.key last → (xs : List X) × IsRun entries last (entries.link last) xs
+
+-- a walk along a list: it is at an entry from which the links lead to the last one, or at its end
+pub record IsWalk {X : Type 0} (entries : Entries X) (count : ℕ) (at : Option ℕ) (last : ℕ) : Type 0 where
+  pub within : (i : ℕ) → i < count → entries.link i < count
+  pub on_list : IfSome at (λ place. (place < count) × (xs : List X) × IsRun entries last place xs)

@@ -30,7 +30,7 @@ abbrev pub is_above : List (ℕ × ℕ) → ℕ → Bool
 is_above transitions byte = list_all (λ transition. nat_lt transition.0 byte) transitions
 
 -- the list in which every byte leads to the same state
-abbrev pub full_list : ℕ → List (ℕ × ℕ)
+unfoldable pub full_list : ℕ → List (ℕ × ℕ)
 full_list next = map (λ byte. (byte, next)) (range_with_len 0 256)
 
 -- ---- a store after a byte of the list of this number was led to a state

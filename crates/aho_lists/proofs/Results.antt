@@ -1,0 +1,20 @@
+-- What a `?` answers.
+use Rattle.std.proofs.Common.{◌≡◌, ◌<◌, ℕ, Bool, true, false, eqb, arith, Result, Ok, Err, sym, subst}
+use Rattle.std.specs.Prelude.{IfErr, IsErrAnd, OnOk}
+use Rattle.std.proofs.lemmas.Bool.Decides.{nat_tests}
+
+-- the error that was given is the one that is answered
+pub IfErr-given : {X E : Type 0} (P : E → Type 0) (result : Result X E) (error : E) → IsErrAnd result (λ e. e ≡ error) → P error → IfErr result P
+IfErr-given P (Ok x) error is holds = tt
+IfErr-given P (Err e) error is holds = subst P (sym is) holds
+
+-- what the test of a number against 0 tells
+pub is_zero : (number : ℕ) (test : Bool) → test ≡ eqb number 0 → test ≡ true → number ≡ 0
+is_zero number test is holds = grind (arith, nat_tests)
+
+pub is_some : (number : ℕ) (test : Bool) → test ≡ eqb number 0 → test ≡ false → 0 < number
+is_some number test is fails = grind (arith, nat_tests)
+
+pub OnOk-more : {X E : Type 0} {P Q : Type 0} (result : Result X E) → (P → Q) → OnOk result P → OnOk result Q
+OnOk-more (Ok x) more holds = more holds
+OnOk-more (Err e) more holds = tt
