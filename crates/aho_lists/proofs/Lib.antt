@@ -6,3 +6,4 @@ pub mod TransitionStores
 pub mod TransitionGaps
 pub mod TransitionChanges
 pub mod Results
+pub mod Walks

@@ -34,6 +34,10 @@ unfoldable pub rest_from : {X : Type 0} → Entries X → Option ℕ → ℕ →
 rest_from entries None last = []
 rest_from entries (Some at) last = list_to entries at last
 
+-- where a walk goes from a place: along the link, and to the end from the last one
+abbrev pub place_after : ℕ → ℕ → ℕ → Option ℕ
+place_after link at last = if nat_eq at last then None else Some link
+
 -- the links from this place lead to the last one, where keys rise on the way, and pass these items
 pub data IsRun {X : Type 0} (entries : Entries X) (last : ℕ) : ℕ → List X → Type 0 where
   here : {at : ℕ} {xs : List X} → at ≡ last → xs ≡ entries.item last ∷ [] → IsRun entries last at xs

@@ -3,3 +3,4 @@
 
 pub mod matches;
 pub mod transitions;
+mod walk;

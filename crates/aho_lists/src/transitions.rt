@@ -14,6 +14,7 @@ ghost use Rattle.aho_lists.specs.Lists.{list_at, IsList, with_list_behind};
 ghost use Rattle.aho_lists.specs.TransitionList.{transition_at, lists_transition, IsRising, full_list, number_after, set_transition_in};
 ghost use Rattle.aho_lists.specs.Inside.{transition_of, transition_entries, IsGapBehind, IsOn, redirected, relinked, linked_behind, full_entries};
 
+use crate::walk::place_after;
 use aho_base::error::BuildError;
 use aho_base::search::{SmallIndex, StateID};
 use std::alloc::{AllocError, Global};
@@ -240,13 +241,11 @@ impl<'t> Iterator for Transitions<'t> {
     ghost remaining = { item_count (λ rest. rest) };
 
     fn next(&mut self) -> Option<(u8, StateID)> {
-        let at = self.at?;
-        let transition = entry(self.entries, at);
-        self.at = if at == self.last {
-            None
-        } else {
-            Some(transition.link)
+        let Some(at) = self.at else {
+            return None;
         };
+        let transition = entry(self.entries, at);
+        self.at = place_after(transition.link, at, self.last);
         Some((transition.byte, transition.next))
     }
 }
