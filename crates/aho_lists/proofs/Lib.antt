@@ -7,3 +7,5 @@ pub mod TransitionGaps
 pub mod TransitionChanges
 pub mod Results
 pub mod Walks
+pub mod FullLists
+pub mod MatchChanges

@@ -17,10 +17,13 @@ transition_entries entries = record {
   key = λ place. (transition_of entries place).byte;
 }
 
--- the entries of a list in which every byte leads to the same state, where the first of them has this index
-unfoldable pub full_entries : ℕ → ℕ → List Transition
-full_entries first next =
-    map (λ byte. record { byte = byte; next = next; link = first + byte + 1 }) (range_with_len 0 255) ++ record { byte = 255; next = next; link = first } ∷ []
+-- an entry for each byte below this one, which lead to the same state, where the first has this index; each links to the next
+unfoldable pub byte_entries : ℕ → ℕ → ℕ → List Transition
+byte_entries first next bytes = map (λ byte. record { byte = byte; next = next; link = first + byte + 1 }) (range_with_len 0 bytes)
+
+-- an entry for each byte: the last one links back to the first
+abbrev pub full_entries : ℕ → ℕ → List Transition
+full_entries first next = byte_entries first next 255 ++ record { byte = 255; next = next; link = first } ∷ []
 
 -- the entries, where the one at this place leads to another state
 abbrev pub redirected : List Transition → ℕ → ℕ → List Transition
@@ -37,6 +40,13 @@ linked_behind entries place byte next =
 
 abbrev pub match_of : List Match → ℕ → Match
 match_of entries place = slice_index_or entries place (record { pattern = 0; link = 0 })
+
+abbrev pub relinked_match : List Match → ℕ → ℕ → List Match
+relinked_match entries place link = slice_set entries place (record (match_of entries place) { link = link })
+
+-- the entries and one more, which stands in a list behind this place
+abbrev pub matched_behind : List Match → ℕ → ℕ → List Match
+matched_behind entries place pattern = relinked_match entries place (length entries) ++ record { pattern = pattern; link = (match_of entries place).link } ∷ []
 
 -- a match's key is its place
 abbrev pub match_entries : List Match → Entries ℕ

@@ -22,3 +22,7 @@ with_list_behind lists items = lists ++ (replicate (length items - 1) [] ++ item
 -- the list of this number has none any more
 abbrev pub without : {X : Type 0} → List (List X) → ℕ → List (List X)
 without lists number = slice_set lists number []
+
+-- an item is added at the end of the list of this number, whose number is then that of a new entry
+abbrev pub push_in : {X : Type 0} → List (List X) → ℕ → X → List (List X)
+push_in lists number item = without lists number ++ (list_at lists number ++ item ∷ []) ∷ []

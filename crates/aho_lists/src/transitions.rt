@@ -7,14 +7,13 @@
 ghost use Rattle.std.specs.Prelude.{◌≡◌, ℕ, ◌≢◌, ◌+◌, ◌<◌, ◌≤◌, ◌∷◌, ◌++◌, [], length, true, IsOk, IfOk, IfErr, OnOk, OnErr, min, take, unwrap_or};
 ghost use Rattle.std.specs.Iterator.{YieldsFirst, item_count};
 ghost use Rattle.aho_base.specs.Numbers.{greatest_index};
-ghost use Rattle.aho_base.specs.declared.error.BuildError.TheVariants.{StateIDOverflow};
 ghost use Rattle.aho_lists.specs.Refusal.{refusal_at};
 ghost use Rattle.aho_lists.specs.Rings.{AreRings, IsRun};
 ghost use Rattle.aho_lists.specs.Lists.{list_at, IsList, with_list_behind};
 ghost use Rattle.aho_lists.specs.TransitionList.{transition_at, lists_transition, IsRising, full_list, number_after, set_transition_in};
 ghost use Rattle.aho_lists.specs.Inside.{transition_of, transition_entries, IsGapBehind, IsOn, redirected, relinked, linked_behind, full_entries};
 
-use crate::walk::place_after;
+use crate::walk::{overflow, place_after};
 use aho_base::error::BuildError;
 use aho_base::search::{SmallIndex, StateID};
 use std::alloc::{AllocError, Global};
@@ -365,17 +364,6 @@ fn insert_behind(
     let made = push(entries, limit, byte, next, Some(link))?;
     relink(entries, before, made);
     Ok(made)
-}
-
-/// The refusal of an index above the limit.
-fn overflow(limit: usize) -> BuildError
-    requires small { limit ≤ greatest_index }
-    ensures overflow { result ≡ StateIDOverflow (limit) (limit + 1) }
-{
-    BuildError::StateIDOverflow {
-        max: limit as u64,
-        requested: limit as u64 + 1,
-    }
 }
 
 /// An entry more for each byte, which lead to the same state: a list of their own.
