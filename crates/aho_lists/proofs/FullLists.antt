@@ -38,7 +38,7 @@ module _ (entries : List Transition) (next : ℕ) where
   abbrev filled : List Transition
   filled = entries ++ full_entries (length entries) next
 
-  length-filled : length filled ≡ length entries + 256
+  pub length-filled : length filled ≡ length entries + 256
   length-filled = omega (arith, length-append entries (full_entries (length entries) next), length_push (byte_entries (length entries) next 255) (record { byte = 255; next = next; link = length entries }), length-byte_entries (length entries) next 255)
 
   filled-old : (i : ℕ) → i < length entries → transition_of filled i ≡ transition_of entries i

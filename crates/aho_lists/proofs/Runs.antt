@@ -15,10 +15,10 @@ nat_eq-same a b is = grind (arith, nat_tests)
 nat_eq-other : (a b : ℕ) → a ≢ b → nat_eq a b ≡ false
 nat_eq-other a b ne = grind (arith, nat_tests)
 
-nat_lt-less : (a b : ℕ) → a < b → nat_lt a b ≡ true
+pub nat_lt-less : (a b : ℕ) → a < b → nat_lt a b ≡ true
 nat_lt-less a b less = grind (arith, nat_tests)
 
-nat_lt-not : (a b : ℕ) → b ≤ a → nat_lt a b ≡ false
+pub nat_lt-not : (a b : ℕ) → b ≤ a → nat_lt a b ≡ false
 nat_lt-not a b le = grind (arith, nat_tests)
 
 list_along-here : {X : Type 0} (entries : Entries X) (steps at last : ℕ) → at ≡ last → list_along entries (suc steps) at last ≡ entries.item last ∷ []
