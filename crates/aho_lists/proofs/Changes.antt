@@ -38,15 +38,15 @@ lists_of-set {X = X} old new count number items below others this =
     (length-lists_of new count ∙ sym (length-set (lists_of old count) number items ∙ length-lists_of old count))
     (λ k d lt. at k d (omega (arith, length-lists_of new count)))
   where
-  at : (k : ℕ) (d : List X) → k < count → get_or (lists_of new count) k d ≡ get_or (set (lists_of old count) number items) k d
-  at k d lt =
-      get_or_default (lists_of new count) k d [] (omega (arith, length-lists_of new count)) ∙ list_at-lists_of new count k lt
-      ∙ elim (cases_eq k number) [
-        | inl is ↦ ap (list_ending new) is ∙ this
-            ∙ sym (ap (λ (n : ℕ). get_or (set (lists_of old count) number items) n d) is ∙ get_or-set_same (lists_of old count) number items d (omega (arith, length-lists_of old count)))
-        | inr ne ↦ others k lt ne
-            ∙ sym (get_or-set_other (lists_of old count) number k items d ne ∙ get_or_default (lists_of old count) k d [] (omega (arith, length-lists_of old count)) ∙ list_at-lists_of old count k lt)
-      ]
+    at : (k : ℕ) (d : List X) → k < count → get_or (lists_of new count) k d ≡ get_or (set (lists_of old count) number items) k d
+    at k d lt =
+        get_or_default (lists_of new count) k d [] (omega (arith, length-lists_of new count)) ∙ list_at-lists_of new count k lt
+        ∙ elim (cases_eq k number) [
+          | inl is ↦ ap (list_ending new) is ∙ this
+              ∙ sym (ap (λ (n : ℕ). get_or (set (lists_of old count) number items) n d) is ∙ get_or-set_same (lists_of old count) number items d (omega (arith, length-lists_of old count)))
+          | inr ne ↦ others k lt ne
+              ∙ sym (get_or-set_other (lists_of old count) number k items d ne ∙ get_or_default (lists_of old count) k d [] (omega (arith, length-lists_of old count)) ∙ list_at-lists_of old count k lt)
+        ]
 
 -- ---- a changed vector
 
@@ -83,18 +83,20 @@ same_end : {X : Type 0} {old new : Entries X} {count place last : ℕ} → IsCha
 same_end {X = X} {old = old} {new = new} {count = count} {place = place} change rings i some below other ends =
     let joined = rings.joined i some below ends in
     let first = rings.within i below in
-    let link = change.links i below (apart change i i (old.item i ∷ []) other below ends (here refl refl)) in
-    (joined.0, record {
-      before = ends;
-      after = omega (arith, ap new.key link, change.keys i below, change.keys (old.link i) first);
-      run = joined.1;
-      new_run = subst (λ (n : ℕ). IsRun new i n joined.0) (sym link)
-          (run-kept (λ (at : ℕ). (at < count) × (xs : List X) × IsRun old i at xs)
-          (λ at on_run. let off = apart change i at on_run.1 other on_run.0 ends on_run.2 in
+    let link = change.links i below (apart change i i (old.item i ∷ []) other below ends (here refl refl)) in (
+      joined.0,
+      record {
+        before = ends;
+        after = omega (arith, ap new.key link, change.keys i below, change.keys (old.link i) first);
+        run = joined.1;
+        new_run = subst (λ (n : ℕ). IsRun new i n joined.0) (sym link)
+            (run-kept (λ (at : ℕ). (at < count) × (xs : List X) × IsRun old i at xs)
+            (λ at on_run. let off = apart change i at on_run.1 other on_run.0 ends on_run.2 in
             (change.items at on_run.0 off, change.keys at on_run.0, λ ne. change.links at on_run.0 off))
-          (λ at on_run ne less. let next = run-next on_run.2 ne in (rings.within at on_run.0, next.0, next.2))
-          (first, joined.0, joined.1) joined.1);
-    })
+            (λ at on_run ne less. let next = run-next on_run.2 ne in (rings.within at on_run.0, next.0, next.2))
+            (first, joined.0, joined.1) joined.1);
+      },
+    )
 
 same_inner : {X : Type 0} {old new : Entries X} {count place last : ℕ} → IsChange old new count place last → AreRings old count → (i : ℕ) → i < count → i ≢ last
     → old.key i < old.key (old.link i) → IsInner old new i
@@ -102,9 +104,9 @@ same_inner {old = old} {new = new} {place = place} {last = last} change rings i 
     record {
       before = less;
       after = elim (cases_eq i place) [
-          | inl is ↦ subst (λ (n : ℕ). new.key n < new.key (new.link n)) (sym is) (change.rises (omega arith) (λ e. other (is ∙ e)))
-          | inr ne ↦ omega (arith, ap new.key (change.links i below ne), change.keys i below, change.keys (old.link i) (rings.within i below))
-        ];
+        | inl is ↦ subst (λ (n : ℕ). new.key n < new.key (new.link n)) (sym is) (change.rises (omega arith) (λ e. other (is ∙ e)))
+        | inr ne ↦ omega (arith, ap new.key (change.links i below ne), change.keys i below, change.keys (old.link i) (rings.within i below))
+      ];
     }
 
 pub same_entry : {X : Type 0} {old new : Entries X} {count place last : ℕ} → IsChange old new count place last → AreRings old count → (i : ℕ) → 0 < i → i < count → i ≢ last
@@ -149,13 +151,13 @@ AreRings-changed {X = X} {old = old} {new = new} {count = count} {place = place}
     record {
       some = rings.some;
       within = λ i below. elim (cases_eq i place) [
-          | inl is ↦ subst (λ (n : ℕ). new.link n < count) (sym is) (inside (omega arith))
-          | inr ne ↦ rw (change.links i below ne) (rings.within i below)
-        ];
+        | inl is ↦ subst (λ (n : ℕ). new.link n < count) (sym is) (inside (omega arith))
+        | inr ne ↦ rw (change.links i below ne) (rings.within i below)
+      ];
       joined = λ i some below ends. elim (cases_eq i last) as (λ _. (ys : List X) × IsRun new i (new.link i) ys) [
-          | inl is ↦ (xs, subst (λ (n : ℕ). IsRun new n (new.link n) xs) (sym is) run)
-          | inr ne ↦ other_joined change rings i some below ne ends
-        ];
+        | inl is ↦ (xs, subst (λ (n : ℕ). IsRun new n (new.link n) xs) (sym is) run)
+        | inr ne ↦ other_joined change rings i some below ne ends
+      ];
     }
 
 -- ---- where the vector grows
@@ -179,10 +181,11 @@ lists_of-grown {X = X} {old = old} {new = new} {count = count} {place = place} {
     ∙ ap (λ (ls : List (List X)). ls ++ replicate (end - count) [] ++ all ∷ []) (lists_of-set old new count last [] below (λ i less other. other_lists change rings i less other) none)
     ∙ append_assoc (set (lists_of old count) last []) (replicate (end - count) []) (all ∷ [])
   where
-  at_end : end ≡ count + (end - count)
-  at_end = omega (arith, growth.more)
-  none : list_ending new last ≡ []
-  none = elim (cases_eq last 0) [
+    at_end : end ≡ count + (end - count)
+    at_end = omega (arith, growth.more)
+
+    none : list_ending new last ≡ []
+    none = elim (cases_eq last 0) [
       | inl is ↦ ap (list_ending new) is ∙ list_ending-zero new
       | inr ne ↦ list_ending-none new last (goes_on (omega arith))
     ]
@@ -194,39 +197,43 @@ AreRings-grown {X = X} {old = old} {new = new} {count = count} {place = place} {
     record {
       some = omega arith;
       within = λ i below. elim (cases_order i count) [
-          | inl is ↦ new_within i (omega arith) below
-          | inr apart ↦ elim apart [ | inl less ↦ old_within i less | inr more ↦ new_within i (omega arith) below ]
-        ];
+        | inl is ↦ new_within i (omega arith) below
+        | inr apart ↦ elim apart [ inl less ↦ old_within i less | inr more ↦ new_within i (omega arith) below ]
+      ];
       joined = λ i some below ends. elim (cases_order i end) as (λ _. (xs : List X) × IsRun new i (new.link i) xs) [
-          | inl is ↦ (all, subst (λ (n : ℕ). IsRun new n (new.link n) all) (sym is) run)
-          | inr apart ↦ elim apart as (λ _. (xs : List X) × IsRun new i (new.link i) xs) [ | inl less ↦ inner i some less ends | inr more ↦ absurd (omega arith) ]
-        ];
+        | inl is ↦ (all, subst (λ (n : ℕ). IsRun new n (new.link n) all) (sym is) run)
+        | inr apart ↦ elim apart as (λ _. (xs : List X) × IsRun new i (new.link i) xs) [ inl less ↦ inner i some less ends | inr more ↦ absurd (omega arith) ]
+      ];
     }
   where
-  old_within : (i : ℕ) → i < count → new.link i < end + 1
-  old_within i less = elim (cases_eq i place) [
+    old_within : (i : ℕ) → i < count → new.link i < end + 1
+    old_within i less = elim (cases_eq i place) [
       | inl is ↦ subst (λ (n : ℕ). new.link n < end + 1) (sym is) (omega (arith, linked (omega arith)))
       | inr ne ↦ omega (arith, change.links i less ne, rings.within i less, growth.more)
     ]
-  new_within : (i : ℕ) → count ≤ i → i < end + 1 → new.link i < end + 1
-  new_within i above below = elim (cases_eq i end) [
+
+    new_within : (i : ℕ) → count ≤ i → i < end + 1 → new.link i < end + 1
+    new_within i above below = elim (cases_eq i end) [
       | inl is ↦ subst (λ (n : ℕ). new.link n < end + 1) (sym is) (omega arith)
       | inr ne ↦ omega (arith, growth.inside i above (omega arith))
     ]
-  rising : (i : ℕ) → i ≡ last → 0 < i → new.key (new.link i) ≤ new.key i → ⊥
-  rising i is some ends = omega (arith, goes_on (omega arith), ap new.key is, ap (λ (n : ℕ). new.key (new.link n)) is)
-  lower : (i : ℕ) → 0 < i → i < count → new.key (new.link i) ≤ new.key i → (xs : List X) × IsRun new i (new.link i) xs
-  lower i some less ends = elim (cases_eq i last) as (λ _. (xs : List X) × IsRun new i (new.link i) xs) [
+
+    rising : (i : ℕ) → i ≡ last → 0 < i → new.key (new.link i) ≤ new.key i → ⊥
+    rising i is some ends = omega (arith, goes_on (omega arith), ap new.key is, ap (λ (n : ℕ). new.key (new.link n)) is)
+
+    lower : (i : ℕ) → 0 < i → i < count → new.key (new.link i) ≤ new.key i → (xs : List X) × IsRun new i (new.link i) xs
+    lower i some less ends = elim (cases_eq i last) as (λ _. (xs : List X) × IsRun new i (new.link i) xs) [
       | inl is ↦ absurd (rising i is some ends)
       | inr ne ↦ other_joined change rings i some less ne ends
     ]
-  inner : (i : ℕ) → 0 < i → i < end → new.key (new.link i) ≤ new.key i → (xs : List X) × IsRun new i (new.link i) xs
-  inner i some less ends = elim (cases_order i count) as (λ _. (xs : List X) × IsRun new i (new.link i) xs) [
+
+    inner : (i : ℕ) → 0 < i → i < end → new.key (new.link i) ≤ new.key i → (xs : List X) × IsRun new i (new.link i) xs
+    inner i some less ends = elim (cases_order i count) as (λ _. (xs : List X) × IsRun new i (new.link i) xs) [
       | inl is ↦ absurd (omega (arith, growth.rises i (omega arith) less))
       | inr apart ↦ elim apart as (λ _. (xs : List X) × IsRun new i (new.link i) xs) [
-          | inl low ↦ lower i some low ends
-          | inr high ↦ absurd (omega (arith, growth.rises i (omega arith) less))
-        ]
+        | inl low ↦ lower i some low ends
+        | inr high ↦ absurd (omega (arith, growth.rises i (omega arith) less))
+      ]
     ]
 
 -- one entry more between others of the list that ends at `last`
@@ -245,22 +252,23 @@ AreRings-inserted {X = X} {old = old} {new = new} {count = count} {place = place
     record {
       some = omega arith;
       within = λ i less. elim (cases_eq i count) [
-          | inl is ↦ subst (λ (n : ℕ). new.link n < count + 1) (sym is) (omega arith)
-          | inr ne ↦ old_within i (omega arith)
-        ];
+        | inl is ↦ subst (λ (n : ℕ). new.link n < count + 1) (sym is) (omega arith)
+        | inr ne ↦ old_within i (omega arith)
+      ];
       joined = λ i some less ends. elim (cases_eq i count) as (λ _. (xs : List X) × IsRun new i (new.link i) xs) [
-          | inl is ↦ absurd (rising i is ends)
-          | inr ne ↦ elim (cases_eq i last) as (λ _. (xs : List X) × IsRun new i (new.link i) xs) [
-              | inl same ↦ (all, subst (λ (n : ℕ). IsRun new n (new.link n) all) (sym same) run)
-              | inr other ↦ other_joined change rings i some (omega arith) other ends
-            ]
-        ];
+        | inl is ↦ absurd (rising i is ends)
+        | inr ne ↦ elim (cases_eq i last) as (λ _. (xs : List X) × IsRun new i (new.link i) xs) [
+          | inl same ↦ (all, subst (λ (n : ℕ). IsRun new n (new.link n) all) (sym same) run)
+          | inr other ↦ other_joined change rings i some (omega arith) other ends
+        ]
+      ];
     }
   where
-  rising : (i : ℕ) → i ≡ count → new.key (new.link i) ≤ new.key i → ⊥
-  rising i is ends = omega (arith, ap new.key is, ap (λ (n : ℕ). new.key (new.link n)) is)
-  old_within : (i : ℕ) → i < count → new.link i < count + 1
-  old_within i less = elim (cases_eq i place) [
+    rising : (i : ℕ) → i ≡ count → new.key (new.link i) ≤ new.key i → ⊥
+    rising i is ends = omega (arith, ap new.key is, ap (λ (n : ℕ). new.key (new.link n)) is)
+
+    old_within : (i : ℕ) → i < count → new.link i < count + 1
+    old_within i less = elim (cases_eq i place) [
       | inl is ↦ subst (λ (n : ℕ). new.link n < count + 1) (sym is) (omega arith)
       | inr ne ↦ omega (arith, change.links i less ne, rings.within i less)
     ]

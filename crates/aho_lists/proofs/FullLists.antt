@@ -80,9 +80,9 @@ module _ (entries : List Transition) (next : ℕ) where
       on (λ e. omega arith) (omega (arith, ap (λ (t : Transition). t.byte) this)) rest
       (ap (λ (x : ℕ × ℕ). x ∷ map (λ b. (b, next)) (range_with_len (byte + 1) (suc far))) (sym (ap (λ (t : Transition). (t.byte, t.next)) this)))
     where
-    far_key : (far byte at : ℕ) → far + byte ≡ 255 → at ≡ length entries + byte → (transition_entries filled).key at ≡ byte
-    far_key zero byte at sum is = ap (λ (t : Transition). t.byte) (filled-last at (omega arith)) ∙ omega arith
-    far_key (suc far) byte at sum is = ap (λ (t : Transition). t.byte) (filled-new at byte (omega arith) (omega arith) (omega arith))
+      far_key : (far byte at : ℕ) → far + byte ≡ 255 → at ≡ length entries + byte → (transition_entries filled).key at ≡ byte
+      far_key zero byte at sum is = ap (λ (t : Transition). t.byte) (filled-last at (omega arith)) ∙ omega arith
+      far_key (suc far) byte at sum is = ap (λ (t : Transition). t.byte) (filled-new at byte (omega arith) (omega arith) (omega arith))
 
   full-growth : IsGrowth (transition_entries filled) (length entries) (length entries + 255) (full_list next)
   unfolding full_list
@@ -93,17 +93,18 @@ module _ (entries : List Transition) (next : ℕ) where
     inside = λ i above below. let link = ap (λ (t : Transition). t.link) (filled-new i (i - length entries) above refl (omega arith)) in omega arith;
   }
     where
-    key_of : (byte at : ℕ) → byte ≤ 255 → at ≡ length entries + byte → (transition_entries filled).key at ≡ byte
-    key_of byte at le is = elim (cases_eq byte 255) [
+      key_of : (byte at : ℕ) → byte ≤ 255 → at ≡ length entries + byte → (transition_entries filled).key at ≡ byte
+      key_of byte at le is = elim (cases_eq byte 255) [
         | inl last ↦ ap (λ (t : Transition). t.byte) (filled-last at (omega arith)) ∙ sym last
         | inr ne ↦ ap (λ (t : Transition). t.byte) (filled-new at byte (omega arith) (omega arith) (omega arith))
       ]
-    rising : (i byte : ℕ) → length entries ≤ i → i - length entries ≡ byte → i < length entries + 255 → (transition_entries filled).key i < (transition_entries filled).key ((transition_entries filled).link i)
-    rising i byte above is below =
-        let this = filled-new i byte above is (omega arith) in
-        let link = ap (λ (t : Transition). t.link) this in
-        let there = key_of (byte + 1) ((transition_entries filled).link i) (omega arith) (omega arith) in
-        omega (arith, ap (λ (t : Transition). t.byte) this)
+
+      rising : (i byte : ℕ) → length entries ≤ i → i - length entries ≡ byte → i < length entries + 255 → (transition_entries filled).key i < (transition_entries filled).key ((transition_entries filled).link i)
+      rising i byte above is below =
+          let this = filled-new i byte above is (omega arith) in
+          let link = ap (λ (t : Transition). t.link) this in
+          let there = key_of (byte + 1) ((transition_entries filled).link i) (omega arith) (omega arith) in
+          omega (arith, ap (λ (t : Transition). t.byte) this)
 
   back-link : (transition_entries filled).link (length entries + 255) ≡ length entries
   back-link = ap (λ (t : Transition). t.link) (filled-last (length entries + 255) refl)

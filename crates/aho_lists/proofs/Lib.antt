@@ -9,3 +9,4 @@ pub mod Results
 pub mod Walks
 pub mod FullLists
 pub mod MatchChanges
+pub mod Families

@@ -30,7 +30,6 @@ relinked_match-pushed entries more place link below =
 
 module _ (entries new : List Match) (limit pattern : ℕ) (store : IsStore (match_entries entries) (length entries) limit)
     (pushed : new ≡ entries ++ record { pattern = pattern; link = length entries } ∷ []) where
-
   count_new : length new ≡ length entries + 1
   count_new = ap (λ (es : List Match). length es) pushed ∙ length_push entries (record { pattern = pattern; link = length entries })
 
@@ -83,7 +82,6 @@ module _ (entries new : List Match) (limit pattern : ℕ) (store : IsStore (matc
 -- ---- behind a list that there is
 
 module _ (entries : List Match) (limit list : ℕ) (store : IsStore (match_entries entries) (length entries) limit) (known : IsList (match_lists entries) list) (some : 0 < list) where
-
   pub match_list_in : list < length entries
   match_list_in = (is_last (match_entries entries) (length entries) list known some).0
 
@@ -120,9 +118,9 @@ module _ (entries : List Match) (limit list : ℕ) (store : IsStore (match_entri
 
     more-item : (i : ℕ) → i < length entries → (match_of new i).pattern ≡ (match_of entries i).pattern
     more-item i below = elim (cases_eq i list) [
-        | inl is ↦ subst (λ (n : ℕ). (match_of new n).pattern ≡ (match_of entries n).pattern) (sym is) (ap (λ (m : Match). m.pattern) more-last)
-        | inr ne ↦ ap (λ (m : Match). m.pattern) (more-other i below ne)
-      ]
+      | inl is ↦ subst (λ (n : ℕ). (match_of new n).pattern ≡ (match_of entries n).pattern) (sym is) (ap (λ (m : Match). m.pattern) more-last)
+      | inr ne ↦ ap (λ (m : Match). m.pattern) (more-other i below ne)
+    ]
 
     to_more : (match_entries new).link list ≡ length entries
     to_more = ap (λ (m : Match). m.link) more-last

@@ -1,6 +1,6 @@
 -- What a `?` answers.
 use Rattle.std.proofs.Common.{◌≡◌, ◌<◌, ◌≤◌, ◌+◌, refl, ℕ, Bool, true, false, eqb, arith, Result, Ok, Err, sym, subst}
-use Rattle.std.specs.Prelude.{IfErr, IsErrAnd, OnOk}
+use Rattle.std.specs.Prelude.{IfOk, IfErr, IsErrAnd, OnOk}
 use Rattle.std.proofs.lemmas.Bool.Decides.{nat_tests}
 use Rattle.aho_base.specs.declared.error.BuildError.TheVariants.{StateIDOverflow, OutOfMemory}
 use Rattle.aho_lists.specs.Refusal.{refusal_at}
@@ -27,3 +27,7 @@ overflow_at limit index above = rw (nat_lt-less limit index above) refl
 
 pub out_of_memory_at : (limit index : ℕ) → index ≤ limit → OutOfMemory ≡ refusal_at limit index
 out_of_memory_at limit index within = rw (nat_lt-not limit index within) refl
+
+pub IfOk-from : {X E : Type 0} {P Q : X → Type 0} {R : Type 0} (result : Result X E) → IfOk result P → OnOk result R → ((x : X) → P x → R → Q x) → IfOk result Q
+IfOk-from (Ok x) p r more = more x p r
+IfOk-from (Err e) p r more = tt

@@ -28,19 +28,20 @@ is_last {X = X} entries count number known some =
             | inr above ↦ absurd (past entries count number known some (omega arith))
           ]
     ] where
-  past : {X : Type 0} (entries : Entries X) (count number : ℕ) → IsList (lists_of entries count) number → 0 < number → count ≤ number → ⊥
-  past entries count number known some above =
-      let is = known (get_or_past (lists_of entries count) number [] (omega (arith, length-lists_of entries count))) in omega arith
-  ends : {X : Type 0} (entries : Entries X) (count number : ℕ) → IsList (lists_of entries count) number → 0 < number → number < count → entries.key (entries.link number) ≤ entries.key number
-  ends entries count number known some below =
-      elim (cases_order (entries.key number) (entries.key (entries.link number))) [
-        | inl is ↦ omega arith
-        | inr apart ↦
-            elim apart [
-              | inl less ↦ absurd (let is = known (list_at-lists_of entries count number below ∙ list_ending-none entries number less) in omega arith)
-              | inr more ↦ omega arith
-            ]
-      ]
+      past : {X : Type 0} (entries : Entries X) (count number : ℕ) → IsList (lists_of entries count) number → 0 < number → count ≤ number → ⊥
+      past entries count number known some above =
+          let is = known (get_or_past (lists_of entries count) number [] (omega (arith, length-lists_of entries count))) in omega arith
+
+      ends : {X : Type 0} (entries : Entries X) (count number : ℕ) → IsList (lists_of entries count) number → 0 < number → number < count → entries.key (entries.link number) ≤ entries.key number
+      ends entries count number known some below =
+          elim (cases_order (entries.key number) (entries.key (entries.link number))) [
+            | inl is ↦ omega arith
+            | inr apart ↦
+                elim apart [
+                  | inl less ↦ absurd (let is = known (list_at-lists_of entries count number below ∙ list_ending-none entries number less) in omega arith)
+                  | inr more ↦ omega arith
+                ]
+          ]
 
 -- and the list is what its run passes
 pub ring_at : {X : Type 0} (entries : Entries X) (count number : ℕ) → AreRings entries count → IsList (lists_of entries count) number → 0 < number
@@ -77,25 +78,26 @@ list_at-cases {X = X} entries count rings number =
       | inr apart ↦
           elim apart as (λ _. Cases) [
             | inl below ↦ elim (cases_eq number 0) as (λ _. Cases) [
-                | inl is ↦ inl (list_at-lists_of entries count number below ∙ ap (list_ending entries) is ∙ list_ending-zero entries)
-                | inr ne ↦ elim (cases_order (entries.key number) (entries.key (entries.link number))) as (λ _. Cases) [
-                    | inl is ↦ inr (at (omega arith) below (omega arith))
-                    | inr other ↦ elim other as (λ _. Cases) [
-                        | inl less ↦ inl (list_at-lists_of entries count number below ∙ list_ending-none entries number less)
-                        | inr more ↦ inr (at (omega arith) below (omega arith))
-                      ]
-                  ]
+              | inl is ↦ inl (list_at-lists_of entries count number below ∙ ap (list_ending entries) is ∙ list_ending-zero entries)
+              | inr ne ↦ elim (cases_order (entries.key number) (entries.key (entries.link number))) as (λ _. Cases) [
+                | inl is ↦ inr (at (omega arith) below (omega arith))
+                | inr other ↦ elim other as (λ _. Cases) [
+                  | inl less ↦ inl (list_at-lists_of entries count number below ∙ list_ending-none entries number less)
+                  | inr more ↦ inr (at (omega arith) below (omega arith))
+                ]
               ]
+            ]
             | inr above ↦ inl (get_or_past (lists_of entries count) number [] (omega (arith, length-lists_of entries count)))
           ]
     ]
   where
-  Cases : Type 0
-  Cases = (list_at (lists_of entries count) number ≡ []) ⊎ IsRun entries number (entries.link number) (list_at (lists_of entries count) number)
-  at : 0 < number → number < count → entries.key (entries.link number) ≤ entries.key number → IsRun entries number (entries.link number) (list_at (lists_of entries count) number)
-  at some below ends =
-      let joined = rings.joined number some below ends in
-      subst (λ (l : List X). IsRun entries number (entries.link number) l) (sym (list_at-lists_of entries count number below ∙ list_ending-ring some ends joined.1)) joined.1
+    Cases : Type 0
+    Cases = (list_at (lists_of entries count) number ≡ []) ⊎ IsRun entries number (entries.link number) (list_at (lists_of entries count) number)
+
+    at : 0 < number → number < count → entries.key (entries.link number) ≤ entries.key number → IsRun entries number (entries.link number) (list_at (lists_of entries count) number)
+    at some below ends =
+        let joined = rings.joined number some below ends in
+        subst (λ (l : List X). IsRun entries number (entries.link number) l) (sym (list_at-lists_of entries count number below ∙ list_ending-ring some ends joined.1)) joined.1
 
 -- the first item of a list
 pub push_in-empty : {X : Type 0} (lists : List (List X)) (item : X) → list_at lists 0 ≡ [] → push_in lists 0 item ≡ lists ++ (item ∷ []) ∷ []

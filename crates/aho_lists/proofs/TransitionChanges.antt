@@ -15,7 +15,6 @@ use Rattle.aho_lists.proofs.TransitionGaps.{lists_in, AreRings-behind, lists_of-
 
 module _ (entries new : List Transition) (limit byte next : ℕ) (store : IsStore (transition_entries entries) (length entries) limit)
     (pushed : new ≡ entries ++ record { byte = byte; next = next; link = length entries } ∷ []) where
-
   pub IsStore-started : length entries ≤ limit → IsStore (transition_entries new) (length new) limit
   IsStore-started within =
       let count = length_push entries (record { byte = byte; next = next; link = length entries }) in
@@ -35,7 +34,6 @@ module _ (entries new : List Transition) (limit byte next : ℕ) (store : IsStor
 -- ---- a list that there is
 
 module _ (entries : List Transition) (limit list byte : ℕ) (store : IsStore (transition_entries entries) (length entries) limit) (known : IsList (lists_in entries) list) (some : 0 < list) where
-
   pub list_in : list < length entries
   list_in = (is_last (transition_entries entries) (length entries) list known some).0
 
@@ -52,7 +50,6 @@ module _ (entries : List Transition) (limit list byte : ℕ) (store : IsStore (t
   follow-gap place gap = sym (transition_at-none (list_at (lists_in entries) list) byte (apart-gap (keyed entries) list_run gap))
 
   module _ (next place : ℕ) (inside : place < length entries) (new : List Transition) where
-
     pub IsStore-redirected : IsOn (transition_entries entries) list byte place → new ≡ redirected entries place next → IsStore (transition_entries new) (length new) limit
     IsStore-redirected found is =
         let count = length-set entries place (record (transition_of entries place) { next = next }) in

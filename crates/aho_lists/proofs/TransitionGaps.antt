@@ -19,7 +19,6 @@ lists_in entries = lists_of (transition_entries entries) (length entries)
 module _ (entries : List Transition) (last byte next : ℕ) (rings : AreRings (transition_entries entries) (length entries)) (some : 0 < last) (below : last < length entries)
     (ends : (transition_of entries (transition_of entries last).link).byte ≤ (transition_of entries last).byte)
     (run : IsRun (transition_entries entries) last (transition_of entries last).link (list_at (lists_in entries) last)) where
-
   -- ---- behind the last entry
 
   last-change : IsChange (transition_entries entries) (transition_entries (linked_behind entries last byte next)) (length entries) last last
@@ -36,8 +35,12 @@ module _ (entries : List Transition) (last byte next : ℕ) (rings : AreRings (t
       → (transition_entries (linked_behind entries last byte next)).key (length entries)
       < (transition_entries (linked_behind entries last byte next)).key ((transition_entries (linked_behind entries last byte next)).link (length entries))
   new_first less =
-      omega (arith, new_byte entries last byte next last below, ap (transition_entries (linked_behind entries last byte next)).key (from_new entries last byte next last below),
-      behind-key entries last byte next last below (transition_of entries last).link (rings.within last below))
+      omega (
+        arith,
+        new_byte entries last byte next last below,
+        ap (transition_entries (linked_behind entries last byte next)).key (from_new entries last byte next last below),
+        behind-key entries last byte next last below (transition_of entries last).link (rings.within last below),
+      )
 
   first-run : byte < (transition_entries entries).key (transition_of entries last).link
       → IsRun (transition_entries (linked_behind entries last byte next)) last ((transition_entries (linked_behind entries last byte next)).link last)
@@ -102,8 +105,12 @@ module _ (entries : List Transition) (last byte next : ℕ) (rings : AreRings (t
   lists_of-beyond above =
       let nothing : length entries - length entries ≡ 0 = omega arith in
       lists_of-grown last-change rings below beyond-growth (λ positive. goes_on above)
-      (omega (arith, ap (transition_entries (linked_behind entries last byte next)).key (from_new entries last byte next last below), new_byte entries last byte next last below,
-      behind-key entries last byte next last below (transition_of entries last).link (rings.within last below)))
+      (omega (
+        arith,
+        ap (transition_entries (linked_behind entries last byte next)).key (from_new entries last byte next last below),
+        new_byte entries last byte next last below,
+        behind-key entries last byte next last below (transition_of entries last).link (rings.within last below),
+      ))
       (beyond-run above)
       ∙ ap (λ (n : ℕ). set (lists_in entries) last [] ++ (replicate {A = List (ℕ × ℕ)} n [] ++ with_transition (list_at (lists_in entries) last) byte next ∷ [])) nothing
 
@@ -111,7 +118,6 @@ module _ (entries : List Transition) (last byte next : ℕ) (rings : AreRings (t
 
   module _ (place : ℕ) (inside : place < length entries) (other : place ≢ last) (passed : IsPassed (transition_entries entries) last place (transition_of entries last).link)
       (above : (transition_entries entries).key place < byte) (under : byte < (transition_entries entries).key (transition_of entries place).link) where
-
     inner-change : IsChange (transition_entries entries) (transition_entries (linked_behind entries place byte next)) (length entries) place last
     inner-change = record {
       items = λ i less ne. behind-item entries last byte next place inside i less;
@@ -119,15 +125,23 @@ module _ (entries : List Transition) (last byte next : ℕ) (rings : AreRings (t
       links = λ i less ne. behind-link entries last byte next place inside i less ne;
       ends = λ less. ends;
       of_list = λ less. run-from run passed;
-      rises = λ less ne. omega (arith, ap (transition_entries (linked_behind entries place byte next)).key (to_new entries last byte next place inside), new_byte entries last byte next place inside,
-          behind-key entries last byte next place inside place inside);
+      rises = λ less ne. omega (
+        arith,
+        ap (transition_entries (linked_behind entries place byte next)).key (to_new entries last byte next place inside),
+        new_byte entries last byte next place inside,
+        behind-key entries last byte next place inside place inside,
+      );
     }
 
     inner-rises : (transition_entries (linked_behind entries place byte next)).key (length entries)
         < (transition_entries (linked_behind entries place byte next)).key ((transition_entries (linked_behind entries place byte next)).link (length entries))
     inner-rises =
-        omega (arith, new_byte entries last byte next place inside, ap (transition_entries (linked_behind entries place byte next)).key (from_new entries last byte next place inside),
-        behind-key entries last byte next place inside (transition_of entries place).link (rings.within place inside))
+        omega (
+          arith,
+          new_byte entries last byte next place inside,
+          ap (transition_entries (linked_behind entries place byte next)).key (from_new entries last byte next place inside),
+          behind-key entries last byte next place inside (transition_of entries place).link (rings.within place inside),
+        )
 
     first_link : (transition_entries (linked_behind entries place byte next)).link last ≡ (transition_of entries last).link
     first_link = behind-link entries last byte next place inside last below (λ e. other (sym e))
@@ -149,8 +163,12 @@ module _ (entries : List Transition) (last byte next : ℕ) (rings : AreRings (t
     lists_of-inner : lists_of (transition_entries (linked_behind entries place byte next)) (length entries + 1) ≡ set (lists_in entries) last (with_transition (list_at (lists_in entries) last) byte next) ++ [] ∷ []
     lists_of-inner =
         lists_of-inserted inner-change rings some below inner-rises
-        (omega (arith, ap (transition_entries (linked_behind entries place byte next)).key first_link, behind-key entries last byte next place inside last below,
-        behind-key entries last byte next place inside (transition_of entries last).link (rings.within last below)))
+        (omega (
+          arith,
+          ap (transition_entries (linked_behind entries place byte next)).key first_link,
+          behind-key entries last byte next place inside last below,
+          behind-key entries last byte next place inside (transition_of entries last).link (rings.within last below),
+        ))
         inner-run
 
     -- the byte is below the last

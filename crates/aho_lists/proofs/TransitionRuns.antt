@@ -180,9 +180,9 @@ is_above-within {entries = entries} {at = at} keyed (on {ys = ys} ne rises run e
     rw eq (elim (cases_order (entries.item at).0 byte) [
       | inl is ↦ is_above-not (entries.item at) ys byte (omega arith)
       | inr apart ↦ elim apart [
-          | inl less ↦ is_above-more (entries.item at) ys byte less ∙ is_above-within keyed run byte le
-          | inr more ↦ is_above-not (entries.item at) ys byte (omega arith)
-        ]
+        | inl less ↦ is_above-more (entries.item at) ys byte less ∙ is_above-within keyed run byte le
+        | inr more ↦ is_above-not (entries.item at) ys byte (omega arith)
+      ]
     ])
 
 -- between two others
@@ -200,8 +200,8 @@ run-between {old = old} {new = new} {count = count} {last = last} {place = place
     let to_new = ap new.link is ∙ linked in
     let from_new = back ∙ ap old.link (sym is) in
     let rest : IsRun new last (old.link at) ys = run-kept (λ (i : ℕ). (i < count) × (old.key place < old.key i))
-        (λ i q. ((same i q.0).2, (same i q.0).1, λ _. (same i q.0).0 (λ e. omega (arith, q.1, ap old.key e))))
-        (λ i q off less. (within i q.0, omega (arith, q.1))) (there, omega (arith, ap old.key is)) run in
+    (λ i q. ((same i q.0).2, (same i q.0).1, λ _. (same i q.0).0 (λ e. omega (arith, q.1, ap old.key e))))
+    (λ i q off less. (within i q.0, omega (arith, q.1))) (there, omega (arith, ap old.key is)) run in
     on ne (omega (arith, ap new.key to_new, ap old.key is))
     (subst (λ (n : ℕ). IsRun new last n ((byte, next) ∷ ys)) (sym to_new)
     (on (λ e. omega arith) (omega (arith, ap new.key from_new, ap (λ (n : ℕ). old.key (old.link n)) is))

@@ -112,20 +112,19 @@ module _ (entries : List Transition) (last byte next place : ℕ) (rings : AreRi
     (ends : (transition_of entries (transition_of entries last).link).byte ≤ (transition_of entries last).byte) (inside : place < length entries)
     (found : IsOn (transition_entries entries) last byte place)
     (run : IsRun (transition_entries entries) last (transition_of entries last).link (list_at (lists_of (transition_entries entries) (length entries)) last)) where
-
   redirected-link : (i : ℕ) → (transition_of (redirected entries place next) i).link ≡ (transition_of entries i).link
   redirected-link i = elim (cases_eq i place) [
-      | inl is ↦ subst (λ (n : ℕ). (transition_of (redirected entries place next) n).link ≡ (transition_of entries n).link) (sym is)
-          (ap (λ (t : Transition). t.link) (transition_of-set_same entries place (record (transition_of entries place) { next = next }) inside))
-      | inr ne ↦ ap (λ (t : Transition). t.link) (transition_of-set_other entries place i (record (transition_of entries place) { next = next }) ne)
-    ]
+    | inl is ↦ subst (λ (n : ℕ). (transition_of (redirected entries place next) n).link ≡ (transition_of entries n).link) (sym is)
+        (ap (λ (t : Transition). t.link) (transition_of-set_same entries place (record (transition_of entries place) { next = next }) inside))
+    | inr ne ↦ ap (λ (t : Transition). t.link) (transition_of-set_other entries place i (record (transition_of entries place) { next = next }) ne)
+  ]
 
   redirected-byte : (i : ℕ) → (transition_of (redirected entries place next) i).byte ≡ (transition_of entries i).byte
   redirected-byte i = elim (cases_eq i place) [
-      | inl is ↦ subst (λ (n : ℕ). (transition_of (redirected entries place next) n).byte ≡ (transition_of entries n).byte) (sym is)
-          (ap (λ (t : Transition). t.byte) (transition_of-set_same entries place (record (transition_of entries place) { next = next }) inside))
-      | inr ne ↦ ap (λ (t : Transition). t.byte) (transition_of-set_other entries place i (record (transition_of entries place) { next = next }) ne)
-    ]
+    | inl is ↦ subst (λ (n : ℕ). (transition_of (redirected entries place next) n).byte ≡ (transition_of entries n).byte) (sym is)
+        (ap (λ (t : Transition). t.byte) (transition_of-set_same entries place (record (transition_of entries place) { next = next }) inside))
+    | inr ne ↦ ap (λ (t : Transition). t.byte) (transition_of-set_other entries place i (record (transition_of entries place) { next = next }) ne)
+  ]
 
   redirected-rises : place ≢ last → (transition_of (redirected entries place next) place).byte < (transition_of (redirected entries place next) (transition_of (redirected entries place next) place).link).byte
   redirected-rises ne =
@@ -191,9 +190,9 @@ module _ (entries : List Transition) (last byte next place : ℕ) (inside : plac
 
   pub behind-item : (i : ℕ) → i < length entries → (transition_entries (linked_behind entries place byte next)).item i ≡ (transition_entries entries).item i
   behind-item i less = elim (cases_eq i place) [
-      | inl is ↦ subst (λ (n : ℕ). (transition_entries (linked_behind entries place byte next)).item n ≡ (transition_entries entries).item n) (sym is) (ap (λ (t : Transition). (t.byte, t.next)) behind-place)
-      | inr ne ↦ ap (λ (t : Transition). (t.byte, t.next)) (behind-other i less ne)
-    ]
+    | inl is ↦ subst (λ (n : ℕ). (transition_entries (linked_behind entries place byte next)).item n ≡ (transition_entries entries).item n) (sym is) (ap (λ (t : Transition). (t.byte, t.next)) behind-place)
+    | inr ne ↦ ap (λ (t : Transition). (t.byte, t.next)) (behind-other i less ne)
+  ]
 
   pub behind-key : (i : ℕ) → i < length entries → (transition_entries (linked_behind entries place byte next)).key i ≡ (transition_entries entries).key i
   behind-key i less = ap (λ (p : ℕ × ℕ). p.0) (behind-item i less)

@@ -90,6 +90,11 @@ impl MatchLists {
         ensures number { IfOk result (λ made. made ≡ length self.old.lists) }
         ensures pushed { OnOk result (self.new ≡ record self.old
             { lists = push_in self.old.lists list pattern }) }
+        ensures changed { IfOk result (λ made. list_at self.new.lists made
+            ≡ list_at self.old.lists list ++ pattern ∷ []) }
+        ensures known { IfOk result (λ made. IsList self.new.lists made) }
+        ensures others { OnOk result ((other : ℕ) → other < length self.old.lists → other ≢ list
+            → list_at self.new.lists other ≡ list_at self.old.lists other) }
         ensures within { OnOk result (length self.new.lists ≤ self.old.limit + 1) }
         ensures refused { IfErr result
             (λ error. error ≡ refusal_at self.old.limit (length self.old.lists)) }

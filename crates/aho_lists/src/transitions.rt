@@ -10,7 +10,7 @@ ghost use Rattle.aho_base.specs.Numbers.{greatest_index};
 ghost use Rattle.aho_lists.specs.Refusal.{refusal_at};
 ghost use Rattle.aho_lists.specs.Rings.{AreRings, IsRun};
 ghost use Rattle.aho_lists.specs.Lists.{list_at, IsList, with_list_behind};
-ghost use Rattle.aho_lists.specs.TransitionList.{transition_at, lists_transition, IsRising, full_list, number_after, set_transition_in};
+ghost use Rattle.aho_lists.specs.TransitionList.{transition_at, with_transition, lists_transition, IsRising, full_list, number_after, set_transition_in};
 ghost use Rattle.aho_lists.specs.Inside.{transition_of, transition_entries, IsGapBehind, IsOn, redirected, relinked, linked_behind, full_entries};
 
 use crate::walk::{overflow, place_after};
@@ -125,6 +125,11 @@ impl TransitionLists {
         ensures number { IfOk result (λ made. made ≡ number_after self.old.lists list byte) }
         ensures set { OnOk result
             (self.new ≡ record self.old { lists = set_transition_in self.old.lists list byte next }) }
+        ensures changed { IfOk result (λ made. list_at self.new.lists made
+            ≡ with_transition (list_at self.old.lists list) byte next) }
+        ensures known { IfOk result (λ made. IsList self.new.lists made) }
+        ensures others { OnOk result ((other : ℕ) → other < length self.old.lists → other ≢ list
+            → list_at self.new.lists other ≡ list_at self.old.lists other) }
         ensures there { lists_transition (list_at self.old.lists list) byte ≡ true → IsOk result }
         ensures within { OnOk result (length self.new.lists ≤ self.old.limit + 1) }
         ensures refused { IfErr result
@@ -367,11 +372,7 @@ fn insert_behind(
 }
 
 /// An entry more for each byte, which lead to the same state: a list of their own.
-fn push_full(
-    entries: &mut Vec<Transition>,
-    limit: usize,
-    next: StateID,
-) -> Result<(), BuildError>
+fn push_full(entries: &mut Vec<Transition>, limit: usize, next: StateID) -> Result<(), BuildError>
     requires small { limit ≤ greatest_index }
     requires room { length entries.old.items + 255 ≤ limit }
     ensures pushed { OnOk result (entries.new.items
@@ -383,6 +384,12 @@ fn push_full(
         let link = StateID::new_unchecked(first + byte as usize + 1);
         push(entries, limit, byte, next, Some(link))?;
     }
-    push(entries, limit, 255, next, Some(StateID::new_unchecked(first)))?;
+    push(
+        entries,
+        limit,
+        255,
+        next,
+        Some(StateID::new_unchecked(first)),
+    )?;
     Ok(())
 }

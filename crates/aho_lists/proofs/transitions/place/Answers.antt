@@ -69,9 +69,9 @@ returns-else-transition-byte c =
     record {
       found = tt;
       absent = elim c.walk.invariant.behind [
-          | inl front ↦ first front.0 (subst (λ (n : ℕ). c.args.byte < (transition_of c.args.entries.now n).byte) front.1 more) below
-          | inr inner ↦ between inner.0 inner.1 inner.2 (subst (λ (n : ℕ). c.args.byte < (transition_of c.args.entries.now n).byte) inner.3 more)
-        ];
+        | inl front ↦ first front.0 (subst (λ (n : ℕ). c.args.byte < (transition_of c.args.entries.now n).byte) front.1 more) below
+        | inr inner ↦ between inner.0 inner.1 inner.2 (subst (λ (n : ℕ). c.args.byte < (transition_of c.args.entries.now n).byte) inner.3 more)
+      ];
       inside = tt;
       inside_gap = c.walk.invariant.before_in;
     }

@@ -44,7 +44,7 @@ invariant_of-result-2 c =
       on_list = (
         rw c.entry.ensures.entry (within c.args.list (rw c.as_slice-entries.ensures.value below)),
         list_at (match_lists c.self.inside.entries.items) c.args.list,
-        first_run c.self.inside.entries.items c.as_slice-entries.result.now c.args.list c.entry.result (list_at (match_lists c.self.inside.entries.items) c.args.list) c.as_slice-entries.ensures.value c.entry.ensures.entry run
+        first_run c.self.inside.entries.items c.as_slice-entries.result.now c.args.list c.entry.result (list_at (match_lists c.self.inside.entries.items) c.args.list) c.as_slice-entries.ensures.value c.entry.ensures.entry run,
       );
     }
 

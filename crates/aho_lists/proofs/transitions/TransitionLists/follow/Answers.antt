@@ -36,15 +36,15 @@ returns c =
     let known : IsList (lists_in c.self.inside.entries.items) c.args.list = rw (← c.self.view_is) at c.requires.known in
     record {
       next = c.result.view_is ∙ rw (← c.self.view_is) (elim c.match-place.branch [
-          | in-Ok w ↦
-              let found : IsOn (transition_entries c.self.inside.entries.items) c.args.list c.args.byte w.in-Ok.place =
-              subst (λ (es : List Transition). IsOn (transition_entries es) c.args.list c.args.byte w.in-Ok.place) c.as_slice-entries.ensures.value w.in-Ok.ensures.found in
-              w.result-is
-              ∙ ap (λ (t : Transition). t.next) (w.entry.ensures.entry ∙ ap (λ (es : List Transition). transition_of es w.in-Ok.place) c.as_slice-entries.ensures.value)
-              ∙ follow-on c.self.inside.entries.items c.self.inside.limit c.args.list c.args.byte c.self.invariant known some w.in-Ok.place found
-          | in-Err w ↦
-              let gap : IsGapBehind (transition_entries c.self.inside.entries.items) c.args.list c.args.byte w.in-Err.field-0 =
-              subst (λ (es : List Transition). IsGapBehind (transition_entries es) c.args.list c.args.byte w.in-Err.field-0) c.as_slice-entries.ensures.value w.in-Err.ensures.absent in
-              w.result-is ∙ follow-gap c.self.inside.entries.items c.self.inside.limit c.args.list c.args.byte c.self.invariant known some w.in-Err.field-0 gap
-        ]);
+        | in-Ok w ↦
+            let found : IsOn (transition_entries c.self.inside.entries.items) c.args.list c.args.byte w.in-Ok.place =
+            subst (λ (es : List Transition). IsOn (transition_entries es) c.args.list c.args.byte w.in-Ok.place) c.as_slice-entries.ensures.value w.in-Ok.ensures.found in
+            w.result-is
+            ∙ ap (λ (t : Transition). t.next) (w.entry.ensures.entry ∙ ap (λ (es : List Transition). transition_of es w.in-Ok.place) c.as_slice-entries.ensures.value)
+            ∙ follow-on c.self.inside.entries.items c.self.inside.limit c.args.list c.args.byte c.self.invariant known some w.in-Ok.place found
+        | in-Err w ↦
+            let gap : IsGapBehind (transition_entries c.self.inside.entries.items) c.args.list c.args.byte w.in-Err.field-0 =
+            subst (λ (es : List Transition). IsGapBehind (transition_entries es) c.args.list c.args.byte w.in-Err.field-0) c.as_slice-entries.ensures.value w.in-Err.ensures.absent in
+            w.result-is ∙ follow-gap c.self.inside.entries.items c.self.inside.limit c.args.list c.args.byte c.self.invariant known some w.in-Err.field-0 gap
+      ]);
     }

@@ -1,13 +1,14 @@
 -- The byte's entry is led elsewhere, or one more stands where its gap is.
 use Rattle.std.proofs.Common.{◌≡◌, ◌<◌, ◌≤◌, ℕ, List, [], ◌∷◌, ◌++◌, length, true, false, ap, refl, sym, subst, arith, ◌∙◌}
 use Rattle.aho_lists.specs.Lists.{Lists, list_at, IsList}
-use Rattle.aho_lists.specs.TransitionList.{set_transition_in, number_after, lists_transition}
+use Rattle.aho_lists.specs.TransitionList.{with_transition, set_transition_in, number_after, lists_transition}
 use Rattle.aho_lists.specs.Inside.{transition_of, transition_entries, IsStore, IsOn, IsGapBehind, redirected, linked_behind}
 use Rattle.aho_lists.specs.declared.transitions.Transition.{Transition}
 use Rattle.aho_base.specs.declared.error.BuildError.{BuildError}
 use Rattle.aho_lists.specs.Refusal.{refusal_at}
 use Rattle.aho_lists.proofs.TransitionStores.{set_transition_in-empty, number_after-empty}
-use Rattle.aho_lists.proofs.Results.{is_zero, is_some, IfErr-given, OnOk-more}
+use Rattle.aho_lists.proofs.Results.{is_zero, is_some, IfErr-given, OnOk-more, IfOk-from}
+use Rattle.aho_lists.proofs.Families.{IsList-from, set_transition_in-other, set_transition_in-this, with_transition-some}
 use Rattle.aho_lists.proofs.Stores.{list_at-zero, same_store, length-lists_of}
 use Rattle.aho_lists.proofs.TransitionGaps.{lists_in}
 use Rattle.aho_lists.proofs.TransitionChanges.{list_in, list_ends, IsStore-redirected, lists_in-redirected, number-on, IsStore-behind, lists_in-behind, number-above, number-below, unlisted-gap}
@@ -125,3 +126,53 @@ returns-after-above-clause-set c =
 
 pub returns-after-above-clause-within : goal.returns-after-above-clause-within
 returns-after-above-clause-within c = rw (← c.self.view_is, length-lists_of) (omega (arith, c.in_ok-made-in-Err.ensures.count, c.in_ok-made-in-Err.ensures.within))
+
+pub returns-then-eq-clause-number : goal.returns-then-eq-clause-number
+returns-then-eq-clause-number c =
+    let none = is_zero c.args.list c.eq.result c.eq.ensures c.if-eq.true in
+    IfOk-from c.start.result c.start.ensures.number c.start.ensures.started (λ made is started.
+    is ∙ sym (ap (λ (n : ℕ). number_after c.args.self.now.lists n c.args.byte) none ∙ number_after-empty c.args.self.now.lists c.args.byte c.start.ensures.empty))
+
+-- ---- the list that was changed, and the others
+
+pub returns-then-eq-clause-changed : goal.returns-then-eq-clause-changed
+returns-then-eq-clause-changed c =
+    IfOk-from c.start.result (returns-then-eq-clause-number c) (returns-then-eq-clause-set c) (λ made is changed.
+    ap (λ (n : ℕ). list_at c.start.new.self.lists n) is ∙ ap (λ (s : Lists (ℕ × ℕ)). list_at s.lists (number_after c.args.self.now.lists c.args.list c.args.byte)) changed
+    ∙ set_transition_in-this c.args.self.now.lists c.args.list c.args.byte c.args.next)
+
+pub returns-then-eq-clause-known : goal.returns-then-eq-clause-known
+returns-then-eq-clause-known c =
+    IfOk-from c.start.result (returns-then-eq-clause-changed c) c.start.ensures.started (λ made changed started.
+    IsList-from c.start.new.self.lists made (with_transition (list_at c.args.self.now.lists c.args.list) c.args.byte c.args.next) changed
+    (with_transition-some (list_at c.args.self.now.lists c.args.list) c.args.byte c.args.next))
+
+pub returns-then-eq-clause-others : goal.returns-then-eq-clause-others
+returns-then-eq-clause-others c =
+    OnOk-more c.start.result (λ changed other below ne. ap (λ (s : Lists (ℕ × ℕ)). list_at s.lists other) changed ∙ set_transition_in-other c.args.self.now.lists c.args.list c.args.byte c.args.next other below ne) (returns-then-eq-clause-set c)
+
+pub returns-in-Ok-clause-changed : goal.returns-in-Ok-clause-changed
+returns-in-Ok-clause-changed c =
+    ap (λ (n : ℕ). list_at (lists_in c.redirect.new.entries.items) n) (returns-in-Ok-clause-number c)
+    ∙ ap (λ (s : Lists (ℕ × ℕ)). list_at s.lists (number_after c.args.self.now.lists c.args.list c.args.byte)) (returns-in-Ok-clause-set c) ∙ set_transition_in-this c.args.self.now.lists c.args.list c.args.byte c.args.next
+
+pub returns-in-Ok-clause-known : goal.returns-in-Ok-clause-known
+returns-in-Ok-clause-known c =
+    IsList-from (lists_in c.redirect.new.entries.items) c.args.list (with_transition (list_at c.args.self.now.lists c.args.list) c.args.byte c.args.next) (returns-in-Ok-clause-changed c)
+    (with_transition-some (list_at c.args.self.now.lists c.args.list) c.args.byte c.args.next)
+
+pub returns-in-Ok-clause-others : goal.returns-in-Ok-clause-others
+returns-in-Ok-clause-others c other below ne = ap (λ (s : Lists (ℕ × ℕ)). list_at s.lists other) (returns-in-Ok-clause-set c) ∙ set_transition_in-other c.args.self.now.lists c.args.list c.args.byte c.args.next other below ne
+
+pub returns-after-above-clause-changed : goal.returns-after-above-clause-changed
+returns-after-above-clause-changed c =
+    ap (λ (n : ℕ). list_at (lists_in c.insert_behind.new.entries.items) n) (returns-after-above-clause-number c)
+    ∙ ap (λ (s : Lists (ℕ × ℕ)). list_at s.lists (number_after c.args.self.now.lists c.args.list c.args.byte)) (returns-after-above-clause-set c) ∙ set_transition_in-this c.args.self.now.lists c.args.list c.args.byte c.args.next
+
+pub returns-after-above-clause-known : goal.returns-after-above-clause-known
+returns-after-above-clause-known c =
+    IsList-from (lists_in c.insert_behind.new.entries.items) c.if-above.result (with_transition (list_at c.args.self.now.lists c.args.list) c.args.byte c.args.next) (returns-after-above-clause-changed c)
+    (with_transition-some (list_at c.args.self.now.lists c.args.list) c.args.byte c.args.next)
+
+pub returns-after-above-clause-others : goal.returns-after-above-clause-others
+returns-after-above-clause-others c other below ne = ap (λ (s : Lists (ℕ × ℕ)). list_at s.lists other) (returns-after-above-clause-set c) ∙ set_transition_in-other c.args.self.now.lists c.args.list c.args.byte c.args.next other below ne

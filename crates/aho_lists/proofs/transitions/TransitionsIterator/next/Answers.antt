@@ -10,7 +10,7 @@ use Rattle.aho_lists.proofs.transitions.TransitionsIterator.next.Goals as goal
 pub returns-in_default-clause-steps : goal.returns-in_default-clause-steps
 returns-in_default-clause-steps c =
     let none = sym c.self.view_is ∙ ap (λ (o : Option ℕ). rest_from (transition_entries c.self.inside.entries.now) o c.self.inside.last) c.in_default.is
-        ∙ rest_from-none (transition_entries c.self.inside.entries.now) c.self.inside.last in
+    ∙ rest_from-none (transition_entries c.self.inside.entries.now) c.self.inside.last in
     (none, none)
 
 -- what is left at an entry, where its link is what was read
