@@ -1,0 +1,12 @@
+pub mod Runs
+pub mod Stores
+pub mod Changes
+pub mod TransitionRuns
+pub mod TransitionStores
+pub mod TransitionGaps
+pub mod TransitionChanges
+pub mod Results
+pub mod Walks
+pub mod FullLists
+pub mod MatchChanges
+pub mod Families

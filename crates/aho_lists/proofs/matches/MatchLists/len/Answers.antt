@@ -1,0 +1,7 @@
+-- There is a number for each entry.
+use Rattle.std.proofs.Common.{length, arith}
+use Rattle.aho_lists.proofs.Stores.{length-lists_of}
+use Rattle.aho_lists.proofs.matches.MatchLists.len.Goals as goal
+
+pub returns-clause-len : goal.returns-clause-len
+returns-clause-len c = rw (← c.self.view_is, length-lists_of) (omega arith)

@@ -1,0 +1,19 @@
+-- What is true of every store.
+use Rattle.std.proofs.Common.{◌≡◌, ℕ, List, length, arith}
+use Rattle.aho_lists.specs.Lists.{Lists, list_at}
+use Rattle.aho_lists.specs.Inside.{transition_entries}
+use Rattle.aho_lists.proofs.Stores.{list_at-zero, length-lists_of}
+use Rattle.aho_lists.proofs.TransitionChanges.{list_at-rising}
+use Rattle.aho_lists.proofs.transitions.TransitionLists.facts.Goals as goal
+
+pub returns-clause-some : goal.returns-clause-some
+returns-clause-some c = rw (← c.self.view_is, length-lists_of) c.self.invariant.rings.some
+
+pub returns-clause-within : goal.returns-clause-within
+returns-clause-within c = rw (← c.self.view_is, length-lists_of) c.self.invariant.count_within
+
+pub returns-clause-empty : goal.returns-clause-empty
+returns-clause-empty c = rw (← c.self.view_is) (list_at-zero (transition_entries c.self.inside.entries.items) (length c.self.inside.entries.items) c.self.invariant.rings.some)
+
+pub returns-clause-rising : goal.returns-clause-rising
+returns-clause-rising c = rw (← c.self.view_is) (list_at-rising c.self.inside.entries.items c.self.invariant.rings)

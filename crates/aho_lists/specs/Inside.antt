@@ -1,0 +1,76 @@
+-- The vectors of the stores: what stands at each place.
+use Rattle.std.specs.Prelude.{◌≡◌, ◌≢◌, ℕ, zero, suc, ◌+◌, ◌<◌, ◌≤◌, ◌⊎◌, List, [], ◌∷◌, ◌++◌, length, map, slice_index_or, slice_set}
+use Rattle.std.specs.List.{range_with_len}
+use Rattle.aho_lists.specs.Rings.{Entries, AreRings, IsRun, IsPassed}
+use Rattle.aho_lists.specs.declared.transitions.Transition.{Transition}
+use Rattle.aho_lists.specs.declared.matches.Match.{Match}
+
+-- the entry at this place
+abbrev pub transition_of : List Transition → ℕ → Transition
+transition_of entries place = slice_index_or entries place (record { byte = 0; next = 0; link = 0 })
+
+-- a transition's key is its byte
+abbrev pub transition_entries : List Transition → Entries (ℕ × ℕ)
+transition_entries entries = record {
+  item = λ place. ((transition_of entries place).byte, (transition_of entries place).next);
+  link = λ place. (transition_of entries place).link;
+  key = λ place. (transition_of entries place).byte;
+}
+
+-- an entry for each byte below this one, which lead to the same state, where the first has this index; each links to the next
+unfoldable pub byte_entries : ℕ → ℕ → ℕ → List Transition
+byte_entries first next bytes = map (λ byte. record { byte = byte; next = next; link = first + byte + 1 }) (range_with_len 0 bytes)
+
+-- an entry for each byte: the last one links back to the first
+abbrev pub full_entries : ℕ → ℕ → List Transition
+full_entries first next = byte_entries first next 255 ++ record { byte = 255; next = next; link = first } ∷ []
+
+-- the entries, where the one at this place leads to another state
+abbrev pub redirected : List Transition → ℕ → ℕ → List Transition
+redirected entries place next = slice_set entries place (record (transition_of entries place) { next = next })
+
+-- the entries, where the one at this place links to another
+abbrev pub relinked : List Transition → ℕ → ℕ → List Transition
+relinked entries place link = slice_set entries place (record (transition_of entries place) { link = link })
+
+-- the entries and one more, which stands in a list behind this place
+abbrev pub linked_behind : List Transition → ℕ → ℕ → ℕ → List Transition
+linked_behind entries place byte next =
+    relinked entries place (length entries) ++ record { byte = byte; next = next; link = (transition_of entries place).link } ∷ []
+
+abbrev pub match_of : List Match → ℕ → Match
+match_of entries place = slice_index_or entries place (record { pattern = 0; link = 0 })
+
+abbrev pub relinked_match : List Match → ℕ → ℕ → List Match
+relinked_match entries place link = slice_set entries place (record (match_of entries place) { link = link })
+
+-- the entries and one more, which stands in a list behind this place
+abbrev pub matched_behind : List Match → ℕ → ℕ → List Match
+matched_behind entries place pattern = relinked_match entries place (length entries) ++ record { pattern = pattern; link = (match_of entries place).link } ∷ []
+
+-- a match's key is its place
+abbrev pub match_entries : List Match → Entries ℕ
+match_entries entries = record {
+  item = λ place. (match_of entries place).pattern;
+  link = λ place. (match_of entries place).link;
+  key = λ place. place;
+}
+
+-- the entries are lists, and none is above the limit
+pub record IsStore {X : Type 0} (entries : Entries X) (count limit : ℕ) : Type 0 where
+  pub small : limit ≤ 2147483646
+  pub count_within : count ≤ limit + 1
+  pub rings : AreRings entries count
+
+-- this place has the byte's entry in the list that ends at `last`
+pub record IsOn (entries : Entries (ℕ × ℕ)) (last byte place : ℕ) : Type 0 where
+  pub passed : IsPassed entries last place (entries.link last)
+  pub of_byte : entries.key place ≡ byte
+
+-- the byte has no entry in the list that ends at `last`, and would stand behind this place: behind the last where it is below
+-- or above all others, else between two entries
+pub data IsGapBehind (entries : Entries (ℕ × ℕ)) (last byte place : ℕ) : Type 0 where
+  first : place ≡ last → byte < entries.key (entries.link last) → byte < entries.key last → IsGapBehind entries last byte place
+  beyond : place ≡ last → entries.key last < byte → IsGapBehind entries last byte place
+  between : place ≢ last → IsPassed entries last place (entries.link last) → entries.key place < byte → byte < entries.key (entries.link place)
+      → IsGapBehind entries last byte place

@@ -1,0 +1,10 @@
+-- lists in one vector, told by numbers alone
+pub mod Rings
+-- what a store of lists is seen as
+pub mod Lists
+-- lists of transitions, which rise by byte
+pub mod TransitionList
+-- why a store refuses to grow
+pub mod Refusal
+-- the inside of the stores: for private clauses, and cited by no other crate
+pub mod Inside

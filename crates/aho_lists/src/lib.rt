@@ -1,0 +1,6 @@
+//! Lists that share one vector: lists of transitions, and lists of patterns.
+#![tactic(auto)]
+
+pub mod matches;
+pub mod transitions;
+mod walk;

@@ -1,0 +1,395 @@
+//! Lists of transitions in one vector, each rising by byte.
+//!
+//! An entry links to the next of its list, and the last one back to the first. A list's number is the index of its last
+//! entry, which its caller keeps; 0 is the number of the empty list. So an entry can be added at either end in constant
+//! time, and a walk towards a byte that is not above the last one needs no test for the list's end.
+
+ghost use Rattle.std.specs.Prelude.{◌≡◌, ℕ, ◌≢◌, ◌+◌, ◌<◌, ◌≤◌, ◌∷◌, ◌++◌, [], length, true, IsOk, IfOk, IfErr, OnOk, OnErr, min, take, unwrap_or};
+ghost use Rattle.std.specs.Iterator.{YieldsFirst, item_count};
+ghost use Rattle.aho_base.specs.Numbers.{greatest_index};
+ghost use Rattle.aho_lists.specs.Refusal.{refusal_at};
+ghost use Rattle.aho_lists.specs.Rings.{AreRings, IsRun};
+ghost use Rattle.aho_lists.specs.Lists.{list_at, IsList, with_list_behind};
+ghost use Rattle.aho_lists.specs.TransitionList.{transition_at, with_transition, lists_transition, IsRising, full_list, number_after, set_transition_in};
+ghost use Rattle.aho_lists.specs.Inside.{transition_of, transition_entries, IsGapBehind, IsOn, redirected, relinked, linked_behind, full_entries};
+
+use crate::walk::{overflow, place_after};
+use aho_base::error::BuildError;
+use aho_base::search::{SmallIndex, StateID};
+use std::alloc::{AllocError, Global};
+use std::iter::FusedIterator;
+use std::marker::Model;
+
+/// What a list answers for a byte that it has no entry of.
+pub const FAIL: StateID = StateID::ONE;
+
+/// An entry: the byte, the state that it leads to, and the next entry of the list.
+#[derive(Clone, Copy)]
+struct Transition {
+    byte: u8,
+    next: StateID,
+    link: StateID,
+}
+
+/// Lists of transitions.
+///
+/// An index of an entry is at most the limit. Index 0 is taken from the start.
+#[derive(Drop)]
+pub struct TransitionLists {
+    entries: Vec<Transition>,
+    limit: usize,
+}
+
+impl Model for TransitionLists {
+    ghost use Rattle.std.specs.Prelude.{ℕ, length};
+    ghost use Rattle.aho_lists.specs.Rings.{lists_of};
+    ghost use Rattle.aho_lists.specs.Lists.{Lists};
+    ghost use Rattle.aho_lists.specs.Inside.{transition_entries, IsStore};
+
+    ghost Value = { Lists (ℕ × ℕ) };
+
+    ghost view = { λ s. record { lists = lists_of (transition_entries s.entries.items) (length s.entries.items); limit = s.limit } };
+
+    ghost invariant = { λ s. IsStore (transition_entries s.entries.items) (length s.entries.items) s.limit };
+}
+
+impl TransitionLists {
+    /// No lists yet, of indexes that are at most `limit`; a greater limit counts as `SmallIndex::MAX`.
+    ///
+    /// # Errors
+    ///
+    /// Want of memory.
+    pub fn new(alloc: Global, limit: usize) -> Result<TransitionLists, BuildError>
+        ensures empty { IfOk result
+            (λ store. store ≡ record { lists = [] ∷ []; limit = min limit greatest_index }) }
+        ensures refused { IfErr result (λ error. error ≡ BuildError.OutOfMemory) }
+    {
+        let mut entries = Vec::new(alloc);
+        let dummy = Transition {
+            byte: 0,
+            next: FAIL,
+            link: StateID::ZERO,
+        };
+        let Ok(()) = entries.push(dummy) else {
+            return Err(BuildError::OutOfMemory);
+        };
+        Ok(TransitionLists {
+            entries,
+            limit: limit.min(SmallIndex::MAX.as_usize()),
+        })
+    }
+
+    /// How many entries the lists have together, and one: the entry at index 0.
+    pub fn len(&self) -> usize
+        ensures len { result ≡ length self.now.lists }
+        ensures bound { result ≤ 2147483647 }
+    {
+        self.entries.len()
+    }
+
+    /// What is true of every store, for a proof to cite. The call does nothing.
+    pub fn facts(&self)
+        ensures some { 0 < length self.now.lists }
+        ensures within { length self.now.lists ≤ self.now.limit + 1 }
+        ensures small { self.now.limit ≤ greatest_index }
+        ensures empty { list_at self.now.lists 0 ≡ [] }
+        ensures rising { (list : ℕ) → IsRising (list_at self.now.lists list) }
+    {
+        let _entries = &self.entries;
+    }
+
+    /// Where the byte leads by the list of this number, and `FAIL` where it has no entry.
+    pub fn follow(&self, list: StateID, byte: u8) -> StateID
+        requires known { IsList self.now.lists list }
+        ensures next { result ≡ transition_at (list_at self.now.lists list) byte }
+    {
+        let entries = self.entries.as_slice();
+        if list == StateID::ZERO {
+            return FAIL;
+        }
+        match place(entries, list, byte) {
+            Ok(place) => entry(entries, place).next,
+            Err(_) => FAIL,
+        }
+    }
+
+    /// The byte leads to the state by the list of this number. Answers the list's number, which is another one where the
+    /// byte is above all others of the list. A byte that leads somewhere already is led elsewhere, and nothing grows.
+    ///
+    /// # Errors
+    ///
+    /// `StateIDOverflow` where one entry more has an index above the limit; else want of memory. The store is then
+    /// unchanged.
+    pub fn set(&mut self, list: StateID, byte: u8, next: StateID) -> Result<StateID, BuildError>
+        requires known { IsList self.old.lists list }
+        ensures number { IfOk result (λ made. made ≡ number_after self.old.lists list byte) }
+        ensures set { OnOk result
+            (self.new ≡ record self.old { lists = set_transition_in self.old.lists list byte next }) }
+        ensures changed { IfOk result (λ made. list_at self.new.lists made
+            ≡ with_transition (list_at self.old.lists list) byte next) }
+        ensures known { IfOk result (λ made. IsList self.new.lists made) }
+        ensures others { OnOk result ((other : ℕ) → other < length self.old.lists → other ≢ list
+            → list_at self.new.lists other ≡ list_at self.old.lists other) }
+        ensures there { lists_transition (list_at self.old.lists list) byte ≡ true → IsOk result }
+        ensures within { OnOk result (length self.new.lists ≤ self.old.limit + 1) }
+        ensures refused { IfErr result
+            (λ error. error ≡ refusal_at self.old.limit (length self.old.lists)) }
+        ensures unchanged { OnErr result (self.new ≡ self.old) }
+    {
+        if list == StateID::ZERO {
+            return self.start(byte, next);
+        }
+        match place(&self.entries, list, byte) {
+            Ok(place) => {
+                redirect(&mut self.entries, place, next);
+                Ok(list)
+            }
+            Err(before) => {
+                let above = entry(&self.entries, list).byte < byte;
+                let made = insert_behind(&mut self.entries, self.limit, before, byte, next)?;
+                Ok(if above { made } else { list })
+            }
+        }
+    }
+
+    /// One list more, in which every byte leads to the same state. Answers its number.
+    ///
+    /// # Errors
+    ///
+    /// `StateIDOverflow` where the last of its entries has an index above the limit; else want of memory. The store is then
+    /// unchanged.
+    pub fn fill(&mut self, next: StateID) -> Result<StateID, BuildError>
+        ensures number { IfOk result (λ made. made ≡ length self.old.lists + 255) }
+        ensures filled { OnOk result (self.new
+            ≡ record self.old { lists = with_list_behind self.old.lists (full_list next) }) }
+        ensures within { OnOk result (length self.new.lists ≤ self.old.limit + 1) }
+        ensures refused { IfErr result
+            (λ error. error ≡ refusal_at self.old.limit (length self.old.lists + 255)) }
+        ensures unchanged { OnErr result (self.new ≡ self.old) }
+    {
+        let first = self.entries.len();
+        if self.limit < first + 255 {
+            return Err(overflow(self.limit));
+        }
+        let Ok(()) = push_full(&mut self.entries, self.limit, next) else {
+            self.entries.truncate(first);
+            return Err(BuildError::OutOfMemory);
+        };
+        Ok(StateID::new_unchecked(first + 255))
+    }
+
+    /// The transitions of the list of this number, rising by byte.
+    pub fn iter(&self, list: StateID) -> Transitions<'_>
+        requires known { IsList self.now.lists list }
+        ensures listed { result ≡ list_at self.now.lists list }
+        ensures rising { IsRising result }
+    {
+        let entries = self.entries.as_slice();
+        if list == StateID::ZERO {
+            return Transitions {
+                entries,
+                at: None,
+                last: list,
+            };
+        }
+        Transitions {
+            entries,
+            at: Some(entry(entries, list).link),
+            last: list,
+        }
+    }
+
+    /// A list of one entry.
+    fn start(&mut self, byte: u8, next: StateID) -> Result<StateID, BuildError>
+        ensures number { IfOk result (λ made. made ≡ length self.old.lists) }
+        ensures started { OnOk result
+            (self.new ≡ record self.old { lists = self.old.lists ++ ((byte, next) ∷ []) ∷ [] }) }
+        ensures empty { list_at self.old.lists 0 ≡ [] }
+        ensures within { OnOk result (length self.old.lists ≤ self.old.limit) }
+        ensures refused { IfErr result
+            (λ error. error ≡ refusal_at self.old.limit (length self.old.lists)) }
+        ensures unchanged { OnErr result (self.new ≡ self.old) }
+    {
+        let made = push(&mut self.entries, self.limit, byte, next, None)?;
+        Ok(made)
+    }
+}
+
+/// The transitions of a list, rising by byte: each a byte and the state that it leads to.
+///
+/// It is seen as the list of those that are left.
+#[derive(Drop)]
+pub struct Transitions<'t> {
+    entries: &'t [Transition],
+    at: Option<StateID>,
+    last: StateID,
+}
+
+impl<'t> Model for Transitions<'t> {
+    ghost use Rattle.std.specs.Prelude.{ℕ, List, length};
+    ghost use Rattle.aho_lists.specs.Rings.{rest_from, IsWalk};
+    ghost use Rattle.aho_lists.specs.Inside.{transition_entries};
+
+    ghost Value = { List (ℕ × ℕ) };
+
+    ghost view = { λ it. rest_from (transition_entries it.entries.now) it.at it.last };
+
+    ghost invariant = { λ it. IsWalk (transition_entries it.entries.now) (length it.entries.now) it.at it.last };
+}
+
+impl<'t> Iterator for Transitions<'t> {
+    type Item = (u8, StateID);
+
+    ghost next_gives = { YieldsFirst (λ rest. rest) };
+
+    ghost remaining = { item_count (λ rest. rest) };
+
+    fn next(&mut self) -> Option<(u8, StateID)> {
+        let Some(at) = self.at else {
+            return None;
+        };
+        let transition = entry(self.entries, at);
+        self.at = place_after(transition.link, at, self.last);
+        Some((transition.byte, transition.next))
+    }
+}
+
+impl<'t> FusedIterator for Transitions<'t> {}
+
+/// The place of the byte's entry in the list that ends at `last`; or, where it has none, the place of the entry that it
+/// would stand behind.
+fn place(entries: &[Transition], last: StateID, byte: u8) -> Result<StateID, StateID>
+    requires rings { AreRings (transition_entries entries.now) (length entries.now) }
+    requires within { last < length entries.now }
+    requires some { 0 < last }
+    requires ends { (transition_of entries.now (transition_of entries.now last).link).byte
+        ≤ (transition_of entries.now last).byte }
+    ensures found { IfOk result (IsOn (transition_entries entries.now) last byte) }
+    ensures absent { IfErr result (IsGapBehind (transition_entries entries.now) last byte) }
+    ensures inside { IfOk result (λ place. place < length entries.now) }
+    ensures inside_gap { IfErr result (λ place. place < length entries.now) }
+{
+    let end = entry(entries, last);
+    if end.byte == byte {
+        return Ok(last);
+    }
+    if end.byte < byte {
+        return Err(last);
+    }
+    let mut before = last;
+    let mut at = end.link;
+    let mut transition = entry(entries, at);
+    'walk: while transition.byte < byte {
+        before = at;
+        at = transition.link;
+        transition = entry(entries, at);
+    }
+    if transition.byte == byte {
+        Ok(at)
+    } else {
+        Err(before)
+    }
+}
+
+/// The entry at this place.
+fn entry(entries: &[Transition], place: StateID) -> Transition
+    requires within { place < length entries.now }
+    ensures entry { result ≡ transition_of entries.now place }
+{
+    entries[place.as_usize()]
+}
+
+/// One entry more, which links to `link`, or to itself where there is none.
+fn push(
+    entries: &mut Vec<Transition>,
+    limit: usize,
+    byte: u8,
+    next: StateID,
+    link: Option<StateID>,
+) -> Result<StateID, BuildError>
+    requires small { limit ≤ greatest_index }
+    ensures number { IfOk result (λ made. made ≡ length entries.old.items) }
+    ensures pushed { OnOk result (entries.new.items ≡ entries.old.items
+        ++ record { byte = byte; next = next; link = unwrap_or link (length entries.old.items) } ∷ []) }
+    ensures within { OnOk result (length entries.old.items ≤ limit) }
+    ensures refused { IfErr result (λ error. error ≡ refusal_at limit (length entries.old.items)) }
+    ensures unchanged { OnErr result (entries.new.items ≡ entries.old.items) }
+{
+    let index = entries.len();
+    if index > limit {
+        return Err(overflow(limit));
+    }
+    let made = StateID::new_unchecked(index);
+    let link = link.unwrap_or(made);
+    if entries.push(Transition { byte, next, link }).is_err() {
+        return Err(BuildError::OutOfMemory);
+    }
+    Ok(made)
+}
+
+/// The entry at this place leads to another state.
+fn redirect(entries: &mut Vec<Transition>, place: StateID, next: StateID)
+    requires place { place < length entries.old.items }
+    ensures redirected { entries.new.items ≡ redirected entries.old.items place next }
+    ensures count { length entries.new.items ≡ length entries.old.items }
+{
+    let transition = &mut entries[place.as_usize()];
+    transition.next = next;
+}
+
+/// The entry at this place links to another.
+fn relink(entries: &mut Vec<Transition>, place: StateID, link: StateID)
+    requires place { place < length entries.old.items }
+    ensures relinked { entries.new.items ≡ relinked entries.old.items place link }
+    ensures count { length entries.new.items ≡ length entries.old.items }
+{
+    let transition = &mut entries[place.as_usize()];
+    transition.link = link;
+}
+
+/// One entry more behind the one at this place, to which that one links.
+fn insert_behind(
+    entries: &mut Vec<Transition>,
+    limit: usize,
+    before: StateID,
+    byte: u8,
+    next: StateID,
+) -> Result<StateID, BuildError>
+    requires small { limit ≤ greatest_index }
+    requires place { before < length entries.old.items }
+    ensures number { IfOk result (λ made. made ≡ length entries.old.items) }
+    ensures inserted { OnOk result
+        (entries.new.items ≡ linked_behind entries.old.items before byte next) }
+    ensures count { OnOk result (length entries.new.items ≡ length entries.old.items + 1) }
+    ensures within { OnOk result (length entries.old.items ≤ limit) }
+    ensures refused { IfErr result (λ error. error ≡ refusal_at limit (length entries.old.items)) }
+    ensures unchanged { OnErr result (entries.new.items ≡ entries.old.items) }
+{
+    let link = entry(entries, before).link;
+    let made = push(entries, limit, byte, next, Some(link))?;
+    relink(entries, before, made);
+    Ok(made)
+}
+
+/// An entry more for each byte, which lead to the same state: a list of their own.
+fn push_full(entries: &mut Vec<Transition>, limit: usize, next: StateID) -> Result<(), BuildError>
+    requires small { limit ≤ greatest_index }
+    requires room { length entries.old.items + 255 ≤ limit }
+    ensures pushed { OnOk result (entries.new.items
+        ≡ entries.old.items ++ full_entries (length entries.old.items) next) }
+    ensures kept { take (length entries.old.items) entries.new.items ≡ entries.old.items }
+{
+    let first = entries.len();
+    for byte in 0..255u8 {
+        let link = StateID::new_unchecked(first + byte as usize + 1);
+        push(entries, limit, byte, next, Some(link))?;
+    }
+    push(
+        entries,
+        limit,
+        255,
+        next,
+        Some(StateID::new_unchecked(first)),
+    )?;
+    Ok(())
+}
