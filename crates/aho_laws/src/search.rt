@@ -3,7 +3,7 @@
 ghost use Rattle.std.specs.Prelude.{◌≡◌, ◌≤◌, ◌⊎◌, ◌↔◌, ◌++◌, ℕ, true, false, List, Option, length, slice_range, IsCharBoundary, Ok, Some, None};
 ghost use Rattle.aho_base.specs.Answer.{IsAnswer};
 ghost use Rattle.aho_base.specs.Best.{IsBest, IsBestOrNone};
-ghost use Rattle.aho_base.specs.ClosureRun.{CalledOn, ClosureRun, CopiesWhole};
+ghost use Rattle.aho_base.specs.ClosureRun.{RunsInMemory};
 ghost use Rattle.aho_base.specs.Iteration.{AreFinds};
 ghost use Rattle.aho_base.specs.Listing.{IsMember, IsListedBy};
 ghost use Rattle.aho_base.specs.Occurrence.{Occurrence};
@@ -147,31 +147,34 @@ pub fn tests_boundaries()
 {}
 
 /// A closure that appends the bytes that matched, whatever it answers, makes a replacement append
-/// the haystack: over any disjoint, rising ranges, and over the matches of an iteration, of a text
-/// as well. `S` is the destination, and `bytes_of` says what is in it.
+/// the haystack: over any disjoint, rising ranges, and over the matches of an iteration. `S` is the
+/// destination, and `bytes_of` says what is in it.
 pub fn appending_the_matched_bytes<S, F>()
 where
     F: FnMut(&Match, &[u8], &mut S) -> Result<bool, AllocError>,
     ensures ranges { (bytes_of : S → List ℕ) (haystack : List ℕ) (ms : List Occurrence)
-        (closure last : F) (old new : S)
+        (closure : F) (old new : S)
         → AppendsMatched F.FnMut bytes_of
         → IsListedBy EndsBefore ms
         → ((m : Occurrence) → IsMember ms m → m.start ≤ m.end)
-        → ClosureRun (CopiesWhole bytes_of) (CalledOn F.FnMut) haystack 0 ms closure old (Ok tt)
-        last new
+        → RunsInMemory F.FnMut bytes_of haystack ms closure old (Ok tt) new
         → bytes_of new ≡ bytes_of old ++ haystack }
     ensures finds { (bytes_of : S → List ℕ) (p : Patterns) (haystack : List ℕ)
-        (ms : List Occurrence) (closure last : F) (old new : S)
+        (ms : List Occurrence) (closure : F) (old new : S)
         → AppendsMatched F.FnMut bytes_of
         → AreFinds p (plain_search haystack) None ms
-        → ClosureRun (CopiesWhole bytes_of) (CalledOn F.FnMut) haystack 0 ms closure old (Ok tt)
-        last new
+        → RunsInMemory F.FnMut bytes_of haystack ms closure old (Ok tt) new
         → bytes_of new ≡ bytes_of old ++ haystack }
-    ensures finds_of_text { (bytes_of : S → List ℕ) (p : Patterns) (haystack : List ℕ)
-        (ms : List Occurrence) (closure last : F) (old new : S)
+{}
+
+/// The same of a text, of which the matches off character boundaries are skipped.
+pub fn appending_the_matched_text<S, F>()
+where
+    F: FnMut(&Match, &str, &mut S) -> Result<bool, AllocError>,
+    ensures finds { (bytes_of : S → List ℕ) (p : Patterns) (text : List ℕ)
+        (ms : List Occurrence) (closure : F) (old new : S)
         → AppendsMatched F.FnMut bytes_of
-        → AreFinds p (plain_search haystack) None ms
-        → ClosureRun (CopiesWhole bytes_of) (CalledOn F.FnMut) haystack 0
-        (on_boundaries haystack ms) closure old (Ok tt) last new
-        → bytes_of new ≡ bytes_of old ++ haystack }
+        → AreFinds p (plain_search text) None ms
+        → RunsInMemory F.FnMut bytes_of text (on_boundaries text ms) closure old (Ok tt) new
+        → bytes_of new ≡ bytes_of old ++ text }
 {}

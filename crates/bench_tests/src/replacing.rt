@@ -212,7 +212,9 @@ fn plainly_replaced(
     for at in 0..=haystack.len() {
         let mut is_matched = false;
         for m in matches {
-            if m.start() == at && let Some(piece) = pieces.get(m.pattern().as_usize()) {
+            if m.start() == at
+                && let Some(piece) = pieces.get(m.pattern().as_usize())
+            {
                 bytes.extend_from_slice(piece)?;
             }
             is_matched |= m.start() <= at && at < m.end();
@@ -258,9 +260,17 @@ fn replaces_as_plainly(
     let text_wanted = plainly_replaced(alloc, text.as_bytes(), &kept, &pieces)?;
 
     let bytes = nfa.try_replace_all_bytes(alloc, text.as_bytes(), &pieces)?;
-    assert_eq!(rt; bytes.as_slice(), bytes_wanted.as_slice(), "{name}: {kind:?} {text:?}");
+    assert_eq!(rt;
+        bytes.as_slice(),
+        bytes_wanted.as_slice(),
+        "{name}: {kind:?} {text:?}"
+    );
     let replaced = nfa.try_replace_all(alloc, text, texts)?;
-    assert_eq!(rt; replaced.as_bytes(), text_wanted.as_slice(), "{name}: {kind:?} {text:?}");
+    assert_eq!(rt;
+        replaced.as_bytes(),
+        text_wanted.as_slice(),
+        "{name}: {kind:?} {text:?}"
+    );
 
     let mut bytes = Vec::new(alloc);
     nfa.try_replace_all_with_bytes(text.as_bytes(), &mut bytes, |m, _matched, dst| {
@@ -269,7 +279,11 @@ fn replaces_as_plainly(
         }
         Ok(true)
     })?;
-    assert_eq!(rt; bytes.as_slice(), bytes_wanted.as_slice(), "{name}: {kind:?} {text:?} by a closure");
+    assert_eq!(rt;
+        bytes.as_slice(),
+        bytes_wanted.as_slice(),
+        "{name}: {kind:?} {text:?} by a closure"
+    );
     let mut replaced = String::new(alloc);
     nfa.try_replace_all_with(text, &mut replaced, |m, _matched, dst| {
         if let Some(piece) = texts.get(m.pattern().as_usize()) {
@@ -277,7 +291,11 @@ fn replaces_as_plainly(
         }
         Ok(true)
     })?;
-    assert_eq!(rt; replaced.as_bytes(), text_wanted.as_slice(), "{name}: {kind:?} {text:?} by a closure");
+    assert_eq!(rt;
+        replaced.as_bytes(),
+        text_wanted.as_slice(),
+        "{name}: {kind:?} {text:?} by a closure"
+    );
     Ok(())
 }
 
@@ -297,7 +315,13 @@ fn short_inputs_are_replaced(rt: HostRuntime) -> Result<(), Fail> {
 #[test]
 fn what_matched_in_its_place_changes_nothing(rt: HostRuntime) -> Result<(), Fail> {
     for case in CASES {
-        let nfa = nfa_of(&rt, rt.alloc(), case.patterns, MatchKind::LeftmostFirst, false);
+        let nfa = nfa_of(
+            &rt,
+            rt.alloc(),
+            case.patterns,
+            MatchKind::LeftmostFirst,
+            false,
+        );
         for text in case.haystacks {
             for goes_on in [false, true] {
                 let mut bytes = Vec::new(rt.alloc());
@@ -305,7 +329,12 @@ fn what_matched_in_its_place_changes_nothing(rt: HostRuntime) -> Result<(), Fail
                     dst.extend_from_slice(matched)?;
                     Ok(goes_on)
                 })?;
-                assert_eq!(&rt; bytes.as_slice(), text.as_bytes(), "{}: {text:?}", case.name);
+                assert_eq!(&rt;
+                    bytes.as_slice(),
+                    text.as_bytes(),
+                    "{}: {text:?}",
+                    case.name
+                );
                 let mut same = String::new(rt.alloc());
                 nfa.try_replace_all_with(text, &mut same, |_m, matched, dst| {
                     dst.push_str(matched)?;
