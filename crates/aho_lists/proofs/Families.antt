@@ -30,9 +30,9 @@ with_transition-some (x ∷ xs) byte next none =
     elim (cases_order x.0 byte) [
       | inl same ↦ let e = sym (with_transition-same x xs byte next same) ∙ none in cc
       | inr apart ↦ elim apart [
-          | inl less ↦ let e = sym (with_transition-more x xs byte next less) ∙ none in cc
-          | inr more ↦ let e = sym (with_transition-less x xs byte next more) ∙ none in cc
-        ]
+        | inl less ↦ let e = sym (with_transition-more x xs byte next less) ∙ none in cc
+        | inr more ↦ let e = sym (with_transition-less x xs byte next more) ∙ none in cc
+      ]
     ]
 
 above-unlisted : (xs : List (ℕ × ℕ)) (byte : ℕ) → is_above xs byte ≡ true → lists_transition xs byte ≡ false
@@ -41,9 +41,9 @@ above-unlisted (x ∷ xs) byte above =
     elim (cases_order x.0 byte) [
       | inl same ↦ let e = sym above ∙ is_above-not x xs byte (omega arith) in absurd (cc)
       | inr apart ↦ elim apart [
-          | inl less ↦ lists_transition-other x xs byte (λ e. omega arith) ∙ above-unlisted xs byte (sym (is_above-more x xs byte less) ∙ above)
-          | inr more ↦ let e = sym above ∙ is_above-not x xs byte (omega arith) in absurd (cc)
-        ]
+        | inl less ↦ lists_transition-other x xs byte (λ e. omega arith) ∙ above-unlisted xs byte (sym (is_above-more x xs byte less) ∙ above)
+        | inr more ↦ let e = sym above ∙ is_above-not x xs byte (omega arith) in absurd (cc)
+      ]
     ]
 
 module _ (lists : List (List (ℕ × ℕ))) (list byte next : ℕ) where
@@ -70,15 +70,18 @@ module _ (lists : List (List (ℕ × ℕ))) (list byte next : ℕ) where
 
   inside_of : is_above (list_at lists list) byte ≡ false → list < length lists
   inside_of within = elim (cases_order list (length lists)) [
-      | inl is ↦ absurd (let e = sym (ap (λ (l : List (ℕ × ℕ)). is_above l byte) (get_or_past lists list [] (omega arith))) ∙ within in cc)
-      | inr apart ↦ elim apart [
-          | inl below ↦ below
-          | inr above ↦ absurd (let e = sym (ap (λ (l : List (ℕ × ℕ)). is_above l byte) (get_or_past lists list [] (omega arith))) ∙ within in cc)
-        ]
+    | inl is ↦ absurd (let e = sym (ap (λ (l : List (ℕ × ℕ)). is_above l byte) (get_or_past lists list [] (omega arith))) ∙ within in cc)
+    | inr apart ↦ elim apart [
+      | inl below ↦ below
+      | inr above ↦ absurd (let e = sym (ap (λ (l : List (ℕ × ℕ)). is_above l byte) (get_or_past lists list [] (omega arith))) ∙ within in cc)
     ]
+  ]
 
   pub set_transition_in-this : list_at (set_transition_in lists list byte next) (number_after lists list byte) ≡ with_transition (list_at lists list) byte next
   set_transition_in-this =
       get_or-set_same (without (room_for lists list byte) list) (number_after lists list byte) (with_transition (list_at lists list) byte next) []
-      (omega (arith, length-set (room_for lists list byte) list [],
-      in_room (is_above (list_at lists list) byte) (lists_transition (list_at lists list) byte) (above-unlisted (list_at lists list) byte) inside_of))
+      (omega (
+        arith,
+        length-set (room_for lists list byte) list [],
+        in_room (is_above (list_at lists list) byte) (lists_transition (list_at lists list) byte) (above-unlisted (list_at lists list) byte) inside_of,
+      ))

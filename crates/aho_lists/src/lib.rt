@@ -2,5 +2,7 @@
 #![tactic(auto)]
 
 pub mod matches;
+#[cfg(test)]
+mod tests;
 pub mod transitions;
 mod walk;

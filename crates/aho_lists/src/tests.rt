@@ -1,0 +1,76 @@
+//! Lists of two stores, changed in turn.
+
+ghost use Rattle.std.specs.Prelude.{◌≡◌};
+ghost use Rattle.aho_lists.specs.Lists.{IsList};
+
+use crate::matches::MatchLists;
+use crate::transitions::{FAIL, TransitionLists};
+use aho_base::error::BuildError;
+use aho_base::search::{PatternID, StateID};
+use std::process::Abort;
+
+fn state(rt: &impl Abort, number: usize) -> StateID {
+    StateID::new(number).expect(rt, "a state's number")
+}
+
+fn pattern(rt: &impl Abort, number: usize) -> PatternID {
+    PatternID::new(number).expect(rt, "a pattern's number")
+}
+
+fn overflow(max: u32) -> BuildError {
+    BuildError::StateIDOverflow {
+        max: u64::from(max),
+        requested: u64::from(max) + 1,
+    }
+}
+
+#[test]
+fn a_list_rises_by_byte(rt: HostRuntime) {
+    let mut store = TransitionLists::new(rt.alloc(), 4).expect(&rt, "a store");
+    let list = store
+        .set(StateID::ZERO, b'm', state(&rt, 7))
+        .expect(&rt, "m");
+    let list = store.set(list, b'z', state(&rt, 8)).expect(&rt, "z");
+    let list = store.set(list, b'a', state(&rt, 9)).expect(&rt, "a");
+    let list = store.set(list, b'n', state(&rt, 5)).expect(&rt, "n");
+    let list = store.set(list, b'm', state(&rt, 6)).expect(&rt, "m again");
+    assert_eq!(rt; store.len(), 5);
+    assert_eq!(rt; store.follow(list, b'a'), state(&rt, 9));
+    assert_eq!(rt; store.follow(list, b'm'), state(&rt, 6));
+    assert_eq!(rt; store.follow(list, b'b'), FAIL);
+    let mut walk = store.iter(list);
+    assert_eq!(rt; walk.next(), Some((b'a', state(&rt, 9))));
+    assert_eq!(rt; walk.next(), Some((b'm', state(&rt, 6))));
+    assert_eq!(rt; walk.next(), Some((b'n', state(&rt, 5))));
+    assert_eq!(rt; walk.next(), Some((b'z', state(&rt, 8))));
+    assert_eq!(rt; walk.next(), None);
+    assert_eq!(rt; store.set(list, b'b', FAIL), Err(overflow(4)));
+    assert_eq!(rt; store.len(), 5);
+}
+
+#[test]
+fn a_full_list_has_each_byte(rt: HostRuntime) {
+    let mut store = TransitionLists::new(rt.alloc(), 256).expect(&rt, "a store");
+    let list = store.fill(state(&rt, 3)).expect(&rt, "a full list");
+    assert_eq!(rt; list, state(&rt, 256));
+    assert_eq!(rt; store.len(), 257);
+    assert_eq!(rt; store.fill(FAIL), Err(overflow(256)));
+    assert_eq!(rt; store.len(), 257);
+}
+
+#[test]
+fn patterns_stand_in_their_order(rt: HostRuntime) {
+    let mut store = MatchLists::new(rt.alloc(), 3).expect(&rt, "a store");
+    let list = store
+        .push(StateID::ZERO, pattern(&rt, 4))
+        .expect(&rt, "a pattern");
+    let list = store.push(list, pattern(&rt, 2)).expect(&rt, "another");
+    let list = store.push(list, pattern(&rt, 4)).expect(&rt, "a third");
+    assert_eq!(rt; store.len(), 4);
+    let mut walk = store.iter(list);
+    assert_eq!(rt; walk.next(), Some(pattern(&rt, 4)));
+    assert_eq!(rt; walk.next(), Some(pattern(&rt, 2)));
+    assert_eq!(rt; walk.next(), Some(pattern(&rt, 4)));
+    assert_eq!(rt; walk.next(), None);
+    assert_eq!(rt; store.push(list, pattern(&rt, 1)), Err(overflow(3)));
+}
