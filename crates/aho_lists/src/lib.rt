@@ -2,7 +2,5 @@
 #![tactic(auto)]
 
 pub mod matches;
-#[cfg(test)]
-mod tests;
 pub mod transitions;
 mod walk;

@@ -19,6 +19,8 @@ mod inputs;
 #[cfg(test)]
 mod iteration;
 #[cfg(test)]
+mod lists;
+#[cfg(test)]
 mod lookups;
 #[cfg(test)]
 mod one_byte;

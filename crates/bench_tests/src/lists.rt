@@ -3,8 +3,8 @@
 ghost use Rattle.std.specs.Prelude.{◌≡◌};
 ghost use Rattle.aho_lists.specs.Lists.{IsList};
 
-use crate::matches::MatchLists;
-use crate::transitions::{FAIL, TransitionLists};
+use aho_lists::matches::MatchLists;
+use aho_lists::transitions::{FAIL, TransitionLists};
 use aho_base::error::BuildError;
 use aho_base::search::{PatternID, StateID};
 use std::process::Abort;
