@@ -1,6 +1,5 @@
 //! Replacement in memory: worked rows, and short inputs against a plain replacement that goes from byte to byte.
 
-ghost use Rattle.std.specs.Prelude.{◌≡◌, length};
 ghost use Rattle.aho_base.specs.Patterns.{Patterns};
 
 use crate::automata::nfa_of;
