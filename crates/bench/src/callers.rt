@@ -16,7 +16,7 @@ ghost use Rattle.aho_build.specs.Settings.{default_settings};
 ghost use Rattle.aho_search.specs.Finding.{AreFirstFinds};
 ghost use Rattle.bench.specs.Callers.{both_cases};
 
-use aho_base::error::{BuildError, StreamError, ReplaceError};
+use aho_base::error::{BuildError, ReplaceError, StreamError};
 use aho_base::search::{Anchored, Bytes, Input, Match, MatchKind, Span};
 use aho_corasick::answers::answer_of;
 use aho_corasick::noncontiguous::{Builder, NFA};

@@ -3,9 +3,9 @@
 ghost use Rattle.std.specs.Prelude.{◌+◌, ◌<◌, ◌^◌};
 
 use crate::automata::{listed, nfa_of, start_of, state_after};
-use bench::one_byte::OneByte;
 use aho_base::search::{Anchored, MatchKind, PatternID, StateID, Work};
 use aho_search::automaton::Automaton;
+use bench::one_byte::OneByte;
 use std::process::Abort;
 use std::test::Fail;
 

@@ -3,12 +3,12 @@
 ghost use Rattle.aho_base.specs.Patterns.{Patterns};
 
 use crate::automata::nfa_of;
-use bench::callers::{first_matches, match_ends, matches_in};
-use bench::one_byte::OneByte;
-use bench::tally::Tally;
 use aho_base::error::MatchError;
 use aho_base::search::{Anchored, Input, Match, MatchKind, Span};
 use aho_search::automaton::Automaton;
+use bench::callers::{first_matches, match_ends, matches_in};
+use bench::one_byte::OneByte;
+use bench::tally::Tally;
 use std::test::Fail;
 
 /// A pattern's number, and where its match starts and ends.

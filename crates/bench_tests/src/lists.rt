@@ -3,10 +3,10 @@
 ghost use Rattle.std.specs.Prelude.{◌≡◌};
 ghost use Rattle.aho_lists.specs.Lists.{IsList};
 
-use aho_lists::matches::MatchLists;
-use aho_lists::transitions::{FAIL, TransitionLists};
 use aho_base::error::BuildError;
 use aho_base::search::{PatternID, StateID};
+use aho_lists::matches::MatchLists;
+use aho_lists::transitions::{FAIL, TransitionLists};
 use std::process::Abort;
 
 fn state(rt: &impl Abort, number: usize) -> StateID {

@@ -4,12 +4,12 @@ ghost use Rattle.std.specs.Prelude.{◌+◌, ◌<◌, ◌≤◌, ◌^◌, length
 ghost use Rattle.aho_base.specs.Patterns.{Patterns};
 
 use crate::automata::nfa_of;
-use bench::one_byte::OneByte;
 use crate::reading::Reading;
-use bench::tally::Tally;
 use aho_base::error::MatchError;
 use aho_base::search::{Anchored, Bytes, Input, MatchKind, Span, Text};
 use aho_search::automaton::{Automaton, Counted, find_in};
+use bench::one_byte::OneByte;
+use bench::tally::Tally;
 use std::test::Fail;
 
 /// A search, the look-ups that it makes, and the bytes that it reads, all from the span's start on.

@@ -5,10 +5,10 @@ ghost use Rattle.aho_base.specs.Patterns.{Patterns};
 ghost use Rattle.aho_base.specs.Progress.{FitsSearch};
 
 use crate::automata::nfa_of;
-use bench::one_byte::OneByte;
 use aho_base::error::MatchError;
 use aho_base::search::{Anchored, Input, Match, MatchKind, PatternID, Span};
 use aho_search::automaton::{Automaton, OverlappingState};
+use bench::one_byte::OneByte;
 use std::alloc::{AllocError, Global};
 use std::process::Abort;
 use std::test::Fail;

@@ -3,12 +3,12 @@
 ghost use Rattle.aho_base.specs.Patterns.{Patterns};
 
 use crate::automata::nfa_of;
-use bench::listing::finds;
-use bench::pattern_set::PatternSet;
 use aho_base::error::ReplaceError;
 use aho_base::search::{Input, Match, MatchKind, PatternID};
 use aho_corasick::noncontiguous::NFA;
 use aho_search::automaton::Automaton;
+use bench::listing::finds;
+use bench::pattern_set::PatternSet;
 use std::alloc::{AllocError, Global};
 use std::process::Abort;
 use std::test::Fail;

@@ -5,14 +5,14 @@ ghost use Rattle.std.specs.Prelude.{◌+◌, ◌≤◌, length};
 ghost use Rattle.aho_base.specs.Patterns.{Patterns};
 
 use crate::automata::nfa_of;
-use bench::callers::all_matches;
-use bench::listing::{all, anchored, finds};
 use crate::overlaps::{found_by_calls, found_by_iterator};
-use bench::pattern_set::PatternSet;
-use bench::plain::plain;
 use aho_base::search::{Anchored, Input, Match, MatchKind, PatternID, Span};
 use aho_corasick::noncontiguous::NFA;
 use aho_search::automaton::Automaton;
+use bench::callers::all_matches;
+use bench::listing::{all, anchored, finds};
+use bench::pattern_set::PatternSet;
+use bench::plain::plain;
 use std::alloc::{AllocError, Global};
 use std::process::Abort;
 use std::test::Fail;
