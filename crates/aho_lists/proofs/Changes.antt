@@ -1,11 +1,9 @@
 -- What becomes of the lists of a vector where one of them is changed.
-use Rattle.std.proofs.Common.{◌≡◌, ℕ, zero, suc, ◌+◌, ◌-◌, ◌<◌, ◌≤◌, ◌≢◌, ◌⊎◌, List, [], ◌∷◌, ◌++◌, length, get_or, set, replicate, map, refl, sym, ap, subst, ◌∙◌, inl, inr, arith}
-use Rattle.std.specs.List.{range_with_len}
+use Rattle.std.proofs.Common.{◌≡◌, ℕ, zero, suc, ◌+◌, ◌-◌, ◌<◌, ◌≤◌, ◌≢◌, ◌⊎◌, List, [], ◌∷◌, ◌++◌, get_or, set, replicate, refl, sym, ap, subst, ◌∙◌, inl, inr, arith}
 use Rattle.std.proofs.lemmas.List.{same_lists, append_assoc, append-nil, length-set, get_or-set_same, get_or-set_other, get_or_default, replicate_more}
 use Rattle.std.proofs.lemmas.List.FromFn.{map-range_with_len_more}
 use Rattle.std.proofs.lemmas.Bool.{cases_eq, cases_order}
-use Rattle.aho_lists.specs.Rings.{Entries, list_ending, lists_of, IsRun, here, on, AreRings}
-use Rattle.aho_lists.specs.Lists.{list_at}
+use Rattle.aho_lists.specs.Rings.{Entries, list_ending, lists_of, IsRun, here, AreRings}
 use Rattle.aho_lists.proofs.Runs.{run-next, run-kept, one_end, list_ending-ring, list_ending-none, list_ending-zero}
 use Rattle.aho_lists.proofs.Stores.{length-lists_of, list_at-lists_of}
 

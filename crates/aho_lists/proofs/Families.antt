@@ -1,10 +1,10 @@
 -- A change of one list leaves the others.
-use Rattle.std.proofs.Common.{◌≡◌, ℕ, ◌+◌, ◌<◌, ◌≤◌, ◌≢◌, Bool, true, false, cond, List, [], ◌∷◌, ◌++◌, length, set, refl, sym, ap, subst, ◌∙◌, inl, inr, arith}
+use Rattle.std.proofs.Common.{◌≡◌, ℕ, ◌<◌, ◌≢◌, Bool, true, false, cond, List, [], ◌∷◌, ◌++◌, length, refl, sym, ap, ◌∙◌, inl, inr, arith}
 use Rattle.std.proofs.lemmas.Bool.{cases_order}
 use Rattle.std.proofs.lemmas.List.{length-set, length_push, get_or_past, get_or-set_same, get_or-set_other, get_or_append_left, get_or_push}
 use Rattle.aho_lists.specs.Lists.{list_at, IsList, without, push_in}
 use Rattle.aho_lists.specs.TransitionList.{with_transition, lists_transition, is_above, room_for, number_after, set_transition_in}
-use Rattle.aho_lists.proofs.TransitionRuns.{with_transition-more, with_transition-same, with_transition-less, lists_transition-other, lists_transition-same, is_above-more, is_above-not}
+use Rattle.aho_lists.proofs.TransitionRuns.{with_transition-more, with_transition-same, with_transition-less, lists_transition-other, is_above-more, is_above-not}
 
 -- a number at which a list with an item stands is a list's
 pub IsList-from : {X : Type 0} (lists : List (List X)) (number : ℕ) (items : List X) → list_at lists number ≡ items → items ≢ [] → IsList lists number

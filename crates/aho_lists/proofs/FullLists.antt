@@ -1,11 +1,11 @@
 -- A list in which every byte leads to the same state.
-use Rattle.std.proofs.Common.{◌≡◌, ℕ, zero, suc, ◌+◌, ◌-◌, ◌<◌, ◌≤◌, ◌≢◌, List, [], ◌∷◌, ◌++◌, length, map, set, get_or, replicate, refl, sym, ap, subst, ◌∙◌, inl, inr, arith}
+use Rattle.std.proofs.Common.{◌≡◌, ℕ, zero, suc, ◌+◌, ◌-◌, ◌<◌, ◌≤◌, List, [], ◌∷◌, ◌++◌, length, map, set, get_or, replicate, refl, sym, ap, subst, ◌∙◌, inl, inr, arith}
 use Rattle.std.specs.List.{range_with_len}
 use Rattle.std.proofs.lemmas.Bool.{cases_eq}
-use Rattle.std.proofs.lemmas.List.{append_assoc, length-append, length_push, get_or_append_left, get_or-append_right, get_or_push}
+use Rattle.std.proofs.lemmas.List.{length-append, length_push, get_or_append_left, get_or-append_right, get_or_push}
 use Rattle.std.proofs.lemmas.List.FromFn.{length-map-range_with_len, get_or-map-range_with_len, map-range_with_len_more}
-use Rattle.aho_lists.specs.Rings.{Entries, lists_of, IsRun, here, on, AreRings}
-use Rattle.aho_lists.specs.Lists.{list_at, with_list_behind}
+use Rattle.aho_lists.specs.Rings.{lists_of, IsRun, here, on, AreRings}
+use Rattle.aho_lists.specs.Lists.{with_list_behind}
 use Rattle.aho_lists.specs.TransitionList.{full_list}
 use Rattle.aho_lists.specs.Inside.{transition_of, transition_entries, byte_entries, full_entries, IsStore}
 use Rattle.aho_lists.specs.declared.transitions.Transition.{Transition}

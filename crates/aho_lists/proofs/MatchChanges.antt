@@ -2,7 +2,7 @@
 use Rattle.std.proofs.Common.{◌≡◌, ℕ, ◌+◌, ◌-◌, ◌<◌, ◌≤◌, ◌≢◌, List, [], ◌∷◌, ◌++◌, length, set, replicate, refl, sym, ap, subst, ◌∙◌, inl, inr, arith}
 use Rattle.std.proofs.lemmas.List.{length-set, length_push, get_or-set_same, get_or-set_other, get_or_append_left, get_or_push, set-append_left}
 use Rattle.std.proofs.lemmas.Bool.{cases_eq}
-use Rattle.aho_lists.specs.Rings.{Entries, lists_of, IsRun, here, on, AreRings}
+use Rattle.aho_lists.specs.Rings.{lists_of, IsRun, here, AreRings}
 use Rattle.aho_lists.specs.Lists.{list_at, IsList, push_in}
 use Rattle.aho_lists.specs.Inside.{match_of, match_entries, relinked_match, matched_behind, IsStore}
 use Rattle.aho_lists.specs.declared.matches.Match.{Match}

@@ -1,8 +1,8 @@
 -- Runs along the links of a vector of lists.
-use Rattle.std.proofs.Common.{◌≡◌, ℕ, zero, suc, ◌+◌, ◌-◌, ◌<◌, ◌≤◌, ◌≢◌, cond, nat_eq, nat_lt, true, false, List, [], ◌∷◌, ◌++◌, length, refl, sym, ap, subst, ◌∙◌, inl, inr, arith}
-use Rattle.std.proofs.lemmas.Bool.{cases_eq, cases_order}
+use Rattle.std.proofs.Common.{◌≡◌, ℕ, zero, suc, ◌+◌, ◌-◌, ◌<◌, ◌≤◌, ◌≢◌, nat_eq, nat_lt, true, false, List, [], ◌∷◌, ◌++◌, refl, sym, ap, subst, ◌∙◌, inl, inr, arith}
+use Rattle.std.proofs.lemmas.Bool.{cases_eq}
 use Rattle.std.proofs.lemmas.Bool.Decides.{nat_tests}
-use Rattle.aho_lists.specs.Rings.{Entries, list_along, list_to, list_ending, lists_of, IsRun, here, on, IsPassed, stop, pass, AreRings}
+use Rattle.aho_lists.specs.Rings.{Entries, list_along, list_to, list_ending, IsRun, here, on, IsPassed, stop, pass}
 
 -- keys rise up to the last
 pub key-le : {X : Type 0} {entries : Entries X} {last at : ℕ} {xs : List X} → IsRun entries last at xs → entries.key at ≤ entries.key last

@@ -1,5 +1,5 @@
 -- A store of transitions where one of its lists is changed: each lemma of what the code makes of the vector.
-use Rattle.std.proofs.Common.{◌≡◌, ℕ, ◌+◌, ◌<◌, ◌≤◌, false, List, [], ◌∷◌, ◌++◌, length, set, refl, sym, ap, subst, ◌∙◌, inl, inr, arith}
+use Rattle.std.proofs.Common.{◌≡◌, ℕ, ◌+◌, ◌<◌, ◌≤◌, false, List, [], ◌∷◌, ◌++◌, length, set, sym, ap, subst, ◌∙◌, inl, inr, arith}
 use Rattle.std.proofs.lemmas.List.{length-set, length_push}
 use Rattle.aho_lists.specs.Rings.{lists_of, IsRun, AreRings}
 use Rattle.aho_lists.specs.Lists.{list_at, IsList}

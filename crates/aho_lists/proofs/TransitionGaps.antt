@@ -1,7 +1,6 @@
 -- The lists of a vector of transitions where one of them has one entry more.
-use Rattle.std.proofs.Common.{◌≡◌, ℕ, ◌+◌, ◌-◌, ◌<◌, ◌≤◌, ◌≢◌, true, false, List, [], ◌∷◌, ◌++◌, length, set, replicate, refl, sym, ap, subst, ◌∙◌, arith}
-use Rattle.std.proofs.lemmas.List.{length-set}
-use Rattle.aho_lists.specs.Rings.{Entries, lists_of, IsRun, here, on, IsPassed, AreRings}
+use Rattle.std.proofs.Common.{◌≡◌, ℕ, ◌+◌, ◌-◌, ◌<◌, ◌≤◌, ◌≢◌, false, List, [], ◌∷◌, ◌++◌, length, set, replicate, refl, sym, ap, subst, ◌∙◌, arith}
+use Rattle.aho_lists.specs.Rings.{lists_of, IsRun, here, on, IsPassed, AreRings}
 use Rattle.aho_lists.specs.Lists.{list_at}
 use Rattle.aho_lists.specs.TransitionList.{with_transition, lists_transition, number_after, set_transition_in}
 use Rattle.aho_lists.specs.Inside.{transition_of, transition_entries, linked_behind, IsGapBehind, first, beyond, between}

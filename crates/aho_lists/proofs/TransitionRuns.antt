@@ -1,5 +1,5 @@
 -- What a run says of a list of transitions that rises by byte.
-use Rattle.std.proofs.Common.{◌≡◌, ℕ, ◌<◌, ◌≤◌, ◌≢◌, cond, nat_eq, nat_lt, true, false, List, [], ◌∷◌, ◌++◌, length, refl, sym, ap, subst, ◌∙◌, inl, inr, arith, zero, suc}
+use Rattle.std.proofs.Common.{◌≡◌, ℕ, ◌<◌, ◌≤◌, ◌≢◌, true, false, List, [], ◌∷◌, ◌++◌, refl, sym, ap, subst, ◌∙◌, inl, inr, arith, zero, suc}
 use Rattle.std.proofs.lemmas.Bool.{cases_order}
 use Rattle.std.proofs.lemmas.Bool.Decides.{nat_tests}
 use Rattle.std.proofs.lemmas.List.Elements.{All-cons}
@@ -7,7 +7,7 @@ use Rattle.std.specs.List.{All}
 use Rattle.aho_lists.specs.Rings.{Entries, IsRun, here, on, IsPassed, stop, pass}
 use Rattle.aho_lists.specs.Inside.{IsOn, IsGapBehind, first, beyond, between}
 use Rattle.aho_lists.specs.TransitionList.{transition_at, with_transition, lists_transition, is_above, IsRising}
-use Rattle.aho_lists.proofs.Runs.{key-le, run-kept, run-longer, last-passed}
+use Rattle.aho_lists.proofs.Runs.{key-le, run-kept}
 
 -- ---- one entry of a list
 

@@ -1,16 +1,16 @@
 -- The lists of a vector of transitions where one of them is changed.
-use Rattle.std.proofs.Common.{◌≡◌, ℕ, ◌+◌, ◌-◌, ◌<◌, ◌≤◌, ◌≢◌, true, false, cond, List, [], ◌∷◌, ◌++◌, length, get_or, set, replicate, refl, sym, ap, subst, ◌∙◌, inl, inr, arith}
-use Rattle.std.proofs.lemmas.List.{length-set, length_push, get_or-set_same, get_or-set_other, get_or_append_left, get_or_push, set-set, set_at, set-append_left, set-get_or}
+use Rattle.std.proofs.Common.{◌≡◌, ℕ, ◌+◌, ◌-◌, ◌<◌, ◌≤◌, ◌≢◌, true, false, List, [], ◌∷◌, ◌++◌, length, set, replicate, refl, sym, ap, subst, ◌∙◌, inl, inr, arith}
+use Rattle.std.proofs.lemmas.List.{length-set, get_or-set_same, get_or-set_other, get_or_append_left, get_or_push, set-set, set_at, set-append_left, set-get_or}
 use Rattle.std.proofs.lemmas.Bool.{cases_eq}
-use Rattle.aho_lists.specs.Rings.{Entries, lists_of, list_ending, IsRun, here, on, IsPassed, AreRings}
-use Rattle.aho_lists.specs.Lists.{list_at, without}
-use Rattle.aho_lists.specs.TransitionList.{with_transition, lists_transition, is_above, room_for, number_after, set_transition_in}
-use Rattle.aho_lists.specs.Inside.{transition_of, transition_entries, redirected, relinked, linked_behind, IsOn, IsGapBehind, first, beyond, between}
+use Rattle.aho_lists.specs.Rings.{Entries, lists_of, IsRun, here, AreRings}
+use Rattle.aho_lists.specs.Lists.{list_at}
+use Rattle.aho_lists.specs.TransitionList.{with_transition, lists_transition, is_above, number_after, set_transition_in}
+use Rattle.aho_lists.specs.Inside.{transition_of, transition_entries, redirected, relinked, linked_behind, IsOn}
 use Rattle.aho_lists.specs.declared.transitions.Transition.{Transition}
-use Rattle.aho_lists.proofs.Runs.{key-le, run-next, run-from, run-kept, run-longer, list_ending-zero, list_ending-ring}
-use Rattle.aho_lists.proofs.Stores.{length-lists_of, list_at-lists_of}
-use Rattle.aho_lists.proofs.Changes.{IsChange, IsGrowth, lists_of-set, other_lists, AreRings-changed, lists_of-grown, AreRings-grown, lists_of-inserted, AreRings-inserted}
-use Rattle.aho_lists.proofs.TransitionRuns.{run-replaced, run-between, apart-gap, lists_transition-on, lists_transition-none, is_above-behind, is_above-within, with_transition-before, with_transition-behind}
+use Rattle.aho_lists.proofs.Runs.{key-le, run-next, run-from, list_ending-zero, list_ending-ring}
+use Rattle.aho_lists.proofs.Stores.{list_at-lists_of}
+use Rattle.aho_lists.proofs.Changes.{IsChange, IsGrowth, lists_of-set, other_lists, AreRings-changed, lists_of-grown, AreRings-grown}
+use Rattle.aho_lists.proofs.TransitionRuns.{run-replaced, lists_transition-on, is_above-within}
 
 -- ---- entries
 

@@ -1,8 +1,7 @@
 -- A walk along a list.
-use Rattle.std.proofs.Common.{◌≡◌, ℕ, ◌<◌, ◌≤◌, ◌≢◌, nat_eq, true, false, Option, Some, None, List, [], ◌∷◌, length, refl, sym, ap, subst, ◌∙◌, inl, inr, arith}
-use Rattle.std.proofs.lemmas.Bool.{cases_eq}
+use Rattle.std.proofs.Common.{◌≡◌, ℕ, ◌<◌, ◌≢◌, Option, Some, None, List, [], ◌∷◌, refl, sym, ap, subst, ◌∙◌, arith}
 use Rattle.std.proofs.lemmas.Bool.Decides.{nat_tests}
-use Rattle.aho_lists.specs.Rings.{Entries, list_to, rest_from, place_after, IsRun, here, on, IsWalk, AreRings}
+use Rattle.aho_lists.specs.Rings.{Entries, rest_from, place_after, IsRun, here, on, IsWalk}
 use Rattle.aho_lists.proofs.Runs.{list_to-run}
 
 after-last : (link at last : ℕ) → at ≡ last → place_after link at last ≡ None

@@ -1,7 +1,7 @@
 -- The vectors of the stores: what stands at each place.
-use Rattle.std.specs.Prelude.{◌≡◌, ◌≢◌, ℕ, zero, suc, ◌+◌, ◌<◌, ◌≤◌, ◌⊎◌, List, [], ◌∷◌, ◌++◌, length, map, slice_index_or, slice_set}
+use Rattle.std.specs.Prelude.{◌≡◌, ◌≢◌, ℕ, ◌+◌, ◌<◌, ◌≤◌, List, [], ◌∷◌, ◌++◌, length, map, slice_index_or, slice_set}
 use Rattle.std.specs.List.{range_with_len}
-use Rattle.aho_lists.specs.Rings.{Entries, AreRings, IsRun, IsPassed}
+use Rattle.aho_lists.specs.Rings.{Entries, AreRings, IsPassed}
 use Rattle.aho_lists.specs.declared.transitions.Transition.{Transition}
 use Rattle.aho_lists.specs.declared.matches.Match.{Match}
 

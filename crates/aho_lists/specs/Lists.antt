@@ -1,5 +1,5 @@
 -- What a store of lists is seen as: at each number the list that has it, and the greatest index of an entry.
-use Rattle.std.specs.Prelude.{◌≡◌, ◌≢◌, ℕ, ◌+◌, ◌-◌, ◌<◌, ◌≤◌, List, [], ◌∷◌, ◌++◌, length, replicate, slice_index_or, slice_set, if◌then◌else◌, nat_eq}
+use Rattle.std.specs.Prelude.{◌≡◌, ℕ, ◌-◌, List, [], ◌∷◌, ◌++◌, length, replicate, slice_index_or, slice_set}
 
 -- `lists` has an item for each entry of the vector, the one at index 0 included. A list stands at its own number. A number
 -- that no list has, as 0, has the empty list

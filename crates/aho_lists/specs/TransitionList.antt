@@ -1,7 +1,7 @@
 -- A list of transitions: pairs of a byte and the state that it leads to, rising by byte.
-use Rattle.std.specs.Prelude.{◌≡◌, ℕ, ◌+◌, ◌-◌, ◌<◌, Bool, List, [], ◌∷◌, ◌++◌, length, map, nat_eq, nat_lt, if◌then◌else◌, slice_set}
+use Rattle.std.specs.Prelude.{ℕ, ◌<◌, Bool, List, [], ◌∷◌, ◌++◌, length, map, nat_eq, nat_lt, if◌then◌else◌, slice_set}
 use Rattle.std.specs.List.{All, list_any, list_all, range_with_len}
-use Rattle.aho_lists.specs.Lists.{Lists, list_at, without}
+use Rattle.aho_lists.specs.Lists.{list_at, without}
 
 -- where the byte leads, and 1 (FAIL) where nothing is listed for it
 abbrev pub transition_at : List (ℕ × ℕ) → ℕ → ℕ

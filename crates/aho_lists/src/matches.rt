@@ -41,9 +41,13 @@ impl Model for MatchLists {
 
     ghost Value = { Lists ℕ };
 
-    ghost view = { λ s. record { lists = lists_of (match_entries s.entries.items) (length s.entries.items); limit = s.limit } };
+    ghost view = { λ s. record {
+      lists = lists_of (match_entries s.entries.items) (length s.entries.items);
+      limit = s.limit;
+    } };
 
-    ghost invariant = { λ s. IsStore (match_entries s.entries.items) (length s.entries.items) s.limit };
+    ghost invariant = { λ s.
+        IsStore (match_entries s.entries.items) (length s.entries.items) s.limit };
 }
 
 impl MatchLists {
@@ -162,7 +166,8 @@ impl<'t> Model for Matches<'t> {
 
     ghost view = { λ it. rest_from (match_entries it.entries.now) it.at it.last };
 
-    ghost invariant = { λ it. IsWalk (match_entries it.entries.now) (length it.entries.now) it.at it.last };
+    ghost invariant = { λ it.
+        IsWalk (match_entries it.entries.now) (length it.entries.now) it.at it.last };
 }
 
 impl<'t> Iterator for Matches<'t> {

@@ -48,9 +48,13 @@ impl Model for TransitionLists {
 
     ghost Value = { Lists (ℕ × ℕ) };
 
-    ghost view = { λ s. record { lists = lists_of (transition_entries s.entries.items) (length s.entries.items); limit = s.limit } };
+    ghost view = { λ s. record {
+      lists = lists_of (transition_entries s.entries.items) (length s.entries.items);
+      limit = s.limit;
+    } };
 
-    ghost invariant = { λ s. IsStore (transition_entries s.entries.items) (length s.entries.items) s.limit };
+    ghost invariant = { λ s.
+        IsStore (transition_entries s.entries.items) (length s.entries.items) s.limit };
 }
 
 impl TransitionLists {
@@ -123,8 +127,8 @@ impl TransitionLists {
     pub fn set(&mut self, list: StateID, byte: u8, next: StateID) -> Result<StateID, BuildError>
         requires known { IsList self.old.lists list }
         ensures number { IfOk result (λ made. made ≡ number_after self.old.lists list byte) }
-        ensures set { OnOk result
-            (self.new ≡ record self.old { lists = set_transition_in self.old.lists list byte next }) }
+        ensures set { OnOk result (self.new
+            ≡ record self.old { lists = set_transition_in self.old.lists list byte next }) }
         ensures changed { IfOk result (λ made. list_at self.new.lists made
             ≡ with_transition (list_at self.old.lists list) byte next) }
         ensures known { IfOk result (λ made. IsList self.new.lists made) }
@@ -234,7 +238,8 @@ impl<'t> Model for Transitions<'t> {
 
     ghost view = { λ it. rest_from (transition_entries it.entries.now) it.at it.last };
 
-    ghost invariant = { λ it. IsWalk (transition_entries it.entries.now) (length it.entries.now) it.at it.last };
+    ghost invariant = { λ it.
+        IsWalk (transition_entries it.entries.now) (length it.entries.now) it.at it.last };
 }
 
 impl<'t> Iterator for Transitions<'t> {

@@ -1,6 +1,6 @@
 -- The new entry links to where the last one did.
-use Rattle.std.proofs.Common.{◌≡◌, ℕ, List, [], ◌∷◌, ◌++◌, length, ap, refl, sym, subst, arith, ◌∙◌}
-use Rattle.aho_lists.specs.Inside.{match_of, relinked_match, matched_behind}
+use Rattle.std.proofs.Common.{ℕ, List, [], ◌∷◌, ◌++◌, length, ap, ◌∙◌}
+use Rattle.aho_lists.specs.Inside.{match_of, relinked_match}
 use Rattle.aho_lists.specs.declared.matches.Match.{Match}
 use Rattle.aho_lists.proofs.MatchChanges.{relinked_match-pushed}
 use Rattle.aho_lists.proofs.matches.push_behind.Goals as goal

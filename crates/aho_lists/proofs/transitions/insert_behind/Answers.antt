@@ -1,7 +1,6 @@
 -- The new entry links to where the one before it did.
-use Rattle.std.proofs.Common.{◌≡◌, ℕ, List, [], ◌∷◌, ◌++◌, length, ap, refl, sym, subst, arith, ◌∙◌}
-use Rattle.std.proofs.lemmas.List.{length_push, set-append_left}
-use Rattle.aho_lists.specs.Inside.{transition_of, relinked, linked_behind}
+use Rattle.std.proofs.Common.{ℕ, List, [], ◌∷◌, ◌++◌, length, ap, ◌∙◌}
+use Rattle.aho_lists.specs.Inside.{transition_of, relinked}
 use Rattle.aho_lists.specs.declared.transitions.Transition.{Transition}
 use Rattle.aho_lists.proofs.TransitionStores.{relinked-pushed}
 use Rattle.aho_lists.proofs.transitions.insert_behind.Goals as goal

@@ -1,7 +1,7 @@
 -- The walk to the byte's entry, or to its gap.
-use Rattle.std.proofs.Common.{◌≡◌, ◌≢◌, ℕ, ◌-◌, ◌<◌, ◌≤◌, List, length, arith, refl, sym, ap, subst, ◌∙◌, inl, inr}
-use Rattle.aho_lists.specs.Rings.{Entries, IsRun, IsPassed, stop, pass}
-use Rattle.aho_lists.specs.Inside.{transition_of, transition_entries, IsOn, IsGapBehind, first, beyond, between}
+use Rattle.std.proofs.Common.{◌≡◌, ◌≢◌, ℕ, ◌-◌, ◌<◌, ◌≤◌, List, arith, refl, sym, ap, subst, inl, inr}
+use Rattle.aho_lists.specs.Rings.{IsRun, IsPassed, stop}
+use Rattle.aho_lists.specs.Inside.{transition_of, transition_entries, first, between}
 use Rattle.aho_lists.specs.declared.transitions.Transition.{Transition}
 use Rattle.aho_lists.proofs.Runs.{run-next, passed-next, last-passed}
 use Rattle.aho_lists.proofs.transitions.place.Goals as goal

@@ -1,7 +1,7 @@
 -- Each byte has its entry.
-use Rattle.std.proofs.Common.{◌≡◌, ◌<◌, ◌+◌, ℕ, List, [], ◌∷◌, ◌++◌, length, take, ap, refl, sym, subst, arith, ◌∙◌}
-use Rattle.std.proofs.lemmas.List.{append_assoc, append-nil, take_at}
-use Rattle.aho_lists.specs.Inside.{byte_entries, full_entries}
+use Rattle.std.proofs.Common.{◌≡◌, ◌+◌, ℕ, List, [], ◌∷◌, ◌++◌, length, ap, sym, arith, ◌∙◌}
+use Rattle.std.proofs.lemmas.List.{append_assoc, append-nil}
+use Rattle.aho_lists.specs.Inside.{byte_entries}
 use Rattle.aho_lists.specs.declared.transitions.Transition.{Transition}
 use Rattle.aho_lists.proofs.FullLists.{byte_entries-more, byte_entries-none}
 use Rattle.aho_lists.proofs.transitions.push_full.Goals as goal

@@ -1,7 +1,7 @@
 -- A walk begins with the first entry of the list.
-use Rattle.std.proofs.Common.{◌≡◌, ◌<◌, ℕ, Option, Some, None, List, [], length, ap, refl, sym, subst, arith, ◌∙◌}
-use Rattle.aho_lists.specs.Rings.{rest_from, IsRun, IsWalk}
-use Rattle.aho_lists.specs.Lists.{Lists, list_at, IsList}
+use Rattle.std.proofs.Common.{◌≡◌, ◌<◌, ℕ, List, length, sym, subst, ◌∙◌}
+use Rattle.aho_lists.specs.Rings.{IsRun}
+use Rattle.aho_lists.specs.Lists.{list_at, IsList}
 use Rattle.aho_lists.specs.Inside.{match_of, match_entries}
 use Rattle.aho_lists.specs.declared.matches.Match.{Match}
 use Rattle.aho_lists.proofs.Results.{is_zero, is_some}

@@ -1,5 +1,5 @@
 -- There is a number for each entry.
-use Rattle.std.proofs.Common.{length, arith}
+use Rattle.std.proofs.Common.{arith}
 use Rattle.aho_lists.proofs.Stores.{length-lists_of}
 use Rattle.aho_lists.proofs.matches.MatchLists.len.Goals as goal
 

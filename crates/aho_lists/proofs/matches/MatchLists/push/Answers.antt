@@ -1,13 +1,11 @@
 -- The pattern stands behind the last of its list.
-use Rattle.std.proofs.Common.{◌≡◌, ◌<◌, ℕ, List, [], ◌∷◌, ◌++◌, length, ap, refl, sym, subst, arith, ◌∙◌}
+use Rattle.std.proofs.Common.{◌≡◌, ℕ, [], ◌∷◌, ◌++◌, length, ap, refl, sym, arith, ◌∙◌}
 use Rattle.aho_base.specs.declared.error.BuildError.{BuildError}
 use Rattle.aho_lists.specs.Refusal.{refusal_at}
 use Rattle.aho_lists.specs.Lists.{Lists, list_at, IsList, push_in}
-use Rattle.aho_lists.specs.Inside.{match_of, match_entries, matched_behind}
-use Rattle.aho_lists.specs.declared.matches.Match.{Match}
 use Rattle.aho_lists.proofs.Results.{is_zero, is_some, IfErr-given, OnOk-more, IfOk-from}
 use Rattle.aho_lists.proofs.Families.{IsList-from, push_in-other, push_in-this, push-some}
-use Rattle.aho_lists.proofs.Stores.{list_at-zero, same_store, length-lists_of, push_in-empty}
+use Rattle.aho_lists.proofs.Stores.{same_store, length-lists_of, push_in-empty}
 use Rattle.aho_lists.proofs.MatchChanges.{match_lists, match_list_in, IsStore-more, match_lists-more}
 use Rattle.aho_lists.proofs.matches.MatchLists.push.Goals as goal
 

@@ -1,7 +1,6 @@
 -- One entry that links to itself is a list.
-use Rattle.std.proofs.Common.{◌≡◌, ℕ, List, length, ap, refl, sym, subst, arith, ◌∙◌}
+use Rattle.std.proofs.Common.{◌≡◌, List, length, ap, refl, sym, subst, arith}
 use Rattle.std.proofs.lemmas.List.{length_push}
-use Rattle.aho_lists.specs.Lists.{Lists}
 use Rattle.aho_lists.specs.Inside.{match_entries, IsStore}
 use Rattle.aho_lists.specs.declared.matches.Match.{Match}
 use Rattle.aho_base.specs.declared.error.BuildError.{BuildError}

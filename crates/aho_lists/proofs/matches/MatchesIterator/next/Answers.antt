@@ -1,7 +1,6 @@
 -- One step of a walk.
-use Rattle.std.proofs.Common.{◌≡◌, ◌<◌, ℕ, Option, Some, None, List, [], ◌∷◌, length, ap, refl, sym, subst, arith, ◌∙◌}
-use Rattle.std.specs.Prelude.{IfSome}
-use Rattle.aho_lists.specs.Rings.{rest_from, place_after, IsRun, IsWalk}
+use Rattle.std.proofs.Common.{◌≡◌, ℕ, Option, Some, List, ◌∷◌, length, ap, sym, subst, arith, ◌∙◌}
+use Rattle.aho_lists.specs.Rings.{rest_from, place_after, IsWalk}
 use Rattle.aho_lists.specs.Inside.{match_of, match_entries}
 use Rattle.aho_lists.specs.declared.matches.Match.{Match}
 use Rattle.aho_lists.proofs.Walks.{rest_from-none, rest_from-next, IsWalk-next}

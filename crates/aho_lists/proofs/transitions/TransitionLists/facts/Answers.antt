@@ -1,6 +1,5 @@
 -- What is true of every store.
-use Rattle.std.proofs.Common.{◌≡◌, ℕ, List, length, arith}
-use Rattle.aho_lists.specs.Lists.{Lists, list_at}
+use Rattle.std.proofs.Common.{length}
 use Rattle.aho_lists.specs.Inside.{transition_entries}
 use Rattle.aho_lists.proofs.Stores.{list_at-zero, length-lists_of}
 use Rattle.aho_lists.proofs.TransitionChanges.{list_at-rising}

@@ -1,7 +1,5 @@
 -- The entries of all bytes are a list of their own.
-use Rattle.std.proofs.Common.{◌≡◌, ◌<◌, ◌≤◌, ◌+◌, ℕ, List, length, take, ap, refl, sym, subst, arith, ◌∙◌}
-use Rattle.aho_lists.specs.Lists.{Lists}
-use Rattle.aho_lists.specs.Inside.{transition_entries, full_entries, IsStore}
+use Rattle.std.proofs.Common.{◌+◌, List, length, ap, refl, arith, ◌∙◌}
 use Rattle.aho_lists.specs.declared.transitions.Transition.{Transition}
 use Rattle.aho_lists.proofs.Results.{overflow_at, out_of_memory_at}
 use Rattle.aho_lists.proofs.Stores.{length-lists_of, same_store}

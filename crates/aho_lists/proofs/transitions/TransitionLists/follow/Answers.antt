@@ -1,7 +1,6 @@
 -- The byte's entry tells where it leads.
-use Rattle.std.proofs.Common.{◌≡◌, ◌<◌, ◌≤◌, ℕ, List, length, ap, refl, sym, subst, arith, ◌∙◌}
-use Rattle.aho_lists.specs.Lists.{Lists, list_at, IsList}
-use Rattle.aho_lists.specs.TransitionList.{transition_at}
+use Rattle.std.proofs.Common.{List, length, ap, refl, subst, ◌∙◌}
+use Rattle.aho_lists.specs.Lists.{IsList}
 use Rattle.aho_lists.specs.Inside.{transition_of, transition_entries, IsOn, IsGapBehind}
 use Rattle.aho_lists.specs.declared.transitions.Transition.{Transition}
 use Rattle.aho_lists.proofs.Results.{is_zero, is_some}

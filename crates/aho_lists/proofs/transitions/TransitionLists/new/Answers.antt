@@ -1,5 +1,5 @@
 -- The entry at index 0 is no list.
-use Rattle.std.proofs.Common.{◌≡◌, ◌<◌, ℕ, length, min, ap, refl, arith, ◌∙◌}
+use Rattle.std.proofs.Common.{◌≡◌, length, min, ap, arith, ◌∙◌}
 use Rattle.aho_lists.specs.Rings.{lists_of}
 use Rattle.aho_lists.specs.Inside.{transition_entries}
 use Rattle.aho_lists.proofs.Stores.{lists_of-one, same_store}

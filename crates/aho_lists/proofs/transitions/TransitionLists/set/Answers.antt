@@ -1,15 +1,15 @@
 -- The byte's entry is led elsewhere, or one more stands where its gap is.
-use Rattle.std.proofs.Common.{◌≡◌, ◌<◌, ◌≤◌, ℕ, List, [], ◌∷◌, ◌++◌, length, true, false, ap, refl, sym, subst, arith, ◌∙◌}
+use Rattle.std.proofs.Common.{◌≡◌, ◌<◌, ℕ, List, length, true, ap, refl, sym, subst, arith, ◌∙◌}
 use Rattle.aho_lists.specs.Lists.{Lists, list_at, IsList}
 use Rattle.aho_lists.specs.TransitionList.{with_transition, set_transition_in, number_after, lists_transition}
-use Rattle.aho_lists.specs.Inside.{transition_of, transition_entries, IsStore, IsOn, IsGapBehind, redirected, linked_behind}
+use Rattle.aho_lists.specs.Inside.{transition_of, transition_entries, IsOn, IsGapBehind}
 use Rattle.aho_lists.specs.declared.transitions.Transition.{Transition}
 use Rattle.aho_base.specs.declared.error.BuildError.{BuildError}
 use Rattle.aho_lists.specs.Refusal.{refusal_at}
 use Rattle.aho_lists.proofs.TransitionStores.{set_transition_in-empty, number_after-empty}
 use Rattle.aho_lists.proofs.Results.{is_zero, is_some, IfErr-given, OnOk-more, IfOk-from}
 use Rattle.aho_lists.proofs.Families.{IsList-from, set_transition_in-other, set_transition_in-this, with_transition-some}
-use Rattle.aho_lists.proofs.Stores.{list_at-zero, same_store, length-lists_of}
+use Rattle.aho_lists.proofs.Stores.{same_store, length-lists_of}
 use Rattle.aho_lists.proofs.TransitionGaps.{lists_in}
 use Rattle.aho_lists.proofs.TransitionChanges.{list_in, list_ends, IsStore-redirected, lists_in-redirected, number-on, IsStore-behind, lists_in-behind, number-above, number-below, unlisted-gap}
 use Rattle.aho_lists.proofs.transitions.TransitionLists.set.Goals as goal

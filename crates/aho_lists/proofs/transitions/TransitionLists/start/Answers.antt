@@ -1,6 +1,5 @@
 -- One entry that links to itself is a list.
-use Rattle.std.proofs.Common.{◌≡◌, ℕ, List, length, ap, refl, sym, subst, arith, ◌∙◌}
-use Rattle.aho_lists.specs.Lists.{Lists}
+use Rattle.std.proofs.Common.{◌≡◌, List, length, refl, sym, subst}
 use Rattle.aho_lists.specs.Inside.{transition_entries, IsStore}
 use Rattle.aho_lists.specs.declared.transitions.Transition.{Transition}
 use Rattle.aho_base.specs.declared.error.BuildError.{BuildError}
