@@ -116,13 +116,27 @@ fn anchored_iterators_are_refused(rt: HostRuntime) {
     assert_eq!(rt; refused.err(), Some(MatchError::invalid_input_anchored()));
 }
 
+/// What the first three calls of an iterator give.
+fn three_calls<A: Automaton>(
+    automaton: &A,
+    input: Input<'_>,
+) -> Result<(Option<Match>, Option<Match>, Option<Match>), MatchError>
+    requires of { (p : Patterns) × A.is_of automaton.now p }
+{
+    let mut matches = automaton.try_find_overlapping_iter(input)?;
+    let first = matches.next();
+    let second = matches.next();
+    let third = matches.next();
+    Ok((first, second, third))
+}
+
 #[test]
 fn an_iterator_gives_none_again(rt: HostRuntime) -> Result<(), Fail> {
     let nfa = nfa_of(&rt, rt.alloc(), &[b"a"], MatchKind::Standard, false);
-    let mut matches = nfa.try_find_overlapping_iter(Input::new(b"ba"))?;
-    assert_eq!(rt; matches.next(), match_of(&rt, 0, 1, 2), "the match");
-    assert_eq!(rt; matches.next(), None, "the end");
-    assert_eq!(rt; matches.next(), None, "after the end");
+    let (first, end, after) = three_calls(&nfa, Input::new(b"ba"))?;
+    assert_eq!(rt; first, match_of(&rt, 0, 1, 2), "the match");
+    assert_eq!(rt; end, None, "the end");
+    assert_eq!(rt; after, None, "after the end");
     Ok(())
 }
 
