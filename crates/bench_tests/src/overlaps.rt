@@ -1,8 +1,8 @@
 //! Overlapping search: what its calls and its iterator find, one after another, and what they refuse.
 
-ghost use Rattle.std.specs.Prelude.{◌+◌, ◌≤◌, length};
+ghost use Rattle.std.specs.Prelude.{◌≡◌, ◌≤◌};
 ghost use Rattle.aho_base.specs.Patterns.{Patterns};
-ghost use Rattle.aho_base.specs.Progress.{FitsSearch};
+ghost use Rattle.aho_base.specs.Progress.{without_match};
 
 use crate::automata::nfa_of;
 use aho_base::error::MatchError;
@@ -68,28 +68,67 @@ fn done(haystack: &[u8]) -> Input<'_> {
     Input::new(haystack).span(Span { start: 1, end: 0 })
 }
 
-#[test]
-fn a_refused_call_leaves_the_search_where_it_was(rt: HostRuntime) -> Result<(), Fail> {
-    let standard = nfa_of(&rt, rt.alloc(), &[b"a"], MatchKind::Standard, false);
-    let first = nfa_of(&rt, rt.alloc(), &[b"a"], MatchKind::LeftmostFirst, false);
-    let input = Input::new(b"aa");
+/// What a call on a leftmost automaton answers, whatever the state.
+fn refused_call<A: Automaton>(
+    rt: &impl Abort,
+    leftmost: &A,
+    input: &Input<'_>,
+    state: &mut OverlappingState,
+) -> Result<(), MatchError>
+    requires of { (p : Patterns) × A.is_of leftmost.now p }
+    ensures kept { state.new ≡ without_match state.old }
+{
+    match leftmost.match_kind() {
+        MatchKind::LeftmostFirst => leftmost.try_find_overlapping(input, state),
+        MatchKind::Standard | MatchKind::LeftmostLongest => panic!(rt; "another kind"),
+    }
+}
+
+/// What a state has after a call, after one that a leftmost automaton refuses, and after one more call.
+fn around_a_refused_call<A: Automaton, B: Automaton>(
+    rt: &impl Abort,
+    standard: &A,
+    leftmost: &B,
+    input: &Input<'_>,
+) -> Result<[Option<Match>; 3], MatchError>
+    requires of { (p : Patterns) × A.is_of standard.now p }
+    requires of_leftmost { (p : Patterns) × B.is_of leftmost.now p }
+{
     let mut state = OverlappingState::start();
-    assert_eq!(rt; state.get_match(), None, "before the first call");
-    standard.try_find_overlapping(&input, &mut state)?;
-    assert_eq!(rt; state.get_match(), match_of(&rt, 0, 0, 1), "the first call");
-    let copy = state.clone()?;
+    standard.try_find_overlapping(input, &mut state)?;
+    let first = state.get_match();
     assert_eq!(rt;
-        first.try_find_overlapping(&input, &mut state),
+        refused_call(rt, leftmost, input, &mut state),
         Err(MatchError::unsupported_overlapping(MatchKind::LeftmostFirst)),
         "the leftmost kind"
     );
-    assert_eq!(rt; state.get_match(), None, "after the refused call");
-    assert_eq!(rt; copy.get_match(), match_of(&rt, 0, 0, 1), "a clone");
-    standard.try_find_overlapping(&input, &mut state)?;
+    let refused = state.get_match();
+    standard.try_find_overlapping(input, &mut state)?;
+    Ok([first, refused, state.get_match()])
+}
+
+#[test]
+fn a_refused_call_leaves_the_search_where_it_was(rt: HostRuntime) -> Result<(), Fail> {
+    let standard = nfa_of(&rt, rt.alloc(), &[b"a"], MatchKind::Standard, false);
+    let leftmost = nfa_of(&rt, rt.alloc(), &[b"a"], MatchKind::LeftmostFirst, false);
+    let found = around_a_refused_call(&rt, &standard, &leftmost, &Input::new(b"aa"))?;
+    let [first, refused, second] = found;
+    assert_eq!(rt; first, match_of(&rt, 0, 0, 1), "the first call");
+    assert_eq!(rt; refused, None, "after the refused call");
+    assert_eq!(rt; second, match_of(&rt, 0, 1, 2), "the second call");
+    Ok(())
+}
+
+#[test]
+fn a_clone_has_its_match(rt: HostRuntime) -> Result<(), Fail> {
+    let nfa = nfa_of(&rt, rt.alloc(), &[b"a"], MatchKind::Standard, false);
+    let mut state = OverlappingState::start();
+    assert_eq!(rt; state.get_match(), None, "before the first call");
+    nfa.try_find_overlapping(&Input::new(b"aa"), &mut state)?;
     assert_eq!(rt;
-        state.get_match(),
-        match_of(&rt, 0, 1, 2),
-        "the second call"
+        state.clone()?.get_match(),
+        match_of(&rt, 0, 0, 1),
+        "a clone"
     );
     Ok(())
 }
