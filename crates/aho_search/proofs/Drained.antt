@@ -1,7 +1,7 @@
 -- What the iterator of an overlapping search gives, from one call to the next.
-use Rattle.std.proofs.Common.{◌≡◌, ℕ, zero, suc, ◌+◌, ◌<◌, ◌≤◌, min, List, [], ◌∷◌, length, drop, refl, sym, ◌∙◌, ap, subst, arith}
+use Rattle.std.proofs.Common.{◌≡◌, ℕ, zero, suc, ◌+◌, ◌<◌, ◌≤◌, min, List, [], ◌∷◌, length, take, drop, refl, sym, ◌∙◌, ap, subst, arith}
 use Rattle.std.specs.Prelude.{Option, Some, None, slice_get}
-use Rattle.std.specs.Iterator.{YieldsThen}
+use Rattle.std.specs.Iterator.{Yields, YieldsThen}
 use Rattle.std.specs.List.{All}
 use Rattle.std.proofs.lemmas.List.Elements.{All-cons, All-nil}
 use Rattle.std.proofs.lemmas.Option.{slice_get_past, slice_get_within}
@@ -42,6 +42,16 @@ module _ {S : Type 0} (steps : S → Option Occurrence → S → Type 0) (Fit : 
       let more : min (n + 1) (length all) ≡ n + 1 = omega arith in
       let rest = drained ms calls.1.0 u (n + 1) (omega arith) (subst (Fit calls.1.0) more next.1) (calls.0, calls.1.2, calls.2) in
       (ap (λ (xs : List Occurrence). m ∷ xs) rest.0 ∙ sym (drop-next all n m (sym next.0)), rest.1)
+
+  -- what calls up to any place give is a beginning of the rest
+  pub given_first : (ms : List Occurrence) (s t : S) (n : ℕ) → n ≤ length all → Fit s n → Yields steps s ms t → ms ≡ take (length ms) (drop n all)
+  given_first [] s t n within fits calls = refl
+  given_first (m ∷ ms) s t n within fits calls =
+      let next = step s calls.0 (Some m) n calls.1 fits in
+      let below : n < length all = slice_get_within all n m (sym next.0) in
+      let more : min (n + 1) (length all) ≡ n + 1 = omega arith in
+      let rest = given_first ms calls.0 t (n + 1) (omega arith) (subst (Fit calls.0) more next.1) calls.2 in
+      ap (λ (xs : List Occurrence). m ∷ xs) rest ∙ sym (ap (take (suc (length ms))) (drop-next all n m (sym next.0)))
 
   -- and then each call gives none
   pub rests : (given : List (Option Occurrence)) (s t : S) → Fit s (length all) → Gives steps s given t → All (λ (o : Option Occurrence). o ≡ None) given

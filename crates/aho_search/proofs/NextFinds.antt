@@ -1,9 +1,10 @@
 -- What an iteration finds next, and the list of what it finds.
-use Rattle.std.proofs.Common.{◌≡◌, ℕ, ◌≤◌, List, [], ◌∷◌, length, Option, Some, None}
+use Rattle.std.proofs.Common.{◌≡◌, ℕ, ◌≤◌, List, [], ◌∷◌, ◌++◌, length, Option, Some, None}
 use Rattle.aho_base.specs.Iteration.{AreFinds, IsNextFind}
 use Rattle.aho_base.specs.Occurrence.{Occurrence}
 use Rattle.aho_base.specs.Patterns.{Patterns}
 use Rattle.aho_base.specs.Search.{Search}
+use Rattle.aho_search.specs.Finding.{AreFirstFinds}
 use Rattle.aho_laws.proofs.Iterations.{find-occurs, finds-exist, finds-unique, Occurs-ordered}
 
 module _ (p : Patterns) (search : Search) (last : Option ℕ) where
@@ -23,3 +24,11 @@ module _ (p : Patterns) (search : Search) (last : Option ℕ) where
   -- where nothing is found next, the list is at its end
   pub finds-none : (ms : List Occurrence) → AreFinds p search last ms → IsNextFind p search last None → ms ≡ []
   finds-none ms finds found = finds-unique p ms [] search last finds found
+
+-- the first finds begin a list of finds
+pub finds-begun : (p : Patterns) (ms : List Occurrence) (search : Search) (last : Option ℕ) → search.end ≤ length search.haystack → AreFirstFinds p search last ms
+    → (more : List Occurrence) × AreFinds p search last (ms ++ more)
+finds-begun p [] search last within first = finds-exist p search last within
+finds-begun p (m ∷ ms) search last within first =
+    let rest = finds-begun p ms (record search { start = m.end }) (Some m.end) within first.1 in
+    (rest.0, (first.0, rest.1))

@@ -5,8 +5,8 @@
 //! a search off these lists. What it takes for that to be the right answer are the trait's laws: whoever implements the
 //! trait proves them once, and each search is proved from them alone.
 
-ghost use Rattle.std.specs.Prelude.{◌≡◌, ℕ, List, [], ◌∷◌, ◌++◌, Bool, true, false, Option, Result, IsOk, IfOk, IfErr, Ok, Err, None, Some, ◌+◌, ◌-◌, ◌<◌, ◌≤◌, ◌^◌, ◌↔◌, IsTrue, length, slice_get, slice_index, ◌≢◌, ◌*◌, min, OnOk, alloc_error, string_bytes, vec_items};
-ghost use Rattle.std.specs.Iterator.{UpTo, Drains};
+ghost use Rattle.std.specs.Prelude.{◌≡◌, ℕ, List, [], ◌∷◌, ◌++◌, Bool, true, false, Option, Result, IsOk, IfOk, IfErr, Ok, Err, None, Some, ◌+◌, ◌-◌, ◌<◌, ◌≤◌, ◌^◌, ◌↔◌, IsTrue, length, slice_get, slice_index, ◌≢◌, ◌*◌, min, OnOk, alloc_error, string_bytes, take, vec_items};
+ghost use Rattle.std.specs.Iterator.{UpTo};
 ghost use Rattle.std.specs.Iterator.Runs.{EachRunFrom};
 ghost use Rattle.aho_base.specs.Answer.{IsAnswer};
 ghost use Rattle.aho_base.specs.ClosureRun.{RunsInMemory};
@@ -342,9 +342,13 @@ pub trait Automaton {
             UpTo (⟦<FindOverlappingIter<'a, 'h, Self> as Iterator>⟧.remaining it)
             (length (lengths self.now) * (input.entry.end + 1 - input.entry.start))) }
         ensures lists { (p : Patterns) → is_of self.now p → IfOk result (λ it.
-            (ms : List Occurrence)
-            → Drains ⟦<FindOverlappingIter<'a, 'h, Self> as Iterator>⟧.next_gives it ms
-            → ms ≡ all_occurrences p input.entry.haystack input.entry.start input.entry.end) }
+            EachRunFrom ⟦<FindOverlappingIter<'a, 'h, Self> as Iterator>⟧.next_gives it (λ run.
+            run.whole ≡ true → run.items
+            ≡ all_occurrences p input.entry.haystack input.entry.start input.entry.end)) }
+        ensures first { (p : Patterns) → is_of self.now p → IfOk result (λ it.
+            EachRunFrom ⟦<FindOverlappingIter<'a, 'h, Self> as Iterator>⟧.next_gives it (λ run.
+            run.items ≡ take run.len
+            (all_occurrences p input.entry.haystack input.entry.start input.entry.end))) }
         ensures fused { (p : Patterns) → is_of self.now p
             → IfOk result (IsFused ⟦<FindOverlappingIter<'a, 'h, Self> as Iterator>⟧.next_gives) }
     {

@@ -12,8 +12,6 @@ pub returns : goal.returns
 returns c = record {
   all = λ p of.
       IfOk-weaker c.collect.result _ _
-      (λ found ran.
-      let last = ran.1.2 tt in
-      ran.2.0 ∙ c.in-Ok.ensures.lists p of ran.0 (last.0, (ran.1.0, ran.1.1, last.1)) ∙ ap (λ (s : Search). all_occurrences p s.haystack s.start s.end) c.new.ensures.whole)
-      c.collect.ensures.ran;
+      (λ found ran. let all = ran tt in all.3.0 ∙ c.in-Ok.ensures.lists p of all.0 all.0.seen all.1 all.2 ∙ ap (λ (s : Search). all_occurrences p s.haystack s.start s.end) c.new.ensures.whole)
+      c.collect.ensures.runs;
 }
