@@ -1,1 +1,3 @@
+mod Beginnings
 mod Calls
+mod Matches

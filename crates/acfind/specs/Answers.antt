@@ -1,55 +1,78 @@
 -- What a run answers.
-use Rattle.std.specs.Prelude.{◌≡◌, ℕ, false, List, [], ◌++◌, Option, Some, None, length, take, decimal, codes}
+use Rattle.std.specs.Prelude.{◌≡◌, ℕ, Bool, true, false, List, [], ◌∷◌, ◌++◌, Option, None, length, take, decimal, codes, if◌then◌else◌}
 use Rattle.std.specs.Io.KnownBytes.{Appends, Consumes, IsAtEnd}
-use Rattle.aho_base.specs.Answer.{IsAnswer}
+use Rattle.std.specs.List.{flat_map}
+use Rattle.aho_base.specs.Iteration.{AreFinds}
 use Rattle.aho_base.specs.Occurrence.{Occurrence}
+use Rattle.aho_base.specs.Overlapping.{all_occurrences}
 use Rattle.aho_base.specs.Patterns.{Patterns}
-use Rattle.aho_base.specs.Search.{Search}
-use Rattle.aho_base.specs.declared.search.Anchored.TheVariants.{No}
+use Rattle.aho_base.specs.Search.{plain_search}
+use Rattle.acfind.specs.Asked.{Asked, patterns_of}
 use Rattle.acfind.specs.Faults.{status_of_fault, line_of_fault}
+use Rattle.acfind.specs.declared.command.Task.{Task}
+use Rattle.acfind.specs.declared.command.Task.TheVariants.{Find, Overlap}
 use Rattle.acfind.specs.declared.fault.Fault.{Fault}
 
--- the search of a whole text, not anchored, not earliest
-abbrev pub whole : List ℕ → Search
-whole text = record { haystack = text; start = 0; end = length text; anchored = No; earliest = false }
+-- the matches of a text that a task prints, in order: those of an iteration, or all occurrences
+abbrev pub AreMatches : Task → Patterns → List ℕ → List Occurrence → Type 0
+AreMatches (Find kind ignore_case) p text ms = AreFinds p (plain_search text) None ms
+AreMatches Overlap p text ms = ms ≡ all_occurrences p text 0 (length text)
 
--- what is printed of an answer: `PATTERN START END` and a line end, or nothing
-abbrev pub line_of : Option Occurrence → List ℕ
-line_of None = []
-line_of (Some m) =
-    decimal m.pattern ++ (codes " " ++ (decimal m.start ++ (codes " " ++ (decimal m.end ++ codes "\n"))))
+-- what is printed of a match: `PATTERN START END` and a line end
+abbrev pub line_of : Occurrence → List ℕ
+line_of m = decimal m.pattern ++ (codes " " ++ (decimal m.start ++ (codes " " ++ (decimal m.end ++ codes "\n"))))
 
--- the status of an answer
-abbrev pub status_of_answer : Option Occurrence → ℕ
-status_of_answer None = 1
-status_of_answer (Some m) = 0
+-- one line after another
+abbrev pub lines_of : List Occurrence → List ℕ
+lines_of ms = flat_map line_of ms
+
+-- whether there is a match
+abbrev pub is_any : List Occurrence → Bool
+is_any [] = false
+is_any (m ∷ ms) = true
+
+-- the status where there is a match, and where there is none
+abbrev pub status_of : Bool → ℕ
+status_of any = if any then 0 else 1
 
 -- known bytes grow by a beginning of bs
 abbrev pub AppendsBeginning : Option (List ℕ) → Option (List ℕ) → List ℕ → Type 0
 AppendsBeginning old new bs = (count : ℕ) × Appends old new (take count bs)
 
--- all of the input was read, and this is the answer of its search
-pub record Finds (p : Patterns) (input_old input_new : Option (List ℕ)) (answer : Option Occurrence)
-    : Type 0 where
+-- of the matches that are meant, the line of each is written and nothing else, and this says whether there is one
+pub record Prints (AreMeant : List Occurrence → Type 0) (output_old output_new : Option (List ℕ)) (any : Bool) : Type 0 where
+  pub matches : List Occurrence
+  pub meant : AreMeant matches
+  pub printed : Appends output_old output_new (lines_of matches)
+  pub told : any ≡ is_any matches
+
+-- and a beginning of their lines is written
+pub record Begun (AreMeant : List Occurrence → Type 0) (output_old output_new : Option (List ℕ)) : Type 0 where
+  pub matches : List Occurrence
+  pub meant : AreMeant matches
+  pub begun : AppendsBeginning output_old output_new (lines_of matches)
+
+-- all of the input was read, and these are the matches that are asked for
+pub record Lists (asked : Asked) (input_old input_new : Option (List ℕ)) (ms : List Occurrence) : Type 0 where
   pub text : List ℕ
   pub read : Consumes input_old input_new text
   pub ended : IsAtEnd input_new
-  pub right : IsAnswer p (whole text) answer
+  pub right : AreMatches asked.task (patterns_of asked) text ms
 
--- the answer is found, its line is written, and its status is this
-pub record Tells (p : Patterns) (input_old input_new output_old output_new : Option (List ℕ)) (status : ℕ)
+-- the matches are found, the line of each is written and nothing else, and the status says whether there is one
+pub record Tells (asked : Asked) (input_old input_new output_old output_new : Option (List ℕ)) (status : ℕ)
     : Type 0 where
-  pub answer : Option Occurrence
-  pub found : Finds p input_old input_new answer
-  pub printed : Appends output_old output_new (line_of answer)
-  pub told : status ≡ status_of_answer answer
+  pub matches : List Occurrence
+  pub found : Lists asked input_old input_new matches
+  pub printed : Appends output_old output_new (lines_of matches)
+  pub told : status ≡ status_of (is_any matches)
 
--- the answer is found, and a beginning of its line is written
-pub record Begins (p : Patterns) (input_old input_new output_old output_new : Option (List ℕ))
+-- the matches are found, and a beginning of their lines is written
+pub record Begins (asked : Asked) (input_old input_new output_old output_new : Option (List ℕ))
     : Type 0 where
-  pub answer : Option Occurrence
-  pub found : Finds p input_old input_new answer
-  pub begun : AppendsBeginning output_old output_new (line_of answer)
+  pub matches : List Occurrence
+  pub found : Lists asked input_old input_new matches
+  pub begun : AppendsBeginning output_old output_new (lines_of matches)
 
 -- a beginning of the line of a fault of this status is written, and the fault leaves what it should
 pub record TellsFault (errors_old errors_new : Option (List ℕ)) (status : ℕ) (Left : Fault → Type 0)

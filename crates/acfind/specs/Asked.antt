@@ -1,15 +1,40 @@
--- The patterns of a search that the words ask for, and the settings of their build.
-use Rattle.std.specs.Prelude.{map, string_bytes}
+-- What is asked for: which matches of which patterns, and the settings of the automaton's build.
+use Rattle.std.specs.Prelude.{◌≡◌, ℕ, Bool, false, List, None, map, string_bytes}
 use Rattle.aho_base.specs.Patterns.{Patterns}
+use Rattle.aho_base.specs.declared.search.MatchKind.{MatchKind}
+use Rattle.aho_base.specs.declared.search.MatchKind.TheVariants.{Standard}
+use Rattle.aho_build.specs.Refusals.{cause}
 use Rattle.aho_build.specs.Settings.{default_settings}
 use Rattle.aho_build.specs.declared.settings.Settings.{Settings}
-use Rattle.acfind.specs.declared.command.Find.{Find}
+use Rattle.acfind.specs.declared.command.Request.{Request}
+use Rattle.acfind.specs.declared.command.Task.{Task}
+use Rattle.acfind.specs.declared.command.Task.TheVariants.{Find, Overlap}
+
+-- which matches are printed, and the bytes of each pattern
+pub record Asked : Type 0 where
+  pub task : Task
+  pub words : List (List ℕ)
 
 -- each word's bytes are a pattern
-abbrev pub patterns_of : Find → Patterns
-patterns_of find =
-    record { words = map string_bytes find.patterns.now; kind = find.kind; ignore_case = find.ignore_case }
+abbrev pub asked_for : Request → Asked
+asked_for request = record { task = request.task; words = map string_bytes request.patterns.now }
+
+-- overlapping search is that of the kind `Standard`, and of letters as they are
+abbrev pub kind_of : Task → MatchKind
+kind_of (Find kind ignore_case) = kind
+kind_of Overlap = Standard
+
+abbrev pub ignores_case : Task → Bool
+ignores_case (Find kind ignore_case) = ignore_case
+ignores_case Overlap = false
+
+abbrev pub patterns_of : Asked → Patterns
+patterns_of asked = record { words = asked.words; kind = kind_of asked.task; ignore_case = ignores_case asked.task }
 
 -- their kind and case rule; all else is as a new builder has it
-abbrev pub settings_for : Patterns → Settings
-settings_for p = record default_settings { kind = p.kind; ignore_case = p.ignore_case }
+abbrev pub settings_for : Task → Settings
+settings_for task = record default_settings { kind = kind_of task; ignore_case = ignores_case task }
+
+-- nothing that is asked for is refused by the build
+abbrev pub Builds : Asked → Type 0
+Builds asked = cause (settings_for asked.task) (patterns_of asked) ≡ None

@@ -1,5 +1,5 @@
 -- What a fault is told by: its status and its text.
-use Rattle.std.specs.Prelude.{ℕ, List, ◌++◌, codes}
+use Rattle.std.specs.Prelude.{ℕ, List, ◌++◌, codes, ⊤}
 use Rattle.aho_base.specs.Texts.{build_error_text, match_error_text}
 use Rattle.acfind.specs.declared.fault.Fault.{Fault}
 use Rattle.acfind.specs.declared.fault.Fault.TheVariants.{Usage, Build, Search, OutOfMemory, Read, Write, WriteZero}
@@ -37,3 +37,7 @@ Leaves unread unwritten begun OutOfMemory = unwritten
 Leaves unread unwritten begun Read = unwritten
 Leaves unread unwritten begun Write = begun
 Leaves unread unwritten begun WriteZero = begun
+
+-- the fault is that of a write or a flush
+abbrev pub IsOfWrite : Fault → Type 0
+IsOfWrite = Leaves ⊥ ⊥ ⊤

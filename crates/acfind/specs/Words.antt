@@ -1,9 +1,11 @@
 -- What the words after the program's name ask for.
-use Rattle.std.specs.Prelude.{ℕ, Bool, true, false, List, [], ◌∷◌, Option, Some, None, codes, option_and_then, if◌then◌else◌}
+use Rattle.std.specs.Prelude.{ℕ, true, false, List, [], ◌∷◌, Option, Some, None, codes, option_and_then, if◌then◌else◌}
 use Rattle.std.specs.Str.{bytes_eq}
-use Rattle.aho_base.specs.Patterns.{Patterns}
 use Rattle.aho_base.specs.declared.search.MatchKind.{MatchKind}
 use Rattle.aho_base.specs.declared.search.MatchKind.TheVariants.{Standard, LeftmostFirst, LeftmostLongest}
+use Rattle.acfind.specs.Asked.{Asked}
+use Rattle.acfind.specs.declared.command.Task.{Task}
+use Rattle.acfind.specs.declared.command.Task.TheVariants.{Find, Overlap}
 
 -- the match kind that a word names
 abbrev pub kind_by : List ℕ → Option MatchKind
@@ -14,23 +16,25 @@ kind_by word =
     else None
 
 -- PATTERN..: at least one
-abbrev pub patterns_by : MatchKind → Bool → List (List ℕ) → Option Patterns
-patterns_by kind ignore_case [] = None
-patterns_by kind ignore_case (word ∷ words) =
-    Some (record { words = word ∷ words; kind = kind; ignore_case = ignore_case })
+abbrev pub patterns_by : Task → List (List ℕ) → Option Asked
+patterns_by task [] = None
+patterns_by task (word ∷ words) = Some (record { task = task; words = word ∷ words })
 
 -- [-i] PATTERN..: `-i` sets the case rule in the first place, and is a pattern in any other
-abbrev pub cased_by : MatchKind → List (List ℕ) → Option Patterns
+abbrev pub cased_by : MatchKind → List (List ℕ) → Option Asked
 cased_by kind [] = None
 cased_by kind (word ∷ words) =
-    if bytes_eq word (codes "-i") then patterns_by kind true words else patterns_by kind false (word ∷ words)
+    if bytes_eq word (codes "-i") then patterns_by (Find kind true) words else patterns_by (Find kind false) (word ∷ words)
 
 -- KIND [-i] PATTERN..
-abbrev pub find_by : List (List ℕ) → Option Patterns
+abbrev pub find_by : List (List ℕ) → Option Asked
 find_by [] = None
 find_by (word ∷ words) = option_and_then (λ kind. cased_by kind words) (kind_by word)
 
--- find KIND [-i] PATTERN..: the patterns with their kind and case rule, or none where the words are wrong
-abbrev pub asked_by : List (List ℕ) → Option Patterns
+-- find KIND [-i] PATTERN.., or overlap PATTERN..; none where the words are wrong
+abbrev pub asked_by : List (List ℕ) → Option Asked
 asked_by [] = None
-asked_by (word ∷ words) = if bytes_eq word (codes "find") then find_by words else None
+asked_by (word ∷ words) =
+    if bytes_eq word (codes "find") then find_by words
+    else if bytes_eq word (codes "overlap") then patterns_by Overlap words
+    else None

@@ -1,37 +1,71 @@
 //! What the words of a call ask for.
 
 ghost use Rattle.std.specs.Prelude.{◌≡◌, map, option_map, string_bytes};
-ghost use Rattle.acfind.specs.Asked.{patterns_of};
+ghost use Rattle.acfind.specs.Asked.{asked_for, ignores_case, kind_of};
 ghost use Rattle.acfind.specs.Words.{kind_by, patterns_by, cased_by, find_by, asked_by};
 
 use aho_base::search::MatchKind;
 
-/// The search for the first match of some patterns.
+/// Which matches of some patterns are printed.
 #[derive(Clone, Copy)]
-pub struct Find<'w> {
-    /// Which of several matches is found.
-    pub kind: MatchKind,
+pub enum Task {
+    /// One after another: each is searched for from the end of the match before.
+    Find {
+        /// Which of several matches is found.
+        kind: MatchKind,
+        /// Whether ASCII letters are the same in both cases.
+        ignore_case: bool,
+    },
+    /// All that occur, those that overlap too.
+    Overlap,
+}
+
+impl Task {
+    /// The match kind of the automaton.
+    pub fn kind(self) -> MatchKind
+        ensures kind { result ≡ kind_of self }
+    {
+        match self {
+            Task::Find { kind, .. } => kind,
+            Task::Overlap => MatchKind::Standard,
+        }
+    }
+
     /// Whether ASCII letters are the same in both cases.
-    pub ignore_case: bool,
+    pub fn ignore_case(self) -> bool
+        ensures ignore_case { result ≡ ignores_case self }
+    {
+        match self {
+            Task::Find { ignore_case, .. } => ignore_case,
+            Task::Overlap => false,
+        }
+    }
+}
+
+/// What is asked for.
+#[derive(Clone, Copy)]
+pub struct Request<'w> {
+    /// Which matches are printed.
+    pub task: Task,
     /// The patterns, which are numbered from 0 on.
     pub patterns: &'w [String],
 }
 
 /// What the words after the program's name ask for: nothing where they are wrong.
-pub fn parse(words: &[String]) -> Option<Find<'_>>
-    ensures asked { option_map patterns_of result ≡ asked_by (map string_bytes words.now) }
+pub fn parse(words: &[String]) -> Option<Request<'_>>
+    ensures asked { option_map asked_for result ≡ asked_by (map string_bytes words.now) }
 {
     let (command, rest) = words.split_first()?;
-    if command.as_str() == "find" {
-        parse_find(rest)
-    } else {
-        None
+    match command.as_str() {
+        "find" => parse_find(rest),
+        "overlap" => parse_patterns(Task::Overlap, rest),
+        _ => None,
     }
 }
 
 /// KIND [-i] PATTERN..
-fn parse_find(words: &[String]) -> Option<Find<'_>>
-    ensures asked { option_map patterns_of result ≡ find_by (map string_bytes words.now) }
+fn parse_find(words: &[String]) -> Option<Request<'_>>
+    ensures asked { option_map asked_for result ≡ find_by (map string_bytes words.now) }
 {
     let (word, rest) = words.split_first()?;
     let kind = parse_kind(word.as_str())?;
@@ -50,28 +84,25 @@ fn parse_kind(word: &str) -> Option<MatchKind>
 }
 
 /// [-i] PATTERN..
-fn parse_cased(kind: MatchKind, words: &[String]) -> Option<Find<'_>>
-    ensures asked { option_map patterns_of result ≡ cased_by kind (map string_bytes words.now) }
+fn parse_cased(kind: MatchKind, words: &[String]) -> Option<Request<'_>>
+    ensures asked { option_map asked_for result ≡ cased_by kind (map string_bytes words.now) }
 {
     let (word, rest) = words.split_first()?;
-    if word.as_str() == "-i" {
-        parse_patterns(kind, true, rest)
-    } else {
-        parse_patterns(kind, false, words)
-    }
+    let ignore_case = word.as_str() == "-i";
+    let task = Task::Find { kind, ignore_case };
+    parse_patterns(task, if ignore_case { rest } else { words })
 }
 
 /// PATTERN..
-fn parse_patterns(kind: MatchKind, ignore_case: bool, words: &[String]) -> Option<Find<'_>>
-    ensures asked { option_map patterns_of result
-        ≡ patterns_by kind ignore_case (map string_bytes words.now) }
+fn parse_patterns(task: Task, words: &[String]) -> Option<Request<'_>>
+    ensures asked { option_map asked_for result
+        ≡ patterns_by task (map string_bytes words.now) }
 {
     if words.is_empty() {
         return None;
     }
-    Some(Find {
-        kind,
-        ignore_case,
+    Some(Request {
+        task,
         patterns: words,
     })
 }

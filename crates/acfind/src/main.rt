@@ -1,5 +1,6 @@
-//! `acfind find KIND [-i] PATTERN..` prints the first match of some patterns in standard input as `PATTERN START END`: the
-//! pattern's number, and the match's range in bytes, without its end.
+//! `acfind find KIND [-i] PATTERN..` prints the matches of some patterns in standard input, one after another, as lines
+//! `PATTERN START END`: the pattern's number, and the match's range in bytes, without its end. `acfind overlap PATTERN..`
+//! prints all that occur, those that overlap too.
 //!
 //! The status is 0 where there is a match and 1 where there is none. It is 2 where nothing is searched and 3 where reading
 //! or writing fails, and then a line on standard error says why.
@@ -8,8 +9,8 @@
 ghost use Rattle.std.specs.Prelude.{◌≢◌, ◌≡◌, ◌<◌, ◌≤◌, map, Some, None, IfOk, IfErr, OnErr, string_bytes};
 ghost use Rattle.std.specs.IoError.{error_kind};
 ghost use Rattle.std.specs.Process.{exit_status};
-ghost use Rattle.aho_base.specs.Patterns.{Patterns};
 ghost use Rattle.acfind.specs.Answers.{AppendsBeginning, Tells};
+ghost use Rattle.acfind.specs.Asked.{Asked};
 ghost use Rattle.acfind.specs.Faults.{status_of_fault, line_of_fault};
 ghost use Rattle.acfind.specs.Words.{asked_by};
 
@@ -54,9 +55,9 @@ fn exit_code<R: Read, W: Write, E: Write>(
     // Where there are words, the status is that of the run.
     ensures usage { IfOk words (λ words.
         asked_by (map string_bytes words.items) ≡ None → exit_status result ≡ 2) }
-    ensures tells { IfOk words (λ words. (p : Patterns)
-        → asked_by (map string_bytes words.items) ≡ Some p → exit_status result < 2
-        → Tells p (R.remaining input.old) (R.remaining input.new)
+    ensures tells { IfOk words (λ words. (asked : Asked)
+        → asked_by (map string_bytes words.items) ≡ Some asked → exit_status result < 2
+        → Tells asked (R.remaining input.old) (R.remaining input.new)
         (W.contents output.old) (W.contents output.new) (exit_status result)) }
     ensures bound { exit_status result ≤ 3 }
 {

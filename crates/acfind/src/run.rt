@@ -1,20 +1,23 @@
 //! A call of the program over its words and streams.
 
-ghost use Rattle.std.specs.Prelude.{IsOk, ◌≡◌, ◌<◌, ◌≤◌, ◌⊎◌, ⊤, map, IfOk, IfErr, OnOk, string_bytes};
+ghost use Rattle.std.specs.Prelude.{IsOk, ◌≡◌, ◌<◌, ◌≤◌, ◌⊎◌, ⊤, map, length, IfOk, IfErr, OnOk, string_bytes};
 ghost use Rattle.std.specs.Io.KnownBytes.{Appends, Consumes, IsAtEnd};
-ghost use Rattle.aho_base.specs.Answer.{IsAnswer};
+ghost use Rattle.aho_base.specs.Iteration.{AreFinds};
+ghost use Rattle.aho_base.specs.Overlapping.{all_occurrences};
 ghost use Rattle.aho_base.specs.Patterns.{Patterns};
-ghost use Rattle.aho_build.specs.Refusals.{cause};
-ghost use Rattle.acfind.specs.Answers.{whole, line_of, AppendsBeginning, Finds, Tells, Begins, TellsFault};
-ghost use Rattle.acfind.specs.Asked.{patterns_of, settings_for};
-ghost use Rattle.acfind.specs.Faults.{status_of_fault, line_of_fault, Leaves};
+ghost use Rattle.aho_base.specs.Search.{plain_search};
+ghost use Rattle.aho_base.specs.declared.search.Anchored.TheVariants.{No};
+ghost use Rattle.aho_base.specs.declared.search.MatchKind.TheVariants.{Standard};
+ghost use Rattle.acfind.specs.Answers.{AreMatches, AppendsBeginning, Begins, Begun, Prints, Tells, TellsFault, status_of};
+ghost use Rattle.acfind.specs.Asked.{Asked, Builds, asked_for, kind_of, patterns_of, settings_for};
+ghost use Rattle.acfind.specs.Faults.{status_of_fault, line_of_fault, IsOfWrite, Leaves};
 ghost use Rattle.acfind.specs.Words.{asked_by};
 ghost use Rattle.acfind.specs.declared.fault.Fault.TheVariants.{Usage};
 
-use crate::command::{Find, parse};
+use crate::command::{Request, Task, parse};
 use crate::fault::Fault;
 use crate::print::{print, write_whole};
-use aho_base::search::{Input, Match};
+use aho_base::search::Input;
 use aho_corasick::noncontiguous::{Builder, NFA};
 use aho_search::automaton::Automaton;
 use std::alloc::Global;
@@ -23,7 +26,7 @@ use std::io::{Read, Write};
 /// How many bytes are asked of the input at once.
 const PIECE: usize = 16 * 1024;
 
-/// Does what the words after the program's name ask for, and answers the exit status: 0 where a match was printed, 1 where
+/// Does what the words after the program's name ask for, and answers the exit status: 0 where matches were printed, 1 where
 /// there is none, 2 where the words are wrong, the automaton or the search is refused or memory is wanted, and 3 where a
 /// device fails.
 ///
@@ -43,30 +46,30 @@ pub fn run<R: Read, W: Write, E: Write>(
         → AppendsBeginning (E.contents errors.old) (E.contents errors.new) (line_of_fault Usage) }
 
     // For right words the automaton is built before anything is read.
-    ensures built_first { (p : Patterns) → asked_by (map string_bytes words.now) ≡ Some p
-        → (input.new ≡ input.old) ⊎ (cause (settings_for p) p ≡ None) }
+    ensures built_first { (asked : Asked) → asked_by (map string_bytes words.now) ≡ Some asked
+        → (input.new ≡ input.old) ⊎ Builds asked }
 
-    // An answer is printed and told by the status.
-    ensures tells { (p : Patterns) → asked_by (map string_bytes words.now) ≡ Some p → result < 2
-        → Tells p (R.remaining input.old) (R.remaining input.new)
+    // All matches are printed, and told by the status.
+    ensures tells { (asked : Asked) → asked_by (map string_bytes words.now) ≡ Some asked → result < 2
+        → Tells asked (R.remaining input.old) (R.remaining input.new)
         (W.contents output.old) (W.contents output.new) result }
     ensures quiet { result < 2 → errors.new ≡ errors.old }
 
     // Any other status is that of a fault, which is told.
     ensures bound { result ≤ 3 }
     ensures refused { result ≡ 2 → output.new ≡ output.old }
-    ensures tells_fault { (p : Patterns) → asked_by (map string_bytes words.now) ≡ Some p
+    ensures tells_fault { (asked : Asked) → asked_by (map string_bytes words.now) ≡ Some asked
         → 2 ≤ result → TellsFault (E.contents errors.old) (E.contents errors.new) result
         (Leaves (input.new ≡ input.old) (output.new ≡ output.old)
-        (Begins p (R.remaining input.old) (R.remaining input.new)
+        (Begins asked (R.remaining input.old) (R.remaining input.new)
         (W.contents output.old) (W.contents output.new))) }
-    ensures begins { (p : Patterns) → asked_by (map string_bytes words.now) ≡ Some p
-        → (output.new ≡ output.old) ⊎ Begins p (R.remaining input.old) (R.remaining input.new)
+    ensures begins { (asked : Asked) → asked_by (map string_bytes words.now) ≡ Some asked
+        → (output.new ≡ output.old) ⊎ Begins asked (R.remaining input.old) (R.remaining input.new)
         (W.contents output.old) (W.contents output.new) }
 {
-    match find(alloc, words, input, output) {
-        Ok(Some(_)) => 0,
-        Ok(None) => 1,
+    match answer(alloc, words, input, output) {
+        Ok(true) => 0,
+        Ok(false) => 1,
         Err(fault) => report(&fault, errors),
     }
 }
@@ -95,60 +98,56 @@ fn write_fault<E: Write>(fault: &Fault, errors: &mut E) -> Result<(), Fault>
     }
 }
 
-/// Prints the first match in the input, where there is one, and answers it.
-fn find<R: Read, W: Write>(
+/// Prints the matches in the input that are asked for, and answers whether there was one.
+fn answer<R: Read, W: Write>(
     alloc: Global,
     words: &[String],
     input: &mut R,
     output: &mut W,
-) -> Result<Option<Match>, Fault>
+) -> Result<bool, Fault>
     ensures usage { asked_by (map string_bytes words.now) ≡ None → result ≡ Err Usage }
     ensures unread { asked_by (map string_bytes words.now) ≡ None → input.new ≡ input.old }
-    ensures built_first { (p : Patterns) → asked_by (map string_bytes words.now) ≡ Some p
-        → (input.new ≡ input.old) ⊎ (cause (settings_for p) p ≡ None) }
-    ensures answers { (p : Patterns) → asked_by (map string_bytes words.now) ≡ Some p
-        → IfOk result (Finds p (R.remaining input.old) (R.remaining input.new)) }
-    ensures printed { IfOk result (λ found.
-        Appends (W.contents output.old) (W.contents output.new) (line_of found)) }
+    ensures built_first { (asked : Asked) → asked_by (map string_bytes words.now) ≡ Some asked
+        → (input.new ≡ input.old) ⊎ Builds asked }
+    ensures tells { (asked : Asked) → asked_by (map string_bytes words.now) ≡ Some asked
+        → IfOk result (λ any. Tells asked (R.remaining input.old) (R.remaining input.new)
+        (W.contents output.old) (W.contents output.new) (status_of any)) }
     ensures refused { IfErr result (λ fault. status_of_fault fault ≡ 2 → output.new ≡ output.old) }
-    ensures leaves { (p : Patterns) → asked_by (map string_bytes words.now) ≡ Some p
+    ensures leaves { (asked : Asked) → asked_by (map string_bytes words.now) ≡ Some asked
         → IfErr result (Leaves (input.new ≡ input.old) (output.new ≡ output.old)
-        (Begins p (R.remaining input.old) (R.remaining input.new)
+        (Begins asked (R.remaining input.old) (R.remaining input.new)
         (W.contents output.old) (W.contents output.new))) }
-    ensures begins { (p : Patterns) → asked_by (map string_bytes words.now) ≡ Some p
-        → (output.new ≡ output.old) ⊎ Begins p (R.remaining input.old) (R.remaining input.new)
+    ensures begins { (asked : Asked) → asked_by (map string_bytes words.now) ≡ Some asked
+        → (output.new ≡ output.old) ⊎ Begins asked (R.remaining input.old) (R.remaining input.new)
         (W.contents output.old) (W.contents output.new) }
 {
-    let Some(find) = parse(words) else {
+    let Some(request) = parse(words) else {
         return Err(Fault::Usage);
     };
-    let automaton = build(alloc, &find)?;
+    let automaton = build(alloc, &request)?;
     let text = read(alloc, input)?;
-    let found = search(&automaton, text.as_slice())?;
-    print(alloc, output, &found)?;
-    Ok(found)
+    print_matches(&automaton, request.task, text.as_slice(), output)
 }
 
 /// The automaton of the patterns.
-fn build(alloc: Global, find: &Find<'_>) -> Result<NFA, Fault>
+fn build(alloc: Global, request: &Request<'_>) -> Result<NFA, Fault>
     ensures of { IfOk result (λ automaton.
-        ⟦<NFA as Automaton>⟧.is_of automaton (patterns_of find.now)) }
+        ⟦<NFA as Automaton>⟧.is_of automaton (patterns_of (asked_for request.now))) }
     ensures leaves { IfErr result (Leaves ⊤ ⊤ ⊥) }
-    ensures accepted { OnOk result
-        (cause (settings_for (patterns_of find.now)) (patterns_of find.now) ≡ None) }
+    ensures accepted { OnOk result (Builds (asked_for request.now)) }
 {
-    let patterns = find.patterns.iter().map(|pattern| pattern.as_bytes());
-    Ok(builder(find).build(alloc, patterns)?)
+    let patterns = request.patterns.iter().map(|pattern| pattern.as_bytes());
+    Ok(builder(request.task).build(alloc, patterns)?)
 }
 
 /// How the automaton is built.
-fn builder(find: &Find<'_>) -> Builder
-    ensures settings { result ≡ settings_for (patterns_of find.now) }
+fn builder(task: Task) -> Builder
+    ensures settings { result ≡ settings_for task }
 {
     let mut builder = NFA::builder();
     builder
-        .match_kind(find.kind)
-        .ascii_case_insensitive(find.ignore_case);
+        .match_kind(task.kind())
+        .ascii_case_insensitive(task.ignore_case());
     builder
 }
 
@@ -172,14 +171,70 @@ fn read<R: Read>(alloc: Global, input: &mut R) -> Result<Vec<u8>, Fault>
     Err(Fault::Read)
 }
 
-/// The first match in a text by the automaton's match kind.
-fn search(automaton: &NFA, text: &[u8]) -> Result<Option<Match>, Fault>
-    requires of { (p : Patterns) × ⟦<NFA as Automaton>⟧.is_of automaton.now p }
-    ensures found { (p : Patterns) → ⟦<NFA as Automaton>⟧.is_of automaton.now p
-        → IfOk result (IsAnswer p (whole text.now)) }
-    ensures ok { IsOk result }
+/// Prints the matches of a text that a task asks for, and answers whether there was one.
+///
+/// The automaton has the task's match kind, and refuses no search that is not anchored.
+fn print_matches<A: Automaton, W: Write>(
+    automaton: &A,
+    task: Task,
+    text: &[u8],
+    output: &mut W,
+) -> Result<bool, Fault>
+    requires of { (p : Patterns) × A.is_of automaton.now p }
+    requires starts { IsOk (A.start automaton.now No) }
+    requires kind { A.kind automaton.now ≡ kind_of task }
+    ensures printed { (p : Patterns) → A.is_of automaton.now p → IfOk result
+        (Prints (AreMatches task p text.now) (W.contents output.old) (W.contents output.new)) }
+    ensures begun { (p : Patterns) → A.is_of automaton.now p →
+        Begun (AreMatches task p text.now) (W.contents output.old) (W.contents output.new) }
+    ensures of_write { IfErr result IsOfWrite }
 {
-    Ok(automaton.try_find(&Input::new(text))?)
+    match task {
+        Task::Find { .. } => print_finds(automaton, text, output),
+        Task::Overlap => print_occurrences(automaton, text, output),
+    }
+}
+
+/// Prints the matches of a text one after another, and answers whether there was one.
+fn print_finds<A: Automaton, W: Write>(
+    automaton: &A,
+    text: &[u8],
+    output: &mut W,
+) -> Result<bool, Fault>
+    requires of { (p : Patterns) × A.is_of automaton.now p }
+    requires starts { IsOk (A.start automaton.now No) }
+    ensures printed { (p : Patterns) → A.is_of automaton.now p → IfOk result
+        (Prints (AreFinds p (plain_search text.now) None)
+        (W.contents output.old) (W.contents output.new)) }
+    ensures begun { (p : Patterns) → A.is_of automaton.now p →
+        Begun (AreFinds p (plain_search text.now) None)
+        (W.contents output.old) (W.contents output.new) }
+    ensures of_write { IfErr result IsOfWrite }
+{
+    print(output, automaton.try_find_iter(Input::new(text))?)
+}
+
+/// Prints all that occurs in a text, and answers whether something does.
+fn print_occurrences<A: Automaton, W: Write>(
+    automaton: &A,
+    text: &[u8],
+    output: &mut W,
+) -> Result<bool, Fault>
+    requires of { (p : Patterns) × A.is_of automaton.now p }
+    requires starts { IsOk (A.start automaton.now No) }
+    requires standard { A.kind automaton.now ≡ Standard }
+    ensures printed { (p : Patterns) → A.is_of automaton.now p → IfOk result
+        (Prints (λ ms. ms ≡ all_occurrences p text.now 0 (length text.now))
+        (W.contents output.old) (W.contents output.new)) }
+    ensures begun { (p : Patterns) → A.is_of automaton.now p →
+        Begun (λ ms. ms ≡ all_occurrences p text.now 0 (length text.now))
+        (W.contents output.old) (W.contents output.new) }
+    ensures of_write { IfErr result IsOfWrite }
+{
+    print(
+        output,
+        automaton.try_find_overlapping_iter(Input::new(text))?,
+    )
 }
 
 #[cfg(test)]

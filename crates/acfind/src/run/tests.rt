@@ -127,8 +127,8 @@ fn run_on<R: Read>(
 }
 
 #[test]
-fn prints_the_first_match(rt: HostRuntime) -> Result<(), Fail> {
-    let rows: [(&[&str], &[u8], u8, &str); 13] = [
+fn prints_the_finds(rt: HostRuntime) -> Result<(), Fail> {
+    let rows: [(&[&str], &[u8], u8, &str); 18] = [
         (
             &["find", "standard", "b", "abc", "abcd"],
             b"abcd",
@@ -148,14 +148,33 @@ fn prints_the_first_match(rt: HostRuntime) -> Result<(), Fail> {
             0,
             "0 0 3\n",
         ),
-        (&["find", "first", "a", "b"], b"b", 0, "1 0 1\n"),
-        (&["find", "first", "b", "a"], b"b", 0, "0 0 1\n"),
+        (
+            &["find", "first", "abcd", "b", "bce", "ce"],
+            b"abce",
+            0,
+            "1 1 2\n3 2 4\n",
+        ),
         (
             &["find", "longest", "abcd", "b", "bce"],
             b"abce",
             0,
             "2 1 4\n",
         ),
+        (
+            &["find", "first", "xyz", ""],
+            b"xy",
+            0,
+            "1 0 0\n1 1 1\n1 2 2\n",
+        ),
+        (&["find", "longest", "", "a"], b"ab", 0, "1 0 1\n0 2 2\n"),
+        (
+            &["find", "standard", "-i", "apple", "maple", "snapple"],
+            b"Nobody likes maple in their apple flavored Snapple.",
+            0,
+            "1 13 18\n0 28 33\n2 43 50\n",
+        ),
+        (&["find", "first", "a", "b"], b"b", 0, "1 0 1\n"),
+        (&["find", "first", "b", "a"], b"b", 0, "0 0 1\n"),
         (&["find", "standard", "-i", "apple"], b"APPLE", 0, "0 0 5\n"),
         (
             &["find", "standard", "apple", "-i"],
@@ -167,6 +186,41 @@ fn prints_the_first_match(rt: HostRuntime) -> Result<(), Fail> {
         (&["find", "first", ""], b"", 0, "0 0 0\n"),
         (&["find", "standard", "b"], b"\xff\x00b", 0, "0 2 3\n"),
         (&["find", "standard", "\u{e9}"], b"\xc3\xa9", 0, "0 0 2\n"),
+        (&["find", "standard", "a"], b"", 1, ""),
+    ];
+    for (words, input, status, printed) in rows {
+        let mut rest = input;
+        let (found, output, errors) = run_on(rt.alloc(), words, &mut rest)?;
+        assert_eq!(rt; found, status, "{words:?} on {input:?}");
+        assert_eq!(rt;
+            output.as_slice(),
+            printed.as_bytes(),
+            "{words:?} on {input:?}"
+        );
+        assert!(rt; errors.is_empty(), "{words:?} on {input:?}");
+    }
+    Ok(())
+}
+
+#[test]
+fn prints_all_that_overlaps(rt: HostRuntime) -> Result<(), Fail> {
+    let rows: [(&[&str], &[u8], u8, &str); 6] = [
+        (
+            &["overlap", "append", "appendage", "app"],
+            b"append the app to the appendage",
+            0,
+            "2 0 3\n0 0 6\n2 11 14\n2 22 25\n0 22 28\n1 22 31\n",
+        ),
+        (
+            &["overlap", "", "ab"],
+            b"ab",
+            0,
+            "0 0 0\n0 1 1\n1 0 2\n0 2 2\n",
+        ),
+        (&["overlap", "ab", "ab"], b"ab", 0, "0 0 2\n1 0 2\n"),
+        (&["overlap", "-i", "a"], b"A-i", 0, "0 1 3\n"),
+        (&["overlap", "standard"], b"a", 1, ""),
+        (&["overlap", "a"], b"", 1, ""),
     ];
     for (words, input, status, printed) in rows {
         let mut rest = input;
@@ -192,7 +246,7 @@ fn tells_wrong_words(rt: HostRuntime) -> Result<(), Fail> {
         &["find", "standard", "-i"],
         &["find", "leftmost", "a"],
         &["find", "-i", "standard", "a"],
-        &["overlap", "a"],
+        &["overlap"],
         &["replace", "a", "b"],
     ];
     for words in rows {
@@ -209,9 +263,9 @@ fn tells_wrong_words(rt: HostRuntime) -> Result<(), Fail> {
 fn reads_an_input_of_several_pieces(rt: HostRuntime) -> Result<(), Fail> {
     let words = ["find", "standard", "b"];
     for (length, printed) in [
-        (PIECE - 1, "0 16383 16384\n"),
-        (PIECE, "0 16384 16385\n"),
-        (3 * PIECE, "0 49152 49153\n"),
+        (PIECE - 1, "0 16383 16384\n0 16384 16385\n"),
+        (PIECE, "0 16384 16385\n0 16385 16386\n"),
+        (3 * PIECE, "0 49152 49153\n0 49153 49154\n"),
     ] {
         let mut text = Vec::new(rt.alloc());
         text.resize(length, b'a')?;
@@ -267,7 +321,7 @@ fn tells_a_reader_that_fails(rt: HostRuntime) -> Result<(), Fail> {
 #[test]
 fn tells_a_writer_that_fails(rt: HostRuntime) -> Result<(), Fail> {
     let words = texts(rt.alloc(), &["find", "standard", "b"])?;
-    let line = b"0 1 2\n";
+    let lines = b"0 1 2\n0 3 4\n";
     let rows = [
         (
             "it is broken",
@@ -319,10 +373,10 @@ fn tells_a_writer_that_fails(rt: HostRuntime) -> Result<(), Fail> {
         ),
     ];
     for (case, then, flush, told) in rows {
-        for first in [0, 1, 5] {
+        for first in [0, 1, 5, 6, 7, 11] {
             let mut output = Device::new(rt.alloc(), first, then, flush);
             let mut errors = Vec::new(rt.alloc());
-            let mut input: &[u8] = b"ab";
+            let mut input: &[u8] = b"abab";
             let found = run(
                 rt.alloc(),
                 words.as_slice(),
@@ -331,13 +385,13 @@ fn tells_a_writer_that_fails(rt: HostRuntime) -> Result<(), Fail> {
                 &mut errors,
             );
             let held = match then {
-                Then::Takes => line.len(),
+                Then::Takes => lines.len(),
                 Then::TakesNone | Then::Fails(_) => first,
             };
             assert_eq!(rt; found, 3, "{case} after {first}");
             assert_eq!(rt;
                 output.held.as_slice(),
-                &line[..held],
+                &lines[..held],
                 "{case} after {first}"
             );
             assert!(rt; output.flushed.is_empty(), "{case} after {first}");
@@ -380,11 +434,14 @@ fn keeps_the_status_where_errors_cannot_be_told(rt: HostRuntime) -> Result<(), F
 
 #[test]
 fn writes_in_pieces_and_flushes(rt: HostRuntime) -> Result<(), Fail> {
-    for (kind, status, printed, told) in [("standard", 0, "0 1 2\n", ""), ("none", 2, "", USAGE)] {
+    for (kind, status, printed, told) in [
+        ("standard", 0, "0 1 2\n0 3 4\n", ""),
+        ("none", 2, "", USAGE),
+    ] {
         let words = texts(rt.alloc(), &["find", kind, "b"])?;
         let mut output = Device::new(rt.alloc(), 0, Then::Takes, None);
         let mut errors = Device::new(rt.alloc(), 0, Then::Takes, None);
-        let mut input: &[u8] = b"ab";
+        let mut input: &[u8] = b"abab";
         let found = run(
             rt.alloc(),
             words.as_slice(),

@@ -1,7 +1,7 @@
 -- What is gone from `rest` was written.
 use Rattle.std.proofs.Common.{◌≡◌, ℕ, ◌≤◌, length, take, drop}
 use Rattle.std.specs.Io.KnownBytes.{Appends}
-use Rattle.acfind.proofs.print.write_whole.Given as goal
+use Rattle.acfind.proofs.print.write_bytes.Given as goal
 
 abbrev pub invariant-loop-rest : goal.invariant-loop-rest
 invariant-loop-rest g l =

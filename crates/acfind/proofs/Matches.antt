@@ -1,0 +1,13 @@
+-- The lines of the first of some matches are a beginning of the lines of all.
+use Rattle.std.proofs.Common.{ℕ, List, ◌++◌, Option}
+use Rattle.std.proofs.lemmas.Grind.{flat_map-append}
+use Rattle.aho_base.specs.Occurrence.{Occurrence}
+use Rattle.acfind.specs.Answers.{AppendsBeginning, Begun, line_of, lines_of}
+use Rattle.acfind.proofs.Beginnings.{beginning-more}
+
+pub begun-first : (AreMeant : List Occurrence → Type 0) (old new : Option (List ℕ)) (ms more : List Occurrence) → AreMeant (ms ++ more) → AppendsBeginning old new (lines_of ms) → Begun AreMeant old new
+begun-first AreMeant old new ms more meant begun = record {
+  matches = ms ++ more;
+  meant = meant;
+  begun = rw (flat_map-append line_of) (beginning-more old new (lines_of ms) (lines_of more) begun);
+}
