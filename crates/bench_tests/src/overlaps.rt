@@ -9,6 +9,7 @@ use aho_base::error::MatchError;
 use aho_base::search::{Anchored, Input, Match, MatchKind, PatternID, Span};
 use aho_search::automaton::{Automaton, OverlappingState};
 use bench::one_byte::OneByte;
+use bench::tally::Tally;
 use std::alloc::{AllocError, Global};
 use std::process::Abort;
 use std::test::Fail;
@@ -176,6 +177,18 @@ fn an_iterator_gives_none_again(rt: HostRuntime) -> Result<(), Fail> {
     assert_eq!(rt; first, match_of(&rt, 0, 1, 2), "the match");
     assert_eq!(rt; end, None, "the end");
     assert_eq!(rt; after, None, "after the end");
+    Ok(())
+}
+
+#[test]
+fn other_automata_are_listed(rt: HostRuntime) -> Result<(), Fail> {
+    let one = OneByte::new(b'w');
+    let found = found_by_iterator(&rt, rt.alloc(), &one, Input::new(b"wow"))?;
+    assert_eq!(rt; found.len(), 2);
+    let tally = Tally::new(one);
+    let found = found_by_iterator(&rt, rt.alloc(), &tally, Input::new(b"wow"))?;
+    assert_eq!(rt; found.len(), 2);
+    assert_eq!(rt; tally.next_states(), 3, "each byte leads on once");
     Ok(())
 }
 

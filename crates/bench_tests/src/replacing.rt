@@ -8,7 +8,9 @@ use aho_base::search::{Input, Match, MatchKind, PatternID};
 use aho_corasick::noncontiguous::NFA;
 use aho_search::automaton::Automaton;
 use bench::listing::finds;
+use bench::one_byte::OneByte;
 use bench::pattern_set::PatternSet;
+use bench::tally::Tally;
 use std::alloc::{AllocError, Global};
 use std::process::Abort;
 use std::test::Fail;
@@ -143,6 +145,47 @@ fn what_the_destination_had_stays_before(rt: HostRuntime) -> Result<(), Fail> {
         Ok(true)
     })?;
     assert_eq!(&rt; dst.as_str(), "zbXc");
+    Ok(())
+}
+
+/// Each call replaces the one pattern by this piece.
+fn replaces_each_way<A: Automaton>(
+    rt: &impl Abort,
+    alloc: Global,
+    automaton: &A,
+    text: &str,
+    piece: &str,
+    wanted: &str,
+) -> Result<(), Fail>
+    requires of { (p : Patterns) × A.is_of automaton.now p }
+{
+    assert_eq!(rt; automaton.patterns_len(), 1);
+    let replaced = automaton.try_replace_all(alloc, text, &[piece])?;
+    assert_eq!(rt; replaced.as_str(), wanted);
+    let bytes = automaton.try_replace_all_bytes(alloc, text.as_bytes(), &[piece.as_bytes()])?;
+    assert_eq!(rt; bytes.as_slice(), wanted.as_bytes());
+    let mut bytes = Vec::new(alloc);
+    automaton.try_replace_all_with_bytes(text.as_bytes(), &mut bytes, |_m, _matched, dst| {
+        dst.extend_from_slice(piece.as_bytes())?;
+        Ok(true)
+    })?;
+    assert_eq!(rt; bytes.as_slice(), wanted.as_bytes(), "by a closure");
+    let mut replaced = String::new(alloc);
+    automaton.try_replace_all_with(text, &mut replaced, |_m, _matched, dst| {
+        dst.push_str(piece)?;
+        Ok(true)
+    })?;
+    assert_eq!(rt; replaced.as_str(), wanted, "by a closure");
+    Ok(())
+}
+
+#[test]
+fn other_automata_replace(rt: HostRuntime) -> Result<(), Fail> {
+    let one = OneByte::new(b'w');
+    replaces_each_way(&rt, rt.alloc(), &one, "wow", "é", "éoé")?;
+    let tally = Tally::new(one);
+    replaces_each_way(&rt, rt.alloc(), &tally, "wow", "é", "éoé")?;
+    assert_eq!(rt; tally.steps(), 12, "each call steps over each byte once");
     Ok(())
 }
 
