@@ -27,6 +27,9 @@ use std::io::{BufWriter, ErrorKind, Read, Write};
 use std::process::ExitCode;
 use std::{env, io};
 
+/// How many bytes of output are kept before they are written.
+const OUTPUT_CAPACITY: usize = 64 * 1024;
+
 fn main(rt: HostRuntime) -> ExitCode {
     exit_code(
         rt.alloc(),
@@ -89,7 +92,7 @@ fn fault_of_words(error: &io::Error) -> Fault
 
 /// Standard output behind a buffer, or without one where there is no memory for it.
 fn buffered(rt: &HostRuntime) -> BufWriter<io::Stdout> {
-    match BufWriter::new(rt.alloc(), rt.stdout()) {
+    match BufWriter::with_capacity(rt.alloc(), OUTPUT_CAPACITY, rt.stdout()) {
         Ok(output) => output,
         Err(_) => BufWriter::with_capacity(rt.alloc(), 0, rt.stdout()).unwrap(),
     }

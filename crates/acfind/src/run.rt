@@ -98,7 +98,7 @@ fn write_fault<E: Write>(fault: &Fault, errors: &mut E) -> Result<(), Fault>
     }
 }
 
-/// Prints the matches in the input that are asked for, and answers whether there was one.
+/// Prints the matches in the input that the words ask for, and answers whether there was one.
 fn answer<R: Read, W: Write>(
     alloc: Global,
     words: &[String],
@@ -107,24 +107,39 @@ fn answer<R: Read, W: Write>(
 ) -> Result<bool, Fault>
     ensures usage { asked_by (map string_bytes words.now) ≡ None → result ≡ Err Usage }
     ensures unread { asked_by (map string_bytes words.now) ≡ None → input.new ≡ input.old }
+    ensures unwritten { asked_by (map string_bytes words.now) ≡ None → output.new ≡ output.old }
     ensures built_first { (asked : Asked) → asked_by (map string_bytes words.now) ≡ Some asked
         → (input.new ≡ input.old) ⊎ Builds asked }
     ensures tells { (asked : Asked) → asked_by (map string_bytes words.now) ≡ Some asked
         → IfOk result (λ any. Tells asked (R.remaining input.old) (R.remaining input.new)
         (W.contents output.old) (W.contents output.new) (status_of any)) }
-    ensures refused { IfErr result (λ fault. status_of_fault fault ≡ 2 → output.new ≡ output.old) }
     ensures leaves { (asked : Asked) → asked_by (map string_bytes words.now) ≡ Some asked
         → IfErr result (Leaves (input.new ≡ input.old) (output.new ≡ output.old)
         (Begins asked (R.remaining input.old) (R.remaining input.new)
         (W.contents output.old) (W.contents output.new))) }
-    ensures begins { (asked : Asked) → asked_by (map string_bytes words.now) ≡ Some asked
-        → (output.new ≡ output.old) ⊎ Begins asked (R.remaining input.old) (R.remaining input.new)
-        (W.contents output.old) (W.contents output.new) }
 {
-    let Some(request) = parse(words) else {
-        return Err(Fault::Usage);
-    };
-    let automaton = build(alloc, &request)?;
+    match parse(words) {
+        Some(request) => search_input(alloc, &request, input, output),
+        None => Err(Fault::Usage),
+    }
+}
+
+/// Prints the matches in the input that a request asks for, and answers whether there was one.
+fn search_input<R: Read, W: Write>(
+    alloc: Global,
+    request: &Request<'_>,
+    input: &mut R,
+    output: &mut W,
+) -> Result<bool, Fault>
+    ensures built_first { (input.new ≡ input.old) ⊎ Builds (asked_for request.now) }
+    ensures tells { IfOk result (λ any. Tells (asked_for request.now)
+        (R.remaining input.old) (R.remaining input.new)
+        (W.contents output.old) (W.contents output.new) (status_of any)) }
+    ensures leaves { IfErr result (Leaves (input.new ≡ input.old) (output.new ≡ output.old)
+        (Begins (asked_for request.now) (R.remaining input.old) (R.remaining input.new)
+        (W.contents output.old) (W.contents output.new))) }
+{
+    let automaton = build(alloc, request)?;
     let text = read(alloc, input)?;
     print_matches(&automaton, request.task, text.as_slice(), output)
 }
