@@ -13,7 +13,7 @@ ghost use Rattle.aho_lists.specs.Inside.{match_of, match_entries, relinked_match
 use crate::walk::{overflow, place_after};
 use aho_base::error::BuildError;
 use aho_base::search::{PatternID, SmallIndex, StateID};
-use std::alloc::Global;
+use std::alloc::{AllocError, Global};
 use std::iter::FusedIterator;
 use std::marker::Model;
 
@@ -83,6 +83,16 @@ impl MatchLists {
         self.entries.len()
     }
 
+    /// What is true of every store, for a proof to cite. The call does nothing.
+    pub fn facts(&self)
+        ensures some { 0 < length self.now.lists }
+        ensures within { length self.now.lists ≤ self.now.limit + 1 }
+        ensures small { self.now.limit ≤ greatest_index }
+        ensures empty { list_at self.now.lists 0 ≡ [] }
+    {
+        let _entries = &self.entries;
+    }
+
     /// The pattern is added at the end of the list of this number. Answers the list's number then, which is another one.
     ///
     /// # Errors
@@ -124,6 +134,20 @@ impl MatchLists {
     {
         let made = push(&mut self.entries, self.limit, pattern, None)?;
         Ok(made)
+    }
+
+    /// An equal store, in memory of its own.
+    ///
+    /// # Errors
+    ///
+    /// Want of memory.
+    pub fn try_clone(&self, alloc: Global) -> Result<MatchLists, AllocError>
+        ensures same { IfOk result (λ store. store ≡ self.now) }
+    {
+        Ok(MatchLists {
+            entries: Vec::from_slice(alloc, &self.entries)?,
+            limit: self.limit,
+        })
     }
 
     /// The patterns of the list of this number, in the order of their listing.

@@ -203,6 +203,20 @@ impl TransitionLists {
         }
     }
 
+    /// An equal store, in memory of its own.
+    ///
+    /// # Errors
+    ///
+    /// Want of memory.
+    pub fn try_clone(&self, alloc: Global) -> Result<TransitionLists, AllocError>
+        ensures same { IfOk result (λ store. store ≡ self.now) }
+    {
+        Ok(TransitionLists {
+            entries: Vec::from_slice(alloc, &self.entries)?,
+            limit: self.limit,
+        })
+    }
+
     /// A list of one entry.
     fn start(&mut self, byte: u8, next: StateID) -> Result<StateID, BuildError>
         ensures number { IfOk result (λ made. made ≡ length self.old.lists) }
