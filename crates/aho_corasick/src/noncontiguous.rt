@@ -185,7 +185,7 @@ impl Automaton for NFA {
     }
 
     fn is_special(&self, sid: StateID) -> bool {
-        sid == DEAD || self.table.match_len(sid) > 0
+        sid == DEAD || self.table.has_matches(sid)
     }
 
     fn is_dead(&self, sid: StateID) -> bool {
@@ -193,7 +193,7 @@ impl Automaton for NFA {
     }
 
     fn is_match(&self, sid: StateID) -> bool {
-        self.table.match_len(sid) > 0
+        self.table.has_matches(sid)
     }
 
     fn is_start(&self, sid: StateID) -> bool {

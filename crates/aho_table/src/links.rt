@@ -1,6 +1,6 @@
 //! The states of an automaton with their transitions, match lists and failure links.
 
-ghost use Rattle.std.specs.Prelude.{◌≡◌, ◌≢◌, ◌+◌, ◌<◌, ◌≤◌, ◌^◌, [], ◌∷◌, ◌++◌, length, true, IsTrue, ◌↔◌, IsOk, IfOk, IfErr, OnOk, OnErr, min, slice_get, slice_set, ℕ, List};
+ghost use Rattle.std.specs.Prelude.{◌≡◌, ◌≢◌, ◌+◌, ◌<◌, ◌≤◌, ◌^◌, [], ◌∷◌, ◌++◌, length, true, IsTrue, ◌↔◌, IsOk, IfOk, IfErr, OnOk, OnErr, min, slice_get, slice_set, nat_lt, ℕ, List};
 ghost use Rattle.aho_base.specs.Numbers.{greatest_index};
 ghost use Rattle.aho_base.specs.declared.error.BuildError.TheVariants.{StateIDOverflow};
 ghost use Rattle.aho_table.specs.Refusal.{refusal_at, IsLeadRefusal};
@@ -328,6 +328,27 @@ impl Table {
     {
         let _entries = self.matches_count();
         self.matches(sid).count()
+    }
+
+    /// Whether the state lists a pattern.
+    pub fn has_matches(&self, sid: StateID) -> bool
+        requires added { sid < length self.now.states }
+        ensures some { result ≡ nat_lt 0 (length (matches_in self.now.states sid)) }
+    {
+        self.matches.facts();
+        record_of(&self.records, sid).matches.as_usize() > 0
+    }
+
+    /// The patterns of the state, in a vector of their own, in the order of their listing.
+    ///
+    /// # Errors
+    ///
+    /// Want of memory.
+    pub fn patterns(&self, sid: StateID) -> Result<Vec<PatternID>, AllocError>
+        requires added { sid < length self.now.states }
+        ensures listed { IfOk result (λ patterns. patterns.items ≡ matches_in self.now.states sid) }
+    {
+        self.matches(sid).collect(self.alloc)
     }
 
     /// The pattern of this place in the state's list.
