@@ -29,7 +29,7 @@ pub enum Child {
 }
 
 /// One state: the numbers of its lists, its link and its depth.
-#[derive(Clone, Copy)]
+#[derive(Copy, Clone)]
 struct Record {
     transitions: StateID,
     matches: StateID,
@@ -71,14 +71,14 @@ impl Table {
     ///
     /// None: a table of no states takes no memory.
     pub fn new(alloc: Global, limit: usize) -> Result<Table, BuildError>
-        ensures refused { IfErr result (λ error. error ≡ BuildError.OutOfMemory) }
+        ensures ok { IsOk result }
         ensures empty { IfOk result
             (λ table. table ≡ record { states = []; limit = min limit greatest_index }) }
     {
         Ok(Table {
             records: Vec::new(alloc),
-            transitions: TransitionLists::new(alloc, limit)?,
-            matches: MatchLists::new(alloc, limit)?,
+            transitions: TransitionLists::new(alloc, limit),
+            matches: MatchLists::new(alloc, limit),
             limit: limit.min(SmallIndex::MAX.as_usize()),
             alloc,
         })

@@ -13,14 +13,14 @@ limit_is given greatest kept is same = is ∙ ap (min given) same
 pub invariant_of-result : goal.invariant_of-result
 invariant_of-result c =
     let limit = limit_is c.args.limit c.as_usize.result c.min.result c.min.ensures c.as_usize.ensures.value in
-    subst (λ (rs : List Record). IsConsistent rs c.in_ok-new.field-0 c.in_ok-new-2.field-0 c.min.result) (sym c.new.ensures.items)
-    (IsConsistent-none c.in_ok-new.field-0 c.in_ok-new-2.field-0 c.min.result (omega arith)
-    (c.in_ok-new.ensures.empty ∙ ap (λ (n : ℕ). let s : Lists (ℕ × ℕ) = record { lists = [] ∷ []; limit = n } in s) (sym limit))
-    (c.in_ok-new-2.ensures.empty ∙ ap (λ (n : ℕ). let s : Lists ℕ = record { lists = [] ∷ []; limit = n } in s) (sym limit)))
+    subst (λ (rs : List Record). IsConsistent rs c.new-2.result c.new-3.result c.min.result) (sym c.new.ensures.items)
+    (IsConsistent-none c.new-2.result c.new-3.result c.min.result (omega arith)
+    (c.new-2.ensures.empty ∙ ap (λ (n : ℕ). let s : Lists (ℕ × ℕ) = record { lists = [] ∷ []; limit = n } in s) (sym limit))
+    (c.new-3.ensures.empty ∙ ap (λ (n : ℕ). let s : Lists ℕ = record { lists = [] ∷ []; limit = n } in s) (sym limit)))
 
 pub returns-clause-empty : goal.returns-clause-empty
 returns-clause-empty c =
     let limit = limit_is c.args.limit c.as_usize.result c.min.result c.min.ensures c.as_usize.ensures.value in
     same_table
-    (ap (states_of c.in_ok-new.field-0.lists c.in_ok-new-2.field-0.lists) c.new.ensures.items ∙ states_of-none c.in_ok-new.field-0.lists c.in_ok-new-2.field-0.lists)
+    (ap (states_of c.new-2.result.lists c.new-3.result.lists) c.new.ensures.items ∙ states_of-none c.new-2.result.lists c.new-3.result.lists)
     limit
