@@ -110,9 +110,9 @@ impl NFA {
     {
         Ok(NFA {
             match_kind: self.match_kind,
+            pattern_lens: self.pattern_lens.clone()?,
             table: self.table.try_clone()?,
             special: self.special,
-            pattern_lens: self.pattern_lens.clone()?,
             min_pattern_len: self.min_pattern_len,
             max_pattern_len: self.max_pattern_len,
         })
