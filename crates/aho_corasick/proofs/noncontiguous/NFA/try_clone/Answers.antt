@@ -1,8 +1,7 @@
 -- The clone has an equal table and equal lengths.
-use Rattle.std.proofs.Common.{◌≡◌, ◌↔◌, ℕ, List, [], ◌∷◌, rules, refl, sym, ap, subst, ◌∙◌}
+use Rattle.std.proofs.Common.{◌≡◌, ℕ, List, [], ◌∷◌, rules, refl, sym, ap, subst, ◌∙◌}
 use Rattle.std.specs.List.{AllZip}
 use Rattle.aho_table.specs.Table.{Tables}
-use Rattle.aho_base.specs.Patterns.{Patterns}
 use Rattle.aho_build.specs.Automaton.{IsOf, memory_of}
 use Rattle.aho_corasick.proofs.noncontiguous.NFA.try_clone.Goals as goal
 
