@@ -1,5 +1,5 @@
 -- A change of one list leaves the others.
-use Rattle.std.proofs.Common.{◌≡◌, ℕ, ◌<◌, ◌≢◌, Bool, true, false, cond, List, [], ◌∷◌, ◌++◌, length, refl, sym, ap, ◌∙◌, inl, inr, arith}
+use Rattle.std.proofs.Common.{◌≡◌, ℕ, ◌+◌, ◌<◌, ◌≤◌, ◌≢◌, ◌⊎◌, Bool, true, false, cond, List, [], ◌∷◌, ◌++◌, length, refl, sym, ap, ◌∙◌, inl, inr, arith}
 use Rattle.std.proofs.lemmas.Bool.{cases_order}
 use Rattle.std.proofs.lemmas.List.{length-set, length_push, get_or_past, get_or-set_same, get_or-set_other, get_or_append_left, get_or_push}
 use Rattle.aho_lists.specs.Lists.{list_at, IsList, without, push_in}
@@ -85,3 +85,25 @@ module _ (lists : List (List (ℕ × ℕ))) (list byte next : ℕ) where
         length-set (room_for lists list byte) list [],
         in_room (is_above (list_at lists list) byte) (lists_transition (list_at lists list) byte) (above-unlisted (list_at lists list) byte) inside_of,
       ))
+
+  room-count : (b : Bool) → length (cond b lists (lists ++ [] ∷ [])) ≡ length lists + cond b 0 1
+  room-count true = omega arith
+  room-count false = length_push lists []
+
+  -- there is one entry more, unless the byte was listed
+  pub set_transition_in-count : length (set_transition_in lists list byte next) ≡ length lists + cond (lists_transition (list_at lists list) byte) 0 1
+  set_transition_in-count =
+      length-set (without (room_for lists list byte) list) (number_after lists list byte) (with_transition (list_at lists list) byte next)
+      ∙ length-set (room_for lists list byte) list []
+      ∙ room-count (lists_transition (list_at lists list) byte)
+
+pub push_in-count : {X : Type 0} (lists : List (List X)) (list : ℕ) (item : X) → length (push_in lists list item) ≡ length lists + 1
+push_in-count lists list item = length_push (without lists list) (list_at lists list ++ item ∷ []) ∙ ap (λ (n : ℕ). n + 1) (length-set lists list [])
+
+-- the number that a list has then is the one that it had, or a new one
+pub number_after-fresh : (lists : List (List (ℕ × ℕ))) (list byte made : ℕ) → made ≡ number_after lists list byte → (made ≡ list) ⊎ (length lists ≤ made)
+number_after-fresh lists list byte made is = fresh (is_above (list_at lists list) byte) is
+  where
+    fresh : (b : Bool) → made ≡ cond b (length lists) list → (made ≡ list) ⊎ (length lists ≤ made)
+    fresh true same = inr (omega arith)
+    fresh false same = inl same

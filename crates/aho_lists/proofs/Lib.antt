@@ -10,3 +10,4 @@ pub mod Walks
 pub mod FullLists
 pub mod MatchChanges
 pub mod Families
+pub mod Firsts

@@ -9,6 +9,11 @@ use Rattle.aho_lists.specs.declared.matches.Match.{Match}
 abbrev pub transition_of : List Transition → ℕ → Transition
 transition_of entries place = slice_index_or entries place (record { byte = 0; next = 0; link = 0 })
 
+-- the entries, the one at index 0 among them, which comes with the first one of a list
+abbrev pub with_first : List Transition → List Transition
+with_first [] = record { byte = 0; next = 1; link = 0 } ∷ []
+with_first (entry ∷ entries) = entry ∷ entries
+
 -- a transition's key is its byte
 abbrev pub transition_entries : List Transition → Entries (ℕ × ℕ)
 transition_entries entries = record {
@@ -40,6 +45,11 @@ linked_behind entries place byte next =
 
 abbrev pub match_of : List Match → ℕ → Match
 match_of entries place = slice_index_or entries place (record { pattern = 0; link = 0 })
+
+-- the entries, the one at index 0 among them, which comes with the first one of a list
+abbrev pub with_first_match : List Match → List Match
+with_first_match [] = record { pattern = 0; link = 0 } ∷ []
+with_first_match (entry ∷ entries) = entry ∷ entries
 
 abbrev pub relinked_match : List Match → ℕ → ℕ → List Match
 relinked_match entries place link = slice_set entries place (record (match_of entries place) { link = link })

@@ -8,12 +8,12 @@ ghost use Rattle.std.specs.Iterator.{YieldsFirst, item_count};
 ghost use Rattle.aho_base.specs.Numbers.{greatest_index};
 ghost use Rattle.aho_lists.specs.Refusal.{refusal_at};
 ghost use Rattle.aho_lists.specs.Lists.{list_at, IsList, push_in};
-ghost use Rattle.aho_lists.specs.Inside.{match_of, match_entries, relinked_match, matched_behind};
+ghost use Rattle.aho_lists.specs.Inside.{with_first_match, match_of, match_entries, relinked_match, matched_behind};
 
 use crate::walk::{overflow, place_after};
 use aho_base::error::BuildError;
 use aho_base::search::{PatternID, SmallIndex, StateID};
-use std::alloc::Global;
+use std::alloc::{AllocError, Global};
 use std::iter::FusedIterator;
 use std::marker::Model;
 
@@ -26,9 +26,10 @@ struct Match {
 
 /// Lists of patterns.
 ///
-/// An index of an entry is at most the limit. Index 0 is taken from the start.
+/// An index of an entry is at most the limit. Index 0 is taken by an entry of no list, which comes with the first one of a list.
 #[derive(Drop)]
 pub struct MatchLists {
+    /// None, or those of the lists behind the one at index 0.
     entries: Vec<Match>,
     limit: usize,
 }
@@ -37,42 +38,28 @@ impl Model for MatchLists {
     ghost use Rattle.std.specs.Prelude.{ℕ, length};
     ghost use Rattle.aho_lists.specs.Rings.{lists_of};
     ghost use Rattle.aho_lists.specs.Lists.{Lists};
-    ghost use Rattle.aho_lists.specs.Inside.{match_entries, IsStore};
+    ghost use Rattle.aho_lists.specs.Inside.{match_entries, with_first_match, IsStore};
 
     ghost Value = { Lists ℕ };
 
     ghost view = { λ s. record {
-      lists = lists_of (match_entries s.entries.items) (length s.entries.items);
+      lists = lists_of (match_entries (with_first_match s.entries.items)) (length (with_first_match s.entries.items));
       limit = s.limit;
     } };
 
     ghost invariant = { λ s.
-        IsStore (match_entries s.entries.items) (length s.entries.items) s.limit };
+        IsStore (match_entries (with_first_match s.entries.items)) (length (with_first_match s.entries.items)) s.limit };
 }
 
 impl MatchLists {
-    /// No lists yet, of indexes that are at most `limit`; a greater limit counts as `SmallIndex::MAX`.
-    ///
-    /// # Errors
-    ///
-    /// Want of memory.
-    pub fn new(alloc: Global, limit: usize) -> Result<MatchLists, BuildError>
-        ensures empty { IfOk result
-            (λ store. store ≡ record { lists = [] ∷ []; limit = min limit greatest_index }) }
-        ensures refused { IfErr result (λ error. error ≡ BuildError.OutOfMemory) }
+    /// No lists yet, of indexes that are at most `limit`; a greater limit counts as `SmallIndex::MAX`. It takes no memory.
+    pub fn new(alloc: Global, limit: usize) -> MatchLists
+        ensures empty { result ≡ record { lists = [] ∷ []; limit = min limit greatest_index } }
     {
-        let mut entries = Vec::new(alloc);
-        let dummy = Match {
-            pattern: PatternID::new_unchecked(0),
-            link: StateID::ZERO,
-        };
-        let Ok(()) = entries.push(dummy) else {
-            return Err(BuildError::OutOfMemory);
-        };
-        Ok(MatchLists {
-            entries,
+        MatchLists {
+            entries: Vec::new(alloc),
             limit: limit.min(SmallIndex::MAX.as_usize()),
-        })
+        }
     }
 
     /// How many entries the lists have together, and one: the entry at index 0.
@@ -80,7 +67,17 @@ impl MatchLists {
         ensures len { result ≡ length self.now.lists }
         ensures bound { result ≤ 2147483647 }
     {
-        self.entries.len()
+        self.entries.len().max(1)
+    }
+
+    /// What is true of every store, for a proof to cite. The call does nothing.
+    pub fn facts(&self)
+        ensures some { 0 < length self.now.lists }
+        ensures within { length self.now.lists ≤ self.now.limit + 1 }
+        ensures small { self.now.limit ≤ greatest_index }
+        ensures empty { list_at self.now.lists 0 ≡ [] }
+    {
+        let _entries = &self.entries;
     }
 
     /// The pattern is added at the end of the list of this number. Answers the list's number then, which is another one.
@@ -122,8 +119,22 @@ impl MatchLists {
             (λ error. error ≡ refusal_at self.old.limit (length self.old.lists)) }
         ensures unchanged { OnErr result (self.new ≡ self.old) }
     {
-        let made = push(&mut self.entries, self.limit, pattern, None)?;
+        let made = push_alone(&mut self.entries, self.limit, pattern)?;
         Ok(made)
+    }
+
+    /// An equal store, in memory of its own.
+    ///
+    /// # Errors
+    ///
+    /// Want of memory.
+    pub fn try_clone(&self, alloc: Global) -> Result<MatchLists, AllocError>
+        ensures same { IfOk result (λ store. store ≡ self.now) }
+    {
+        Ok(MatchLists {
+            entries: Vec::from_slice(alloc, &self.entries)?,
+            limit: self.limit,
+        })
     }
 
     /// The patterns of the list of this number, in the order of their listing.
@@ -222,6 +233,46 @@ fn push(
         return Err(BuildError::OutOfMemory);
     }
     Ok(made)
+}
+
+/// The entry at index 0 stands there.
+fn add_dummy(entries: &mut Vec<Match>) -> Result<(), AllocError>
+    ensures there { OnOk result (entries.new.items ≡ with_first_match entries.old.items) }
+    ensures unchanged { OnErr result (entries.new.items ≡ entries.old.items) }
+{
+    if entries.is_empty() {
+        let dummy = Match {
+            pattern: PatternID::new_unchecked(0),
+            link: StateID::ZERO,
+        };
+        entries.push(dummy)?;
+    }
+    Ok(())
+}
+
+/// One entry more, which links to itself.
+fn push_alone(
+    entries: &mut Vec<Match>,
+    limit: usize,
+    pattern: PatternID,
+) -> Result<StateID, BuildError>
+    requires small { limit ≤ greatest_index }
+    ensures number { IfOk result (λ made. made ≡ length (with_first_match entries.old.items)) }
+    ensures pushed { OnOk result (entries.new.items ≡ with_first_match entries.old.items
+        ++ record { pattern = pattern; link = length (with_first_match entries.old.items) } ∷ []) }
+    ensures within { OnOk result (length (with_first_match entries.old.items) ≤ limit) }
+    ensures refused { IfErr result
+        (λ error. error ≡ refusal_at limit (length (with_first_match entries.old.items))) }
+    ensures unchanged { OnErr result
+        (with_first_match entries.new.items ≡ with_first_match entries.old.items) }
+{
+    if entries.len().max(1) > limit {
+        return Err(overflow(limit));
+    }
+    let Ok(()) = add_dummy(entries) else {
+        return Err(BuildError::OutOfMemory);
+    };
+    push(entries, limit, pattern, None)
 }
 
 /// The entry at this place links to another.

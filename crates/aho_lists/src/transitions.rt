@@ -11,7 +11,7 @@ ghost use Rattle.aho_lists.specs.Refusal.{refusal_at};
 ghost use Rattle.aho_lists.specs.Rings.{AreRings, IsRun};
 ghost use Rattle.aho_lists.specs.Lists.{list_at, IsList, with_list_behind};
 ghost use Rattle.aho_lists.specs.TransitionList.{transition_at, with_transition, lists_transition, IsRising, full_list, number_after, set_transition_in};
-ghost use Rattle.aho_lists.specs.Inside.{transition_of, transition_entries, IsGapBehind, IsOn, redirected, relinked, linked_behind, full_entries};
+ghost use Rattle.aho_lists.specs.Inside.{with_first, transition_of, transition_entries, IsGapBehind, IsOn, redirected, relinked, linked_behind, full_entries};
 
 use crate::walk::{overflow, place_after};
 use aho_base::error::BuildError;
@@ -33,9 +33,10 @@ struct Transition {
 
 /// Lists of transitions.
 ///
-/// An index of an entry is at most the limit. Index 0 is taken from the start.
+/// An index of an entry is at most the limit. Index 0 is taken by an entry of no list, which comes with the first one of a list.
 #[derive(Drop)]
 pub struct TransitionLists {
+    /// None, or those of the lists behind the one at index 0.
     entries: Vec<Transition>,
     limit: usize,
 }
@@ -44,43 +45,28 @@ impl Model for TransitionLists {
     ghost use Rattle.std.specs.Prelude.{ℕ, length};
     ghost use Rattle.aho_lists.specs.Rings.{lists_of};
     ghost use Rattle.aho_lists.specs.Lists.{Lists};
-    ghost use Rattle.aho_lists.specs.Inside.{transition_entries, IsStore};
+    ghost use Rattle.aho_lists.specs.Inside.{transition_entries, with_first, IsStore};
 
     ghost Value = { Lists (ℕ × ℕ) };
 
     ghost view = { λ s. record {
-      lists = lists_of (transition_entries s.entries.items) (length s.entries.items);
+      lists = lists_of (transition_entries (with_first s.entries.items)) (length (with_first s.entries.items));
       limit = s.limit;
     } };
 
     ghost invariant = { λ s.
-        IsStore (transition_entries s.entries.items) (length s.entries.items) s.limit };
+        IsStore (transition_entries (with_first s.entries.items)) (length (with_first s.entries.items)) s.limit };
 }
 
 impl TransitionLists {
-    /// No lists yet, of indexes that are at most `limit`; a greater limit counts as `SmallIndex::MAX`.
-    ///
-    /// # Errors
-    ///
-    /// Want of memory.
-    pub fn new(alloc: Global, limit: usize) -> Result<TransitionLists, BuildError>
-        ensures empty { IfOk result
-            (λ store. store ≡ record { lists = [] ∷ []; limit = min limit greatest_index }) }
-        ensures refused { IfErr result (λ error. error ≡ BuildError.OutOfMemory) }
+    /// No lists yet, of indexes that are at most `limit`; a greater limit counts as `SmallIndex::MAX`. It takes no memory.
+    pub fn new(alloc: Global, limit: usize) -> TransitionLists
+        ensures empty { result ≡ record { lists = [] ∷ []; limit = min limit greatest_index } }
     {
-        let mut entries = Vec::new(alloc);
-        let dummy = Transition {
-            byte: 0,
-            next: FAIL,
-            link: StateID::ZERO,
-        };
-        let Ok(()) = entries.push(dummy) else {
-            return Err(BuildError::OutOfMemory);
-        };
-        Ok(TransitionLists {
-            entries,
+        TransitionLists {
+            entries: Vec::new(alloc),
             limit: limit.min(SmallIndex::MAX.as_usize()),
-        })
+        }
     }
 
     /// How many entries the lists have together, and one: the entry at index 0.
@@ -88,7 +74,7 @@ impl TransitionLists {
         ensures len { result ≡ length self.now.lists }
         ensures bound { result ≤ 2147483647 }
     {
-        self.entries.len()
+        self.entries.len().max(1)
     }
 
     /// What is true of every store, for a proof to cite. The call does nothing.
@@ -171,10 +157,13 @@ impl TransitionLists {
             (λ error. error ≡ refusal_at self.old.limit (length self.old.lists + 255)) }
         ensures unchanged { OnErr result (self.new ≡ self.old) }
     {
-        let first = self.entries.len();
+        let first = self.len();
         if self.limit < first + 255 {
             return Err(overflow(self.limit));
         }
+        let Ok(()) = add_dummy(&mut self.entries) else {
+            return Err(BuildError::OutOfMemory);
+        };
         let Ok(()) = push_full(&mut self.entries, self.limit, next) else {
             self.entries.truncate(first);
             return Err(BuildError::OutOfMemory);
@@ -203,6 +192,20 @@ impl TransitionLists {
         }
     }
 
+    /// An equal store, in memory of its own.
+    ///
+    /// # Errors
+    ///
+    /// Want of memory.
+    pub fn try_clone(&self, alloc: Global) -> Result<TransitionLists, AllocError>
+        ensures same { IfOk result (λ store. store ≡ self.now) }
+    {
+        Ok(TransitionLists {
+            entries: Vec::from_slice(alloc, &self.entries)?,
+            limit: self.limit,
+        })
+    }
+
     /// A list of one entry.
     fn start(&mut self, byte: u8, next: StateID) -> Result<StateID, BuildError>
         ensures number { IfOk result (λ made. made ≡ length self.old.lists) }
@@ -214,7 +217,7 @@ impl TransitionLists {
             (λ error. error ≡ refusal_at self.old.limit (length self.old.lists)) }
         ensures unchanged { OnErr result (self.new ≡ self.old) }
     {
-        let made = push(&mut self.entries, self.limit, byte, next, None)?;
+        let made = push_alone(&mut self.entries, self.limit, byte, next)?;
         Ok(made)
     }
 }
@@ -340,6 +343,48 @@ fn redirect(entries: &mut Vec<Transition>, place: StateID, next: StateID)
 {
     let transition = &mut entries[place.as_usize()];
     transition.next = next;
+}
+
+/// The entry at index 0 stands there.
+fn add_dummy(entries: &mut Vec<Transition>) -> Result<(), AllocError>
+    ensures there { OnOk result (entries.new.items ≡ with_first entries.old.items) }
+    ensures unchanged { OnErr result (entries.new.items ≡ entries.old.items) }
+{
+    if entries.is_empty() {
+        let dummy = Transition {
+            byte: 0,
+            next: FAIL,
+            link: StateID::ZERO,
+        };
+        entries.push(dummy)?;
+    }
+    Ok(())
+}
+
+/// One entry more, which links to itself.
+fn push_alone(
+    entries: &mut Vec<Transition>,
+    limit: usize,
+    byte: u8,
+    next: StateID,
+) -> Result<StateID, BuildError>
+    requires small { limit ≤ greatest_index }
+    ensures number { IfOk result (λ made. made ≡ length (with_first entries.old.items)) }
+    ensures pushed { OnOk result (entries.new.items ≡ with_first entries.old.items
+        ++ record { byte = byte; next = next; link = length (with_first entries.old.items) } ∷ []) }
+    ensures within { OnOk result (length (with_first entries.old.items) ≤ limit) }
+    ensures refused { IfErr result
+        (λ error. error ≡ refusal_at limit (length (with_first entries.old.items))) }
+    ensures unchanged { OnErr result
+        (with_first entries.new.items ≡ with_first entries.old.items) }
+{
+    if entries.len().max(1) > limit {
+        return Err(overflow(limit));
+    }
+    let Ok(()) = add_dummy(entries) else {
+        return Err(BuildError::OutOfMemory);
+    };
+    push(entries, limit, byte, next, None)
 }
 
 /// The entry at this place links to another.

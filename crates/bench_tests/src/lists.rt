@@ -26,7 +26,7 @@ fn overflow(max: u32) -> BuildError {
 
 #[test]
 fn a_list_rises_by_byte(rt: HostRuntime) {
-    let mut store = TransitionLists::new(rt.alloc(), 4).expect(&rt, "a store");
+    let mut store = TransitionLists::new(rt.alloc(), 4);
     let list = store
         .set(StateID::ZERO, b'm', state(&rt, 7))
         .expect(&rt, "m");
@@ -50,17 +50,19 @@ fn a_list_rises_by_byte(rt: HostRuntime) {
 
 #[test]
 fn a_full_list_has_each_byte(rt: HostRuntime) {
-    let mut store = TransitionLists::new(rt.alloc(), 256).expect(&rt, "a store");
+    let mut store = TransitionLists::new(rt.alloc(), 256);
     let list = store.fill(state(&rt, 3)).expect(&rt, "a full list");
     assert_eq!(rt; list, state(&rt, 256));
     assert_eq!(rt; store.len(), 257);
     assert_eq!(rt; store.fill(FAIL), Err(overflow(256)));
     assert_eq!(rt; store.len(), 257);
+    let clone = store.try_clone(rt.alloc()).expect(&rt, "memory");
+    assert_eq!(rt; clone.len(), 257);
 }
 
 #[test]
 fn patterns_stand_in_their_order(rt: HostRuntime) {
-    let mut store = MatchLists::new(rt.alloc(), 3).expect(&rt, "a store");
+    let mut store = MatchLists::new(rt.alloc(), 3);
     let list = store
         .push(StateID::ZERO, pattern(&rt, 4))
         .expect(&rt, "a pattern");
@@ -73,4 +75,6 @@ fn patterns_stand_in_their_order(rt: HostRuntime) {
     assert_eq!(rt; walk.next(), Some(pattern(&rt, 4)));
     assert_eq!(rt; walk.next(), None);
     assert_eq!(rt; store.push(list, pattern(&rt, 1)), Err(overflow(3)));
+    let clone = store.try_clone(rt.alloc()).expect(&rt, "memory");
+    assert_eq!(rt; clone.len(), 4);
 }

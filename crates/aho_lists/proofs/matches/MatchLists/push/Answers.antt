@@ -1,5 +1,5 @@
 -- The pattern stands behind the last of its list.
-use Rattle.std.proofs.Common.{◌≡◌, ℕ, [], ◌∷◌, ◌++◌, length, ap, refl, sym, arith, ◌∙◌}
+use Rattle.std.proofs.Common.{◌≡◌, ℕ, List, [], ◌∷◌, ◌++◌, length, ap, refl, sym, arith, ◌∙◌}
 use Rattle.aho_base.specs.declared.error.BuildError.{BuildError}
 use Rattle.aho_lists.specs.Refusal.{refusal_at}
 use Rattle.aho_lists.specs.Lists.{Lists, list_at, IsList, push_in}
@@ -7,6 +7,9 @@ use Rattle.aho_lists.proofs.Results.{is_zero, is_some, IfErr-given, OnOk-more, I
 use Rattle.aho_lists.proofs.Families.{IsList-from, push_in-other, push_in-this, push-some}
 use Rattle.aho_lists.proofs.Stores.{same_store, length-lists_of, push_in-empty}
 use Rattle.aho_lists.proofs.MatchChanges.{match_lists, match_list_in, IsStore-more, match_lists-more}
+use Rattle.aho_lists.proofs.Firsts.{length-with_first_match, real_matches, first_match-made}
+use Rattle.aho_lists.specs.Inside.{with_first_match, matched_behind}
+use Rattle.aho_lists.specs.declared.matches.Match.{Match}
 use Rattle.aho_lists.proofs.matches.MatchLists.push.Goals as goal
 
 pub returns-then-eq-clause-pushed : goal.returns-then-eq-clause-pushed
@@ -19,32 +22,42 @@ returns-then-eq-clause-pushed c =
 pub push_behind-requires-clause-place : goal.push_behind-requires-clause-place
 push_behind-requires-clause-place c =
     let some = is_some c.args.list c.eq.result c.eq.ensures c.if-eq.false in
-    let known : IsList (match_lists c.self.inside.entries.items) c.args.list = rw (← c.self.view_is) at c.requires.known in
-    match_list_in c.self.inside.entries.items c.self.inside.limit c.args.list c.self.invariant known some
+    let known : IsList (match_lists (with_first_match c.self.inside.entries.items)) c.args.list = rw (← c.self.view_is) at c.requires.known in
+    let real = real_matches c.self.inside.entries.items c.args.list some (match_list_in (with_first_match c.self.inside.entries.items) c.self.inside.limit c.args.list c.self.invariant known some) in
+    omega (arith, match_list_in (with_first_match c.self.inside.entries.items) c.self.inside.limit c.args.list c.self.invariant known some, ap (λ (es : List Match). length es) real)
 
 pub invariant_of-self-2 : goal.invariant_of-self-2
 invariant_of-self-2 c =
     let some = is_some c.args.list c.eq.result c.eq.ensures c.if-eq.false in
-    let known : IsList (match_lists c.self.inside.entries.items) c.args.list = rw (← c.self.view_is) at c.requires.known in
-    IsStore-more c.self.inside.entries.items c.self.inside.limit c.args.list c.self.invariant known some c.push_behind.new.entries.items c.args.pattern c.in_ok-made.ensures.pushed c.in_ok-made.ensures.within
+    let known : IsList (match_lists (with_first_match c.self.inside.entries.items)) c.args.list = rw (← c.self.view_is) at c.requires.known in
+    let real = real_matches c.self.inside.entries.items c.args.list some (match_list_in (with_first_match c.self.inside.entries.items) c.self.inside.limit c.args.list c.self.invariant known some) in
+    IsStore-more (with_first_match c.self.inside.entries.items) c.self.inside.limit c.args.list c.self.invariant known some (with_first_match c.push_behind.new.entries.items) c.args.pattern (first_match-made (λ (es : List Match). matched_behind es c.args.list c.args.pattern) c.self.inside.entries.items c.push_behind.new.entries.items real (omega (arith, c.in_ok-made.ensures.count)) c.in_ok-made.ensures.pushed) (omega (arith, c.in_ok-made.ensures.within, ap (λ (es : List Match). length es) real))
 
 pub returns-clause-pushed : goal.returns-clause-pushed
 returns-clause-pushed c =
     let some = is_some c.args.list c.eq.result c.eq.ensures c.if-eq.false in
-    let known : IsList (match_lists c.self.inside.entries.items) c.args.list = rw (← c.self.view_is) at c.requires.known in
+    let known : IsList (match_lists (with_first_match c.self.inside.entries.items)) c.args.list = rw (← c.self.view_is) at c.requires.known in
+    let real = real_matches c.self.inside.entries.items c.args.list some (match_list_in (with_first_match c.self.inside.entries.items) c.self.inside.limit c.args.list c.self.invariant known some) in
     rw (← c.self.view_is)
-    (same_store (match_lists-more c.self.inside.entries.items c.self.inside.limit c.args.list c.self.invariant known some c.push_behind.new.entries.items c.args.pattern c.in_ok-made.ensures.pushed) refl)
+    (same_store (match_lists-more (with_first_match c.self.inside.entries.items) c.self.inside.limit c.args.list c.self.invariant known some (with_first_match c.push_behind.new.entries.items) c.args.pattern (first_match-made (λ (es : List Match). matched_behind es c.args.list c.args.pattern) c.self.inside.entries.items c.push_behind.new.entries.items real (omega (arith, c.in_ok-made.ensures.count)) c.in_ok-made.ensures.pushed)) refl)
 
 pub returns-in_err-made-clause-refused : goal.returns-in_err-made-clause-refused
 returns-in_err-made-clause-refused c =
+    let some = is_some c.args.list c.eq.result c.eq.ensures c.if-eq.false in
+    let known : IsList (match_lists (with_first_match c.self.inside.entries.items)) c.args.list = rw (← c.self.view_is) at c.requires.known in
+    let real = real_matches c.self.inside.entries.items c.args.list some (match_list_in (with_first_match c.self.inside.entries.items) c.self.inside.limit c.args.list c.self.invariant known some) in
     rw (← c.self.view_is, length-lists_of)
-    (IfErr-given (λ (error : BuildError). error ≡ refusal_at c.self.inside.limit (length c.self.inside.entries.items)) c.from_residual.result c.in_err-made.field-0.0 c.from_residual.ensures.1 c.in_err-made.ensures.refused)
+    (IfErr-given (λ (error : BuildError). error ≡ refusal_at c.self.inside.limit (length (with_first_match c.self.inside.entries.items))) c.from_residual.result c.in_err-made.field-0.0 c.from_residual.ensures.1 (c.in_err-made.ensures.refused ∙ ap (λ (es : List Match). refusal_at c.self.inside.limit (length es)) (sym real)))
 
 pub returns-clause-number : goal.returns-clause-number
-returns-clause-number c = rw (← c.self.view_is, length-lists_of) c.in_ok-made.ensures.number
+returns-clause-number c =
+    let some = is_some c.args.list c.eq.result c.eq.ensures c.if-eq.false in
+    let known : IsList (match_lists (with_first_match c.self.inside.entries.items)) c.args.list = rw (← c.self.view_is) at c.requires.known in
+    let real = real_matches c.self.inside.entries.items c.args.list some (match_list_in (with_first_match c.self.inside.entries.items) c.self.inside.limit c.args.list c.self.invariant known some) in
+    rw (← c.self.view_is, length-lists_of) (c.in_ok-made.ensures.number ∙ ap (λ (es : List Match). length es) (sym real))
 
 pub returns-clause-within : goal.returns-clause-within
-returns-clause-within c = rw (← c.self.view_is, length-lists_of) (omega (arith, c.in_ok-made.ensures.count, c.in_ok-made.ensures.within))
+returns-clause-within c = rw (← c.self.view_is, length-lists_of) (omega (arith, length-with_first_match c.push_behind.new.entries.items, c.in_ok-made.ensures.count, c.in_ok-made.ensures.within))
 
 pub returns-then-eq-clause-changed : goal.returns-then-eq-clause-changed
 returns-then-eq-clause-changed c =
@@ -64,12 +77,12 @@ returns-then-eq-clause-others c =
 
 pub returns-clause-changed : goal.returns-clause-changed
 returns-clause-changed c =
-    ap (λ (n : ℕ). list_at (match_lists c.push_behind.new.entries.items) n) (returns-clause-number c)
+    ap (λ (n : ℕ). list_at (match_lists (with_first_match c.push_behind.new.entries.items)) n) (returns-clause-number c)
     ∙ ap (λ (s : Lists ℕ). list_at s.lists (length c.args.self.now.lists)) (returns-clause-pushed c) ∙ push_in-this c.args.self.now.lists c.args.list c.args.pattern
 
 pub returns-clause-known : goal.returns-clause-known
 returns-clause-known c =
-    IsList-from (match_lists c.push_behind.new.entries.items) c.in_ok-made.made (list_at c.args.self.now.lists c.args.list ++ c.args.pattern ∷ []) (returns-clause-changed c)
+    IsList-from (match_lists (with_first_match c.push_behind.new.entries.items)) c.in_ok-made.made (list_at c.args.self.now.lists c.args.list ++ c.args.pattern ∷ []) (returns-clause-changed c)
     (push-some (list_at c.args.self.now.lists c.args.list) c.args.pattern)
 
 pub returns-clause-others : goal.returns-clause-others

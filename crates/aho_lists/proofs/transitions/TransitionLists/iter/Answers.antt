@@ -10,13 +10,15 @@ use Rattle.aho_lists.proofs.Stores.{list_at-zero}
 use Rattle.aho_lists.proofs.Walks.{rest_from-some, rest_from-none}
 use Rattle.aho_lists.proofs.TransitionGaps.{lists_in}
 use Rattle.aho_lists.proofs.TransitionChanges.{list_in, list_run, list_at-rising}
+use Rattle.aho_lists.proofs.Firsts.{real_entries}
+use Rattle.aho_lists.specs.Inside.{with_first}
 use Rattle.aho_lists.proofs.transitions.TransitionLists.iter.Goals as goal
 
 pub returns-then-eq-clause-listed : goal.returns-then-eq-clause-listed
 returns-then-eq-clause-listed c =
     let none = is_zero c.args.list c.eq.result c.eq.ensures c.if-eq.true in
     rest_from-none (transition_entries c.as_slice-entries.result.now) c.args.list
-    ∙ sym (rw (← c.self.view_is, none) (list_at-zero (transition_entries c.self.inside.entries.items) (length c.self.inside.entries.items) c.self.invariant.rings.some))
+    ∙ sym (rw (← c.self.view_is, none) (list_at-zero (transition_entries (with_first c.self.inside.entries.items)) (length (with_first c.self.inside.entries.items)) c.self.invariant.rings.some))
 
 pub returns-then-eq-clause-rising : goal.returns-then-eq-clause-rising
 returns-then-eq-clause-rising c = subst (λ (l : List (ℕ × ℕ)). IsRising l) (sym (rest_from-none (transition_entries c.as_slice-entries.result.now) c.args.list)) tt
@@ -24,8 +26,9 @@ returns-then-eq-clause-rising c = subst (λ (l : List (ℕ × ℕ)). IsRising l)
 pub entry-requires : goal.entry-requires
 entry-requires c =
     let some = is_some c.args.list c.eq.result c.eq.ensures c.if-eq.false in
-    let known : IsList (lists_in c.self.inside.entries.items) c.args.list = rw (← c.self.view_is) at c.requires.known in
-    record { within = rw c.as_slice-entries.ensures.value (list_in c.self.inside.entries.items c.self.inside.limit c.args.list 0 c.self.invariant known some) }
+    let known : IsList (lists_in (with_first c.self.inside.entries.items)) c.args.list = rw (← c.self.view_is) at c.requires.known in
+    let real = real_entries c.self.inside.entries.items c.args.list some (list_in (with_first c.self.inside.entries.items) c.self.inside.limit c.args.list 0 c.self.invariant known some) in
+    record { within = rw (c.as_slice-entries.ensures.value ∙ sym real) (list_in (with_first c.self.inside.entries.items) c.self.inside.limit c.args.list 0 c.self.invariant known some) }
 
 -- the run from the first entry, in the entries as the walk sees them
 first_run : (entries seen : List Transition) (list : ℕ) (read : Transition) (xs : List (ℕ × ℕ)) → seen ≡ entries → read ≡ transition_of seen list
@@ -37,33 +40,36 @@ first_run entries seen list read xs same is run =
 pub invariant_of-result-2 : goal.invariant_of-result-2
 invariant_of-result-2 c =
     let some = is_some c.args.list c.eq.result c.eq.ensures c.if-eq.false in
-    let known : IsList (lists_in c.self.inside.entries.items) c.args.list = rw (← c.self.view_is) at c.requires.known in
-    let run = list_run c.self.inside.entries.items c.self.inside.limit c.args.list 0 c.self.invariant known some in
-    let below = list_in c.self.inside.entries.items c.self.inside.limit c.args.list 0 c.self.invariant known some in
+    let known : IsList (lists_in (with_first c.self.inside.entries.items)) c.args.list = rw (← c.self.view_is) at c.requires.known in
+    let real = real_entries c.self.inside.entries.items c.args.list some (list_in (with_first c.self.inside.entries.items) c.self.inside.limit c.args.list 0 c.self.invariant known some) in
+    let run = list_run (with_first c.self.inside.entries.items) c.self.inside.limit c.args.list 0 c.self.invariant known some in
+    let below = list_in (with_first c.self.inside.entries.items) c.self.inside.limit c.args.list 0 c.self.invariant known some in
     let within : (i : ℕ) → i < length c.as_slice-entries.result.now → (transition_of c.as_slice-entries.result.now i).link < length c.as_slice-entries.result.now =
-    rw c.as_slice-entries.ensures.value c.self.invariant.rings.within in
+    rw (c.as_slice-entries.ensures.value ∙ sym real) c.self.invariant.rings.within in
     record {
       within = within;
       on_list = (
-        rw c.entry.ensures.entry (within c.args.list (rw c.as_slice-entries.ensures.value below)),
-        list_at (lists_in c.self.inside.entries.items) c.args.list,
-        first_run c.self.inside.entries.items c.as_slice-entries.result.now c.args.list c.entry.result (list_at (lists_in c.self.inside.entries.items) c.args.list) c.as_slice-entries.ensures.value c.entry.ensures.entry run,
+        rw c.entry.ensures.entry (within c.args.list (rw (c.as_slice-entries.ensures.value ∙ sym real) below)),
+        list_at (lists_in (with_first c.self.inside.entries.items)) c.args.list,
+        first_run (with_first c.self.inside.entries.items) c.as_slice-entries.result.now c.args.list c.entry.result (list_at (lists_in (with_first c.self.inside.entries.items)) c.args.list) (c.as_slice-entries.ensures.value ∙ sym real) c.entry.ensures.entry run,
       );
     }
 
 pub returns-clause-listed : goal.returns-clause-listed
 returns-clause-listed c =
     let some = is_some c.args.list c.eq.result c.eq.ensures c.if-eq.false in
-    let known : IsList (lists_in c.self.inside.entries.items) c.args.list = rw (← c.self.view_is) at c.requires.known in
-    let run = list_run c.self.inside.entries.items c.self.inside.limit c.args.list 0 c.self.invariant known some in
+    let known : IsList (lists_in (with_first c.self.inside.entries.items)) c.args.list = rw (← c.self.view_is) at c.requires.known in
+    let real = real_entries c.self.inside.entries.items c.args.list some (list_in (with_first c.self.inside.entries.items) c.self.inside.limit c.args.list 0 c.self.invariant known some) in
+    let run = list_run (with_first c.self.inside.entries.items) c.self.inside.limit c.args.list 0 c.self.invariant known some in
     rw (← c.self.view_is)
-    (rest_from-some (first_run c.self.inside.entries.items c.as_slice-entries.result.now c.args.list c.entry.result (list_at (lists_in c.self.inside.entries.items) c.args.list) c.as_slice-entries.ensures.value c.entry.ensures.entry run))
+    (rest_from-some (first_run (with_first c.self.inside.entries.items) c.as_slice-entries.result.now c.args.list c.entry.result (list_at (lists_in (with_first c.self.inside.entries.items)) c.args.list) (c.as_slice-entries.ensures.value ∙ sym real) c.entry.ensures.entry run))
 
 pub returns-clause-rising : goal.returns-clause-rising
 returns-clause-rising c =
     let some = is_some c.args.list c.eq.result c.eq.ensures c.if-eq.false in
-    let known : IsList (lists_in c.self.inside.entries.items) c.args.list = rw (← c.self.view_is) at c.requires.known in
-    let run = list_run c.self.inside.entries.items c.self.inside.limit c.args.list 0 c.self.invariant known some in
+    let known : IsList (lists_in (with_first c.self.inside.entries.items)) c.args.list = rw (← c.self.view_is) at c.requires.known in
+    let real = real_entries c.self.inside.entries.items c.args.list some (list_in (with_first c.self.inside.entries.items) c.self.inside.limit c.args.list 0 c.self.invariant known some) in
+    let run = list_run (with_first c.self.inside.entries.items) c.self.inside.limit c.args.list 0 c.self.invariant known some in
     subst (λ (l : List (ℕ × ℕ)). IsRising l)
-    (sym (rest_from-some (first_run c.self.inside.entries.items c.as_slice-entries.result.now c.args.list c.entry.result (list_at (lists_in c.self.inside.entries.items) c.args.list) c.as_slice-entries.ensures.value c.entry.ensures.entry run)))
-    (list_at-rising c.self.inside.entries.items c.self.invariant.rings c.args.list)
+    (sym (rest_from-some (first_run (with_first c.self.inside.entries.items) c.as_slice-entries.result.now c.args.list c.entry.result (list_at (lists_in (with_first c.self.inside.entries.items)) c.args.list) (c.as_slice-entries.ensures.value ∙ sym real) c.entry.ensures.entry run)))
+    (list_at-rising (with_first c.self.inside.entries.items) c.self.invariant.rings c.args.list)

@@ -1,12 +1,14 @@
--- The entry at index 0 is no list.
-use Rattle.std.proofs.Common.{◌≡◌, length, min, ap, arith, ◌∙◌}
+-- There is the entry at index 0 alone, which is no list.
+use Rattle.std.proofs.Common.{List, [], length, min, ap, ◌∙◌}
 use Rattle.aho_lists.specs.Rings.{lists_of}
-use Rattle.aho_lists.specs.Inside.{transition_entries}
+use Rattle.aho_lists.specs.Inside.{transition_entries, with_first}
+use Rattle.aho_lists.specs.declared.transitions.Transition.{Transition}
 use Rattle.aho_lists.proofs.Stores.{lists_of-one, same_store}
 use Rattle.aho_lists.proofs.transitions.TransitionLists.new.Goals as goal
 
-pub returns-clause-empty : goal.returns-clause-empty
-returns-clause-empty c =
-    let count : length c.push.new.self.items ≡ 1 = omega (arith, c.in-Ok.ensures.len, c.new-entries.ensures.len, c.push.new.self.ok) in
-    same_store (ap (lists_of (transition_entries c.push.new.self.items)) count ∙ lists_of-one (transition_entries c.push.new.self.items))
-    (c.min.ensures ∙ ap (min c.args.limit) c.as_usize.ensures.value)
+pub returns : goal.returns
+returns c = record {
+  empty = same_store
+      (ap (λ (es : List Transition). lists_of (transition_entries (with_first es)) (length (with_first es))) c.new.ensures.items ∙ lists_of-one (transition_entries (with_first [])))
+      (c.min.ensures ∙ ap (min c.args.limit) c.as_usize.ensures.value);
+}
