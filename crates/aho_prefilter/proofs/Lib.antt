@@ -1,0 +1,8 @@
+-- what occurs in a span, and where a search for bytes or for a needle stops in its part of the haystack
+pub mod Parts
+-- what each answer of a search means
+pub mod Found
+-- how the first bytes grow by a pattern
+pub mod Few
+-- which bytes they are, and that what is held is a prefilter of the patterns
+pub mod Held

@@ -1,0 +1,32 @@
+-- With which bytes the patterns begin.
+use Rattle.std.specs.Prelude.{ℕ, ◌+◌, ◌-◌, ◌&&◌, Bool, List, [], ◌∷◌, ◌++◌, nat_eq, nat_le, if◌then◌else◌}
+use Rattle.std.specs.List.{flat_map, fold, list_any}
+use Rattle.aho_base.specs.Patterns.{Patterns}
+
+-- the other case of an ASCII letter, and every other byte itself
+abbrev pub opposite : ℕ → ℕ
+opposite byte =
+    if nat_le 65 byte && nat_le byte 90 then byte + 32
+    else if nat_le 97 byte && nat_le byte 122 then byte - 32
+    else byte
+
+-- the byte and, under the case rule, its other case
+abbrev pub cases_of : Bool → ℕ → List ℕ
+cases_of ignore_case byte = if ignore_case then byte ∷ opposite byte ∷ [] else byte ∷ []
+
+-- the bytes with which a word begins: none, if it is empty
+abbrev pub begins_by : Bool → List ℕ → List ℕ
+begins_by ignore_case [] = []
+begins_by ignore_case (byte ∷ word) = cases_of ignore_case byte
+
+-- whether the byte is one of these
+abbrev pub has_byte : List ℕ → ℕ → Bool
+has_byte bytes byte = list_any (λ x. nat_eq x byte) bytes
+
+-- these bytes and one more, unless it is one of them
+unfoldable pub with_byte : List ℕ → ℕ → List ℕ
+with_byte bytes byte = if has_byte bytes byte then bytes else bytes ++ byte ∷ []
+
+-- the bytes with which patterns begin, each once, in the order of the patterns
+unfoldable pub first_bytes : Patterns → List ℕ
+first_bytes p = fold with_byte [] (flat_map (begins_by p.ignore_case) p.words)

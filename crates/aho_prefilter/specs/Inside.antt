@@ -1,0 +1,66 @@
+-- How the builder keeps what a prefilter depends on, and where a search stops in a part of a haystack.
+use Rattle.std.specs.Prelude.{◌≡◌, ℕ, Bool, not, ◌&&◌, List, [], ◌∷◌, ◌++◌, Option, Some, None as Nothing, if◌then◌else◌}
+use Rattle.std.specs.List.{fold}
+use Rattle.memchr.specs.Find.{FindsNeedle, IsFirstByte, is_byte, is_byte2, is_byte3}
+use Rattle.aho_base.specs.Patterns.{Patterns, pattern_at}
+use Rattle.aho_prefilter.specs.FirstBytes.{cases_of, first_bytes, has_byte}
+use Rattle.aho_prefilter.specs.Prefilter.{has_empty, is_searched_whole}
+use Rattle.aho_prefilter.specs.declared.prefilter.Searcher.{Searcher}
+use Rattle.aho_prefilter.specs.declared.prefilter.Searcher.TheVariants.{Memmem, Memchr, Memchr2, Memchr3}
+use Rattle.aho_prefilter.specs.declared.prefilter.first_bytes.FirstBytes.{FirstBytes}
+use Rattle.aho_prefilter.specs.declared.prefilter.first_bytes.FirstBytes.TheVariants.{None, One, Two, Three, Any}
+
+-- the first place of a part at which the search stops
+abbrev pub StopsFirst : Searcher → List ℕ → Option ℕ → Type 0
+StopsFirst (Memmem needle) part at = FindsNeedle part needle 0 at
+StopsFirst (Memchr x) part at = IsFirstByte (is_byte x) part at
+StopsFirst (Memchr2 x y) part at = IsFirstByte (is_byte2 x y) part at
+StopsFirst (Memchr3 x y z) part at = IsFirstByte (is_byte3 x y z) part at
+
+-- the bytes, if they are few
+abbrev pub bytes_of : FirstBytes → List ℕ
+bytes_of None = []
+bytes_of (One x) = x ∷ []
+bytes_of (Two x y) = x ∷ y ∷ []
+bytes_of (Three x y z) = x ∷ y ∷ z ∷ []
+bytes_of Any = []
+
+abbrev pub few : List ℕ → FirstBytes
+few [] = None
+few (x ∷ []) = One x
+few (x ∷ y ∷ []) = Two x y
+few (x ∷ y ∷ z ∷ []) = Three x y z
+few (x ∷ y ∷ z ∷ u ∷ more) = Any
+
+-- with a byte that is none of these
+abbrev pub few_more : FirstBytes → ℕ → FirstBytes
+few_more None byte = One byte
+few_more (One x) byte = Two x byte
+few_more (Two x y) byte = Three x y byte
+few_more (Three x y z) byte = Any
+few_more Any byte = Any
+
+-- with a byte
+abbrev pub few_with : FirstBytes → ℕ → FirstBytes
+few_with bytes byte = if has_byte (bytes_of bytes) byte then bytes else few_more bytes byte
+
+-- with the bytes with which a word begins
+abbrev pub few_with_word : Bool → FirstBytes → List ℕ → FirstBytes
+few_with_word ignore_case bytes [] = Any
+few_with_word ignore_case bytes (byte ∷ word) = fold few_with bytes (cases_of ignore_case byte)
+
+-- those of all patterns
+abbrev pub few_of : Patterns → FirstBytes
+few_of p = if has_empty p then Any else few (first_bytes p)
+
+-- the search for few bytes
+abbrev pub search_of : FirstBytes → Option Searcher
+search_of None = Nothing
+search_of (One x) = Some (Memchr x)
+search_of (Two x y) = Some (Memchr2 x y)
+search_of (Three x y z) = Some (Memchr3 x y z)
+search_of Any = Nothing
+
+-- the only pattern, where it is searched for as a whole and is not empty
+abbrev pub whole_of : Patterns → Option (List ℕ)
+whole_of p = if is_searched_whole p && not (has_empty p) then Some (pattern_at p 0) else Nothing

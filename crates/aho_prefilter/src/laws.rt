@@ -1,0 +1,1 @@
+//! What a candidate tells a search.
