@@ -13,24 +13,25 @@ use Rattle.aho_base.specs.Occurrence.{Occurrence, occurrence}
 use Rattle.aho_base.specs.Occurs.{Occurs}
 use Rattle.aho_base.specs.Order.{IsBefore}
 use Rattle.aho_base.specs.Patterns.{Patterns, pattern_at}
-use Rattle.aho_prefilter.specs.Candidate.{NoneStartsBefore, NothingOccurs, IsPossibleStart, IsWholeMatch}
-use Rattle.aho_prefilter.specs.Inside.{StopsFirst}
+use Rattle.aho_prefilter.specs.Candidate.{IsCandidate, NoneStartsBefore, NothingOccurs, IsPossibleStart, IsWholeMatch}
+use Rattle.aho_prefilter.specs.Finding.{Finds, StopsFirst, answer_at, answer_in}
 use Rattle.aho_prefilter.specs.Prefilter.{AllBeginWithin, IsOnlyPattern, IsPrefilterOf}
+use Rattle.aho_prefilter.specs.declared.prefilter.Candidate.{Candidate}
 use Rattle.aho_prefilter.specs.declared.prefilter.Searcher.{Searcher}
 use Rattle.aho_prefilter.specs.declared.prefilter.Searcher.TheVariants.{Memmem, Memchr, Memchr2, Memchr3}
 use Rattle.aho_prefilter.proofs.Parts.{length_part, is_only, starts_pass, OccursAt-only, Occurs-from_part}
 
 -- a byte that is one of these passes their test
-pub is_byte-has : (x byte : ℕ) → Contains (x ∷ []) byte → is_byte x byte ≡ true
+is_byte-has : (x byte : ℕ) → Contains (x ∷ []) byte → is_byte x byte ≡ true
 is_byte-has x byte (zero, below, e) = grind (arith, nat_tests)
 is_byte-has x byte (suc k, below, e) = absurd (omega arith)
 
-pub is_byte2-has : (x y byte : ℕ) → Contains (x ∷ y ∷ []) byte → is_byte2 x y byte ≡ true
+is_byte2-has : (x y byte : ℕ) → Contains (x ∷ y ∷ []) byte → is_byte2 x y byte ≡ true
 is_byte2-has x y byte (zero, below, e) = grind (arith, nat_tests)
 is_byte2-has x y byte (suc zero, below, e) = grind (arith, nat_tests)
 is_byte2-has x y byte (suc (suc k), below, e) = absurd (omega arith)
 
-pub is_byte3-has : (x y z byte : ℕ) → Contains (x ∷ y ∷ z ∷ []) byte → is_byte3 x y z byte ≡ true
+is_byte3-has : (x y z byte : ℕ) → Contains (x ∷ y ∷ z ∷ []) byte → is_byte3 x y z byte ≡ true
 is_byte3-has x y z byte (zero, below, e) = grind (arith, nat_tests)
 is_byte3-has x y z byte (suc zero, below, e) = grind (arith, nat_tests)
 is_byte3-has x y z byte (suc (suc zero), below, e) = grind (arith, nat_tests)
@@ -45,13 +46,13 @@ starts_first LeftmostLongest x y length ends also less = inl less
 module _ (p : Patterns) (haystack : List ℕ) (start end : ℕ) (ordered : start ≤ end) (within : end ≤ length haystack) where
   module _ (bytes : List ℕ) (test : ℕ → Bool) (passes : (byte : ℕ) → Contains bytes byte → test byte ≡ true) (begin : AllBeginWithin p bytes) where
     -- no byte, no occurrence
-    pub no_byte : IsFirstByte test (slice_range haystack start end) None → NothingOccurs p haystack start end
+    no_byte : IsFirstByte test (slice_range haystack start end) None → NothingOccurs p haystack start end
     no_byte none m o =
         let stops = starts_pass p haystack start end ordered within bytes test passes begin m o in
         none (m.start - start) (omega arith) stops.0 stops.1
 
     -- nothing starts before the first byte
-    pub first_byte : (at : ℕ) → IsFirstByte test (slice_range haystack start end) (Some at) → IsPossibleStart p haystack start end (start + at)
+    first_byte : (at : ℕ) → IsFirstByte test (slice_range haystack start end) (Some at) → IsPossibleStart p haystack start end (start + at)
     first_byte at found = record {
       after_start = omega arith;
       before_end = omega (arith, found.0.high, length_part haystack start end within);
@@ -66,7 +67,7 @@ module _ (p : Patterns) (haystack : List ℕ) (start end : ℕ) (ordered : start
 
   module _ (needle : List ℕ) (is : IsOnlyPattern p needle) where
     -- no needle, no occurrence
-    pub no_needle : FindsNeedle (slice_range haystack start end) needle 0 None → NothingOccurs p haystack start end
+    no_needle : FindsNeedle (slice_range haystack start end) needle 0 None → NothingOccurs p haystack start end
     no_needle none m o =
         let stands = OccursAt-only p haystack start end ordered within needle is m o in
         none (m.start - start) (omega arith) (omega (arith, stands.fits)) stands
@@ -80,7 +81,7 @@ module _ (p : Patterns) (haystack : List ℕ) (start end : ℕ) (ordered : start
         ]
 
     -- the first needle is the best of the span
-    pub whole_needle : (at : ℕ) → FindsNeedle (slice_range haystack start end) needle 0 (Some at)
+    whole_needle : (at : ℕ) → FindsNeedle (slice_range haystack start end) needle 0 (Some at)
         → IsWholeMatch p haystack start end (occurrence (start + at) (start + at + length needle) 0)
     whole_needle at found =
         let first = first_needle at found in
@@ -105,15 +106,23 @@ module _ (p : Patterns) (haystack : List ℕ) (start end : ℕ) (ordered : start
         }
 
   -- where a search finds nothing, nothing occurs
-  pub no_stop : (searcher : Searcher) → IsPrefilterOf searcher p → StopsFirst searcher (slice_range haystack start end) None → NothingOccurs p haystack start end
+  no_stop : (searcher : Searcher) → IsPrefilterOf searcher p → StopsFirst searcher (slice_range haystack start end) None → NothingOccurs p haystack start end
   no_stop (Memmem needle) is none = no_needle needle is none
   no_stop (Memchr x) is none = no_byte (x ∷ []) (is_byte x) (is_byte-has x) is none
   no_stop (Memchr2 x y) is none = no_byte (x ∷ y ∷ []) (is_byte2 x y) (is_byte2-has x y) is none
   no_stop (Memchr3 x y z) is none = no_byte (x ∷ y ∷ z ∷ []) (is_byte3 x y z) (is_byte3-has x y z) is none
 
-  -- nothing starts before the place where a search for bytes stops
-  pub first_stop : (searcher : Searcher) (at : ℕ) → ((needle : List ℕ) → searcher ≡ Memmem needle → ⊥) → IsPrefilterOf searcher p → StopsFirst searcher (slice_range haystack start end) (Some at) → IsPossibleStart p haystack start end (start + at)
-  first_stop (Memmem needle) at other is found = absurd (other needle refl)
-  first_stop (Memchr x) at other is found = first_byte (x ∷ []) (is_byte x) (is_byte-has x) is at found
-  first_stop (Memchr2 x y) at other is found = first_byte (x ∷ y ∷ []) (is_byte2 x y) (is_byte2-has x y) is at found
-  first_stop (Memchr3 x y z) at other is found = first_byte (x ∷ y ∷ z ∷ []) (is_byte3 x y z) (is_byte3-has x y z) is at found
+  -- where it stops at a place, its answer is a candidate
+  stop : (searcher : Searcher) (at : ℕ) → IsPrefilterOf searcher p → StopsFirst searcher (slice_range haystack start end) (Some at) → IsCandidate p haystack start end (answer_at searcher (start + at))
+  stop (Memmem needle) at is found = whole_needle needle is at found
+  stop (Memchr x) at is found = first_byte (x ∷ []) (is_byte x) (is_byte-has x) is at found
+  stop (Memchr2 x y) at is found = first_byte (x ∷ y ∷ []) (is_byte2 x y) (is_byte2-has x y) is at found
+  stop (Memchr3 x y z) at is found = first_byte (x ∷ y ∷ z ∷ []) (is_byte3 x y z) (is_byte3-has x y z) is at found
+
+  stop_or_none : (searcher : Searcher) (at : Option ℕ) → IsPrefilterOf searcher p → StopsFirst searcher (slice_range haystack start end) at → IsCandidate p haystack start end (answer_in searcher start at)
+  stop_or_none searcher None is none = no_stop searcher is none
+  stop_or_none searcher (Some at) is found = stop searcher at is found
+
+  -- what a prefilter of the patterns finds is a candidate
+  pub Finds-candidate : (searcher : Searcher) (candidate : Candidate) → IsPrefilterOf searcher p → Finds searcher haystack start end candidate → IsCandidate p haystack start end candidate
+  Finds-candidate searcher candidate is finds = subst (IsCandidate p haystack start end) (sym finds.is) (stop_or_none searcher finds.at is finds.first)

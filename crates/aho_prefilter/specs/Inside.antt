@@ -1,21 +1,13 @@
--- How the builder keeps what a prefilter depends on, and where a search stops in a part of a haystack.
+-- How the builder keeps what a prefilter depends on.
 use Rattle.std.specs.Prelude.{◌≡◌, ℕ, Bool, not, ◌&&◌, List, [], ◌∷◌, ◌++◌, Option, Some, None as Nothing, if◌then◌else◌}
 use Rattle.std.specs.List.{fold}
-use Rattle.memchr.specs.Find.{FindsNeedle, IsFirstByte, is_byte, is_byte2, is_byte3}
 use Rattle.aho_base.specs.Patterns.{Patterns, pattern_at}
 use Rattle.aho_prefilter.specs.FirstBytes.{cases_of, first_bytes, has_byte}
 use Rattle.aho_prefilter.specs.Prefilter.{has_empty, is_searched_whole}
 use Rattle.aho_prefilter.specs.declared.prefilter.Searcher.{Searcher}
-use Rattle.aho_prefilter.specs.declared.prefilter.Searcher.TheVariants.{Memmem, Memchr, Memchr2, Memchr3}
+use Rattle.aho_prefilter.specs.declared.prefilter.Searcher.TheVariants.{Memchr, Memchr2, Memchr3}
 use Rattle.aho_prefilter.specs.declared.prefilter.first_bytes.FirstBytes.{FirstBytes}
 use Rattle.aho_prefilter.specs.declared.prefilter.first_bytes.FirstBytes.TheVariants.{None, One, Two, Three, Any}
-
--- the first place of a part at which the search stops
-abbrev pub StopsFirst : Searcher → List ℕ → Option ℕ → Type 0
-StopsFirst (Memmem needle) part at = FindsNeedle part needle 0 at
-StopsFirst (Memchr x) part at = IsFirstByte (is_byte x) part at
-StopsFirst (Memchr2 x y) part at = IsFirstByte (is_byte2 x y) part at
-StopsFirst (Memchr3 x y z) part at = IsFirstByte (is_byte3 x y z) part at
 
 -- the bytes, if they are few
 abbrev pub bytes_of : FirstBytes → List ℕ

@@ -4,6 +4,8 @@ pub mod Candidate
 pub mod FirstBytes
 -- what a prefilter is of, and which one is held
 pub mod Prefilter
+-- where it stops
+pub mod Finding
 -- the inside of the builder: for private clauses
 pub mod Inside
 -- what was added to a builder

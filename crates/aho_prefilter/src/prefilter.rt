@@ -3,6 +3,7 @@
 ghost use Rattle.std.specs.Prelude.{◌≡◌, ◌≤◌, length, true, IfOk, IfErr};
 ghost use Rattle.aho_base.specs.Patterns.{Patterns};
 ghost use Rattle.aho_prefilter.specs.Candidate.{IsCandidate, place_of};
+ghost use Rattle.aho_prefilter.specs.Finding.{Finds, StopsFirst};
 ghost use Rattle.aho_prefilter.specs.Prefilter.{IsPrefilterOf, is_whole, memory_of};
 
 mod builder;
@@ -53,8 +54,6 @@ enum Searcher {
 }
 
 impl Searcher {
-    ghost use Rattle.aho_prefilter.specs.Inside.{StopsFirst};
-
     /// The first place of this part of a haystack at which it stops.
     fn find(&self, part: &[u8]) -> Option<usize>
         ensures first { StopsFirst self.now part.now result }
@@ -94,6 +93,7 @@ impl Prefilter {
         requires within { span.end ≤ length haystack.now }
         ensures candidate { (p : Patterns) → IsPrefilterOf self.now p
             → IsCandidate p haystack.now span.start span.end result }
+        ensures first { Finds self.now haystack.now span.start span.end result }
     {
         let part = &haystack[span.start..span.end];
         let Some(at) = self.searcher.find(part) else {
