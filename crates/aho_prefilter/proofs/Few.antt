@@ -1,17 +1,17 @@
 -- How what the builder keeps grows by one pattern.
-use Rattle.std.proofs.Common.{◌≡◌, ◌≢◌, ℕ, ◌+◌, ◌<◌, zero, suc, Bool, true, false, cond, List, [], ◌∷◌, ◌++◌, length, refl, sym, ap, subst, ◌∙◌, arith, length-append}
-use Rattle.std.specs.Prelude.{Option, Some, None as Nothing, ◌&&◌, ◌||◌, not, nat_eq, if◌then◌else◌}
-use Rattle.std.specs.List.{flat_map, fold, list_any}
+use Rattle.std.proofs.Common.{◌≡◌, ℕ, Bool, true, false, cond, List, [], ◌∷◌, ◌++◌, refl, sym, ap, ◌∙◌}
+use Rattle.std.specs.Prelude.{None as Nothing, ◌||◌}
+use Rattle.std.specs.List.{flat_map, fold}
 use Rattle.std.proofs.lemmas.List.{append-nil}
 use Rattle.std.proofs.lemmas.List.Concat.{flat_map-append}
 use Rattle.std.proofs.lemmas.List.Folds.{list_any-append}
 use Rattle.std.proofs.lemmas.List.Sums.{fold-append}
-use Rattle.aho_base.specs.Patterns.{Patterns, pattern_at}
-use Rattle.aho_prefilter.specs.FirstBytes.{begins_by, cases_of, first_bytes, has_byte, opposite, with_byte}
-use Rattle.aho_prefilter.specs.Inside.{few, few_of, few_more, few_with, few_with_word, whole_of}
-use Rattle.aho_prefilter.specs.Prefilter.{has_empty, is_empty, is_searched_whole, with_word}
+use Rattle.aho_base.specs.Patterns.{Patterns}
+use Rattle.aho_prefilter.specs.FirstBytes.{begins_by, cases_of, first_bytes, has_byte, with_byte}
+use Rattle.aho_prefilter.specs.Inside.{few, few_of, few_with, few_with_word, whole_of}
+use Rattle.aho_prefilter.specs.Prefilter.{has_empty, is_empty, with_word}
 use Rattle.aho_prefilter.specs.declared.prefilter.first_bytes.FirstBytes.{FirstBytes}
-use Rattle.aho_prefilter.specs.declared.prefilter.first_bytes.FirstBytes.TheVariants.{None, One, Two, Three, Any}
+use Rattle.aho_prefilter.specs.declared.prefilter.first_bytes.FirstBytes.TheVariants.{None, Any}
 
 -- few bytes, with one more
 few-kept_or : (there : Bool) (bytes more : List ℕ) → few (cond there bytes more) ≡ cond there (few bytes) (few more)

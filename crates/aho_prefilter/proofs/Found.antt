@@ -1,18 +1,15 @@
 -- What the answers of the searches mean.
 use Rattle.std.proofs.Common.{◌≡◌, ℕ, ◌+◌, ◌-◌, ◌<◌, ◌≤◌, zero, suc, inl, inr, Bool, true, List, [], ◌∷◌, length, refl, sym, ap, subst, ◌∙◌, arith}
-use Rattle.std.specs.Prelude.{Option, Some, None, slice_range, slice_index_or, ◌⊎◌}
+use Rattle.std.specs.Prelude.{Option, Some, None, slice_range}
 use Rattle.std.specs.List.{Contains}
 use Rattle.std.proofs.lemmas.Bool.{cases_lt}
 use Rattle.std.proofs.lemmas.Bool.Decides.{nat_tests}
 use Rattle.memchr.specs.Find.{FindsNeedle, IsFirstByte, is_byte, is_byte2, is_byte3}
-use Rattle.aho_base.specs.declared.search.Anchored.TheVariants.{No}
 use Rattle.aho_base.specs.declared.search.MatchKind.{MatchKind}
 use Rattle.aho_base.specs.declared.search.MatchKind.TheVariants.{Standard, LeftmostFirst, LeftmostLongest}
-use Rattle.aho_base.specs.Best.{IsBest}
 use Rattle.aho_base.specs.Occurrence.{Occurrence, occurrence}
-use Rattle.aho_base.specs.Occurs.{Occurs}
 use Rattle.aho_base.specs.Order.{IsBefore}
-use Rattle.aho_base.specs.Patterns.{Patterns, pattern_at}
+use Rattle.aho_base.specs.Patterns.{Patterns}
 use Rattle.aho_prefilter.specs.Candidate.{IsCandidate, NoneStartsBefore, NothingOccurs, IsPossibleStart, IsWholeMatch}
 use Rattle.aho_prefilter.specs.Finding.{Finds, StopsFirst, answer_at, answer_in}
 use Rattle.aho_prefilter.specs.Prefilter.{AllBeginWithin, IsOnlyPattern, IsPrefilterOf}

@@ -1,20 +1,19 @@
 -- Which bytes the first bytes are, and that what is held is a prefilter of the patterns.
-use Rattle.std.proofs.Common.{◌≡◌, ◌≢◌, ℕ, ◌+◌, ◌-◌, ◌<◌, ◌≤◌, zero, suc, inl, inr, Bool, true, false, cond, List, [], ◌∷◌, ◌++◌, length, get_or, refl, sym, ap, subst, ◌∙◌, arith, length-append}
-use Rattle.std.specs.Prelude.{Option, Some, None as Nothing, ◌&&◌, ◌||◌, ◌⊎◌, not, nat_eq, nat_le, if◌then◌else◌, slice_index, slice_index_or}
-use Rattle.std.specs.List.{Contains, flat_map, fold, list_any}
+use Rattle.std.proofs.Common.{◌≡◌, ℕ, ◌+◌, ◌<◌, zero, suc, inl, inr, Bool, true, false, cond, List, [], ◌∷◌, ◌++◌, length, refl, sym, subst, ◌∙◌, arith, length-append}
+use Rattle.std.specs.Prelude.{Some, None as Nothing, ◌&&◌, not, nat_eq, nat_le, if◌then◌else◌, slice_index, slice_index_or}
+use Rattle.std.specs.List.{Contains, flat_map, fold}
 use Rattle.std.proofs.lemmas.Bool.{cases_eq, cases_lt}
 use Rattle.std.proofs.lemmas.Bool.Decides.{nat_tests}
 use Rattle.std.proofs.lemmas.List.Elements.{Contains-append_left, Contains-append_right, Contains-push}
 use Rattle.std.proofs.lemmas.List.Folds.{list_any_at}
-use Rattle.aho_base.specs.Bytes.{IsSameByte}
+use Rattle.aho_base.specs.declared.search.MatchKind.{MatchKind}
 use Rattle.aho_base.specs.Patterns.{Patterns, pattern_at}
 use Rattle.aho_prefilter.specs.FirstBytes.{begins_by, cases_of, first_bytes, has_byte, opposite, with_byte}
 use Rattle.aho_prefilter.specs.Inside.{few, few_of, search_of, whole_of}
 use Rattle.aho_prefilter.specs.Prefilter.{AllBeginWithin, BeginsWithin, IsOnlyPattern, IsPrefilterOf, has_empty, held_for, is_empty, is_searched_whole, search_for, with_word}
 use Rattle.aho_prefilter.specs.declared.prefilter.Searcher.{Searcher}
 use Rattle.aho_prefilter.specs.declared.prefilter.Searcher.TheVariants.{Memmem, Memchr, Memchr2, Memchr3}
-use Rattle.aho_prefilter.specs.declared.prefilter.first_bytes.FirstBytes.{FirstBytes}
-use Rattle.aho_prefilter.specs.declared.prefilter.first_bytes.FirstBytes.TheVariants.{None, One, Two, Three, Any}
+use Rattle.aho_prefilter.specs.declared.prefilter.first_bytes.FirstBytes.TheVariants.{None, Any}
 use Rattle.aho_prefilter.proofs.Few.{few_of-none}
 
 -- what the test finds is there
@@ -61,21 +60,21 @@ flat_map-has f (word ∷ words) zero byte below has = Contains-append_left (f wo
 flat_map-has f (word ∷ words) (suc k) byte below has = Contains-append_right (f word) (flat_map f words) byte (flat_map-has f words k byte (omega arith) has)
 
 -- the bytes with which any pattern begins are there
-first_bytes-has : (p : Patterns) (k byte : ℕ) → k < length p.words → Contains (begins_by p.ignore_case (pattern_at p k)) byte → Contains (first_bytes p) byte
+pub first_bytes-has : (p : Patterns) (k byte : ℕ) → k < length p.words → Contains (begins_by p.ignore_case (pattern_at p k)) byte → Contains (first_bytes p) byte
 unfolding first_bytes
 first_bytes-has p k byte below has =
     fold-has (flat_map (begins_by p.ignore_case) p.words) [] byte
     (flat_map-has (begins_by p.ignore_case) p.words k byte below has)
 
 -- a byte as it is compared, by the case rule alone
-abbrev folded_by : Bool → ℕ → ℕ
+abbrev pub folded_by : Bool → ℕ → ℕ
 folded_by ignore_case byte = if ignore_case && (nat_le 65 byte && nat_le byte 90) then byte + 32 else byte
 
 -- what is the same as a byte is the byte or its other case
 opposite-same : (x byte : ℕ) → (x ≡ byte → ⊥) → folded_by true x ≡ folded_by true byte → opposite x ≡ byte
 opposite-same x byte other same = grind (arith, nat_tests)
 
-cases_of-has : (ignore_case : Bool) (x byte : ℕ) → folded_by ignore_case x ≡ folded_by ignore_case byte → Contains (cases_of ignore_case x) byte
+pub cases_of-has : (ignore_case : Bool) (x byte : ℕ) → folded_by ignore_case x ≡ folded_by ignore_case byte → Contains (cases_of ignore_case x) byte
 cases_of-has false x byte same = (0, omega arith, same)
 cases_of-has true x byte same =
     elim (cases_eq x byte) [
@@ -204,3 +203,14 @@ held_for-bytes p whole = by_tests (has_empty p) (is_searched_whole p) whole
     by_tests true only is = refl
     by_tests false true is = cc
     by_tests false false is = search_for-few (first_bytes p)
+
+-- neither depends on the kind
+pub held_for-kind : (p : Patterns) (kind : MatchKind) → held_for (record p { kind = kind }) ≡ held_for p
+unfolding first_bytes
+held_for-kind p kind = refl
+
+pub IsPrefilterOf-kind : (p : Patterns) (kind : MatchKind) (searcher : Searcher) → IsPrefilterOf searcher p → IsPrefilterOf searcher (record p { kind = kind })
+IsPrefilterOf-kind p kind (Memmem needle) is = record { only = is.only; some = is.some; exact = is.exact }
+IsPrefilterOf-kind p kind (Memchr x) is = λ k below. record { some = (is k below).some; first = (is k below).first }
+IsPrefilterOf-kind p kind (Memchr2 x y) is = λ k below. record { some = (is k below).some; first = (is k below).first }
+IsPrefilterOf-kind p kind (Memchr3 x y z) is = λ k below. record { some = (is k below).some; first = (is k below).first }

@@ -6,3 +6,7 @@ pub mod Found
 pub mod Few
 -- which bytes they are, and that what is held is a prefilter of the patterns
 pub mod Held
+-- what a candidate tells a search
+pub mod Skips
+-- the first bytes, said literally
+pub mod Literally

@@ -1,5 +1,5 @@
 -- What occurs in a span of a haystack, and what stands in the part of the haystack that is searched.
-use Rattle.std.proofs.Common.{◌≡◌, ℕ, ◌+◌, ◌-◌, ◌<◌, ◌≤◌, Bool, true, false, List, [], ◌∷◌, length, take, drop, get_or, refl, sym, ap, subst, ◌∙◌, arith, get_or-take, get_or-drop, length-drop}
+use Rattle.std.proofs.Common.{◌≡◌, ℕ, ◌+◌, ◌-◌, ◌<◌, ◌≤◌, Bool, true, false, List, [], ◌∷◌, length, get_or, refl, sym, ap, ◌∙◌, arith, get_or-take, get_or-drop, length-drop}
 use Rattle.std.specs.Prelude.{slice_range, slice_index, slice_index_or}
 use Rattle.std.specs.List.{Contains}
 use Rattle.std.proofs.lemmas.List.{ext_get_or, get_or-map, length-map, length-take}

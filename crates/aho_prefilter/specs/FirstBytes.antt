@@ -1,7 +1,8 @@
 -- With which bytes the patterns begin.
-use Rattle.std.specs.Prelude.{ℕ, ◌+◌, ◌-◌, ◌&&◌, Bool, List, [], ◌∷◌, ◌++◌, nat_eq, nat_le, if◌then◌else◌}
+use Rattle.std.specs.Prelude.{ℕ, ◌+◌, ◌-◌, ◌<◌, ◌&&◌, Bool, List, [], ◌∷◌, ◌++◌, length, slice_index, nat_eq, nat_le, if◌then◌else◌}
 use Rattle.std.specs.List.{flat_map, fold, list_any}
-use Rattle.aho_base.specs.Patterns.{Patterns}
+use Rattle.aho_base.specs.Bytes.{IsSameByte}
+use Rattle.aho_base.specs.Patterns.{Patterns, pattern_at}
 
 -- the other case of an ASCII letter, and every other byte itself
 abbrev pub opposite : ℕ → ℕ
@@ -30,3 +31,10 @@ with_byte bytes byte = if has_byte bytes byte then bytes else bytes ++ byte ∷ 
 -- the bytes with which patterns begin, each once, in the order of the patterns
 unfoldable pub first_bytes : Patterns → List ℕ
 first_bytes p = fold with_byte [] (flat_map (begins_by p.ignore_case) p.words)
+
+-- a pattern begins with this byte, by the case rule
+pub record IsFirstOf (p : Patterns) (byte : ℕ) : Type 0 where
+  pub number : ℕ
+  pub numbered : number < length p.words
+  pub some : 0 < length (pattern_at p number)
+  pub same : IsSameByte p (slice_index (pattern_at p number) 0) byte

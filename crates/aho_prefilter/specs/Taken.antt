@@ -1,6 +1,6 @@
 -- To which builder which patterns were added. It keeps none of them, so this is said of each list of patterns that it may
 -- have been.
-use Rattle.std.specs.Prelude.{◌≡◌, ℕ, List}
+use Rattle.std.specs.Prelude.{◌≡◌}
 use Rattle.std.specs.Option.{option_map}
 use Rattle.aho_base.specs.Patterns.{Patterns}
 use Rattle.aho_prefilter.specs.Inside.{few_of, whole_of}

@@ -1,9 +1,6 @@
-use Rattle.std.proofs.Common.{◌≡◌, ◌<◌, ℕ, List, length, sym, ap, ◌∙◌, true, arith}
+use Rattle.std.proofs.Common.{◌<◌, length, sym, ap, ◌∙◌, arith}
 use Rattle.std.specs.Prelude.{Some, Result, Ok, Err, IfErr}
 use Rattle.std.proofs.lemmas.Bool.Decides.{nat_tests}
-use Rattle.aho_base.specs.Patterns.{Patterns}
-use Rattle.aho_prefilter.specs.Inside.{few_of, whole_of}
-use Rattle.aho_prefilter.specs.Prefilter.{is_searched_whole, with_word}
 use Rattle.aho_prefilter.proofs.Held.{whole_of-first, whole_of-later, whole-first, words-none, words-some}
 use Rattle.aho_prefilter.proofs.prefilter.builder.PrefilterBuilder.copy_of_first.Goals as goal
 
