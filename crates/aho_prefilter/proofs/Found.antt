@@ -11,7 +11,7 @@ use Rattle.aho_base.specs.Occurrence.{Occurrence, occurrence}
 use Rattle.aho_base.specs.Order.{IsBefore}
 use Rattle.aho_base.specs.Patterns.{Patterns}
 use Rattle.aho_prefilter.specs.Candidate.{IsCandidate, NoneStartsBefore, NothingOccurs, IsPossibleStart, IsWholeMatch}
-use Rattle.aho_prefilter.specs.Finding.{Finds, StopsFirst, answer_at, answer_in}
+use Rattle.aho_prefilter.specs.Finding.{FindsFirst, StopsFirst, answer_at, answer_in}
 use Rattle.aho_prefilter.specs.Prefilter.{AllBeginWithin, IsOnlyPattern, IsPrefilterOf}
 use Rattle.aho_prefilter.specs.declared.prefilter.Candidate.{Candidate}
 use Rattle.aho_prefilter.specs.declared.prefilter.Searcher.{Searcher}
@@ -121,5 +121,5 @@ module _ (p : Patterns) (haystack : List ℕ) (start end : ℕ) (ordered : start
   stop_or_none searcher (Some at) is found = stop searcher at is found
 
   -- what a prefilter of the patterns finds is a candidate
-  pub Finds-candidate : (searcher : Searcher) (candidate : Candidate) → IsPrefilterOf searcher p → Finds searcher haystack start end candidate → IsCandidate p haystack start end candidate
-  Finds-candidate searcher candidate is finds = subst (IsCandidate p haystack start end) (sym finds.is) (stop_or_none searcher finds.at is finds.first)
+  pub FindsFirst-candidate : (searcher : Searcher) (candidate : Candidate) → IsPrefilterOf searcher p → FindsFirst searcher haystack start end candidate → IsCandidate p haystack start end candidate
+  FindsFirst-candidate searcher candidate is finds = subst (IsCandidate p haystack start end) (sym finds.is) (stop_or_none searcher finds.at is finds.first)

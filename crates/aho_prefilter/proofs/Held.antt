@@ -8,8 +8,8 @@ use Rattle.std.proofs.lemmas.List.Elements.{Contains-append_left, Contains-appen
 use Rattle.std.proofs.lemmas.List.Folds.{list_any_at}
 use Rattle.aho_base.specs.declared.search.MatchKind.{MatchKind}
 use Rattle.aho_base.specs.Patterns.{Patterns, pattern_at}
-use Rattle.aho_prefilter.specs.FirstBytes.{begins_by, cases_of, first_bytes, has_byte, opposite, with_byte}
-use Rattle.aho_prefilter.specs.Inside.{few, few_of, search_of, whole_of}
+use Rattle.aho_prefilter.specs.FirstBytes.{begins_by, cases_of, first_bytes, has_byte, other_case, with_byte}
+use Rattle.aho_prefilter.specs.Inside.{few, few_of, search_for_few, whole_of}
 use Rattle.aho_prefilter.specs.Prefilter.{AllBeginWithin, BeginsWithin, IsOnlyPattern, IsPrefilterOf, has_empty, held_for, is_empty, is_searched_whole, search_for, with_word}
 use Rattle.aho_prefilter.specs.declared.prefilter.Searcher.{Searcher}
 use Rattle.aho_prefilter.specs.declared.prefilter.Searcher.TheVariants.{Memmem, Memchr, Memchr2, Memchr3}
@@ -71,15 +71,15 @@ abbrev pub folded_by : Bool → ℕ → ℕ
 folded_by ignore_case byte = if ignore_case && (nat_le 65 byte && nat_le byte 90) then byte + 32 else byte
 
 -- what is the same as a byte is the byte or its other case
-opposite-same : (x byte : ℕ) → (x ≡ byte → ⊥) → folded_by true x ≡ folded_by true byte → opposite x ≡ byte
-opposite-same x byte other same = grind (arith, nat_tests)
+other_case-same : (x byte : ℕ) → (x ≡ byte → ⊥) → folded_by true x ≡ folded_by true byte → other_case x ≡ byte
+other_case-same x byte other same = grind (arith, nat_tests)
 
 pub cases_of-has : (ignore_case : Bool) (x byte : ℕ) → folded_by ignore_case x ≡ folded_by ignore_case byte → Contains (cases_of ignore_case x) byte
 cases_of-has false x byte same = (0, omega arith, same)
 cases_of-has true x byte same =
     elim (cases_eq x byte) [
       | inl equal ↦ (0, omega arith, equal)
-      | inr other ↦ (1, omega arith, opposite-same x byte other same)
+      | inr other ↦ (1, omega arith, other_case-same x byte other same)
     ]
 
 not_empty : (p : Patterns) (k : ℕ) → has_empty p ≡ false → k < length p.words → is_empty (pattern_at p k) ≡ false
@@ -189,17 +189,17 @@ held_for-whole p needle whole = by_tests (has_empty p) (is_searched_whole p) who
     by_tests false true is = cc
     by_tests false false is = cc
 
-search_for-few : (bytes : List ℕ) → search_for bytes ≡ search_of (few bytes)
+search_for-few : (bytes : List ℕ) → search_for bytes ≡ search_for_few (few bytes)
 search_for-few [] = refl
 search_for-few (x ∷ []) = refl
 search_for-few (x ∷ y ∷ []) = refl
 search_for-few (x ∷ y ∷ z ∷ []) = refl
 search_for-few (x ∷ y ∷ z ∷ u ∷ more) = refl
 
-pub held_for-bytes : (p : Patterns) → whole_of p ≡ Nothing → held_for p ≡ search_of (few_of p)
+pub held_for-bytes : (p : Patterns) → whole_of p ≡ Nothing → held_for p ≡ search_for_few (few_of p)
 held_for-bytes p whole = by_tests (has_empty p) (is_searched_whole p) whole
   where
-    by_tests : (empty only : Bool) → (if only && not empty then Some (pattern_at p 0) else Nothing) ≡ Nothing → (if empty then Nothing else if only then Some (Memmem (pattern_at p 0)) else search_for (first_bytes p)) ≡ search_of (if empty then Any else few (first_bytes p))
+    by_tests : (empty only : Bool) → (if only && not empty then Some (pattern_at p 0) else Nothing) ≡ Nothing → (if empty then Nothing else if only then Some (Memmem (pattern_at p 0)) else search_for (first_bytes p)) ≡ search_for_few (if empty then Any else few (first_bytes p))
     by_tests true only is = refl
     by_tests false true is = cc
     by_tests false false is = search_for-few (first_bytes p)

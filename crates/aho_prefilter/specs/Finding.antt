@@ -27,7 +27,7 @@ answer_in searcher start Nothing = None
 answer_in searcher start (Some at) = answer_at searcher (start + at)
 
 -- the answer for a span
-pub record Finds (searcher : Searcher) (haystack : List ℕ) (start end : ℕ) (candidate : Candidate) : Type 0 where
+pub record FindsFirst (searcher : Searcher) (haystack : List ℕ) (start end : ℕ) (candidate : Candidate) : Type 0 where
   pub at : Option ℕ
   pub first : StopsFirst searcher (slice_range haystack start end) at
   pub is : candidate ≡ answer_in searcher start at

@@ -46,12 +46,12 @@ abbrev pub few_of : Patterns → FirstBytes
 few_of p = if has_empty p then Any else few (first_bytes p)
 
 -- the search for few bytes
-abbrev pub search_of : FirstBytes → Option Searcher
-search_of None = Nothing
-search_of (One x) = Some (Memchr x)
-search_of (Two x y) = Some (Memchr2 x y)
-search_of (Three x y z) = Some (Memchr3 x y z)
-search_of Any = Nothing
+abbrev pub search_for_few : FirstBytes → Option Searcher
+search_for_few None = Nothing
+search_for_few (One x) = Some (Memchr x)
+search_for_few (Two x y) = Some (Memchr2 x y)
+search_for_few (Three x y z) = Some (Memchr3 x y z)
+search_for_few Any = Nothing
 
 -- the only pattern, where it is searched for as a whole and is not empty
 abbrev pub whole_of : Patterns → Option (List ℕ)

@@ -30,11 +30,11 @@ IsPrefilterOf (Memchr2 x y) p = AllBeginWithin p (x ∷ y ∷ [])
 IsPrefilterOf (Memchr3 x y z) p = AllBeginWithin p (x ∷ y ∷ z ∷ [])
 
 -- the bytes of memory that it holds
-abbrev pub memory_of : Searcher → ℕ
-memory_of (Memmem needle) = length needle
-memory_of (Memchr x) = 0
-memory_of (Memchr2 x y) = 0
-memory_of (Memchr3 x y z) = 0
+abbrev pub bytes_held : Searcher → ℕ
+bytes_held (Memmem needle) = length needle
+bytes_held (Memchr x) = 0
+bytes_held (Memchr2 x y) = 0
+bytes_held (Memchr3 x y z) = 0
 
 -- whether it is a search for a whole pattern, which it holds a copy of
 abbrev pub is_whole : Searcher → Bool

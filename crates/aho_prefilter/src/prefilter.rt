@@ -3,8 +3,8 @@
 ghost use Rattle.std.specs.Prelude.{◌≡◌, ◌≤◌, length, true, IfOk, IfErr};
 ghost use Rattle.aho_base.specs.Patterns.{Patterns};
 ghost use Rattle.aho_prefilter.specs.Candidate.{IsCandidate, place_of};
-ghost use Rattle.aho_prefilter.specs.Finding.{Finds, StopsFirst};
-ghost use Rattle.aho_prefilter.specs.Prefilter.{IsPrefilterOf, is_whole, memory_of};
+ghost use Rattle.aho_prefilter.specs.Finding.{FindsFirst, StopsFirst};
+ghost use Rattle.aho_prefilter.specs.Prefilter.{IsPrefilterOf, is_whole, bytes_held};
 
 mod builder;
 mod first_bytes;
@@ -93,7 +93,7 @@ impl Prefilter {
         requires within { span.end ≤ length haystack.now }
         ensures candidate { (p : Patterns) → IsPrefilterOf self.now p
             → IsCandidate p haystack.now span.start span.end result }
-        ensures first { Finds self.now haystack.now span.start span.end result }
+        ensures first { FindsFirst self.now haystack.now span.start span.end result }
     {
         let part = &haystack[span.start..span.end];
         let Some(at) = self.searcher.find(part) else {
@@ -110,7 +110,7 @@ impl Prefilter {
 
     /// How many bytes of memory it holds: those of the pattern that is searched for as a whole.
     pub fn memory_usage(&self) -> usize
-        ensures memory_usage { result ≡ memory_of self.now }
+        ensures memory_usage { result ≡ bytes_held self.now }
     {
         match &self.searcher {
             Searcher::Memmem(finder) => finder.needle().len(),

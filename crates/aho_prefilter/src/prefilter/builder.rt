@@ -4,7 +4,7 @@ ghost use Rattle.std.specs.Prelude.{◌≡◌, ◌<◌, [], length, true, IfOk, 
 ghost use Rattle.std.specs.Option.{option_map};
 ghost use Rattle.aho_base.specs.Patterns.{Patterns};
 ghost use Rattle.aho_prefilter.specs.Prefilter.{held_for, is_searched_whole, with_word, IsPrefilterOf};
-ghost use Rattle.aho_prefilter.specs.Inside.{search_of};
+ghost use Rattle.aho_prefilter.specs.Inside.{search_for_few};
 
 use crate::prefilter::first_bytes::FirstBytes;
 use crate::prefilter::{Prefilter, Searcher};
@@ -110,7 +110,7 @@ impl PrefilterBuilder {
 
 /// The search for these bytes, if they are few and there is one.
 fn search_for(bytes: FirstBytes) -> Option<Searcher>
-    ensures search { result ≡ search_of bytes }
+    ensures search { result ≡ search_for_few bytes }
 {
     match bytes {
         FirstBytes::One(x) => Some(Searcher::Memchr(x)),

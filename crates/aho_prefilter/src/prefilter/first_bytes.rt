@@ -1,7 +1,7 @@
 //! The bytes with which patterns begin, as long as they are few.
 
 ghost use Rattle.std.specs.Prelude.{◌≡◌};
-ghost use Rattle.aho_prefilter.specs.FirstBytes.{has_byte, opposite};
+ghost use Rattle.aho_prefilter.specs.FirstBytes.{has_byte, other_case};
 ghost use Rattle.aho_prefilter.specs.Inside.{bytes_of, few_with, few_with_word};
 
 /// The bytes with which patterns begin, each once.
@@ -62,7 +62,7 @@ impl FirstBytes {
 
 /// The other case of an ASCII letter, and every other byte itself.
 fn opposite_ascii_case(byte: u8) -> u8
-    ensures opposite { result ≡ opposite byte }
+    ensures other_case { result ≡ other_case byte }
 {
     if byte >= 65 && byte <= 90 {
         byte + 32

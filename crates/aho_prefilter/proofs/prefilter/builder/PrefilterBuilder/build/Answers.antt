@@ -1,7 +1,7 @@
 use Rattle.std.proofs.Common.{◌≡◌, sym, ap, ◌∙◌}
 use Rattle.std.specs.Prelude.{Some}
 use Rattle.aho_base.specs.Patterns.{Patterns}
-use Rattle.aho_prefilter.specs.Inside.{search_of}
+use Rattle.aho_prefilter.specs.Inside.{search_for_few}
 use Rattle.aho_prefilter.specs.Prefilter.{held_for}
 use Rattle.aho_prefilter.specs.Taken.{HasTaken}
 use Rattle.aho_prefilter.proofs.Held.{held_for-bytes, held_for-of, held_for-whole}
@@ -17,7 +17,7 @@ held c p taken =
           held_for-whole p w.in-Some.needle.items whole ∙ sym made ∙ c.in-Some-searcher.is
       | in-None w ↦
           let whole = sym (rw w.in-None.is at taken.whole) in
-          held_for-bytes p whole ∙ sym (w.searcher-is ∙ w.search_for-searcher.ensures.search ∙ ap search_of taken.first_bytes) ∙ c.in-Some-searcher.is
+          held_for-bytes p whole ∙ sym (w.searcher-is ∙ w.search_for-searcher.ensures.search ∙ ap search_for_few taken.first_bytes) ∙ c.in-Some-searcher.is
     ]
 
 pub returns-in-Some-searcher-clause-of : goal.returns-in-Some-searcher-clause-of
