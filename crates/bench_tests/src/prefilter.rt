@@ -113,11 +113,11 @@ fn look_at_row(rt: &impl Abort, prefilter: &Prefilter, row: &Row) {
     let end = row.end;
     assert!(rt; end <= row.haystack.len());
     let candidate = prefilter.find_in(row.haystack, Span { start: 0, end });
-    assert_eq!(rt; candidate.into_option(), row.place, "{:?}", row.patterns);
-    if let Candidate::Match(found) = candidate {
+    if let Candidate::Match(found) = &candidate {
         let whole = Span { start: 2, end: 5 };
-        assert_eq!(rt; found, Match::new(PatternID::new_unchecked(0), whole));
+        assert_eq!(rt; *found, Match::new(PatternID::new_unchecked(0), whole));
     }
+    assert_eq!(rt; candidate.into_option(), row.place, "{:?}", row.patterns);
 }
 
 #[test]
