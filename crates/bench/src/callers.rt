@@ -1,7 +1,7 @@
 //! A caller of each main call of an automaton, with what it may promise in turn.
 
 ghost use Rattle.std.specs.Io.KnownBytes.{Appends, Consumes};
-ghost use Rattle.std.specs.Prelude.{◌≡◌, ◌+◌, ◌*◌, ◌-◌, ◌<◌, ◌≤◌, ◌^◌, ℕ, List, IfOk, false, length, IsOk, None, map};
+ghost use Rattle.std.specs.Prelude.{◌≡◌, ◌+◌, ◌*◌, ◌-◌, ◌<◌, ◌≤◌, ◌^◌, ℕ, List, IfOk, IfSome, false, true, length, IsOk, None, map};
 ghost use Rattle.aho_base.specs.Answer.{IsAnswer};
 ghost use Rattle.aho_base.specs.Iteration.{AreFinds};
 ghost use Rattle.aho_base.specs.Occurrence.{Occurrence};
@@ -13,6 +13,8 @@ ghost use Rattle.aho_base.specs.declared.search.Anchored.TheVariants.{No, Yes};
 ghost use Rattle.aho_base.specs.declared.search.MatchKind.TheVariants.{Standard};
 ghost use Rattle.aho_build.specs.Items.{patterns_of};
 ghost use Rattle.aho_build.specs.Settings.{default_settings};
+ghost use Rattle.aho_prefilter.specs.Candidate.{NoneStartsBefore, NothingOccurs};
+ghost use Rattle.aho_prefilter.specs.Prefilter.{IsPrefilterOf};
 ghost use Rattle.aho_search.specs.Finding.{AreFirstFinds};
 ghost use Rattle.bench.specs.Callers.{both_cases};
 
@@ -23,6 +25,8 @@ use aho_corasick::noncontiguous::{Builder, NFA};
 use aho_devices::buffer::Buffer;
 use aho_devices::device::{Sink, Source};
 use aho_devices::write::write_whole;
+use aho_prefilter::laws::candidates_tell_where;
+use aho_prefilter::prefilter::{Prefilter, PrefilterBuilder};
 use aho_search::automaton::{Automaton, Counted, find_in};
 use std::alloc::{AllocError, Global};
 
@@ -279,4 +283,34 @@ pub fn replaced_in(
         Err(ReplaceError::Memory) => Err(AllocError),
         Err(ReplaceError::Match(_)) => unreachable!(),
     }
+}
+
+/// The prefilter of these patterns in both cases, if there is one.
+///
+/// # Errors
+///
+/// The error says that memory ran out.
+pub fn prefilter_of(alloc: Global, patterns: &[&[u8]]) -> Result<Option<Prefilter>, AllocError>
+    ensures of { IfOk result (λ held. IfSome held (λ prefilter.
+        IsPrefilterOf prefilter (patterns_of both_cases patterns.now))) }
+{
+    let mut builder = PrefilterBuilder::new(alloc, true);
+    for pattern in patterns {
+        builder.add(pattern)?;
+    }
+    builder.build()
+}
+
+/// Where a match of the prefilter's patterns may start in a haystack; none where there is no match.
+pub fn may_start(prefilter: &Prefilter, haystack: &[u8]) -> Option<usize>
+    ensures first { (p : Patterns) → IsPrefilterOf prefilter.now p
+        → IfSome result (NoneStartsBefore p haystack.now 0 (length haystack.now)) }
+    ensures nothing { (p : Patterns) → IsPrefilterOf prefilter.now p
+        → result ≡ None → NothingOccurs p haystack.now 0 (length haystack.now) }
+{
+    candidates_tell_where();
+    let end = haystack.len();
+    prefilter
+        .find_in(haystack, Span { start: 0, end })
+        .into_option()
 }

@@ -17,7 +17,7 @@ use std::alloc::{AllocError, Global};
 use std::process::Abort;
 use std::test::Fail;
 
-const KINDS: [MatchKind; 3] = [
+pub(crate) const KINDS: [MatchKind; 3] = [
     MatchKind::Standard,
     MatchKind::LeftmostFirst,
     MatchKind::LeftmostLongest,
@@ -400,11 +400,18 @@ fn settings_change_no_answer(rt: HostRuntime) {
 
 /// Numbers that look random, and are the same each time.
 #[derive(Drop)]
-struct Random {
+pub(crate) struct Random {
     state: u64,
 }
 
 impl Random {
+    /// The first of the numbers that are the same each time.
+    pub(crate) fn new() -> Random {
+        Random {
+            state: 88172645463325252,
+        }
+    }
+
     /// A number below this one.
     fn below(&mut self, bound: usize) -> usize
         requires some { 0 < bound }
@@ -419,7 +426,7 @@ impl Random {
     }
 
     /// Some bytes of an alphabet.
-    fn fill(&mut self, bytes: &mut [u8], alphabet: &[u8])
+    pub(crate) fn fill(&mut self, bytes: &mut [u8], alphabet: &[u8])
         requires some { 0 < length alphabet.now }
     {
         for byte in bytes.iter_mut() {
@@ -428,14 +435,18 @@ impl Random {
     }
 
     /// A range of these bytes, of this size at most.
-    fn range<'b>(&mut self, bytes: &'b [u8], most: usize) -> &'b [u8] {
+    pub(crate) fn range<'b>(&mut self, bytes: &'b [u8], most: usize) -> &'b [u8] {
         let start = self.below(bytes.len() + 1);
         let size = self.below(most.min(bytes.len() - start) + 1);
         &bytes[start..start + size]
     }
 
     /// Some ranges of these bytes.
-    fn ranges<'b>(&mut self, alloc: Global, bytes: &'b [u8]) -> Result<Vec<&'b [u8]>, AllocError> {
+    pub(crate) fn ranges<'b>(
+        &mut self,
+        alloc: Global,
+        bytes: &'b [u8],
+    ) -> Result<Vec<&'b [u8]>, AllocError> {
         let mut ranges = Vec::new(alloc);
         for _ in 0..self.below(8) {
             ranges.push(self.range(bytes, 5))?;
@@ -453,9 +464,7 @@ fn search_random(
 ) -> Result<(), AllocError>
     requires some { 0 < length alphabet.now }
 {
-    let mut random = Random {
-        state: 88172645463325252,
-    };
+    let mut random = Random::new();
     for _ in 0..100 {
         let mut bytes = [0; 40];
         random.fill(&mut bytes, alphabet);

@@ -27,6 +27,8 @@ mod one_byte;
 #[cfg(test)]
 mod overlaps;
 #[cfg(test)]
+mod prefilter;
+#[cfg(test)]
 mod reading;
 #[cfg(test)]
 mod replacing;

@@ -1,0 +1,12 @@
+-- what occurs in a span, and where a search for bytes or for a needle stops in its part of the haystack
+pub mod Parts
+-- what each answer of a search means
+pub mod Found
+-- how the first bytes grow by a pattern
+pub mod Few
+-- which bytes they are, and that what is held is a prefilter of the patterns
+pub mod Held
+-- what a candidate tells a search
+pub mod Skips
+-- the first bytes, said literally
+pub mod Literally

@@ -1,0 +1,5 @@
+use Rattle.aho_prefilter.proofs.Held.{held_for-of, held_for-kind, IsPrefilterOf-kind}
+use Rattle.aho_prefilter.proofs.laws.held_serves_each_kind.Goals as goal
+
+pub returns : goal.returns
+returns c = record { of = held_for-of; held = held_for-kind; served = IsPrefilterOf-kind }

@@ -1,0 +1,12 @@
+-- what a prefilter answers
+pub mod Candidate
+-- with which bytes patterns begin
+pub mod FirstBytes
+-- what a prefilter is of, and which one is held
+pub mod Prefilter
+-- where it stops
+pub mod Finding
+-- the inside of the builder: for private clauses
+pub mod Inside
+-- what was added to a builder
+pub mod Taken

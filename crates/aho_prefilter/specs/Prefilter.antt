@@ -1,0 +1,76 @@
+-- What a prefilter is of, and which one is held for which patterns.
+use Rattle.std.specs.Prelude.{◌≡◌, ℕ, ◌<◌, Bool, true, false, not, ◌&&◌, List, [], ◌∷◌, ◌++◌, length, slice_index, nat_eq, if◌then◌else◌, Option, Some, None}
+use Rattle.std.specs.List.{Contains, list_any}
+use Rattle.aho_base.specs.Bytes.{IsSameByte}
+use Rattle.aho_base.specs.Patterns.{Patterns, pattern_at}
+use Rattle.aho_prefilter.specs.FirstBytes.{first_bytes}
+use Rattle.aho_prefilter.specs.declared.prefilter.Searcher.{Searcher}
+use Rattle.aho_prefilter.specs.declared.prefilter.Searcher.TheVariants.{Memmem, Memchr, Memchr2, Memchr3}
+
+-- the needle is the only pattern, which is not empty, and its bytes are compared as they are
+pub record IsOnlyPattern (p : Patterns) (needle : List ℕ) : Type 0 where
+  pub only : p.words ≡ needle ∷ []
+  pub some : 0 < length needle
+  pub exact : p.ignore_case ≡ false
+
+-- a word is not empty, and a byte that is the same as its first one is one of these
+pub record BeginsWithin (p : Patterns) (bytes word : List ℕ) : Type 0 where
+  pub some : 0 < length word
+  pub first : (byte : ℕ) → IsSameByte p (slice_index word 0) byte → Contains bytes byte
+
+-- each pattern begins with one of these bytes
+abbrev pub AllBeginWithin : Patterns → List ℕ → Type 0
+AllBeginWithin p bytes = (k : ℕ) → k < length p.words → BeginsWithin p bytes (pattern_at p k)
+
+-- a search is one for these patterns, by their case rule and whatever their kind is
+abbrev pub IsPrefilterOf : Searcher → Patterns → Type 0
+IsPrefilterOf (Memmem needle) p = IsOnlyPattern p needle
+IsPrefilterOf (Memchr x) p = AllBeginWithin p (x ∷ [])
+IsPrefilterOf (Memchr2 x y) p = AllBeginWithin p (x ∷ y ∷ [])
+IsPrefilterOf (Memchr3 x y z) p = AllBeginWithin p (x ∷ y ∷ z ∷ [])
+
+-- the bytes of memory that it holds
+abbrev pub bytes_held : Searcher → ℕ
+bytes_held (Memmem needle) = length needle
+bytes_held (Memchr x) = 0
+bytes_held (Memchr2 x y) = 0
+bytes_held (Memchr3 x y z) = 0
+
+-- whether it is a search for a whole pattern, which it holds a copy of
+abbrev pub is_whole : Searcher → Bool
+is_whole (Memmem needle) = true
+is_whole (Memchr x) = false
+is_whole (Memchr2 x y) = false
+is_whole (Memchr3 x y z) = false
+
+-- the search for one to three bytes
+abbrev pub search_for : List ℕ → Option Searcher
+search_for [] = None
+search_for (x ∷ []) = Some (Memchr x)
+search_for (x ∷ y ∷ []) = Some (Memchr2 x y)
+search_for (x ∷ y ∷ z ∷ []) = Some (Memchr3 x y z)
+search_for (x ∷ y ∷ z ∷ u ∷ more) = None
+
+abbrev pub is_empty : List ℕ → Bool
+is_empty [] = true
+is_empty (x ∷ word) = false
+
+-- whether a pattern is empty
+abbrev pub has_empty : Patterns → Bool
+has_empty p = list_any is_empty p.words
+
+-- whether there is one pattern alone, which is compared byte by byte as it is
+abbrev pub is_searched_whole : Patterns → Bool
+is_searched_whole p = nat_eq (length p.words) 1 && not p.ignore_case
+
+-- which search is held: none where a pattern is empty; for one pattern without the case rule it is searched for as a
+-- whole; else for one to three first bytes these are; else none
+abbrev pub held_for : Patterns → Option Searcher
+held_for p =
+    if has_empty p then None
+    else if is_searched_whole p then Some (Memmem (pattern_at p 0))
+    else search_for (first_bytes p)
+
+-- the patterns with one more behind them
+abbrev pub with_word : Patterns → List ℕ → Patterns
+with_word p word = record p { words = p.words ++ word ∷ [] }

@@ -1,0 +1,5 @@
+//! Prefilters: quick searches for a place where a match may start.
+#![tactic(auto)]
+
+pub mod laws;
+pub mod prefilter;

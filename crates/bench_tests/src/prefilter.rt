@@ -1,0 +1,260 @@
+//! Prefilters: the worked table, and random patterns against the plain program.
+
+ghost use Rattle.std.specs.Prelude.{◌+◌, ◌<◌, ◌≤◌, length};
+ghost use Rattle.aho_base.specs.Numbers.{greatest_index};
+
+use crate::inputs::{KINDS, Random};
+use aho_base::search::{Input, Match, PatternID, Span};
+use aho_prefilter::prefilter::{Candidate, Prefilter, PrefilterBuilder};
+use bench::pattern_set::PatternSet;
+use bench::plain::plain;
+use std::alloc::{AllocError, Global};
+use std::process::Abort;
+use std::test::Fail;
+
+/// The prefilter for these patterns, if there is one.
+fn prefilter_of(
+    alloc: Global,
+    patterns: &[&[u8]],
+    ignore_case: bool,
+) -> Result<Option<Prefilter>, AllocError> {
+    let mut builder = PrefilterBuilder::new(alloc, ignore_case);
+    for pattern in patterns {
+        builder.add(pattern)?;
+    }
+    builder.build()
+}
+
+/// At how many bytes it stops, each alone in a haystack.
+fn stops(prefilter: &Prefilter) -> usize {
+    let whole = Span { start: 0, end: 1 };
+    (0..=255u8)
+        .filter(|byte| {
+            let haystack = [*byte];
+            prefilter.find_in(&haystack, whole).into_option().is_some()
+        })
+        .count()
+}
+
+/// What a prefilter of some patterns answers for a haystack up to a place.
+struct Row {
+    patterns: &'static [&'static [u8]],
+    ignore_case: bool,
+    /// At how many bytes it stops, each alone, and how many bytes it holds.
+    stops: usize,
+    memory: usize,
+    haystack: &'static [u8],
+    end: usize,
+    /// Where a match starts or may start.
+    place: Option<usize>,
+}
+
+const ROWS: &[Row] = &[
+    Row {
+        patterns: &[b"aab"],
+        ignore_case: false,
+        stops: 0,
+        memory: 3,
+        haystack: b"xaaab",
+        end: 5,
+        place: Some(2),
+    },
+    Row {
+        patterns: &[b"aab"],
+        ignore_case: false,
+        stops: 0,
+        memory: 3,
+        haystack: b"xaaab",
+        end: 4,
+        place: None,
+    },
+    Row {
+        patterns: &[b"ab", b"cd"],
+        ignore_case: false,
+        stops: 2,
+        memory: 0,
+        haystack: b"xxcx",
+        end: 4,
+        place: Some(2),
+    },
+    Row {
+        patterns: &[b"Sam"],
+        ignore_case: true,
+        stops: 2,
+        memory: 0,
+        haystack: b"xsam",
+        end: 4,
+        place: Some(1),
+    },
+    Row {
+        patterns: &[b"1a"],
+        ignore_case: true,
+        stops: 1,
+        memory: 0,
+        haystack: b"a1",
+        end: 2,
+        place: Some(1),
+    },
+    Row {
+        patterns: &[b"ab", b"1"],
+        ignore_case: true,
+        stops: 3,
+        memory: 0,
+        haystack: b"xyz",
+        end: 3,
+        place: None,
+    },
+];
+
+/// That a prefilter holds and answers what the row says.
+fn look_at_row(rt: &impl Abort, prefilter: &Prefilter, row: &Row) {
+    assert_eq!(rt; stops(prefilter), row.stops, "{:?}", row.patterns);
+    assert_eq!(rt; prefilter.memory_usage(), row.memory, "{:?}", row.patterns);
+    let end = row.end;
+    assert!(rt; end <= row.haystack.len());
+    let candidate = prefilter.find_in(row.haystack, Span { start: 0, end });
+    if let Candidate::Match(found) = &candidate {
+        let whole = Span { start: 2, end: 5 };
+        assert_eq!(rt; *found, Match::new(PatternID::new_unchecked(0), whole));
+    }
+    assert_eq!(rt; candidate.into_option(), row.place, "{:?}", row.patterns);
+}
+
+#[test]
+fn worked_candidates(rt: HostRuntime) -> Result<(), Fail> {
+    for row in ROWS {
+        let held = prefilter_of(rt.alloc(), row.patterns, row.ignore_case)?;
+        let prefilter = held.expect(&rt, "a prefilter");
+        look_at_row(&rt, &prefilter, row);
+        look_at_row(&rt, &prefilter.try_clone()?, row);
+    }
+    Ok(())
+}
+
+#[test]
+fn no_prefilter_is_held(rt: HostRuntime) -> Result<(), Fail> {
+    let four: [&[u8]; 2] = [b"ab", b"cd"];
+    assert!(&rt; prefilter_of(rt.alloc(), &four, true)?.is_none());
+    let empty: [&[u8]; 2] = [b"a", b""];
+    assert!(&rt; prefilter_of(rt.alloc(), &empty, false)?.is_none());
+    assert!(&rt; prefilter_of(rt.alloc(), &[], false)?.is_none());
+    Ok(())
+}
+
+/// Whether the pattern begins with this byte, by the case rule.
+fn begins(pattern: &[u8], byte: u8, ignore_case: bool) -> bool {
+    match pattern.first() {
+        None => false,
+        Some(first) => *first == byte || ignore_case && first.eq_ignore_ascii_case(&byte),
+    }
+}
+
+/// With how many bytes the patterns begin.
+fn first_bytes(patterns: &[&[u8]], ignore_case: bool) -> usize {
+    (0..=255u8)
+        .filter(|byte| patterns
+            .iter()
+            .any(|pattern| begins(pattern, *byte, ignore_case)))
+        .count()
+}
+
+/// That what is held is what the table says: at how many bytes it stops, and how much it holds.
+fn look_at_held(rt: &impl Abort, held: &Option<Prefilter>, patterns: &[&[u8]], ignore_case: bool) {
+    let firsts = first_bytes(patterns, ignore_case);
+    let some_empty = patterns.iter().any(|pattern| pattern.is_empty());
+    let alone = patterns.len() == 1 && !ignore_case;
+    let none = patterns.is_empty() || some_empty || !alone && firsts > 3;
+    assert_eq!(rt; held.is_none(), none, "{patterns:?} {ignore_case}");
+    if let Some(prefilter) = held {
+        let memory = prefilter.memory_usage();
+        if alone {
+            assert_eq!(rt; memory, patterns[0].len(), "{patterns:?}");
+        } else {
+            assert_eq!(rt; memory, 0, "{patterns:?}");
+            assert_eq!(rt; stops(prefilter), firsts, "{patterns:?} {ignore_case}");
+        }
+    }
+}
+
+/// That the candidate for this span is one by each match kind: what the plain program finds starts there or later, and a
+/// match is what it finds.
+fn look_at_span(
+    rt: &impl Abort,
+    prefilter: &Prefilter,
+    words: &[&[u8]],
+    ignore_case: bool,
+    haystack: &[u8],
+    span: Span,
+)
+    requires numbered { length words.now ≤ greatest_index + 1 }
+    requires within { span.end ≤ length haystack.now }
+    requires ordered { span.start ≤ span.end }
+{
+    let candidate = prefilter.find_in(haystack, span);
+    for kind in KINDS {
+        let patterns = PatternSet::new(words, kind, ignore_case);
+        let best = plain(&patterns, &Input::new(haystack).span(span));
+        let case = (&patterns, haystack, span, candidate);
+        match candidate {
+            Candidate::None => assert_eq!(rt; best, None, "{case:?}"),
+            Candidate::Match(found) => assert_eq!(rt; best, Some(found), "{case:?}"),
+            Candidate::PossibleStartOfMatch(place) => {
+                assert!(rt; span.start <= place && place < span.end, "{case:?}");
+                let start = best.map_or(place, |found| found.start());
+                assert!(rt; place <= start, "{case:?}");
+            }
+        }
+    }
+}
+
+/// Looks at random patterns over an alphabet, and at each span of random bytes of it.
+fn look_at_random(rt: &impl Abort, alloc: Global, alphabet: &[u8]) -> Result<(), AllocError>
+    requires some { 0 < length alphabet.now }
+{
+    let mut random = Random::new();
+    for _ in 0..100 {
+        let mut bytes = [0; 40];
+        random.fill(&mut bytes, alphabet);
+        let words = random.ranges(alloc, &bytes)?;
+        let haystack = random.range(&bytes, 12);
+        for ignore_case in [false, true] {
+            let held = prefilter_of(alloc, &words, ignore_case)?;
+            look_at_held(rt, &held, &words, ignore_case);
+            if let Some(prefilter) = held {
+                look_at_spans(rt, &prefilter, &words, ignore_case, haystack);
+            }
+        }
+    }
+    Ok(())
+}
+
+/// Looks at each span of this haystack.
+fn look_at_spans(
+    rt: &impl Abort,
+    prefilter: &Prefilter,
+    words: &[&[u8]],
+    ignore_case: bool,
+    haystack: &[u8],
+) {
+    assert!(rt; words.len() <= PatternID::MAX.as_usize());
+    for end in 0..=haystack.len() {
+        for start in 0..=end {
+            look_at_span(
+                rt,
+                prefilter,
+                words,
+                ignore_case,
+                haystack,
+                Span { start, end },
+            );
+        }
+    }
+}
+
+#[test]
+fn random_patterns_have_candidates(rt: HostRuntime) -> Result<(), Fail> {
+    for alphabet in [b"aAb".as_slice(), b"abcd", b"a1@["] {
+        look_at_random(&rt, rt.alloc(), alphabet)?;
+    }
+    Ok(())
+}
