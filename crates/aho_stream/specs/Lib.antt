@@ -1,0 +1,4 @@
+pub mod Walking
+pub mod After
+pub mod Refills
+pub mod Chunks

@@ -1,0 +1,6 @@
+//! Search and replacement in streams: endless bytes, read in any pieces through a buffer of fixed length.
+#![tactic(auto)]
+
+pub mod chunks;
+pub mod progress;
+pub mod walk;
