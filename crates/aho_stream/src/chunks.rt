@@ -58,13 +58,13 @@ fn check<A: Automaton>(automaton: &A) -> Result<StateID, MatchError>
     automaton.start_state(Anchored::No)
 }
 
-/// Walks on over what was read and not walked yet, up to the first match.
+/// Walks on over what was read and not walked yet, up to the first match, where none is in hand.
 fn search<W: Walk>(walk: &mut W, progress: &mut Progress)
     requires after { (p : Patterns) × (given : List ℕ) × W.Of.is_of (W.of walk.old) p
         × IsAfter p (W.Of.lengths (W.of walk.old)) (W.Of.valid (W.of walk.old))
         (W.Of.held (W.of walk.old) p) (W.Of.depth (W.of walk.old))
         (W.lookups walk.old) progress.old given }
-    requires free { progress.old.in_hand ≡ None }
+    requires open { progress.old.refused ≡ false }
     ensures after { (p : Patterns) (given : List ℕ) → W.Of.is_of (W.of walk.old) p
         → IsAfter p (W.Of.lengths (W.of walk.old)) (W.Of.valid (W.of walk.old))
         (W.Of.held (W.of walk.old) p) (W.Of.depth (W.of walk.old))
@@ -81,6 +81,9 @@ fn search<W: Walk>(walk: &mut W, progress: &mut Progress)
       in_hand = progress.new.in_hand;
     } }
 {
+    if progress.in_hand.is_some() {
+        return;
+    }
     let at = (progress.walked - progress.from) as usize;
     let bytes = progress.bytes(progress.walked, progress.read);
     let walked = walk_on(walk, bytes, at, progress.sid);
@@ -120,6 +123,7 @@ fn piece<W: Walk>(walk: &W, progress: &mut Progress) -> Option<StreamPiece>
         (W.Of.held (W.of walk.now) p) (W.Of.depth (W.of walk.now))
         (W.lookups walk.now) progress.old given }
     requires walked { progress.old.in_hand ≡ None → progress.old.walked ≡ progress.old.read }
+    requires open { progress.old.refused ≡ false }
     ensures after { (p : Patterns) (given : List ℕ) → W.Of.is_of (W.of walk.now) p
         → IsAfter p (W.Of.lengths (W.of walk.now)) (W.Of.valid (W.of walk.now))
         (W.Of.held (W.of walk.now) p) (W.Of.depth (W.of walk.now))
@@ -137,7 +141,8 @@ fn piece<W: Walk>(walk: &W, progress: &mut Progress) -> Option<StreamPiece>
         → progress.new.walked ≤ progress.new.reported + progress.new.buffer.least }
     ensures end { result ≡ None → progress.new.ended ≡ true
         → progress.new.read ≤ progress.new.reported }
-    ensures same { progress.new.ended ≡ progress.old.ended }
+    ensures ended { progress.new.ended ≡ progress.old.ended }
+    ensures limit { progress.new.limit ≡ progress.old.limit }
 {
     let Some(m) = progress.in_hand else {
         let end = outside(walk, progress);
@@ -150,6 +155,45 @@ fn piece<W: Walk>(walk: &W, progress: &mut Progress) -> Option<StreamPiece>
             mat: progress.give(m),
         }),
     }
+}
+
+/// The next chunk of what was read, by walking on where no match is in hand; none where more has to be read first.
+fn next_piece<W: Walk>(walk: &mut W, progress: &mut Progress) -> Option<StreamPiece>
+    requires after { (p : Patterns) × (given : List ℕ) × W.Of.is_of (W.of walk.old) p
+        × IsAfter p (W.Of.lengths (W.of walk.old)) (W.Of.valid (W.of walk.old))
+        (W.Of.held (W.of walk.old) p) (W.Of.depth (W.of walk.old))
+        (W.lookups walk.old) progress.old given }
+    requires open { progress.old.refused ≡ false }
+    ensures after { (p : Patterns) (given : List ℕ) → W.Of.is_of (W.of walk.old) p
+        → IsAfter p (W.Of.lengths (W.of walk.old)) (W.Of.valid (W.of walk.old))
+        (W.Of.held (W.of walk.old) p) (W.Of.depth (W.of walk.old))
+        (W.lookups walk.old) progress.old given
+        → IsAfter p (W.Of.lengths (W.of walk.old)) (W.Of.valid (W.of walk.old))
+        (W.Of.held (W.of walk.old) p) (W.Of.depth (W.of walk.old))
+        (W.lookups walk.new) progress.new given }
+    ensures tells { (p : Patterns) (given : List ℕ) → W.Of.is_of (W.of walk.old) p
+        → IsAfter p (W.Of.lengths (W.of walk.old)) (W.Of.valid (W.of walk.old))
+        (W.Of.held (W.of walk.old) p) (W.Of.depth (W.of walk.old))
+        (W.lookups walk.old) progress.old given
+        → IfSome result (TellsChunk p progress.old progress.new given) }
+    ensures none { result ≡ None → progress.new ≡ record progress.old {
+      walked = progress.new.walked;
+      position = progress.new.position;
+      sid = progress.new.sid;
+      in_hand = progress.new.in_hand;
+    } }
+    ensures walked { result ≡ None → (progress.new.in_hand ≡ None)
+        × (progress.new.walked ≡ progress.new.read) }
+    ensures near { result ≡ None
+        → progress.new.read ≤ progress.new.reported + progress.new.buffer.least }
+    ensures end { result ≡ None → progress.new.ended ≡ true
+        → progress.new.read ≤ progress.new.reported }
+    ensures limit { progress.new.limit ≡ progress.old.limit }
+    ensures ended { progress.new.ended ≡ progress.old.ended }
+    ensures same { W.of walk.new ≡ W.of walk.old }
+{
+    search(walk, progress);
+    piece(walk, progress)
 }
 
 impl<'a, 'r, A: Automaton, R: Source> StreamChunkIter<'a, 'r, A, R> {
@@ -272,14 +316,14 @@ impl<'a, 'r, A: Automaton, R: Source> StreamChunkIter<'a, 'r, A, R> {
             ≡ counted (tells_read_fault result) (R.failures self.old.source.now) }
     {
         self.progress.told = self.progress.reported;
+        if self.progress.refused {
+            return None;
+        }
         loop {
-            if self.progress.in_hand.is_none() {
-                search(&mut self.walk, &mut self.progress);
-            }
-            if let Some(piece) = piece(&self.walk, &mut self.progress) {
+            if let Some(piece) = next_piece(&mut self.walk, &mut self.progress) {
                 return Some(Ok(piece));
             }
-            if self.progress.ended || self.progress.refused {
+            if self.progress.ended {
                 return None;
             }
             if let Err(error) = self.progress.refill(self.source) {

@@ -181,11 +181,18 @@ impl Progress {
                 Ok(())
             }
             Err(error) => {
-                self.refused = matches!(error, StreamError::PositionLimit);
+                self.refused = is_position_limit(&error);
                 Err(error)
             }
         }
     }
+}
+
+/// Whether the position limit was met.
+fn is_position_limit(error: &StreamError) -> bool
+    ensures limit { result ≡ is_limit {A = Unit {0}} (Err error.now) }
+{
+    matches!(error, StreamError::PositionLimit)
 }
 
 /// Lets go of all but the last bytes of a buffer, where it holds more than it has to keep.
