@@ -141,7 +141,7 @@ module _ (p : Patterns) (lengths : List ℕ) (valid : ℕ → Type 0) (held : An
         in_hand_is = found_in_hand s given (s.walked + count) found ends (λ m e.
             a.clear [] (moved s.from m) (MayFollow-nothing s.ended)
             (found_first p given [] s.from (s.walked + count) (omega arith) (omega arith) m a.standard (ends m e) (subst (BestAfter p No (slice_range given s.from (s.walked + count))) e best)))
-        (omega arith) (record s { walked = s.walked + count; position = s.position + count; sid = sid; in_hand = found }) refl refl refl;
+            (omega arith) (record s { walked = s.walked + count; position = s.position + count; sid = sid; in_hand = found }) refl refl refl;
         clear = a.clear;
         stopped = λ e. cc;
       }
@@ -243,7 +243,7 @@ module _ (p : Patterns) (lengths : List ℕ) (valid : ℕ → Type 0) (held : An
         best_is = subst (λ (w : List ℕ). BestAfter p No w s.in_hand) (sym same) a.best_is;
         in_hand_is = still s.in_hand free;
         clear = λ more m follows answer. a.clear (refills.bytes ++ more) m (subst (λ (b : Bool). MayFollow b (refills.bytes ++ more)) (sym going) tt)
-        (subst (λ (bytes : List ℕ). IsAnswer p (search_from s.from bytes) (Some m)) (append_assoc given refills.bytes more) answer);
+            (subst (λ (bytes : List ℕ). IsAnswer p (search_from s.from bytes) (Some m)) (append_assoc given refills.bytes more) answer);
         stopped = λ e. (omega (arith, walked, refused e, refills.limited, refills.count), free);
       })
     where

@@ -37,8 +37,8 @@ module _ (p : Patterns) (lengths : List ℕ) (valid : ℕ → Type 0) (held : An
         (let told = some less in (
           subst (λ (t : Progress). After lookups t given) (sym told.1) (after_reported p lengths valid held depth lookups s given end a (omega (arith, less)) within before clear),
           subst (λ (r : Option StreamPiece). IfSome r (TellsChunk p s s' given)) (sym told.0)
-          (subst (λ (t : Progress). TellsPlain p s t given) (sym told.1)
-          (record { some = omega (arith, less); read = omega (arith, within, a.walked_read, a.count); told = refl; from = refl; clear = clear })),
+              (subst (λ (t : Progress). TellsPlain p s t given) (sym told.1)
+              (record { some = omega (arith, less); read = omega (arith, within, a.walked_read, a.count); told = refl; from = refl; clear = clear })),
         ))
     | inr ge ↦
         (let told = none ge in (
@@ -54,10 +54,13 @@ module _ (p : Patterns) (lengths : List ℕ) (valid : ℕ → Type 0) (held : An
       → (s.ended ≡ false → MatchBool (starts s.sid) (end ≡ s.walked) (end ≡ s.walked - s.buffer.least))
       → (end ≤ s.walked) × IsClearTo s given end
   outside_clear {starts} laws lookups s given end a free walked ended open_end = elim (cases_Bool s.ended) [
-    | inl ends ↦ (omega (arith, ended ends, walked), λ more m follows answer.
-        let none = nothing_follows s.ended more ends follows in
-        let long : length (given ++ more) ≡ length given = ap (λ (xs : List ℕ). length (given ++ xs)) none ∙ ap length (append-nil given) in
-        absurd (omega (arith, later more m answer, answer.0.before_end, long, walked, a.count)))
+    | inl ends ↦ (
+      omega (arith, ended ends, walked),
+      λ more m follows answer.
+          let none = nothing_follows s.ended more ends follows in
+          let long : length (given ++ more) ≡ length given = ap (λ (xs : List ℕ). length (given ++ xs)) none ∙ ap length (append-nil given) in
+          absurd (omega (arith, later more m answer, answer.0.before_end, long, walked, a.count)),
+    )
     | inr goes ↦ elim (cases_Bool (starts s.sid)) [
       | inl start ↦ (let at : end ≡ s.walked = subst (λ (b : Bool). MatchBool b (end ≡ s.walked) (end ≡ s.walked - s.buffer.least)) start (open_end goes) in
           (omega (arith, at), λ more m follows answer. omega (arith, at, starts_behind p given more s.from s.walked ordered within laws s.sid m a.held_is start none_walked answer)))
@@ -105,15 +108,15 @@ module _ (p : Patterns) (lengths : List ℕ) (valid : ℕ → Type 0) (held : An
       let i = subst (IsInHand s) in_hand a.in_hand_is in (
         subst (λ (t : Progress). After lookups t given) (sym moves) (after_given p lengths valid held depth lookups s given m a are in_hand ordered unrefused),
         subst (λ (x : Occurrence). TellsMatch p s s' given x) (sym is)
-        (subst (λ (t : Progress). TellsMatch p s t given (moved s.from m)) (sym moves)
-        (record {
-          answer = λ more follows. in_hand_answers lookups s given m a in_hand more;
-          starts = omega (arith, reached, i.1);
-          read = omega (arith, i.0, a.walked_read, a.count);
-          told = refl;
-          reported = refl;
-          from = refl;
-        })),
+            (subst (λ (t : Progress). TellsMatch p s t given (moved s.from m)) (sym moves)
+            (record {
+              answer = λ more follows. in_hand_answers lookups s given m a in_hand more;
+              starts = omega (arith, reached, i.1);
+              read = omega (arith, i.0, a.walked_read, a.count);
+              told = refl;
+              reported = refl;
+              from = refl;
+            })),
       )
 
 -- what is told of a match or a gap, by the end of the last match and of the last chunk alone

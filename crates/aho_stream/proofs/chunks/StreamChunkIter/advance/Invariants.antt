@@ -17,9 +17,9 @@ invariant-loop-piece g l =
       same : l.self.walk.automaton.now ≡ automaton;
       untold : IsUntold l.fn.self.progress l.self.progress;
       read : Read (g.A.Automaton.is_of automaton)
-      (λ p. IsAfter p (g.A.Automaton.lengths automaton) (g.A.Automaton.valid automaton) (g.A.Automaton.held automaton p) (g.A.Automaton.depth automaton))
-      l.fn.self.walk.work l.self.walk.work l.fn.self.progress l.self.progress
-      (g.R.Source.remaining l.fn.self.source.now) (g.R.Source.remaining l.self.source.now);
+          (λ p. IsAfter p (g.A.Automaton.lengths automaton) (g.A.Automaton.valid automaton) (g.A.Automaton.held automaton p) (g.A.Automaton.depth automaton))
+          l.fn.self.walk.work l.self.walk.work l.fn.self.progress l.self.progress
+          (g.R.Source.remaining l.fn.self.source.now) (g.R.Source.remaining l.self.source.now);
       ended : g.R.Source.empty_reads l.self.source.now ≡ counted (ends_between l.fn.self.progress.ended l.self.progress.ended) (g.R.Source.empty_reads l.fn.self.source.now);
       stays : l.fn.self.progress.ended ≡ true → l.self.progress.ended ≡ true;
       unfailed : g.R.Source.failures l.self.source.now ≡ g.R.Source.failures l.fn.self.source.now;
