@@ -2,5 +2,6 @@
 #![tactic(auto)]
 
 pub mod chunks;
+pub mod finds;
 pub mod progress;
 pub mod walk;
