@@ -6,3 +6,4 @@ mod Walks
 mod Afters
 mod Reported
 mod Advanced
+mod Found

@@ -1,11 +1,10 @@
 -- What each way out tells, and each turn of the loop.
-use Rattle.std.proofs.Common.{◌≡◌, ◌+◌, ◌-◌, ◌≤◌, ◌++◌, ◌∙◌, ◌⊎◌, inl, inr, Bool, true, false, ap, refl, sym, subst, arith, append-nil, append_assoc, List, ℕ, [], length, cond}
-use Rattle.std.specs.Prelude.{Option, Some, None, Result, Ok, Err, IfSome}
+use Rattle.std.proofs.Common.{◌≡◌, ◌++◌, ◌∙◌, inl, inr, Bool, false, ap, refl, sym, subst, arith, append-nil, List, ℕ, length}
+use Rattle.std.specs.Prelude.{Option, Some, None, Ok, Err, IfSome}
 use Rattle.aho_base.specs.Patterns.{Patterns}
 use Rattle.aho_devices.specs.Counts.{counted}
 use Rattle.aho_stream.specs.After.{IsAfter}
-use Rattle.aho_stream.specs.Chunks.{Advances, Tells, TellsChunk, TellsEnd, TellsFault, TellsNone, ends_between}
-use Rattle.aho_stream.specs.Refills.{is_limit}
+use Rattle.aho_stream.specs.Chunks.{TellsChunk, TellsNone, ends_between}
 use Rattle.aho_stream.specs.declared.progress.Progress.{Progress}
 use Rattle.aho_stream.specs.declared.progress.StreamPiece.{StreamPiece}
 use Rattle.aho_stream.proofs.Advanced.{IsUntold, Read, advances, advances_from, counted_once, counted_same, end_told, error_told, not_before, read_more, read_none, read_same}

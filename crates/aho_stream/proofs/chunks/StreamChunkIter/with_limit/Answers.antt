@@ -1,4 +1,4 @@
-use Rattle.std.proofs.Common.{◌≡◌, ◌+◌, ◌<◌, ◌≤◌, ◌∙◌, ap, sym, subst, arith, max, min, [], ℕ}
+use Rattle.std.proofs.Common.{◌∙◌, ap, sym, subst, arith, max, []}
 use Rattle.aho_stream.specs.After.{IsAfter}
 use Rattle.aho_stream.specs.declared.progress.Progress.{Progress}
 use Rattle.aho_stream.proofs.Afters.{after_made}
