@@ -4,4 +4,4 @@
 pub mod chunks;
 pub mod finds;
 pub mod progress;
-pub mod walk;
+mod walk;
