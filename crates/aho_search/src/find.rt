@@ -46,7 +46,7 @@ use aho_base::search::{Anchored, Match, MatchKind, Span, StateID, Text};
 /// The match that a state tells at a place of a search from `start`: the first pattern that it lists, which ends there.
 ///
 /// An anchored search takes it only where it is as long as what was read.
-fn told_at<W: Walk>(
+pub fn told_at<W: Walk>(
     walk: &W,
     anchored: Anchored,
     sid: StateID,

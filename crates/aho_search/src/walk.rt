@@ -69,6 +69,11 @@ pub trait Walk {
         requires valid { Self.Of.valid (of self.now) sid }
         ensures is_match { IsTrue result ↔ (0 < length (Self.Of.list (of self.now) sid)) };
 
+    /// Whether the state is a start, so that no match that ends later starts before it.
+    fn is_start(&self, sid: StateID) -> bool
+        requires valid { Self.Of.valid (of self.now) sid }
+        ensures starts { result ≡ Self.Of.starts (of self.now) sid };
+
     /// Which of several matches is found.
     fn match_kind(&self) -> MatchKind
         ensures kind { result ≡ Self.Of.kind (of self.now) };
@@ -137,6 +142,10 @@ impl<'a, A: Automaton> Walk for Counted<'a, A> {
 
     fn is_match(&self, sid: StateID) -> bool {
         self.automaton.is_match(sid)
+    }
+
+    fn is_start(&self, sid: StateID) -> bool {
+        self.automaton.is_start(sid)
     }
 
     fn match_kind(&self) -> MatchKind {

@@ -37,4 +37,6 @@ mod rows;
 #[cfg(test)]
 mod scripted;
 #[cfg(test)]
+mod stream_finds;
+#[cfg(test)]
 mod tables;

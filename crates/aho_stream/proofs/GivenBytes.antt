@@ -1,0 +1,22 @@
+-- The given bytes: what a buffer holds of them, and parts of them.
+use Rattle.std.proofs.Common.{◌≡◌, ℕ, ◌-◌, ◌≤◌, List, ◌++◌, length, take, drop, sym, ◌∙◌, ap, arith, append_assoc}
+use Rattle.std.specs.Prelude.{slice_range}
+use Rattle.std.proofs.lemmas.List.{take-append-drop, take-append-le, drop-append-le, length-drop}
+use Rattle.aho_stream.specs.After.{EndsIn}
+
+-- bytes end in what is left of their last ones
+pub EndsIn-drop : (given last : List ℕ) (n : ℕ) → EndsIn given last → EndsIn given (drop n last)
+EndsIn-drop given last n (gone, e) = (
+  gone ++ take n last,
+  e ∙ ap (λ (xs : List ℕ). gone ++ xs) (sym (take-append-drop n last)) ∙ sym (append_assoc gone (take n last) (drop n last)),
+)
+
+-- and where more is given, in these with what is more
+pub EndsIn-append : (given last more : List ℕ) → EndsIn given last → EndsIn (given ++ more) (last ++ more)
+EndsIn-append given last more (gone, e) = (gone, ap (λ (xs : List ℕ). xs ++ more) e ∙ append_assoc gone last more)
+
+-- a part of what was given stays, whatever follows
+pub part_stays : (given more : List ℕ) (start end : ℕ) → start ≤ end → end ≤ length given → slice_range (given ++ more) start end ≡ slice_range given start end
+part_stays given more start end ordered within =
+    ap (take (end - start)) (drop-append-le start given more (omega arith))
+    ∙ take-append-le (end - start) (drop start given) more (omega (arith, length-drop start given))

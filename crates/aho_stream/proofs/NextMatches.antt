@@ -1,0 +1,94 @@
+-- What is known of the next match, whatever bytes follow.
+use Rattle.std.proofs.Common.{◌≡◌, ℕ, ◌+◌, ◌-◌, ◌<◌, ◌≤◌, inl, inr, Bool, true, false, List, [], ◌++◌, length, map, refl, sym, ◌∙◌, ap, subst, arith, length-append}
+use Rattle.std.specs.Prelude.{Option, Some, None, slice_range}
+use Rattle.std.proofs.lemmas.Bool.{cases_lt}
+use Rattle.aho_base.specs.Answer.{IsAnswer}
+use Rattle.aho_base.specs.Best.{IsBestOrNone}
+use Rattle.aho_base.specs.Laws.{BestAfter, Reads, longest, shortest}
+use Rattle.aho_base.specs.Occurrence.{Occurrence}
+use Rattle.aho_base.specs.Occurs.{Occurs}
+use Rattle.aho_base.specs.Order.{IsBefore}
+use Rattle.aho_base.specs.Patterns.{Patterns}
+use Rattle.aho_base.specs.declared.search.Anchored.{Anchored}
+use Rattle.aho_base.specs.declared.search.Anchored.TheVariants.{No}
+use Rattle.aho_base.specs.declared.search.MatchKind.{MatchKind}
+use Rattle.aho_base.specs.declared.search.MatchKind.TheVariants.{Standard}
+use Rattle.aho_laws.proofs.Answers.{IsAnswer-unique}
+use Rattle.aho_search.proofs.Places.{best_in_whole, into_part, length_part, moved, moved_option, moved_back, part_join, widened, narrowed}
+use Rattle.aho_stream.specs.After.{MayFollow, search_from}
+use Rattle.aho_stream.proofs.GivenBytes.{part_stays}
+use Rattle.aho_stream.proofs.PatternLengths.{occurs_some, occurs_short}
+
+pub MayFollow-nothing : (ended : Bool) → MayFollow ended []
+MayFollow-nothing true = refl
+MayFollow-nothing false = tt
+
+-- where the end was seen nothing follows
+pub nothing_follows : (ended : Bool) (more : List ℕ) → ended ≡ true → MayFollow ended more → more ≡ []
+nothing_follows true more e follows = follows
+nothing_follows false more e follows = cc
+
+-- in no byte nothing occurs, where no pattern is empty
+pub none_in_nothing : (p : Patterns) (lengths : List ℕ) → lengths ≡ map length p.words → 1 ≤ shortest lengths → (word : List ℕ) → word ≡ [] → BestAfter p No word None
+none_in_nothing p lengths are no_empty word nothing n o =
+    omega (arith, occurs_some p lengths are n o no_empty, o.before_end, ap length nothing)
+
+module _ (p : Patterns) (given more : List ℕ) (from walked : ℕ) (ordered : from ≤ walked) (within : walked ≤ length given) where
+  -- what was walked is the same with what follows
+  same_word : slice_range (given ++ more) from walked ≡ slice_range given from walked
+  same_word = part_stays given more from walked ordered within
+
+  longer : walked ≤ length (given ++ more)
+  longer = omega (arith, length-append given more)
+
+  -- the best of what was walked
+  best_walked : (best : Option Occurrence) → BestAfter p No (slice_range given from walked) best → IsBestOrNone p.kind (Occurs p No (given ++ more) from walked) (moved_option from best)
+  best_walked best is_best = best_in_whole p No (given ++ more) from walked best ordered longer (subst (λ (w : List ℕ). BestAfter p No w best) (sym same_word) is_best)
+
+  -- Standard: what was found first is the answer, whatever follows
+  pub found_first : (m : Occurrence) → p.kind ≡ Standard → from + m.end ≡ walked → BestAfter p No (slice_range given from walked) (Some m) → IsAnswer p (search_from from (given ++ more)) (Some (moved from m))
+  found_first m standard ends is_best =
+      let best = best_walked (Some m) is_best in (
+        widened p No (given ++ more) from walked (length (given ++ more)) (moved from m) longer best.0,
+        λ n o. elim (cases_lt walked n.end) [
+          | inl past ↦ inr (subst (λ (k : MatchKind). IsBefore k (moved from m) n) (sym standard) (inl (omega (arith, ends))))
+          | inr ge ↦ best.1 n (narrowed p No (given ++ more) from walked (length (given ++ more)) n ge o)
+        ],
+      )
+
+  -- where nothing was found, what occurs ends later
+  pub ends_later : (m : Occurrence) → BestAfter p No (slice_range given from walked) None → IsAnswer p (search_from from (given ++ more)) (Some m) → walked < m.end
+  ends_later m none answer = elim (cases_lt walked m.end) [
+    | inl past ↦ past
+    | inr ge ↦ absurd (best_walked None none m (narrowed p No (given ++ more) from walked (length (given ++ more)) m ge answer.0))
+  ]
+
+  -- so it starts less than the longest pattern before the place
+  pub starts_near : (lengths : List ℕ) (m : Occurrence) → lengths ≡ map length p.words → BestAfter p No (slice_range given from walked) None → IsAnswer p (search_from from (given ++ more)) (Some m) → walked ≤ m.start + longest lengths
+  starts_near lengths m are none answer = omega (arith, ends_later m none answer, occurs_short p lengths are m answer.0)
+
+  -- and at the place or later, where the state is a start
+  pub starts_behind : {kind : MatchKind} {lengths : List ℕ} {held : Anchored → List ℕ → ℕ → Type 0} {list : ℕ → List ℕ} {dead starts : ℕ → Bool} → Reads p kind lengths held list dead starts
+      → (sid : ℕ) (m : Occurrence) → held No (slice_range given from walked) sid → starts sid ≡ true → BestAfter p No (slice_range given from walked) None → IsAnswer p (search_from from (given ++ more)) (Some m) → walked ≤ m.start
+  starts_behind {held} laws sid m is_held is_start none answer =
+      let h = given ++ more in
+      let end = length h in
+      let word = slice_range h from walked in
+      let rest = slice_range h walked end in
+      let joined : slice_range h from end ≡ word ++ rest = part_join h from walked end ordered longer in
+      let long : length word ≡ walked - from = length_part h from walked longer in
+      let whole : length (word ++ rest) ≡ end - from = sym (ap length joined) ∙ length_part h from end (omega arith) in
+      let here : Occurs p No (word ++ rest) 0 (length (word ++ rest)) (moved_back from m) =
+      subst (λ (x : ℕ). Occurs p No (word ++ rest) 0 x (moved_back from m)) (sym whole)
+      (subst (λ (w : List ℕ). Occurs p No w 0 (end - from) (moved_back from m)) joined (into_part p No h from end m answer.0)) in
+      let apart = laws.start_apart word rest sid (moved_back from m) (subst (λ (w : List ℕ). held No w sid) (sym same_word) is_held) is_start here (omega (arith, long, ends_later m none answer)) in
+      omega (arith, apart, long, answer.0.after_start)
+
+-- the answer of what was walked where nothing follows
+pub nothing_found : (p : Patterns) (given : List ℕ) (from walked : ℕ) → from ≤ walked → walked ≡ length given → BestAfter p No (slice_range given from walked) None → IsAnswer p (search_from from given) None
+nothing_found p given from walked ordered all none n o =
+    subst (λ (end : ℕ). (n : Occurrence) → Occurs p No given from end n → ⊥) all (best_in_whole p No given from walked None ordered (omega arith) none) n o
+
+-- two answers of one search start together
+pub answers_together : (p : Patterns) (given more : List ℕ) (from : ℕ) (m n : Occurrence) → IsAnswer p (search_from from (given ++ more)) (Some m) → IsAnswer p (search_from from (given ++ more)) (Some n) → m ≡ n
+answers_together p given more from m n first second = let same = IsAnswer-unique p (search_from from (given ++ more)) (Some m) (Some n) first second in cc

@@ -1,0 +1,165 @@
+-- What each way out tells, and each turn of the loop.
+use Rattle.std.proofs.Common.{◌≡◌, ◌++◌, ◌∙◌, inl, inr, Bool, false, ap, refl, sym, subst, arith, append-nil, List, ℕ, length}
+use Rattle.std.specs.Prelude.{Option, Some, None, Ok, Err, IfSome}
+use Rattle.aho_base.specs.Patterns.{Patterns}
+use Rattle.aho_devices.specs.Counts.{counted}
+use Rattle.aho_stream.specs.After.{IsAfter}
+use Rattle.aho_stream.specs.Chunks.{TellsChunk, TellsNone, ends_between}
+use Rattle.aho_stream.specs.declared.progress.Progress.{Progress}
+use Rattle.aho_stream.specs.declared.progress.StreamPiece.{StreamPiece}
+use Rattle.aho_stream.proofs.Advanced.{IsUntold, Read, advances, advances_from, counted_once, counted_same, end_told, error_told, not_before, read_more, read_none, read_same}
+use Rattle.aho_stream.proofs.Afters.{after_refilled, after_told}
+use Rattle.aho_stream.proofs.Reported.{no_chunk_left, told_from}
+use Rattle.aho_stream.proofs.chunks.StreamChunkIter.advance.Given.{Over}
+use Rattle.aho_stream.proofs.chunks.StreamChunkIter.advance.Goals.{After-next_piece, After-refill}
+use Rattle.aho_stream.proofs.chunks.StreamChunkIter.advance.Goals as goal
+
+-- how far the iterator has come, by its automaton
+abbrev AfterOf : (g : Over) → g.row.A.Denot → Patterns → ℕ → Progress → List ℕ → Type 0
+AfterOf g automaton p lookups s given = IsAfter p (g.A.Automaton.lengths automaton) (g.A.Automaton.valid automaton) (g.A.Automaton.held automaton p) (g.A.Automaton.depth automaton) lookups s given
+
+pub returns-then-self-clause-advances : goal.returns-then-self-clause-advances
+returns-then-self-clause-advances g c =
+    let automaton = c.args.self.now.walk.automaton.now in
+    let s = c.args.self.now.progress in
+    advances (g.A.Automaton.is_of automaton) (AfterOf g automaton) _ _ s _ _ _ None
+    (read_none (g.A.Automaton.is_of automaton) (AfterOf g automaton) c.args.self.now.walk.work c.args.self.now.walk.work s _ _ (λ p given of a. after_told p _ _ _ _ _ s given a))
+    (λ p given of a.
+    let stopped = a.stopped c.if-self.true in
+    end_told p _ _ _ _ _ s _ given a stopped.1 stopped.0 (record { told = refl; reported = refl; from = refl }) (inr c.if-self.true))
+
+pub loop-piece-init : goal.loop-piece-init
+loop-piece-init g c =
+    let automaton = c.args.self.now.walk.automaton.now in
+    let s = c.args.self.now.progress in
+    let going : s.refused ≡ false = c.if-self.false in
+    record {
+      same = refl;
+      untold = record { told = refl; reported = refl; from = refl; limit = refl; unrefused = going; going = going };
+      read = read_none (g.A.Automaton.is_of automaton) (AfterOf g automaton) c.args.self.now.walk.work c.args.self.now.walk.work s _ _ (λ p given of a. after_told p _ _ _ _ _ s given a);
+      ended = counted_same s.ended _;
+      stays = λ e. e;
+      unfailed = refl;
+    }
+
+-- what was read before and after the next chunk was looked for
+looked : (g : Over) (c : After-next_piece g)
+    → Read (g.A.Automaton.is_of c.args.self.now.walk.automaton.now) (AfterOf g c.args.self.now.walk.automaton.now) c.args.self.now.walk.work c.next_piece.new.walk.work c.args.self.now.progress c.next_piece.new.progress (g.R.Source.remaining c.args.self.now.source.now) (g.R.Source.remaining c.loop-piece.self.source.now)
+looked g c =
+    let automaton = c.args.self.now.walk.automaton.now in
+    read_same (g.A.Automaton.is_of automaton) (AfterOf g automaton) _ _ _ _ c.loop-piece.self.progress _ _ _ (λ p given of a. (rw c.loop-piece.invariant.same at c.next_piece.ensures.after) p given of a) c.loop-piece.invariant.read
+
+pub returns-in-Some-clause-advances : goal.returns-in-Some-clause-advances
+returns-in-Some-clause-advances g c =
+    let automaton = c.args.self.now.walk.automaton.now in
+    let s = c.args.self.now.progress in
+    let inv = c.loop-piece.invariant in
+    advances_from (g.A.Automaton.is_of automaton) (AfterOf g automaton) _ _ _ s c.loop-piece.self.progress c.next_piece.new.progress _ _ (Some (Ok c.in-Some.piece)) inv.read
+    (λ p given of a. (rw inv.same at c.next_piece.ensures.after) p given of a)
+    (λ p given of a. told_from p s c.loop-piece.self.progress c.next_piece.new.progress given c.in-Some.piece inv.untold.reported inv.untold.from
+    (subst (λ (r : Option StreamPiece). IfSome r (TellsChunk p c.loop-piece.self.progress c.next_piece.new.progress given)) c.in-Some.is ((rw inv.same at c.next_piece.ensures.tells) p given of a)))
+
+-- all was reported before the end, so no chunk is left
+pub returns-in-Some-clause-after_end : goal.returns-in-Some-clause-after_end
+returns-in-Some-clause-after_end g c ended all =
+    let s = c.args.self.now.progress in
+    let inv = c.loop-piece.invariant in
+    let (p, given, of, a) = c.requires.after in
+    let laws = g.met.A.Automaton.laws c.args.self.now.walk.automaton.now p of in
+    let bytes = given ++ inv.read.bytes in
+    let same : bytes ≡ given = ap (λ (xs : List ℕ). given ++ xs) (inv.read.closed ended) ∙ append-nil given in
+    let tells = told_from p s c.loop-piece.self.progress c.next_piece.new.progress bytes c.in-Some.piece inv.untold.reported inv.untold.from
+    (subst (λ (r : Option StreamPiece). IfSome r (TellsChunk p c.loop-piece.self.progress c.next_piece.new.progress bytes)) c.in-Some.is ((rw inv.same at c.next_piece.ensures.tells) p bytes of (inv.read.is_after p given of a))) in
+    absurd (no_chunk_left p (g.A.Automaton.lengths c.args.self.now.walk.automaton.now) laws.lengths_are a.no_empty s c.next_piece.new.progress bytes c.in-Some.piece tells (omega (arith, ap length same, a.count, all)))
+
+-- nothing was told where there is no chunk
+still_untold : (g : Over) (c : goal.After-next_piece g) → c.next_piece.result ≡ None → IsUntold c.args.self.now.progress c.next_piece.new.progress
+still_untold g c none =
+    let u = c.loop-piece.invariant.untold in
+    let same = c.next_piece.ensures.none none in
+    record {
+      told = ap (λ (t : Progress). t.told) same ∙ u.told;
+      reported = ap (λ (t : Progress). t.reported) same ∙ u.reported;
+      from = ap (λ (t : Progress). t.from) same ∙ u.from;
+      limit = ap (λ (t : Progress). t.limit) same ∙ u.limit;
+      unrefused = u.unrefused;
+      going = ap (λ (t : Progress). t.refused) same ∙ u.going;
+    }
+
+pub returns-then-self-2-clause-advances : goal.returns-then-self-2-clause-advances
+returns-then-self-2-clause-advances g c =
+    let automaton = c.args.self.now.walk.automaton.now in
+    let s = c.args.self.now.progress in
+    let d = (goal.at.returns-then-self-2-clause-advances g c).After-next_piece in
+    let none = c.in_default.is in
+    let u = still_untold g d none in
+    let walked = c.next_piece.ensures.walked none in
+    advances (g.A.Automaton.is_of automaton) (AfterOf g automaton) _ _ s c.next_piece.new.progress _ _ None (looked g d)
+    (λ p given of a. end_told p _ _ _ _ _ s c.next_piece.new.progress given a walked.0 walked.1 (record { told = u.told; reported = u.reported; from = u.from })
+    (inl (c.if-self-2.true, c.next_piece.ensures.end none c.if-self-2.true)))
+
+-- what was read before and after a refill
+refilled_read : (g : Over) (c : After-refill g)
+    → Read (g.A.Automaton.is_of c.args.self.now.walk.automaton.now) (AfterOf g c.args.self.now.walk.automaton.now) c.args.self.now.walk.work c.next_piece.new.walk.work c.args.self.now.progress c.refill.new.self (g.R.Source.remaining c.args.self.now.source.now) (g.R.Source.remaining c.refill.new.source)
+refilled_read g c =
+    let automaton = c.args.self.now.walk.automaton.now in
+    let none = c.in_default.is in
+    let u = still_untold g (goal.at.After-refill g c).After-next_piece none in
+    let walked = c.next_piece.ensures.walked none in
+    let refills = c.refill.ensures.refills in
+    read_more (g.A.Automaton.is_of automaton) (AfterOf g automaton) _ _ _ c.args.self.now.progress c.next_piece.new.progress c.refill.new.self _ _ _ refills.bytes
+    (not_before c.args.self.now.progress.ended (λ e. sym c.if-self-2.false ∙ c.next_piece.ensures.ended ∙ c.loop-piece.invariant.stays e))
+    refills.given
+    (λ p given of a. after_refilled p _ _ _ _ _ c.next_piece.new.progress c.refill.new.self given _ _ refills a walked.0 walked.1 (u.told ∙ sym u.reported) (c.next_piece.ensures.near none) c.if-self-2.false
+    (λ e. c.refill.ensures.limit (sym c.refill.ensures.refused ∙ e)))
+    (looked g (goal.at.After-refill g c).After-next_piece)
+
+-- nothing is told by a refill
+refilled_untold : (g : Over) (c : After-refill g) → TellsNone c.args.self.now.progress c.refill.new.self
+refilled_untold g c =
+    let u = still_untold g (goal.at.After-refill g c).After-next_piece c.in_default.is in
+    let others = c.refill.ensures.refills.others in
+    record {
+      told = ap (λ (t : Progress). t.told) others ∙ u.told;
+      reported = ap (λ (t : Progress). t.reported) others ∙ u.reported;
+      from = ap (λ (t : Progress). t.from) others ∙ u.from;
+    }
+
+pub returns-in-Err-clause-advances : goal.returns-in-Err-clause-advances
+returns-in-Err-clause-advances g c =
+    let automaton = c.args.self.now.walk.automaton.now in
+    let s = c.args.self.now.progress in
+    let t = c.next_piece.new.progress in
+    let d = (goal.at.returns-in-Err-clause-advances g c).After-refill in
+    let u = still_untold g (goal.at.returns-in-Err-clause-advances g c).After-next_piece c.in_default.is in
+    let still = refilled_untold g d in
+    let refills = c.refill.ensures.refills in
+    let near = c.next_piece.ensures.near c.in_default.is in
+    let reported : c.refill.new.self.reported ≡ t.reported = ap (λ (t : Progress). t.reported) refills.others in
+    let told : c.refill.new.self.told ≡ c.refill.new.self.reported = still.told ∙ sym still.reported in
+    advances (g.A.Automaton.is_of automaton) (AfterOf g automaton) _ _ s c.refill.new.self _ _ (Some (Err c.in-Err.error)) (refilled_read g d)
+    (λ p given of a. error_told s c.refill.new.self given c.in-Err.error c.in-Err.ensures.only
+    (record {
+      still = still;
+      near = elim c.in-Err.ensures.faulty [ inl same ↦ omega (arith, a.count, same, near, reported, refills.least) | inr short ↦ omega (arith, a.count, a.kept, short, told) ];
+    })
+    (λ e. (omega (arith, a.count, c.in-Err.ensures.limit e, refills.count, refills.limited, u.limit), c.in-Err.ensures.refused ∙ e)) u.unrefused)
+
+pub loop-piece-preserved : goal.loop-piece-preserved
+loop-piece-preserved g c =
+    let d = (goal.at.loop-piece-preserved g c).After-refill in
+    let u = still_untold g (goal.at.loop-piece-preserved g c).After-next_piece c.in_default.is in
+    let still = refilled_untold g d in
+    let inv = c.loop-piece.invariant in
+    let s = c.args.self.now.progress in
+    let t = c.next_piece.new.progress in
+    let going : s.ended ≡ false = not_before s.ended (λ e. sym c.if-self-2.false ∙ c.next_piece.ensures.ended ∙ inv.stays e) in
+    record {
+      same = c.next_piece.ensures.same ∙ inv.same;
+      untold = record { told = still.told; reported = still.reported; from = still.from; limit = ap (λ (t : Progress). t.limit) c.refill.ensures.refills.others ∙ u.limit; unrefused = u.unrefused; going = c.in_default-refill.ensures.refused };
+      read = refilled_read g d;
+      ended = c.refill.ensures.ended ∙ counted_once s.ended c.refill.new.self.ended (g.R.Source.empty_reads c.args.self.now.source.now) (g.R.Source.empty_reads c.loop-piece.self.source.now) going
+          (inv.ended ∙ ap (λ (b : Bool). counted (ends_between s.ended b) (g.R.Source.empty_reads c.args.self.now.source.now)) (sym c.next_piece.ensures.ended ∙ c.if-self-2.false));
+      stays = λ e. cc;
+      unfailed = c.in_default-refill.ensures.read_failed ∙ inv.unfailed;
+    }

@@ -1,0 +1,29 @@
+-- What the loop keeps.
+use Rattle.std.proofs.Common.{◌≡◌, ◌+◌, ◌-◌, true, cond}
+use Rattle.aho_devices.specs.Counts.{counted}
+use Rattle.aho_stream.specs.After.{IsAfter}
+use Rattle.aho_stream.specs.Chunks.{ends_between}
+use Rattle.aho_stream.proofs.Advanced.{Read, IsUntold}
+use Rattle.aho_stream.proofs.chunks.StreamChunkIter.advance.Given as goal
+
+-- Over the same automaton:
+-- `untold`: nothing was told yet, and the limit was not met;
+-- `read`: some bytes were read, and the iterator has come so far with them;
+-- `ended`, `stays` and `unfailed`: whether the end was seen, and that no read failed.
+abbrev pub invariant-loop-piece : goal.invariant-loop-piece
+invariant-loop-piece g l =
+    let automaton = l.fn.self.walk.automaton.now in
+    record {
+      same : l.self.walk.automaton.now ≡ automaton;
+      untold : IsUntold l.fn.self.progress l.self.progress;
+      read : Read (g.A.Automaton.is_of automaton)
+          (λ p. IsAfter p (g.A.Automaton.lengths automaton) (g.A.Automaton.valid automaton) (g.A.Automaton.held automaton p) (g.A.Automaton.depth automaton))
+          l.fn.self.walk.work l.self.walk.work l.fn.self.progress l.self.progress
+          (g.R.Source.remaining l.fn.self.source.now) (g.R.Source.remaining l.self.source.now);
+      ended : g.R.Source.empty_reads l.self.source.now ≡ counted (ends_between l.fn.self.progress.ended l.self.progress.ended) (g.R.Source.empty_reads l.fn.self.source.now);
+      stays : l.fn.self.progress.ended ≡ true → l.self.progress.ended ≡ true;
+      unfailed : g.R.Source.failures l.self.source.now ≡ g.R.Source.failures l.fn.self.source.now;
+    }
+
+abbrev pub decreases-loop-piece : goal.decreases-loop-piece
+decreases-loop-piece g l = (l.self.progress.limit - l.self.progress.read) + cond l.self.progress.ended 0 1

@@ -1,0 +1,67 @@
+use Rattle.std.proofs.Common.{◌≡◌, ◌+◌, ◌≤◌, ◌∙◌, inl, inr, ap, subst, arith, List, ℕ}
+use Rattle.std.specs.Prelude.{Option, Some, None, IfSome}
+use Rattle.std.proofs.lemmas.Bool.{cases_lt}
+use Rattle.aho_base.specs.Occurrence.{Occurrence}
+use Rattle.aho_base.specs.Patterns.{Patterns}
+use Rattle.aho_stream.specs.After.{IsAfter, IsInHand}
+use Rattle.aho_stream.specs.Chunks.{TellsChunk, TellsMatch}
+use Rattle.aho_search.proofs.Places.{moved}
+use Rattle.aho_stream.specs.declared.progress.Progress.{Progress}
+use Rattle.aho_stream.proofs.Reported.{gap_clear, in_hand_ordered, match_told, outside_clear, reported}
+use Rattle.aho_stream.proofs.chunks.piece.Given.{Over}
+use Rattle.aho_stream.proofs.chunks.piece.Goals.{After-report, After-report-2, After-give}
+use Rattle.aho_stream.proofs.chunks.piece.Goals as goal
+
+-- how far the iterator has come, by the automaton of the walk
+abbrev AfterOf : (g : Over) → g.row.W.Denot → Patterns → Progress → List ℕ → Type 0
+AfterOf g walk p s given = IsAfter p (g.W.Of.Automaton.lengths (g.W.Walk.of walk)) (g.W.Of.Automaton.valid (g.W.Walk.of walk)) (g.W.Of.Automaton.held (g.W.Walk.of walk) p) (g.W.Of.Automaton.depth (g.W.Walk.of walk)) (g.W.Walk.lookups walk) s given
+
+plain : (g : Over) (c : After-report g) (p : Patterns) (given : List ℕ) → g.W.Of.Automaton.is_of (g.W.Walk.of c.args.walk.now) p → AfterOf g c.args.walk.now p c.args.progress.now given
+    → AfterOf g c.args.walk.now p c.report.new.self given × IfSome c.report.result (TellsChunk p c.args.progress.now c.report.new.self given)
+plain g c p given of a =
+    let s = c.args.progress.now in
+    let free : s.in_hand ≡ None = c.in_default.is in
+    let clear = outside_clear p _ _ _ _ (g.met.W.Of.Automaton.laws _ p of) _ s given c.outside-end.result a free (c.requires.walked free) c.outside-end.ensures.ended c.outside-end.ensures.open in
+    reported p _ _ _ _ _ s c.report.new.self given c.outside-end.result c.report.result a clear.0 (λ m e. cc) clear.1 c.report.ensures.some c.report.ensures.none
+
+pub returns-in_default-clause-after : goal.returns-in_default-clause-after
+returns-in_default-clause-after g c p given of a = (plain g c p given of a).0
+
+pub returns-in_default-clause-tells : goal.returns-in_default-clause-tells
+returns-in_default-clause-tells g c p given of a = (plain g c p given of a).1
+
+gap : (g : Over) (c : After-report-2 g) (p : Patterns) (given : List ℕ) → g.W.Of.Automaton.is_of (g.W.Walk.of c.args.walk.now) p → AfterOf g c.args.walk.now p c.args.progress.now given
+    → AfterOf g c.args.walk.now p c.report-2.new.self given × IfSome c.report-2.result (TellsChunk p c.args.progress.now c.report-2.new.self given)
+gap g c p given of a =
+    let s = c.args.progress.now in
+    let m = c.in-Some.m in
+    let in_hand : s.in_hand ≡ Some m = c.in-Some.is in
+    let i = subst (IsInHand s) in_hand a.in_hand_is in
+    reported p _ _ _ _ _ s c.report-2.new.self given (s.from + c.start.result) c.report-2.result a (omega (arith, c.start.ensures.start, i.0, in_hand_ordered p _ _ _ _ _ s given m a in_hand))
+    (λ n e. let same : m ≡ n = cc in omega (arith, c.start.ensures.start, ap (λ (x : Occurrence). x.start) same))
+    (λ more n follows answer. omega (arith, c.start.ensures.start, gap_clear p _ _ _ _ _ s given m a in_hand more n follows answer)) c.report-2.ensures.some c.report-2.ensures.none
+
+pub returns-in-Some-report-clause-after : goal.returns-in-Some-report-clause-after
+returns-in-Some-report-clause-after g c p given of a = (gap g (goal.at.returns-in-Some-report-clause-after g c).After-report-2 p given of a).0
+
+pub returns-in-Some-report-clause-tells : goal.returns-in-Some-report-clause-tells
+returns-in-Some-report-clause-tells g c p given of a =
+    subst (λ (r : Option _). IfSome r (TellsChunk p c.args.progress.now c.report-2.new.self given)) c.in-Some-report.is (gap g (goal.at.returns-in-Some-report-clause-tells g c).After-report-2 p given of a).1
+
+-- the match in hand starts where nothing was reported
+match_given : (g : Over) (c : After-give g) (p : Patterns) (given : List ℕ) → g.W.Of.Automaton.is_of (g.W.Walk.of c.args.walk.now) p → AfterOf g c.args.walk.now p c.args.progress.now given
+    → AfterOf g c.args.walk.now p c.give.new.self given × TellsMatch p c.args.progress.now c.give.new.self given c.give.result
+match_given g c p given of a =
+    let s = c.args.progress.now in
+    let m = c.in-Some.m in
+    let in_hand : s.in_hand ≡ Some m = c.in-Some.is in
+    let reached : s.from + c.start.result ≤ s.reported = elim (cases_lt s.reported (s.from + c.start.result)) [ inl less ↦ (let told = (c.report-2.ensures.some less).0 in let none = c.in-None.is in cc) | inr ge ↦ ge ] in
+    let same = (c.report-2.ensures.none reached).1 in
+    match_told p _ _ _ _ _ s c.give.new.self given m c.give.result a (g.met.W.Of.Automaton.laws _ p of).lengths_are in_hand c.requires.open (omega (arith, reached, c.start.ensures.start)) (in_hand_ordered p _ _ _ _ _ s given m a in_hand)
+    (c.give.ensures.placed ∙ ap (λ (t : Progress). moved t.from m) same) (c.give.ensures.moved ∙ ap (λ (t : Progress). record t { told = t.from + m.start; reported = t.from + m.end; from = t.from + m.end; walked = t.from + m.end; sid = t.start; in_hand = None }) same)
+
+pub returns-in-None-clause-after : goal.returns-in-None-clause-after
+returns-in-None-clause-after g c p given of a = (match_given g c p given of a).0
+
+pub returns-in-None-clause-tells : goal.returns-in-None-clause-tells
+returns-in-None-clause-tells g c p given of a = (match_given g c p given of a).1

@@ -1,0 +1,115 @@
+-- What each call of an iterator over the chunks of a stream answers.
+use Rattle.std.specs.Prelude.{◌≡◌, ℕ, ◌+◌, ◌≤◌, ◌⊎◌, ◌&&◌, not, Bool, true, false, List, [], ◌++◌, Option, Some, None, Result, Ok, Err, length}
+use Rattle.std.specs.Io.KnownBytes.{Consumes}
+use Rattle.aho_base.specs.declared.error.stream.StreamError.{StreamError}
+use Rattle.aho_base.specs.declared.error.stream.StreamError.TheVariants.{Match as Refused, Read, Write, WriteZero, Memory, PositionLimit}
+use Rattle.aho_base.specs.Answer.{IsAnswer}
+use Rattle.aho_base.specs.Occurrence.{Occurrence}
+use Rattle.aho_base.specs.Patterns.{Patterns}
+use Rattle.aho_stream.specs.After.{MayFollow, search_from}
+use Rattle.aho_stream.specs.declared.progress.Progress.{Progress}
+use Rattle.aho_stream.specs.declared.progress.StreamPiece.{StreamPiece}
+use Rattle.aho_stream.specs.declared.progress.StreamPiece.TheVariants.{NonMatch, Match}
+
+-- bytes outside of every match: one at least, from the last chunk on. Whatever comes, the next match starts behind them
+pub record TellsPlain (p : Patterns) (s s' : Progress) (given : List ℕ) : Type 0 where
+  pub some : s.reported + 1 ≤ s'.reported
+  pub read : s'.reported ≤ length given
+  pub told : s'.told ≡ s.reported
+  pub from : s'.from ≡ s.from
+  pub clear : (more : List ℕ) (m : Occurrence) → MayFollow s'.ended more
+      → IsAnswer p (search_from s.from (given ++ more)) (Some m) → s'.reported ≤ m.start
+
+-- the next match, whatever comes: all before it was reported
+pub record TellsMatch (p : Patterns) (s s' : Progress) (given : List ℕ) (m : Occurrence) : Type 0 where
+  pub answer : (more : List ℕ) → MayFollow s'.ended more → IsAnswer p (search_from s.from (given ++ more)) (Some m)
+  pub starts : m.start ≡ s.reported
+  pub read : m.end ≤ length given
+  pub told : s'.told ≡ m.start
+  pub reported : s'.reported ≡ m.end
+  pub from : s'.from ≡ m.end
+
+-- nothing more was told
+pub record TellsNone (s s' : Progress) : Type 0 where
+  pub told : s'.told ≡ s.reported
+  pub reported : s'.reported ≡ s.reported
+  pub from : s'.from ≡ s.from
+
+-- nothing occurs any more in what was given, and all of it was reported, or the limit was answered before
+pub record TellsEnd (p : Patterns) (s s' : Progress) (given : List ℕ) : Type 0 where
+  pub none : IsAnswer p (search_from s'.from given) None
+  pub over : ((s'.ended ≡ true) × (s'.reported ≡ length given)) ⊎ (s.refused ≡ true)
+  pub still : TellsNone s s'
+
+-- nothing was told, and at most as many bytes are unreported as a roll keeps
+pub record TellsFault (s s' : Progress) (given : List ℕ) : Type 0 where
+  pub still : TellsNone s s'
+  pub near : length given ≤ s'.reported + s'.buffer.least
+
+-- the limit is answered once, where as many bytes were given
+pub record TellsLimit (s s' : Progress) (given : List ℕ) : Type 0 where
+  pub fault : TellsFault s s' given
+  pub reached : length given ≡ s.limit
+  pub first : s.refused ≡ false
+  pub refused : s'.refused ≡ true
+
+-- the match that is told
+abbrev pub match_told : StreamPiece → Option Occurrence
+match_told NonMatch = None
+match_told (Match m) = Some m
+
+-- what a chunk tells
+abbrev pub TellsChunk : Patterns → Progress → Progress → List ℕ → StreamPiece → Type 0
+TellsChunk p s s' given NonMatch = TellsPlain p s s' given
+TellsChunk p s s' given (Match m) = TellsMatch p s s' given m
+
+-- what an error tells: a failed read, or that no room was left under the limit
+abbrev pub TellsError : Progress → Progress → List ℕ → StreamError → Type 0
+TellsError s s' given (Refused cause) = ⊥
+TellsError s s' given (Read fault) = TellsFault s s' given
+TellsError s s' given (Write fault) = ⊥
+TellsError s s' given WriteZero = ⊥
+TellsError s s' given Memory = ⊥
+TellsError s s' given PositionLimit = TellsLimit s s' given
+
+-- what an answer tells of the bytes given, those of this call among them, by what was kept before and after the call
+abbrev pub Tells : Patterns → Progress → Progress → List ℕ → Option (Result StreamPiece StreamError) → Type 0
+Tells p s s' given None = TellsEnd p s s' given
+Tells p s s' given (Some (Ok piece)) = TellsChunk p s s' given piece
+Tells p s s' given (Some (Err error)) = TellsError s s' given error
+
+-- whether the answer is a failed read
+abbrev pub tells_read_fault : Option (Result StreamPiece StreamError) → Bool
+tells_read_fault None = false
+tells_read_fault (Some (Ok piece)) = false
+tells_read_fault (Some (Err (Refused cause))) = false
+tells_read_fault (Some (Err (Read fault))) = true
+tells_read_fault (Some (Err (Write fault))) = false
+tells_read_fault (Some (Err WriteZero)) = false
+tells_read_fault (Some (Err Memory)) = false
+tells_read_fault (Some (Err PositionLimit)) = false
+
+-- whether the answer is that the position limit was met
+abbrev pub tells_limit : Option (Result StreamPiece StreamError) → Bool
+tells_limit None = false
+tells_limit (Some (Ok piece)) = false
+tells_limit (Some (Err (Refused cause))) = false
+tells_limit (Some (Err (Read fault))) = false
+tells_limit (Some (Err (Write fault))) = false
+tells_limit (Some (Err WriteZero)) = false
+tells_limit (Some (Err Memory)) = false
+tells_limit (Some (Err PositionLimit)) = true
+
+-- whether the end of the stream was seen in between
+abbrev pub ends_between : Bool → Bool → Bool
+ends_between before after = not before && after
+
+-- a call reads these bytes: then the iterator has come so far with them, and its answer tells what it should. Of an automaton
+-- with these patterns, and of what it is to have come so far after some look-ups
+pub record Advances (IsOf : Patterns → Type 0) (After : Patterns → ℕ → Progress → List ℕ → Type 0) (lookups lookups' : ℕ) (s s' : Progress)
+    (before after : Option (List ℕ)) (answer : Option (Result StreamPiece StreamError)) : Type 0 where
+  pub bytes : List ℕ
+  pub read : Consumes before after bytes
+  pub closed : s.ended ≡ true → bytes ≡ []
+  pub is_after : (p : Patterns) (given : List ℕ) → IsOf p → After p lookups s given → After p lookups' s' (given ++ bytes)
+  pub tells : (p : Patterns) (given : List ℕ) → IsOf p → After p lookups s given → Tells p s s' (given ++ bytes) answer

@@ -1,0 +1,5 @@
+pub mod Walking
+pub mod After
+pub mod Refills
+pub mod Chunks
+pub mod Finds

@@ -1,0 +1,393 @@
+//! The chunks of a stream, one after another: matches, and the bytes between them.
+
+ghost use Rattle.std.specs.Prelude.{◌≡◌, ◌≢◌, ◌+◌, ◌*◌, ◌<◌, ◌≤◌, ◌^◌, min, ℕ, List, [], Option, Some, None, Ok, Err, IfOk, IfErr, IfSome, length, slice_range, true, false, MatchBool, ◌-◌, ◌||◌};
+ghost use Rattle.aho_base.specs.Laws.{shortest};
+ghost use Rattle.aho_base.specs.Patterns.{Patterns};
+ghost use Rattle.aho_base.specs.declared.error.MatchErrorKind.{MatchErrorKind};
+ghost use Rattle.aho_base.specs.declared.error.MatchErrorKind.TheVariants.{UnsupportedStream, UnsupportedEmpty};
+ghost use Rattle.aho_base.specs.declared.search.Anchored.TheVariants.{No};
+ghost use Rattle.aho_base.specs.declared.search.MatchKind.TheVariants.{Standard};
+ghost use Rattle.aho_devices.specs.Counts.{counted};
+ghost use Rattle.aho_stream.specs.After.{IsAfter, greatest_position};
+ghost use Rattle.aho_stream.specs.Chunks.{Advances, TellsChunk, ends_between, tells_limit, tells_read_fault};
+
+use crate::progress::{Progress, StreamPiece};
+use crate::walk::walk_on;
+use aho_base::error::{MatchError, StreamError};
+use aho_base::search::{Anchored, MatchKind, StateID};
+use aho_devices::buffer::Buffer;
+use aho_devices::device::Source;
+use aho_search::automaton::Automaton;
+use aho_search::walk::{Counted, Walk};
+use std::alloc::Global;
+
+/// The most bytes that a stream may give: 2^63 - 1.
+const MAX_POSITION: u64 = 9_223_372_036_854_775_807;
+
+/// The chunks of a stream, one after another: matches, and the bytes between them.
+#[derive(Drop)]
+pub struct StreamChunkIter<'a, 'r, A, R> {
+    walk: Counted<'a, A>,
+    source: &'r mut R,
+    progress: Progress,
+}
+
+/// The state in which each search of a stream begins, where the automaton can search one.
+fn check<A: Automaton>(automaton: &A) -> Result<StateID, MatchError>
+    ensures start { IfOk result (λ sid. A.start automaton.now No ≡ Ok sid) }
+    ensures standard { IfOk result (λ sid. A.kind automaton.now ≡ Standard) }
+    ensures no_empty { IfOk result (λ sid. 1 ≤ shortest (A.lengths automaton.now)) }
+    ensures valid { IfOk result (A.valid automaton.now) }
+    ensures shallow { IfOk result (λ sid. A.depth automaton.now sid ≡ 0) }
+    ensures begins { IfOk result (λ sid. (p : Patterns) → A.is_of automaton.now p →
+        A.held automaton.now p No [] sid) }
+    ensures unsupported { A.kind automaton.now ≢ Standard
+        → result ≡ Err (UnsupportedStream (A.kind automaton.now)) }
+    ensures empty { A.kind automaton.now ≡ Standard
+        → shortest (A.lengths automaton.now) ≡ 0 → result ≡ Err UnsupportedEmpty }
+    ensures refused { A.kind automaton.now ≡ Standard → 1 ≤ shortest (A.lengths automaton.now)
+        → result ≡ A.start automaton.now No }
+{
+    let kind = automaton.match_kind();
+    if kind != MatchKind::Standard {
+        return Err(MatchError::unsupported_stream(kind));
+    }
+    if automaton.min_pattern_len() == 0 {
+        return Err(MatchError::unsupported_empty());
+    }
+    automaton.start_state(Anchored::No)
+}
+
+/// Walks on over what was read and not walked yet, up to the first match, where none is in hand.
+fn search<W: Walk>(walk: &mut W, progress: &mut Progress)
+    requires after { (p : Patterns) × (given : List ℕ) × W.Of.is_of (W.of walk.old) p
+        × IsAfter p (W.Of.lengths (W.of walk.old)) (W.Of.valid (W.of walk.old))
+        (W.Of.held (W.of walk.old) p) (W.Of.depth (W.of walk.old))
+        (W.lookups walk.old) progress.old given }
+    requires open { progress.old.refused ≡ false }
+    ensures after { (p : Patterns) (given : List ℕ) → W.Of.is_of (W.of walk.old) p
+        → IsAfter p (W.Of.lengths (W.of walk.old)) (W.Of.valid (W.of walk.old))
+        (W.Of.held (W.of walk.old) p) (W.Of.depth (W.of walk.old))
+        (W.lookups walk.old) progress.old given
+        → IsAfter p (W.Of.lengths (W.of walk.old)) (W.Of.valid (W.of walk.old))
+        (W.Of.held (W.of walk.old) p) (W.Of.depth (W.of walk.old))
+        (W.lookups walk.new) progress.new given }
+    ensures all { progress.new.in_hand ≡ None → progress.new.walked ≡ progress.new.read }
+    ensures same { W.of walk.new ≡ W.of walk.old }
+    ensures others { progress.new ≡ record progress.old {
+      walked = progress.new.walked;
+      position = progress.new.position;
+      sid = progress.new.sid;
+      in_hand = progress.new.in_hand;
+    } }
+{
+    if progress.in_hand.is_some() {
+        return;
+    }
+    let at = (progress.walked - progress.from) as usize;
+    let bytes = progress.bytes(progress.walked, progress.read);
+    let walked = walk_on(walk, bytes, at, progress.sid);
+    progress.walked += walked.count as u64;
+    progress.position += walked.count as u128;
+    progress.sid = walked.sid;
+    progress.in_hand = walked.found;
+}
+
+/// The place up to which bytes are outside of every match, where none is in hand and all that was read was walked.
+///
+/// A match that ends later starts behind what the walk read in a start state; else it is no longer than the longest
+/// pattern.
+fn outside<W: Walk>(walk: &W, progress: &Progress) -> u64
+    requires valid { W.Of.valid (W.of walk.now) progress.now.sid }
+    ensures ended { progress.now.ended ≡ true → result ≡ progress.now.read }
+    ensures open { progress.now.ended ≡ false →
+        MatchBool (W.Of.starts (W.of walk.now) progress.now.sid)
+        (result ≡ progress.now.walked)
+        (result ≡ progress.now.walked - progress.now.buffer.least) }
+{
+    if progress.ended {
+        return progress.read;
+    }
+    if walk.is_start(progress.sid) {
+        return progress.walked;
+    }
+    progress
+        .walked
+        .saturating_sub(progress.buffer.min_buffer_len() as u64)
+}
+
+/// The next chunk of what was walked: the match in hand, and before it the bytes that are outside of every match.
+fn piece<W: Walk>(walk: &W, progress: &mut Progress) -> Option<StreamPiece>
+    requires after { (p : Patterns) × (given : List ℕ) × W.Of.is_of (W.of walk.now) p
+        × IsAfter p (W.Of.lengths (W.of walk.now)) (W.Of.valid (W.of walk.now))
+        (W.Of.held (W.of walk.now) p) (W.Of.depth (W.of walk.now))
+        (W.lookups walk.now) progress.old given }
+    requires walked { progress.old.in_hand ≡ None → progress.old.walked ≡ progress.old.read }
+    requires open { progress.old.refused ≡ false }
+    ensures after { (p : Patterns) (given : List ℕ) → W.Of.is_of (W.of walk.now) p
+        → IsAfter p (W.Of.lengths (W.of walk.now)) (W.Of.valid (W.of walk.now))
+        (W.Of.held (W.of walk.now) p) (W.Of.depth (W.of walk.now))
+        (W.lookups walk.now) progress.old given
+        → IsAfter p (W.Of.lengths (W.of walk.now)) (W.Of.valid (W.of walk.now))
+        (W.Of.held (W.of walk.now) p) (W.Of.depth (W.of walk.now))
+        (W.lookups walk.now) progress.new given }
+    ensures tells { (p : Patterns) (given : List ℕ) → W.Of.is_of (W.of walk.now) p
+        → IsAfter p (W.Of.lengths (W.of walk.now)) (W.Of.valid (W.of walk.now))
+        (W.Of.held (W.of walk.now) p) (W.Of.depth (W.of walk.now))
+        (W.lookups walk.now) progress.old given
+        → IfSome result (TellsChunk p progress.old progress.new given) }
+    ensures none { result ≡ None → (progress.new ≡ progress.old) × (progress.old.in_hand ≡ None) }
+    ensures near { result ≡ None
+        → progress.new.walked ≤ progress.new.reported + progress.new.buffer.least }
+    ensures end { result ≡ None → progress.new.ended ≡ true
+        → progress.new.read ≤ progress.new.reported }
+    ensures ended { progress.new.ended ≡ progress.old.ended }
+    ensures refused { progress.new.refused ≡ progress.old.refused }
+    ensures limit { progress.new.limit ≡ progress.old.limit }
+{
+    let Some(m) = progress.in_hand else {
+        let end = outside(walk, progress);
+        return progress.report(end);
+    };
+    let start = progress.from + m.start() as u64;
+    match progress.report(start) {
+        Some(piece) => Some(piece),
+        None => Some(StreamPiece::Match {
+            mat: progress.give(m),
+        }),
+    }
+}
+
+/// The next chunk of what was read, by walking on where no match is in hand; none where more has to be read first.
+fn next_piece<W: Walk>(walk: &mut W, progress: &mut Progress) -> Option<StreamPiece>
+    requires after { (p : Patterns) × (given : List ℕ) × W.Of.is_of (W.of walk.old) p
+        × IsAfter p (W.Of.lengths (W.of walk.old)) (W.Of.valid (W.of walk.old))
+        (W.Of.held (W.of walk.old) p) (W.Of.depth (W.of walk.old))
+        (W.lookups walk.old) progress.old given }
+    requires open { progress.old.refused ≡ false }
+    ensures after { (p : Patterns) (given : List ℕ) → W.Of.is_of (W.of walk.old) p
+        → IsAfter p (W.Of.lengths (W.of walk.old)) (W.Of.valid (W.of walk.old))
+        (W.Of.held (W.of walk.old) p) (W.Of.depth (W.of walk.old))
+        (W.lookups walk.old) progress.old given
+        → IsAfter p (W.Of.lengths (W.of walk.old)) (W.Of.valid (W.of walk.old))
+        (W.Of.held (W.of walk.old) p) (W.Of.depth (W.of walk.old))
+        (W.lookups walk.new) progress.new given }
+    ensures tells { (p : Patterns) (given : List ℕ) → W.Of.is_of (W.of walk.old) p
+        → IsAfter p (W.Of.lengths (W.of walk.old)) (W.Of.valid (W.of walk.old))
+        (W.Of.held (W.of walk.old) p) (W.Of.depth (W.of walk.old))
+        (W.lookups walk.old) progress.old given
+        → IfSome result (TellsChunk p progress.old progress.new given) }
+    ensures none { result ≡ None → progress.new ≡ record progress.old {
+      walked = progress.new.walked;
+      position = progress.new.position;
+      sid = progress.new.sid;
+      in_hand = progress.new.in_hand;
+    } }
+    ensures walked { result ≡ None → (progress.new.in_hand ≡ None)
+        × (progress.new.walked ≡ progress.new.read) }
+    ensures near { result ≡ None
+        → progress.new.read ≤ progress.new.reported + progress.new.buffer.least }
+    ensures end { result ≡ None → progress.new.ended ≡ true
+        → progress.new.read ≤ progress.new.reported }
+    ensures limit { progress.new.limit ≡ progress.old.limit }
+    ensures ended { progress.new.ended ≡ progress.old.ended }
+    ensures refused { progress.new.refused ≡ progress.old.refused }
+    ensures same { W.of walk.new ≡ W.of walk.old }
+{
+    search(walk, progress);
+    piece(walk, progress)
+}
+
+impl<'a, 'r, A: Automaton, R: Source> StreamChunkIter<'a, 'r, A, R> {
+    /// The chunks of what the source gives, of which it may give 2^63 - 1 bytes.
+    ///
+    /// It takes all its memory here.
+    ///
+    /// # Errors
+    ///
+    /// As those of `with_limit`.
+    pub fn new(
+        alloc: Global,
+        automaton: &'a A,
+        source: &'r mut R,
+    ) -> Result<StreamChunkIter<'a, 'r, A, R>, StreamError>
+        requires of { (p : Patterns) × A.is_of automaton.now p }
+        ensures made { IfOk result (λ it. it.progress.limit ≡ greatest_position) }
+        ensures of { IfOk result (λ it. (it.source ≡ source.entry)
+            × (⟦<Counted<'a, A> as Walk>⟧.of it.walk ≡ automaton.entry.now)) }
+        ensures after { (p : Patterns) → A.is_of automaton.entry.now p → IfOk result (λ it.
+            IsAfter p (A.lengths automaton.entry.now) (A.valid automaton.entry.now)
+            (A.held automaton.entry.now p) (A.depth automaton.entry.now)
+            (⟦<Counted<'a, A> as Walk>⟧.lookups it.walk) it.progress []) }
+        ensures unsupported { A.kind automaton.entry.now ≢ Standard
+            → result ≡ Err (StreamError.Match (UnsupportedStream (A.kind automaton.entry.now))) }
+        ensures empty { A.kind automaton.entry.now ≡ Standard
+            → shortest (A.lengths automaton.entry.now) ≡ 0
+            → result ≡ Err (StreamError.Match UnsupportedEmpty) }
+        ensures refused { (reason : MatchErrorKind) → A.kind automaton.entry.now ≡ Standard
+            → 1 ≤ shortest (A.lengths automaton.entry.now)
+            → A.start automaton.entry.now No ≡ Err reason
+            → result ≡ Err (StreamError.Match reason) }
+        ensures memory { (sid : ℕ) → A.kind automaton.entry.now ≡ Standard
+            → 1 ≤ shortest (A.lengths automaton.entry.now)
+            → A.start automaton.entry.now No ≡ Ok sid
+            → IfErr result (λ error. error ≡ StreamError.Memory) }
+    {
+        StreamChunkIter::with_limit(alloc, automaton, source, MAX_POSITION)
+    }
+
+    /// The chunks of what the source gives, of which it may give `limit` bytes; a greater limit than 2^63 - 1 counts as
+    /// that.
+    ///
+    /// It takes all its memory here: a buffer of 8 times as many bytes as the longest pattern has, and of 65536 at least.
+    ///
+    /// # Errors
+    ///
+    /// In this order, and each exactly where it is so: a leftmost kind is refused with `UnsupportedStream`, an empty
+    /// pattern with `UnsupportedEmpty`, and what `start_state` refuses; then `Memory`, where the buffer's growth is
+    /// refused. Nothing is read here.
+    pub fn with_limit(
+        alloc: Global,
+        automaton: &'a A,
+        source: &'r mut R,
+        limit: u64,
+    ) -> Result<StreamChunkIter<'a, 'r, A, R>, StreamError>
+        requires of { (p : Patterns) × A.is_of automaton.now p }
+        ensures made { IfOk result (λ it. it.progress.limit ≡ min limit greatest_position) }
+        ensures of { IfOk result (λ it. (it.source ≡ source.entry)
+            × (⟦<Counted<'a, A> as Walk>⟧.of it.walk ≡ automaton.entry.now)) }
+        ensures after { (p : Patterns) → A.is_of automaton.entry.now p → IfOk result (λ it.
+            IsAfter p (A.lengths automaton.entry.now) (A.valid automaton.entry.now)
+            (A.held automaton.entry.now p) (A.depth automaton.entry.now)
+            (⟦<Counted<'a, A> as Walk>⟧.lookups it.walk) it.progress []) }
+        ensures unsupported { A.kind automaton.entry.now ≢ Standard
+            → result ≡ Err (StreamError.Match (UnsupportedStream (A.kind automaton.entry.now))) }
+        ensures empty { A.kind automaton.entry.now ≡ Standard
+            → shortest (A.lengths automaton.entry.now) ≡ 0
+            → result ≡ Err (StreamError.Match UnsupportedEmpty) }
+        ensures refused { (reason : MatchErrorKind) → A.kind automaton.entry.now ≡ Standard
+            → 1 ≤ shortest (A.lengths automaton.entry.now)
+            → A.start automaton.entry.now No ≡ Err reason
+            → result ≡ Err (StreamError.Match reason) }
+        ensures memory { (sid : ℕ) → A.kind automaton.entry.now ≡ Standard
+            → 1 ≤ shortest (A.lengths automaton.entry.now)
+            → A.start automaton.entry.now No ≡ Ok sid
+            → IfErr result (λ error. error ≡ StreamError.Memory) }
+    {
+        let start = check(automaton)?;
+        let buffer = Buffer::new(alloc, automaton.max_pattern_len())?;
+        Ok(StreamChunkIter {
+            walk: Counted::new(automaton),
+            source,
+            progress: Progress::new(buffer, start, limit.min(MAX_POSITION)),
+        })
+    }
+
+    /// Goes on to the next chunk of the stream, whose bytes `bytes` then lends: a match, or some bytes outside of every
+    /// match. None where the stream has ended, and after the position limit was answered.
+    ///
+    /// # Errors
+    ///
+    /// `Read` exactly where a read fails in this call: nothing is told then and nothing is lost, and the next call goes
+    /// on. `PositionLimit` once, where as many bytes were given as may be and more are wanted.
+    pub fn advance(&mut self) -> Option<Result<StreamPiece, StreamError>>
+        requires after { (p : Patterns) × (given : List ℕ)
+            × A.is_of (⟦<Counted<'a, A> as Walk>⟧.of self.old.walk) p
+            × IsAfter p (A.lengths (⟦<Counted<'a, A> as Walk>⟧.of self.old.walk))
+            (A.valid (⟦<Counted<'a, A> as Walk>⟧.of self.old.walk))
+            (A.held (⟦<Counted<'a, A> as Walk>⟧.of self.old.walk) p)
+            (A.depth (⟦<Counted<'a, A> as Walk>⟧.of self.old.walk))
+            (⟦<Counted<'a, A> as Walk>⟧.lookups self.old.walk) self.old.progress given }
+        ensures advances { Advances (A.is_of (⟦<Counted<'a, A> as Walk>⟧.of self.old.walk))
+            (λ p. IsAfter p (A.lengths (⟦<Counted<'a, A> as Walk>⟧.of self.old.walk))
+            (A.valid (⟦<Counted<'a, A> as Walk>⟧.of self.old.walk))
+            (A.held (⟦<Counted<'a, A> as Walk>⟧.of self.old.walk) p)
+            (A.depth (⟦<Counted<'a, A> as Walk>⟧.of self.old.walk)))
+            (⟦<Counted<'a, A> as Walk>⟧.lookups self.old.walk)
+            (⟦<Counted<'a, A> as Walk>⟧.lookups self.new.walk)
+            self.old.progress self.new.progress
+            (R.remaining self.old.source.now) (R.remaining self.new.source.now) result }
+        ensures same { ⟦<Counted<'a, A> as Walk>⟧.of self.new.walk
+            ≡ ⟦<Counted<'a, A> as Walk>⟧.of self.old.walk }
+        ensures limit { self.new.progress.limit ≡ self.old.progress.limit }
+        ensures ended { R.empty_reads self.new.source.now
+            ≡ counted (ends_between self.old.progress.ended self.new.progress.ended)
+            (R.empty_reads self.old.source.now) }
+        ensures stays_ended { self.old.progress.ended ≡ true → self.new.progress.ended ≡ true }
+
+        // After the end, and after the limit was answered, there is none for good.
+        ensures after_end { self.old.progress.ended ≡ true
+            → self.old.progress.read ≤ self.old.progress.reported → result ≡ None }
+        ensures after_limit { self.old.progress.refused ≡ true → result ≡ None }
+        ensures refused { self.new.progress.refused
+            ≡ (self.old.progress.refused || tells_limit result) }
+        ensures read_failed { R.failures self.new.source.now
+            ≡ counted (tells_read_fault result) (R.failures self.old.source.now) }
+    {
+        self.progress.told = self.progress.reported;
+        if self.progress.refused {
+            return None;
+        }
+        loop {
+            if let Some(piece) = next_piece(&mut self.walk, &mut self.progress) {
+                return Some(Ok(piece));
+            }
+            if self.progress.ended {
+                return None;
+            }
+            if let Err(error) = self.progress.refill(self.source) {
+                return Some(Err(error));
+            }
+        }
+    }
+
+    /// The bytes of the chunk that the last call of `advance` told; none after a call that told none.
+    pub fn bytes(&self) -> &[u8]
+        requires after { (p : Patterns) × (given : List ℕ)
+            × A.is_of (⟦<Counted<'a, A> as Walk>⟧.of self.now.walk) p
+            × IsAfter p (A.lengths (⟦<Counted<'a, A> as Walk>⟧.of self.now.walk))
+            (A.valid (⟦<Counted<'a, A> as Walk>⟧.of self.now.walk))
+            (A.held (⟦<Counted<'a, A> as Walk>⟧.of self.now.walk) p)
+            (A.depth (⟦<Counted<'a, A> as Walk>⟧.of self.now.walk))
+            (⟦<Counted<'a, A> as Walk>⟧.lookups self.now.walk) self.now.progress given }
+        ensures bytes { (p : Patterns) (given : List ℕ)
+            → A.is_of (⟦<Counted<'a, A> as Walk>⟧.of self.now.walk) p
+            → IsAfter p (A.lengths (⟦<Counted<'a, A> as Walk>⟧.of self.now.walk))
+            (A.valid (⟦<Counted<'a, A> as Walk>⟧.of self.now.walk))
+            (A.held (⟦<Counted<'a, A> as Walk>⟧.of self.now.walk) p)
+            (A.depth (⟦<Counted<'a, A> as Walk>⟧.of self.now.walk))
+            (⟦<Counted<'a, A> as Walk>⟧.lookups self.now.walk) self.now.progress given
+            → result.now ≡ slice_range given self.now.progress.told self.now.progress.reported }
+    {
+        self.progress
+            .bytes(self.progress.told, self.progress.reported)
+    }
+
+    /// How many look-ups of a transition the walk made: at most two for each byte that it walked.
+    pub fn lookups(&self) -> u128
+        ensures lookups { result ≡ ⟦<Counted<'a, A> as Walk>⟧.lookups self.now.walk }
+        ensures paid { (p : Patterns) (given : List ℕ)
+            → IsAfter p (A.lengths (⟦<Counted<'a, A> as Walk>⟧.of self.now.walk))
+            (A.valid (⟦<Counted<'a, A> as Walk>⟧.of self.now.walk))
+            (A.held (⟦<Counted<'a, A> as Walk>⟧.of self.now.walk) p)
+            (A.depth (⟦<Counted<'a, A> as Walk>⟧.of self.now.walk))
+            (⟦<Counted<'a, A> as Walk>⟧.lookups self.now.walk) self.now.progress given
+            → result ≤ 2 * self.now.progress.position }
+    {
+        self.walk.lookups()
+    }
+
+    /// How many bytes the automaton walked: each byte that was given once at most.
+    pub fn position(&self) -> u128
+        ensures position { result ≡ self.now.progress.position }
+        ensures once { (p : Patterns) (given : List ℕ)
+            → IsAfter p (A.lengths (⟦<Counted<'a, A> as Walk>⟧.of self.now.walk))
+            (A.valid (⟦<Counted<'a, A> as Walk>⟧.of self.now.walk))
+            (A.held (⟦<Counted<'a, A> as Walk>⟧.of self.now.walk) p)
+            (A.depth (⟦<Counted<'a, A> as Walk>⟧.of self.now.walk))
+            (⟦<Counted<'a, A> as Walk>⟧.lookups self.now.walk) self.now.progress given
+            → result ≤ length given }
+    {
+        self.progress.position
+    }
+}
