@@ -389,6 +389,7 @@ fn tells_a_writer_that_fails(rt: HostRuntime) -> Result<(), Fail> {
                 Then::TakesNone | Then::Fails(_) => first,
             };
             assert_eq!(rt; found, 3, "{case} after {first}");
+            assert!(rt; held <= lines.len());
             assert_eq!(rt;
                 output.held.as_slice(),
                 &lines[..held],
