@@ -13,9 +13,9 @@ use std::alloc::{AllocError, Global};
 
 /// Decides which prefilter there is for some patterns, which are added one after another.
 ///
-/// Where a pattern is empty there is none, and for no patterns neither. One pattern alone is searched for as a whole,
-/// unless both cases of letters are the same. Else, where the patterns begin with one to three different bytes, or with
-/// so many in both cases, these bytes are searched for. Else there is none.
+/// There is none where a pattern is empty, or where there is no pattern. One pattern alone is searched for as a whole, unless
+/// both cases of a letter are the same. Else the bytes with which the patterns begin are searched for, if they are three at
+/// most: where both cases are the same, both count. Else there is none.
 #[derive(Drop)]
 pub struct PrefilterBuilder {
     alloc: Global,
