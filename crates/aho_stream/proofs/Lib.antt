@@ -6,3 +6,5 @@ mod Walks
 mod Afters
 mod Reported
 mod Advanced
+mod StreamFinds
+mod Replacings

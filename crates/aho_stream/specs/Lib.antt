@@ -2,3 +2,4 @@ pub mod Walking
 pub mod After
 pub mod Refills
 pub mod Chunks
+pub mod Replacing

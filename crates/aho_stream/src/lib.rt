@@ -3,4 +3,5 @@
 
 pub mod chunks;
 pub mod progress;
+pub mod replace;
 pub mod walk;

@@ -1,11 +1,10 @@
 -- What each way out tells, and each turn of the loop.
-use Rattle.std.proofs.Common.{◌≡◌, ◌+◌, ◌-◌, ◌≤◌, ◌++◌, ◌∙◌, ◌⊎◌, inl, inr, Bool, true, false, ap, refl, sym, subst, arith, append-nil, append_assoc, List, ℕ, [], length, cond}
-use Rattle.std.specs.Prelude.{Option, Some, None, Result, Ok, Err, IfSome}
+use Rattle.std.proofs.Common.{◌≡◌, ◌∙◌, inl, inr, Bool, false, ap, refl, sym, subst, arith, List, ℕ}
+use Rattle.std.specs.Prelude.{Option, Some, None, Ok, Err, IfSome}
 use Rattle.aho_base.specs.Patterns.{Patterns}
 use Rattle.aho_devices.specs.Counts.{counted}
 use Rattle.aho_stream.specs.After.{IsAfter}
-use Rattle.aho_stream.specs.Chunks.{Advances, Tells, TellsChunk, TellsEnd, TellsFault, TellsNone, ends_between}
-use Rattle.aho_stream.specs.Refills.{is_limit}
+use Rattle.aho_stream.specs.Chunks.{TellsChunk, TellsNone, ends_between}
 use Rattle.aho_stream.specs.declared.progress.Progress.{Progress}
 use Rattle.aho_stream.specs.declared.progress.StreamPiece.{StreamPiece}
 use Rattle.aho_stream.proofs.Advanced.{IsUntold, Read, advances, advances_from, counted_once, counted_same, end_told, error_told, not_before, read_more, read_none, read_same}
@@ -35,6 +34,7 @@ loop-piece-init g c =
     let s = c.args.self.now.progress in
     let going : s.refused ≡ false = c.if-self.false in
     record {
+      source = refl;
       same = refl;
       untold = record { told = refl; reported = refl; from = refl; limit = refl; unrefused = going; going = going };
       read = read_none (g.A.Automaton.is_of automaton) (AfterOf g automaton) c.args.self.now.walk.work c.args.self.now.walk.work s _ _ (λ p given of a. after_told p _ _ _ _ _ s given a);
@@ -143,6 +143,7 @@ loop-piece-preserved g c =
     let t = c.next_piece.new.progress in
     let going : s.ended ≡ false = not_before s.ended (λ e. sym c.if-self-2.false ∙ c.next_piece.ensures.ended ∙ inv.stays e) in
     record {
+      source = inv.source;
       same = c.next_piece.ensures.same ∙ inv.same;
       untold = record { told = still.told; reported = still.reported; from = still.from; limit = ap (λ (t : Progress). t.limit) c.refill.ensures.refills.others ∙ u.limit; unrefused = u.unrefused; going = c.in_default-refill.ensures.refused };
       read = refilled_read g d;
