@@ -3,7 +3,7 @@ use Rattle.std.proofs.Common.{◌≡◌, ℕ, ◌+◌, ◌-◌, ◌<◌, ◌≤�
 use Rattle.std.specs.Prelude.{Option, Some, None, IfSome, MatchBool}
 use Rattle.std.proofs.lemmas.Bool.{cases_lt, cases_Bool}
 use Rattle.aho_base.specs.Answer.{IsAnswer}
-use Rattle.aho_base.specs.Laws.{BestAfter, Reads, longest}
+use Rattle.aho_base.specs.Laws.{BestAfter, Reads, longest, shortest}
 use Rattle.aho_base.specs.Occurrence.{Occurrence}
 use Rattle.aho_base.specs.Patterns.{Patterns}
 use Rattle.aho_base.specs.declared.search.Anchored.{Anchored}
@@ -16,7 +16,8 @@ use Rattle.aho_stream.specs.declared.progress.Progress.{Progress}
 use Rattle.aho_stream.specs.declared.progress.StreamPiece.{StreamPiece}
 use Rattle.aho_stream.specs.declared.progress.StreamPiece.TheVariants.{NonMatch, Match}
 use Rattle.aho_stream.proofs.Afters.{after_given, after_reported}
-use Rattle.aho_stream.proofs.NextMatches.{answers_together, ends_later, found_first, nothing_follows, starts_behind, starts_near}
+use Rattle.aho_stream.proofs.PatternLengths.{occurs_some}
+use Rattle.aho_stream.proofs.NextMatches.{MayFollow-nothing, answers_together, ends_later, found_first, nothing_follows, starts_behind, starts_near}
 
 module _ (p : Patterns) (lengths : List ℕ) (valid : ℕ → Type 0) (held : Anchored → List ℕ → ℕ → Type 0) (depth : ℕ → ℕ) where
   abbrev After : ℕ → Progress → List ℕ → Type 0
@@ -140,3 +141,9 @@ told_from p s t s' given (Match m) reported from tells = record {
 pub told_from_option : (p : Patterns) (s t s' : Progress) (given : List ℕ) (answer : Option StreamPiece) → t.reported ≡ s.reported → t.from ≡ s.from → IfSome answer (TellsChunk p t s' given) → IfSome answer (TellsChunk p s s' given)
 told_from_option p s t s' given None reported from tells = tt
 told_from_option p s t s' given (Some piece) reported from tells = told_from p s t s' given piece reported from tells
+
+-- a chunk has a byte, so none is told where all was reported
+pub no_chunk_left : (p : Patterns) (lengths : List ℕ) → lengths ≡ map length p.words → 1 ≤ shortest lengths → (s s' : Progress) (given : List ℕ) (piece : StreamPiece) → TellsChunk p s s' given piece → length given ≤ s.reported → ⊥
+no_chunk_left p lengths are no_empty s s' given NonMatch tells all = omega (arith, tells.some, tells.read, all)
+no_chunk_left p lengths are no_empty s s' given (Match m) tells all =
+    omega (arith, occurs_some p lengths are m (tells.answer [] (MayFollow-nothing s'.ended)).0 no_empty, tells.starts, tells.read, all)

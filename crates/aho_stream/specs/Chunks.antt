@@ -53,6 +53,11 @@ pub record TellsLimit (s s' : Progress) (given : List ℕ) : Type 0 where
   pub first : s.refused ≡ false
   pub refused : s'.refused ≡ true
 
+-- the match that is told
+abbrev pub match_told : StreamPiece → Option Occurrence
+match_told NonMatch = None
+match_told (Match m) = Some m
+
 -- what a chunk tells
 abbrev pub TellsChunk : Patterns → Progress → Progress → List ℕ → StreamPiece → Type 0
 TellsChunk p s s' given NonMatch = TellsPlain p s s' given
@@ -83,6 +88,17 @@ tells_read_fault (Some (Err (Write fault))) = false
 tells_read_fault (Some (Err WriteZero)) = false
 tells_read_fault (Some (Err Memory)) = false
 tells_read_fault (Some (Err PositionLimit)) = false
+
+-- whether the answer is that the position limit was met
+abbrev pub tells_limit : Option (Result StreamPiece StreamError) → Bool
+tells_limit None = false
+tells_limit (Some (Ok piece)) = false
+tells_limit (Some (Err (Refused cause))) = false
+tells_limit (Some (Err (Read fault))) = false
+tells_limit (Some (Err (Write fault))) = false
+tells_limit (Some (Err WriteZero)) = false
+tells_limit (Some (Err Memory)) = false
+tells_limit (Some (Err PositionLimit)) = true
 
 -- whether the end of the stream was seen in between
 abbrev pub ends_between : Bool → Bool → Bool

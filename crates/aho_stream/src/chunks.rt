@@ -1,6 +1,6 @@
 //! The chunks of a stream, one after another: matches, and the bytes between them.
 
-ghost use Rattle.std.specs.Prelude.{◌≡◌, ◌≢◌, ◌+◌, ◌*◌, ◌<◌, ◌≤◌, ◌^◌, min, ℕ, List, [], Option, Some, None, Ok, Err, IfOk, IfErr, IfSome, length, slice_range, true, false, MatchBool, ◌-◌};
+ghost use Rattle.std.specs.Prelude.{◌≡◌, ◌≢◌, ◌+◌, ◌*◌, ◌<◌, ◌≤◌, ◌^◌, min, ℕ, List, [], Option, Some, None, Ok, Err, IfOk, IfErr, IfSome, length, slice_range, true, false, MatchBool, ◌-◌, ◌||◌};
 ghost use Rattle.aho_base.specs.Laws.{shortest};
 ghost use Rattle.aho_base.specs.Patterns.{Patterns};
 ghost use Rattle.aho_base.specs.declared.error.MatchErrorKind.{MatchErrorKind};
@@ -9,7 +9,7 @@ ghost use Rattle.aho_base.specs.declared.search.Anchored.TheVariants.{No};
 ghost use Rattle.aho_base.specs.declared.search.MatchKind.TheVariants.{Standard};
 ghost use Rattle.aho_devices.specs.Counts.{counted};
 ghost use Rattle.aho_stream.specs.After.{IsAfter, greatest_position};
-ghost use Rattle.aho_stream.specs.Chunks.{Advances, TellsChunk, ends_between, tells_read_fault};
+ghost use Rattle.aho_stream.specs.Chunks.{Advances, TellsChunk, ends_between, tells_limit, tells_read_fault};
 ghost use Rattle.aho_stream.specs.Replacing.{IsMakingRefusal};
 
 use crate::progress::{Progress, StreamPiece};
@@ -179,8 +179,8 @@ fn piece<W: Walk>(walk: &W, progress: &mut Progress) -> Option<StreamPiece>
     ensures end { result ≡ None → progress.new.ended ≡ true
         → progress.new.read ≤ progress.new.reported }
     ensures ended { progress.new.ended ≡ progress.old.ended }
-    ensures limit { progress.new.limit ≡ progress.old.limit }
     ensures refused { progress.new.refused ≡ progress.old.refused }
+    ensures limit { progress.new.limit ≡ progress.old.limit }
 {
     let Some(m) = progress.in_hand else {
         let end = outside(walk, progress);
@@ -374,10 +374,15 @@ impl<'a, 'r, A: Automaton, R: Source> StreamChunkIter<'a, 'r, A, R> {
         ensures ended { R.empty_reads self.new.source.now
             ≡ counted (ends_between self.old.progress.ended self.new.progress.ended)
             (R.empty_reads self.old.source.now) }
-        ensures still_below { IfSome result (λ answer. IfOk answer (λ _.
-            self.new.progress.refused ≡ self.old.progress.refused)) }
         ensures same_source { self.new.source.ghost_name ≡ self.old.source.ghost_name }
         ensures stays_ended { self.old.progress.ended ≡ true → self.new.progress.ended ≡ true }
+
+        // After the end, and after the limit was answered, there is none for good.
+        ensures after_end { self.old.progress.ended ≡ true
+            → self.old.progress.read ≤ self.old.progress.reported → result ≡ None }
+        ensures after_limit { self.old.progress.refused ≡ true → result ≡ None }
+        ensures refused { self.new.progress.refused
+            ≡ (self.old.progress.refused || tells_limit result) }
         ensures read_failed { R.failures self.new.source.now
             ≡ counted (tells_read_fault result) (R.failures self.old.source.now) }
     {

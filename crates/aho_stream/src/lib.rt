@@ -2,6 +2,7 @@
 #![tactic(auto)]
 
 pub mod chunks;
+pub mod finds;
 pub mod progress;
 pub mod replace;
 pub mod walk;

@@ -5,6 +5,7 @@ ghost use Rattle.aho_devices.specs.Counts.{counted};
 ghost use Rattle.aho_devices.specs.Buffer.{saw_end};
 ghost use Rattle.aho_devices.specs.Refusals.{is_read_fault, IsFillRefusal};
 ghost use Rattle.aho_stream.specs.After.{EndsIn};
+ghost use Rattle.aho_stream.specs.Chunks.{match_told};
 ghost use Rattle.aho_stream.specs.Refills.{Refills, is_limit};
 ghost use Rattle.aho_stream.specs.declared.progress.StreamPiece.TheVariants.{NonMatch};
 
@@ -23,6 +24,18 @@ pub enum StreamPiece {
         /// The match. Its places count from the first byte of the stream.
         mat: Match,
     },
+}
+
+impl StreamPiece {
+    /// The match that it tells.
+    pub fn found(&self) -> Option<Match>
+        ensures found { result ≡ match_told self.now }
+    {
+        match self {
+            StreamPiece::NonMatch => None,
+            StreamPiece::Match { mat } => Some(*mat),
+        }
+    }
 }
 
 /// How far a search of a stream has come. Places count from the first byte that the source gave.

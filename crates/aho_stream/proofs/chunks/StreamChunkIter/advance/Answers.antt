@@ -1,5 +1,5 @@
 -- What each way out tells, and each turn of the loop.
-use Rattle.std.proofs.Common.{◌≡◌, ◌∙◌, inl, inr, Bool, false, ap, refl, sym, subst, arith, List, ℕ}
+use Rattle.std.proofs.Common.{◌≡◌, ◌++◌, ◌∙◌, inl, inr, Bool, false, ap, refl, sym, subst, arith, append-nil, List, ℕ, length}
 use Rattle.std.specs.Prelude.{Option, Some, None, Ok, Err, IfSome}
 use Rattle.aho_base.specs.Patterns.{Patterns}
 use Rattle.aho_devices.specs.Counts.{counted}
@@ -9,7 +9,7 @@ use Rattle.aho_stream.specs.declared.progress.Progress.{Progress}
 use Rattle.aho_stream.specs.declared.progress.StreamPiece.{StreamPiece}
 use Rattle.aho_stream.proofs.Advanced.{IsUntold, Read, advances, advances_from, counted_once, counted_same, end_told, error_told, not_before, read_more, read_none, read_same}
 use Rattle.aho_stream.proofs.Afters.{after_refilled, after_told}
-use Rattle.aho_stream.proofs.Reported.{told_from}
+use Rattle.aho_stream.proofs.Reported.{no_chunk_left, told_from}
 use Rattle.aho_stream.proofs.chunks.StreamChunkIter.advance.Given.{Over}
 use Rattle.aho_stream.proofs.chunks.StreamChunkIter.advance.Goals.{After-next_piece, After-refill}
 use Rattle.aho_stream.proofs.chunks.StreamChunkIter.advance.Goals as goal
@@ -59,6 +59,19 @@ returns-in-Some-clause-advances g c =
     (λ p given of a. (rw inv.same at c.next_piece.ensures.after) p given of a)
     (λ p given of a. told_from p s c.loop-piece.self.progress c.next_piece.new.progress given c.in-Some.piece inv.untold.reported inv.untold.from
     (subst (λ (r : Option StreamPiece). IfSome r (TellsChunk p c.loop-piece.self.progress c.next_piece.new.progress given)) c.in-Some.is ((rw inv.same at c.next_piece.ensures.tells) p given of a)))
+
+-- all was reported before the end, so no chunk is left
+pub returns-in-Some-clause-after_end : goal.returns-in-Some-clause-after_end
+returns-in-Some-clause-after_end g c ended all =
+    let s = c.args.self.now.progress in
+    let inv = c.loop-piece.invariant in
+    let (p, given, of, a) = c.requires.after in
+    let laws = g.met.A.Automaton.laws c.args.self.now.walk.automaton.now p of in
+    let bytes = given ++ inv.read.bytes in
+    let same : bytes ≡ given = ap (λ (xs : List ℕ). given ++ xs) (inv.read.closed ended) ∙ append-nil given in
+    let tells = told_from p s c.loop-piece.self.progress c.next_piece.new.progress bytes c.in-Some.piece inv.untold.reported inv.untold.from
+    (subst (λ (r : Option StreamPiece). IfSome r (TellsChunk p c.loop-piece.self.progress c.next_piece.new.progress bytes)) c.in-Some.is ((rw inv.same at c.next_piece.ensures.tells) p bytes of (inv.read.is_after p given of a))) in
+    absurd (no_chunk_left p (g.A.Automaton.lengths c.args.self.now.walk.automaton.now) laws.lengths_are a.no_empty s c.next_piece.new.progress bytes c.in-Some.piece tells (omega (arith, ap length same, a.count, all)))
 
 -- nothing was told where there is no chunk
 still_untold : (g : Over) (c : goal.After-next_piece g) → c.next_piece.result ≡ None → IsUntold c.args.self.now.progress c.next_piece.new.progress

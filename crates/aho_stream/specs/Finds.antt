@@ -1,0 +1,69 @@
+-- What each call of an iterator over the matches of a stream answers.
+use Rattle.std.specs.Prelude.{◌≡◌, ℕ, ◌+◌, ◌≤◌, ◌⊎◌, Bool, true, false, List, [], ◌++◌, Option, Some, None, Result, Ok, Err, length}
+use Rattle.std.specs.Io.KnownBytes.{Consumes}
+use Rattle.aho_base.specs.declared.error.stream.StreamError.{StreamError}
+use Rattle.aho_base.specs.declared.error.stream.StreamError.TheVariants.{Match as Refused, Read, Write, WriteZero, Memory, PositionLimit}
+use Rattle.aho_base.specs.Answer.{IsAnswer}
+use Rattle.aho_base.specs.Occurrence.{Occurrence}
+use Rattle.aho_base.specs.Patterns.{Patterns}
+use Rattle.aho_stream.specs.After.{MayFollow, search_from}
+use Rattle.aho_stream.specs.declared.progress.Progress.{Progress}
+
+-- the next match, whatever comes
+pub record FindsMatch (p : Patterns) (s s' : Progress) (given : List ℕ) (m : Occurrence) : Type 0 where
+  pub answer : (more : List ℕ) → MayFollow s'.ended more → IsAnswer p (search_from s.from (given ++ more)) (Some m)
+  pub read : m.end ≤ length given
+  pub from : s'.from ≡ m.end
+
+-- nothing occurs any more in what was given; all of it was reported, or the limit was answered before
+pub record FindsEnd (p : Patterns) (s s' : Progress) (given : List ℕ) : Type 0 where
+  pub none : IsAnswer p (search_from s.from given) None
+  pub over : ((s'.ended ≡ true) × (s'.reported ≡ length given)) ⊎ (s.refused ≡ true)
+  pub from : s'.from ≡ s.from
+
+-- nothing was found, and at most as many bytes are unreported as a roll keeps
+pub record FindsFault (s s' : Progress) (given : List ℕ) : Type 0 where
+  pub from : s'.from ≡ s.from
+  pub near : length given ≤ s'.reported + s'.buffer.least
+
+-- the limit is answered once, where as many bytes were given
+pub record FindsLimit (s s' : Progress) (given : List ℕ) : Type 0 where
+  pub fault : FindsFault s s' given
+  pub reached : length given ≡ s.limit
+  pub first : s.refused ≡ false
+  pub refused : s'.refused ≡ true
+
+-- what an error says: a failed read, or that no room was left under the limit
+abbrev pub FindsError : Progress → Progress → List ℕ → StreamError → Type 0
+FindsError s s' given (Refused cause) = ⊥
+FindsError s s' given (Read fault) = FindsFault s s' given
+FindsError s s' given (Write fault) = ⊥
+FindsError s s' given WriteZero = ⊥
+FindsError s s' given Memory = ⊥
+FindsError s s' given PositionLimit = FindsLimit s s' given
+
+-- what an answer says of the bytes given, those of this call among them, by what was kept before and after the call
+abbrev pub Finds : Patterns → Progress → Progress → List ℕ → Option (Result Occurrence StreamError) → Type 0
+Finds p s s' given None = FindsEnd p s s' given
+Finds p s s' given (Some (Ok m)) = FindsMatch p s s' given m
+Finds p s s' given (Some (Err error)) = FindsError s s' given error
+
+-- whether the answer is a failed read
+abbrev pub finds_read_fault : Option (Result Occurrence StreamError) → Bool
+finds_read_fault None = false
+finds_read_fault (Some (Ok m)) = false
+finds_read_fault (Some (Err (Refused cause))) = false
+finds_read_fault (Some (Err (Read fault))) = true
+finds_read_fault (Some (Err (Write fault))) = false
+finds_read_fault (Some (Err WriteZero)) = false
+finds_read_fault (Some (Err Memory)) = false
+finds_read_fault (Some (Err PositionLimit)) = false
+
+-- a call reads these bytes: then the iterator has come so far with them, and its answer says what it should
+pub record FindsNext (IsOf : Patterns → Type 0) (After : Patterns → ℕ → Progress → List ℕ → Type 0) (lookups lookups' : ℕ) (s s' : Progress)
+    (before after : Option (List ℕ)) (found : Option (Result Occurrence StreamError)) : Type 0 where
+  pub bytes : List ℕ
+  pub read : Consumes before after bytes
+  pub closed : s.ended ≡ true → bytes ≡ []
+  pub is_after : (p : Patterns) (given : List ℕ) → IsOf p → After p lookups s given → After p lookups' s' (given ++ bytes)
+  pub finds : (p : Patterns) (given : List ℕ) → IsOf p → After p lookups s given → Finds p s s' (given ++ bytes) found
