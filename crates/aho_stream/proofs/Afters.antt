@@ -1,22 +1,18 @@
 -- How each move of an iterator over a stream keeps what is known of how far it has come.
-use Rattle.std.proofs.Common.{◌≡◌, ℕ, ◌+◌, ◌-◌, ◌*◌, ◌^◌, ◌<◌, ◌≤◌, ◌⊎◌, inl, inr, Bool, true, false, List, [], ◌++◌, max, min, length, take, drop, map, refl, sym, ◌∙◌, ap, subst, arith, append_assoc, append-nil, length-append}
+use Rattle.std.proofs.Common.{◌≡◌, ℕ, ◌+◌, ◌-◌, ◌*◌, ◌^◌, ◌<◌, ◌≤◌, inl, inr, Bool, true, false, List, [], ◌++◌, length, take, map, refl, sym, ◌∙◌, ap, subst, arith, append_assoc, length-append}
 use Rattle.std.specs.Prelude.{Option, Some, None, slice_range}
-use Rattle.std.proofs.lemmas.List.{length-drop, length-take}
 use Rattle.aho_base.specs.Answer.{IsAnswer}
-use Rattle.aho_base.specs.Laws.{BestAfter, Reads, longest, shortest}
+use Rattle.aho_base.specs.Laws.{BestAfter, shortest}
 use Rattle.aho_base.specs.Occurrence.{Occurrence}
 use Rattle.aho_base.specs.Patterns.{Patterns}
 use Rattle.aho_base.specs.declared.search.Anchored.{Anchored}
 use Rattle.aho_base.specs.declared.search.Anchored.TheVariants.{No}
-use Rattle.aho_base.specs.declared.search.MatchKind.{MatchKind}
 use Rattle.aho_base.specs.declared.search.MatchKind.TheVariants.{Standard}
 use Rattle.aho_devices.specs.Buffer.{Buffered}
-use Rattle.aho_search.proofs.Places.{length_part, moved, no_part, part_join, part_of_part}
-use Rattle.aho_stream.specs.After.{EndsIn, IsAfter, IsInHand, MayFollow, greatest_position, kept_for, search_from, word_of}
+use Rattle.aho_search.proofs.Places.{moved, no_part, part_join, part_of_part}
+use Rattle.aho_stream.specs.After.{IsAfter, IsInHand, MayFollow, kept_for, search_from, word_of}
 use Rattle.aho_stream.specs.Refills.{Refills}
-use Rattle.aho_stream.specs.Walking.{WalksOn}
 use Rattle.aho_stream.specs.declared.progress.Progress.{Progress}
-use Rattle.aho_stream.specs.declared.walk.Walked.{Walked}
 use Rattle.aho_stream.proofs.GivenBytes.{part_stays}
 use Rattle.aho_stream.proofs.NextMatches.{MayFollow-nothing, found_first, none_in_nothing}
 

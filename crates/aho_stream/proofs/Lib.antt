@@ -6,5 +6,6 @@ mod Walks
 mod Afters
 mod Reported
 mod Advanced
+mod Found
 mod StreamFinds
 mod Replacings

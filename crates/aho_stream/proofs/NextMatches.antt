@@ -1,5 +1,5 @@
 -- What is known of the next match, whatever bytes follow.
-use Rattle.std.proofs.Common.{◌≡◌, ℕ, ◌+◌, ◌-◌, ◌<◌, ◌≤◌, inl, inr, Bool, true, false, List, [], ◌++◌, length, drop, map, refl, sym, ◌∙◌, ap, subst, arith, length-append, append-nil}
+use Rattle.std.proofs.Common.{◌≡◌, ℕ, ◌+◌, ◌-◌, ◌<◌, ◌≤◌, inl, inr, Bool, true, false, List, [], ◌++◌, length, map, refl, sym, ◌∙◌, ap, subst, arith, length-append}
 use Rattle.std.specs.Prelude.{Option, Some, None, slice_range}
 use Rattle.std.proofs.lemmas.Bool.{cases_lt}
 use Rattle.aho_base.specs.Answer.{IsAnswer}
@@ -14,7 +14,7 @@ use Rattle.aho_base.specs.declared.search.Anchored.TheVariants.{No}
 use Rattle.aho_base.specs.declared.search.MatchKind.{MatchKind}
 use Rattle.aho_base.specs.declared.search.MatchKind.TheVariants.{Standard}
 use Rattle.aho_laws.proofs.Answers.{IsAnswer-unique}
-use Rattle.aho_search.proofs.Places.{best_in_whole, into_part, length_part, moved, moved_option, moved_back, no_part, part_join, widened, narrowed}
+use Rattle.aho_search.proofs.Places.{best_in_whole, into_part, length_part, moved, moved_option, moved_back, part_join, widened, narrowed}
 use Rattle.aho_stream.specs.After.{MayFollow, search_from}
 use Rattle.aho_stream.proofs.GivenBytes.{part_stays}
 use Rattle.aho_stream.proofs.PatternLengths.{occurs_some, occurs_short}

@@ -1,6 +1,6 @@
 -- What is known after one byte more of a stream.
 use Rattle.std.proofs.Common.{◌≡◌, ℕ, ◌+◌, ◌<◌, ◌≤◌, Bool, List, [], ◌∷◌, ◌++◌, length, take, get_or, sym, ◌∙◌, ap, subst, arith, append_assoc, length-append}
-use Rattle.std.specs.Prelude.{Option, Some, None}
+use Rattle.std.specs.Prelude.{Option, None}
 use Rattle.std.proofs.lemmas.List.{take_more, length-take}
 use Rattle.aho_base.specs.Laws.{BestAfter, Reads, told}
 use Rattle.aho_base.specs.Patterns.{Patterns}

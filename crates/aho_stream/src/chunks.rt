@@ -424,4 +424,32 @@ impl<'a, 'r, A: Automaton, R: Source> StreamChunkIter<'a, 'r, A, R> {
         self.progress
             .bytes(self.progress.told, self.progress.reported)
     }
+
+    /// How many look-ups of a transition the walk made: at most two for each byte that it walked.
+    pub fn lookups(&self) -> u128
+        ensures lookups { result ≡ ⟦<Counted<'a, A> as Walk>⟧.lookups self.now.walk }
+        ensures paid { (p : Patterns) (given : List ℕ)
+            → IsAfter p (A.lengths (⟦<Counted<'a, A> as Walk>⟧.of self.now.walk))
+            (A.valid (⟦<Counted<'a, A> as Walk>⟧.of self.now.walk))
+            (A.held (⟦<Counted<'a, A> as Walk>⟧.of self.now.walk) p)
+            (A.depth (⟦<Counted<'a, A> as Walk>⟧.of self.now.walk))
+            (⟦<Counted<'a, A> as Walk>⟧.lookups self.now.walk) self.now.progress given
+            → result ≤ 2 * self.now.progress.position }
+    {
+        self.walk.lookups()
+    }
+
+    /// How many bytes the automaton walked: each byte that was given once at most.
+    pub fn position(&self) -> u128
+        ensures position { result ≡ self.now.progress.position }
+        ensures once { (p : Patterns) (given : List ℕ)
+            → IsAfter p (A.lengths (⟦<Counted<'a, A> as Walk>⟧.of self.now.walk))
+            (A.valid (⟦<Counted<'a, A> as Walk>⟧.of self.now.walk))
+            (A.held (⟦<Counted<'a, A> as Walk>⟧.of self.now.walk) p)
+            (A.depth (⟦<Counted<'a, A> as Walk>⟧.of self.now.walk))
+            (⟦<Counted<'a, A> as Walk>⟧.lookups self.now.walk) self.now.progress given
+            → result ≤ length given }
+    {
+        self.progress.position
+    }
 }

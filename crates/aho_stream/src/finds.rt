@@ -101,13 +101,14 @@ impl<'a, 'r, A: Automaton, R: Source> Iterator for StreamFindIter<'a, 'r, A, R> 
 
     fn next(&mut self) -> Option<Result<Match, StreamError>> {
         loop {
-            match self.chunks.advance()? {
-                Ok(piece) => {
+            match self.chunks.advance() {
+                None => return None,
+                Some(Err(error)) => return Some(Err(error)),
+                Some(Ok(piece)) => {
                     if let Some(m) = piece.found() {
                         return Some(Ok(m));
                     }
                 }
-                Err(error) => return Some(Err(error)),
             }
         }
     }

@@ -1,4 +1,4 @@
-use Rattle.std.proofs.Common.{ap, subst}
+use Rattle.std.proofs.Common.{ap}
 use Rattle.aho_stream.specs.declared.progress.Progress.{Progress}
 use Rattle.aho_stream.proofs.Reported.{told_from_option}
 use Rattle.aho_stream.proofs.chunks.next_piece.Goals as goal

@@ -1,14 +1,13 @@
-use Rattle.std.proofs.Common.{◌≡◌, ◌+◌, ◌-◌, ◌≤◌, ◌++◌, ◌∙◌, ap, sym, subst, arith, take, List, ℕ, length}
+use Rattle.std.proofs.Common.{◌≡◌, ◌+◌, ◌-◌, ap, sym, subst, arith, List, ℕ, length}
 use Rattle.std.specs.Prelude.{Option, Some, None, IfSome, slice_range}
 use Rattle.aho_base.specs.Laws.{BestAfter}
 use Rattle.aho_base.specs.Occurrence.{Occurrence}
 use Rattle.aho_base.specs.declared.search.Anchored.TheVariants.{No}
 use Rattle.aho_search.proofs.Places.{length_part}
 use Rattle.aho_search.proofs.Told.{is_none}
-use Rattle.aho_stream.specs.After.{IsAfter, word_of}
+use Rattle.aho_stream.specs.After.{word_of}
 use Rattle.aho_stream.specs.Walking.{WalksOn}
 use Rattle.aho_stream.proofs.Afters.{after_walked}
-use Rattle.aho_stream.proofs.chunks.search.Given.{Over}
 use Rattle.aho_stream.proofs.chunks.search.Goals as goal
 
 pub walk_on-walked-requires-clause-held : goal.walk_on-walked-requires-clause-held

@@ -1,4 +1,4 @@
-use Rattle.std.proofs.Common.{ap, subst, sym, List, ℕ}
+use Rattle.std.proofs.Common.{ap, subst, sym}
 use Rattle.aho_devices.specs.Buffer.{Buffered}
 use Rattle.aho_stream.specs.After.{EndsIn}
 use Rattle.aho_stream.proofs.GivenBytes.{EndsIn-drop}

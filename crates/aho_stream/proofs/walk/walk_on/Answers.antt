@@ -1,6 +1,6 @@
 -- What the walk found, and each turn of the loop.
-use Rattle.std.proofs.Common.{◌≡◌, ◌+◌, refl, sym, ◌∙◌, ap, subst, arith, rules, true, false, ℕ, ◌∷◌, ◌++◌, [], get_or, take, length, List}
-use Rattle.std.specs.Prelude.{Option, Some, None}
+use Rattle.std.proofs.Common.{◌≡◌, ◌+◌, sym, ◌∙◌, ap, subst, arith, false, ℕ, ◌++◌, [], take, length, List}
+use Rattle.std.specs.Prelude.{Option, None}
 use Rattle.aho_base.specs.Laws.{BestAfter, told}
 use Rattle.aho_base.specs.Patterns.{Patterns}
 use Rattle.aho_base.specs.declared.search.Anchored.TheVariants.{No}

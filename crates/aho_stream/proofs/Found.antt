@@ -1,0 +1,100 @@
+-- What several calls of `advance` read and tell together, up to the next match.
+use Rattle.std.proofs.Common.{◌≡◌, ℕ, inl, inr, Bool, true, false, List, ◌++◌, refl, sym, ◌∙◌, ap, subst, append_assoc}
+use Rattle.std.specs.Prelude.{Option, Some, None, Result, Ok, Err}
+use Rattle.std.proofs.KnownBytes.{Consumes-trans}
+use Rattle.aho_base.specs.Answer.{IsAnswer}
+use Rattle.aho_base.specs.Occurrence.{Occurrence}
+use Rattle.aho_base.specs.Patterns.{Patterns}
+use Rattle.aho_base.specs.declared.error.stream.StreamError.{StreamError}
+use Rattle.aho_base.specs.declared.error.stream.StreamError.TheVariants.{Match as Refused, Read as ReadFault, Write, WriteZero, Memory, PositionLimit}
+use Rattle.aho_devices.specs.Counts.{counted}
+use Rattle.aho_stream.specs.After.{search_from}
+use Rattle.aho_stream.specs.Chunks.{Advances, Tells, TellsError, TellsEnd, TellsMatch, TellsPlain, ends_between, match_told, tells_read_fault}
+use Rattle.aho_stream.specs.Finds.{Finds, FindsEnd, FindsError, FindsMatch, FindsNext, finds_read_fault}
+use Rattle.aho_stream.specs.declared.progress.Progress.{Progress}
+use Rattle.aho_stream.specs.declared.progress.StreamPiece.{StreamPiece}
+use Rattle.aho_stream.specs.declared.progress.StreamPiece.TheVariants.{NonMatch, Match}
+use Rattle.aho_stream.proofs.Advanced.{Read}
+
+module _ (IsOf : Patterns → Type 0) (After : Patterns → ℕ → Progress → List ℕ → Type 0) where
+  -- one call more
+  pub read_then : (lookups mid lookups' : ℕ) (s t s' : Progress) (before between after : Option (List ℕ)) (answer : Option (Result StreamPiece StreamError))
+      → (s.ended ≡ true → t.ended ≡ true) → Read IsOf After lookups mid s t before between → Advances IsOf After mid lookups' t s' between after answer
+      → Read IsOf After lookups lookups' s s' before after
+  read_then lookups mid lookups' s t s' before between after answer stays r a = record {
+    bytes = r.bytes ++ a.bytes;
+    read = Consumes-trans before between after r.bytes a.bytes r.read a.read;
+    closed = λ e. ap (λ (xs : List ℕ). xs ++ a.bytes) (r.closed e) ∙ a.closed (stays e);
+    is_after = λ p given of is. subst (After p lookups' s') (append_assoc given r.bytes a.bytes) (a.is_after p (given ++ r.bytes) of (r.is_after p given of is));
+  }
+
+  -- with what its answer says of the match
+  pub finds_then : (lookups mid lookups' : ℕ) (s t s' : Progress) (before between after : Option (List ℕ)) (answer : Option (Result StreamPiece StreamError)) (found : Option (Result Occurrence StreamError))
+      → (s.ended ≡ true → t.ended ≡ true) → Read IsOf After lookups mid s t before between → Advances IsOf After mid lookups' t s' between after answer
+      → ((p : Patterns) (given : List ℕ) → Tells p t s' given answer → Finds p s s' given found)
+      → FindsNext IsOf After lookups lookups' s s' before after found
+  finds_then lookups mid lookups' s t s' before between after answer found stays r a says =
+      let joined = read_then lookups mid lookups' s t s' before between after answer stays r a in
+      record {
+        bytes = r.bytes ++ a.bytes;
+        read = Consumes-trans before between after r.bytes a.bytes r.read a.read;
+        closed = λ e. ap (λ (xs : List ℕ). xs ++ a.bytes) (r.closed e) ∙ a.closed (stays e);
+        is_after = λ p given of is. subst (After p lookups' s') (append_assoc given r.bytes a.bytes) (a.is_after p (given ++ r.bytes) of (r.is_after p given of is));
+        finds = λ p given of is. says p (given ++ (r.bytes ++ a.bytes)) (subst (λ (xs : List ℕ). Tells p t s' xs answer) (append_assoc given r.bytes a.bytes) (a.tells p (given ++ r.bytes) of (r.is_after p given of is)));
+      }
+
+-- an answer's word on the match, by the end of the last match alone
+pub match_found : (p : Patterns) (s t s' : Progress) (given : List ℕ) (m : Occurrence) → t.from ≡ s.from → TellsMatch p t s' given m → FindsMatch p s s' given m
+match_found p s t s' given m from tells = record {
+  answer = λ more follows. subst (λ (x : ℕ). IsAnswer p (search_from x (given ++ more)) (Some m)) from (tells.answer more follows);
+  read = tells.read;
+  from = tells.from;
+}
+
+pub piece_found : (p : Patterns) (s t s' : Progress) (given : List ℕ) (piece : StreamPiece) (m : Occurrence) → match_told piece ≡ Some m → t.from ≡ s.from → Tells p t s' given (Some (Ok piece)) → Finds p s s' given (Some (Ok m))
+piece_found p s t s' given NonMatch m e from tells = cc
+piece_found p s t s' given (Match n) m e from tells = let same : n ≡ m = cc in subst (FindsMatch p s s' given) same (match_found p s t s' given n from tells)
+
+-- a piece that tells no match tells bytes outside of every match
+pub plain_told : (p : Patterns) (t s' : Progress) (given : List ℕ) (piece : StreamPiece) → match_told piece ≡ None → Tells p t s' given (Some (Ok piece)) → TellsPlain p t s' given
+plain_told p t s' given NonMatch e tells = tells
+plain_told p t s' given (Match m) e tells = cc
+
+pub end_found : (p : Patterns) (s t s' : Progress) (given : List ℕ) → t.from ≡ s.from → t.refused ≡ s.refused → TellsEnd p t s' given → FindsEnd p s s' given
+end_found p s t s' given from refused tells = record {
+  none = subst (λ (x : ℕ). IsAnswer p (search_from x given) None) (tells.still.from ∙ from) tells.none;
+  over = elim tells.over [ inl both ↦ inl both | inr e ↦ inr (sym refused ∙ e) ];
+  from = tells.still.from ∙ from;
+}
+
+pub error_found : (p : Patterns) (s t s' : Progress) (given : List ℕ) (error : StreamError) → t.from ≡ s.from → t.refused ≡ s.refused → t.limit ≡ s.limit → TellsError t s' given error → FindsError s s' given error
+error_found p s t s' given (Refused cause) from refused limit tells = tells
+error_found p s t s' given (ReadFault reason) from refused limit tells = record { from = tells.still.from ∙ from; near = tells.near }
+error_found p s t s' given (Write reason) from refused limit tells = tells
+error_found p s t s' given WriteZero from refused limit tells = tells
+error_found p s t s' given Memory from refused limit tells = tells
+error_found p s t s' given PositionLimit from refused limit tells = record {
+  fault = record { from = tells.fault.still.from ∙ from; near = tells.fault.near };
+  reached = tells.reached ∙ limit;
+  first = sym refused ∙ tells.first;
+  refused = tells.refused;
+}
+
+-- a failed read is one
+pub fault_found : (error : StreamError) → tells_read_fault (Some (Err error)) ≡ finds_read_fault (Some (Err error))
+fault_found (Refused cause) = refl
+fault_found (ReadFault reason) = refl
+fault_found (Write reason) = refl
+fault_found WriteZero = refl
+fault_found Memory = refl
+fault_found PositionLimit = refl
+
+-- the end is counted once
+pub counted_then : (b m a : Bool) (first mid last : ℕ) → (b ≡ true → m ≡ true) → (m ≡ true → a ≡ true) → mid ≡ counted (ends_between b m) first → last ≡ counted (ends_between m a) mid → last ≡ counted (ends_between b a) first
+counted_then true true true first mid last stays goes e f = f ∙ e
+counted_then true true false first mid last stays goes e f = let impossible = goes refl in cc
+counted_then true false a first mid last stays goes e f = let impossible = stays refl in cc
+counted_then false true true first mid last stays goes e f = f ∙ e
+counted_then false true false first mid last stays goes e f = let impossible = goes refl in cc
+counted_then false false true first mid last stays goes e f = f ∙ ap (counted true) e
+counted_then false false false first mid last stays goes e f = f ∙ e

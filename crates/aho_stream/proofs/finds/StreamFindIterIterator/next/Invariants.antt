@@ -1,0 +1,32 @@
+-- What the loop keeps.
+use Rattle.std.proofs.Common.{◌≡◌, ◌-◌, true}
+use Rattle.aho_devices.specs.Counts.{counted}
+use Rattle.aho_stream.specs.After.{IsAfter}
+use Rattle.aho_stream.specs.Chunks.{ends_between}
+use Rattle.aho_stream.proofs.Advanced.{Read}
+use Rattle.aho_stream.proofs.finds.StreamFindIterIterator.next.Given as goal
+
+-- Over the same automaton and with the same limit:
+-- `from` and `refused`: no match was found, and the limit was not answered since;
+-- `read`: some bytes were read, and the iterator has come so far with them;
+-- `ended`, `stays` and `unfailed`: whether the end was seen, and that no read failed.
+abbrev pub invariant-loop-error : goal.invariant-loop-error
+invariant-loop-error g l =
+    let it = l.fn.self.chunks in
+    let now = l.self.chunks in
+    let automaton = it.walk.automaton.now in
+    record {
+      same : now.walk.automaton.now ≡ automaton;
+      limit : now.progress.limit ≡ it.progress.limit;
+      from : now.progress.from ≡ it.progress.from;
+      refused : now.progress.refused ≡ it.progress.refused;
+      read : Read (g.A.Automaton.is_of automaton)
+          (λ p. IsAfter p (g.A.Automaton.lengths automaton) (g.A.Automaton.valid automaton) (g.A.Automaton.held automaton p) (g.A.Automaton.depth automaton))
+          it.walk.work now.walk.work it.progress now.progress (g.R.Source.remaining it.source.now) (g.R.Source.remaining now.source.now);
+      ended : g.R.Source.empty_reads now.source.now ≡ counted (ends_between it.progress.ended now.progress.ended) (g.R.Source.empty_reads it.source.now);
+      stays : it.progress.ended ≡ true → now.progress.ended ≡ true;
+      unfailed : g.R.Source.failures now.source.now ≡ g.R.Source.failures it.source.now;
+    }
+
+abbrev pub decreases-loop-error : goal.decreases-loop-error
+decreases-loop-error g l = l.self.chunks.progress.limit - l.self.chunks.progress.reported
