@@ -35,4 +35,6 @@ mod rows;
 #[cfg(test)]
 mod scripted;
 #[cfg(test)]
+mod streams;
+#[cfg(test)]
 mod tables;
