@@ -5,4 +5,4 @@ pub mod chunks;
 pub mod finds;
 pub mod progress;
 pub mod replace;
-pub mod walk;
+mod walk;

@@ -35,6 +35,8 @@ mod rows;
 #[cfg(test)]
 mod scripted;
 #[cfg(test)]
+mod stream_finds;
+#[cfg(test)]
 mod streams;
 #[cfg(test)]
 mod tables;

@@ -1,0 +1,110 @@
+//! The matches and the chunks of streams, whose sources cut, end and fail.
+
+ghost use Rattle.aho_base.specs.Patterns.{Patterns};
+
+use crate::automata::nfa_of;
+use crate::scripted::{ScriptedSource, Turn};
+use aho_base::error::{Fault, MatchError, StreamError};
+use aho_base::search::{Match, MatchKind, PatternID, Span};
+use aho_search::automaton::Automaton;
+use aho_stream::chunks::StreamChunkIter;
+use aho_stream::finds::try_stream_find_iter;
+use bench::one_byte::OneByte;
+use bench::tally::Tally;
+use std::alloc::Global;
+use std::process::Abort;
+use std::test::Fail;
+
+/// The patterns of the worked streams, and their bytes.
+const WORDS: &[&[u8]] = &[b"fox", b"brown", b"quick"];
+const TEXT: &[u8] = b"The quick brown fox.";
+
+/// A source that gives one byte a read.
+const ONE_BYTE: &[Turn] = &[Turn::Move(1); 64];
+
+/// A pattern's number, and where its match starts and ends.
+fn found_of(m: Match) -> (usize, usize, usize) {
+    (m.pattern().as_usize(), m.start(), m.end())
+}
+
+/// The first items of a stream's search, at most a hundred.
+fn items<A: Automaton>(
+    alloc: Global,
+    automaton: &A,
+    source: &mut ScriptedSource<'_>,
+) -> Result<Vec<Result<(usize, usize, usize), StreamError>>, Fail>
+    requires of { (p : Patterns) × A.is_of automaton.now p }
+{
+    let mut items = Vec::new(alloc);
+    for item in try_stream_find_iter(alloc, automaton, source)?.take(100) {
+        items.push(item.map(found_of))?;
+    }
+    Ok(items)
+}
+
+/// The matches of the worked stream.
+fn worked_matches() -> [Result<(usize, usize, usize), StreamError>; 3] {
+    [Ok((2, 4, 9)), Ok((1, 10, 15)), Ok((0, 16, 19))]
+}
+
+#[test]
+fn a_stream_is_searched_across_its_reads(rt: HostRuntime) -> Result<(), Fail> {
+    let nfa = nfa_of(&rt, rt.alloc(), WORDS, MatchKind::Standard, false);
+    let mut source = ScriptedSource::new(TEXT, ONE_BYTE);
+    let found = items(rt.alloc(), &nfa, &mut source)?;
+    assert_eq!(rt; found.as_slice(), worked_matches().as_slice());
+    Ok(())
+}
+
+#[test]
+fn a_failed_read_is_told_and_nothing_is_lost(rt: HostRuntime) -> Result<(), Fail> {
+    let nfa = nfa_of(&rt, rt.alloc(), WORDS, MatchKind::Standard, false);
+    for at in 0..21 {
+        let mut turns = [Turn::Move(1); 64];
+        turns[at] = Turn::Fail;
+        let mut source = ScriptedSource::new(TEXT, &turns);
+        let found = items(rt.alloc(), &nfa, &mut source)?;
+        let faults = found.iter().filter(|item| item.is_err()).count();
+        assert_eq!(rt; faults, 1, "read {at}");
+        assert_eq!(rt; found.len(), 4, "read {at}");
+    }
+    Ok(())
+}
+
+#[test]
+fn an_empty_read_ends_a_stream(rt: HostRuntime) -> Result<(), Fail> {
+    let nfa = nfa_of(&rt, rt.alloc(), WORDS, MatchKind::Standard, false);
+    let turns = [Turn::Move(7), Turn::Move(0), Turn::Move(100)];
+    let mut source = ScriptedSource::new(TEXT, &turns);
+    let found = items(rt.alloc(), &nfa, &mut source)?;
+    assert_eq!(rt; found.len(), 0);
+    assert_eq!(rt; source.rest().len(), TEXT.len() - 7);
+    Ok(())
+}
+
+#[test]
+fn what_no_stream_can_be_searched_for_is_refused(rt: HostRuntime) {
+    let leftmost = nfa_of(&rt, rt.alloc(), &[b"a"], MatchKind::LeftmostFirst, false);
+    let mut source = ScriptedSource::new(b"a", &[]);
+    assert_eq!(rt;
+        try_stream_find_iter(rt.alloc(), &leftmost, &mut source).err(),
+        Some(StreamError::Match(MatchError::unsupported_stream(MatchKind::LeftmostFirst)))
+    );
+    let empty = nfa_of(&rt, rt.alloc(), &[b"a", b""], MatchKind::Standard, false);
+    assert_eq!(rt;
+        try_stream_find_iter(rt.alloc(), &empty, &mut source).err(),
+        Some(StreamError::Match(MatchError::unsupported_empty()))
+    );
+    assert_eq!(rt; source.reads(), 0);
+}
+
+#[test]
+fn other_automata_search_streams(rt: HostRuntime) -> Result<(), Fail> {
+    let tally = Tally::new(OneByte::new(b'w'));
+    let mut source = ScriptedSource::new(b"wow", ONE_BYTE);
+    let found = items(rt.alloc(), &tally, &mut source)?;
+    assert_eq!(rt; found.as_slice(), [Ok((0, 0, 1)), Ok((0, 2, 3))].as_slice());
+    assert_eq!(rt; tally.steps(), 3);
+    assert_eq!(rt; tally.next_states(), 0);
+    Ok(())
+}
