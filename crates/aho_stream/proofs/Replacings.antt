@@ -21,6 +21,7 @@ use Rattle.aho_stream.specs.declared.progress.Progress.{Progress}
 use Rattle.aho_stream.specs.declared.progress.StreamPiece.{StreamPiece}
 use Rattle.aho_stream.specs.declared.progress.StreamPiece.TheVariants.{NonMatch, Match}
 use Rattle.aho_stream.proofs.GivenBytes.{part_stays}
+use Rattle.aho_stream.proofs.NextMatches.{MayFollow-nothing}
 use Rattle.aho_stream.proofs.PatternLengths.{occurs_some}
 use Rattle.aho_stream.proofs.StreamFinds.{Left, left_begins, left_first, left_match, left_none, left_plain, left_up_to}
 
@@ -57,10 +58,6 @@ count_on true true reads stays = refl
 count_on true false reads stays = let clash : false ≡ true = stays refl in cc
 count_on false true reads stays = refl
 count_on false false reads stays = refl
-
-nothing_may : (ended : Bool) → MayFollow ended []
-nothing_may true = refl
-nothing_may false = tt
 
 -- what may follow later may follow now, behind what was given in between
 pub may_follow : (before after : Bool) (bytes more : List ℕ) → (before ≡ true → bytes ≡ []) → (before ≡ true → after ≡ true) → MayFollow after more → MayFollow before (bytes ++ more)
@@ -192,7 +189,7 @@ module _ (IsOf : Patterns → Type 0) (lengths : List ℕ)
       some_told : (p : Patterns) (of : IsOf p) (told : StreamPiece) → Tells p s s' given (Some (Ok told)) → s.reported + 1 ≤ s'.reported
       some_told p of NonMatch tells = tells.some
       some_told p of (Match m) tells =
-          let rest = nothing_may s'.ended in
+          let rest = MayFollow-nothing s'.ended in
           omega (arith, occurs_some p lengths (are p of) m ((tells.answer [] rest).0) ((now_after p of).no_empty), tells.starts, tells.reported)
 
       pub less_room : (p : Patterns) → IsOf p → s'.limit ≡ s.limit → s'.limit - s'.reported < s.limit - s.reported
