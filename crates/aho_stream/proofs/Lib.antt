@@ -7,3 +7,5 @@ mod Afters
 mod Reported
 mod Advanced
 mod Found
+mod StreamFinds
+mod Replacings

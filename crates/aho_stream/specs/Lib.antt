@@ -3,3 +3,4 @@ pub mod After
 pub mod Refills
 pub mod Chunks
 pub mod Finds
+pub mod Replacing

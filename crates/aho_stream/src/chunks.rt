@@ -10,6 +10,7 @@ ghost use Rattle.aho_base.specs.declared.search.MatchKind.TheVariants.{Standard}
 ghost use Rattle.aho_devices.specs.Counts.{counted};
 ghost use Rattle.aho_stream.specs.After.{IsAfter, greatest_position};
 ghost use Rattle.aho_stream.specs.Chunks.{Advances, TellsChunk, ends_between, tells_limit, tells_read_fault};
+ghost use Rattle.aho_stream.specs.Replacing.{IsMakingRefusal};
 
 use crate::progress::{Progress, StreamPiece};
 use crate::walk::walk_on;
@@ -22,7 +23,7 @@ use aho_search::walk::{Counted, Walk};
 use std::alloc::Global;
 
 /// The most bytes that a stream may give: 2^63 - 1.
-const MAX_POSITION: u64 = 9_223_372_036_854_775_807;
+pub(crate) const MAX_POSITION: u64 = 9_223_372_036_854_775_807;
 
 /// The chunks of a stream, one after another: matches, and the bytes between them.
 #[derive(Drop)]
@@ -56,6 +57,42 @@ fn check<A: Automaton>(automaton: &A) -> Result<StateID, MatchError>
         return Err(MatchError::unsupported_empty());
     }
     automaton.start_state(Anchored::No)
+}
+
+/// How far a search of a stream has come before it begins. It takes all memory of the search.
+///
+/// # Errors
+///
+/// As those of `StreamChunkIter::with_limit`.
+pub(crate) fn begin<A: Automaton>(
+    alloc: Global,
+    automaton: &A,
+    limit: u64,
+) -> Result<Progress, StreamError>
+    requires of { (p : Patterns) × A.is_of automaton.now p }
+    ensures made { IfOk result (λ s. s.limit ≡ min limit greatest_position) }
+    ensures begun { IfOk result (λ s. (s.ended ≡ false) × (s.refused ≡ false)) }
+    ensures after { (p : Patterns) → A.is_of automaton.now p → IfOk result (λ s.
+        IsAfter p (A.lengths automaton.now) (A.valid automaton.now) (A.held automaton.now p)
+        (A.depth automaton.now) 0 s []) }
+    ensures unsupported { A.kind automaton.now ≢ Standard
+        → result ≡ Err (StreamError.Match (UnsupportedStream (A.kind automaton.now))) }
+    ensures empty { A.kind automaton.now ≡ Standard
+        → shortest (A.lengths automaton.now) ≡ 0
+        → result ≡ Err (StreamError.Match UnsupportedEmpty) }
+    ensures refused { (reason : MatchErrorKind) → A.kind automaton.now ≡ Standard
+        → 1 ≤ shortest (A.lengths automaton.now)
+        → A.start automaton.now No ≡ Err reason
+        → result ≡ Err (StreamError.Match reason) }
+    ensures memory { (sid : ℕ) → A.kind automaton.now ≡ Standard
+        → 1 ≤ shortest (A.lengths automaton.now)
+        → A.start automaton.now No ≡ Ok sid
+        → IfErr result (λ error. error ≡ StreamError.Memory) }
+    ensures only { IfErr result IsMakingRefusal }
+{
+    let start = check(automaton)?;
+    let buffer = Buffer::new(alloc, automaton.max_pattern_len())?;
+    Ok(Progress::new(buffer, start, limit.min(MAX_POSITION)))
 }
 
 /// Walks on over what was read and not walked yet, up to the first match, where none is in hand.
@@ -213,6 +250,8 @@ impl<'a, 'r, A: Automaton, R: Source> StreamChunkIter<'a, 'r, A, R> {
     ) -> Result<StreamChunkIter<'a, 'r, A, R>, StreamError>
         requires of { (p : Patterns) × A.is_of automaton.now p }
         ensures made { IfOk result (λ it. it.progress.limit ≡ greatest_position) }
+        ensures begun { IfOk result (λ it. (it.progress.ended ≡ false)
+            × (it.progress.refused ≡ false)) }
         ensures of { IfOk result (λ it. (it.source ≡ source.entry)
             × (⟦<Counted<'a, A> as Walk>⟧.of it.walk ≡ automaton.entry.now)) }
         ensures after { (p : Patterns) → A.is_of automaton.entry.now p → IfOk result (λ it.
@@ -254,6 +293,8 @@ impl<'a, 'r, A: Automaton, R: Source> StreamChunkIter<'a, 'r, A, R> {
     ) -> Result<StreamChunkIter<'a, 'r, A, R>, StreamError>
         requires of { (p : Patterns) × A.is_of automaton.now p }
         ensures made { IfOk result (λ it. it.progress.limit ≡ min limit greatest_position) }
+        ensures begun { IfOk result (λ it. (it.progress.ended ≡ false)
+            × (it.progress.refused ≡ false)) }
         ensures of { IfOk result (λ it. (it.source ≡ source.entry)
             × (⟦<Counted<'a, A> as Walk>⟧.of it.walk ≡ automaton.entry.now)) }
         ensures after { (p : Patterns) → A.is_of automaton.entry.now p → IfOk result (λ it.
@@ -274,13 +315,33 @@ impl<'a, 'r, A: Automaton, R: Source> StreamChunkIter<'a, 'r, A, R> {
             → A.start automaton.entry.now No ≡ Ok sid
             → IfErr result (λ error. error ≡ StreamError.Memory) }
     {
-        let start = check(automaton)?;
-        let buffer = Buffer::new(alloc, automaton.max_pattern_len())?;
-        Ok(StreamChunkIter {
+        let progress = begin(alloc, automaton, limit)?;
+        Ok(StreamChunkIter::over(automaton, source, progress))
+    }
+
+    /// The chunks of what the source gives, by how far their search has come before it begins.
+    pub(crate) fn over(
+        automaton: &'a A,
+        source: &'r mut R,
+        progress: Progress,
+    ) -> StreamChunkIter<'a, 'r, A, R>
+        ensures progress { result.progress ≡ progress }
+        ensures of { (result.source ≡ source.entry)
+            × (⟦<Counted<'a, A> as Walk>⟧.of result.walk ≡ automaton.entry.now) }
+        ensures none { ⟦<Counted<'a, A> as Walk>⟧.lookups result.walk ≡ 0 }
+    {
+        StreamChunkIter {
             walk: Counted::new(automaton),
             source,
-            progress: Progress::new(buffer, start, limit.min(MAX_POSITION)),
-        })
+            progress,
+        }
+    }
+
+    /// Ends the search, and gives back the source.
+    pub(crate) fn into_source(self) -> &'r mut R
+        ensures same { result ≡ self.entry.source }
+    {
+        self.source
     }
 
     /// Goes on to the next chunk of the stream, whose bytes `bytes` then lends: a match, or some bytes outside of every
@@ -313,6 +374,7 @@ impl<'a, 'r, A: Automaton, R: Source> StreamChunkIter<'a, 'r, A, R> {
         ensures ended { R.empty_reads self.new.source.now
             ≡ counted (ends_between self.old.progress.ended self.new.progress.ended)
             (R.empty_reads self.old.source.now) }
+        ensures same_source { self.new.source.ghost_name ≡ self.old.source.ghost_name }
         ensures stays_ended { self.old.progress.ended ≡ true → self.new.progress.ended ≡ true }
 
         // After the end, and after the limit was answered, there is none for good.

@@ -4,4 +4,5 @@
 pub mod chunks;
 pub mod finds;
 pub mod progress;
+pub mod replace;
 mod walk;

@@ -39,4 +39,6 @@ mod scripted;
 #[cfg(test)]
 mod stream_finds;
 #[cfg(test)]
+mod streams;
+#[cfg(test)]
 mod tables;

@@ -34,6 +34,7 @@ loop-piece-init g c =
     let s = c.args.self.now.progress in
     let going : s.refused ≡ false = c.if-self.false in
     record {
+      source = refl;
       same = refl;
       untold = record { told = refl; reported = refl; from = refl; limit = refl; unrefused = going; going = going };
       read = read_none (g.A.Automaton.is_of automaton) (AfterOf g automaton) c.args.self.now.walk.work c.args.self.now.walk.work s _ _ (λ p given of a. after_told p _ _ _ _ _ s given a);
@@ -155,6 +156,7 @@ loop-piece-preserved g c =
     let t = c.next_piece.new.progress in
     let going : s.ended ≡ false = not_before s.ended (λ e. sym c.if-self-2.false ∙ c.next_piece.ensures.ended ∙ inv.stays e) in
     record {
+      source = inv.source;
       same = c.next_piece.ensures.same ∙ inv.same;
       untold = record { told = still.told; reported = still.reported; from = still.from; limit = ap (λ (t : Progress). t.limit) c.refill.ensures.refills.others ∙ u.limit; unrefused = u.unrefused; going = c.in_default-refill.ensures.refused };
       read = refilled_read g d;

@@ -6,7 +6,7 @@ use Rattle.aho_stream.specs.Chunks.{ends_between}
 use Rattle.aho_stream.proofs.Advanced.{Read, IsUntold}
 use Rattle.aho_stream.proofs.chunks.StreamChunkIter.advance.Given as goal
 
--- Over the same automaton:
+-- Over the same automaton and source:
 -- `untold`: nothing was told yet, and the limit was not met;
 -- `read`: some bytes were read, and the iterator has come so far with them;
 -- `ended`, `stays` and `unfailed`: whether the end was seen, and that no read failed.
@@ -14,6 +14,7 @@ abbrev pub invariant-loop-piece : goal.invariant-loop-piece
 invariant-loop-piece g l =
     let automaton = l.fn.self.walk.automaton.now in
     record {
+      source : l.self.source.ghost_name ≡ l.fn.self.source.ghost_name;
       same : l.self.walk.automaton.now ≡ automaton;
       untold : IsUntold l.fn.self.progress l.self.progress;
       read : Read (g.A.Automaton.is_of automaton)

@@ -1,0 +1,274 @@
+-- How far a replacement of a stream has come, from one chunk told to the next.
+use Rattle.std.proofs.Common.{◌≡◌, ℕ, ◌+◌, ◌-◌, ◌<◌, ◌≤◌, Bool, true, false, List, [], ◌++◌, length, drop, take, map, refl, sym, ◌∙◌, ap, subst, arith, append_assoc, append-nil, inl, inr}
+use Rattle.std.specs.Prelude.{IsErrAnd, Option, Some, None, Result, Ok, Err, slice_range}
+use Rattle.std.specs.Io.KnownBytes.{Appends, Consumes}
+use Rattle.std.proofs.KnownBytes.{Appends-nil, Appends-trans, Consumes-nil, Consumes-trans}
+use Rattle.std.proofs.lemmas.List.{take-append-drop}
+use Rattle.aho_base.specs.declared.error.stream.StreamError.{StreamError}
+use Rattle.aho_base.specs.declared.error.stream.StreamError.TheVariants.{Match as Refused, Read, Write, WriteZero, Memory, PositionLimit}
+use Rattle.aho_base.specs.declared.search.Anchored.{Anchored}
+use Rattle.aho_base.specs.Answer.{IsAnswer}
+use Rattle.aho_base.specs.Iteration.{AreFinds}
+use Rattle.aho_base.specs.Occurrence.{Occurrence}
+use Rattle.aho_base.specs.Patterns.{Patterns}
+use Rattle.aho_base.specs.Search.{plain_search}
+use Rattle.aho_devices.specs.Counts.{AppendsBeginning, counted}
+use Rattle.aho_stream.specs.After.{IsAfter, MayFollow, kept_for, search_from}
+use Rattle.aho_stream.specs.Chunks.{Advances, Tells, TellsEnd, TellsError, TellsFault, ends_between}
+use Rattle.aho_stream.specs.Refills.{is_limit}
+use Rattle.aho_stream.specs.Replacing.{Begins, Gives, MayBe, Replaces, ReplacesUpTo, bytes_for, piece_for}
+use Rattle.aho_stream.specs.declared.progress.Progress.{Progress}
+use Rattle.aho_stream.specs.declared.progress.StreamPiece.{StreamPiece}
+use Rattle.aho_stream.specs.declared.progress.StreamPiece.TheVariants.{NonMatch, Match}
+use Rattle.aho_stream.proofs.GivenBytes.{part_stays}
+use Rattle.aho_stream.proofs.NextMatches.{MayFollow-nothing}
+use Rattle.aho_stream.proofs.PatternLengths.{occurs_some}
+use Rattle.aho_stream.proofs.StreamFinds.{Left, left_begins, left_first, left_match, left_none, left_plain, left_up_to}
+
+-- the error of a call that is passed on
+pub err_given : {X E : Type 0} (result : Result X E) (error : E) → IsErrAnd result (λ e. e ≡ error) → result ≡ Err error
+err_given (Ok x) error is = absurd is
+err_given (Err e) error is = ap Err is
+
+-- each error of a call leaves all as it was
+fault_told : (s s' : Progress) (given : List ℕ) (error : StreamError) → TellsError s s' given error → TellsFault s s' given
+fault_told s s' given (Refused cause) tells = absurd tells
+fault_told s s' given (Read fault) tells = tells
+fault_told s s' given (Write fault) tells = absurd tells
+fault_told s s' given WriteZero tells = absurd tells
+fault_told s s' given Memory tells = absurd tells
+fault_told s s' given PositionLimit tells = tells.fault
+
+-- the limit is answered where as many bytes were given
+limit_told : (s s' : Progress) (given : List ℕ) (error : StreamError) → TellsError s s' given error → is_limit {A = Unit {0}} (Err error) ≡ true → length given ≡ s.limit
+limit_told s s' given (Refused cause) tells met = absurd tells
+limit_told s s' given (Read fault) tells met = cc
+limit_told s s' given (Write fault) tells met = absurd tells
+limit_told s s' given WriteZero tells met = absurd tells
+limit_told s s' given Memory tells met = absurd tells
+limit_told s s' given PositionLimit tells met = tells.reached
+
+-- the end of a stream that was not refused
+end_told : (p : Patterns) (s s' : Progress) (given : List ℕ) → s.refused ≡ false → TellsEnd p s s' given → (s'.ended ≡ true) × (s'.reported ≡ length given)
+end_told p s s' given below tells = elim tells.over [ inl all ↦ all | inr refused ↦ cc ]
+
+-- a count that rises once, where the end is seen
+pub count_on : (before after : Bool) (reads : ℕ) → (before ≡ true → after ≡ true) → counted (ends_between before after) (counted before reads) ≡ counted after reads
+count_on true true reads stays = refl
+count_on true false reads stays = let clash : false ≡ true = stays refl in cc
+count_on false true reads stays = refl
+count_on false false reads stays = refl
+
+-- what may follow later may follow now, behind what was given in between
+pub may_follow : (before after : Bool) (bytes more : List ℕ) → (before ≡ true → bytes ≡ []) → (before ≡ true → after ≡ true) → MayFollow after more → MayFollow before (bytes ++ more)
+may_follow false after bytes more closed stays follows = tt
+may_follow true true bytes more closed stays follows = ap (λ (xs : List ℕ). xs ++ more) (closed refl) ∙ follows
+may_follow true false bytes more closed stays follows = let clash : false ≡ true = stays refl in cc
+
+-- nothing was given and nothing was written
+pub begins_nothing : (IsOf : Patterns → Type 0) (pieces : List (List ℕ)) (before : Option (List ℕ)) (reads : ℕ) (old : Option (List ℕ)) → Begins IsOf pieces before before reads reads old old
+begins_nothing IsOf pieces before reads old = record {
+  given = [];
+  ended = false;
+  gives = record { bytes = Consumes-nil before; end = refl };
+  written = [];
+  writes = Appends-nil old;
+  beginning = λ p bytes ms of may finds. refl;
+}
+
+module _ (IsOf : Patterns → Type 0) (lengths : List ℕ)
+    (valid : ℕ → Type 0) (held : Patterns → Anchored → List ℕ → ℕ → Type 0) (depth : ℕ → ℕ) (pieces : List (List ℕ))
+    (first : Option (List ℕ)) (first_reads : ℕ) (begun : Option (List ℕ)) where
+  abbrev pub After : Patterns → ℕ → Progress → List ℕ → Type 0
+  After p = IsAfter p lengths valid (held p) depth
+
+  -- so much was given and written, and what is left goes on to the whole
+  pub record Going (lookups : ℕ) (s : Progress) (left : Option (List ℕ)) (reads : ℕ) (taken : Option (List ℕ)) : Type 0 where
+    pub given : List ℕ
+    pub written : List ℕ
+    pub gives : Gives first left first_reads reads given s.ended
+    pub writes : Appends begun taken written
+    pub after : (p : Patterns) → IsOf p → After p lookups s given
+    pub rest : (p : Patterns) (bytes : List ℕ) (ms : List Occurrence) → IsOf p → MayBe given s.ended bytes → AreFinds p (plain_search bytes) None ms
+        → Left p (piece_for pieces) bytes ms s.from s.reported written
+
+  pub going_first : (lookups : ℕ) (s : Progress) → s.ended ≡ false → s.from ≡ 0 → s.reported ≡ 0
+      → ((p : Patterns) → IsOf p → After p lookups s []) → Going lookups s first first_reads begun
+  going_first lookups s not_ended from reported after = record {
+    given = [];
+    written = [];
+    gives = record { bytes = Consumes-nil first; end = ap (λ (b : Bool). counted b first_reads) (sym not_ended) };
+    writes = Appends-nil begun;
+    after = after;
+    rest = λ p bytes ms of may finds.
+        subst (λ (k : ℕ). Left p (piece_for pieces) bytes ms k s.reported []) (sym from)
+        (subst (λ (k : ℕ). Left p (piece_for pieces) bytes ms 0 k []) (sym reported)
+        (left_first p (piece_for pieces) bytes ms finds));
+  }
+
+  module _ (are : (p : Patterns) → IsOf p → lengths ≡ map length p.words) (lookups lookups' : ℕ) (s s' : Progress) (left left' : Option (List ℕ)) (reads reads' : ℕ) (taken : Option (List ℕ)) (answer : Option (Result StreamPiece StreamError))
+      (going : Going lookups s left reads taken) (advance : Advances IsOf After lookups lookups' s s' left left' answer)
+      (counts : reads' ≡ counted (ends_between s.ended s'.ended) reads) (stays : s.ended ≡ true → s'.ended ≡ true) where
+    abbrev pub given : List ℕ
+    given = going.given ++ advance.bytes
+
+    abbrev pub now_after : (p : Patterns) → IsOf p → After p lookups' s' given
+    now_after p of = advance.is_after p going.given of (going.after p of)
+
+    pub now_gives : Gives first left' first_reads reads' given s'.ended
+    now_gives = record {
+      bytes = Consumes-trans first left left' going.given advance.bytes going.gives.bytes advance.read;
+      end = counts ∙ ap (counted (ends_between s.ended s'.ended)) going.gives.end ∙ count_on s.ended s'.ended first_reads stays;
+    }
+
+    might : (bytes : List ℕ) → MayBe given s'.ended bytes → MayBe going.given s.ended bytes
+    might bytes may = (
+      advance.bytes ++ may.0,
+      may.1 ∙ append_assoc going.given advance.bytes may.0,
+      may_follow s.ended s'.ended advance.bytes may.0 advance.closed stays may.2,
+    )
+
+    module _ (p : Patterns) (of : IsOf p) (bytes : List ℕ) (ms : List Occurrence) (may : MayBe given s'.ended bytes) (finds : AreFinds p (plain_search bytes) None ms) where
+      abbrev IsLeft : ℕ → ℕ → List ℕ → Type 0
+      IsLeft = Left p (piece_for pieces) bytes ms
+
+      was_left : IsLeft s.from s.reported going.written
+      was_left = going.rest p bytes ms of (might bytes may) finds
+
+      left_chunk : (piece : StreamPiece) → Tells p s s' given (Some (Ok piece)) → IsLeft s'.from s'.reported (going.written ++ bytes_for piece (slice_range given s'.told s'.reported) pieces)
+      left_chunk NonMatch tells =
+          let clear = λ (m : Occurrence) (answer : IsAnswer p (search_from s.from bytes) (Some m)).
+          tells.clear may.0 m may.2 (subst (λ (xs : List ℕ). IsAnswer p (search_from s.from xs) (Some m)) may.1 answer) in
+          let told = left_plain p (piece_for pieces) bytes ms lengths (are p of) ((now_after p of).no_empty) s.from s.reported s'.reported (omega (arith, tells.some)) clear going.written was_left in
+          let part : slice_range bytes s.reported s'.reported ≡ slice_range given s'.told s'.reported =
+          ap (λ (xs : List ℕ). slice_range xs s.reported s'.reported) may.1
+          ∙ part_stays given may.0 s.reported s'.reported (omega (arith, tells.some)) tells.read
+          ∙ ap (λ (k : ℕ). slice_range given k s'.reported) (sym tells.told) in
+          subst (λ (k : ℕ). IsLeft k s'.reported (going.written ++ slice_range given s'.told s'.reported)) (sym tells.from)
+          (subst (λ (xs : List ℕ). IsLeft s.from s'.reported (going.written ++ xs)) part told)
+      left_chunk (Match m) tells =
+          let answer : IsAnswer p (search_from s.from bytes) (Some m) = subst (λ (xs : List ℕ). IsAnswer p (search_from s.from xs) (Some m)) (sym may.1) (tells.answer may.0 may.2) in
+          let told = left_match p (piece_for pieces) bytes ms lengths (are p of) ((now_after p of).no_empty) s.from s.reported m answer tells.starts going.written was_left in
+          subst (λ (k : ℕ). IsLeft k s'.reported (going.written ++ piece_for pieces m)) (sym tells.from)
+          (subst (λ (k : ℕ). IsLeft m.end k (going.written ++ piece_for pieces m)) (sym tells.reported) told)
+
+    module _ (piece : StreamPiece) (is : answer ≡ Some (Ok piece)) where
+      abbrev pub chunk : List ℕ
+      chunk = bytes_for piece (slice_range given s'.told s'.reported) pieces
+
+      tells_piece : (p : Patterns) → IsOf p → Tells p s s' given (Some (Ok piece))
+      tells_piece p of = subst (Tells p s s' given) is (advance.tells p going.given of (going.after p of))
+
+      -- a chunk was written
+      pub going_on : (taken' : Option (List ℕ)) → Appends taken taken' chunk → Going lookups' s' left' reads' taken'
+      going_on taken' wrote = record {
+        given = given;
+        written = going.written ++ chunk;
+        gives = now_gives;
+        writes = Appends-trans begun taken taken' going.written chunk going.writes wrote;
+        after = now_after;
+        rest = λ p bytes ms of may finds. left_chunk p of bytes ms may finds piece (tells_piece p of);
+      }
+
+      -- or a beginning of it
+      pub begins_chunk : (taken' : Option (List ℕ)) → AppendsBeginning taken taken' chunk → Begins IsOf pieces first left' first_reads reads' begun taken'
+      begins_chunk taken' (count, within, wrote) = record {
+        given = given;
+        ended = s'.ended;
+        gives = now_gives;
+        written = going.written ++ take count chunk;
+        writes = Appends-trans begun taken taken' going.written (take count chunk) going.writes wrote;
+        beginning = λ p bytes ms of may finds.
+            left_begins p (piece_for pieces) bytes ms lengths (are p of) ((now_after p of).no_empty) s'.from s'.reported (going.written ++ take count chunk) (drop count chunk)
+            (subst (λ (xs : List ℕ). IsLeft p of bytes ms may finds s'.from s'.reported xs)
+            (ap (λ (xs : List ℕ). going.written ++ xs) (sym (take-append-drop count chunk)) ∙ sym (append_assoc going.written (take count chunk) (drop count chunk)))
+            (left_chunk p of bytes ms may finds piece (tells_piece p of)));
+      }
+
+      -- each chunk leaves less room under the limit
+      some_told : (p : Patterns) (of : IsOf p) (told : StreamPiece) → Tells p s s' given (Some (Ok told)) → s.reported + 1 ≤ s'.reported
+      some_told p of NonMatch tells = tells.some
+      some_told p of (Match m) tells =
+          let rest = MayFollow-nothing s'.ended in
+          omega (arith, occurs_some p lengths (are p of) m ((tells.answer [] rest).0) ((now_after p of).no_empty), tells.starts, tells.reported)
+
+      pub less_room : (p : Patterns) → IsOf p → s'.limit ≡ s.limit → s'.limit - s'.reported < s.limit - s.reported
+      less_room p of same =
+          let now = now_after p of in
+          omega (arith, some_told p of piece (tells_piece p of), now.reported_walked, now.walked_read, now.limited, same)
+
+    -- nothing was told, and nothing was written
+    module _ (from_same : s'.from ≡ s.from) (reported_same : s'.reported ≡ s.reported) where
+      still_left : (p : Patterns) (of : IsOf p) (bytes : List ℕ) (ms : List Occurrence) (may : MayBe given s'.ended bytes) (finds : AreFinds p (plain_search bytes) None ms)
+          → IsLeft p of bytes ms may finds s'.from s'.reported going.written
+      still_left p of bytes ms may finds =
+          subst (λ (k : ℕ). IsLeft p of bytes ms may finds k s'.reported going.written) (sym from_same)
+          (subst (λ (k : ℕ). IsLeft p of bytes ms may finds s.from k going.written) (sym reported_same) (was_left p of bytes ms may finds))
+
+    -- an error was answered
+    module _ (error : StreamError) (is : answer ≡ Some (Err error)) (p₀ : Patterns) (of₀ : IsOf p₀) where
+      tells_error : TellsError s s' given error
+      tells_error = subst (Tells p₀ s s' given) is (advance.tells p₀ going.given of₀ (going.after p₀ of₀))
+
+      fault : TellsFault s s' given
+      fault = fault_told s s' given error tells_error
+
+      error_left : (p : Patterns) (of : IsOf p) (bytes : List ℕ) (ms : List Occurrence) (may : MayBe given s'.ended bytes) (finds : AreFinds p (plain_search bytes) None ms)
+          → IsLeft p of bytes ms may finds s'.from s'.reported going.written
+      error_left = still_left fault.still.from fault.still.reported
+
+      -- a beginning was written
+      pub begins_still : Begins IsOf pieces first left' first_reads reads' begun taken
+      begins_still = record {
+        given = given;
+        ended = s'.ended;
+        gives = now_gives;
+        written = going.written;
+        writes = going.writes;
+        beginning = λ p bytes ms of may finds.
+            left_begins p (piece_for pieces) bytes ms lengths (are p of) ((now_after p of).no_empty) s'.from s'.reported going.written []
+            (subst (λ (xs : List ℕ). IsLeft p of bytes ms may finds s'.from s'.reported xs) (sym (append-nil going.written)) (error_left p of bytes ms may finds));
+      }
+
+      -- up to what was reported
+      pub up_to_still : ReplacesUpTo IsOf pieces first left' first_reads reads' begun taken (kept_for lengths)
+      up_to_still =
+          let now = now_after p₀ of₀ in
+          record {
+            given = given;
+            ended = s'.ended;
+            gives = now_gives;
+            place = s'.reported;
+            within = omega (arith, now.reported_walked, now.walked_read, now.count);
+            near = omega (arith, fault.near, now.least);
+            writes = λ p bytes ms of may finds.
+                let clear = λ (m : Occurrence) (answer : IsAnswer p (search_from s'.from bytes) (Some m)).
+                (now_after p of).clear may.0 m may.2 (subst (λ (xs : List ℕ). IsAnswer p (search_from s'.from xs) (Some m)) may.1 answer) in
+                subst (Appends begun taken)
+                (sym (left_up_to p (piece_for pieces) bytes ms lengths (are p of) ((now_after p of).no_empty) s'.from s'.reported going.written (error_left p of bytes ms may finds) clear))
+                going.writes;
+          }
+
+      -- at the limit as many bytes were given
+      pub limit_met : is_limit {A = Unit {0}} (Err error) ≡ true → (all : List ℕ) × Consumes first left' all × (length all ≡ s.limit)
+      limit_met met = (given, now_gives.bytes, limit_told s s' given error tells_error met)
+
+    -- no more was answered
+    module _ (is : answer ≡ None) (below : s.refused ≡ false) (p₀ : Patterns) (of₀ : IsOf p₀) where
+      tells_end : (p : Patterns) → IsOf p → TellsEnd p s s' given
+      tells_end p of = subst (Tells p s s' given) is (advance.tells p going.given of (going.after p of))
+
+      -- the whole was written
+      pub replaces_all : Replaces IsOf pieces first left' first_reads reads' begun taken
+      replaces_all =
+          let tells = tells_end p₀ of₀ in
+          let over = end_told p₀ s s' given below tells in
+          record {
+            given = given;
+            gives = subst (λ (b : Bool). Gives first left' first_reads reads' given b) over.0 now_gives;
+            writes = λ p ms of finds.
+                let may : MayBe given s'.ended given = ([], sym (append-nil given), subst (λ (b : Bool). MayFollow b []) (sym over.0) refl) in
+                subst (Appends begun taken)
+                (sym (left_none p (piece_for pieces) given ms lengths (are p of) ((now_after p of).no_empty) s'.from s'.reported going.written (still_left tells.still.from tells.still.reported p of given ms may finds) ((tells_end p of).none) (sym over.1)))
+                going.writes;
+          }

@@ -1,0 +1,26 @@
+-- What the loop over the chunks keeps.
+use Rattle.std.proofs.Common.{◌≡◌, ◌-◌, false}
+use Rattle.aho_base.specs.Replacement.{pieces_of}
+use Rattle.aho_stream.proofs.Replacings.{Going}
+use Rattle.aho_stream.proofs.replace.replace_chunks.Given as goal
+
+-- Over the same automaton and under the same limit: so much was given and written, and no device has failed.
+abbrev pub invariant-loop-answer : goal.invariant-loop-answer
+invariant-loop-answer g l =
+    let automaton = l.initial.chunks.walk.automaton.now in
+    record {
+      going : Going (g.A.Automaton.is_of automaton) (g.A.Automaton.lengths automaton) (g.A.Automaton.valid automaton) (g.A.Automaton.held automaton) (g.A.Automaton.depth automaton)
+          (pieces_of l.replace_with) (g.R.Source.remaining l.initial.chunks.source.now) (g.R.Source.empty_reads l.initial.chunks.source.now) (g.W.Sink.taken l.initial.sink)
+          l.chunks.walk.work l.chunks.progress (g.R.Source.remaining l.chunks.source.now) (g.R.Source.empty_reads l.chunks.source.now) (g.W.Sink.taken l.sink);
+      source : l.chunks.source.ghost_name ≡ l.initial.chunks.source.ghost_name;
+      same : l.chunks.walk.automaton.now ≡ automaton;
+      limit : l.chunks.progress.limit ≡ l.initial.chunks.progress.limit;
+      below : l.chunks.progress.refused ≡ false;
+      reads : g.R.Source.failures l.chunks.source.now ≡ g.R.Source.failures l.initial.chunks.source.now;
+      writes : g.W.Sink.failures l.sink ≡ g.W.Sink.failures l.initial.sink;
+      empty_writes : g.W.Sink.empty_writes l.sink ≡ g.W.Sink.empty_writes l.initial.sink;
+    }
+
+-- each chunk leaves less room under the limit
+abbrev pub decreases-loop-answer : goal.decreases-loop-answer
+decreases-loop-answer g l = l.chunks.progress.limit - l.chunks.progress.reported

@@ -1,0 +1,89 @@
+-- What the replacement of a stream writes.
+use Rattle.std.specs.Prelude.{◌≡◌, ℕ, ◌+◌, ◌≤◌, Bool, true, List, [], ◌∷◌, ◌++◌, Option, None, length, nat_lt, if◌then◌else◌, slice_index_or, slice_range}
+use Rattle.std.specs.Io.{StartsWith}
+use Rattle.std.specs.Io.KnownBytes.{Appends, Consumes}
+use Rattle.aho_base.specs.declared.error.stream.StreamError.{StreamError}
+use Rattle.aho_base.specs.declared.error.stream.StreamError.TheVariants.{Match as Refused, Read, Write, WriteZero, Memory, PositionLimit}
+use Rattle.aho_base.specs.Iteration.{AreFinds}
+use Rattle.aho_base.specs.Occurrence.{Occurrence}
+use Rattle.aho_base.specs.Patterns.{Patterns}
+use Rattle.aho_base.specs.Replacement.{replaced}
+use Rattle.aho_base.specs.Search.{plain_search}
+use Rattle.aho_devices.specs.Counts.{counted}
+use Rattle.aho_stream.specs.After.{MayFollow}
+use Rattle.aho_stream.specs.declared.progress.StreamPiece.{StreamPiece}
+use Rattle.aho_stream.specs.declared.progress.StreamPiece.TheVariants.{NonMatch, Match}
+
+-- the piece of a match's pattern
+abbrev pub piece_for : List (List ℕ) → Occurrence → List ℕ
+piece_for pieces m = slice_index_or pieces m.pattern []
+
+-- what is written for a chunk: its bytes, or the piece of its match
+abbrev pub bytes_for : StreamPiece → List ℕ → List (List ℕ) → List ℕ
+bytes_for NonMatch bytes pieces = bytes
+bytes_for (Match m) bytes pieces = piece_for pieces m
+
+-- the bytes from one place up to another, with a piece in the place of each match that starts before that
+abbrev pub replaced_up_to : List ℕ → ℕ → ℕ → List Occurrence → (Occurrence → List ℕ) → List ℕ
+replaced_up_to bytes place at [] piece = slice_range bytes at place
+replaced_up_to bytes place at (m ∷ ms) piece =
+    if nat_lt m.start place
+    then slice_range bytes at m.start ++ (piece m ++ replaced_up_to bytes place m.end ms piece)
+    else slice_range bytes at place
+
+-- what a source gave in a call, and whether its end was seen
+pub record Gives (before after : Option (List ℕ)) (reads reads' : ℕ) (given : List ℕ) (ended : Bool) : Type 0 where
+  pub bytes : Consumes before after given
+  pub end : reads' ≡ counted ended reads
+
+-- all bytes of a stream that has given some: any others may follow, and none once its end was seen
+abbrev pub MayBe : List ℕ → Bool → List ℕ → Type 0
+MayBe given ended bytes = (more : List ℕ) × (bytes ≡ given ++ more) × MayFollow ended more
+
+-- before a stream was begun: it is no kind of automaton for it, or there was no memory
+abbrev pub IsMakingRefusal : StreamError → Type 0
+IsMakingRefusal (Refused cause) = Unit {0}
+IsMakingRefusal (Read fault) = ⊥
+IsMakingRefusal (Write fault) = ⊥
+IsMakingRefusal WriteZero = ⊥
+IsMakingRefusal Memory = Unit {0}
+IsMakingRefusal PositionLimit = ⊥
+
+-- once it was begun: a device failed, or took nothing, or the limit was met
+abbrev pub IsStreamFault : StreamError → Type 0
+IsStreamFault (Refused cause) = ⊥
+IsStreamFault (Read fault) = Unit {0}
+IsStreamFault (Write fault) = Unit {0}
+IsStreamFault WriteZero = Unit {0}
+IsStreamFault Memory = ⊥
+IsStreamFault PositionLimit = Unit {0}
+
+-- of patterns, and with one piece for each: from what a source had left to give, and its count of empty reads, before a call and
+-- after it, and what a sink had taken
+module _ (IsOf : Patterns → Type 0) (pieces : List (List ℕ)) (before after : Option (List ℕ)) (reads reads' : ℕ) (old new : Option (List ℕ)) where
+  -- the stream has ended, and its replacement was written
+  pub record Replaces : Type 0 where
+    pub given : List ℕ
+    pub gives : Gives before after reads reads' given true
+    pub writes : (p : Patterns) (ms : List Occurrence) → IsOf p → AreFinds p (plain_search given) None ms → Appends old new (replaced given ms pieces)
+
+  -- a beginning of the replacement was written, whatever bytes may follow
+  pub record Begins : Type 0 where
+    pub given : List ℕ
+    pub ended : Bool
+    pub gives : Gives before after reads reads' given ended
+    pub written : List ℕ
+    pub writes : Appends old new written
+    pub beginning : (p : Patterns) (bytes : List ℕ) (ms : List Occurrence) → IsOf p → MayBe given ended bytes → AreFinds p (plain_search bytes) None ms
+        → StartsWith (replaced bytes ms pieces) written
+
+  -- the replacement was written up to a place, whatever bytes may follow: at most so many bytes were left out
+  pub record ReplacesUpTo (most : ℕ) : Type 0 where
+    pub given : List ℕ
+    pub ended : Bool
+    pub gives : Gives before after reads reads' given ended
+    pub place : ℕ
+    pub within : place ≤ length given
+    pub near : length given ≤ place + most
+    pub writes : (p : Patterns) (bytes : List ℕ) (ms : List Occurrence) → IsOf p → MayBe given ended bytes → AreFinds p (plain_search bytes) None ms
+        → Appends old new (replaced_up_to bytes place 0 ms (piece_for pieces))

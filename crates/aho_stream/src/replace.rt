@@ -1,0 +1,154 @@
+//! Replacement in streams.
+
+ghost use Rattle.std.specs.Prelude.{◌≡◌, ◌≢◌, ◌≤◌, ℕ, List, [], Ok, Err, IfErr, OnErr, OnOk, false, length, true};
+ghost use Rattle.std.specs.Io.KnownBytes.{Consumes};
+ghost use Rattle.aho_base.specs.Laws.{shortest};
+ghost use Rattle.aho_base.specs.Patterns.{Patterns};
+ghost use Rattle.aho_base.specs.Replacement.{pieces_of};
+ghost use Rattle.aho_base.specs.declared.error.MatchErrorKind.{MatchErrorKind};
+ghost use Rattle.aho_base.specs.declared.error.MatchErrorKind.TheVariants.{UnsupportedStream, UnsupportedEmpty};
+ghost use Rattle.aho_base.specs.declared.search.Anchored.TheVariants.{No};
+ghost use Rattle.aho_base.specs.declared.search.MatchKind.TheVariants.{Standard};
+ghost use Rattle.aho_devices.specs.Counts.{counted};
+ghost use Rattle.aho_devices.specs.Refusals.{IsFillRefusal, is_read_fault, is_write_fault, is_write_of_nothing};
+ghost use Rattle.aho_stream.specs.After.{IsAfter, greatest_position, kept_for};
+ghost use Rattle.aho_stream.specs.Refills.{is_limit};
+ghost use Rattle.aho_stream.specs.Replacing.{Begins, IsMakingRefusal, IsStreamFault, Replaces, ReplacesUpTo, bytes_for};
+
+use crate::chunks::{MAX_POSITION, StreamChunkIter, begin};
+use crate::progress::StreamPiece;
+use aho_base::error::StreamError;
+use aho_devices::device::{Sink, Source};
+use aho_devices::write::write_whole;
+use aho_search::automaton::Automaton;
+use aho_search::walk::{Counted, Walk};
+use std::alloc::Global;
+
+/// What is written for a chunk: its bytes, or the piece of its match.
+fn bytes_for<'b>(piece: &StreamPiece, bytes: &'b [u8], replace_with: &[&'b [u8]]) -> &'b [u8]
+    ensures bytes { result.now ≡ bytes_for piece.now bytes.now (pieces_of replace_with.now) }
+{
+    match piece {
+        StreamPiece::NonMatch => bytes,
+        StreamPiece::Match { mat } => match replace_with.get(mat.pattern().as_usize()) {
+            Some(piece) => piece,
+            None => &[],
+        },
+    }
+}
+
+/// Writes what is written for each chunk of a stream, of which none was told yet.
+fn replace_chunks<'a, 'r, A: Automaton, R: Source, W: Sink>(
+    chunks: &mut StreamChunkIter<'a, 'r, A, R>,
+    sink: &mut W,
+    replace_with: &[&[u8]],
+) -> Result<(), StreamError>
+    requires some { (p : Patterns) × A.is_of (⟦<Counted<'a, A> as Walk>⟧.of chunks.old.walk) p }
+    requires after { (p : Patterns) → A.is_of (⟦<Counted<'a, A> as Walk>⟧.of chunks.old.walk) p →
+        IsAfter p (A.lengths (⟦<Counted<'a, A> as Walk>⟧.of chunks.old.walk))
+        (A.valid (⟦<Counted<'a, A> as Walk>⟧.of chunks.old.walk))
+        (A.held (⟦<Counted<'a, A> as Walk>⟧.of chunks.old.walk) p)
+        (A.depth (⟦<Counted<'a, A> as Walk>⟧.of chunks.old.walk))
+        (⟦<Counted<'a, A> as Walk>⟧.lookups chunks.old.walk) chunks.old.progress [] }
+    requires open { chunks.old.progress.ended ≡ false }
+    requires below { chunks.old.progress.refused ≡ false }
+    ensures same_source { chunks.new.source.ghost_name ≡ chunks.old.source.ghost_name }
+    ensures replaced { OnOk result (Replaces (A.is_of (⟦<Counted<'a, A> as Walk>⟧.of chunks.old.walk))
+        (pieces_of replace_with.now)
+        (R.remaining chunks.old.source.now) (R.remaining chunks.new.source.now)
+        (R.empty_reads chunks.old.source.now) (R.empty_reads chunks.new.source.now)
+        (W.taken sink.old) (W.taken sink.new)) }
+    ensures begun { OnErr result (Begins (A.is_of (⟦<Counted<'a, A> as Walk>⟧.of chunks.old.walk))
+        (pieces_of replace_with.now)
+        (R.remaining chunks.old.source.now) (R.remaining chunks.new.source.now)
+        (R.empty_reads chunks.old.source.now) (R.empty_reads chunks.new.source.now)
+        (W.taken sink.old) (W.taken sink.new)) }
+    ensures near { IfErr result (λ error. IsFillRefusal error →
+        ReplacesUpTo (A.is_of (⟦<Counted<'a, A> as Walk>⟧.of chunks.old.walk))
+        (pieces_of replace_with.now)
+        (R.remaining chunks.old.source.now) (R.remaining chunks.new.source.now)
+        (R.empty_reads chunks.old.source.now) (R.empty_reads chunks.new.source.now)
+        (W.taken sink.old) (W.taken sink.new)
+        (kept_for (A.lengths (⟦<Counted<'a, A> as Walk>⟧.of chunks.old.walk)))) }
+    ensures limit { is_limit result ≡ true → (given : List ℕ)
+        × Consumes (R.remaining chunks.old.source.now) (R.remaining chunks.new.source.now) given
+        × (length given ≡ chunks.old.progress.limit) }
+    ensures read_failed { R.failures chunks.new.source.now
+        ≡ counted (is_read_fault result) (R.failures chunks.old.source.now) }
+    ensures write_failed { W.failures sink.new
+        ≡ counted (is_write_fault result) (W.failures sink.old) }
+    ensures took_nothing { W.empty_writes sink.new
+        ≡ counted (is_write_of_nothing result) (W.empty_writes sink.old) }
+    ensures only { IfErr result IsStreamFault }
+{
+    while let Some(answer) = chunks.advance() {
+        let piece = answer?;
+        let bytes = bytes_for(&piece, chunks.bytes(), &*replace_with);
+        write_whole(sink, bytes)?;
+    }
+    Ok(())
+}
+
+/// Writes what the source gives to the sink, with the bytes for its pattern in the place of each match.
+///
+/// There is one replacement for each pattern. It ends where the source's end is seen. The matches are those that
+/// replacement in memory of the same bytes finds, whatever the pieces in which they are read. It takes all its memory
+/// before it reads.
+///
+/// # Errors
+///
+/// `Match` and `Memory` as `StreamChunkIter::new`, before anything is read. `Read` exactly where a read fails, `Write`
+/// where a write fails, `WriteZero` where a write of some bytes takes none, and `PositionLimit` where 2^63 - 1 bytes were
+/// given and the end was not seen. Nothing is tried again, and what was written then is a beginning of the replacement:
+/// after `Read` and `PositionLimit` all of it up to a place that is as far from the last byte given as the longest
+/// pattern is long, at most.
+pub fn try_stream_replace_all<A: Automaton, R: Source, W: Sink>(
+    alloc: Global,
+    automaton: &A,
+    source: &mut R,
+    sink: &mut W,
+    replace_with: &[&[u8]],
+) -> Result<(), StreamError>
+    requires of { (p : Patterns) × A.is_of automaton.now p }
+    requires one_each { length replace_with.now ≡ length (A.lengths automaton.now) }
+    ensures replaced { OnOk result (Replaces (A.is_of automaton.now) (pieces_of replace_with.now)
+        (R.remaining source.old) (R.remaining source.new)
+        (R.empty_reads source.old) (R.empty_reads source.new)
+        (W.taken sink.old) (W.taken sink.new)) }
+    ensures begun { OnErr result (Begins (A.is_of automaton.now) (pieces_of replace_with.now)
+        (R.remaining source.old) (R.remaining source.new)
+        (R.empty_reads source.old) (R.empty_reads source.new)
+        (W.taken sink.old) (W.taken sink.new)) }
+    ensures near { IfErr result (λ error. IsFillRefusal error →
+        ReplacesUpTo (A.is_of automaton.now) (pieces_of replace_with.now)
+        (R.remaining source.old) (R.remaining source.new)
+        (R.empty_reads source.old) (R.empty_reads source.new)
+        (W.taken sink.old) (W.taken sink.new) (kept_for (A.lengths automaton.now))) }
+    ensures limit { is_limit result ≡ true → (given : List ℕ)
+        × Consumes (R.remaining source.old) (R.remaining source.new) given
+        × (length given ≡ greatest_position) }
+    ensures read_failed { R.failures source.new
+        ≡ counted (is_read_fault result) (R.failures source.old) }
+    ensures write_failed { W.failures sink.new
+        ≡ counted (is_write_fault result) (W.failures sink.old) }
+    ensures took_nothing { W.empty_writes sink.new
+        ≡ counted (is_write_of_nothing result) (W.empty_writes sink.old) }
+    ensures untouched { IfErr result (λ error. IsMakingRefusal error →
+        (source.new ≡ source.old) × (sink.new ≡ sink.old)) }
+    ensures unsupported { A.kind automaton.now ≢ Standard
+        → result ≡ Err (StreamError.Match (UnsupportedStream (A.kind automaton.now))) }
+    ensures empty { A.kind automaton.now ≡ Standard → shortest (A.lengths automaton.now) ≡ 0
+        → result ≡ Err (StreamError.Match UnsupportedEmpty) }
+    ensures refused { (reason : MatchErrorKind) → A.kind automaton.now ≡ Standard
+        → 1 ≤ shortest (A.lengths automaton.now) → A.start automaton.now No ≡ Err reason
+        → result ≡ Err (StreamError.Match reason) }
+    ensures suits { (sid : ℕ) (reason : MatchErrorKind) → A.kind automaton.now ≡ Standard
+        → 1 ≤ shortest (A.lengths automaton.now) → A.start automaton.now No ≡ Ok sid
+        → result ≢ Err (StreamError.Match reason) }
+{
+    let progress = begin(alloc, automaton, MAX_POSITION)?;
+    let mut chunks = StreamChunkIter::over(automaton, source, progress);
+    let replaced = replace_chunks(&mut chunks, sink, replace_with);
+    let _source = chunks.into_source();
+    replaced
+}

@@ -1,0 +1,262 @@
+//! Replacement in streams: worked rows under every cut into pieces, devices that fail, and random streams against
+//! replacement in memory.
+
+ghost use Rattle.std.specs.Prelude.{◌≡◌, length};
+ghost use Rattle.aho_base.specs.Patterns.{Patterns};
+
+use crate::automata::nfa_of;
+use crate::scripted::{ScriptedSink, ScriptedSource, Turn};
+use aho_base::error::{Fault, MatchError, StreamError};
+use aho_base::search::MatchKind;
+use aho_corasick::noncontiguous::NFA;
+use aho_search::automaton::Automaton;
+use aho_stream::replace::try_stream_replace_all;
+use std::alloc::{AllocError, Global};
+use std::process::Abort;
+use std::test::Fail;
+
+/// A stream with what is written in its place, where each pattern is replaced by its piece.
+#[derive(Clone, Copy)]
+struct Row {
+    patterns: &'static [&'static [u8]],
+    pieces: &'static [&'static [u8]],
+    given: &'static [u8],
+    written: &'static [u8],
+}
+
+const ANIMALS: Row = Row {
+    patterns: &[b"fox", b"brown", b"quick"],
+    pieces: &[b"sloth", b"grey", b"slow"],
+    given: b"The quick brown fox.",
+    written: b"The slow grey sloth.",
+};
+
+const ROWS: &[Row] = &[
+    ANIMALS,
+    Row {
+        patterns: &[b"aa"],
+        pieces: &[b"b"],
+        given: b"aaaaa",
+        written: b"bba",
+    },
+    Row {
+        patterns: &[b"a"],
+        pieces: &[b""],
+        given: b"bab",
+        written: b"bb",
+    },
+    Row {
+        patterns: &[],
+        pieces: &[],
+        given: b"abc",
+        written: b"abc",
+    },
+    Row {
+        patterns: &[],
+        pieces: &[],
+        given: b"",
+        written: b"",
+    },
+    Row {
+        patterns: &[b"ab"],
+        pieces: &[b"-"],
+        given: b"aab",
+        written: b"a-",
+    },
+];
+
+/// As many turns of one kind.
+fn turns_of(alloc: Global, turn: Turn, count: usize) -> Result<Vec<Turn>, AllocError> {
+    let mut turns = Vec::new(alloc);
+    for _ in 0..count {
+        turns.push(turn)?;
+    }
+    Ok(turns)
+}
+
+/// What the replacement of a stream answers, and whether it wrote this.
+fn replaces(
+    rt: &impl Abort,
+    alloc: Global,
+    nfa: &NFA,
+    pieces: &[&[u8]],
+    source: &mut ScriptedSource<'_>,
+    sink: &mut ScriptedSink<'_>,
+) -> Result<(), StreamError>
+    requires of { (p : Patterns) × ⟦<NFA as Automaton>⟧.is_of nfa.now p }
+{
+    assert_eq!(rt; pieces.len(), nfa.patterns_len());
+    try_stream_replace_all(alloc, nfa, source, sink, pieces)
+}
+
+#[test]
+fn each_row_is_replaced_under_every_cut(rt: HostRuntime) -> Result<(), Fail> {
+    let alloc = rt.alloc();
+    for row in ROWS {
+        let nfa = nfa_of(&rt, alloc, row.patterns, MatchKind::Standard, false);
+        for count in 1..=row.given.len() + 1 {
+            let turns = turns_of(alloc, Turn::Move(count), row.given.len())?;
+            let mut source = ScriptedSource::new(row.given, &turns);
+            let mut sink = ScriptedSink::new(alloc, &turns);
+            replaces(&rt, alloc, &nfa, row.pieces, &mut source, &mut sink)?;
+            assert_eq!(&rt; sink.taken(), row.written, "{count} bytes at once");
+        }
+    }
+    Ok(())
+}
+
+#[test]
+fn an_empty_read_ends_the_stream(rt: HostRuntime) -> Result<(), Fail> {
+    let alloc = rt.alloc();
+    let nfa = nfa_of(&rt, alloc, ANIMALS.patterns, MatchKind::Standard, false);
+    let turns = [Turn::Move(6), Turn::Move(0)];
+    let mut source = ScriptedSource::new(ANIMALS.given, &turns);
+    let mut sink = ScriptedSink::new(alloc, &[]);
+    replaces(&rt, alloc, &nfa, ANIMALS.pieces, &mut source, &mut sink)?;
+    assert_eq!(&rt; sink.taken(), b"The qu".as_slice());
+    assert_eq!(&rt; source.rest(), b"ick brown fox.".as_slice());
+    Ok(())
+}
+
+#[test]
+fn a_failed_read_leaves_a_beginning(rt: HostRuntime) -> Result<(), Fail> {
+    let alloc = rt.alloc();
+    let nfa = nfa_of(&rt, alloc, ANIMALS.patterns, MatchKind::Standard, false);
+    let turns = [Turn::Move(7), Turn::Fail];
+    let mut source = ScriptedSource::new(ANIMALS.given, &turns);
+    let mut sink = ScriptedSink::new(alloc, &[]);
+    let answer = replaces(&rt, alloc, &nfa, ANIMALS.pieces, &mut source, &mut sink);
+    assert_eq!(&rt; answer, Err(StreamError::Read(Fault)));
+    assert!(&rt; b"The ".starts_with(sink.taken()));
+    assert!(&rt; sink.taken().starts_with(b"Th"));
+    Ok(())
+}
+
+#[test]
+fn a_failed_write_leaves_a_beginning(rt: HostRuntime) -> Result<(), Fail> {
+    let alloc = rt.alloc();
+    let nfa = nfa_of(&rt, alloc, ANIMALS.patterns, MatchKind::Standard, false);
+    for count in 0..ANIMALS.written.len() {
+        let mut turns = turns_of(alloc, Turn::Move(1), count)?;
+        turns.push(Turn::Fail)?;
+        let mut source = ScriptedSource::new(ANIMALS.given, &[]);
+        let mut sink = ScriptedSink::new(alloc, &turns);
+        let answer = replaces(&rt, alloc, &nfa, ANIMALS.pieces, &mut source, &mut sink);
+        assert_eq!(&rt; answer, Err(StreamError::Write(Fault)));
+        assert_eq!(&rt; sink.taken(), &ANIMALS.written[..count]);
+    }
+    Ok(())
+}
+
+#[test]
+fn a_write_of_nothing_is_told(rt: HostRuntime) -> Result<(), Fail> {
+    let alloc = rt.alloc();
+    let nfa = nfa_of(&rt, alloc, ANIMALS.patterns, MatchKind::Standard, false);
+    let turns = [Turn::Move(0)];
+    let mut source = ScriptedSource::new(ANIMALS.given, &[]);
+    let mut sink = ScriptedSink::new(alloc, &turns);
+    let answer = replaces(&rt, alloc, &nfa, ANIMALS.pieces, &mut source, &mut sink);
+    assert_eq!(&rt; answer, Err(StreamError::WriteZero));
+    assert_eq!(&rt; sink.taken(), b"".as_slice());
+    assert_eq!(&rt; sink.writes(), 1);
+    Ok(())
+}
+
+#[test]
+fn what_cannot_search_a_stream_reads_nothing(rt: HostRuntime) -> Result<(), Fail> {
+    let alloc = rt.alloc();
+    let empty: [&[u8]; 2] = [b"a", b""];
+    let refused = [
+        (
+            MatchKind::LeftmostFirst,
+            MatchError::unsupported_stream(MatchKind::LeftmostFirst),
+        ),
+        (
+            MatchKind::LeftmostLongest,
+            MatchError::unsupported_stream(MatchKind::LeftmostLongest),
+        ),
+        (MatchKind::Standard, MatchError::unsupported_empty()),
+    ];
+    for (kind, reason) in refused {
+        let nfa = nfa_of(&rt, alloc, &empty, kind, false);
+        let mut source = ScriptedSource::new(b"ab", &[]);
+        let mut sink = ScriptedSink::new(alloc, &[]);
+        let answer = replaces(&rt, alloc, &nfa, &[b"x", b"y"], &mut source, &mut sink);
+        assert_eq!(&rt; answer, Err(StreamError::Match(reason)));
+        assert_eq!(&rt; source.reads(), 0);
+        assert_eq!(&rt; sink.writes(), 0);
+    }
+    Ok(())
+}
+
+/// Some bytes "x", and these behind them.
+fn behind(alloc: Global, count: usize, last: &[u8]) -> Result<Vec<u8>, AllocError> {
+    let mut bytes = vec![in alloc; 120; count]?;
+    bytes.extend_from_slice(last)?;
+    Ok(bytes)
+}
+
+#[test]
+fn a_match_across_the_end_of_the_buffer_is_replaced(rt: HostRuntime) -> Result<(), Fail> {
+    let alloc = rt.alloc();
+    let words: [&[u8]; 1] = [b"foobar"];
+    let nfa = nfa_of(&rt, alloc, &words, MatchKind::Standard, false);
+    let given = behind(alloc, 65_533, b"foobary")?;
+    let wanted = behind(alloc, 65_533, b"!y")?;
+    let mut source = ScriptedSource::new(&given, &[]);
+    let mut sink = ScriptedSink::new(alloc, &[]);
+    replaces(&rt, alloc, &nfa, &[b"!"], &mut source, &mut sink)?;
+    assert!(&rt; sink.taken() == wanted.as_slice());
+    Ok(())
+}
+
+/// Numbers that look random.
+#[derive(Drop)]
+struct Numbers {
+    last: u64,
+}
+
+impl Numbers {
+    /// The next number, below `end`.
+    fn next(&mut self, end: u64) -> u64 {
+        self.last = self
+            .last
+            .wrapping_mul(6_364_136_223_846_793_005)
+            .wrapping_add(1_442_695_040_888_963_407);
+        (self.last >> 33).checked_rem(end).unwrap_or(0)
+    }
+
+    /// Turns that move from 1 to 4 bytes.
+    fn turns(&mut self, alloc: Global, count: usize) -> Result<Vec<Turn>, AllocError> {
+        let mut turns = Vec::new(alloc);
+        for _ in 0..count {
+            let moved = self.next(4) as usize;
+            turns.push(Turn::Move(moved.saturating_add(1)))?;
+        }
+        Ok(turns)
+    }
+}
+
+#[test]
+fn random_streams_are_replaced_as_in_memory(rt: HostRuntime) -> Result<(), Fail> {
+    let alloc = rt.alloc();
+    let mut numbers = Numbers { last: 7 };
+    let words: [&[u8]; 4] = [b"ab", b"bca", b"c", b"abcb"];
+    let pieces: [&[u8]; 4] = [b"", b"-", b"ab", b"xyz"];
+    let nfa = nfa_of(&rt, alloc, &words, MatchKind::Standard, false);
+    assert_eq!(&rt; pieces.len(), nfa.patterns_len());
+    for _ in 0..40 {
+        let mut given = Vec::new(alloc);
+        for _ in 0..numbers.next(60) {
+            given.push(b"abcd"[numbers.next(4) as usize & 3])?;
+        }
+        let reads = numbers.turns(alloc, 30)?;
+        let writes = numbers.turns(alloc, 30)?;
+        let mut source = ScriptedSource::new(&given, &reads);
+        let mut sink = ScriptedSink::new(alloc, &writes);
+        replaces(&rt, alloc, &nfa, &pieces, &mut source, &mut sink)?;
+        let wanted = nfa.try_replace_all_bytes(alloc, &given, &pieces)?;
+        assert_eq!(&rt; sink.taken(), wanted.as_slice(), "{given:?}");
+    }
+    Ok(())
+}
