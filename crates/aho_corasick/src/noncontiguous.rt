@@ -110,9 +110,9 @@ impl NFA {
     {
         Ok(NFA {
             match_kind: self.match_kind,
-            pattern_lens: self.pattern_lens.clone()?,
             table: self.table.try_clone()?,
             special: self.special,
+            pattern_lens: self.pattern_lens.clone()?,
             min_pattern_len: self.min_pattern_len,
             max_pattern_len: self.max_pattern_len,
         })
@@ -185,7 +185,7 @@ impl Automaton for NFA {
     }
 
     fn is_special(&self, sid: StateID) -> bool {
-        sid == DEAD || self.table.has_matches(sid)
+        sid == DEAD || self.table.match_len(sid) > 0
     }
 
     fn is_dead(&self, sid: StateID) -> bool {
@@ -193,7 +193,7 @@ impl Automaton for NFA {
     }
 
     fn is_match(&self, sid: StateID) -> bool {
-        self.table.has_matches(sid)
+        self.table.match_len(sid) > 0
     }
 
     fn is_start(&self, sid: StateID) -> bool {

@@ -4,9 +4,3 @@ pub mod TransitionLists
 pub mod States
 -- why a table is not to have so many entries
 pub mod Refusals
--- the numbers of the states' lists
-pub mod Numbers
--- the states of records
-pub mod Records
--- a table where a list of one state was changed, or its link
-pub mod Changes

@@ -1,44 +1,25 @@
--- The inside of a table: what its records and its stores of lists make of its states.
-use Rattle.std.specs.Prelude.{◌≡◌, ◌≢◌, ℕ, ◌+◌, ◌<◌, ◌≤◌, List, map, length, slice_index, slice_index_or}
-use Rattle.aho_lists.specs.Lists.{Lists, list_at, IsList}
-use Rattle.aho_table.specs.Table.{State, transitions_count, matches_count}
-use Rattle.aho_table.specs.declared.links.Record.{Record}
+-- The inside of a table, as one representation keeps it: where the transition of a byte stands in a list, and the counts.
+use Rattle.std.specs.Prelude.{◌≡◌, ℕ, ◌+◌, ◌<◌, ◌≤◌, take, drop, List, length, slice_index_or}
+use Rattle.std.specs.List.{All}
+use Rattle.aho_table.specs.Table.{State, AllRising, transitions_count, matches_count}
 
--- the record of this state
-abbrev pub record_at : List Record → ℕ → Record
-record_at records sid = slice_index_or records sid (record { transitions = 0; matches = 0; fail = 1; depth = 0 })
+-- the byte's transition is the one of this place
+pub record StandsAt (transitions : List (ℕ × ℕ)) (byte place : ℕ) : Type 0 where
+  pub within : place < length transitions
+  pub of_byte : (slice_index_or transitions place (0, 1)).0 ≡ byte
 
--- the state of a record, where these are the lists
-abbrev pub state_of : List (List (ℕ × ℕ)) → List (List ℕ) → Record → State
-state_of transitions matches state = record {
-  transitions = list_at transitions state.transitions;
-  matches = list_at matches state.matches;
-  fail = state.fail;
-  depth = state.depth;
-}
+-- nothing is listed for the byte, and it would stand at this place
+pub record IsGapAt (transitions : List (ℕ × ℕ)) (byte place : ℕ) : Type 0 where
+  pub within : place ≤ length transitions
+  pub before : All (λ transition. transition.0 < byte) (take place transitions)
+  pub after : All (λ transition. byte < transition.0) (drop place transitions)
 
-unfoldable pub states_of : List (List (ℕ × ℕ)) → List (List ℕ) → List Record → List State
-states_of transitions matches records = map (state_of transitions matches) records
-
--- the numbers of the states' lists
-abbrev pub transition_numbers : List Record → List ℕ
-transition_numbers records = map (λ (state : Record). state.transitions) records
-
-abbrev pub match_numbers : List Record → List ℕ
-match_numbers records = map (λ (state : Record). state.matches) records
-
--- each number is that of a list, and no two are of one list, but of the empty one
-pub record AreNumbers {X : Type 0} (numbers : List ℕ) (lists : List (List X)) : Type 0 where
-  pub known : (i : ℕ) → i < length numbers → IsList lists (slice_index numbers i)
-  pub apart : (i j : ℕ) → i < length numbers → j < length numbers → i ≢ j → slice_index numbers i ≡ slice_index numbers j → slice_index numbers i ≡ 0
-
--- each state has lists of its own, and no store has others; no index is above the limit
-pub record IsConsistent (records : List Record) (transitions : Lists (ℕ × ℕ)) (matches : Lists ℕ) (limit : ℕ) : Type 0 where
+-- the counts are those of the lists, no index of a table is above the limit, and each list rises
+pub record IsConsistent (states : List State) (limit transitions matches : ℕ) : Type 0 where
   pub small : limit ≤ 2147483646
-  pub states_within : length records ≤ limit + 1
-  pub transitions_limit : transitions.limit ≡ limit
-  pub matches_limit : matches.limit ≡ limit
-  pub transition_lists : AreNumbers (transition_numbers records) transitions.lists
-  pub match_lists : AreNumbers (match_numbers records) matches.lists
-  pub transitions_are : length transitions.lists ≡ transitions_count (states_of transitions.lists matches.lists records)
-  pub matches_are : length matches.lists ≡ matches_count (states_of transitions.lists matches.lists records)
+  pub transitions_are : transitions ≡ transitions_count states
+  pub transitions_within : transitions ≤ limit + 1
+  pub matches_are : matches ≡ matches_count states
+  pub matches_within : matches ≤ limit + 1
+  pub states_within : length states ≤ limit + 1
+  pub rising : AllRising states

@@ -1,23 +1,25 @@
 //! The states of an automaton with their transitions, match lists and failure links.
 
-ghost use Rattle.std.specs.Prelude.{◌≡◌, ◌≢◌, ◌+◌, ◌<◌, ◌≤◌, ◌^◌, [], ◌∷◌, ◌++◌, length, true, IsTrue, ◌↔◌, IsOk, IfOk, IfErr, OnOk, OnErr, min, slice_get, slice_set, nat_lt, ℕ, List};
+ghost use Rattle.std.specs.Prelude.{◌≡◌, ◌≢◌, ◌+◌, ◌<◌, ◌≤◌, ◌^◌, [], ◌∷◌, ◌++◌, length, true, IsTrue, ◌↔◌, IsOk, IfOk, IfErr, OnOk, OnErr, min, slice_get};
 ghost use Rattle.aho_base.specs.Numbers.{greatest_index};
 ghost use Rattle.aho_base.specs.declared.error.BuildError.TheVariants.{StateIDOverflow};
 ghost use Rattle.aho_table.specs.Refusal.{refusal_at, IsLeadRefusal};
-ghost use Rattle.aho_table.specs.Table.{State, fail_id, IsRising, transition_at, with_transition, new_state, transition_in, next_in, matches_in, fail_in, depth_in, set_transition, push_match, set_fail_of, state_at, lists_byte, transitions_count, matches_count, AllRising, IsWithinLimit, IsLedTo};
-ghost use Rattle.aho_table.specs.Inside.{record_at};
+ghost use Rattle.aho_table.specs.Table.{fail_id, IsRising, transition_at, with_transition, new_state, transition_in, next_in, matches_in, fail_in, depth_in, set_transition, push_match, set_fail_of, state_at, lists_byte, transitions_count, matches_count, AllRising, IsWithinLimit, IsLedTo};
+ghost use Rattle.aho_table.specs.Inside.{StandsAt, IsGapAt};
+
+mod lists;
 
 use aho_base::error::BuildError;
 use aho_base::search::{PatternID, SmallIndex, StateID, Work};
-use aho_lists::matches::MatchLists;
-pub use aho_lists::matches::Matches;
-use aho_lists::transitions::TransitionLists;
-pub use aho_lists::transitions::{FAIL, Transitions};
+pub use lists::{Matches, Transitions};
 use std::alloc::{AllocError, Global};
 use std::marker::Model;
 
 /// The state that every byte leads back to: a search that holds it has ended.
 pub const DEAD: StateID = StateID::ZERO;
+
+/// What `Table::follow` answers where no transition is listed.
+pub const FAIL: StateID = StateID::ONE;
 
 /// The state to which a byte leads.
 #[derive(Clone, Copy)]
@@ -28,13 +30,112 @@ pub enum Child {
     Added(StateID),
 }
 
-/// One state: the numbers of its lists, its link and its depth.
-#[derive(Copy, Clone)]
-struct Record {
-    transitions: StateID,
-    matches: StateID,
+/// One state.
+#[derive(Drop)]
+struct State {
+    /// Rising by byte.
+    transitions: Vec<(u8, StateID)>,
+    matches: Vec<PatternID>,
     fail: StateID,
     depth: SmallIndex,
+}
+
+impl Model for State {
+    ghost use Rattle.aho_table.specs.Table.{State as StateValue, IsRising};
+
+    ghost Value = { StateValue };
+
+    ghost view = { λ s. record { transitions = s.transitions.items; matches = s.matches.items; fail = s.fail; depth = s.depth } };
+
+    ghost invariant = { λ s. IsRising s.transitions.items };
+}
+
+impl State {
+    fn new(alloc: Global, depth: SmallIndex) -> State
+        ensures empty { result ≡ new_state depth }
+    {
+        State {
+            transitions: Vec::new(alloc),
+            matches: Vec::new(alloc),
+            fail: FAIL,
+            depth,
+        }
+    }
+
+    /// The place of the byte's transition, or the place where it would stand.
+    fn place(&self, byte: u8) -> Result<usize, usize>
+        ensures found { IfOk result (StandsAt self.now.transitions byte) }
+        ensures absent { IfErr result (IsGapAt self.now.transitions byte) }
+    {
+        // A state that lists every byte has each at its own place.
+        if let Some(transition) = self.transitions.get(byte as usize)
+            && transition.0 == byte
+        {
+            return Ok(byte as usize);
+        }
+        for (place, transition) in self.transitions.iter().enumerate() {
+            if transition.0 == byte {
+                return Ok(place);
+            }
+            if transition.0 > byte {
+                return Err(place);
+            }
+        }
+        Err(self.transitions.len())
+    }
+
+    /// Where the byte leads, whose transition stands or would stand at `place`; FAIL where it leads nowhere.
+    fn next_at(&self, place: Result<usize, usize>, byte: u8) -> StateID
+        requires found { IfOk place (StandsAt self.now.transitions byte) }
+        requires absent { IfErr place (IsGapAt self.now.transitions byte) }
+        ensures next { result ≡ transition_at self.now.transitions byte }
+    {
+        match place {
+            Ok(place) => self.transitions[place].1,
+            Err(_) => FAIL,
+        }
+    }
+
+    /// Where the byte leads, and FAIL where it leads nowhere.
+    fn follow(&self, byte: u8) -> StateID
+        ensures next { result ≡ transition_at self.now.transitions byte }
+    {
+        self.next_at(self.place(byte), byte)
+    }
+
+    /// The byte, whose transition stands at `place`, leads elsewhere.
+    fn redirect(&mut self, place: usize, byte: u8, next: StateID)
+        requires stands { StandsAt self.old.transitions byte place }
+        ensures set { self.new ≡
+            record self.old { transitions = with_transition self.old.transitions byte next } }
+        ensures len { length self.new.transitions ≡ length self.old.transitions }
+    {
+        self.transitions[place] = (byte, next);
+    }
+
+    /// One transition more, of a byte that would stand at `place`.
+    fn insert(&mut self, place: usize, byte: u8, next: StateID) -> Result<(), AllocError>
+        requires gap { IsGapAt self.old.transitions byte place }
+        ensures set { OnOk result
+            (self.new
+            ≡ record self.old { transitions = with_transition self.old.transitions byte next }) }
+        ensures len { OnOk result (length self.new.transitions ≡ length self.old.transitions + 1) }
+        ensures unchanged { OnErr result (self.new ≡ self.old) }
+    {
+        self.transitions.insert(place, (byte, next))?;
+        Ok(())
+    }
+
+    fn try_clone(&self, alloc: Global) -> Result<State, AllocError>
+        ensures same { IfOk result (λ state. state ≡ self.now) }
+    {
+        Ok(State {
+            transitions: Vec::from_slice(alloc, &self.transitions)?,
+            matches: Vec::from_slice(alloc, &self.matches)?,
+            fail: self.fail,
+            depth: self.depth,
+        })
+    }
 }
 
 /// The states of an automaton, with the transitions and patterns that each lists.
@@ -43,25 +144,24 @@ struct Record {
 /// of the patterns is taken from the start.
 #[derive(Drop)]
 pub struct Table {
-    records: Vec<Record>,
-    transitions: TransitionLists,
-    matches: MatchLists,
+    states: Vec<State>,
+    /// How many transitions the states list together, and one.
+    transitions_len: usize,
+    /// How many patterns the states list together, and one.
+    matches_len: usize,
     limit: usize,
     alloc: Global,
 }
 
 impl Model for Table {
     ghost use Rattle.aho_table.specs.Table.{Tables};
-    ghost use Rattle.aho_table.specs.Inside.{IsConsistent, states_of};
+    ghost use Rattle.aho_table.specs.Inside.{IsConsistent};
 
     ghost Value = { Tables };
 
-    ghost view = { λ t. record {
-      states = states_of t.transitions.lists t.matches.lists t.records.items;
-      limit = t.limit;
-    } };
+    ghost view = { λ t. record { states = t.states.items; limit = t.limit } };
 
-    ghost invariant = { λ t. IsConsistent t.records.items t.transitions t.matches t.limit };
+    ghost invariant = { λ t. IsConsistent t.states.items t.limit t.transitions_len t.matches_len };
 }
 
 impl Table {
@@ -76,9 +176,9 @@ impl Table {
             (λ table. table ≡ record { states = []; limit = min limit greatest_index }) }
     {
         Ok(Table {
-            records: Vec::new(alloc),
-            transitions: TransitionLists::new(alloc, limit),
-            matches: MatchLists::new(alloc, limit),
+            states: Vec::new(alloc),
+            transitions_len: 1,
+            matches_len: 1,
             limit: limit.min(SmallIndex::MAX.as_usize()),
             alloc,
         })
@@ -99,7 +199,7 @@ impl Table {
         ensures len { result ≡ length self.now.states }
         ensures bound { result ≤ 2147483647 }
     {
-        self.records.len()
+        self.states.len()
     }
 
     /// What is true of every table, for a proof to cite. The call does nothing.
@@ -107,15 +207,14 @@ impl Table {
         ensures within { IsWithinLimit self.now.limit self.now.states }
         ensures rising { AllRising self.now.states }
     {
-        self.transitions.facts();
-        self.matches.facts();
+        let _states = &self.states;
     }
 
     /// Whether there is no state.
     pub fn is_empty(&self) -> bool
         ensures empty { IsTrue result ↔ (length self.now.states ≡ 0) }
     {
-        self.len() == 0
+        self.states.is_empty()
     }
 
     /// One more state, without transitions or patterns, and with FAIL as its link. Answers its number, which is the count
@@ -133,21 +232,13 @@ impl Table {
             (λ error. error ≡ refusal_at self.old.limit (length self.old.states)) }
         ensures unchanged { OnErr result (self.new ≡ self.old) }
     {
-        let index = self.records.len();
+        let index = self.states.len();
         if index > self.limit {
             return Err(self.overflow());
         }
-        self.transitions.facts();
-        self.matches.facts();
-        let added = Record {
-            transitions: StateID::ZERO,
-            matches: StateID::ZERO,
-            fail: FAIL,
-            depth,
-        };
-        let Ok(()) = self.records.push(added) else {
+        if self.states.push(State::new(self.alloc, depth)).is_err() {
             return Err(BuildError::OutOfMemory);
-        };
+        }
         Ok(StateID::new_unchecked(index))
     }
 
@@ -170,15 +261,46 @@ impl Table {
             (λ error. error ≡ refusal_at self.old.limit (transitions_count self.old.states)) }
         ensures unchanged { OnErr result (self.new ≡ self.old) }
     {
-        let state = record_of(&self.records, sid);
-        self.transitions.facts();
-        let list = self.transitions.set(state.transitions, byte, next)?;
-        self.transitions.facts();
-        let changed = Record {
-            transitions: list,
-            ..state
-        };
-        replace(&mut self.records, sid, changed);
+        let place = self.states[sid.as_usize()].place(byte);
+        self.put(sid, place, byte, next)
+    }
+
+    /// The byte, whose transition stands or would stand at `place`, leads from the state to the next one.
+    fn put(
+        &mut self,
+        sid: StateID,
+        place: Result<usize, usize>,
+        byte: u8,
+        next: StateID,
+    ) -> Result<(), BuildError>
+        requires added { sid < length self.old.states }
+        requires found { IfOk place (StandsAt (state_at self.old.states sid).transitions byte) }
+        requires absent { IfErr place (IsGapAt (state_at self.old.states sid).transitions byte) }
+        ensures set { OnOk result
+            (self.new ≡ record self.old { states = set_transition self.old.states sid byte next }) }
+        ensures there { lists_byte self.old.states sid byte ≡ true → IsOk result }
+        ensures kept { lists_byte self.old.states sid byte ≡ true
+            → transitions_count self.new.states ≡ transitions_count self.old.states }
+        ensures within { OnOk result (transitions_count self.new.states ≤ self.old.limit + 1) }
+        ensures refused { IfErr result
+            (λ error. error ≡ refusal_at self.old.limit (transitions_count self.old.states)) }
+        ensures unchanged { OnErr result (self.new ≡ self.old) }
+    {
+        let full = self.transitions_len > self.limit;
+        let overflow = self.overflow();
+        let state = &mut self.states[sid.as_usize()];
+        match place {
+            Ok(place) => state.redirect(place, byte, next),
+            Err(place) => {
+                if full {
+                    return Err(overflow);
+                }
+                let Ok(()) = state.insert(place, byte, next) else {
+                    return Err(BuildError::OutOfMemory);
+                };
+                self.transitions_len += 1;
+            }
+        }
         Ok(())
     }
 
@@ -203,29 +325,20 @@ impl Table {
         ensures unchanged { OnErr result (self.new ≡ self.old) }
         ensures rising { IsRising (state_at self.old.states sid).transitions }
     {
-        self.facts();
-        let next = self.next(sid, byte);
+        let state = &self.states[sid.as_usize()];
+        let place = state.place(byte);
+        let next = state.next_at(place, byte);
         if next != FAIL {
             return Ok(Child::Found(next));
         }
         let added = self.add_state(depth)?;
-        match self.set(sid, byte, added) {
+        match self.put(sid, place, byte, added) {
             Ok(()) => Ok(Child::Added(added)),
             Err(error) => {
-                self.remove_last();
+                let _added = self.states.pop();
                 Err(error)
             }
         }
-    }
-
-    /// The last state is gone again, which lists nothing.
-    fn remove_last(&mut self)
-        requires last { (states : List State) × (depth : ℕ) × (self.old.states ≡ states ++ new_state depth ∷ []) }
-        ensures removed { (states : List State) (depth : ℕ) → self.old.states ≡ states ++ new_state depth ∷ []
-            → self.new ≡ record self.old { states = states } }
-    {
-        let count = self.records.len() - 1;
-        self.records.truncate(count);
     }
 
     /// One more pattern of the state, after those that it lists.
@@ -243,15 +356,14 @@ impl Table {
             (λ error. error ≡ refusal_at self.old.limit (matches_count self.old.states)) }
         ensures unchanged { OnErr result (self.new ≡ self.old) }
     {
-        let state = record_of(&self.records, sid);
-        self.matches.facts();
-        let list = self.matches.push(state.matches, pattern)?;
-        self.matches.facts();
-        let changed = Record {
-            matches: list,
-            ..state
-        };
-        replace(&mut self.records, sid, changed);
+        if self.matches_len > self.limit {
+            return Err(self.overflow());
+        }
+        let state = &mut self.states[sid.as_usize()];
+        if state.matches.push(pattern).is_err() {
+            return Err(BuildError::OutOfMemory);
+        }
+        self.matches_len += 1;
         Ok(())
     }
 
@@ -260,8 +372,8 @@ impl Table {
         requires added { sid < length self.old.states }
         ensures set { self.new ≡ record self.old { states = set_fail_of self.old.states sid fail } }
     {
-        let state = record_of(&self.records, sid);
-        replace(&mut self.records, sid, Record { fail, ..state });
+        let state = &mut self.states[sid.as_usize()];
+        state.fail = fail;
     }
 
     /// Where the state leads on failure.
@@ -269,7 +381,7 @@ impl Table {
         requires added { sid < length self.now.states }
         ensures fail { result ≡ fail_in self.now.states sid }
     {
-        record_of(&self.records, sid).fail
+        self.states[sid.as_usize()].fail
     }
 
     /// How far the state is from the start.
@@ -278,7 +390,7 @@ impl Table {
         ensures depth { result ≡ depth_in self.now.states sid }
         ensures bound { result ≤ greatest_index }
     {
-        record_of(&self.records, sid).depth.as_usize()
+        self.states[sid.as_usize()].depth.as_usize()
     }
 
     /// Where the byte leads from the state, and FAIL where it leads nowhere. Adds one look-up to the work.
@@ -289,16 +401,7 @@ impl Table {
         ensures counted { work.new ≡ work.old + 1 }
     {
         work.tick();
-        self.next(sid, byte)
-    }
-
-    /// Where the byte leads from the state, and FAIL where it leads nowhere.
-    fn next(&self, sid: StateID, byte: u8) -> StateID
-        requires added { sid < length self.now.states }
-        ensures next { result ≡ next_in self.now.states sid byte }
-    {
-        let list = record_of(&self.records, sid).transitions;
-        self.transitions.follow(list, byte)
+        self.states[sid.as_usize()].follow(byte)
     }
 
     /// How many transitions the state lists.
@@ -306,8 +409,7 @@ impl Table {
         requires added { sid < length self.now.states }
         ensures len { result ≡ length (state_at self.now.states sid).transitions }
     {
-        let _entries = self.transitions_count();
-        self.transitions(sid).count()
+        self.states[sid.as_usize()].transitions.len()
     }
 
     /// The transition of this place in the state's list, which rises by byte: the byte and where it leads.
@@ -317,8 +419,7 @@ impl Table {
         ensures listed { result ≡ transition_in self.now.states sid index }
         ensures leads { next_in self.now.states sid result.0 ≡ result.1 }
     {
-        self.facts();
-        self.transitions(sid).nth(index).unwrap()
+        self.states[sid.as_usize()].transitions[index]
     }
 
     /// How many patterns the state lists.
@@ -326,29 +427,7 @@ impl Table {
         requires added { sid < length self.now.states }
         ensures len { result ≡ length (matches_in self.now.states sid) }
     {
-        let _entries = self.matches_count();
-        self.matches(sid).count()
-    }
-
-    /// Whether the state lists a pattern.
-    pub fn has_matches(&self, sid: StateID) -> bool
-        requires added { sid < length self.now.states }
-        ensures some { result ≡ nat_lt 0 (length (matches_in self.now.states sid)) }
-    {
-        self.matches.facts();
-        record_of(&self.records, sid).matches.as_usize() > 0
-    }
-
-    /// The patterns of the state, in a vector of their own, in the order of their listing.
-    ///
-    /// # Errors
-    ///
-    /// Want of memory.
-    pub fn patterns(&self, sid: StateID) -> Result<Vec<PatternID>, AllocError>
-        requires added { sid < length self.now.states }
-        ensures listed { IfOk result (λ patterns. patterns.items ≡ matches_in self.now.states sid) }
-    {
-        self.matches(sid).collect(self.alloc)
+        self.states[sid.as_usize()].matches.len()
     }
 
     /// The pattern of this place in the state's list.
@@ -357,7 +436,7 @@ impl Table {
         requires within { index < length (matches_in self.now.states sid) }
         ensures listed { slice_get (matches_in self.now.states sid) index ≡ Some result }
     {
-        self.matches(sid).nth(index).unwrap()
+        self.states[sid.as_usize()].matches[index]
     }
 
     /// The transitions of the state, rising by byte.
@@ -366,8 +445,7 @@ impl Table {
         ensures listed { result ≡ (state_at self.now.states sid).transitions }
         ensures rising { IsRising result }
     {
-        self.transitions
-            .iter(record_of(&self.records, sid).transitions)
+        Transitions::new(&self.states[sid.as_usize()].transitions)
     }
 
     /// The patterns of the state, in the order of their listing.
@@ -375,7 +453,7 @@ impl Table {
         requires added { sid < length self.now.states }
         ensures listed { result ≡ matches_in self.now.states sid }
     {
-        self.matches.iter(record_of(&self.records, sid).matches)
+        Matches::new(&self.states[sid.as_usize()].matches)
     }
 
     /// How many entries the table of transitions has: one for each that a state lists, and the one at index 0.
@@ -383,7 +461,7 @@ impl Table {
         ensures count { result ≡ transitions_count self.now.states }
         ensures bound { result ≤ 2147483647 }
     {
-        self.transitions.len()
+        self.transitions_len
     }
 
     /// How many entries the table of patterns has: one for each that a state lists, and the one at index 0.
@@ -392,8 +470,7 @@ impl Table {
         ensures bound { result ≤ 2147483647 }
         ensures within { result ≤ self.now.limit + 1 }
     {
-        self.matches.facts();
-        self.matches.len()
+        self.matches_len
     }
 
     /// An equal table, in memory of its own.
@@ -404,28 +481,16 @@ impl Table {
     pub fn try_clone(&self) -> Result<Table, AllocError>
         ensures same { IfOk result (λ table. table ≡ self.now) }
     {
+        let mut states = Vec::with_capacity(self.alloc, self.states.len())?;
+        for state in &self.states {
+            states.push(state.try_clone(self.alloc)?)?;
+        }
         Ok(Table {
-            records: Vec::from_slice(self.alloc, &self.records)?,
-            transitions: self.transitions.try_clone(self.alloc)?,
-            matches: self.matches.try_clone(self.alloc)?,
+            states,
+            transitions_len: self.transitions_len,
+            matches_len: self.matches_len,
             limit: self.limit,
             alloc: self.alloc,
         })
     }
-}
-
-/// The record of the state.
-fn record_of(records: &[Record], sid: StateID) -> Record
-    requires added { sid < length records.now }
-    ensures found { result ≡ record_at records.now sid }
-{
-    records[sid.as_usize()]
-}
-
-/// The state has another record.
-fn replace(records: &mut Vec<Record>, sid: StateID, changed: Record)
-    requires added { sid < length records.old.items }
-    ensures replaced { records.new.items ≡ slice_set records.old.items sid changed }
-{
-    records[sid.as_usize()] = changed;
 }

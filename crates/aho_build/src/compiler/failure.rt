@@ -34,11 +34,8 @@ fn copy_matches(table: &mut Table, from: StateID, to: StateID) -> Result<(), Bui
         (IsRefusalOf table.old.limit
         (matches_count table.old.states + length (matches_in table.old.states from))) }
 {
-    let Ok(patterns) = table.patterns(from) else {
-        return Err(BuildError::OutOfMemory);
-    };
-    for index in 0..patterns.len() {
-        let pattern = patterns[index];
+    for index in 0..table.match_len(from) {
+        let pattern = table.match_pattern(from, index);
         table.add_match(to, pattern)?;
     }
     Ok(())
@@ -73,7 +70,7 @@ fn ends_here(table: &Table, kind: MatchKind, sid: StateID) -> bool
 {
     match kind {
         MatchKind::Standard => false,
-        MatchKind::LeftmostFirst | MatchKind::LeftmostLongest => table.has_matches(sid),
+        MatchKind::LeftmostFirst | MatchKind::LeftmostLongest => table.match_len(sid) > 0,
     }
 }
 

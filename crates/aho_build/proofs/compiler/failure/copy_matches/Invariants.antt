@@ -4,6 +4,6 @@ use Rattle.aho_build.proofs.compiler.failure.copy_matches.Given as goal
 
 abbrev pub invariant-loop-index : goal.invariant-loop-index
 invariant-loop-index l = record {
-  states : l.table.states ≡ slice_set l.fn.table.states l.to (copied_state l.fn.table.states l.to l.fn.from l.index);
+  states : l.table.states ≡ slice_set l.fn.table.states l.to (copied_state l.fn.table.states l.to l.from l.index);
   limit : l.table.limit ≡ l.fn.table.limit;
 }
