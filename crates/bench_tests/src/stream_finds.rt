@@ -17,6 +17,7 @@ use std::test::Fail;
 
 /// The patterns of the worked streams, and their bytes.
 const WORDS: &[&[u8]] = &[b"fox", b"brown", b"quick"];
+
 const TEXT: &[u8] = b"The quick brown fox.";
 
 /// A source that gives one byte a read.
