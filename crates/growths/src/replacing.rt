@@ -1,0 +1,161 @@
+//! Replacement in memory.
+
+ghost use Rattle.aho_base.specs.Patterns.{Patterns};
+ghost use Rattle.std.specs.Prelude.{◌≡◌, IfOk, length};
+
+use crate::builds::automaton;
+use crate::wants::{Want, Wrong};
+use aho_base::error::ReplaceError;
+use aho_corasick::noncontiguous::{Builder, NFA};
+use aho_search::automaton::Automaton;
+use std::alloc::Global;
+
+/// Each gap is longer than all before it, so that each copy grows what it is copied to.
+const HAYSTACK: &str =
+    "a fox, another fox, one fox more than both of these, and at the end of the text the last fox";
+
+const REPLACED: &str =
+    "a sloth, another sloth, one sloth more than both of these, and at the end of the text the last sloth";
+
+/// What a destination holds before.
+const BEFORE: &str = "old: ";
+
+/// Where whole pieces end in what was appended, in bytes.
+const ENDS: [usize; 9] = [0, 2, 7, 17, 22, 28, 33, 95, 100];
+
+/// The automaton of the one pattern.
+fn fox(alloc: Global, want: &mut Want) -> Result<NFA, Wrong>
+    ensures of { IfOk result (λ nfa. (p : Patterns) × ⟦<NFA as Automaton>⟧.is_of nfa p) }
+    ensures one { IfOk result (λ nfa. length (⟦<NFA as Automaton>⟧.lengths nfa) ≡ 1) }
+{
+    let nfa = automaton(alloc, &Builder::new(), &[b"fox"], want)?;
+    if nfa.patterns_len() != 1 {
+        return Err("an automaton of another number of patterns");
+    }
+    Ok(nfa)
+}
+
+/// `try_replace_all`.
+pub fn text(alloc: Global, want: &mut Want) -> Result<(), Wrong> {
+    let nfa = fox(alloc, want)?;
+    let replaced = match nfa.try_replace_all(alloc, HAYSTACK, &["sloth"]) {
+        Ok(replaced) => replaced,
+        Err(ReplaceError::Memory) => {
+            want.meet()?;
+            match nfa.try_replace_all(alloc, HAYSTACK, &["sloth"]) {
+                Ok(replaced) => replaced,
+                Err(_) => return Err("a second replacement was refused"),
+            }
+        }
+        Err(_) => return Err("a replacement was refused for another cause"),
+    };
+    is_replaced(replaced.as_bytes(), "")
+}
+
+/// `try_replace_all_bytes`.
+pub fn bytes(alloc: Global, want: &mut Want) -> Result<(), Wrong> {
+    let nfa = fox(alloc, want)?;
+    let replaced = match nfa.try_replace_all_bytes(alloc, HAYSTACK.as_bytes(), &[b"sloth"]) {
+        Ok(replaced) => replaced,
+        Err(ReplaceError::Memory) => {
+            want.meet()?;
+            match nfa.try_replace_all_bytes(alloc, HAYSTACK.as_bytes(), &[b"sloth"]) {
+                Ok(replaced) => replaced,
+                Err(_) => return Err("a second replacement was refused"),
+            }
+        }
+        Err(_) => return Err("a replacement was refused for another cause"),
+    };
+    is_replaced(replaced.as_slice(), "")
+}
+
+/// `try_replace_all_with`, into a text that holds something before.
+pub fn text_with(alloc: Global, want: &mut Want) -> Result<(), Wrong> {
+    let nfa = fox(alloc, want)?;
+    let mut dst = String::new(alloc);
+    if dst.push_str(BEFORE).is_err() {
+        want.meet()?;
+        if dst.push_str(BEFORE).is_err() {
+            return Err("a second growth was refused");
+        }
+    }
+    match replace_text(&nfa, &mut dst) {
+        Ok(()) => is_replaced(dst.as_bytes(), BEFORE),
+        Err(ReplaceError::Memory) => {
+            want.meet()?;
+            is_replaced_in_part(dst.as_bytes())?;
+            dst.clear();
+            match replace_text(&nfa, &mut dst) {
+                Ok(()) => is_replaced(dst.as_bytes(), ""),
+                Err(_) => Err("a second replacement was refused"),
+            }
+        }
+        Err(_) => Err("a replacement was refused for another cause"),
+    }
+}
+
+fn replace_text(nfa: &NFA, dst: &mut String) -> Result<(), ReplaceError>
+    requires of { (p : Patterns) × ⟦<NFA as Automaton>⟧.is_of nfa.now p }
+{
+    nfa.try_replace_all_with(HAYSTACK, dst, |_m, _matched, dst| {
+        dst.push_str("sloth")?;
+        Ok(true)
+    })
+}
+
+/// `try_replace_all_with_bytes`, into bytes that hold something before.
+pub fn bytes_with(alloc: Global, want: &mut Want) -> Result<(), Wrong> {
+    let nfa = fox(alloc, want)?;
+    let mut dst = Vec::new(alloc);
+    if dst.extend_from_slice(BEFORE.as_bytes()).is_err() {
+        want.meet()?;
+        if dst.extend_from_slice(BEFORE.as_bytes()).is_err() {
+            return Err("a second growth was refused");
+        }
+    }
+    match replace_bytes(&nfa, &mut dst) {
+        Ok(()) => is_replaced(dst.as_slice(), BEFORE),
+        Err(ReplaceError::Memory) => {
+            want.meet()?;
+            is_replaced_in_part(dst.as_slice())?;
+            dst.clear();
+            match replace_bytes(&nfa, &mut dst) {
+                Ok(()) => is_replaced(dst.as_slice(), ""),
+                Err(_) => Err("a second replacement was refused"),
+            }
+        }
+        Err(_) => Err("a replacement was refused for another cause"),
+    }
+}
+
+fn replace_bytes(nfa: &NFA, dst: &mut Vec<u8>) -> Result<(), ReplaceError>
+    requires of { (p : Patterns) × ⟦<NFA as Automaton>⟧.is_of nfa.now p }
+{
+    nfa.try_replace_all_with_bytes(HAYSTACK.as_bytes(), dst, |_m, _matched, dst| {
+        dst.extend_from_slice(b"sloth")?;
+        Ok(true)
+    })
+}
+
+/// Looks at a whole replacement, behind what the destination held before.
+fn is_replaced(bytes: &[u8], before: &str) -> Result<(), Wrong> {
+    match bytes.strip_prefix(before.as_bytes()) {
+        Some(appended) if appended == REPLACED.as_bytes() => Ok(()),
+        Some(_) => Err("a replacement is wrong"),
+        None => Err("a destination lost what it held before"),
+    }
+}
+
+/// Looks at what a destination holds after want of memory: what it held before, and whole pieces of the replacement.
+fn is_replaced_in_part(bytes: &[u8]) -> Result<(), Wrong> {
+    let Some(appended) = bytes.strip_prefix(BEFORE.as_bytes()) else {
+        return Err("a destination lost what it held before");
+    };
+    if !REPLACED.as_bytes().starts_with(appended) {
+        return Err("a destination holds what is no beginning of the replacement");
+    }
+    if !ENDS.contains(&appended.len()) {
+        return Err("a destination holds a part of a piece");
+    }
+    Ok(())
+}
