@@ -1,5 +1,6 @@
 -- Which words are nodes, pattern by pattern and byte by byte.
 use Rattle.std.proofs.Common.{◌≡◌, ℕ, suc, ◌+◌, ◌<◌, Bool, true, false, ◌&&◌, ◌||◌, cond, List, [], ◌∷◌, ◌++◌, length, refl, sym, ap, ◌∙◌, inl, inr, arith, append_assoc}
+use Rattle.std.proofs.Math.Bool.{or-false}
 use Rattle.std.proofs.lemmas.Bool.{cases_lt, and_parts, and_from, or_cases, or_left, or_right}
 use Rattle.std.proofs.lemmas.List.{length_push, length-append, append-nil}
 use Rattle.std.specs.Prelude.{bytes_eq}
@@ -68,11 +69,7 @@ module _ (p : Patterns) where
       sym
       (ap (λ (n : ℕ). is_node_among p n (x ∷ word)) (sym count) ∙ is_node_among-more p number x word
       ∙ ap (λ (b : Bool). is_node_among p number (x ∷ word) || (b && begins (x ∷ word) (pattern_word p number))) left
-      ∙ or_none (is_node_among p number (x ∷ word)))
-    where
-      or_none : (b : Bool) → (b || false) ≡ b
-      or_none true = refl
-      or_none false = refl
+      ∙ or-false (is_node_among p number (x ∷ word)))
 
   -- the first bytes of a pattern: none are there at first
   pub is_node_among-start : (number : ℕ) (word : List ℕ) → (is_node_among p number word || begins word []) ≡ is_node_among p number word

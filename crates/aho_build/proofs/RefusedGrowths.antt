@@ -1,6 +1,6 @@
 -- What a build asks for, one pattern after another, and the first of it that the limits refuse.
-use Rattle.std.proofs.Common.{◌≡◌, ℕ, zero, suc, ◌+◌, ◌-◌, ◌<◌, ◌≤◌, Bool, false, cond, nat_lt, List, [], ◌∷◌, ◌++◌, length, Option, Some, None, refl, sym, ap, ◌∙◌, inl, inr, arith, append_assoc}
-use Rattle.std.proofs.lemmas.Bool.{cases_Bool, cases_lt, lt-ltb, ltb-true}
+use Rattle.std.proofs.Common.{◌≡◌, ℕ, zero, suc, ◌+◌, ◌-◌, ◌<◌, ◌≤◌, Bool, cond, List, [], ◌∷◌, ◌++◌, length, Option, Some, None, refl, sym, ap, ◌∙◌, inl, inr, arith, append_assoc}
+use Rattle.std.proofs.lemmas.Bool.{cases_lt, le-ltb, lt-ltb}
 use Rattle.std.proofs.lemmas.Grind.{flat_map-append}
 use Rattle.std.proofs.lemmas.List.{get_or_append_left, length-append}
 use Rattle.std.proofs.lemmas.List.Folds.{find-append}
@@ -9,22 +9,13 @@ use Rattle.std.specs.List.{flat_map, range_with_len}
 use Rattle.std.specs.Option.{option_or}
 use Rattle.aho_base.specs.Patterns.{Patterns, pattern_at}
 use Rattle.aho_base.specs.Trie.{is_kept}
+use Rattle.aho_laws.proofs.Ranges.{range_with_len-add}
 use Rattle.aho_build.specs.declared.settings.Settings.{Settings}
 use Rattle.aho_build.specs.Settings.{in_force}
 use Rattle.aho_build.proofs.MorePatterns.{is_kept-more, kept_before-appended, new_nodes-appended, nodes_before-appended}
 use Rattle.aho_build.specs.Sizes.{kept_before, new_nodes, nodes_before, transitions_for, matches_size}
 use Rattle.aho_build.specs.Refusals.{Growth, PatternNumber, PatternLength, TableIndex, is_refused, entries_from, growth_for_kept, growth_for, first_growth, trie_growth, cause, followed_by, IsCause, IsAccepted}
 use Rattle.aho_build.specs.declared.settings.Limits.{Limits}
-
-range_with_len-split : (a n m : ℕ) → range_with_len a (n + m) ≡ range_with_len a n ++ range_with_len (a + n) m
-range_with_len-split a zero m =
-    let none : zero + m ≡ m = omega arith in
-    let here : a ≡ a + zero = omega arith in
-    ap (range_with_len a) none ∙ ap (λ (b : ℕ). range_with_len b m) here
-range_with_len-split a (suc n) m =
-    let more : suc n + m ≡ suc (n + m) = omega arith in
-    let next : a + 1 + n ≡ a + suc n = omega arith in
-    ap (range_with_len a) more ∙ ap (λ (l : List ℕ). a ∷ l) (range_with_len-split (a + 1) n m ∙ ap (λ (b : ℕ). range_with_len (a + 1) n ++ range_with_len b m) next)
 
 flat_map_range-same : (f g : ℕ → List Growth) (a n : ℕ) → ((k : ℕ) → k < a + n → f k ≡ g k) → flat_map f (range_with_len a n) ≡ flat_map g (range_with_len a n)
 flat_map_range-same f g a zero same = refl
@@ -58,14 +49,11 @@ module _ (p : Patterns) (more : List (List ℕ)) where
       let new = growth_for (followed_by p more) in
       let all = length p.words in
       ap (λ (n : ℕ). first_growth ++ flat_map new (range_with_len 0 n)) (length-append p.words more)
-      ∙ ap (λ (ks : List ℕ). first_growth ++ flat_map new ks) (range_with_len-split 0 all (length more))
+      ∙ ap (λ (ks : List ℕ). first_growth ++ flat_map new ks) (range_with_len-add 0 all (length more))
       ∙ ap (λ (l : List Growth). first_growth ++ l) (flat_map-append new (range_with_len 0 all) (range_with_len (0 + all) (length more)))
       ∙ ap (λ (l : List Growth). first_growth ++ (l ++ flat_map new (range_with_len (0 + all) (length more)))) (flat_map_range-same new (growth_for p) 0 all (λ k less. growth_for-appended k (omega (arith, less))))
       ∙ sym (append_assoc first_growth (flat_map (growth_for p) (range_with_len 0 all)) (flat_map new (range_with_len (0 + all) (length more))))
       ∙ ap (λ (n : ℕ). trie_growth p ++ flat_map new (range_with_len n (length more))) (let same : 0 + all ≡ all = omega arith in same)
-
-pub ltb-false : (n m : ℕ) → m ≤ n → nat_lt n m ≡ false
-ltb-false n m le = elim (cases_Bool (nat_lt n m)) [ inl less ↦ absurd (omega (arith, ltb-true n m less)) | inr at_least ↦ at_least ]
 
 module _ (settings : Settings) where
   abbrev limits : Limits
@@ -93,7 +81,7 @@ module _ (settings : Settings) where
   pub entries_from-within : (size added : ℕ) → size + added ≤ limits.id + 1 → find (is_refused settings) (entries_from size added) ≡ None
   entries_from-within size zero within = refl
   entries_from-within size (suc added) within =
-      ap (λ (b : Bool). cond b (Some (TableIndex size)) (find (is_refused settings) (entries_from (size + 1) added))) (ltb-false limits.id size (omega arith))
+      ap (λ (b : Bool). cond b (Some (TableIndex size)) (find (is_refused settings) (entries_from (size + 1) added))) (le-ltb limits.id size (omega arith))
       ∙ entries_from-within (size + 1) added (omega arith)
 
   pub entries_from-past : (size added : ℕ) → size ≤ limits.id + 1 → limits.id + 1 < size + added → find (is_refused settings) (entries_from size added) ≡ Some (TableIndex (limits.id + 1))
@@ -105,7 +93,7 @@ module _ (settings : Settings) where
             ap (λ (b : Bool). cond b (Some (TableIndex size)) (find (is_refused settings) (entries_from (size + 1) added))) (lt-ltb limits.id size above)
             ∙ ap (λ (n : ℕ). Some (TableIndex n)) same)
         | inr below ↦
-            ap (λ (b : Bool). cond b (Some (TableIndex size)) (find (is_refused settings) (entries_from (size + 1) added))) (ltb-false limits.id size below)
+            ap (λ (b : Bool). cond b (Some (TableIndex size)) (find (is_refused settings) (entries_from (size + 1) added))) (le-ltb limits.id size below)
             ∙ entries_from-past (size + 1) added (omega arith) (omega arith)
       ]
 

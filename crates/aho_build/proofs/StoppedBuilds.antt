@@ -1,6 +1,6 @@
 -- Why a build stops, and that none has stopped before its patterns pass a limit.
 use Rattle.std.proofs.Common.{◌≡◌, ℕ, Bool, true, cond, Result, Ok, Err, ◌+◌, ◌<◌, ◌≤◌, ◌⊎◌, List, [], ◌∷◌, ◌++◌, drop, length, map, take, Option, Some, None, refl, sym, ap, subst, ◌∙◌, inl, inr, arith}
-use Rattle.std.proofs.lemmas.Bool.{cases_Bool, cases_lt, lt-ltb}
+use Rattle.std.proofs.lemmas.Bool.{cases_Bool, cases_lt, le-ltb, lt-ltb}
 use Rattle.std.proofs.lemmas.List.{append-nil, length_push, length-append, map-append, take-append-drop, take-append-le}
 use Rattle.std.proofs.lemmas.List.Elements.{All-nil, All-push}
 use Rattle.std.proofs.lemmas.List.Sums.{sum_by-append}
@@ -23,7 +23,7 @@ use Rattle.aho_build.specs.Refusals.{Growth, PatternNumber, PatternLength, Table
 use Rattle.aho_build.specs.declared.settings.Limits.{Limits}
 use Rattle.aho_table.specs.Table.{State, IsWithinLimit}
 use Rattle.aho_build.proofs.MorePatterns.{IsNumbered-next, patterns_next, words_before, words_next}
-use Rattle.aho_build.proofs.RefusedGrowths.{trie_growth-appended, trie_cause-longer, find-after, find-first, ltb-false, entries_from-within, entries_from-past, IsCause-found}
+use Rattle.aho_build.proofs.RefusedGrowths.{trie_growth-appended, trie_cause-longer, find-after, find-first, entries_from-within, entries_from-past, IsCause-found}
 use Rattle.aho_build.proofs.NodesInOrder.{nodes_before-kept, kept_before-kept}
 
 -- what holds of the error that `?` hands on
@@ -164,7 +164,7 @@ module _ (settings : Settings) where
       found_number : find (is_refused settings) (trie_growth next) ≡ find (is_refused settings) (PatternLength place (length item.now) ∷ rest_of (is_kept next place))
       found_number =
           found_next
-          ∙ ap (λ (b : Bool). cond b (Some (PatternNumber place)) (find (is_refused settings) (PatternLength place (length (pattern_at next place)) ∷ rest_of (is_kept next place)))) (ltb-false limits.pattern place low)
+          ∙ ap (λ (b : Bool). cond b (Some (PatternNumber place)) (find (is_refused settings) (PatternLength place (length (pattern_at next place)) ∷ rest_of (is_kept next place)))) (le-ltb limits.pattern place low)
           ∙ ap (λ (word : List ℕ). find (is_refused settings) (PatternLength place (length word) ∷ rest_of (is_kept next place))) pattern_is
 
       -- it is too long
@@ -178,7 +178,7 @@ module _ (settings : Settings) where
       module _ (short : length item.now ≤ limits.length) where
         found_length : find (is_refused settings) (trie_growth next) ≡ find (is_refused settings) (rest_of (is_kept next place))
         found_length =
-            found_number ∙ ap (λ (b : Bool). cond b (Some (PatternLength place (length item.now))) (find (is_refused settings) (rest_of (is_kept next place)))) (ltb-false limits.length (length item.now) short)
+            found_number ∙ ap (λ (b : Bool). cond b (Some (PatternLength place (length item.now))) (find (is_refused settings) (rest_of (is_kept next place)))) (le-ltb limits.length (length item.now) short)
 
         -- how large the tables are with it
         states_with : is_kept next place ≡ true → (4 + length (nodes_before next place)) + length (new_nodes next place) ≡ 4 + length (nodes_before next (place + 1))

@@ -1,12 +1,11 @@
 -- What failure links are, and how many a step follows, said literally.
-use Rattle.std.proofs.Common.{◌≡◌, ◌≢◌, ◌↔◌, inl, inr, ℕ, zero, suc, ◌+◌, ◌-◌, ◌<◌, ◌≤◌, true, false, List, [], ◌∷◌, ◌++◌, length, refl, sym, ◌∙◌, ap, subst, arith, length-append}
+use Rattle.std.proofs.Common.{◌≡◌, ◌≢◌, ◌↔◌, inl, inr, ℕ, zero, suc, ◌+◌, ◌<◌, ◌≤◌, true, false, List, [], ◌∷◌, ◌++◌, length, refl, sym, ◌∙◌, ap, subst, arith, length-append}
 use Rattle.std.specs.Prelude.{Option, Some, None}
 use Rattle.std.proofs.lemmas.Bool.{cases_Bool, cond-true, cond-false}
 use Rattle.aho_base.specs.declared.search.Anchored.TheVariants.{No}
 use Rattle.aho_base.specs.declared.search.MatchKind.TheVariants.{Standard}
 use Rattle.aho_laws.proofs.ByLinks.{failure-is_node}
 use Rattle.aho_laws.proofs.Kept.{is_cut-from, is_cut-true, other_than_standard, standard_only}
-use Rattle.aho_laws.proofs.StepLaw.{dead_leftmost}
 use Rattle.aho_laws.proofs.Stands.{Stands, from_occurs, to_occurs, length-folded, stands_at}
 use Rattle.aho_laws.proofs.LiteralReadings.{dead-occurrence, live-occurrences, longest_node, longest_node-is, longest_node-size, state-longest}
 use Rattle.aho_laws.proofs.LookUps.{lookups-taken, lookups-failure}

@@ -11,6 +11,18 @@ range_with_len-more a (suc n) =
     let e : a + 1 + n ≡ a + suc n = omega arith in
     ap (λ (xs : List ℕ). a ∷ xs) (range_with_len-more (a + 1) n ∙ ap (λ (x : ℕ). range_with_len (a + 1) n ++ x ∷ []) e)
 
+-- one range after another
+pub range_with_len-add : (a m n : ℕ) → range_with_len a (m + n) ≡ range_with_len a m ++ range_with_len (a + m) n
+range_with_len-add a zero n =
+    let none : 0 + n ≡ n = omega arith in
+    let here : a ≡ a + 0 = omega arith in
+    ap (range_with_len a) none ∙ ap (λ (x : ℕ). range_with_len x n) here
+range_with_len-add a (suc m) n =
+    let count : suc m + n ≡ suc (m + n) = omega arith in
+    let place : a + 1 + m ≡ a + suc m = omega arith in
+    ap (range_with_len a) count
+    ∙ ap (λ xs. a ∷ xs) (range_with_len-add (a + 1) m n ∙ ap (λ (x : ℕ). range_with_len (a + 1) m ++ range_with_len x n) place)
+
 -- one place more
 pub flat_map-places_more : {X : Type 0} (f : ℕ → List X) (a k : ℕ) → a ≤ k
     → flat_map f (range_with_len a (k + 1 - a)) ≡ flat_map f (range_with_len a (k - a)) ++ f k

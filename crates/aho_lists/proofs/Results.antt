@@ -1,10 +1,10 @@
 -- What a `?` answers.
 use Rattle.std.proofs.Common.{◌≡◌, ◌<◌, ◌≤◌, ◌+◌, refl, ℕ, Bool, true, false, eqb, arith, Result, Ok, Err, sym, subst}
 use Rattle.std.specs.Prelude.{IfOk, IfErr, IsErrAnd, OnOk}
+use Rattle.std.proofs.lemmas.Bool.{le-ltb, lt-ltb}
 use Rattle.std.proofs.lemmas.Bool.Decides.{nat_tests}
 use Rattle.aho_base.specs.declared.error.BuildError.TheVariants.{StateIDOverflow, OutOfMemory}
 use Rattle.aho_lists.specs.Refusal.{refusal_at}
-use Rattle.aho_lists.proofs.Runs.{nat_lt-less, nat_lt-not}
 
 -- the error that was given is the one that is answered
 pub IfErr-given : {X E : Type 0} (P : E → Type 0) (result : Result X E) (error : E) → IsErrAnd result (λ e. e ≡ error) → P error → IfErr result P
@@ -23,10 +23,10 @@ OnOk-more (Ok x) more holds = more holds
 OnOk-more (Err e) more holds = tt
 
 pub overflow_at : (limit index : ℕ) → limit < index → StateIDOverflow (limit) (limit + 1) ≡ refusal_at limit index
-overflow_at limit index above = rw (nat_lt-less limit index above) refl
+overflow_at limit index above = rw (lt-ltb limit index above) refl
 
 pub out_of_memory_at : (limit index : ℕ) → index ≤ limit → OutOfMemory ≡ refusal_at limit index
-out_of_memory_at limit index within = rw (nat_lt-not limit index within) refl
+out_of_memory_at limit index within = rw (le-ltb limit index within) refl
 
 pub IfOk-from : {X E : Type 0} {P Q : X → Type 0} {R : Type 0} (result : Result X E) → IfOk result P → OnOk result R → ((x : X) → P x → R → Q x) → IfOk result Q
 IfOk-from (Ok x) p r more = more x p r

@@ -2,6 +2,7 @@
 use Rattle.std.proofs.Common.{◌≡◌, ℕ, Bool, true, false, cond, List, [], ◌∷◌, ◌++◌, refl, sym, ap, ◌∙◌}
 use Rattle.std.specs.Prelude.{None as Nothing, ◌||◌}
 use Rattle.std.specs.List.{flat_map, fold}
+use Rattle.std.proofs.Math.Bool.{or-false}
 use Rattle.std.proofs.lemmas.List.{append-nil}
 use Rattle.std.proofs.lemmas.List.Concat.{flat_map-append}
 use Rattle.std.proofs.lemmas.List.Folds.{list_any-append}
@@ -47,12 +48,8 @@ or_true : (b : Bool) → (b || true) ≡ true
 or_true true = refl
 or_true false = refl
 
-or_false : (b : Bool) → (b || false) ≡ b
-or_false true = refl
-or_false false = refl
-
 has_empty-with_word : (p : Patterns) (word : List ℕ) → has_empty (with_word p word) ≡ (has_empty p || is_empty word)
-has_empty-with_word p word = list_any-append is_empty p.words (word ∷ []) ∙ ap (λ (b : Bool). has_empty p || b) (or_false (is_empty word))
+has_empty-with_word p word = list_any-append is_empty p.words (word ∷ []) ∙ ap (λ (b : Bool). has_empty p || b) (or-false (is_empty word))
 
 any_cases : (ignore_case : Bool) (byte : ℕ) → fold few_with Any (cases_of ignore_case byte) ≡ Any
 any_cases true byte = refl
@@ -66,7 +63,7 @@ few-begins ignore_case false bytes byte = few-fold (cases_of ignore_case byte) b
 pub few_of-with_word : (p : Patterns) (word : List ℕ) → few_of (with_word p word) ≡ few_with_word p.ignore_case (few_of p) word
 few_of-with_word p [] = rw (has_empty-with_word p [], or_true (has_empty p)) refl
 few_of-with_word p (byte ∷ word) =
-    rw (has_empty-with_word p (byte ∷ word), or_false (has_empty p), first_bytes-with_word p (byte ∷ word))
+    rw (has_empty-with_word p (byte ∷ word), or-false (has_empty p), first_bytes-with_word p (byte ∷ word))
     (few-begins p.ignore_case (has_empty p) (first_bytes p) byte)
 
 -- no patterns yet

@@ -25,7 +25,8 @@ use Rattle.aho_base.specs.Progress.{StandsAt}
 use Rattle.aho_base.specs.Search.{Search}
 use Rattle.aho_base.specs.Trie.{begins, pattern_word}
 use Rattle.aho_search.specs.Overlaps.{ended}
-use Rattle.aho_search.proofs.Listing.{ending, ending-ends, filter-all, filter-none, flat_map-nothing, range_with_len-add}
+use Rattle.aho_laws.proofs.Ranges.{range_with_len-add}
+use Rattle.aho_search.proofs.Listing.{ending, ending-ends, filter-all, filter-none, flat_map-nothing}
 use Rattle.aho_search.proofs.Places.{length_part, no_part, part_join, part_of_part, widened}
 
 -- the number of an occurrence

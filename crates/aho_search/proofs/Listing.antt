@@ -2,7 +2,7 @@
 use Rattle.std.proofs.Common.{◌≡◌, ◌≢◌, ℕ, zero, suc, ◌+◌, ◌-◌, ◌<◌, ◌≤◌, Bool, true, false, List, [], ◌∷◌, ◌++◌, map, refl, ◌∙◌, ap, arith}
 use Rattle.std.specs.Prelude.{nat_eq, nat_lt, slice_range}
 use Rattle.std.specs.List.{All, filter, flat_map, range_with_len}
-use Rattle.std.proofs.lemmas.Bool.{cond-true, cond-false}
+use Rattle.std.proofs.lemmas.Bool.{cond-true, cond-false, eq-eqb, le-ltb, lt-ltb}
 use Rattle.std.proofs.lemmas.Grind.{flat_map-append}
 use Rattle.std.proofs.lemmas.List.{append-nil}
 use Rattle.std.proofs.lemmas.List.Elements.{All-append, All-cons, All-filter, All-head, All-nil, All-tail, All-weaker, filter-append}
@@ -12,6 +12,7 @@ use Rattle.aho_base.specs.Bytes.{is_same_word}
 use Rattle.aho_base.specs.Occurrence.{Occurrence, occurrence}
 use Rattle.aho_base.specs.Overlapping.{begins_some, occurrences_at, occurrences_ending, overlapping_by, places}
 use Rattle.aho_base.specs.Patterns.{Patterns, numbers, pattern_at}
+use Rattle.aho_laws.proofs.Ranges.{range_with_len-add}
 
 -- a test that each element passes, and one that none does
 pub filter-all : {X : Type 0} (test : X → Bool) (xs : List X) → All (λ x. test x ≡ true) xs → filter test xs ≡ xs
@@ -35,18 +36,6 @@ filter-flat_map : {X A : Type 0} (test : A → Bool) (f : X → List A) (xs : Li
 filter-flat_map test f [] = refl
 filter-flat_map test f (x ∷ xs) = filter-append test (f x) (flat_map f xs) ∙ ap (λ ys. filter test (f x) ++ ys) (filter-flat_map test f xs)
 
--- one range after another
-pub range_with_len-add : (a m n : ℕ) → range_with_len a (m + n) ≡ range_with_len a m ++ range_with_len (a + m) n
-range_with_len-add a zero n =
-    let none : 0 + n ≡ n = omega arith in
-    let here : a ≡ a + 0 = omega arith in
-    ap (range_with_len a) none ∙ ap (λ (x : ℕ). range_with_len x n) here
-range_with_len-add a (suc m) n =
-    let count : suc m + n ≡ suc (m + n) = omega arith in
-    let place : a + 1 + m ≡ a + suc m = omega arith in
-    ap (range_with_len a) count
-    ∙ ap (λ xs. a ∷ xs) (range_with_len-add (a + 1) m n ∙ ap (λ (x : ℕ). range_with_len (a + 1) m ++ range_with_len x n) place)
-
 -- where no place has anything nothing is listed
 pub flat_map-nothing : {A : Type 0} (f : ℕ → List A) (a n : ℕ) → ((k : ℕ) → a ≤ k → k < a + n → f k ≡ []) → flat_map f (range_with_len a n) ≡ []
 flat_map-nothing f a zero none = refl
@@ -66,15 +55,6 @@ filter-places_none : (test : Occurrence → Bool) (f : ℕ → List Occurrence) 
 filter-places_none test f a n none = filter-flat_map test f (range_with_len a n) ∙ flat_map-nothing (λ k. filter test (f k)) a n none
 
 -- tests of the end
-lt-true : (a b : ℕ) → a < b → nat_lt a b ≡ true
-lt-true a b h = grind (arith, h)
-
-lt-false : (a b : ℕ) → b ≤ a → nat_lt a b ≡ false
-lt-false a b h = grind (arith, h)
-
-eq-true : (a b : ℕ) → a ≡ b → nat_eq a b ≡ true
-eq-true a b h = grind (arith, h)
-
 eq-false : (a b : ℕ) → a ≢ b → nat_eq a b ≡ false
 eq-false a b h = grind (arith, h)
 
@@ -141,9 +121,9 @@ module _ (p : Patterns) (haystack : List ℕ) (start : ℕ) where
         ∙ flat_map-append (ending anchored) (range_with_len start (at - start)) (range_with_len (start + (at - start)) (end + 1 - at)))
         ∙ filter-append test (listed start (at - start)) (listed (start + (at - start)) (end + 1 - at))
         ∙ ap (λ xs. xs ++ filter test (listed (start + (at - start)) (end + 1 - at)))
-        (filter-places_all test (ending anchored) start (at - start) (λ k least most. kept_by test k (λ m e. lt-true m.end at (omega arith))))
+        (filter-places_all test (ending anchored) start (at - start) (λ k least most. kept_by test k (λ m e. lt-ltb m.end at (omega arith))))
         ∙ ap (λ xs. listed start (at - start) ++ xs)
-        (filter-places_none test (ending anchored) (start + (at - start)) (end + 1 - at) (λ k least most. left_out_by test k (λ m e. lt-false m.end at (omega arith))))
+        (filter-places_none test (ending anchored) (start + (at - start)) (end + 1 - at) (λ k least most. left_out_by test k (λ m e. le-ltb m.end at (omega arith))))
         ∙ append-nil (listed start (at - start))
 
     -- what ends there
@@ -155,7 +135,7 @@ module _ (p : Patterns) (haystack : List ℕ) (start : ℕ) where
         ∙ ap (λ xs. xs ++ filter test (ending anchored at ++ listed (at + 1) (end - at)))
         (filter-places_none test (ending anchored) start (at - start) (λ k least most. left_out_by test k (λ m e. eq-false m.end at (λ same. omega arith))))
         ∙ filter-append test (ending anchored at) (listed (at + 1) (end - at))
-        ∙ ap (λ xs. xs ++ filter test (listed (at + 1) (end - at))) (kept_by test at (λ m e. eq-true m.end at e))
+        ∙ ap (λ xs. xs ++ filter test (listed (at + 1) (end - at))) (kept_by test at (λ m e. eq-eqb m.end at e))
         ∙ ap (λ xs. ending anchored at ++ xs)
         (filter-places_none test (ending anchored) (at + 1) (end - at) (λ k least most. left_out_by test k (λ m e. eq-false m.end at (λ same. omega arith))))
         ∙ append-nil (ending anchored at)

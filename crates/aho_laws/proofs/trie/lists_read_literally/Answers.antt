@@ -6,7 +6,6 @@ use Rattle.aho_base.specs.Failure.{is_leftmost}
 use Rattle.aho_laws.proofs.ByLinks.{matches-linked, matches-next, matches-own, matches-root}
 use Rattle.aho_laws.proofs.Kept.{other_than_standard}
 use Rattle.aho_laws.proofs.Listed.{own-has, own-listed, own-member}
-use Rattle.aho_laws.specs.TrieLaws.{IsOwnPattern}
 use Rattle.aho_laws.proofs.trie.lists_read_literally.Goals as goal
 
 pub returns-clause-own : goal.returns-clause-own
