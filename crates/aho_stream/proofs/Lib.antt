@@ -9,3 +9,5 @@ mod Advanced
 mod Found
 mod StreamFinds
 mod Replacings
+mod StreamRuns
+mod Runnings

@@ -31,7 +31,7 @@ err_given (Ok x) error is = absurd is
 err_given (Err e) error is = ap Err is
 
 -- each error of a call leaves all as it was
-fault_told : (s s' : Progress) (given : List ℕ) (error : StreamError) → TellsError s s' given error → TellsFault s s' given
+pub fault_told : (s s' : Progress) (given : List ℕ) (error : StreamError) → TellsError s s' given error → TellsFault s s' given
 fault_told s s' given (Refused cause) tells = absurd tells
 fault_told s s' given (Read fault) tells = tells
 fault_told s s' given (Write fault) tells = absurd tells
@@ -40,7 +40,7 @@ fault_told s s' given Memory tells = absurd tells
 fault_told s s' given PositionLimit tells = tells.fault
 
 -- the limit is answered where as many bytes were given
-limit_told : (s s' : Progress) (given : List ℕ) (error : StreamError) → TellsError s s' given error → is_limit {A = Unit {0}} (Err error) ≡ true → length given ≡ s.limit
+pub limit_told : (s s' : Progress) (given : List ℕ) (error : StreamError) → TellsError s s' given error → is_limit {A = Unit {0}} (Err error) ≡ true → length given ≡ s.limit
 limit_told s s' given (Refused cause) tells met = absurd tells
 limit_told s s' given (Read fault) tells met = cc
 limit_told s s' given (Write fault) tells met = absurd tells
@@ -49,21 +49,48 @@ limit_told s s' given Memory tells met = absurd tells
 limit_told s s' given PositionLimit tells met = tells.reached
 
 -- the end of a stream that was not refused
-end_told : (p : Patterns) (s s' : Progress) (given : List ℕ) → s.refused ≡ false → TellsEnd p s s' given → (s'.ended ≡ true) × (s'.reported ≡ length given)
-end_told p s s' given below tells = elim tells.over [ inl all ↦ all | inr refused ↦ cc ]
+pub all_told : (p : Patterns) (s s' : Progress) (given : List ℕ) → s.refused ≡ false → TellsEnd p s s' given → (s'.ended ≡ true) × (s'.reported ≡ length given)
+all_told p s s' given below tells = elim tells.over [ inl all ↦ all | inr refused ↦ cc ]
 
 -- a count that rises once, where the end is seen
-pub count_on : (before after : Bool) (reads : ℕ) → (before ≡ true → after ≡ true) → counted (ends_between before after) (counted before reads) ≡ counted after reads
+count_on : (before after : Bool) (reads : ℕ) → (before ≡ true → after ≡ true) → counted (ends_between before after) (counted before reads) ≡ counted after reads
 count_on true true reads stays = refl
 count_on true false reads stays = let clash : false ≡ true = stays refl in cc
 count_on false true reads stays = refl
 count_on false false reads stays = refl
 
 -- what may follow later may follow now, behind what was given in between
-pub may_follow : (before after : Bool) (bytes more : List ℕ) → (before ≡ true → bytes ≡ []) → (before ≡ true → after ≡ true) → MayFollow after more → MayFollow before (bytes ++ more)
+may_follow : (before after : Bool) (bytes more : List ℕ) → (before ≡ true → bytes ≡ []) → (before ≡ true → after ≡ true) → MayFollow after more → MayFollow before (bytes ++ more)
 may_follow false after bytes more closed stays follows = tt
 may_follow true true bytes more closed stays follows = ap (λ (xs : List ℕ). xs ++ more) (closed refl) ∙ follows
 may_follow true false bytes more closed stays follows = let clash : false ≡ true = stays refl in cc
+
+-- a source gave more
+pub gives_on : (first left left' : Option (List ℕ)) (first_reads reads reads' : ℕ) (given bytes : List ℕ) (before after : Bool) → Gives first left first_reads reads given before
+    → Consumes left left' bytes → reads' ≡ counted (ends_between before after) reads → (before ≡ true → after ≡ true) → Gives first left' first_reads reads' (given ++ bytes) after
+gives_on first left left' first_reads reads reads' given bytes before after gives read counts stays = record {
+  bytes = Consumes-trans first left left' given bytes gives.bytes read;
+  end = counts ∙ ap (counted (ends_between before after)) gives.end ∙ count_on before after first_reads stays;
+}
+
+-- what a stream may be later it may be now
+pub might_be : (given bytes all : List ℕ) (before after : Bool) → (before ≡ true → bytes ≡ []) → (before ≡ true → after ≡ true) → MayBe (given ++ bytes) after all → MayBe given before all
+might_be given bytes all before after closed stays may = (
+  bytes ++ may.0,
+  may.1 ∙ append_assoc given bytes may.0,
+  may_follow before after bytes may.0 closed stays may.2,
+)
+
+-- each chunk leaves less room under the limit
+module _ (p : Patterns) (lengths : List ℕ) (valid : ℕ → Type 0) (held : Anchored → List ℕ → ℕ → Type 0) (depth : ℕ → ℕ) (lookups : ℕ) (s s' : Progress) (given : List ℕ) where
+  some_told : (piece : StreamPiece) → lengths ≡ map length p.words → IsAfter p lengths valid held depth lookups s' given → Tells p s s' given (Some (Ok piece)) → s.reported + 1 ≤ s'.reported
+  some_told NonMatch are after tells = tells.some
+  some_told (Match m) are after tells =
+      omega (arith, occurs_some p lengths are m ((tells.answer [] (MayFollow-nothing s'.ended)).0) after.no_empty, tells.starts, tells.reported)
+
+  pub less_left : (piece : StreamPiece) → lengths ≡ map length p.words → IsAfter p lengths valid held depth lookups s' given → Tells p s s' given (Some (Ok piece))
+      → s'.limit ≡ s.limit → s'.limit - s'.reported < s.limit - s.reported
+  less_left piece are after tells same = omega (arith, some_told piece are after tells, after.reported_walked, after.walked_read, after.limited, same)
 
 -- nothing was given and nothing was written
 pub begins_nothing : (IsOf : Patterns → Type 0) (pieces : List (List ℕ)) (before : Option (List ℕ)) (reads : ℕ) (old : Option (List ℕ)) → Begins IsOf pieces before before reads reads old old
@@ -116,24 +143,14 @@ module _ (IsOf : Patterns → Type 0) (lengths : List ℕ)
     now_after p of = advance.is_after p going.given of (going.after p of)
 
     pub now_gives : Gives first left' first_reads reads' given s'.ended
-    now_gives = record {
-      bytes = Consumes-trans first left left' going.given advance.bytes going.gives.bytes advance.read;
-      end = counts ∙ ap (counted (ends_between s.ended s'.ended)) going.gives.end ∙ count_on s.ended s'.ended first_reads stays;
-    }
-
-    might : (bytes : List ℕ) → MayBe given s'.ended bytes → MayBe going.given s.ended bytes
-    might bytes may = (
-      advance.bytes ++ may.0,
-      may.1 ∙ append_assoc going.given advance.bytes may.0,
-      may_follow s.ended s'.ended advance.bytes may.0 advance.closed stays may.2,
-    )
+    now_gives = gives_on first left left' first_reads reads reads' going.given advance.bytes s.ended s'.ended going.gives advance.read counts stays
 
     module _ (p : Patterns) (of : IsOf p) (bytes : List ℕ) (ms : List Occurrence) (may : MayBe given s'.ended bytes) (finds : AreFinds p (plain_search bytes) None ms) where
       abbrev IsLeft : ℕ → ℕ → List ℕ → Type 0
       IsLeft = Left p (piece_for pieces) bytes ms
 
       was_left : IsLeft s.from s.reported going.written
-      was_left = going.rest p bytes ms of (might bytes may) finds
+      was_left = going.rest p bytes ms of (might_be going.given advance.bytes bytes s.ended s'.ended advance.closed stays may) finds
 
       left_chunk : (piece : StreamPiece) → Tells p s s' given (Some (Ok piece)) → IsLeft s'.from s'.reported (going.written ++ bytes_for piece (slice_range given s'.told s'.reported) pieces)
       left_chunk NonMatch tells =
@@ -185,17 +202,8 @@ module _ (IsOf : Patterns → Type 0) (lengths : List ℕ)
             (left_chunk p of bytes ms may finds piece (tells_piece p of)));
       }
 
-      -- each chunk leaves less room under the limit
-      some_told : (p : Patterns) (of : IsOf p) (told : StreamPiece) → Tells p s s' given (Some (Ok told)) → s.reported + 1 ≤ s'.reported
-      some_told p of NonMatch tells = tells.some
-      some_told p of (Match m) tells =
-          let rest = MayFollow-nothing s'.ended in
-          omega (arith, occurs_some p lengths (are p of) m ((tells.answer [] rest).0) ((now_after p of).no_empty), tells.starts, tells.reported)
-
       pub less_room : (p : Patterns) → IsOf p → s'.limit ≡ s.limit → s'.limit - s'.reported < s.limit - s.reported
-      less_room p of same =
-          let now = now_after p of in
-          omega (arith, some_told p of piece (tells_piece p of), now.reported_walked, now.walked_read, now.limited, same)
+      less_room p of same = less_left p lengths valid (held p) depth lookups' s s' given piece (are p of) (now_after p of) (tells_piece p of) same
 
     -- nothing was told, and nothing was written
     module _ (from_same : s'.from ≡ s.from) (reported_same : s'.reported ≡ s.reported) where
@@ -262,7 +270,7 @@ module _ (IsOf : Patterns → Type 0) (lengths : List ℕ)
       pub replaces_all : Replaces IsOf pieces first left' first_reads reads' begun taken
       replaces_all =
           let tells = tells_end p₀ of₀ in
-          let over = end_told p₀ s s' given below tells in
+          let over = all_told p₀ s s' given below tells in
           record {
             given = given;
             gives = subst (λ (b : Bool). Gives first left' first_reads reads' given b) over.0 now_gives;

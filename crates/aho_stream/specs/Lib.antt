@@ -4,3 +4,4 @@ pub mod Refills
 pub mod Chunks
 pub mod Finds
 pub mod Replacing
+pub mod StreamRun

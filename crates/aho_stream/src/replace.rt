@@ -1,6 +1,6 @@
 //! Replacement in streams.
 
-ghost use Rattle.std.specs.Prelude.{◌≡◌, ◌≢◌, ◌≤◌, ℕ, List, [], Ok, Err, IfErr, OnErr, OnOk, false, length, true};
+ghost use Rattle.std.specs.Prelude.{◌⊎◌, ◌≡◌, ◌≢◌, ◌≤◌, ℕ, List, [], Ok, Err, IfErr, OnErr, OnOk, false, length, true};
 ghost use Rattle.std.specs.Io.KnownBytes.{Consumes};
 ghost use Rattle.aho_base.specs.Laws.{shortest};
 ghost use Rattle.aho_base.specs.Patterns.{Patterns};
@@ -13,11 +13,13 @@ ghost use Rattle.aho_devices.specs.Counts.{counted};
 ghost use Rattle.aho_devices.specs.Refusals.{IsFillRefusal, is_read_fault, is_write_fault, is_write_of_nothing};
 ghost use Rattle.aho_stream.specs.After.{IsAfter, greatest_position, kept_for};
 ghost use Rattle.aho_stream.specs.Refills.{is_limit};
+ghost use Rattle.aho_stream.specs.StreamRun.{RunsOver};
 ghost use Rattle.aho_stream.specs.Replacing.{Begins, IsMakingRefusal, IsStreamFault, Replaces, ReplacesUpTo, bytes_for};
 
 use crate::chunks::{MAX_POSITION, StreamChunkIter, begin};
 use crate::progress::StreamPiece;
 use aho_base::error::StreamError;
+use aho_base::search::Match;
 use aho_devices::device::{Sink, Source};
 use aho_devices::write::write_whole;
 use aho_search::automaton::Automaton;
@@ -151,4 +153,90 @@ pub fn try_stream_replace_all<A: Automaton, R: Source, W: Sink>(
     let replaced = replace_chunks(&mut chunks, sink, replace_with);
     let _source = chunks.into_source();
     replaced
+}
+
+/// Writes the bytes of a stream that are outside of every match, and calls the closure on each match, of which none was
+/// told yet.
+fn replace_chunks_with<'a, 'r, A: Automaton, R: Source, W: Sink, F>(
+    chunks: &mut StreamChunkIter<'a, 'r, A, R>,
+    sink: &mut W,
+    mut replace_with: F,
+) -> Result<(), StreamError>
+where
+    F: FnMut(&Match, &[u8], &mut W) -> Result<(), StreamError>,
+    requires some { (p : Patterns) × A.is_of (⟦<Counted<'a, A> as Walk>⟧.of chunks.old.walk) p }
+    requires after { (p : Patterns) → A.is_of (⟦<Counted<'a, A> as Walk>⟧.of chunks.old.walk) p →
+        IsAfter p (A.lengths (⟦<Counted<'a, A> as Walk>⟧.of chunks.old.walk))
+        (A.valid (⟦<Counted<'a, A> as Walk>⟧.of chunks.old.walk))
+        (A.held (⟦<Counted<'a, A> as Walk>⟧.of chunks.old.walk) p)
+        (A.depth (⟦<Counted<'a, A> as Walk>⟧.of chunks.old.walk))
+        (⟦<Counted<'a, A> as Walk>⟧.lookups chunks.old.walk) chunks.old.progress [] }
+    requires open { chunks.old.progress.ended ≡ false }
+    requires below { chunks.old.progress.refused ≡ false }
+    requires limit { chunks.old.progress.limit ≡ greatest_position }
+    requires callable { F.IsAlwaysCallable replace_with }
+    ensures same_source { chunks.new.source.ghost_name ≡ chunks.old.source.ghost_name }
+    ensures runs { RunsOver W.taken W.failures W.empty_writes
+        (A.is_of (⟦<Counted<'a, A> as Walk>⟧.of chunks.old.walk)) F.FnMut
+        (R.remaining chunks.old.source.now) (R.remaining chunks.new.source.now)
+        (R.empty_reads chunks.old.source.now) (R.empty_reads chunks.new.source.now)
+        (R.failures chunks.old.source.now) (R.failures chunks.new.source.now)
+        replace_with sink.old result sink.new }
+{
+    while let Some(answer) = chunks.advance() {
+        match answer? {
+            StreamPiece::NonMatch => write_whole(sink, chunks.bytes())?,
+            StreamPiece::Match { mat } => replace_with(&mat, chunks.bytes(), sink)?,
+        }
+    }
+    Ok(())
+}
+
+/// Writes what the source gives to the sink, but in the place of each match calls the closure on the match, its bytes and
+/// the sink.
+///
+/// It ends where the source's end is seen. The matches are those that replacement in memory of the same bytes finds,
+/// whatever the pieces in which they are read. It takes all its memory before it reads.
+///
+/// # Errors
+///
+/// `Match` and `Memory` as `StreamChunkIter::new`, before anything is read. An error of the closure ends the replacing
+/// and is passed on. Else `Read` exactly where a read fails, `Write` where a write of bytes outside of a match fails,
+/// `WriteZero` where such a write takes none, and `PositionLimit` where 2^63 - 1 bytes were given and the end was not
+/// seen. Nothing is tried again, and of the bytes behind the last match a beginning was written then.
+pub fn try_stream_replace_all_with<A: Automaton, R: Source, W: Sink, F>(
+    alloc: Global,
+    automaton: &A,
+    source: &mut R,
+    sink: &mut W,
+    replace_with: F,
+) -> Result<(), StreamError>
+where
+    F: FnMut(&Match, &[u8], &mut W) -> Result<(), StreamError>,
+    requires of { (p : Patterns) × A.is_of automaton.now p }
+    requires callable { F.IsAlwaysCallable replace_with }
+    ensures runs { (sid : ℕ) → A.kind automaton.now ≡ Standard
+        → 1 ≤ shortest (A.lengths automaton.now) → A.start automaton.now No ≡ Ok sid
+        → ((result ≡ Err StreamError.Memory) × (source.new ≡ source.old) × (sink.new ≡ sink.old))
+        ⊎ RunsOver W.taken W.failures W.empty_writes (A.is_of automaton.now) F.FnMut
+        (R.remaining source.old) (R.remaining source.new)
+        (R.empty_reads source.old) (R.empty_reads source.new)
+        (R.failures source.old) (R.failures source.new)
+        replace_with sink.old result sink.new }
+    ensures unsupported { A.kind automaton.now ≢ Standard
+        → (result ≡ Err (StreamError.Match (UnsupportedStream (A.kind automaton.now))))
+        × (source.new ≡ source.old) × (sink.new ≡ sink.old) }
+    ensures empty { A.kind automaton.now ≡ Standard → shortest (A.lengths automaton.now) ≡ 0
+        → (result ≡ Err (StreamError.Match UnsupportedEmpty))
+        × (source.new ≡ source.old) × (sink.new ≡ sink.old) }
+    ensures refused { (reason : MatchErrorKind) → A.kind automaton.now ≡ Standard
+        → 1 ≤ shortest (A.lengths automaton.now) → A.start automaton.now No ≡ Err reason
+        → (result ≡ Err (StreamError.Match reason))
+        × (source.new ≡ source.old) × (sink.new ≡ sink.old) }
+{
+    let begun = begin(alloc, automaton, MAX_POSITION)?;
+    let mut chunks = StreamChunkIter::over(automaton, source, begun);
+    let answer = replace_chunks_with(&mut chunks, sink, replace_with);
+    let _source = chunks.into_source();
+    answer
 }

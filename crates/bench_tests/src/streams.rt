@@ -9,8 +9,9 @@ use crate::scripted::{ScriptedSink, ScriptedSource, Turn};
 use aho_base::error::{Fault, MatchError, StreamError};
 use aho_base::search::MatchKind;
 use aho_corasick::noncontiguous::NFA;
+use aho_devices::write::write_whole;
 use aho_search::automaton::Automaton;
-use aho_stream::replace::try_stream_replace_all;
+use aho_stream::replace::{try_stream_replace_all, try_stream_replace_all_with};
 use std::alloc::{AllocError, Global};
 use std::process::Abort;
 use std::test::Fail;
@@ -89,6 +90,24 @@ fn replaces(
     try_stream_replace_all(alloc, nfa, source, sink, pieces)
 }
 
+/// What the replacement of a stream answers, where each match is put in brackets, and the closure answers this.
+fn puts_in_brackets(
+    alloc: Global,
+    nfa: &NFA,
+    source: &mut ScriptedSource<'_>,
+    sink: &mut ScriptedSink<'_>,
+    answer: Result<(), StreamError>,
+) -> Result<(), StreamError>
+    requires of { (p : Patterns) × ⟦<NFA as Automaton>⟧.is_of nfa.now p }
+{
+    try_stream_replace_all_with(alloc, nfa, source, sink, |_m, matched, sink| {
+        write_whole(sink, b"[")?;
+        write_whole(sink, matched)?;
+        write_whole(sink, b"]")?;
+        answer
+    })
+}
+
 #[test]
 fn each_row_is_replaced_under_every_cut(rt: HostRuntime) -> Result<(), Fail> {
     let alloc = rt.alloc();
@@ -159,6 +178,78 @@ fn a_write_of_nothing_is_told(rt: HostRuntime) -> Result<(), Fail> {
     assert_eq!(&rt; answer, Err(StreamError::WriteZero));
     assert_eq!(&rt; sink.taken(), b"".as_slice());
     assert_eq!(&rt; sink.writes(), 1);
+    Ok(())
+}
+
+/// A replacement of the animals' stream by a closure that puts brackets around each match, and then answers that the
+/// position limit was met, or well: the turns of the source and the sink, and what is written.
+#[derive(Clone, Copy)]
+struct ClosureRow {
+    reads: &'static [Turn],
+    writes: &'static [Turn],
+    refuses: bool,
+    written: &'static [u8],
+}
+
+const CLOSURE_ROWS: [ClosureRow; 5] = [
+    ClosureRow {
+        reads: &[Turn::Move(1); 64],
+        writes: &[Turn::Move(1); 64],
+        refuses: false,
+        written: b"The [quick] [brown] [fox].",
+    },
+    ClosureRow {
+        reads: &[],
+        writes: &[],
+        refuses: true,
+        written: b"The [quick]",
+    },
+    ClosureRow {
+        reads: &[Turn::Move(10), Turn::Fail],
+        writes: &[],
+        refuses: false,
+        written: b"The [quick] ",
+    },
+    ClosureRow {
+        reads: &[],
+        writes: &[Turn::Move(2), Turn::Fail],
+        refuses: false,
+        written: b"Th",
+    },
+    ClosureRow {
+        reads: &[],
+        writes: &[Turn::Move(4), Turn::Move(1), Turn::Move(0)],
+        refuses: false,
+        written: b"The [",
+    },
+];
+
+#[test]
+fn a_closure_is_called_on_each_match(rt: HostRuntime) -> Result<(), Fail> {
+    let nfa = nfa_of(
+        &rt,
+        rt.alloc(),
+        ANIMALS.patterns,
+        MatchKind::Standard,
+        false,
+    );
+    let answers = [
+        Ok(()),
+        Err(StreamError::PositionLimit),
+        Err(StreamError::Read(Fault)),
+        Err(StreamError::Write(Fault)),
+        Err(StreamError::WriteZero),
+    ];
+    for at in 0..5 {
+        let row = CLOSURE_ROWS[at];
+        let wanted = answers[at];
+        let closure = if row.refuses { wanted } else { Ok(()) };
+        let mut source = ScriptedSource::new(ANIMALS.given, row.reads);
+        let mut sink = ScriptedSink::new(rt.alloc(), row.writes);
+        let answer = puts_in_brackets(rt.alloc(), &nfa, &mut source, &mut sink, closure);
+        assert_eq!(&rt; sink.taken(), row.written);
+        assert_eq!(&rt; answer, wanted);
+    }
     Ok(())
 }
 

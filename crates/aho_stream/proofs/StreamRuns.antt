@@ -1,0 +1,144 @@
+-- What is left of a run of a closure over a stream, from one chunk told to the next.
+use Rattle.std.proofs.Common.{◌≡◌, ℕ, ◌+◌, ◌-◌, ◌≤◌, Bool, true, List, [], ◌∷◌, ◌++◌, length, drop, take, map, refl, sym, ◌∙◌, ap, subst, arith, append-nil, inl, inr}
+use Rattle.std.specs.Prelude.{Option, Some, None, Result, Ok, Err, MatchBool, slice_range}
+use Rattle.std.specs.Borrow.{Bor, MutBor}
+use Rattle.std.specs.Fn.{Mut}
+use Rattle.std.specs.Io.KnownBytes.{Appends}
+use Rattle.std.proofs.KnownBytes.{Appends-nil, Appends-trans}
+use Rattle.std.proofs.lemmas.List.{drop_all, length-drop, length-take, take-take}
+use Rattle.std.proofs.lemmas.List.Folds.{drop_split}
+use Rattle.aho_base.specs.declared.error.stream.StreamError.{StreamError}
+use Rattle.aho_base.specs.Answer.{IsAnswer}
+use Rattle.aho_base.specs.ClosureRun.{CalledOn, ClosureRun}
+use Rattle.aho_base.specs.Iteration.{AreFinds}
+use Rattle.aho_base.specs.Laws.{shortest}
+use Rattle.aho_base.specs.Occurrence.{Occurrence}
+use Rattle.aho_base.specs.Patterns.{Patterns}
+use Rattle.aho_base.specs.Search.{plain_search}
+use Rattle.aho_devices.specs.Counts.{counted}
+use Rattle.aho_devices.specs.Refusals.{IsFillRefusal, IsWriteRefusal, is_write_fault, is_write_of_nothing}
+use Rattle.aho_search.proofs.NextFinds.{finds-next, finds-none}
+use Rattle.aho_search.proofs.Places.{no_part, part_join}
+use Rattle.aho_stream.specs.After.{search_from}
+use Rattle.aho_stream.specs.StreamRun.{CallsOn, Takes}
+use Rattle.aho_stream.proofs.StreamFinds.{answer_of_find, find_of_answer}
+
+module _ {F S : Type 0} (taken : S → Option (List ℕ)) (failures empty_writes : S → ℕ)
+    (calls : Mut F (Bor Occurrence × (Bor (List ℕ) × (MutBor S × Unit {0}))) (Result (Unit {0}) StreamError × (MutBor S × Unit {0}))) (closure : F) (begun : S) where
+  -- a sink took bytes, and none of its counts rose
+  pub record Took (old : S) (bytes : List ℕ) (new : S) : Type 0 where
+    pub bytes_are : Appends (taken old) (taken new) bytes
+    pub no_failure : failures new ≡ failures old
+    pub no_empty_write : empty_writes new ≡ empty_writes old
+
+  -- a run of the closure
+  abbrev pub Run : Bool → List ℕ → ℕ → List Occurrence → F → S → Result (Unit {0}) StreamError → F → S → Type 0
+  Run stopped bytes = ClosureRun (Takes taken failures empty_writes stopped) (CallsOn calls) bytes
+
+  took_takes : (stopped : Bool) (old : S) (bytes : List ℕ) (new : S) → Took old bytes new → Takes taken failures empty_writes stopped old bytes (Ok tt) new
+  took_takes stopped old bytes new took = record { whole = took.bytes_are; beginning = tt; write_failed = took.no_failure; took_nothing = took.no_empty_write; only = tt }
+
+  module _ (p : Patterns) (bytes : List ℕ) (ms : List Occurrence) where
+    -- the closure and the sink stand so, the sink since the last call: it goes on to the whole run
+    pub record LeftRun (from reported : ℕ) (now : F) (sink : S) : Type 0 where
+      pub last : Option ℕ
+      pub rest : List Occurrence
+      pub finds : AreFinds p (search_from from bytes) last rest
+      pub lent : S
+      pub gap : Took lent (slice_range bytes from reported) sink
+      pub whole : (stopped : Bool) (result : Result (Unit {0}) StreamError) (left : F) (new : S) → Run stopped bytes from rest now lent result left new → Run stopped bytes 0 ms closure begun result left new
+
+    pub left_run_first : AreFinds p (plain_search bytes) None ms → LeftRun 0 0 closure begun
+    left_run_first finds = record {
+      last = None;
+      rest = ms;
+      finds = finds;
+      lent = begun;
+      gap = record { bytes_are = subst (Appends (taken begun) (taken begun)) (sym (no_part bytes 0)) (Appends-nil (taken begun)); no_failure = refl; no_empty_write = refl };
+      whole = λ stopped result left new run. run;
+    }
+
+    module _ (lengths : List ℕ) (are : lengths ≡ map length p.words) (no_empty : 1 ≤ shortest lengths) (from reported : ℕ) (ordered : from ≤ reported) (now : F) (sink : S) (left : LeftRun from reported now sink) where
+      -- bytes outside of every match were written
+      pub left_run_plain : (reported' : ℕ) (sink' : S) → reported ≤ reported' → Took sink (slice_range bytes reported reported') sink' → LeftRun from reported' now sink'
+      left_run_plain reported' sink' later took = record {
+        last = left.last;
+        rest = left.rest;
+        finds = left.finds;
+        lent = left.lent;
+        gap = record {
+          bytes_are = subst (Appends (taken left.lent) (taken sink')) (sym (part_join bytes from reported reported' ordered later))
+              (Appends-trans (taken left.lent) (taken sink) (taken sink') (slice_range bytes from reported) (slice_range bytes reported reported') left.gap.bytes_are took.bytes_are);
+          no_failure = took.no_failure ∙ left.gap.no_failure;
+          no_empty_write = took.no_empty_write ∙ left.gap.no_empty_write;
+        };
+        whole = left.whole;
+      }
+
+      -- no more comes, and all was written
+      pub runs_to_end : (stopped : Bool) → IsAnswer p (search_from from bytes) None → length bytes ≡ reported → Run stopped bytes 0 ms closure begun (Ok tt) now sink
+      runs_to_end stopped none all =
+          let over : left.rest ≡ [] = finds-none p (search_from from bytes) left.last left.rest left.finds (find_of_answer p lengths are no_empty bytes from left.last None none) in
+          let rest : slice_range bytes from reported ≡ drop from bytes =
+          sym (drop_split bytes from reported ordered ∙ ap (λ (xs : List ℕ). slice_range bytes from reported ++ xs) (drop_all reported bytes (omega (arith, all))) ∙ append-nil (slice_range bytes from reported)) in
+          let run : Run stopped bytes from [] now left.lent (Ok tt) now sink =
+          (refl, took_takes stopped left.lent (drop from bytes) sink (subst (λ (xs : List ℕ). Took left.lent xs sink) rest left.gap)) in
+          left.whole stopped (Ok tt) now sink (subst (λ (ns : List Occurrence). Run stopped bytes from ns now left.lent (Ok tt) now sink) (sym over) run)
+
+      -- a beginning of the next gap was taken, and then it stopped
+      module _ (stopped : Bool) (place : ℕ) (within : place ≤ length bytes) (clear : (m : Occurrence) → IsAnswer p (search_from from bytes) (Some m) → place ≤ m.start)
+          (count : ℕ) (short : from + count ≤ place) (reason : StreamError) (new : S)
+          (wrote : Appends (taken left.lent) (taken new) (take count (drop from bytes)))
+          (failed : failures new ≡ counted (is_write_fault {A = Unit {0}} (Err reason)) (failures left.lent))
+          (nothing : empty_writes new ≡ counted (is_write_of_nothing {A = Unit {0}} (Err reason)) (empty_writes left.lent))
+          (only : MatchBool stopped (IsFillRefusal reason) (IsWriteRefusal reason)) where
+        takes_beginning : (gap : List ℕ) → count ≤ length gap → take count gap ≡ take count (drop from bytes) → Takes taken failures empty_writes stopped left.lent gap (Err reason) new
+        takes_beginning gap fits same = record {
+          whole = tt;
+          beginning = (count, fits, subst (Appends (taken left.lent) (taken new)) (sym same) wrote);
+          write_failed = failed;
+          took_nothing = nothing;
+          only = only;
+        }
+
+        stops_in : (last : Option ℕ) (rest : List Occurrence) → AreFinds p (search_from from bytes) last rest → Run stopped bytes from rest now left.lent (Err reason) now new
+        stops_in last [] finds = (refl, takes_beginning (drop from bytes) (omega (arith, length-drop from bytes)) refl)
+        stops_in last (m ∷ rest) finds =
+            let behind = clear m (answer_of_find p lengths are no_empty bytes from last (Some m) finds.0) in
+            let fits : count ≤ length (slice_range bytes from m.start) = rw (length-take, length-drop) (omega arith) in
+            inl (reason, refl, refl, takes_beginning (slice_range bytes from m.start) fits (take-take count (m.start - from) (drop from bytes) (omega arith)))
+
+        pub runs_to_stop : Run stopped bytes 0 ms closure begun (Err reason) now new
+        runs_to_stop = left.whole stopped (Err reason) now new (stops_in left.last left.rest left.finds)
+
+      module _ (m : Occurrence) (answer : IsAnswer p (search_from from bytes) (Some m)) (starts : m.start ≡ reported) where
+        next_rest : (rest : List Occurrence) × (left.rest ≡ m ∷ rest) × AreFinds p (search_from m.end bytes) (Some m.end) rest
+        next_rest = finds-next p (search_from from bytes) left.last m left.rest (omega arith) left.finds (find_of_answer p lengths are no_empty bytes from left.last (Some m) answer)
+
+        took_gap : Took left.lent (slice_range bytes from m.start) sink
+        took_gap = subst (λ (k : ℕ). Took left.lent (slice_range bytes from k) sink) (sym starts) left.gap
+
+        -- the closure was called on a match, and goes on
+        pub left_run_match : (next : F) (sink' : S) → CalledOn calls now m (slice_range bytes m.start m.end) sink (Ok tt) next sink' → LeftRun m.end m.end next sink'
+        left_run_match next sink' called =
+            let (rest, same, finds) = next_rest in
+            record {
+              last = Some m.end;
+              rest = rest;
+              finds = finds;
+              lent = sink';
+              gap = record { bytes_are = subst (Appends (taken sink') (taken sink')) (sym (no_part bytes m.end)) (Appends-nil (taken sink')); no_failure = refl; no_empty_write = refl };
+              whole = λ stopped result last new run.
+                  let whole_run : Run stopped bytes from (m ∷ rest) now left.lent result last new =
+                  inr (sink, took_takes stopped left.lent (slice_range bytes from m.start) sink took_gap, (Ok true, next, sink', (refl, called), run)) in
+                  left.whole stopped result last new (subst (λ (ns : List Occurrence). Run stopped bytes from ns now left.lent result last new) (sym same) whole_run);
+            }
+
+        -- or it refused
+        pub runs_to_refusal : (stopped : Bool) (reason : StreamError) (next : F) (sink' : S) → CalledOn calls now m (slice_range bytes m.start m.end) sink (Err reason) next sink'
+            → Run stopped bytes 0 ms closure begun (Err reason) next sink'
+        runs_to_refusal stopped reason next sink' called =
+            let (rest, same, finds) = next_rest in
+            let run : Run stopped bytes from (m ∷ rest) now left.lent (Err reason) next sink' =
+            inr (sink, took_takes stopped left.lent (slice_range bytes from m.start) sink took_gap, (Err reason, next, sink', called, (refl, refl, refl))) in
+            left.whole stopped (Err reason) next sink' (subst (λ (ns : List Occurrence). Run stopped bytes from ns now left.lent (Err reason) next sink') (sym same) run)

@@ -1,0 +1,25 @@
+-- What the loop over the chunks keeps.
+use Rattle.std.proofs.Common.{◌≡◌, ◌-◌, false}
+use Rattle.aho_stream.proofs.Runnings.{Running}
+use Rattle.aho_stream.proofs.replace.replace_chunks_with.Given as goal
+
+-- Over the same automaton and under the same limit: so much was given, the run goes on, and no read has failed.
+abbrev pub invariant-loop-answer : goal.invariant-loop-answer
+invariant-loop-answer g l =
+    let automaton = l.initial.chunks.walk.automaton.now in
+    record {
+      callable : goal.F-IsAlwaysCallable g l.replace_with;
+      running : Running g.W.Sink.taken g.W.Sink.failures g.W.Sink.empty_writes g.F.FnMut
+          (g.A.Automaton.is_of automaton) (g.A.Automaton.lengths automaton) (g.A.Automaton.valid automaton) (g.A.Automaton.held automaton) (g.A.Automaton.depth automaton)
+          (g.R.Source.remaining l.initial.chunks.source.now) (g.R.Source.empty_reads l.initial.chunks.source.now) l.initial.replace_with l.initial.sink
+          l.chunks.walk.work l.chunks.progress (g.R.Source.remaining l.chunks.source.now) (g.R.Source.empty_reads l.chunks.source.now) l.replace_with l.sink;
+      source : l.chunks.source.ghost_name ≡ l.initial.chunks.source.ghost_name;
+      same : l.chunks.walk.automaton.now ≡ automaton;
+      limit : l.chunks.progress.limit ≡ l.initial.chunks.progress.limit;
+      below : l.chunks.progress.refused ≡ false;
+      reads : g.R.Source.failures l.chunks.source.now ≡ g.R.Source.failures l.initial.chunks.source.now;
+    }
+
+-- each chunk leaves less room under the limit
+abbrev pub decreases-loop-answer : goal.decreases-loop-answer
+decreases-loop-answer g l = l.chunks.progress.limit - l.chunks.progress.reported
