@@ -96,6 +96,10 @@ impl<'a, 'r, A: Automaton, R: Source> Iterator for StreamFindIter<'a, 'r, A, R> 
         ≡ counted (ends_between it.chunks.progress.ended rest.chunks.progress.ended)
         (R.empty_reads it.chunks.source.now))
         × (it.chunks.progress.ended ≡ true → rest.chunks.progress.ended ≡ true)
+        × (it.chunks.progress.ended ≡ true → it.chunks.progress.read ≤ it.chunks.progress.reported
+        → found ≡ None)
+        × (it.chunks.progress.refused ≡ true
+        → (found ≡ None) × (rest.chunks.progress.refused ≡ true))
         × (R.failures rest.chunks.source.now
         ≡ counted (finds_read_fault found) (R.failures it.chunks.source.now)) };
 

@@ -4,12 +4,15 @@ ghost use Rattle.aho_base.specs.Patterns.{Patterns};
 
 use crate::automata::nfa_of;
 use crate::scripted::{ScriptedSource, Turn};
+use crate::streams::Numbers;
 use aho_base::error::{Fault, MatchError, StreamError};
-use aho_base::search::{Match, MatchKind, PatternID, Span};
+use aho_base::search::{Input, Match, MatchKind};
 use aho_search::automaton::Automaton;
 use aho_stream::chunks::StreamChunkIter;
 use aho_stream::finds::try_stream_find_iter;
+use bench::listing::finds;
 use bench::one_byte::OneByte;
+use bench::pattern_set::PatternSet;
 use bench::tally::Tally;
 use std::alloc::Global;
 use std::process::Abort;
@@ -43,6 +46,43 @@ fn items<A: Automaton>(
     Ok(items)
 }
 
+/// What the chunks of a stream told: its matches and its faults, how many look-ups were made, and how many bytes were walked.
+#[derive(Drop)]
+struct Told {
+    items: Vec<Result<(usize, usize, usize), StreamError>>,
+    lookups: u128,
+    position: u128,
+}
+
+/// What the first two hundred chunks of a stream tell, of which so many bytes may be given.
+fn told_under<A: Automaton>(
+    alloc: Global,
+    automaton: &A,
+    source: &mut ScriptedSource<'_>,
+    limit: u64,
+) -> Result<Told, Fail>
+    requires of { (p : Patterns) × A.is_of automaton.now p }
+{
+    let mut items = Vec::new(alloc);
+    let mut chunks = StreamChunkIter::with_limit(alloc, automaton, source, limit)?;
+    for _ in 0..200 {
+        match chunks.advance() {
+            None => {}
+            Some(Err(error)) => items.push(Err(error))?,
+            Some(Ok(piece)) => {
+                if let Some(m) = piece.found() {
+                    items.push(Ok(found_of(m)))?;
+                }
+            }
+        }
+    }
+    Ok(Told {
+        items,
+        lookups: chunks.lookups(),
+        position: chunks.position(),
+    })
+}
+
 /// The matches of the worked stream.
 fn worked_matches() -> [Result<(usize, usize, usize), StreamError>; 3] {
     [Ok((2, 4, 9)), Ok((1, 10, 15)), Ok((0, 16, 19))]
@@ -65,10 +105,85 @@ fn a_failed_read_is_told_and_nothing_is_lost(rt: HostRuntime) -> Result<(), Fail
         turns[at] = Turn::Fail;
         let mut source = ScriptedSource::new(TEXT, &turns);
         let found = items(rt.alloc(), &nfa, &mut source)?;
-        let faults = found.iter().filter(|item| item.is_err()).count();
-        assert_eq!(rt; faults, 1, "read {at}");
         assert_eq!(rt; found.len(), 4, "read {at}");
+        let mut matches = found;
+        matches.retain(|item| item.is_ok());
+        assert_eq!(rt;
+            matches.as_slice(),
+            worked_matches().as_slice(),
+            "read {at}"
+        );
     }
+    Ok(())
+}
+
+#[test]
+fn a_limit_is_answered_once(rt: HostRuntime) -> Result<(), Fail> {
+    let alloc = rt.alloc();
+    let nfa = nfa_of(&rt, alloc, WORDS, MatchKind::Standard, false);
+    let rows = [(0, 0), (1, 0), (8, 0), (9, 1), (15, 2), (20, 3), (21, 3)];
+    for (limit, count) in rows {
+        let mut source = ScriptedSource::new(TEXT, ONE_BYTE);
+        let told = told_under(alloc, &nfa, &mut source, limit)?;
+        let mut wanted = Vec::new(alloc);
+        for item in worked_matches().into_iter().take(count) {
+            wanted.push(item)?;
+        }
+        if limit < 21 {
+            wanted.push(Err(StreamError::PositionLimit))?;
+        }
+        assert_eq!(rt; told.items.as_slice(), wanted.as_slice(), "limit {limit}");
+    }
+    Ok(())
+}
+
+#[test]
+fn random_streams_are_searched_as_plainly(rt: HostRuntime) -> Result<(), Fail> {
+    let alloc = rt.alloc();
+    let mut numbers = Numbers::new(11);
+    let words: [&[u8]; 4] = [b"ab", b"bca", b"c", b"abcb"];
+    let nfa = nfa_of(&rt, alloc, &words, MatchKind::Standard, false);
+    let patterns = PatternSet::new(&words, MatchKind::Standard, false);
+    for _ in 0..60 {
+        let given = numbers.bytes(alloc)?;
+        let turns = numbers.turns(alloc, 60, 10)?;
+        let limit = numbers.next(70);
+        let mut source = ScriptedSource::new(&given, &turns);
+        let told = told_under(alloc, &nfa, &mut source, limit)?;
+        let mut wanted = Vec::new(alloc);
+        for m in finds(alloc, &patterns, Input::new(&given))? {
+            if m.end() as u64 <= limit {
+                wanted.push(Ok(found_of(m)))?;
+            }
+        }
+        let made = turns.iter().take(source.reads());
+        let mut faults = made.filter(|turn| matches!(turn, Turn::Fail)).count();
+        if limit <= given.len() as u64 {
+            faults = faults.saturating_add(1);
+        }
+        assert_eq!(rt;
+            told.items.len(),
+            wanted.len().saturating_add(faults),
+            "{given:?}"
+        );
+        let mut matches = told.items;
+        matches.retain(|item| item.is_ok());
+        assert_eq!(rt; matches.as_slice(), wanted.as_slice(), "{given:?}");
+    }
+    Ok(())
+}
+
+#[test]
+fn each_byte_of_a_stream_is_stepped_once(rt: HostRuntime) -> Result<(), Fail> {
+    let nfa = nfa_of(&rt, rt.alloc(), &[b"aaab"], MatchKind::Standard, false);
+    let tally = Tally::new(nfa);
+    let mut source = ScriptedSource::new(b"aaaaaaaa", ONE_BYTE);
+    let told = told_under(rt.alloc(), &tally, &mut source, 100)?;
+    assert_eq!(rt; told.items.len(), 0);
+    assert_eq!(rt; told.lookups, 13);
+    assert_eq!(rt; told.position, 8);
+    assert_eq!(rt; tally.steps(), 8);
+    assert_eq!(rt; tally.next_states(), 0);
     Ok(())
 }
 

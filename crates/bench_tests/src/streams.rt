@@ -7,11 +7,13 @@ ghost use Rattle.aho_base.specs.Patterns.{Patterns};
 use crate::automata::nfa_of;
 use crate::scripted::{ScriptedSink, ScriptedSource, Turn};
 use aho_base::error::{Fault, MatchError, StreamError};
-use aho_base::search::MatchKind;
+use aho_base::search::{Input, Match, MatchKind};
 use aho_corasick::noncontiguous::NFA;
 use aho_devices::write::write_whole;
 use aho_search::automaton::Automaton;
 use aho_stream::replace::{try_stream_replace_all, try_stream_replace_all_with};
+use bench::listing::finds;
+use bench::pattern_set::PatternSet;
 use std::alloc::{AllocError, Global};
 use std::process::Abort;
 use std::test::Fail;
@@ -287,29 +289,46 @@ fn behind(alloc: Global, count: usize, last: &[u8]) -> Result<Vec<u8>, AllocErro
     Ok(bytes)
 }
 
+/// A match of this word, behind so many bytes, is replaced.
+fn is_replaced_behind(
+    rt: &impl Abort,
+    alloc: Global,
+    word: &[u8],
+    count: usize,
+) -> Result<(), Fail> {
+    let nfa = nfa_of(rt, alloc, &[word], MatchKind::Standard, false);
+    let mut given = behind(alloc, count, word)?;
+    given.push(b'z')?;
+    let wanted = behind(alloc, count, b"!z")?;
+    let mut source = ScriptedSource::new(&given, &[]);
+    let mut sink = ScriptedSink::new(alloc, &[]);
+    replaces(rt, alloc, &nfa, &[b"!"], &mut source, &mut sink)?;
+    assert!(rt; sink.taken() == wanted.as_slice());
+    Ok(())
+}
+
 #[test]
 fn a_match_across_the_end_of_the_buffer_is_replaced(rt: HostRuntime) -> Result<(), Fail> {
     let alloc = rt.alloc();
-    let words: [&[u8]; 1] = [b"foobar"];
-    let nfa = nfa_of(&rt, alloc, &words, MatchKind::Standard, false);
-    let given = behind(alloc, 65_533, b"foobary")?;
-    let wanted = behind(alloc, 65_533, b"!y")?;
-    let mut source = ScriptedSource::new(&given, &[]);
-    let mut sink = ScriptedSink::new(alloc, &[]);
-    replaces(&rt, alloc, &nfa, &[b"!"], &mut source, &mut sink)?;
-    assert!(&rt; sink.taken() == wanted.as_slice());
-    Ok(())
+    is_replaced_behind(&rt, alloc, b"foobar", 65_533)?;
+    let long = behind(alloc, 9_000, b"y")?;
+    is_replaced_behind(&rt, alloc, &long, 70_000)
 }
 
 /// Numbers that look random.
 #[derive(Drop)]
-struct Numbers {
+pub(crate) struct Numbers {
     last: u64,
 }
 
 impl Numbers {
+    /// Those that begin with this.
+    pub(crate) fn new(last: u64) -> Numbers {
+        Numbers { last }
+    }
+
     /// The next number, below `end`.
-    fn next(&mut self, end: u64) -> u64 {
+    pub(crate) fn next(&mut self, end: u64) -> u64 {
         self.last = self
             .last
             .wrapping_mul(6_364_136_223_846_793_005)
@@ -317,37 +336,97 @@ impl Numbers {
         (self.last >> 33).checked_rem(end).unwrap_or(0)
     }
 
-    /// Turns that move from 1 to 4 bytes.
-    fn turns(&mut self, alloc: Global, count: usize) -> Result<Vec<Turn>, AllocError> {
+    /// Turns that move from 1 to 4 bytes, of which one in so many fails.
+    pub(crate) fn turns(
+        &mut self,
+        alloc: Global,
+        count: usize,
+        rare: u64,
+    ) -> Result<Vec<Turn>, AllocError> {
         let mut turns = Vec::new(alloc);
         for _ in 0..count {
             let moved = self.next(4) as usize;
-            turns.push(Turn::Move(moved.saturating_add(1)))?;
+            let fails = self.next(rare) == 0;
+            turns.push(if fails {
+                Turn::Fail
+            } else {
+                Turn::Move(moved.saturating_add(1))
+            })?;
         }
         Ok(turns)
     }
+
+    /// Less than 60 bytes of four letters.
+    pub(crate) fn bytes(&mut self, alloc: Global) -> Result<Vec<u8>, AllocError> {
+        let mut bytes = Vec::new(alloc);
+        for _ in 0..self.next(60) {
+            bytes.push(b"abcd"[self.next(4) as usize & 3])?;
+        }
+        Ok(bytes)
+    }
+}
+
+/// The bytes, with the pieces in the places of these matches.
+fn replaced_by(
+    alloc: Global,
+    given: &[u8],
+    matches: &[Match],
+    pieces: &[&[u8]],
+) -> Result<Vec<u8>, AllocError> {
+    let mut bytes = Vec::new(alloc);
+    let mut at = 0;
+    for m in matches {
+        bytes.extend_from_slice(given.get(at..m.start()).unwrap_or(&[]))?;
+        bytes.extend_from_slice(
+            pieces
+                .get(m.pattern().as_usize())
+                .unwrap_or(&b"".as_slice()),
+        )?;
+        at = m.end();
+    }
+    bytes.extend_from_slice(given.get(at..).unwrap_or(&[]))?;
+    Ok(bytes)
 }
 
 #[test]
-fn random_streams_are_replaced_as_in_memory(rt: HostRuntime) -> Result<(), Fail> {
+fn random_streams_are_replaced_as_plainly(rt: HostRuntime) -> Result<(), Fail> {
     let alloc = rt.alloc();
-    let mut numbers = Numbers { last: 7 };
+    let mut numbers = Numbers::new(7);
     let words: [&[u8]; 4] = [b"ab", b"bca", b"c", b"abcb"];
     let pieces: [&[u8]; 4] = [b"", b"-", b"ab", b"xyz"];
     let nfa = nfa_of(&rt, alloc, &words, MatchKind::Standard, false);
-    assert_eq!(&rt; pieces.len(), nfa.patterns_len());
-    for _ in 0..40 {
-        let mut given = Vec::new(alloc);
-        for _ in 0..numbers.next(60) {
-            given.push(b"abcd"[numbers.next(4) as usize & 3])?;
-        }
-        let reads = numbers.turns(alloc, 30)?;
-        let writes = numbers.turns(alloc, 30)?;
+    let patterns = PatternSet::new(&words, MatchKind::Standard, false);
+    for _ in 0..60 {
+        let given = numbers.bytes(alloc)?;
+        let reads = numbers.turns(alloc, 30, 40)?;
+        let writes = numbers.turns(alloc, 30, 40)?;
+        let matches = finds(alloc, &patterns, Input::new(&given))?;
+        let wanted = replaced_by(alloc, &given, &matches, &pieces)?;
         let mut source = ScriptedSource::new(&given, &reads);
         let mut sink = ScriptedSink::new(alloc, &writes);
-        replaces(&rt, alloc, &nfa, &pieces, &mut source, &mut sink)?;
-        let wanted = nfa.try_replace_all_bytes(alloc, &given, &pieces)?;
-        assert_eq!(&rt; sink.taken(), wanted.as_slice(), "{given:?}");
+        let answer = replaces(&rt, alloc, &nfa, &pieces, &mut source, &mut sink);
+        assert!(&rt; wanted.starts_with(sink.taken()), "{given:?}");
+        if answer.is_ok() {
+            assert_eq!(&rt; sink.taken().len(), wanted.len(), "{given:?}");
+        } else {
+            let read_failed = last_failed(&reads, source.reads());
+            let write_failed = last_failed(&writes, sink.writes());
+            let told = if read_failed {
+                StreamError::Read(Fault)
+            } else {
+                StreamError::Write(Fault)
+            };
+            assert!(&rt; read_failed != write_failed, "{given:?}");
+            assert_eq!(&rt; answer, Err(told), "{given:?}");
+        }
     }
     Ok(())
+}
+
+/// Whether the last of so many calls failed.
+fn last_failed(turns: &[Turn], calls: usize) -> bool {
+    match turns.get(calls.saturating_sub(1)) {
+        Some(Turn::Fail) => true,
+        _ => false,
+    }
 }

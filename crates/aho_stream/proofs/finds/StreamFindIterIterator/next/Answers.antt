@@ -1,5 +1,5 @@
 -- What each way out says, and each turn of the loop.
-use Rattle.std.proofs.Common.{◌≡◌, ◌++◌, ◌∙◌, Bool, ◌||◌, ap, sym, subst, List, ℕ}
+use Rattle.std.proofs.Common.{◌≡◌, ◌≤◌, ◌++◌, ◌∙◌, Bool, true, ◌||◌, ap, refl, sym, subst, List, ℕ}
 use Rattle.std.specs.Prelude.{Option, Some, None, Result, Ok, Err}
 use Rattle.std.proofs.Math.Bool.{or-false}
 use Rattle.aho_base.specs.Patterns.{Patterns}
@@ -39,6 +39,16 @@ finds g c found says =
     finds_then (g.A.Automaton.is_of c.args.self.now.chunks.walk.automaton.now) (AfterOf g c.args.self.now.chunks.walk.automaton.now) _ _ _ _ c.loop-error.self.chunks.progress c.advance.new.self.progress _ _ _ c.advance.result found
     c.loop-error.invariant.stays c.loop-error.invariant.read (advanced g c) says
 
+-- after the end, and after the limit was answered, `advance` tells none
+ended_none : (g : Over) (c : After-advance g) → c.args.self.now.chunks.progress.ended ≡ true → c.args.self.now.chunks.progress.read ≤ c.args.self.now.chunks.progress.reported → c.advance.result ≡ None
+ended_none g c e told = let over = c.loop-error.invariant.over e told in c.advance.ensures.after_end over.0 over.1
+
+refused_none : (g : Over) (c : After-advance g) → c.args.self.now.chunks.progress.refused ≡ true → c.advance.result ≡ None
+refused_none g c r = c.advance.ensures.after_limit (c.loop-error.invariant.refused ∙ r)
+
+stays_refused : (g : Over) (c : After-advance g) → c.args.self.now.chunks.progress.refused ≡ true → c.advance.new.self.progress.refused ≡ true
+stays_refused g c r = c.advance.ensures.refused ∙ ap (λ (b : Bool). b || tells_limit c.advance.result) (c.loop-error.invariant.refused ∙ r)
+
 pub returns-in-None-clause-steps : goal.returns-in-None-clause-steps
 returns-in-None-clause-steps g c =
     let d = (goal.at.returns-in-None-clause-steps g c).After-advance in
@@ -50,6 +60,8 @@ returns-in-None-clause-steps g c =
           (subst (λ (r : Option (Result StreamPiece StreamError)). Tells p c.loop-error.self.chunks.progress c.advance.new.self.progress given r) c.in-None.is tells)),
       ended g d,
       λ e. c.advance.ensures.stays_ended (inv.stays e),
+      λ e told. refl,
+      λ r. (refl, stays_refused g d r),
       c.in-None.ensures.read_failed ∙ inv.unfailed,
     )
 
@@ -66,6 +78,8 @@ returns-in-Some-Err-clause-steps g c =
           (subst (λ (r : Option (Result StreamPiece StreamError)). Tells p c.loop-error.self.chunks.progress c.advance.new.self.progress given r) is tells)),
       ended g d,
       λ e. c.advance.ensures.stays_ended (inv.stays e),
+      λ e told. let none = ended_none g d e told in cc,
+      λ r. let none = refused_none g d r in cc,
       c.advance.ensures.read_failed
           ∙ ap (λ (r : Option (Result StreamPiece StreamError)). counted (tells_read_fault r) (g.R.Source.failures c.loop-error.self.chunks.source.now)) is
           ∙ ap (λ (b : Bool). counted b (g.R.Source.failures c.loop-error.self.chunks.source.now)) (fault_found error)
@@ -85,6 +99,8 @@ returns-in-Some-clause-steps g c =
           (subst (λ (r : Option (Result StreamPiece StreamError)). Tells p c.loop-error.self.chunks.progress c.advance.new.self.progress given r) is tells)),
       ended g d,
       λ e. c.advance.ensures.stays_ended (inv.stays e),
+      λ e told. let none = ended_none g d e told in cc,
+      λ r. let none = refused_none g d r in cc,
       c.advance.ensures.read_failed
           ∙ ap (λ (r : Option (Result StreamPiece StreamError)). counted (tells_read_fault r) (g.R.Source.failures c.loop-error.self.chunks.source.now)) is
           ∙ inv.unfailed,
@@ -110,5 +126,6 @@ loop-error-preserved g c =
       read = read_then (g.A.Automaton.is_of c.args.self.now.chunks.walk.automaton.now) (AfterOf g c.args.self.now.chunks.walk.automaton.now) _ _ _ s t c.advance.new.self.progress _ _ _ c.advance.result inv.stays inv.read (advanced g d);
       ended = ended g d;
       stays = λ e. c.advance.ensures.stays_ended (inv.stays e);
+      over = λ e told. let none = ended_none g d e told in cc;
       unfailed = c.advance.ensures.read_failed ∙ ap (λ (r : Option (Result StreamPiece StreamError)). counted (tells_read_fault r) (g.R.Source.failures c.loop-error.self.chunks.source.now)) is ∙ inv.unfailed;
     }

@@ -1,5 +1,5 @@
 -- What the loop keeps.
-use Rattle.std.proofs.Common.{◌≡◌, ◌-◌, true}
+use Rattle.std.proofs.Common.{◌≡◌, ◌-◌, ◌≤◌, true}
 use Rattle.aho_devices.specs.Counts.{counted}
 use Rattle.aho_stream.specs.After.{IsAfter}
 use Rattle.aho_stream.specs.Chunks.{ends_between}
@@ -9,7 +9,7 @@ use Rattle.aho_stream.proofs.finds.StreamFindIterIterator.next.Given as goal
 -- Over the same automaton and with the same limit:
 -- `from` and `refused`: no match was found, and the limit was not answered since;
 -- `read`: some bytes were read, and the iterator has come so far with them;
--- `ended`, `stays` and `unfailed`: whether the end was seen, and that no read failed.
+-- `ended`, `stays`, `over` and `unfailed`: whether the end was seen and all was told, and that no read failed.
 abbrev pub invariant-loop-error : goal.invariant-loop-error
 invariant-loop-error g l =
     let it = l.fn.self.chunks in
@@ -25,6 +25,7 @@ invariant-loop-error g l =
           it.walk.work now.walk.work it.progress now.progress (g.R.Source.remaining it.source.now) (g.R.Source.remaining now.source.now);
       ended : g.R.Source.empty_reads now.source.now ≡ counted (ends_between it.progress.ended now.progress.ended) (g.R.Source.empty_reads it.source.now);
       stays : it.progress.ended ≡ true → now.progress.ended ≡ true;
+      over : it.progress.ended ≡ true → it.progress.read ≤ it.progress.reported → (now.progress.ended ≡ true) × (now.progress.read ≤ now.progress.reported);
       unfailed : g.R.Source.failures now.source.now ≡ g.R.Source.failures it.source.now;
     }
 
