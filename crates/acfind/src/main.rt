@@ -15,15 +15,18 @@ ghost use Rattle.acfind.specs.Faults.{status_of_fault, line_of_fault};
 ghost use Rattle.acfind.specs.Words.{asked_by};
 
 mod command;
+mod devices;
 mod fault;
 mod print;
+mod replace;
 mod run;
 
+use command::parse_replace;
 use fault::Fault;
 use run::{report, run};
 use std::alloc::{Alloc, Global};
 use std::env::Env;
-use std::io::{BufWriter, ErrorKind, Read, Write};
+use std::io::{BufWriter, ErrorKind, LineWriter, Read, Write};
 use std::process::ExitCode;
 use std::{env, io};
 
@@ -31,13 +34,21 @@ use std::{env, io};
 const OUTPUT_CAPACITY: usize = 64 * 1024;
 
 fn main(rt: HostRuntime) -> ExitCode {
-    exit_code(
-        rt.alloc(),
-        words(&rt),
-        &mut rt.stdin(),
-        &mut buffered(&rt),
-        &mut rt.stderr(),
-    )
+    let words = words(&rt);
+    let (alloc, mut input, mut errors) = (rt.alloc(), rt.stdin(), rt.stderr());
+    if shows_lines(&words) {
+        exit_code(alloc, words, &mut input, &mut by_lines(&rt), &mut errors)
+    } else {
+        exit_code(alloc, words, &mut input, &mut buffered(&rt), &mut errors)
+    }
+}
+
+/// Whether each line of the output is to be seen soon, since the input may have no end.
+fn shows_lines(words: &Result<Vec<String>, Fault>) -> bool {
+    match words {
+        Ok(words) => parse_replace(words.as_slice()).is_some(),
+        Err(_) => false,
+    }
 }
 
 /// Runs on the words, or tells why there are none, and ends with the status.
@@ -95,6 +106,14 @@ fn buffered(rt: &HostRuntime) -> BufWriter<io::Stdout> {
     match BufWriter::with_capacity(rt.alloc(), OUTPUT_CAPACITY, rt.stdout()) {
         Ok(output) => output,
         Err(_) => BufWriter::with_capacity(rt.alloc(), 0, rt.stdout()).unwrap(),
+    }
+}
+
+/// Standard output behind a buffer that is written at each line end, or without one where there is no memory for it.
+fn by_lines(rt: &HostRuntime) -> LineWriter<io::Stdout> {
+    match LineWriter::with_capacity(rt.alloc(), OUTPUT_CAPACITY, rt.stdout()) {
+        Ok(output) => output,
+        Err(_) => LineWriter::with_capacity(rt.alloc(), 0, rt.stdout()).unwrap(),
     }
 }
 

@@ -14,9 +14,10 @@ ghost use Rattle.acfind.specs.Faults.{status_of_fault, line_of_fault, IsOfWrite,
 ghost use Rattle.acfind.specs.Words.{asked_by};
 ghost use Rattle.acfind.specs.declared.fault.Fault.TheVariants.{Usage};
 
-use crate::command::{Request, Task, parse};
+use crate::command::{Request, Task, parse, parse_replace};
 use crate::fault::Fault;
 use crate::print::{print, write_whole};
+use crate::replace::replace;
 use aho_base::search::Input;
 use aho_corasick::noncontiguous::{Builder, NFA};
 use aho_search::automaton::Automaton;
@@ -98,8 +99,25 @@ fn write_fault<E: Write>(fault: &Fault, errors: &mut E) -> Result<(), Fault>
     }
 }
 
-/// Prints the matches in the input that the words ask for, and answers whether there was one.
+/// Does what the words ask for, and answers whether there was a match, where they ask for matches.
 fn answer<R: Read, W: Write>(
+    alloc: Global,
+    words: &[String],
+    input: &mut R,
+    output: &mut W,
+) -> Result<bool, Fault>
+{
+    match parse_replace(words) {
+        Some(pairs) => {
+            replace(alloc, pairs, input, output)?;
+            Ok(true)
+        }
+        None => answer_matches(alloc, words, input, output),
+    }
+}
+
+/// Prints the matches in the input that the words ask for, and answers whether there was one.
+fn answer_matches<R: Read, W: Write>(
     alloc: Global,
     words: &[String],
     input: &mut R,
