@@ -90,8 +90,9 @@ pub record Replaces (asked : Replacing) (input_old input_new output_old output_n
   pub text : List ℕ
   pub read : Consumes input_old input_new text
   pub ended : IsAtEnd input_new
-  pub written : (ms : List Occurrence) → AreFinds (patterns_of_replacing asked) (plain_search text) None ms
-      → Appends output_old output_new (replaced text ms asked.pieces)
+  pub matches : List Occurrence
+  pub found : AreFinds (patterns_of_replacing asked) (plain_search text) None matches
+  pub written : Appends output_old output_new (replaced text matches asked.pieces)
 
 -- some of the input was read, and what is written begins the replacement, whatever bytes follow: none once its end was seen
 pub record BeginsReplacing (asked : Replacing) (input_old input_new output_old output_new : Option (List ℕ)) : Type 0 where

@@ -1,7 +1,8 @@
 //! A reader and a writer of std as the devices of a stream. No call is tried again, whatever the kind of its error.
 
-ghost use Rattle.std.specs.Prelude.{◌≡◌, ◌≢◌};
-ghost use Rattle.std.specs.Io.KnownBytes.{IsAtEnd};
+ghost use Rattle.std.specs.Prelude.{◌≡◌, ◌≢◌, ℕ, List, [], Some};
+ghost use Rattle.std.specs.Io.{WritesAtMost};
+ghost use Rattle.std.specs.Io.KnownBytes.{IsAtEnd, WriteAppends};
 
 use aho_base::error::Fault;
 use aho_devices::device::{Sink, Source};
@@ -10,17 +11,16 @@ use std::io::{ErrorKind, Read, Write};
 /// A source that reads from a reader. Once a read gave nothing the reader is at its end, and is read no more.
 #[derive(Drop)]
 pub struct ReadSource<R: Read> {
-    reader: R,
+    pub(crate) reader: R,
     failures: u64,
     empty_reads: u64,
-    ghost ended: { empty_reads ≢ 0 → IsAtEnd (R.remaining reader) },
+    ghost ended: { (bytes : List ℕ) → empty_reads ≢ 0 → R.remaining reader ≡ Some bytes → bytes ≡ [] },
 }
 
 impl<R: Read> ReadSource<R> {
     /// The source over this reader. Its counts begin at 0.
     pub fn new(reader: R) -> ReadSource<R>
-        ensures remaining { ⟦<ReadSource<R> as Source>⟧.remaining result ≡ R.remaining reader }
-        ensures empty_reads { ⟦<ReadSource<R> as Source>⟧.empty_reads result ≡ 0 }
+        ensures reader { result.reader ≡ reader }
     {
         ReadSource {
             reader,
@@ -29,13 +29,12 @@ impl<R: Read> ReadSource<R> {
         }
     }
 
-    /// The reader, with what it has not given yet. It is at its end where a read of the source gave nothing.
-    pub fn into_reader(self) -> R
-        ensures remaining { R.remaining result ≡ ⟦<ReadSource<R> as Source>⟧.remaining self }
-        ensures ended { ⟦<ReadSource<R> as Source>⟧.empty_reads self ≢ 0
-            → IsAtEnd (R.remaining result) }
+    /// Has the reader read again where it was at its end.
+    pub fn restart(&mut self)
+        ensures reader { self.new.reader ≡ self.old.reader }
+        ensures restarted { self.new.empty_reads ≡ 0 }
     {
-        self.reader
+        self.empty_reads = 0;
     }
 }
 
@@ -72,7 +71,7 @@ impl<R: Read> Source for ReadSource<R> {
 /// took none.
 #[derive(Drop)]
 pub struct WriteSink<W: Write> {
-    writer: W,
+    pub(crate) writer: W,
     failures: u64,
     empty_writes: u64,
 }
@@ -80,7 +79,7 @@ pub struct WriteSink<W: Write> {
 impl<W: Write> WriteSink<W> {
     /// The sink over this writer. Its counts begin at 0.
     pub fn new(writer: W) -> WriteSink<W>
-        ensures taken { ⟦<WriteSink<W> as Sink>⟧.taken result ≡ W.contents writer }
+        ensures writer { result.writer ≡ writer }
     {
         WriteSink {
             writer,
@@ -88,20 +87,17 @@ impl<W: Write> WriteSink<W> {
             empty_writes: 0,
         }
     }
+}
 
-    /// The writer, with what it has taken. It is not flushed.
-    pub fn into_writer(self) -> W
-        ensures taken { W.contents result ≡ ⟦<WriteSink<W> as Sink>⟧.taken self }
-    {
-        self.writer
-    }
-
-    fn write_once(&mut self, piece: &[u8]) -> Result<usize, Fault> {
-        match self.writer.write(piece) {
-            Ok(count) => Ok(count),
-            Err(error) if error.kind() == ErrorKind::WriteZero => Ok(0),
-            Err(_) => Err(Fault),
-        }
+/// One write, which takes nothing where a write behind it took no bytes.
+fn write_once<W: Write>(writer: &mut W, piece: &[u8]) -> Result<usize, Fault>
+    ensures within { WritesAtMost result piece.now }
+    ensures taken { WriteAppends (W.contents writer.old) (W.contents writer.new) result piece.now }
+{
+    match writer.write(piece) {
+        Ok(count) => Ok(count),
+        Err(error) if error.kind() == ErrorKind::WriteZero => Ok(0),
+        Err(_) => Err(Fault),
     }
 }
 
@@ -113,7 +109,7 @@ impl<W: Write> Sink for WriteSink<W> {
     ghost empty_writes = { λ sink. sink.empty_writes };
 
     fn write(&mut self, piece: &[u8]) -> Result<usize, Fault> {
-        match self.write_once(piece) {
+        match write_once(&mut self.writer, piece) {
             Ok(count) => {
                 if count == 0 && !piece.is_empty() {
                     self.empty_writes = self.empty_writes.wrapping_add(1);

@@ -9,10 +9,10 @@
 ghost use Rattle.std.specs.Prelude.{◌≢◌, ◌≡◌, ◌<◌, ◌≤◌, map, Some, None, IfOk, IfErr, OnErr, string_bytes};
 ghost use Rattle.std.specs.IoError.{error_kind};
 ghost use Rattle.std.specs.Process.{exit_status};
-ghost use Rattle.acfind.specs.Answers.{AppendsBeginning, Tells};
-ghost use Rattle.acfind.specs.Asked.{Asked};
+ghost use Rattle.acfind.specs.Answers.{AppendsBeginning, Replaces, Tells};
+ghost use Rattle.acfind.specs.Asked.{Asked, Replacing};
 ghost use Rattle.acfind.specs.Faults.{status_of_fault, line_of_fault};
-ghost use Rattle.acfind.specs.Words.{asked_by};
+ghost use Rattle.acfind.specs.Words.{AreWrong, asked_by, replacing_by};
 
 mod command;
 mod devices;
@@ -22,6 +22,7 @@ mod replace;
 mod run;
 
 use command::parse_replace;
+use devices::{ReadSource, WriteSink};
 use fault::Fault;
 use run::{report, run};
 use std::alloc::{Alloc, Global};
@@ -35,11 +36,14 @@ const OUTPUT_CAPACITY: usize = 64 * 1024;
 
 fn main(rt: HostRuntime) -> ExitCode {
     let words = words(&rt);
-    let (alloc, mut input, mut errors) = (rt.alloc(), rt.stdin(), rt.stderr());
+    let mut input = ReadSource::new(rt.stdin());
+    let mut errors = rt.stderr();
     if shows_lines(&words) {
-        exit_code(alloc, words, &mut input, &mut by_lines(&rt), &mut errors)
+        let mut output = WriteSink::new(by_lines(&rt));
+        exit_code(rt.alloc(), words, &mut input, &mut output, &mut errors)
     } else {
-        exit_code(alloc, words, &mut input, &mut buffered(&rt), &mut errors)
+        let mut output = WriteSink::new(buffered(&rt));
+        exit_code(rt.alloc(), words, &mut input, &mut output, &mut errors)
     }
 }
 
@@ -55,24 +59,29 @@ fn shows_lines(words: &Result<Vec<String>, Fault>) -> bool {
 fn exit_code<R: Read, W: Write, E: Write>(
     alloc: Global,
     words: Result<Vec<String>, Fault>,
-    input: &mut R,
-    output: &mut W,
+    input: &mut ReadSource<R>,
+    output: &mut WriteSink<W>,
     errors: &mut E,
 ) -> ExitCode
     // Where there are no words, the fault is told and nothing else is done.
     ensures faulty { IfErr words (λ fault. exit_status result ≡ status_of_fault fault) }
     ensures told { IfErr words (λ fault.
         AppendsBeginning (E.contents errors.old) (E.contents errors.new) (line_of_fault fault)) }
-    ensures unread { OnErr words (input.new ≡ input.old) }
-    ensures unwritten { OnErr words (output.new ≡ output.old) }
+    ensures unread { OnErr words (input.new.reader ≡ input.old.reader) }
+    ensures unwritten { OnErr words (output.new.writer ≡ output.old.writer) }
 
     // Where there are words, the status is that of the run.
     ensures usage { IfOk words (λ words.
-        asked_by (map string_bytes words.items) ≡ None → exit_status result ≡ 2) }
+        AreWrong (map string_bytes words.items) → exit_status result ≡ 2) }
     ensures tells { IfOk words (λ words. (asked : Asked)
         → asked_by (map string_bytes words.items) ≡ Some asked → exit_status result < 2
-        → Tells asked (R.remaining input.old) (R.remaining input.new)
-        (W.contents output.old) (W.contents output.new) (exit_status result)) }
+        → Tells asked (R.remaining input.old.reader) (R.remaining input.new.reader)
+        (W.contents output.old.writer) (W.contents output.new.writer) (exit_status result)) }
+    ensures replaces { IfOk words (λ words. (asked : Replacing)
+        → replacing_by (map string_bytes words.items) ≡ Some asked → exit_status result < 2
+        → (exit_status result ≡ 0)
+        × Replaces asked (R.remaining input.old.reader) (R.remaining input.new.reader)
+        (W.contents output.old.writer) (W.contents output.new.writer)) }
     ensures bound { exit_status result ≤ 3 }
 {
     let status = match words {
