@@ -1,5 +1,5 @@
 -- Words at even and at odd places.
-use Rattle.std.proofs.Common.{arith, ◌≡◌, ℕ, ◌+◌, ◌%◌, ◌<◌, List, [], ◌∷◌, length, map, ap, sym, ◌∙◌, refl}
+use Rattle.std.proofs.Common.{arith, ◌≡◌, ℕ, ◌%◌, ◌<◌, List, [], ◌∷◌, length, map, ap, sym, ◌∙◌, refl}
 use Prim.Native.Nat.{suc}
 use denote.Ref.{Bor}
 use Rattle.aho_base.specs.Replacement.{pieces_of}

@@ -1,12 +1,11 @@
 -- What the replacement of a stream writes is what is asked for.
-use Rattle.std.proofs.Common.{◌≡◌, ◌≢◌, ℕ, List, [], ◌++◌, Option, true, length, take, refl, sym, ap, subst, ◌∙◌, append-nil, le_refl}
+use Rattle.std.proofs.Common.{◌≡◌, ◌≢◌, ℕ, List, [], ◌++◌, Option, true, length, refl, sym, ap, subst, ◌∙◌, append-nil, le_refl}
 use Rattle.std.specs.Prelude.{None, Some, Result, Ok, Err, OnOk}
 use Rattle.std.specs.Io.{StartsWith}
-use Rattle.std.specs.Io.KnownBytes.{Appends, Consumes, IsAtEnd, Keeps}
+use Rattle.std.specs.Io.KnownBytes.{IsAtEnd, Keeps}
 use Rattle.std.proofs.KnownBytes.{Appends-kept}
 use Rattle.std.proofs.Math.Seq.{take-length}
 use Rattle.aho_base.specs.Iteration.{AreFinds}
-use Rattle.aho_base.specs.Occurrence.{Occurrence}
 use Rattle.aho_base.specs.Patterns.{Patterns}
 use Rattle.aho_base.specs.Replacement.{replaced}
 use Rattle.aho_stream.specs.Replacing.{Begins as StreamBegins, Replaces as StreamReplaces}
@@ -15,7 +14,7 @@ use Rattle.aho_base.specs.declared.error.stream.StreamError.{StreamError}
 use Rattle.aho_base.specs.declared.error.stream.StreamError.TheVariants.{Match, Read, Write, WriteZero, Memory, PositionLimit}
 use Rattle.aho_base.specs.Search.{plain_search}
 use Rattle.aho_laws.proofs.Iterations.{finds-exist, finds-unique}
-use Rattle.aho_stream.specs.Replacing.{IsMakingRefusal, MayBe}
+use Rattle.aho_stream.specs.Replacing.{IsMakingRefusal}
 use Rattle.acfind.specs.Asked.{Replacing, patterns_of_replacing}
 use Rattle.acfind.specs.Faults.{IsOfWrite, LeavesReplacing, fault_of_stream}
 use Rattle.acfind.specs.declared.fault.Fault.{Fault}
@@ -38,15 +37,15 @@ leaves_stream PositionLimit same some = some
 module _ (IsOf : Patterns → Type 0) (asked : Replacing) (of : IsOf (patterns_of_replacing asked)) {before after old new : Option (List ℕ)} (reads' : ℕ) (ends : reads' ≢ 0 → IsAtEnd after) where
   pub replaces_asked : StreamReplaces IsOf asked.pieces before after 0 reads' old new → Replaces asked before after old new
   replaces_asked whole =
-    let exist = finds-exist (patterns_of_replacing asked) (plain_search whole.given) None (le_refl (length whole.given)) in
-    record {
-    text = whole.given;
-    read = whole.gives.bytes;
-    ended = ends (λ none. cc);
-    matches = exist.0;
-    found = exist.1;
-    written = whole.writes (patterns_of_replacing asked) exist.0 of exist.1;
-  }
+      let exist = finds-exist (patterns_of_replacing asked) (plain_search whole.given) None (le_refl (length whole.given)) in
+      record {
+        text = whole.given;
+        read = whole.gives.bytes;
+        ended = ends (λ none. cc);
+        matches = exist.0;
+        found = exist.1;
+        written = whole.writes (patterns_of_replacing asked) exist.0 of exist.1;
+      }
 
   pub begins_asked : StreamBegins IsOf asked.pieces before after 0 reads' old new → BeginsReplacing asked before after old new
   begins_asked begun = record {

@@ -78,10 +78,12 @@ fn exit_code<R: Read, W: Write, E: Write>(
         → Tells asked (R.remaining input.old.reader) (R.remaining input.new.reader)
         (W.contents output.old.writer) (W.contents output.new.writer) (exit_status result)) }
     ensures replaces { IfOk words (λ words. (asked : Replacing)
-        → replacing_by (map string_bytes words.items) ≡ Some asked → exit_status result < 2
-        → (exit_status result ≡ 0)
-        × Replaces asked (R.remaining input.old.reader) (R.remaining input.new.reader)
+        → replacing_by (map string_bytes words.items) ≡ Some asked → exit_status result ≡ 0
+        → Replaces asked (R.remaining input.old.reader) (R.remaining input.new.reader)
         (W.contents output.old.writer) (W.contents output.new.writer)) }
+    ensures no_status_1 { IfOk words (λ words. (asked : Replacing)
+        → replacing_by (map string_bytes words.items) ≡ Some asked → exit_status result < 2
+        → exit_status result ≡ 0) }
     ensures bound { exit_status result ≤ 3 }
 {
     let status = match words {

@@ -62,9 +62,10 @@ pub fn run<R: Read, W: Write, E: Write>(
         (W.contents output.old.writer) (W.contents output.new.writer) result }
     // Or the input is written with its matches replaced, all of it.
     ensures replaces { (asked : Replacing) → replacing_by (map string_bytes words.now) ≡ Some asked
-        → result < 2 → (result ≡ 0)
-        × Replaces asked (R.remaining input.old.reader) (R.remaining input.new.reader)
+        → result ≡ 0 → Replaces asked (R.remaining input.old.reader) (R.remaining input.new.reader)
         (W.contents output.old.writer) (W.contents output.new.writer) }
+    ensures no_status_1 { (asked : Replacing)
+        → replacing_by (map string_bytes words.now) ≡ Some asked → result < 2 → result ≡ 0 }
     ensures quiet { result < 2 → errors.new ≡ errors.old }
 
     // Any other status is that of a fault, which is told.
@@ -140,9 +141,10 @@ fn answer<R: Read, W: Write>(
         (R.remaining input.old.reader) (R.remaining input.new.reader)
         (W.contents output.old.writer) (W.contents output.new.writer) (status_of any)) }
     ensures replaces { (asked : Replacing) → replacing_by (map string_bytes words.now) ≡ Some asked
-        → IfOk result (λ any. (any ≡ true)
-        × Replaces asked (R.remaining input.old.reader) (R.remaining input.new.reader)
+        → OnOk result (Replaces asked (R.remaining input.old.reader) (R.remaining input.new.reader)
         (W.contents output.old.writer) (W.contents output.new.writer)) }
+    ensures replaced { (asked : Replacing) → replacing_by (map string_bytes words.now) ≡ Some asked
+        → IfOk result (λ any. any ≡ true) }
     ensures leaves { (asked : Asked) → asked_by (map string_bytes words.now) ≡ Some asked
         → IfErr result (Leaves
         (input.new.reader ≡ input.old.reader) (output.new.writer ≡ output.old.writer)

@@ -122,7 +122,13 @@ fn run_on<R: Read>(
     let words = texts(alloc, words)?;
     let mut output = Vec::new(alloc);
     let mut errors = Vec::new(alloc);
-    let status = run(alloc, words.as_slice(), input, &mut output, &mut errors);
+    let status = run(
+        alloc,
+        words.as_slice(),
+        &mut ReadSource::new(input),
+        &mut WriteSink::new(&mut output),
+        &mut errors,
+    );
     Ok((status, output, errors))
 }
 
@@ -238,7 +244,7 @@ fn prints_all_that_overlaps(rt: HostRuntime) -> Result<(), Fail> {
 
 #[test]
 fn tells_wrong_words(rt: HostRuntime) -> Result<(), Fail> {
-    let rows: [&[&str]; 9] = [
+    let rows: [&[&str]; 11] = [
         &[],
         &[""],
         &["find"],
@@ -247,7 +253,9 @@ fn tells_wrong_words(rt: HostRuntime) -> Result<(), Fail> {
         &["find", "leftmost", "a"],
         &["find", "-i", "standard", "a"],
         &["overlap"],
-        &["replace", "a", "b"],
+        &["replace"],
+        &["replace", "a"],
+        &["replace", "a", "b", "c"],
     ];
     for words in rows {
         let mut input: &[u8] = b"a";
@@ -380,8 +388,8 @@ fn tells_a_writer_that_fails(rt: HostRuntime) -> Result<(), Fail> {
             let found = run(
                 rt.alloc(),
                 words.as_slice(),
-                &mut input,
-                &mut output,
+                &mut ReadSource::new(&mut input),
+                &mut WriteSink::new(&mut output),
                 &mut errors,
             );
             let held = match then {
@@ -421,8 +429,8 @@ fn keeps_the_status_where_errors_cannot_be_told(rt: HostRuntime) -> Result<(), F
             let found = run(
                 rt.alloc(),
                 words.as_slice(),
-                &mut input,
-                &mut output,
+                &mut ReadSource::new(&mut input),
+                &mut WriteSink::new(&mut output),
                 &mut errors,
             );
             assert_eq!(rt; found, status, "{case}");
@@ -446,8 +454,8 @@ fn writes_in_pieces_and_flushes(rt: HostRuntime) -> Result<(), Fail> {
         let found = run(
             rt.alloc(),
             words.as_slice(),
-            &mut input,
-            &mut output,
+            &mut ReadSource::new(&mut input),
+            &mut WriteSink::new(&mut output),
             &mut errors,
         );
         assert_eq!(rt; found, status, "{kind}");
@@ -497,6 +505,7 @@ fn tells_each_fault_in_a_line(rt: HostRuntime) -> Result<(), Fail> {
             "match kind LeftmostLongest does not support overlapping searches\n",
         ),
         (Fault::OutOfMemory, 2, "out of memory\n"),
+        (Fault::PositionLimit, 2, "position limit reached\n"),
         (Fault::Read, 3, "read fault\n"),
         (Fault::Write, 3, "write fault\n"),
         (Fault::WriteZero, 3, "write took no bytes\n"),

@@ -1,7 +1,6 @@
 -- The words are pairs, and the automaton is that of the patterns.
-use Rattle.std.proofs.Common.{◌≡◌, ◌∙◌, sym, ap, length, map, string_bytes, inr}
+use Rattle.std.proofs.Common.{◌∙◌, ap, length, map, string_bytes, inr}
 use Rattle.std.proofs.lemmas.List.{length-map}
-use Rattle.aho_base.specs.Replacement.{pieces_of}
 use Rattle.std.proofs.lemmas.Result.{IfErr-weaker}
 use Rattle.aho_build.proofs.StoppedBuilds.{IfErr-given}
 use Rattle.acfind.specs.Asked.{patterns_of_replacing, replacing_for}
@@ -12,11 +11,13 @@ use Rattle.acfind.proofs.replace.replace.Goals as goal
 pub replace_all-requires : goal.replace_all-requires
 replace_all-requires g c =
     let asked = replacing_for (map string_bytes c.args.words.now) in
-    record { of = (
+    record {
+      of = (
         patterns_of_replacing asked,
         c.in_ok-automaton.ensures.of asked (shown c.as_slice.ensures.value c.in_ok-pairs.ensures.patterns),
         as_many _ _ c.requires.even ∙ ap length (shown c.as_slice-2.ensures.value c.in_ok-pairs.ensures.pieces) ∙ length-map _ _,
-      ) }
+      );
+    }
 
 pub returns-in_err-replace_all-clause-built_first :
     goal.returns-in_err-replace_all-clause-built_first

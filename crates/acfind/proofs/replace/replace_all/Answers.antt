@@ -1,5 +1,5 @@
 -- What the library promises of the devices holds of the reader and the writer.
-use Rattle.std.proofs.Common.{◌≡◌, ◌∙◌, sym, ap}
+use Rattle.std.proofs.Common.{◌∙◌, sym, ap}
 use Rattle.aho_build.proofs.StoppedBuilds.{IfErr-given}
 use Rattle.acfind.proofs.Replacings.{at_end, begins_asked, leaves_stream, replaces_asked}
 use Rattle.acfind.proofs.replace.replace_all.Goals as goal

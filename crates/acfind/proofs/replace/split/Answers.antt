@@ -1,5 +1,5 @@
 -- Nothing is left of an even number of words below two.
-use Rattle.std.proofs.Common.{◌≡◌, ◌++◌, sym, ap, ◌∙◌, append-nil}
+use Rattle.std.proofs.Common.{◌++◌, sym, ap, ◌∙◌, append-nil}
 use Rattle.aho_base.specs.Replacement.{pieces_of}
 use Rattle.acfind.proofs.Pairs.{none_at_even, none_at_odd}
 use Rattle.acfind.proofs.replace.split.Goals as goal
