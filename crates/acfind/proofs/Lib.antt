@@ -1,3 +1,5 @@
 mod Beginnings
 mod Calls
 mod Matches
+mod Pairs
+mod Replacings

@@ -1,13 +1,16 @@
 -- What a run answers.
 use Rattle.std.specs.Prelude.{◌≡◌, ℕ, Bool, true, false, List, [], ◌∷◌, ◌++◌, Option, None, length, take, decimal, codes, if◌then◌else◌}
+use Rattle.std.specs.Io.{StartsWith}
 use Rattle.std.specs.Io.KnownBytes.{Appends, Consumes, IsAtEnd}
 use Rattle.std.specs.List.{flat_map}
 use Rattle.aho_base.specs.Iteration.{AreFinds}
 use Rattle.aho_base.specs.Occurrence.{Occurrence}
 use Rattle.aho_base.specs.Overlapping.{all_occurrences}
 use Rattle.aho_base.specs.Patterns.{Patterns}
+use Rattle.aho_base.specs.Replacement.{replaced}
 use Rattle.aho_base.specs.Search.{plain_search}
-use Rattle.acfind.specs.Asked.{Asked, patterns_of}
+use Rattle.aho_stream.specs.Replacing.{MayBe}
+use Rattle.acfind.specs.Asked.{Asked, Replacing, patterns_of, patterns_of_replacing}
 use Rattle.acfind.specs.Faults.{status_of_fault, line_of_fault}
 use Rattle.acfind.specs.declared.command.Task.{Task}
 use Rattle.acfind.specs.declared.command.Task.TheVariants.{Find, Overlap}
@@ -81,3 +84,23 @@ pub record TellsFault (errors_old errors_new : Option (List ℕ)) (status : ℕ)
   pub told : status ≡ status_of_fault fault
   pub begun : AppendsBeginning errors_old errors_new (line_of_fault fault)
   pub left : Left fault
+
+-- the end of the input was seen, and the replacement of all of it is written and nothing else
+pub record Replaces (asked : Replacing) (input_old input_new output_old output_new : Option (List ℕ)) : Type 0 where
+  pub text : List ℕ
+  pub read : Consumes input_old input_new text
+  pub ended : IsAtEnd input_new
+  pub matches : List Occurrence
+  pub found : AreFinds (patterns_of_replacing asked) (plain_search text) None matches
+  pub written : Appends output_old output_new (replaced text matches asked.pieces)
+
+-- some of the input was read, and what is written begins the replacement, whatever bytes follow: none once its end was seen
+pub record BeginsReplacing (asked : Replacing) (input_old input_new output_old output_new : Option (List ℕ)) : Type 0 where
+  pub text : List ℕ
+  pub read : Consumes input_old input_new text
+  pub ended : Bool
+  pub at_end : ended ≡ true → IsAtEnd input_new
+  pub written : List ℕ
+  pub grown : Appends output_old output_new written
+  pub beginning : (bytes : List ℕ) (ms : List Occurrence) → MayBe text ended bytes
+      → AreFinds (patterns_of_replacing asked) (plain_search bytes) None ms → StartsWith (replaced bytes ms asked.pieces) written

@@ -1,5 +1,5 @@
 -- What is asked for: which matches of which patterns, and the settings of the automaton's build.
-use Rattle.std.specs.Prelude.{◌≡◌, ℕ, Bool, false, List, None, map, string_bytes}
+use Rattle.std.specs.Prelude.{◌≡◌, ℕ, Bool, false, List, [], ◌∷◌, None, map, string_bytes}
 use Rattle.aho_base.specs.Patterns.{Patterns}
 use Rattle.aho_base.specs.declared.search.MatchKind.{MatchKind}
 use Rattle.aho_base.specs.declared.search.MatchKind.TheVariants.{Standard}
@@ -38,3 +38,31 @@ settings_for task = record default_settings { kind = kind_of task; ignore_case =
 -- nothing that is asked for is refused by the build
 abbrev pub Builds : Asked → Type 0
 Builds asked = cause (settings_for asked.task) (patterns_of asked) ≡ None
+
+-- patterns, and for each the piece that is written in the place of its matches
+pub record Replacing : Type 0 where
+  pub words : List (List ℕ)
+  pub pieces : List (List ℕ)
+
+-- the words at even places, the first of which is 0, and those at odd places
+abbrev pub at_even : List (List ℕ) → List (List ℕ)
+at_even [] = []
+at_even (word ∷ []) = word ∷ []
+at_even (word ∷ other ∷ words) = word ∷ at_even words
+
+abbrev pub at_odd : List (List ℕ) → List (List ℕ)
+at_odd [] = []
+at_odd (word ∷ []) = []
+at_odd (word ∷ other ∷ words) = other ∷ at_odd words
+
+-- each pattern is followed by its piece
+abbrev pub replacing_for : List (List ℕ) → Replacing
+replacing_for words = record { words = at_even words; pieces = at_odd words }
+
+-- replacement is that of the kind `Standard`, and of letters as they are
+abbrev pub patterns_of_replacing : Replacing → Patterns
+patterns_of_replacing asked = record { words = asked.words; kind = Standard; ignore_case = false }
+
+-- no pattern is refused by the build
+abbrev pub BuildsReplacing : Replacing → Type 0
+BuildsReplacing asked = cause default_settings (patterns_of_replacing asked) ≡ None

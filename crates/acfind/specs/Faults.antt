@@ -1,8 +1,10 @@
 -- What a fault is told by: its status and its text.
 use Rattle.std.specs.Prelude.{ℕ, List, ◌++◌, codes, ⊤}
+use Rattle.aho_base.specs.declared.error.stream.StreamError.{StreamError}
+use Rattle.aho_base.specs.declared.error.stream.StreamError.TheVariants.{Match as Refused, Read as ReadFailed, Write as WriteFailed, WriteZero as TookNothing, Memory, PositionLimit as LimitMet}
 use Rattle.aho_base.specs.Texts.{build_error_text, match_error_text}
 use Rattle.acfind.specs.declared.fault.Fault.{Fault}
-use Rattle.acfind.specs.declared.fault.Fault.TheVariants.{Usage, Build, Search, OutOfMemory, Read, Write, WriteZero}
+use Rattle.acfind.specs.declared.fault.Fault.TheVariants.{Usage, Build, Search, OutOfMemory, PositionLimit, Read, Write, WriteZero}
 
 -- 3 where a device fails, and else 2
 abbrev pub status_of_fault : Fault → ℕ
@@ -10,6 +12,7 @@ status_of_fault Usage = 2
 status_of_fault (Build error) = 2
 status_of_fault (Search error) = 2
 status_of_fault OutOfMemory = 2
+status_of_fault PositionLimit = 2
 status_of_fault Read = 3
 status_of_fault Write = 3
 status_of_fault WriteZero = 3
@@ -20,6 +23,7 @@ fault_text Usage = codes "usage: acfind find KIND [-i] PATTERN.. | overlap PATTE
 fault_text (Build error) = build_error_text error
 fault_text (Search error) = match_error_text error
 fault_text OutOfMemory = codes "out of memory"
+fault_text PositionLimit = codes "position limit reached"
 fault_text Read = codes "read fault"
 fault_text Write = codes "write fault"
 fault_text WriteZero = codes "write took no bytes"
@@ -28,12 +32,13 @@ fault_text WriteZero = codes "write took no bytes"
 abbrev pub line_of_fault : Fault → List ℕ
 line_of_fault fault = fault_text fault ++ codes "\n"
 
--- what a fault of right words leaves: a refused build leaves all unread, only a write's fault something written
+-- what a fault of printing leaves: a refused build leaves all unread, only a write's fault something written
 abbrev pub Leaves : (unread unwritten begun : Type 0) → Fault → Type 0
 Leaves unread unwritten begun Usage = ⊥
 Leaves unread unwritten begun (Build error) = unread × unwritten
 Leaves unread unwritten begun (Search error) = ⊥
 Leaves unread unwritten begun OutOfMemory = unwritten
+Leaves unread unwritten begun PositionLimit = ⊥
 Leaves unread unwritten begun Read = unwritten
 Leaves unread unwritten begun Write = begun
 Leaves unread unwritten begun WriteZero = begun
@@ -41,3 +46,23 @@ Leaves unread unwritten begun WriteZero = begun
 -- the fault is that of a write or a flush
 abbrev pub IsOfWrite : Fault → Type 0
 IsOfWrite = Leaves ⊥ ⊥ ⊤
+
+-- what a fault of a replacement leaves: what is refused leaves all untouched, and any other something written
+abbrev pub LeavesReplacing : (untouched begun : Type 0) → Fault → Type 0
+LeavesReplacing untouched begun Usage = ⊥
+LeavesReplacing untouched begun (Build error) = untouched
+LeavesReplacing untouched begun (Search error) = untouched
+LeavesReplacing untouched begun OutOfMemory = untouched
+LeavesReplacing untouched begun PositionLimit = begun
+LeavesReplacing untouched begun Read = begun
+LeavesReplacing untouched begun Write = begun
+LeavesReplacing untouched begun WriteZero = begun
+
+-- the fault of a stream's error
+abbrev pub fault_of_stream : StreamError → Fault
+fault_of_stream (Refused error) = Search error
+fault_of_stream (ReadFailed fault) = Read
+fault_of_stream (WriteFailed fault) = Write
+fault_of_stream TookNothing = WriteZero
+fault_of_stream Memory = OutOfMemory
+fault_of_stream LimitMet = PositionLimit

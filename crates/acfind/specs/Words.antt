@@ -1,9 +1,9 @@
 -- What the words after the program's name ask for.
-use Rattle.std.specs.Prelude.{ℕ, true, false, List, [], ◌∷◌, Option, Some, None, codes, option_and_then, if◌then◌else◌}
+use Rattle.std.specs.Prelude.{◌≡◌, ℕ, ◌%◌, ◌==◌, ◌||◌, not, true, false, List, [], ◌∷◌, Option, Some, None, codes, length, option_and_then, if◌then◌else◌}
 use Rattle.std.specs.Str.{bytes_eq}
 use Rattle.aho_base.specs.declared.search.MatchKind.{MatchKind}
 use Rattle.aho_base.specs.declared.search.MatchKind.TheVariants.{Standard, LeftmostFirst, LeftmostLongest}
-use Rattle.acfind.specs.Asked.{Asked}
+use Rattle.acfind.specs.Asked.{Asked, Replacing, replacing_for}
 use Rattle.acfind.specs.declared.command.Task.{Task}
 use Rattle.acfind.specs.declared.command.Task.TheVariants.{Find, Overlap}
 
@@ -31,10 +31,25 @@ abbrev pub find_by : List (List ℕ) → Option Asked
 find_by [] = None
 find_by (word ∷ words) = option_and_then (λ kind. cased_by kind words) (kind_by word)
 
--- find KIND [-i] PATTERN.., or overlap PATTERN..; none where the words are wrong
+-- find KIND [-i] PATTERN.., or overlap PATTERN..: the matches that are printed
 abbrev pub asked_by : List (List ℕ) → Option Asked
 asked_by [] = None
 asked_by (word ∷ words) =
     if bytes_eq word (codes "find") then find_by words
     else if bytes_eq word (codes "overlap") then patterns_by Overlap words
     else None
+
+-- P1 R1 P2 R2 ..: at least one pattern, and a piece for each
+abbrev pub pairs_by : List (List ℕ) → Option Replacing
+pairs_by words =
+    if length words == 0 || not (length words % 2 == 0) then None
+    else Some (replacing_for words)
+
+-- replace P1 R1 P2 R2 ..
+abbrev pub replacing_by : List (List ℕ) → Option Replacing
+replacing_by [] = None
+replacing_by (word ∷ words) = if bytes_eq word (codes "replace") then pairs_by words else None
+
+-- the words ask for nothing
+abbrev pub AreWrong : List (List ℕ) → Type 0
+AreWrong words = (asked_by words ≡ None) × (replacing_by words ≡ None)

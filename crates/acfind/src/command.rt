@@ -1,8 +1,8 @@
 //! What the words of a call ask for.
 
-ghost use Rattle.std.specs.Prelude.{◌≡◌, map, option_map, string_bytes};
-ghost use Rattle.acfind.specs.Asked.{asked_for, ignores_case, kind_of};
-ghost use Rattle.acfind.specs.Words.{kind_by, patterns_by, cased_by, find_by, asked_by};
+ghost use Rattle.std.specs.Prelude.{◌≡◌, ◌%◌, IfSome, length, map, option_map, string_bytes};
+ghost use Rattle.acfind.specs.Asked.{asked_for, ignores_case, kind_of, replacing_for};
+ghost use Rattle.acfind.specs.Words.{kind_by, patterns_by, cased_by, find_by, asked_by, replacing_by};
 
 use aho_base::search::MatchKind;
 
@@ -51,7 +51,7 @@ pub struct Request<'w> {
     pub patterns: &'w [String],
 }
 
-/// What the words after the program's name ask for: nothing where they are wrong.
+/// Which matches the words after the program's name ask to print: none where they ask for something else, or are wrong.
 pub fn parse(words: &[String]) -> Option<Request<'_>>
     ensures asked { option_map asked_for result ≡ asked_by (map string_bytes words.now) }
 {
@@ -105,4 +105,18 @@ fn parse_patterns(task: Task, words: &[String]) -> Option<Request<'_>>
         task,
         patterns: words,
     })
+}
+
+/// The patterns that the words after the program's name ask to replace, each followed by what is written in its place: none
+/// where they ask for something else, or are wrong.
+pub fn parse_replace(words: &[String]) -> Option<&[String]>
+    ensures asked { option_map (λ pairs. replacing_for (map string_bytes pairs.now)) result
+        ≡ replacing_by (map string_bytes words.now) }
+    ensures even { IfSome result (λ pairs. length pairs.now % 2 ≡ 0) }
+{
+    let (command, pairs) = words.split_first()?;
+    if command.as_str() != "replace" || pairs.is_empty() || pairs.len() % 2 != 0 {
+        return None;
+    }
+    Some(pairs)
 }

@@ -2,7 +2,7 @@
 
 ghost use Rattle.std.specs.Prelude.{◌≡◌, IfOk};
 
-use aho_base::error::{BuildError, MatchError};
+use aho_base::error::{BuildError, MatchError, StreamError};
 use std::alloc::AllocError;
 use std::fmt;
 use std::fmt::{InlineText, Write};
@@ -17,10 +17,12 @@ pub enum Fault {
     Usage,
     /// The automaton is refused.
     Build(BuildError),
-    /// The search is refused.
+    /// The search or the replacement is refused.
     Search(MatchError),
     /// Memory is wanted.
     OutOfMemory,
+    /// The input is longer than a replacement may be.
+    PositionLimit,
     /// Standard input cannot be read.
     Read,
     /// Standard output cannot be written.
@@ -38,7 +40,11 @@ impl Fault {
         ensures status { result ≡ status_of_fault self.now }
     {
         match self {
-            Fault::Usage | Fault::Build(_) | Fault::Search(_) | Fault::OutOfMemory => 2,
+            Fault::Usage
+            | Fault::Build(_)
+            | Fault::Search(_)
+            | Fault::OutOfMemory
+            | Fault::PositionLimit => 2,
             Fault::Read | Fault::Write | Fault::WriteZero => 3,
         }
     }
@@ -83,6 +89,23 @@ impl From<AllocError> for Fault {
     }
 }
 
+impl From<StreamError> for Fault {
+    ghost use Rattle.acfind.specs.Faults.{fault_of_stream};
+
+    ghost from_gives = { λ error fault. fault ≡ fault_of_stream error };
+
+    fn from(error: StreamError) -> Fault {
+        match error {
+            StreamError::Match(error) => Fault::Search(error),
+            StreamError::Read(_) => Fault::Read,
+            StreamError::Write(_) => Fault::Write,
+            StreamError::WriteZero => Fault::WriteZero,
+            StreamError::Memory => Fault::OutOfMemory,
+            StreamError::PositionLimit => Fault::PositionLimit,
+        }
+    }
+}
+
 /// Writes why nothing is answered, with no line end.
 impl fmt::Display for Fault {
     ghost use Rattle.std.specs.Prelude.{Some};
@@ -98,6 +121,7 @@ impl fmt::Display for Fault {
             Fault::Build(error) => write!(f, "{error}"),
             Fault::Search(error) => write!(f, "{error}"),
             Fault::OutOfMemory => f.write_str("out of memory"),
+            Fault::PositionLimit => f.write_str("position limit reached"),
             Fault::Read => f.write_str("read fault"),
             Fault::Write => f.write_str("write fault"),
             Fault::WriteZero => f.write_str("write took no bytes"),

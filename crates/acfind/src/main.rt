@@ -9,21 +9,25 @@
 ghost use Rattle.std.specs.Prelude.{◌≢◌, ◌≡◌, ◌<◌, ◌≤◌, map, Some, None, IfOk, IfErr, OnErr, string_bytes};
 ghost use Rattle.std.specs.IoError.{error_kind};
 ghost use Rattle.std.specs.Process.{exit_status};
-ghost use Rattle.acfind.specs.Answers.{AppendsBeginning, Tells};
-ghost use Rattle.acfind.specs.Asked.{Asked};
+ghost use Rattle.acfind.specs.Answers.{AppendsBeginning, Replaces, Tells};
+ghost use Rattle.acfind.specs.Asked.{Asked, Replacing};
 ghost use Rattle.acfind.specs.Faults.{status_of_fault, line_of_fault};
-ghost use Rattle.acfind.specs.Words.{asked_by};
+ghost use Rattle.acfind.specs.Words.{AreWrong, asked_by, replacing_by};
 
 mod command;
+mod devices;
 mod fault;
 mod print;
+mod replace;
 mod run;
 
+use command::parse_replace;
+use devices::{ReadSource, WriteSink};
 use fault::Fault;
 use run::{report, run};
 use std::alloc::{Alloc, Global};
 use std::env::Env;
-use std::io::{BufWriter, ErrorKind, Read, Write};
+use std::io::{BufWriter, ErrorKind, LineWriter, Read, Write};
 use std::process::ExitCode;
 use std::{env, io};
 
@@ -31,37 +35,55 @@ use std::{env, io};
 const OUTPUT_CAPACITY: usize = 64 * 1024;
 
 fn main(rt: HostRuntime) -> ExitCode {
-    exit_code(
-        rt.alloc(),
-        words(&rt),
-        &mut rt.stdin(),
-        &mut buffered(&rt),
-        &mut rt.stderr(),
-    )
+    let words = words(&rt);
+    let mut input = ReadSource::new(rt.stdin());
+    let mut errors = rt.stderr();
+    if shows_lines(&words) {
+        let mut output = WriteSink::new(by_lines(&rt));
+        exit_code(rt.alloc(), words, &mut input, &mut output, &mut errors)
+    } else {
+        let mut output = WriteSink::new(buffered(&rt));
+        exit_code(rt.alloc(), words, &mut input, &mut output, &mut errors)
+    }
+}
+
+/// Whether each line of the output is to be seen soon, since the input may have no end.
+fn shows_lines(words: &Result<Vec<String>, Fault>) -> bool {
+    match words {
+        Ok(words) => parse_replace(words.as_slice()).is_some(),
+        Err(_) => false,
+    }
 }
 
 /// Runs on the words, or tells why there are none, and ends with the status.
 fn exit_code<R: Read, W: Write, E: Write>(
     alloc: Global,
     words: Result<Vec<String>, Fault>,
-    input: &mut R,
-    output: &mut W,
+    input: &mut ReadSource<R>,
+    output: &mut WriteSink<W>,
     errors: &mut E,
 ) -> ExitCode
     // Where there are no words, the fault is told and nothing else is done.
     ensures faulty { IfErr words (λ fault. exit_status result ≡ status_of_fault fault) }
     ensures told { IfErr words (λ fault.
         AppendsBeginning (E.contents errors.old) (E.contents errors.new) (line_of_fault fault)) }
-    ensures unread { OnErr words (input.new ≡ input.old) }
-    ensures unwritten { OnErr words (output.new ≡ output.old) }
+    ensures unread { OnErr words (input.new.reader ≡ input.old.reader) }
+    ensures unwritten { OnErr words (output.new.writer ≡ output.old.writer) }
 
     // Where there are words, the status is that of the run.
     ensures usage { IfOk words (λ words.
-        asked_by (map string_bytes words.items) ≡ None → exit_status result ≡ 2) }
+        AreWrong (map string_bytes words.items) → exit_status result ≡ 2) }
     ensures tells { IfOk words (λ words. (asked : Asked)
         → asked_by (map string_bytes words.items) ≡ Some asked → exit_status result < 2
-        → Tells asked (R.remaining input.old) (R.remaining input.new)
-        (W.contents output.old) (W.contents output.new) (exit_status result)) }
+        → Tells asked (R.remaining input.old.reader) (R.remaining input.new.reader)
+        (W.contents output.old.writer) (W.contents output.new.writer) (exit_status result)) }
+    ensures replaces { IfOk words (λ words. (asked : Replacing)
+        → replacing_by (map string_bytes words.items) ≡ Some asked → exit_status result ≡ 0
+        → Replaces asked (R.remaining input.old.reader) (R.remaining input.new.reader)
+        (W.contents output.old.writer) (W.contents output.new.writer)) }
+    ensures no_status_1 { IfOk words (λ words. (asked : Replacing)
+        → replacing_by (map string_bytes words.items) ≡ Some asked → exit_status result < 2
+        → exit_status result ≡ 0) }
     ensures bound { exit_status result ≤ 3 }
 {
     let status = match words {
@@ -95,6 +117,14 @@ fn buffered(rt: &HostRuntime) -> BufWriter<io::Stdout> {
     match BufWriter::with_capacity(rt.alloc(), OUTPUT_CAPACITY, rt.stdout()) {
         Ok(output) => output,
         Err(_) => BufWriter::with_capacity(rt.alloc(), 0, rt.stdout()).unwrap(),
+    }
+}
+
+/// Standard output behind a buffer that is written at each line end, or without one where there is no memory for it.
+fn by_lines(rt: &HostRuntime) -> LineWriter<io::Stdout> {
+    match LineWriter::with_capacity(rt.alloc(), OUTPUT_CAPACITY, rt.stdout()) {
+        Ok(output) => output,
+        Err(_) => LineWriter::with_capacity(rt.alloc(), 0, rt.stdout()).unwrap(),
     }
 }
 

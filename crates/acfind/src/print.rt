@@ -115,7 +115,7 @@ fn write_bytes<W: Write>(output: &mut W, bytes: &[u8]) -> Result<(), Fault>
 }
 
 /// Hands on what a buffer keeps. A failed flush is not tried again.
-fn flush<W: Write>(output: &mut W) -> Result<(), Fault>
+pub fn flush<W: Write>(output: &mut W) -> Result<(), Fault>
     ensures kept { Keeps (W.contents output.old) (W.contents output.new) }
     ensures of_write { IfErr result IsOfWrite }
 {

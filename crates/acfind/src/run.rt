@@ -1,6 +1,6 @@
 //! A call of the program over its words and streams.
 
-ghost use Rattle.std.specs.Prelude.{IsOk, ◌≡◌, ◌<◌, ◌≤◌, ◌⊎◌, ⊤, map, length, IfOk, IfErr, OnOk, string_bytes};
+ghost use Rattle.std.specs.Prelude.{IsOk, true, ◌≡◌, ◌<◌, ◌≤◌, ◌⊎◌, ⊤, map, length, IfOk, IfErr, OnOk, string_bytes};
 ghost use Rattle.std.specs.Io.KnownBytes.{Appends, Consumes, IsAtEnd};
 ghost use Rattle.aho_base.specs.Iteration.{AreFinds};
 ghost use Rattle.aho_base.specs.Overlapping.{all_occurrences};
@@ -8,15 +8,17 @@ ghost use Rattle.aho_base.specs.Patterns.{Patterns};
 ghost use Rattle.aho_base.specs.Search.{plain_search};
 ghost use Rattle.aho_base.specs.declared.search.Anchored.TheVariants.{No};
 ghost use Rattle.aho_base.specs.declared.search.MatchKind.TheVariants.{Standard};
-ghost use Rattle.acfind.specs.Answers.{AreMatches, AppendsBeginning, Begins, Begun, Prints, Tells, TellsFault, status_of};
-ghost use Rattle.acfind.specs.Asked.{Asked, Builds, asked_for, kind_of, patterns_of, settings_for};
-ghost use Rattle.acfind.specs.Faults.{status_of_fault, line_of_fault, IsOfWrite, Leaves};
-ghost use Rattle.acfind.specs.Words.{asked_by};
+ghost use Rattle.acfind.specs.Answers.{AreMatches, AppendsBeginning, Begins, BeginsReplacing, Begun, Prints, Replaces, Tells, TellsFault, status_of};
+ghost use Rattle.acfind.specs.Asked.{Asked, Builds, BuildsReplacing, Replacing, asked_for, kind_of, patterns_of, settings_for};
+ghost use Rattle.acfind.specs.Faults.{status_of_fault, line_of_fault, IsOfWrite, Leaves, LeavesReplacing};
+ghost use Rattle.acfind.specs.Words.{AreWrong, asked_by, replacing_by};
 ghost use Rattle.acfind.specs.declared.fault.Fault.TheVariants.{Usage};
 
-use crate::command::{Request, Task, parse};
+use crate::command::{Request, Task, parse, parse_replace};
+use crate::devices::{ReadSource, WriteSink};
 use crate::fault::Fault;
 use crate::print::{print, write_whole};
+use crate::replace::replace;
 use aho_base::search::Input;
 use aho_corasick::noncontiguous::{Builder, NFA};
 use aho_search::automaton::Automaton;
@@ -35,37 +37,57 @@ const PIECE: usize = 16 * 1024;
 pub fn run<R: Read, W: Write, E: Write>(
     alloc: Global,
     words: &[String],
-    input: &mut R,
-    output: &mut W,
+    input: &mut ReadSource<R>,
+    output: &mut WriteSink<W>,
     errors: &mut E,
 ) -> u8
     // Wrong words are found first, and told.
-    ensures usage { asked_by (map string_bytes words.now) ≡ None → result ≡ 2 }
-    ensures unread { asked_by (map string_bytes words.now) ≡ None → input.new ≡ input.old }
-    ensures tells_usage { asked_by (map string_bytes words.now) ≡ None
+    ensures usage { AreWrong (map string_bytes words.now) → result ≡ 2 }
+    ensures unread { AreWrong (map string_bytes words.now) → input.new.reader ≡ input.old.reader }
+    ensures unwritten { AreWrong (map string_bytes words.now)
+        → output.new.writer ≡ output.old.writer }
+    ensures tells_usage { AreWrong (map string_bytes words.now)
         → AppendsBeginning (E.contents errors.old) (E.contents errors.new) (line_of_fault Usage) }
 
     // For right words the automaton is built before anything is read.
     ensures built_first { (asked : Asked) → asked_by (map string_bytes words.now) ≡ Some asked
-        → (input.new ≡ input.old) ⊎ Builds asked }
+        → (input.new.reader ≡ input.old.reader) ⊎ Builds asked }
+    ensures built_to_replace { (asked : Replacing)
+        → replacing_by (map string_bytes words.now) ≡ Some asked
+        → (input.new.reader ≡ input.old.reader) ⊎ BuildsReplacing asked }
 
     // All matches are printed, and told by the status.
     ensures tells { (asked : Asked) → asked_by (map string_bytes words.now) ≡ Some asked → result < 2
-        → Tells asked (R.remaining input.old) (R.remaining input.new)
-        (W.contents output.old) (W.contents output.new) result }
+        → Tells asked (R.remaining input.old.reader) (R.remaining input.new.reader)
+        (W.contents output.old.writer) (W.contents output.new.writer) result }
+    // Or the input is written with its matches replaced, all of it.
+    ensures replaces { (asked : Replacing) → replacing_by (map string_bytes words.now) ≡ Some asked
+        → result ≡ 0 → Replaces asked (R.remaining input.old.reader) (R.remaining input.new.reader)
+        (W.contents output.old.writer) (W.contents output.new.writer) }
+    ensures no_status_1 { (asked : Replacing)
+        → replacing_by (map string_bytes words.now) ≡ Some asked → result < 2 → result ≡ 0 }
     ensures quiet { result < 2 → errors.new ≡ errors.old }
 
     // Any other status is that of a fault, which is told.
     ensures bound { result ≤ 3 }
-    ensures refused { result ≡ 2 → output.new ≡ output.old }
+    ensures refused { (asked : Asked) → asked_by (map string_bytes words.now) ≡ Some asked
+        → result ≡ 2 → output.new.writer ≡ output.old.writer }
     ensures tells_fault { (asked : Asked) → asked_by (map string_bytes words.now) ≡ Some asked
         → 2 ≤ result → TellsFault (E.contents errors.old) (E.contents errors.new) result
-        (Leaves (input.new ≡ input.old) (output.new ≡ output.old)
-        (Begins asked (R.remaining input.old) (R.remaining input.new)
-        (W.contents output.old) (W.contents output.new))) }
+        (Leaves (input.new.reader ≡ input.old.reader) (output.new.writer ≡ output.old.writer)
+        (Begins asked (R.remaining input.old.reader) (R.remaining input.new.reader)
+        (W.contents output.old.writer) (W.contents output.new.writer))) }
     ensures begins { (asked : Asked) → asked_by (map string_bytes words.now) ≡ Some asked
-        → (output.new ≡ output.old) ⊎ Begins asked (R.remaining input.old) (R.remaining input.new)
-        (W.contents output.old) (W.contents output.new) }
+        → (output.new.writer ≡ output.old.writer)
+        ⊎ Begins asked (R.remaining input.old.reader) (R.remaining input.new.reader)
+        (W.contents output.old.writer) (W.contents output.new.writer) }
+    ensures tells_replace_fault { (asked : Replacing)
+        → replacing_by (map string_bytes words.now) ≡ Some asked
+        → 2 ≤ result → TellsFault (E.contents errors.old) (E.contents errors.new) result
+        (LeavesReplacing
+        ((input.new.reader ≡ input.old.reader) × (output.new.writer ≡ output.old.writer))
+        (BeginsReplacing asked (R.remaining input.old.reader) (R.remaining input.new.reader)
+        (W.contents output.old.writer) (W.contents output.new.writer))) }
 {
     match answer(alloc, words, input, output) {
         Ok(true) => 0,
@@ -98,8 +120,57 @@ fn write_fault<E: Write>(fault: &Fault, errors: &mut E) -> Result<(), Fault>
     }
 }
 
-/// Prints the matches in the input that the words ask for, and answers whether there was one.
+/// Does what the words ask for. Where they ask for matches, it answers whether there was one.
 fn answer<R: Read, W: Write>(
+    alloc: Global,
+    words: &[String],
+    input: &mut ReadSource<R>,
+    output: &mut WriteSink<W>,
+) -> Result<bool, Fault>
+    ensures usage { AreWrong (map string_bytes words.now) → result ≡ Err Usage }
+    ensures unread { AreWrong (map string_bytes words.now) → input.new.reader ≡ input.old.reader }
+    ensures unwritten { AreWrong (map string_bytes words.now)
+        → output.new.writer ≡ output.old.writer }
+    ensures built_first { (asked : Asked) → asked_by (map string_bytes words.now) ≡ Some asked
+        → (input.new.reader ≡ input.old.reader) ⊎ Builds asked }
+    ensures built_to_replace { (asked : Replacing)
+        → replacing_by (map string_bytes words.now) ≡ Some asked
+        → (input.new.reader ≡ input.old.reader) ⊎ BuildsReplacing asked }
+    ensures tells { (asked : Asked) → asked_by (map string_bytes words.now) ≡ Some asked
+        → IfOk result (λ any. Tells asked
+        (R.remaining input.old.reader) (R.remaining input.new.reader)
+        (W.contents output.old.writer) (W.contents output.new.writer) (status_of any)) }
+    ensures replaces { (asked : Replacing) → replacing_by (map string_bytes words.now) ≡ Some asked
+        → OnOk result (Replaces asked (R.remaining input.old.reader) (R.remaining input.new.reader)
+        (W.contents output.old.writer) (W.contents output.new.writer)) }
+    ensures replaced { (asked : Replacing) → replacing_by (map string_bytes words.now) ≡ Some asked
+        → IfOk result (λ any. any ≡ true) }
+    ensures leaves { (asked : Asked) → asked_by (map string_bytes words.now) ≡ Some asked
+        → IfErr result (Leaves
+        (input.new.reader ≡ input.old.reader) (output.new.writer ≡ output.old.writer)
+        (Begins asked (R.remaining input.old.reader) (R.remaining input.new.reader)
+        (W.contents output.old.writer) (W.contents output.new.writer))) }
+    ensures leaves_replacing { (asked : Replacing)
+        → replacing_by (map string_bytes words.now) ≡ Some asked
+        → IfErr result (LeavesReplacing
+        ((input.new.reader ≡ input.old.reader) × (output.new.writer ≡ output.old.writer))
+        (BeginsReplacing asked (R.remaining input.old.reader) (R.remaining input.new.reader)
+        (W.contents output.old.writer) (W.contents output.new.writer))) }
+{
+    match parse_replace(words) {
+        Some(pairs) => {
+            replace(alloc, pairs, input, output)?;
+            Ok(true)
+        }
+        None => {
+            input.restart();
+            answer_matches(alloc, words, &mut input.reader, &mut output.writer)
+        }
+    }
+}
+
+/// Prints the matches in the input that the words ask for, and answers whether there was one.
+fn answer_matches<R: Read, W: Write>(
     alloc: Global,
     words: &[String],
     input: &mut R,

@@ -74,8 +74,8 @@ fn ends_with_the_status_of_the_words(rt: HostRuntime) -> Result<(), Fail> {
         let code = exit_code(
             rt.alloc(),
             words(&call),
-            &mut input,
-            &mut output,
+            &mut ReadSource::new(&mut input),
+            &mut WriteSink::new(&mut output),
             &mut errors,
         );
         assert_eq!(rt; code, ExitCode::from(status), "{given:?}");

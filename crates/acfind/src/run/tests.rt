@@ -122,7 +122,13 @@ fn run_on<R: Read>(
     let words = texts(alloc, words)?;
     let mut output = Vec::new(alloc);
     let mut errors = Vec::new(alloc);
-    let status = run(alloc, words.as_slice(), input, &mut output, &mut errors);
+    let status = run(
+        alloc,
+        words.as_slice(),
+        &mut ReadSource::new(input),
+        &mut WriteSink::new(&mut output),
+        &mut errors,
+    );
     Ok((status, output, errors))
 }
 
@@ -238,7 +244,7 @@ fn prints_all_that_overlaps(rt: HostRuntime) -> Result<(), Fail> {
 
 #[test]
 fn tells_wrong_words(rt: HostRuntime) -> Result<(), Fail> {
-    let rows: [&[&str]; 9] = [
+    let rows: [&[&str]; 11] = [
         &[],
         &[""],
         &["find"],
@@ -247,7 +253,9 @@ fn tells_wrong_words(rt: HostRuntime) -> Result<(), Fail> {
         &["find", "leftmost", "a"],
         &["find", "-i", "standard", "a"],
         &["overlap"],
-        &["replace", "a", "b"],
+        &["replace"],
+        &["replace", "a"],
+        &["replace", "a", "b", "c"],
     ];
     for words in rows {
         let mut input: &[u8] = b"a";
@@ -320,7 +328,9 @@ fn tells_a_reader_that_fails(rt: HostRuntime) -> Result<(), Fail> {
 
 #[test]
 fn tells_a_writer_that_fails(rt: HostRuntime) -> Result<(), Fail> {
-    let words = texts(rt.alloc(), &["find", "standard", "b"])?;
+    let find: [&str; 3] = ["find", "standard", "b"];
+    let replace: [&str; 5] = ["replace", "b", "0 3", "a", "0 1 2\n"];
+    let calls: [(&[&str], &[u8]); 2] = [(&find, b"abab"), (&replace, b"ab 4\n")];
     let lines = b"0 1 2\n0 3 4\n";
     let rows = [
         (
@@ -373,32 +383,97 @@ fn tells_a_writer_that_fails(rt: HostRuntime) -> Result<(), Fail> {
         ),
     ];
     for (case, then, flush, told) in rows {
-        for first in [0, 1, 5, 6, 7, 11] {
-            let mut output = Device::new(rt.alloc(), first, then, flush);
-            let mut errors = Vec::new(rt.alloc());
-            let mut input: &[u8] = b"abab";
-            let found = run(
-                rt.alloc(),
-                words.as_slice(),
-                &mut input,
-                &mut output,
-                &mut errors,
-            );
-            let held = match then {
-                Then::Takes => lines.len(),
-                Then::TakesNone | Then::Fails(_) => first,
-            };
-            assert_eq!(rt; found, 3, "{case} after {first}");
-            assert!(rt; held <= lines.len());
-            assert_eq!(rt;
-                output.held.as_slice(),
-                &lines[..held],
-                "{case} after {first}"
-            );
-            assert!(rt; output.flushed.is_empty(), "{case} after {first}");
-            assert_eq!(rt; errors.as_slice(), told.as_bytes(), "{case} after {first}");
+        for (words, text) in calls {
+            for first in [0, 1, 5, 6, 7, 11] {
+                let words = texts(rt.alloc(), words)?;
+                let mut output = Device::new(rt.alloc(), first, then, flush);
+                let mut errors = Vec::new(rt.alloc());
+                let mut input = text;
+                let found = run(
+                    rt.alloc(),
+                    words.as_slice(),
+                    &mut ReadSource::new(&mut input),
+                    &mut WriteSink::new(&mut output),
+                    &mut errors,
+                );
+                let held = match then {
+                    Then::Takes => lines.len(),
+                    Then::TakesNone | Then::Fails(_) => first,
+                };
+                assert_eq!(rt; found, 3, "{case} after {first}");
+                assert!(rt; held <= lines.len());
+                assert_eq!(rt;
+                    output.held.as_slice(),
+                    &lines[..held],
+                    "{case} after {first}"
+                );
+                assert!(rt; output.flushed.is_empty(), "{case} after {first}");
+                assert_eq!(rt; errors.as_slice(), told.as_bytes(), "{case} after {first}");
+            }
         }
     }
+    Ok(())
+}
+
+#[test]
+fn replaces_each_match(rt: HostRuntime) -> Result<(), Fail> {
+    let rows: [(&[&str], &[u8], &[u8]); 7] = [
+        (
+            &["replace", "fox", "sloth", "brown", "grey", "quick", "slow"],
+            b"The quick brown fox.",
+            b"The slow grey sloth.",
+        ),
+        (&["replace", "aa", "b"], b"aaaaa", b"bba"),
+        (&["replace", "a", ""], b"bab", b"bb"),
+        (
+            &["replace", "ab", "x", "a", "y", "a", "z"],
+            b"\xffaab",
+            b"\xffyyb",
+        ),
+        (&["replace", "-i", "x"], b"-i-I", b"x-I"),
+        (&["replace", "a", "b"], b"cd\n", b"cd\n"),
+        (&["replace", "a", "b"], b"", b""),
+    ];
+    for (words, input, written) in rows {
+        let mut rest = input;
+        let (status, output, errors) = run_on(rt.alloc(), words, &mut rest)?;
+        assert_eq!(rt; status, 0, "{words:?} on {input:?}");
+        assert_eq!(rt; output.as_slice(), written, "{words:?} on {input:?}");
+        assert!(rt; errors.is_empty(), "{words:?} on {input:?}");
+        let mut slow = Slow { rest: input };
+        let (status, output, _errors) = run_on(rt.alloc(), words, &mut slow)?;
+        assert_eq!(rt; status, 0, "{words:?} on {input:?}, one by one");
+        assert_eq!(rt;
+            output.as_slice(),
+            written,
+            "{words:?} on {input:?}, one by one"
+        );
+    }
+    Ok(())
+}
+
+#[test]
+fn tells_a_replacement_that_is_refused_or_broken_off(rt: HostRuntime) -> Result<(), Fail> {
+    let refused = "matching with an empty pattern string is not supported for this operation\n";
+    let mut input: &[u8] = b"a";
+    let words = ["replace", "b", "y", "", "x"];
+    let (status, output, errors) = run_on(rt.alloc(), &words, &mut input)?;
+    assert_eq!(rt; status, 2, "refused");
+    assert!(rt; output.is_empty(), "refused");
+    assert_eq!(rt; errors.as_slice(), refused.as_bytes(), "refused");
+    assert_eq!(rt; input.len(), 1, "refused");
+
+    let mut broken = Broken {
+        first: b"The qui",
+        kind: Some(ErrorKind::Interrupted),
+        rest: b"ck fox",
+    };
+    let words = ["replace", "quick", "slow"];
+    let (status, output, errors) = run_on(rt.alloc(), &words, &mut broken)?;
+    assert_eq!(rt; status, 3, "broken off");
+    assert!(rt; output.len() >= 2, "broken off");
+    assert!(rt; b"The ".starts_with(output.as_slice()), "broken off");
+    assert_eq!(rt; errors.as_slice(), "read fault\n".as_bytes(), "broken off");
     Ok(())
 }
 
@@ -421,8 +496,8 @@ fn keeps_the_status_where_errors_cannot_be_told(rt: HostRuntime) -> Result<(), F
             let found = run(
                 rt.alloc(),
                 words.as_slice(),
-                &mut input,
-                &mut output,
+                &mut ReadSource::new(&mut input),
+                &mut WriteSink::new(&mut output),
                 &mut errors,
             );
             assert_eq!(rt; found, status, "{case}");
@@ -446,8 +521,8 @@ fn writes_in_pieces_and_flushes(rt: HostRuntime) -> Result<(), Fail> {
         let found = run(
             rt.alloc(),
             words.as_slice(),
-            &mut input,
-            &mut output,
+            &mut ReadSource::new(&mut input),
+            &mut WriteSink::new(&mut output),
             &mut errors,
         );
         assert_eq!(rt; found, status, "{kind}");
@@ -497,6 +572,7 @@ fn tells_each_fault_in_a_line(rt: HostRuntime) -> Result<(), Fail> {
             "match kind LeftmostLongest does not support overlapping searches\n",
         ),
         (Fault::OutOfMemory, 2, "out of memory\n"),
+        (Fault::PositionLimit, 2, "position limit reached\n"),
         (Fault::Read, 3, "read fault\n"),
         (Fault::Write, 3, "write fault\n"),
         (Fault::WriteZero, 3, "write took no bytes\n"),
