@@ -36,14 +36,38 @@ const OUTPUT_CAPACITY: usize = 64 * 1024;
 
 fn main(rt: HostRuntime) -> ExitCode {
     let words = words(&rt);
-    let mut input = ReadSource::new(rt.stdin());
-    let mut errors = rt.stderr();
+    let (alloc, output) = (rt.alloc(), rt.stdout());
     if shows_lines(&words) {
-        let mut output = WriteSink::new(by_lines(&rt));
-        exit_code(rt.alloc(), words, &mut input, &mut output, &mut errors)
+        exit_over(
+            &rt,
+            words,
+            LineWriter::with_capacity(alloc, OUTPUT_CAPACITY, output),
+        )
     } else {
-        let mut output = WriteSink::new(buffered(&rt));
-        exit_code(rt.alloc(), words, &mut input, &mut output, &mut errors)
+        exit_over(
+            &rt,
+            words,
+            BufWriter::with_capacity(alloc, OUTPUT_CAPACITY, output),
+        )
+    }
+}
+
+/// Runs on the words over the process's own streams, where there is memory for what keeps its output.
+fn exit_over<W: Write + Drop>(
+    rt: &HostRuntime,
+    words: Result<Vec<String>, Fault>,
+    output: io::Result<W>,
+) -> ExitCode {
+    let mut errors = rt.stderr();
+    match output {
+        Ok(output) => exit_code(
+            rt.alloc(),
+            words,
+            &mut ReadSource::new(rt.stdin()),
+            &mut WriteSink::new(output),
+            &mut errors,
+        ),
+        Err(_) => ExitCode::from(report(&Fault::OutOfMemory, &mut errors)),
     }
 }
 
@@ -93,10 +117,19 @@ fn exit_code<R: Read, W: Write, E: Write>(
     ExitCode::from(status)
 }
 
-/// The words after the program's name, in order.
+/// The words after the program's name, in order. `collect` goes on where its first growth is refused, so they are put one
+/// after another.
 fn words<R: Env + Alloc<A = Global>>(rt: &R) -> Result<Vec<String>, Fault> {
     match env::args(rt) {
-        Ok(words) => Ok(words.skip(1).collect(rt.alloc())?),
+        Ok(given) => {
+            let mut words = Vec::new(rt.alloc());
+            for word in given.skip(1) {
+                if words.push(word).is_err() {
+                    return Err(Fault::OutOfMemory);
+                }
+            }
+            Ok(words)
+        }
         Err(error) => Err(fault_of_words(&error)),
     }
 }
@@ -109,22 +142,6 @@ fn fault_of_words(error: &io::Error) -> Fault
     match error.kind() {
         ErrorKind::OutOfMemory => Fault::OutOfMemory,
         _ => Fault::Usage,
-    }
-}
-
-/// Standard output behind a buffer, or without one where there is no memory for it.
-fn buffered(rt: &HostRuntime) -> BufWriter<io::Stdout> {
-    match BufWriter::with_capacity(rt.alloc(), OUTPUT_CAPACITY, rt.stdout()) {
-        Ok(output) => output,
-        Err(_) => BufWriter::with_capacity(rt.alloc(), 0, rt.stdout()).unwrap(),
-    }
-}
-
-/// Standard output behind a buffer that is written at each line end, or without one where there is no memory for it.
-fn by_lines(rt: &HostRuntime) -> LineWriter<io::Stdout> {
-    match LineWriter::with_capacity(rt.alloc(), OUTPUT_CAPACITY, rt.stdout()) {
-        Ok(output) => output,
-        Err(_) => LineWriter::with_capacity(rt.alloc(), 0, rt.stdout()).unwrap(),
     }
 }
 
