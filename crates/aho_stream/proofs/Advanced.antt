@@ -12,7 +12,7 @@ use Rattle.aho_base.specs.declared.search.Anchored.TheVariants.{No}
 use Rattle.aho_devices.specs.Counts.{counted}
 use Rattle.aho_devices.specs.Refusals.{IsFillRefusal}
 use Rattle.aho_stream.specs.After.{IsAfter, word_of}
-use Rattle.aho_stream.specs.Chunks.{Advances, Tells, TellsEnd, TellsError, TellsFault, TellsNone, ends_between}
+use Rattle.aho_stream.specs.Chunks.{Advances, Reads, Tells, TellsEnd, TellsError, TellsFault, TellsNone, ends_between}
 use Rattle.aho_stream.specs.Refills.{is_limit}
 use Rattle.aho_stream.specs.declared.progress.Progress.{Progress}
 use Rattle.aho_stream.specs.declared.progress.StreamPiece.{StreamPiece}
@@ -28,16 +28,9 @@ pub record IsUntold (s t : Progress) : Type 0 where
   pub going : t.refused ≡ false
 
 module _ (IsOf : Patterns → Type 0) (After : Patterns → ℕ → Progress → List ℕ → Type 0) where
-  -- these bytes were read since, and the iterator has come so far with them
-  pub record Read (lookups lookups' : ℕ) (s s' : Progress) (before after : Option (List ℕ)) : Type 0 where
-    pub bytes : List ℕ
-    pub read : Consumes before after bytes
-    pub closed : s.ended ≡ true → bytes ≡ []
-    pub is_after : (p : Patterns) (given : List ℕ) → IsOf p → After p lookups s given → After p lookups' s' (given ++ bytes)
-
   -- nothing was read
   pub read_none : (lookups lookups' : ℕ) (s s' : Progress) (before : Option (List ℕ))
-      → ((p : Patterns) (given : List ℕ) → IsOf p → After p lookups s given → After p lookups' s' given) → Read lookups lookups' s s' before before
+      → ((p : Patterns) (given : List ℕ) → IsOf p → After p lookups s given → After p lookups' s' given) → Reads IsOf After lookups lookups' s s' before before
   read_none lookups lookups' s s' before keeps = record {
     bytes = [];
     read = Consumes-nil before;
@@ -47,7 +40,7 @@ module _ (IsOf : Patterns → Type 0) (After : Patterns → ℕ → Progress →
 
   -- nothing more was read
   pub read_same : (lookups mid lookups' : ℕ) (s t s' : Progress) (before after : Option (List ℕ))
-      → ((p : Patterns) (given : List ℕ) → IsOf p → After p mid t given → After p lookups' s' given) → Read lookups mid s t before after → Read lookups lookups' s s' before after
+      → ((p : Patterns) (given : List ℕ) → IsOf p → After p mid t given → After p lookups' s' given) → Reads IsOf After lookups mid s t before after → Reads IsOf After lookups lookups' s s' before after
   read_same lookups mid lookups' s t s' before after keeps r = record {
     bytes = r.bytes;
     read = r.read;
@@ -58,7 +51,7 @@ module _ (IsOf : Patterns → Type 0) (After : Patterns → ℕ → Progress →
   -- these bytes were read too
   pub read_more : (lookups mid lookups' : ℕ) (s t s' : Progress) (before between after : Option (List ℕ)) (bytes : List ℕ)
       → s.ended ≡ false → Consumes between after bytes
-      → ((p : Patterns) (given : List ℕ) → IsOf p → After p mid t given → After p lookups' s' (given ++ bytes)) → Read lookups mid s t before between → Read lookups lookups' s s' before after
+      → ((p : Patterns) (given : List ℕ) → IsOf p → After p mid t given → After p lookups' s' (given ++ bytes)) → Reads IsOf After lookups mid s t before between → Reads IsOf After lookups lookups' s s' before after
   read_more lookups mid lookups' s t s' before between after bytes going read keeps r = record {
     bytes = r.bytes ++ bytes;
     read = Consumes-trans before between after r.bytes bytes r.read read;
@@ -67,27 +60,22 @@ module _ (IsOf : Patterns → Type 0) (After : Patterns → ℕ → Progress →
   }
 
   -- with what the answer tells of it
-  pub advances : (lookups lookups' : ℕ) (s s' : Progress) (before after : Option (List ℕ)) (answer : Option (Result StreamPiece StreamError)) → Read lookups lookups' s s' before after
+  pub advances : (lookups lookups' : ℕ) (s s' : Progress) (before after : Option (List ℕ)) (answer : Option (Result StreamPiece StreamError)) → Reads IsOf After lookups lookups' s s' before after
       → ((p : Patterns) (given : List ℕ) → IsOf p → After p lookups' s' given → Tells p s s' given answer)
       → Advances IsOf After lookups lookups' s s' before after answer
   advances lookups lookups' s s' before after answer r tells = record {
-    bytes = r.bytes;
-    read = r.read;
-    closed = r.closed;
-    is_after = r.is_after;
+    reads = r;
     tells = λ p given of a. tells p (given ++ r.bytes) of (r.is_after p given of a);
   }
 
   -- by how far it had come before
-  pub advances_from : (lookups mid lookups' : ℕ) (s t s' : Progress) (before after : Option (List ℕ)) (answer : Option (Result StreamPiece StreamError)) → Read lookups mid s t before after
+  pub advances_from : (lookups mid lookups' : ℕ) (s t s' : Progress) (before after : Option (List ℕ)) (answer : Option (Result StreamPiece StreamError)) → Reads IsOf After lookups mid s t before after
       → ((p : Patterns) (given : List ℕ) → IsOf p → After p mid t given → After p lookups' s' given)
       → ((p : Patterns) (given : List ℕ) → IsOf p → After p mid t given → Tells p s s' given answer)
       → Advances IsOf After lookups lookups' s s' before after answer
+  unfolding read_same
   advances_from lookups mid lookups' s t s' before after answer r keeps tells = record {
-    bytes = r.bytes;
-    read = r.read;
-    closed = r.closed;
-    is_after = λ p given of a. keeps p (given ++ r.bytes) of (r.is_after p given of a);
+    reads = read_same lookups mid lookups' s t s' before after keeps r;
     tells = λ p given of a. tells p (given ++ r.bytes) of (r.is_after p given of a);
   }
 

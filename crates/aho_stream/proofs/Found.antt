@@ -8,40 +8,36 @@ use Rattle.aho_base.specs.Patterns.{Patterns}
 use Rattle.aho_base.specs.declared.error.stream.StreamError.{StreamError}
 use Rattle.aho_base.specs.declared.error.stream.StreamError.TheVariants.{Match as Refused, Read as ReadFault, Write, WriteZero, Memory, PositionLimit}
 use Rattle.aho_devices.specs.Counts.{counted}
+use Rattle.aho_devices.specs.Refusals.{is_read_fault}
 use Rattle.aho_stream.specs.After.{search_from}
-use Rattle.aho_stream.specs.Chunks.{Advances, Tells, TellsError, TellsEnd, TellsMatch, TellsPlain, ends_between, match_told, tells_read_fault}
-use Rattle.aho_stream.specs.Finds.{Finds, FindsEnd, FindsError, FindsMatch, FindsNext, finds_read_fault}
+use Rattle.aho_stream.specs.Chunks.{Advances, Reads, Tells, TellsError, TellsEnd, TellsMatch, TellsPlain, ends_between, match_told}
+use Rattle.aho_stream.specs.Finds.{Finds, FindsEnd, FindsError, FindsMatch, FindsNext}
 use Rattle.aho_stream.specs.declared.progress.Progress.{Progress}
 use Rattle.aho_stream.specs.declared.progress.StreamPiece.{StreamPiece}
 use Rattle.aho_stream.specs.declared.progress.StreamPiece.TheVariants.{NonMatch, Match}
-use Rattle.aho_stream.proofs.Advanced.{Read}
 
 module _ (IsOf : Patterns → Type 0) (After : Patterns → ℕ → Progress → List ℕ → Type 0) where
   -- one call more
   pub read_then : (lookups mid lookups' : ℕ) (s t s' : Progress) (before between after : Option (List ℕ)) (answer : Option (Result StreamPiece StreamError))
-      → (s.ended ≡ true → t.ended ≡ true) → Read IsOf After lookups mid s t before between → Advances IsOf After mid lookups' t s' between after answer
-      → Read IsOf After lookups lookups' s s' before after
+      → (s.ended ≡ true → t.ended ≡ true) → Reads IsOf After lookups mid s t before between → Advances IsOf After mid lookups' t s' between after answer
+      → Reads IsOf After lookups lookups' s s' before after
   read_then lookups mid lookups' s t s' before between after answer stays r a = record {
-    bytes = r.bytes ++ a.bytes;
-    read = Consumes-trans before between after r.bytes a.bytes r.read a.read;
-    closed = λ e. ap (λ (xs : List ℕ). xs ++ a.bytes) (r.closed e) ∙ a.closed (stays e);
-    is_after = λ p given of is. subst (After p lookups' s') (append_assoc given r.bytes a.bytes) (a.is_after p (given ++ r.bytes) of (r.is_after p given of is));
+    bytes = r.bytes ++ a.reads.bytes;
+    read = Consumes-trans before between after r.bytes a.reads.bytes r.read a.reads.read;
+    closed = λ e. ap (λ (xs : List ℕ). xs ++ a.reads.bytes) (r.closed e) ∙ a.reads.closed (stays e);
+    is_after = λ p given of is. subst (After p lookups' s') (append_assoc given r.bytes a.reads.bytes) (a.reads.is_after p (given ++ r.bytes) of (r.is_after p given of is));
   }
 
   -- with what its answer says of the match
   pub finds_then : (lookups mid lookups' : ℕ) (s t s' : Progress) (before between after : Option (List ℕ)) (answer : Option (Result StreamPiece StreamError)) (found : Option (Result Occurrence StreamError))
-      → (s.ended ≡ true → t.ended ≡ true) → Read IsOf After lookups mid s t before between → Advances IsOf After mid lookups' t s' between after answer
+      → (s.ended ≡ true → t.ended ≡ true) → Reads IsOf After lookups mid s t before between → Advances IsOf After mid lookups' t s' between after answer
       → ((p : Patterns) (given : List ℕ) → Tells p t s' given answer → Finds p s s' given found)
       → FindsNext IsOf After lookups lookups' s s' before after found
-  finds_then lookups mid lookups' s t s' before between after answer found stays r a says =
-      let joined = read_then lookups mid lookups' s t s' before between after answer stays r a in
-      record {
-        bytes = r.bytes ++ a.bytes;
-        read = Consumes-trans before between after r.bytes a.bytes r.read a.read;
-        closed = λ e. ap (λ (xs : List ℕ). xs ++ a.bytes) (r.closed e) ∙ a.closed (stays e);
-        is_after = λ p given of is. subst (After p lookups' s') (append_assoc given r.bytes a.bytes) (a.is_after p (given ++ r.bytes) of (r.is_after p given of is));
-        finds = λ p given of is. says p (given ++ (r.bytes ++ a.bytes)) (subst (λ (xs : List ℕ). Tells p t s' xs answer) (append_assoc given r.bytes a.bytes) (a.tells p (given ++ r.bytes) of (r.is_after p given of is)));
-      }
+  unfolding read_then
+  finds_then lookups mid lookups' s t s' before between after answer found stays r a says = record {
+    reads = read_then lookups mid lookups' s t s' before between after answer stays r a;
+    finds = λ p given of is. says p (given ++ (r.bytes ++ a.reads.bytes)) (subst (λ (xs : List ℕ). Tells p t s' xs answer) (append_assoc given r.bytes a.reads.bytes) (a.tells p (given ++ r.bytes) of (r.is_after p given of is)));
+  }
 
 -- an answer's word on the match, by the end of the last match alone
 pub match_found : (p : Patterns) (s t s' : Progress) (given : List ℕ) (m : Occurrence) → t.from ≡ s.from → TellsMatch p t s' given m → FindsMatch p s s' given m
@@ -80,14 +76,14 @@ error_found p s t s' given PositionLimit from refused limit tells = record {
   refused = tells.refused;
 }
 
--- a failed read is one
-pub fault_found : (error : StreamError) → tells_read_fault (Some (Err error)) ≡ finds_read_fault (Some (Err error))
-fault_found (Refused cause) = refl
-fault_found (ReadFault reason) = refl
-fault_found (Write reason) = refl
-fault_found WriteZero = refl
-fault_found Memory = refl
-fault_found PositionLimit = refl
+-- whether an error is a failed read does not go by what is answered else
+pub same_fault : (A B : Type 0) (error : StreamError) → is_read_fault {A = A} (Err error) ≡ is_read_fault {A = B} (Err error)
+same_fault A B (Refused cause) = refl
+same_fault A B (ReadFault reason) = refl
+same_fault A B (Write reason) = refl
+same_fault A B WriteZero = refl
+same_fault A B Memory = refl
+same_fault A B PositionLimit = refl
 
 -- the end is counted once
 pub counted_then : (b m a : Bool) (first mid last : ℕ) → (b ≡ true → m ≡ true) → (m ≡ true → a ≡ true) → mid ≡ counted (ends_between b m) first → last ≡ counted (ends_between m a) mid → last ≡ counted (ends_between b a) first

@@ -137,20 +137,20 @@ module _ (IsOf : Patterns → Type 0) (lengths : List ℕ)
       (going : Going lookups s left reads taken) (advance : Advances IsOf After lookups lookups' s s' left left' answer)
       (counts : reads' ≡ counted (ends_between s.ended s'.ended) reads) (stays : s.ended ≡ true → s'.ended ≡ true) where
     abbrev pub given : List ℕ
-    given = going.given ++ advance.bytes
+    given = going.given ++ advance.reads.bytes
 
     abbrev pub now_after : (p : Patterns) → IsOf p → After p lookups' s' given
-    now_after p of = advance.is_after p going.given of (going.after p of)
+    now_after p of = advance.reads.is_after p going.given of (going.after p of)
 
     pub now_gives : Gives first left' first_reads reads' given s'.ended
-    now_gives = gives_on first left left' first_reads reads reads' going.given advance.bytes s.ended s'.ended going.gives advance.read counts stays
+    now_gives = gives_on first left left' first_reads reads reads' going.given advance.reads.bytes s.ended s'.ended going.gives advance.reads.read counts stays
 
     module _ (p : Patterns) (of : IsOf p) (bytes : List ℕ) (ms : List Occurrence) (may : MayBe given s'.ended bytes) (finds : AreFinds p (plain_search bytes) None ms) where
       abbrev IsLeft : ℕ → ℕ → List ℕ → Type 0
       IsLeft = Left p (piece_for pieces) bytes ms
 
       was_left : IsLeft s.from s.reported going.written
-      was_left = going.rest p bytes ms of (might_be going.given advance.bytes bytes s.ended s'.ended advance.closed stays may) finds
+      was_left = going.rest p bytes ms of (might_be going.given advance.reads.bytes bytes s.ended s'.ended advance.reads.closed stays may) finds
 
       left_chunk : (piece : StreamPiece) → Tells p s s' given (Some (Ok piece)) → IsLeft s'.from s'.reported (going.written ++ bytes_for piece (slice_range given s'.told s'.reported) pieces)
       left_chunk NonMatch tells =

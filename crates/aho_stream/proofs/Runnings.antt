@@ -17,7 +17,7 @@ use Rattle.aho_base.specs.Occurrence.{Occurrence}
 use Rattle.aho_base.specs.Patterns.{Patterns}
 use Rattle.aho_base.specs.Search.{plain_search}
 use Rattle.aho_devices.specs.Counts.{AppendsBeginning, counted}
-use Rattle.aho_devices.specs.Refusals.{IsFillRefusal, IsWriteRefusal, is_read_fault, is_write_fault, is_write_of_nothing}
+use Rattle.aho_devices.specs.Refusals.{IsFillRefusal, IsWriteRefusal, is_write_fault, is_write_of_nothing}
 use Rattle.aho_search.proofs.Places.{length_part}
 use Rattle.aho_stream.specs.After.{IsAfter, MayFollow, greatest_position, search_from}
 use Rattle.aho_stream.specs.Chunks.{Advances, Tells, TellsError, TellsFault, TellsMatch, TellsPlain, ends_between, tells_read_fault}
@@ -26,6 +26,7 @@ use Rattle.aho_stream.specs.StreamRun.{RunsOver}
 use Rattle.aho_stream.specs.declared.progress.Progress.{Progress}
 use Rattle.aho_stream.specs.declared.progress.StreamPiece.{StreamPiece}
 use Rattle.aho_stream.specs.declared.progress.StreamPiece.TheVariants.{NonMatch, Match}
+use Rattle.aho_stream.proofs.Found.{same_fault}
 use Rattle.aho_stream.proofs.GivenBytes.{part_stays}
 use Rattle.aho_stream.proofs.PatternLengths.{occurs_some}
 use Rattle.aho_stream.proofs.Replacings.{all_told, fault_told, gives_on, less_left, limit_told, might_be}
@@ -48,15 +49,6 @@ no_write (Write fault) fills = absurd fills
 no_write WriteZero fills = absurd fills
 no_write Memory fills = absurd fills
 no_write PositionLimit fills = (refl, refl)
-
--- whether it is a failed read
-read_fault_told : (error : StreamError) → tells_read_fault (Some (Err error)) ≡ is_read_fault {A = Unit {0}} (Err error)
-read_fault_told (Refused cause) = refl
-read_fault_told (Read fault) = refl
-read_fault_told (Write fault) = refl
-read_fault_told WriteZero = refl
-read_fault_told Memory = refl
-read_fault_told PositionLimit = refl
 
 -- a beginning of what stands behind some bytes, and these before it
 take_behind : (bytes : List ℕ) (from at end count : ℕ) → from ≤ at → count ≤ end - at → take ((at - from) + count) (drop from bytes) ≡ slice_range bytes from at ++ take count (slice_range bytes at end)
@@ -97,13 +89,13 @@ module _ {F S : Type 0} (taken : S → Option (List ℕ)) (failures empty_writes
       (answer : Option (Result StreamPiece StreamError)) (running : Running lookups s left reads now sink) (advance : Advances IsOf After lookups lookups' s s' left left' answer)
       (counts : reads' ≡ counted (ends_between s.ended s'.ended) reads) (stays : s.ended ≡ true → s'.ended ≡ true) where
     abbrev pub given : List ℕ
-    given = running.given ++ advance.bytes
+    given = running.given ++ advance.reads.bytes
 
     abbrev pub now_after : (p : Patterns) → IsOf p → After p lookups' s' given
-    now_after p of = advance.is_after p running.given of (running.after p of)
+    now_after p of = advance.reads.is_after p running.given of (running.after p of)
 
     now_gives : Gives first left' first_reads reads' given s'.ended
-    now_gives = gives_on first left left' first_reads reads reads' running.given advance.bytes s.ended s'.ended running.gives advance.read counts stays
+    now_gives = gives_on first left left' first_reads reads reads' running.given advance.reads.bytes s.ended s'.ended running.gives advance.reads.read counts stays
 
     tells_of : (p : Patterns) → IsOf p → (told : Option (Result StreamPiece StreamError)) → answer ≡ told → Tells p s s' given told
     tells_of p of told is = subst (Tells p s s' given) is (advance.tells p running.given of (running.after p of))
@@ -117,7 +109,7 @@ module _ {F S : Type 0} (taken : S → Option (List ℕ)) (failures empty_writes
       WasLeft = LeftRun taken failures empty_writes calls closure begun p bytes ms s.from s.reported now sink
 
       was : WasLeft
-      was = running.rest p bytes ms of (might_be running.given advance.bytes bytes s.ended s'.ended advance.closed stays may) finds
+      was = running.rest p bytes ms of (might_be running.given advance.reads.bytes bytes s.ended s'.ended advance.reads.closed stays may) finds
 
       part : (start end : ℕ) → start ≤ end → end ≤ length given → slice_range bytes start end ≡ slice_range given start end
       part start end ordered within = ap (λ (xs : List ℕ). slice_range xs start end) may.1 ∙ part_stays given may.0 start end ordered within
@@ -215,7 +207,7 @@ module _ {F S : Type 0} (taken : S → Option (List ℕ)) (failures empty_writes
           stopped = true;
           gives = now_gives;
           whole = tt;
-          read_failed = read_failed_of (Some (Err error)) is ∙ ap (λ (b : Bool). counted b failed) (read_fault_told error);
+          read_failed = read_failed_of (Some (Err error)) is ∙ ap (λ (b : Bool). counted b failed) (same_fault StreamPiece (Unit {0}) error);
           limit = λ stopped met. limit_told s s' given error tells_error met ∙ greatest;
           run = λ p bytes ms of may finds.
               let left = was p of bytes ms may finds in

@@ -6,7 +6,9 @@ use Rattle.aho_base.specs.declared.error.stream.StreamError.TheVariants.{Match a
 use Rattle.aho_base.specs.Answer.{IsAnswer}
 use Rattle.aho_base.specs.Occurrence.{Occurrence}
 use Rattle.aho_base.specs.Patterns.{Patterns}
+use Rattle.aho_devices.specs.Refusals.{is_read_fault}
 use Rattle.aho_stream.specs.After.{MayFollow, search_from}
+use Rattle.aho_stream.specs.Refills.{is_limit}
 use Rattle.aho_stream.specs.declared.progress.Progress.{Progress}
 use Rattle.aho_stream.specs.declared.progress.StreamPiece.{StreamPiece}
 use Rattle.aho_stream.specs.declared.progress.StreamPiece.TheVariants.{NonMatch, Match}
@@ -79,37 +81,29 @@ Tells p s s' given (Some (Ok piece)) = TellsChunk p s s' given piece
 Tells p s s' given (Some (Err error)) = TellsError s s' given error
 
 -- whether the answer is a failed read
-abbrev pub tells_read_fault : Option (Result StreamPiece StreamError) → Bool
+abbrev pub tells_read_fault : {A : Type 0} → Option (Result A StreamError) → Bool
 tells_read_fault None = false
-tells_read_fault (Some (Ok piece)) = false
-tells_read_fault (Some (Err (Refused cause))) = false
-tells_read_fault (Some (Err (Read fault))) = true
-tells_read_fault (Some (Err (Write fault))) = false
-tells_read_fault (Some (Err WriteZero)) = false
-tells_read_fault (Some (Err Memory)) = false
-tells_read_fault (Some (Err PositionLimit)) = false
+tells_read_fault (Some told) = is_read_fault told
 
 -- whether the answer is that the position limit was met
-abbrev pub tells_limit : Option (Result StreamPiece StreamError) → Bool
+abbrev pub tells_limit : {A : Type 0} → Option (Result A StreamError) → Bool
 tells_limit None = false
-tells_limit (Some (Ok piece)) = false
-tells_limit (Some (Err (Refused cause))) = false
-tells_limit (Some (Err (Read fault))) = false
-tells_limit (Some (Err (Write fault))) = false
-tells_limit (Some (Err WriteZero)) = false
-tells_limit (Some (Err Memory)) = false
-tells_limit (Some (Err PositionLimit)) = true
+tells_limit (Some told) = is_limit told
 
 -- whether the end of the stream was seen in between
 abbrev pub ends_between : Bool → Bool → Bool
 ends_between before after = not before && after
 
--- a call reads these bytes: then the iterator has come so far with them, and its answer tells what it should. Of an automaton
--- with these patterns, and of what it is to have come so far after some look-ups
-pub record Advances (IsOf : Patterns → Type 0) (After : Patterns → ℕ → Progress → List ℕ → Type 0) (lookups lookups' : ℕ) (s s' : Progress)
-    (before after : Option (List ℕ)) (answer : Option (Result StreamPiece StreamError)) : Type 0 where
-  pub bytes : List ℕ
-  pub read : Consumes before after bytes
-  pub closed : s.ended ≡ true → bytes ≡ []
-  pub is_after : (p : Patterns) (given : List ℕ) → IsOf p → After p lookups s given → After p lookups' s' (given ++ bytes)
-  pub tells : (p : Patterns) (given : List ℕ) → IsOf p → After p lookups s given → Tells p s s' (given ++ bytes) answer
+-- of an automaton with these patterns, and of what it is to have come so far after some look-ups
+module _ (IsOf : Patterns → Type 0) (After : Patterns → ℕ → Progress → List ℕ → Type 0) (lookups lookups' : ℕ) (s s' : Progress) (before after : Option (List ℕ)) where
+  -- these bytes are read, none once the end was seen; and then the iterator has come so far with them
+  pub record Reads : Type 0 where
+    pub bytes : List ℕ
+    pub read : Consumes before after bytes
+    pub closed : s.ended ≡ true → bytes ≡ []
+    pub is_after : (p : Patterns) (given : List ℕ) → IsOf p → After p lookups s given → After p lookups' s' (given ++ bytes)
+
+  -- and the answer of the call tells what it should
+  pub record Advances (answer : Option (Result StreamPiece StreamError)) : Type 0 where
+    pub reads : Reads
+    pub tells : (p : Patterns) (given : List ℕ) → IsOf p → After p lookups s given → Tells p s s' (given ++ reads.bytes) answer

@@ -1,12 +1,12 @@
 -- What each call of an iterator over the matches of a stream answers.
-use Rattle.std.specs.Prelude.{◌≡◌, ℕ, ◌+◌, ◌≤◌, ◌⊎◌, Bool, true, false, List, [], ◌++◌, Option, Some, None, Result, Ok, Err, length}
-use Rattle.std.specs.Io.KnownBytes.{Consumes}
+use Rattle.std.specs.Prelude.{◌≡◌, ℕ, ◌+◌, ◌≤◌, ◌⊎◌, true, false, List, ◌++◌, Option, Some, None, Result, Ok, Err, length}
 use Rattle.aho_base.specs.declared.error.stream.StreamError.{StreamError}
 use Rattle.aho_base.specs.declared.error.stream.StreamError.TheVariants.{Match as Refused, Read, Write, WriteZero, Memory, PositionLimit}
 use Rattle.aho_base.specs.Answer.{IsAnswer}
 use Rattle.aho_base.specs.Occurrence.{Occurrence}
 use Rattle.aho_base.specs.Patterns.{Patterns}
 use Rattle.aho_stream.specs.After.{MayFollow, search_from}
+use Rattle.aho_stream.specs.Chunks.{Reads}
 use Rattle.aho_stream.specs.declared.progress.Progress.{Progress}
 
 -- the next match, whatever comes
@@ -48,22 +48,8 @@ Finds p s s' given None = FindsEnd p s s' given
 Finds p s s' given (Some (Ok m)) = FindsMatch p s s' given m
 Finds p s s' given (Some (Err error)) = FindsError s s' given error
 
--- whether the answer is a failed read
-abbrev pub finds_read_fault : Option (Result Occurrence StreamError) → Bool
-finds_read_fault None = false
-finds_read_fault (Some (Ok m)) = false
-finds_read_fault (Some (Err (Refused cause))) = false
-finds_read_fault (Some (Err (Read fault))) = true
-finds_read_fault (Some (Err (Write fault))) = false
-finds_read_fault (Some (Err WriteZero)) = false
-finds_read_fault (Some (Err Memory)) = false
-finds_read_fault (Some (Err PositionLimit)) = false
-
--- a call reads these bytes: then the iterator has come so far with them, and its answer says what it should
+-- a call reads some bytes, and its answer says what it should
 pub record FindsNext (IsOf : Patterns → Type 0) (After : Patterns → ℕ → Progress → List ℕ → Type 0) (lookups lookups' : ℕ) (s s' : Progress)
     (before after : Option (List ℕ)) (found : Option (Result Occurrence StreamError)) : Type 0 where
-  pub bytes : List ℕ
-  pub read : Consumes before after bytes
-  pub closed : s.ended ≡ true → bytes ≡ []
-  pub is_after : (p : Patterns) (given : List ℕ) → IsOf p → After p lookups s given → After p lookups' s' (given ++ bytes)
-  pub finds : (p : Patterns) (given : List ℕ) → IsOf p → After p lookups s given → Finds p s s' (given ++ bytes) found
+  pub reads : Reads IsOf After lookups lookups' s s' before after
+  pub finds : (p : Patterns) (given : List ℕ) → IsOf p → After p lookups s given → Finds p s s' (given ++ reads.bytes) found

@@ -9,8 +9,8 @@ ghost use Rattle.aho_base.specs.declared.search.Anchored.TheVariants.{No};
 ghost use Rattle.aho_base.specs.declared.search.MatchKind.TheVariants.{Standard};
 ghost use Rattle.aho_devices.specs.Counts.{counted};
 ghost use Rattle.aho_stream.specs.After.{IsAfter, greatest_position};
-ghost use Rattle.aho_stream.specs.Chunks.{ends_between};
-ghost use Rattle.aho_stream.specs.Finds.{FindsNext, finds_read_fault};
+ghost use Rattle.aho_stream.specs.Chunks.{ends_between, tells_read_fault};
+ghost use Rattle.aho_stream.specs.Finds.{FindsNext};
 
 use crate::chunks::StreamChunkIter;
 use aho_base::error::StreamError;
@@ -101,7 +101,7 @@ impl<'a, 'r, A: Automaton, R: Source> Iterator for StreamFindIter<'a, 'r, A, R> 
         × (it.chunks.progress.refused ≡ true
         → (found ≡ None) × (rest.chunks.progress.refused ≡ true))
         × (R.failures rest.chunks.source.now
-        ≡ counted (finds_read_fault found) (R.failures it.chunks.source.now)) };
+        ≡ counted (tells_read_fault found) (R.failures it.chunks.source.now)) };
 
     fn next(&mut self) -> Option<Result<Match, StreamError>> {
         loop {

@@ -29,8 +29,8 @@ loop-answer-preserved g c =
     let (p, of) = c.requires.some in
     let advance = rw inv.same at c.in-Some.ensures.advances in
     let same = c.in-Some.ensures.same ∙ inv.same in
-    let given = inv.going.given ++ advance.bytes in
-    let bytes = (rw same at c.bytes.ensures.bytes) p given of (advance.is_after p inv.going.given of (inv.going.after p of)) in
+    let given = inv.going.given ++ advance.reads.bytes in
+    let bytes = (rw same at c.bytes.ensures.bytes) p given of (advance.reads.is_after p inv.going.given of (inv.going.after p of)) in
     let wrote = rw (c.bytes_for-bytes.ensures.bytes, bytes) at c.in_ok-write_whole.ensures.whole in
     record {
       going = going_on _ _ _ _ _ _ _ _ _ are _ _ _ _ _ _ _ _ _ _ inv.going advance c.in-Some.ensures.ended c.in-Some.ensures.stays_ended c.in_ok-piece.piece (ap Some c.in_ok-piece.was) _ wrote;
@@ -90,8 +90,8 @@ returns-in_err-write_whole-clause-begun g c =
     let (p, of) = c.requires.some in
     let advance = rw inv.same at c.in-Some.ensures.advances in
     let same = c.in-Some.ensures.same ∙ inv.same in
-    let given = inv.going.given ++ advance.bytes in
-    let bytes = (rw same at c.bytes.ensures.bytes) p given of (advance.is_after p inv.going.given of (inv.going.after p of)) in
+    let given = inv.going.given ++ advance.reads.bytes in
+    let bytes = (rw same at c.bytes.ensures.bytes) p given of (advance.reads.is_after p inv.going.given of (inv.going.after p of)) in
     let wrote = rw (c.bytes_for-bytes.ensures.bytes, bytes) at c.in_err-write_whole.ensures.beginning in
     rw (err_given c.from_residual-in_err-write_whole.result c.in_err-write_whole.field-0.0 c.from_residual-in_err-write_whole.ensures.1)
     (begins_chunk _ _ _ _ _ _ _ _ _ are _ _ _ _ _ _ _ _ _ _ inv.going advance c.in-Some.ensures.ended c.in-Some.ensures.stays_ended c.in_ok-piece.piece (ap Some c.in_ok-piece.was) _ wrote)

@@ -4,6 +4,7 @@ use Rattle.aho_base.specs.ClosureRun.{CalledOn}
 use Rattle.aho_base.specs.Patterns.{Patterns}
 use Rattle.aho_devices.specs.Counts.{counted}
 use Rattle.aho_stream.specs.Chunks.{tells_read_fault}
+use Rattle.aho_stream.specs.declared.progress.StreamPiece.{StreamPiece}
 use Rattle.aho_stream.proofs.Replacings.{err_given}
 use Rattle.aho_stream.proofs.Runnings.{less_run, over_end, over_error, over_refusal, over_write, running_first, running_match, running_plain}
 use Rattle.aho_stream.proofs.StreamRuns.{Took}
@@ -33,8 +34,8 @@ loop-answer-preserved-in-Continue-branch-3 g c =
     let (p, of) = c.requires.some in
     let advance = rw inv.same at c.in-Some.ensures.advances in
     let same = c.in-Some.ensures.same ∙ inv.same in
-    let given = inv.running.given ++ advance.bytes in
-    let bytes = (rw same at c.bytes.ensures.bytes) p given of (advance.is_after p inv.running.given of (inv.running.after p of)) in
+    let given = inv.running.given ++ advance.reads.bytes in
+    let bytes = (rw same at c.bytes.ensures.bytes) p given of (advance.reads.is_after p inv.running.given of (inv.running.after p of)) in
     let wrote = c.in_ok-write_whole-in-NonMatch.ensures in
     let took : Took g.W.Sink.taken g.W.Sink.failures g.W.Sink.empty_writes g.F.FnMut c.args.replace_with c.args.sink.now c.loop-answer.sink c.bytes.result.now c.write_whole.new.sink =
     record { bytes_are = wrote.whole; no_failure = wrote.write_failed; no_empty_write = wrote.took_nothing } in
@@ -56,8 +57,8 @@ loop-answer-preserved g c =
     let (p, of) = c.requires.some in
     let advance = rw inv.same at c.in-Some.ensures.advances in
     let same = c.in-Some.ensures.same ∙ inv.same in
-    let given = inv.running.given ++ advance.bytes in
-    let bytes = (rw same at c.bytes-in-Match.ensures.bytes) p given of (advance.is_after p inv.running.given of (inv.running.after p of)) in
+    let given = inv.running.given ++ advance.reads.bytes in
+    let bytes = (rw same at c.bytes-in-Match.ensures.bytes) p given of (advance.reads.is_after p inv.running.given of (inv.running.after p of)) in
     let called : CalledOn g.F.FnMut c.loop-answer.replace_with c.in-Match.mat c.bytes-in-Match.result.now c.loop-answer.sink c.replace_with.result c.replace_with.new.self c.replace_with.new.arg4 =
     record { found = _; bytes = _; lent = _; left = _; shows = (refl, refl, refl, refl); called = c.replace_with.ensures } in
     let called_on = subst (λ r. CalledOn g.F.FnMut c.loop-answer.replace_with c.in-Match.mat c.bytes-in-Match.result.now c.loop-answer.sink r c.replace_with.new.self c.replace_with.new.arg4) c.in_ok-replace_with-in-Match.was called in
@@ -99,8 +100,8 @@ returns-in_err-write_whole-in-NonMatch-clause-runs g c =
     let (p, of) = c.requires.some in
     let advance = rw inv.same at c.in-Some.ensures.advances in
     let same = c.in-Some.ensures.same ∙ inv.same in
-    let given = inv.running.given ++ advance.bytes in
-    let bytes = (rw same at c.bytes.ensures.bytes) p given of (advance.is_after p inv.running.given of (inv.running.after p of)) in
+    let given = inv.running.given ++ advance.reads.bytes in
+    let bytes = (rw same at c.bytes.ensures.bytes) p given of (advance.reads.is_after p inv.running.given of (inv.running.after p of)) in
     let fails = c.in-Some.ensures.read_failed ∙ ap (counted (tells_read_fault (Some c.in-Some.answer))) inv.reads in
     let wrote = c.in_err-write_whole-in-NonMatch.ensures in
     rw (err_given c.from_residual-in_err-write_whole-in-NonMatch.result c.in_err-write_whole-in-NonMatch.field-0.0 c.from_residual-in_err-write_whole-in-NonMatch.ensures.1)
@@ -114,8 +115,8 @@ returns-in_err-replace_with-in-Match-clause-runs g c =
     let (p, of) = c.requires.some in
     let advance = rw inv.same at c.in-Some.ensures.advances in
     let same = c.in-Some.ensures.same ∙ inv.same in
-    let given = inv.running.given ++ advance.bytes in
-    let bytes = (rw same at c.bytes-in-Match.ensures.bytes) p given of (advance.is_after p inv.running.given of (inv.running.after p of)) in
+    let given = inv.running.given ++ advance.reads.bytes in
+    let bytes = (rw same at c.bytes-in-Match.ensures.bytes) p given of (advance.reads.is_after p inv.running.given of (inv.running.after p of)) in
     let fails = c.in-Some.ensures.read_failed ∙ ap (counted (tells_read_fault (Some c.in-Some.answer))) inv.reads in
     let called : CalledOn g.F.FnMut c.loop-answer.replace_with c.in-Match.mat c.bytes-in-Match.result.now c.loop-answer.sink c.replace_with.result c.replace_with.new.self c.replace_with.new.arg4 =
     record { found = _; bytes = _; lent = _; left = _; shows = (refl, refl, refl, refl); called = c.replace_with.ensures } in
@@ -130,5 +131,5 @@ returns-clause-runs g c =
     let are = λ (p : Patterns) (of : g.A.Automaton.is_of automaton p). (g.met.A.Automaton.laws automaton p of).lengths_are in
     let (p, of) = c.requires.some in
     let advance = rw inv.same at c.in_default.ensures.advances in
-    let fails = c.in_default.ensures.read_failed ∙ ap (counted (tells_read_fault None)) inv.reads in
+    let fails = c.in_default.ensures.read_failed ∙ ap (counted (tells_read_fault {A = StreamPiece} None)) inv.reads in
     over_end _ _ _ _ _ _ _ _ _ _ _ _ _ are _ _ _ _ _ _ _ _ _ _ _ inv.running advance c.in_default.ensures.ended c.in_default.ensures.stays_ended _ _ fails refl inv.below p of

@@ -4,10 +4,10 @@ use Rattle.std.specs.Prelude.{Option, Some, None, Ok, Err, IfSome}
 use Rattle.aho_base.specs.Patterns.{Patterns}
 use Rattle.aho_devices.specs.Counts.{counted}
 use Rattle.aho_stream.specs.After.{IsAfter}
-use Rattle.aho_stream.specs.Chunks.{TellsChunk, TellsNone, ends_between}
+use Rattle.aho_stream.specs.Chunks.{Reads, TellsChunk, TellsNone, ends_between}
 use Rattle.aho_stream.specs.declared.progress.Progress.{Progress}
 use Rattle.aho_stream.specs.declared.progress.StreamPiece.{StreamPiece}
-use Rattle.aho_stream.proofs.Advanced.{IsUntold, Read, advances, advances_from, counted_once, counted_same, end_told, error_told, not_before, read_more, read_none, read_same}
+use Rattle.aho_stream.proofs.Advanced.{IsUntold, advances, advances_from, counted_once, counted_same, end_told, error_told, not_before, read_more, read_none, read_same}
 use Rattle.aho_stream.proofs.Afters.{after_refilled, after_told}
 use Rattle.aho_stream.proofs.Reported.{no_chunk_left, told_from}
 use Rattle.aho_stream.proofs.chunks.StreamChunkIter.advance.Given.{Over}
@@ -45,7 +45,7 @@ loop-piece-init g c =
 
 -- what was read before and after the next chunk was looked for
 looked : (g : Over) (c : After-next_piece g)
-    → Read (g.A.Automaton.is_of c.args.self.now.walk.automaton.now) (AfterOf g c.args.self.now.walk.automaton.now) c.args.self.now.walk.work c.next_piece.new.walk.work c.args.self.now.progress c.next_piece.new.progress (g.R.Source.remaining c.args.self.now.source.now) (g.R.Source.remaining c.loop-piece.self.source.now)
+    → Reads (g.A.Automaton.is_of c.args.self.now.walk.automaton.now) (AfterOf g c.args.self.now.walk.automaton.now) c.args.self.now.walk.work c.next_piece.new.walk.work c.args.self.now.progress c.next_piece.new.progress (g.R.Source.remaining c.args.self.now.source.now) (g.R.Source.remaining c.loop-piece.self.source.now)
 looked g c =
     let automaton = c.args.self.now.walk.automaton.now in
     read_same (g.A.Automaton.is_of automaton) (AfterOf g automaton) _ _ _ _ c.loop-piece.self.progress _ _ _ (λ p given of a. (rw c.loop-piece.invariant.same at c.next_piece.ensures.after) p given of a) c.loop-piece.invariant.read
@@ -101,7 +101,7 @@ returns-then-self-2-clause-advances g c =
 
 -- what was read before and after a refill
 refilled_read : (g : Over) (c : After-refill g)
-    → Read (g.A.Automaton.is_of c.args.self.now.walk.automaton.now) (AfterOf g c.args.self.now.walk.automaton.now) c.args.self.now.walk.work c.next_piece.new.walk.work c.args.self.now.progress c.refill.new.self (g.R.Source.remaining c.args.self.now.source.now) (g.R.Source.remaining c.refill.new.source)
+    → Reads (g.A.Automaton.is_of c.args.self.now.walk.automaton.now) (AfterOf g c.args.self.now.walk.automaton.now) c.args.self.now.walk.work c.next_piece.new.walk.work c.args.self.now.progress c.refill.new.self (g.R.Source.remaining c.args.self.now.source.now) (g.R.Source.remaining c.refill.new.source)
 refilled_read g c =
     let automaton = c.args.self.now.walk.automaton.now in
     let none = c.in_default.is in

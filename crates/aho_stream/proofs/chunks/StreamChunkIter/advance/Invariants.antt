@@ -2,8 +2,8 @@
 use Rattle.std.proofs.Common.{◌≡◌, ◌+◌, ◌-◌, true, cond}
 use Rattle.aho_devices.specs.Counts.{counted}
 use Rattle.aho_stream.specs.After.{IsAfter}
-use Rattle.aho_stream.specs.Chunks.{ends_between}
-use Rattle.aho_stream.proofs.Advanced.{Read, IsUntold}
+use Rattle.aho_stream.specs.Chunks.{Reads, ends_between}
+use Rattle.aho_stream.proofs.Advanced.{IsUntold}
 use Rattle.aho_stream.proofs.chunks.StreamChunkIter.advance.Given as goal
 
 -- Over the same automaton and source:
@@ -17,7 +17,7 @@ invariant-loop-piece g l =
       source : l.self.source.ghost_name ≡ l.fn.self.source.ghost_name;
       same : l.self.walk.automaton.now ≡ automaton;
       untold : IsUntold l.fn.self.progress l.self.progress;
-      read : Read (g.A.Automaton.is_of automaton)
+      read : Reads (g.A.Automaton.is_of automaton)
           (λ p. IsAfter p (g.A.Automaton.lengths automaton) (g.A.Automaton.valid automaton) (g.A.Automaton.held automaton p) (g.A.Automaton.depth automaton))
           l.fn.self.walk.work l.self.walk.work l.fn.self.progress l.self.progress
           (g.R.Source.remaining l.fn.self.source.now) (g.R.Source.remaining l.self.source.now);

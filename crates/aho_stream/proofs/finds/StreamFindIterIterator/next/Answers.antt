@@ -8,10 +8,10 @@ use Rattle.aho_base.specs.declared.error.stream.StreamError.{StreamError}
 use Rattle.aho_devices.specs.Counts.{counted}
 use Rattle.aho_stream.specs.After.{IsAfter}
 use Rattle.aho_stream.specs.Chunks.{Advances, Tells, ends_between, tells_limit, tells_read_fault}
-use Rattle.aho_stream.specs.Finds.{Finds, FindsNext, finds_read_fault}
+use Rattle.aho_stream.specs.Finds.{Finds, FindsNext}
 use Rattle.aho_stream.specs.declared.progress.Progress.{Progress}
 use Rattle.aho_stream.specs.declared.progress.StreamPiece.{StreamPiece}
-use Rattle.aho_stream.proofs.Found.{counted_then, end_found, error_found, fault_found, finds_then, piece_found, plain_told, read_then}
+use Rattle.aho_stream.proofs.Found.{counted_then, end_found, error_found, finds_then, piece_found, plain_told, read_then, same_fault}
 use Rattle.aho_stream.proofs.finds.StreamFindIterIterator.next.Given.{Over}
 use Rattle.aho_stream.proofs.finds.StreamFindIterIterator.next.Goals.{After-advance}
 use Rattle.aho_stream.proofs.finds.StreamFindIterIterator.next.Goals as goal
@@ -82,8 +82,8 @@ returns-in-Some-Err-clause-steps g c =
       λ r. let none = refused_none g d r in cc,
       c.advance.ensures.read_failed
           ∙ ap (λ (r : Option (Result StreamPiece StreamError)). counted (tells_read_fault r) (g.R.Source.failures c.loop-error.self.chunks.source.now)) is
-          ∙ ap (λ (b : Bool). counted b (g.R.Source.failures c.loop-error.self.chunks.source.now)) (fault_found error)
-          ∙ ap (counted (finds_read_fault (Some (Err error)))) inv.unfailed,
+          ∙ ap (λ (b : Bool). counted b (g.R.Source.failures c.loop-error.self.chunks.source.now)) (same_fault StreamPiece Occurrence error)
+          ∙ ap (counted (tells_read_fault {A = Occurrence} (Some (Err error)))) inv.unfailed,
     )
 
 pub returns-in-Some-clause-steps : goal.returns-in-Some-clause-steps
@@ -117,7 +117,7 @@ loop-error-preserved g c =
     let (p, given, of, a) = c.requires in
     let now = inv.read.is_after p given of a in
     let plain = plain_told p t c.advance.new.self.progress _ piece (sym c.found.ensures.found ∙ c.in_default.is)
-    (subst (λ (r : Option (Result StreamPiece StreamError)). Tells p t c.advance.new.self.progress ((given ++ inv.read.bytes) ++ (advanced g d).bytes) r) is ((advanced g d).tells p (given ++ inv.read.bytes) of now)) in
+    (subst (λ (r : Option (Result StreamPiece StreamError)). Tells p t c.advance.new.self.progress ((given ++ inv.read.bytes) ++ (advanced g d).reads.bytes) r) is ((advanced g d).tells p (given ++ inv.read.bytes) of now)) in
     record {
       same = c.advance.ensures.same ∙ inv.same;
       limit = c.advance.ensures.limit ∙ inv.limit;

@@ -2,8 +2,7 @@
 use Rattle.std.proofs.Common.{◌≡◌, ◌-◌, ◌≤◌, true}
 use Rattle.aho_devices.specs.Counts.{counted}
 use Rattle.aho_stream.specs.After.{IsAfter}
-use Rattle.aho_stream.specs.Chunks.{ends_between}
-use Rattle.aho_stream.proofs.Advanced.{Read}
+use Rattle.aho_stream.specs.Chunks.{Reads, ends_between}
 use Rattle.aho_stream.proofs.finds.StreamFindIterIterator.next.Given as goal
 
 -- Over the same automaton and with the same limit:
@@ -20,7 +19,7 @@ invariant-loop-error g l =
       limit : now.progress.limit ≡ it.progress.limit;
       from : now.progress.from ≡ it.progress.from;
       refused : now.progress.refused ≡ it.progress.refused;
-      read : Read (g.A.Automaton.is_of automaton)
+      read : Reads (g.A.Automaton.is_of automaton)
           (λ p. IsAfter p (g.A.Automaton.lengths automaton) (g.A.Automaton.valid automaton) (g.A.Automaton.held automaton p) (g.A.Automaton.depth automaton))
           it.walk.work now.walk.work it.progress now.progress (g.R.Source.remaining it.source.now) (g.R.Source.remaining now.source.now);
       ended : g.R.Source.empty_reads now.source.now ≡ counted (ends_between it.progress.ended now.progress.ended) (g.R.Source.empty_reads it.source.now);
