@@ -1,5 +1,5 @@
 -- What the replacement of a stream writes is what is asked for.
-use Rattle.std.proofs.Common.{◌≡◌, ◌≢◌, ℕ, List, [], ◌++◌, Option, true, length, refl, sym, ap, subst, ◌∙◌, append-nil, le_refl}
+use Rattle.std.proofs.Common.{◌≡◌, ◌≢◌, ℕ, ◌+◌, ◌≤◌, List, [], ◌++◌, Option, true, length, map, refl, sym, ap, subst, ◌∙◌, append-nil, le_refl}
 use Rattle.std.specs.Prelude.{None, Some, Result, Ok, Err, OnOk}
 use Rattle.std.specs.Io.{StartsWith}
 use Rattle.std.specs.Io.KnownBytes.{IsAtEnd, Keeps}
@@ -8,12 +8,14 @@ use Rattle.std.proofs.Math.Seq.{take-length}
 use Rattle.aho_base.specs.Iteration.{AreFinds}
 use Rattle.aho_base.specs.Patterns.{Patterns}
 use Rattle.aho_base.specs.Replacement.{replaced}
-use Rattle.aho_stream.specs.Replacing.{Begins as StreamBegins, Replaces as StreamReplaces}
-use Rattle.acfind.specs.Answers.{BeginsReplacing, Replaces}
+use Rattle.aho_stream.specs.Replacing.{Begins as StreamBegins, Replaces as StreamReplaces, ReplacesUpTo}
+use Rattle.acfind.specs.Answers.{BeginsReplacing, Replaces, ReplacesMost}
 use Rattle.aho_base.specs.declared.error.stream.StreamError.{StreamError}
 use Rattle.aho_base.specs.declared.error.stream.StreamError.TheVariants.{Match, Read, Write, WriteZero, Memory, PositionLimit}
 use Rattle.aho_base.specs.Search.{plain_search}
 use Rattle.aho_laws.proofs.Iterations.{finds-exist, finds-unique}
+use Rattle.aho_devices.specs.Refusals.{IsFillRefusal}
+use Rattle.aho_stream.specs.After.{kept_for}
 use Rattle.aho_stream.specs.Replacing.{IsMakingRefusal}
 use Rattle.acfind.specs.Asked.{Replacing, patterns_of_replacing}
 use Rattle.acfind.specs.Faults.{IsOfWrite, LeavesReplacing, fault_of_stream}
@@ -26,13 +28,13 @@ at_end None none = tt
 at_end (Some bytes) none = none bytes refl
 
 -- what was refused before the stream was begun leaves all untouched
-pub leaves_stream : {untouched begun : Type 0} (error : StreamError) → (IsMakingRefusal error → untouched) → begun → LeavesReplacing untouched begun (fault_of_stream error)
-leaves_stream (Match cause) same some = same tt
-leaves_stream (Read fault) same some = some
-leaves_stream (Write fault) same some = some
-leaves_stream WriteZero same some = some
-leaves_stream Memory same some = same tt
-leaves_stream PositionLimit same some = some
+pub leaves_stream : {untouched begun most : Type 0} (error : StreamError) → (IsMakingRefusal error → untouched) → begun → (IsFillRefusal error → most) → LeavesReplacing untouched begun most (fault_of_stream error)
+leaves_stream (Match cause) same some near = same tt
+leaves_stream (Read fault) same some near = (some, near tt)
+leaves_stream (Write fault) same some near = some
+leaves_stream WriteZero same some near = some
+leaves_stream Memory same some near = same tt
+leaves_stream PositionLimit same some near = (some, near tt)
 
 module _ (IsOf : Patterns → Type 0) (asked : Replacing) (of : IsOf (patterns_of_replacing asked)) {before after old new : Option (List ℕ)} (reads' : ℕ) (ends : reads' ≢ 0 → IsAtEnd after) where
   pub replaces_asked : StreamReplaces IsOf asked.pieces before after 0 reads' old new → Replaces asked before after old new
@@ -57,6 +59,20 @@ module _ (IsOf : Patterns → Type 0) (asked : Replacing) (of : IsOf (patterns_o
     grown = begun.writes;
     beginning = λ bytes ms may finds. begun.beginning (patterns_of_replacing asked) bytes ms of may finds;
   }
+
+-- the replacement up to a place is that of the patterns asked for
+pub most_asked : (IsOf : Patterns → Type 0) (asked : Replacing) → IsOf (patterns_of_replacing asked) → {before after old new : Option (List ℕ)} (lengths : List ℕ) (reads' : ℕ) → lengths ≡ map length asked.words
+    → (reads' ≢ 0 → IsAtEnd after) → ReplacesUpTo IsOf asked.pieces before after 0 reads' old new (kept_for lengths) → ReplacesMost asked before after old new
+most_asked IsOf asked of lengths reads' same ends up = record {
+  text = up.given;
+  read = up.gives.bytes;
+  ended = up.ended;
+  at_end = λ is. ends (λ none. cc);
+  place = up.place;
+  within = up.within;
+  near = subst (λ l. length up.given ≤ up.place + kept_for l) same up.near;
+  written = λ bytes ms may finds. up.writes (patterns_of_replacing asked) bytes ms of may finds;
+}
 
 -- what holds anyway holds at Ok
 pub ok_given : {X E : Type 0} {holds : Type 0} (result : Result X E) → holds → OnOk result holds
@@ -92,12 +108,12 @@ begins_whole {asked} whole = record {
 }
 
 -- a write's fault leaves what was begun
-pub leaves_write : (untouched : Type 0) {begun : Type 0} (fault : Fault) → IsOfWrite fault → begun → LeavesReplacing untouched begun fault
-leaves_write untouched Usage of some = absurd of
-leaves_write untouched (Build error) of some = absurd of.0
-leaves_write untouched (Search error) of some = absurd of
-leaves_write untouched OutOfMemory of some = absurd of
-leaves_write untouched LimitMet of some = absurd of
-leaves_write untouched ReadFailed of some = absurd of
-leaves_write untouched WriteFailed of some = some
-leaves_write untouched TookNothing of some = some
+pub leaves_write : (untouched most : Type 0) {begun : Type 0} (fault : Fault) → IsOfWrite fault → begun → LeavesReplacing untouched begun most fault
+leaves_write untouched most Usage of some = absurd of
+leaves_write untouched most (Build error) of some = absurd of.0
+leaves_write untouched most (Search error) of some = absurd of
+leaves_write untouched most OutOfMemory of some = absurd of
+leaves_write untouched most LimitMet of some = absurd of
+leaves_write untouched most ReadFailed of some = absurd of
+leaves_write untouched most WriteFailed of some = some
+leaves_write untouched most TookNothing of some = some

@@ -1,5 +1,5 @@
 -- What a run answers.
-use Rattle.std.specs.Prelude.{◌≡◌, ℕ, Bool, true, false, List, [], ◌∷◌, ◌++◌, Option, None, length, take, decimal, codes, if◌then◌else◌}
+use Rattle.std.specs.Prelude.{◌≡◌, ℕ, Bool, true, false, ◌+◌, ◌≤◌, List, [], ◌∷◌, ◌++◌, Option, None, length, map, take, decimal, codes, if◌then◌else◌}
 use Rattle.std.specs.Io.{StartsWith}
 use Rattle.std.specs.Io.KnownBytes.{Appends, Consumes, IsAtEnd}
 use Rattle.std.specs.List.{flat_map}
@@ -9,7 +9,8 @@ use Rattle.aho_base.specs.Overlapping.{all_occurrences}
 use Rattle.aho_base.specs.Patterns.{Patterns}
 use Rattle.aho_base.specs.Replacement.{replaced}
 use Rattle.aho_base.specs.Search.{plain_search}
-use Rattle.aho_stream.specs.Replacing.{MayBe}
+use Rattle.aho_stream.specs.After.{kept_for}
+use Rattle.aho_stream.specs.Replacing.{MayBe, piece_for, replaced_up_to}
 use Rattle.acfind.specs.Asked.{Asked, Replacing, patterns_of, patterns_of_replacing}
 use Rattle.acfind.specs.Faults.{status_of_fault, line_of_fault}
 use Rattle.acfind.specs.declared.command.Task.{Task}
@@ -104,3 +105,16 @@ pub record BeginsReplacing (asked : Replacing) (input_old input_new output_old o
   pub grown : Appends output_old output_new written
   pub beginning : (bytes : List ℕ) (ms : List Occurrence) → MayBe text ended bytes
       → AreFinds (patterns_of_replacing asked) (plain_search bytes) None ms → StartsWith (replaced bytes ms asked.pieces) written
+
+-- and it is the replacement up to a place, whatever bytes follow: no more than the longest pattern has, and at least one, are left
+pub record ReplacesMost (asked : Replacing) (input_old input_new output_old output_new : Option (List ℕ)) : Type 0 where
+  pub text : List ℕ
+  pub read : Consumes input_old input_new text
+  pub ended : Bool
+  pub at_end : ended ≡ true → IsAtEnd input_new
+  pub place : ℕ
+  pub within : place ≤ length text
+  pub near : length text ≤ place + kept_for (map length asked.words)
+  pub written : (bytes : List ℕ) (ms : List Occurrence) → MayBe text ended bytes
+      → AreFinds (patterns_of_replacing asked) (plain_search bytes) None ms
+      → Appends output_old output_new (replaced_up_to bytes place 0 ms (piece_for asked.pieces))

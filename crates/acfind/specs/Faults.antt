@@ -47,16 +47,16 @@ Leaves unread unwritten begun WriteZero = begun
 abbrev pub IsOfWrite : Fault → Type 0
 IsOfWrite = Leaves ⊥ ⊥ ⊤
 
--- what a fault of a replacement leaves: what is refused leaves all untouched, and any other something written
-abbrev pub LeavesReplacing : (untouched begun : Type 0) → Fault → Type 0
-LeavesReplacing untouched begun Usage = ⊥
-LeavesReplacing untouched begun (Build error) = untouched
-LeavesReplacing untouched begun (Search error) = untouched
-LeavesReplacing untouched begun OutOfMemory = untouched
-LeavesReplacing untouched begun PositionLimit = begun
-LeavesReplacing untouched begun Read = begun
-LeavesReplacing untouched begun Write = begun
-LeavesReplacing untouched begun WriteZero = begun
+-- what a fault of a replacement leaves: what is refused leaves all untouched, any other something written, and one of reading most
+abbrev pub LeavesReplacing : (untouched begun most : Type 0) → Fault → Type 0
+LeavesReplacing untouched begun most Usage = ⊥
+LeavesReplacing untouched begun most (Build error) = untouched
+LeavesReplacing untouched begun most (Search error) = untouched
+LeavesReplacing untouched begun most OutOfMemory = untouched
+LeavesReplacing untouched begun most PositionLimit = begun × most
+LeavesReplacing untouched begun most Read = begun × most
+LeavesReplacing untouched begun most Write = begun
+LeavesReplacing untouched begun most WriteZero = begun
 
 -- the fault of a stream's error
 abbrev pub fault_of_stream : StreamError → Fault

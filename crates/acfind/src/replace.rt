@@ -3,7 +3,7 @@
 ghost use Rattle.std.specs.Prelude.{◌≡◌, ◌%◌, ◌⊎◌, ⊤, IfOk, IfErr, OnOk, length, map, string_bytes};
 ghost use Rattle.aho_base.specs.Patterns.{Patterns};
 ghost use Rattle.aho_base.specs.Replacement.{pieces_of};
-ghost use Rattle.acfind.specs.Answers.{BeginsReplacing, Replaces};
+ghost use Rattle.acfind.specs.Answers.{BeginsReplacing, Replaces, ReplacesMost};
 ghost use Rattle.acfind.specs.Asked.{BuildsReplacing, Replacing, at_even, at_odd, patterns_of_replacing, replacing_for};
 ghost use Rattle.acfind.specs.Faults.{LeavesReplacing};
 
@@ -43,6 +43,9 @@ pub fn replace<R: Read, W: Write>(
         ((input.new.reader ≡ input.old.reader) × (output.new.writer ≡ output.old.writer))
         (BeginsReplacing (replacing_for (map string_bytes words.now))
         (R.remaining input.old.reader) (R.remaining input.new.reader)
+        (W.contents output.old.writer) (W.contents output.new.writer))
+        (ReplacesMost (replacing_for (map string_bytes words.now))
+        (R.remaining input.old.reader) (R.remaining input.new.reader)
         (W.contents output.old.writer) (W.contents output.new.writer))) }
 {
     let pairs = split(alloc, words)?;
@@ -74,7 +77,7 @@ fn split<'w>(alloc: Global, words: &'w [String]) -> Result<Pairs<'w>, AllocError
 fn build(alloc: Global, patterns: &[&[u8]]) -> Result<NFA, Fault>
     ensures of { (asked : Replacing) → asked.words ≡ pieces_of patterns.now → IfOk result
         (λ automaton. ⟦<NFA as Automaton>⟧.is_of automaton (patterns_of_replacing asked)) }
-    ensures leaves { IfErr result (LeavesReplacing ⊤ ⊥) }
+    ensures leaves { IfErr result (LeavesReplacing ⊤ ⊥ ⊥) }
     ensures accepted { (asked : Replacing) → asked.words ≡ pieces_of patterns.now
         → OnOk result (BuildsReplacing asked) }
 {
@@ -99,6 +102,8 @@ fn replace_all<A: Automaton, R: Read, W: Write>(
         → IfErr result (LeavesReplacing
         ((input.new.reader ≡ input.old.reader) × (output.new.writer ≡ output.old.writer))
         (BeginsReplacing asked (R.remaining input.old.reader) (R.remaining input.new.reader)
+        (W.contents output.old.writer) (W.contents output.new.writer))
+        (ReplacesMost asked (R.remaining input.old.reader) (R.remaining input.new.reader)
         (W.contents output.old.writer) (W.contents output.new.writer))) }
 {
     input.restart();

@@ -8,7 +8,7 @@ ghost use Rattle.aho_base.specs.Patterns.{Patterns};
 ghost use Rattle.aho_base.specs.Search.{plain_search};
 ghost use Rattle.aho_base.specs.declared.search.Anchored.TheVariants.{No};
 ghost use Rattle.aho_base.specs.declared.search.MatchKind.TheVariants.{Standard};
-ghost use Rattle.acfind.specs.Answers.{AreMatches, AppendsBeginning, Begins, BeginsReplacing, Begun, Prints, Replaces, Tells, TellsFault, status_of};
+ghost use Rattle.acfind.specs.Answers.{AreMatches, AppendsBeginning, Begins, BeginsReplacing, Begun, Prints, Replaces, ReplacesMost, Tells, TellsFault, status_of};
 ghost use Rattle.acfind.specs.Asked.{Asked, Builds, BuildsReplacing, Replacing, asked_for, kind_of, patterns_of, settings_for};
 ghost use Rattle.acfind.specs.Faults.{status_of_fault, line_of_fault, IsOfWrite, Leaves, LeavesReplacing};
 ghost use Rattle.acfind.specs.Words.{AreWrong, asked_by, replacing_by};
@@ -28,12 +28,13 @@ use std::io::{Read, Write};
 /// How many bytes are asked of the input at once.
 const PIECE: usize = 16 * 1024;
 
-/// Does what the words after the program's name ask for, and answers the exit status: 0 where matches were printed, 1 where
-/// there is none, 2 where the words are wrong, the automaton or the search is refused or memory is wanted, and 3 where a
-/// device fails.
+/// Does what the words after the program's name ask for, and answers the exit status: 0 where matches were printed or the
+/// input was replaced to its end, 1 where there is no match to print, 2 where the words are wrong, the automaton, the search
+/// or the replacement is refused or memory is wanted, and 3 where a device fails.
 ///
-/// The automaton is built before the input is read, and the input is read whole before anything is printed. Where the
-/// status is 2 or 3, `errors` gets a line that says why; where that line cannot be written, the status is the same.
+/// The automaton is built before the input is read. The input is read whole before a match is printed; a replacement is
+/// written while it is read, in memory that does not grow with it. Where the status is 2 or 3, `errors` gets a line that says
+/// why; where that line cannot be written, the status is the same.
 pub fn run<R: Read, W: Write, E: Write>(
     alloc: Global,
     words: &[String],
@@ -87,6 +88,8 @@ pub fn run<R: Read, W: Write, E: Write>(
         (LeavesReplacing
         ((input.new.reader ≡ input.old.reader) × (output.new.writer ≡ output.old.writer))
         (BeginsReplacing asked (R.remaining input.old.reader) (R.remaining input.new.reader)
+        (W.contents output.old.writer) (W.contents output.new.writer))
+        (ReplacesMost asked (R.remaining input.old.reader) (R.remaining input.new.reader)
         (W.contents output.old.writer) (W.contents output.new.writer))) }
 {
     match answer(alloc, words, input, output) {
@@ -155,6 +158,8 @@ fn answer<R: Read, W: Write>(
         → IfErr result (LeavesReplacing
         ((input.new.reader ≡ input.old.reader) × (output.new.writer ≡ output.old.writer))
         (BeginsReplacing asked (R.remaining input.old.reader) (R.remaining input.new.reader)
+        (W.contents output.old.writer) (W.contents output.new.writer))
+        (ReplacesMost asked (R.remaining input.old.reader) (R.remaining input.new.reader)
         (W.contents output.old.writer) (W.contents output.new.writer))) }
 {
     match parse_replace(words) {

@@ -47,4 +47,4 @@ returns-clause-leaves g c =
     let asked = replacing_for (map string_bytes c.args.words.now) in
     let whole = c.in_ok-replace_all.ensures.replaces asked (shown c.as_slice-2.ensures.value c.in_ok-pairs.ensures.pieces)
     (c.in_ok-automaton.ensures.of asked (shown c.as_slice.ensures.value c.in_ok-pairs.ensures.patterns)) in
-    IfErr-weaker c.flush.result _ _ (λ fault of. leaves_write _ fault of (begins_whole (replaces_kept whole c.flush.ensures.kept))) c.flush.ensures.of_write
+    IfErr-weaker c.flush.result _ _ (λ fault of. leaves_write _ _ fault of (begins_whole (replaces_kept whole c.flush.ensures.kept))) c.flush.ensures.of_write

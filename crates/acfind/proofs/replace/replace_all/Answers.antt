@@ -1,7 +1,7 @@
 -- What the library promises of the devices holds of the reader and the writer.
 use Rattle.std.proofs.Common.{◌∙◌, sym, ap}
 use Rattle.aho_build.proofs.StoppedBuilds.{IfErr-given}
-use Rattle.acfind.proofs.Replacings.{at_end, begins_asked, leaves_stream, replaces_asked}
+use Rattle.acfind.proofs.Replacings.{at_end, begins_asked, leaves_stream, most_asked, replaces_asked}
 use Rattle.acfind.proofs.replace.replace_all.Goals as goal
 
 pub returns-in_err-try_stream_replace_all-clause-leaves : goal.returns-in_err-try_stream_replace_all-clause-leaves
@@ -11,7 +11,9 @@ returns-in_err-try_stream_replace_all-clause-leaves g c asked same of =
     IfErr-given _ _ _ c.from_residual.ensures.1
     (leaves_stream c.in_err-try_stream_replace_all.field-0.0
     (λ made. (ap (λ s. s.reader) (promised.untouched made).0 ∙ c.restart.ensures.reader, ap (λ s. s.writer) (promised.untouched made).1))
-    (begins_asked _ asked of _ (λ some. at_end _ (λ bytes is. c.try_stream_replace_all.new.source.ended bytes some is)) begun))
+    (begins_asked _ asked of _ (λ some. at_end _ (λ bytes is. c.try_stream_replace_all.new.source.ended bytes some is)) begun)
+    (λ fill. most_asked _ asked of _ _ (g.met.A.Automaton.laws _ _ of).lengths_are (λ some. at_end _ (λ bytes is. c.try_stream_replace_all.new.source.ended bytes some is))
+    (rw (c.restart.ensures.reader, c.restart.ensures.restarted, sym same) at (promised.near fill))))
 
 pub returns-clause-replaces : goal.returns-clause-replaces
 returns-clause-replaces g c asked same of =
