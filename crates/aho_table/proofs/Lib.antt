@@ -4,3 +4,5 @@ pub mod TransitionLists
 pub mod States
 -- why a table is not to have so many entries
 pub mod Refusals
+-- two states that change places
+pub mod Renumbered

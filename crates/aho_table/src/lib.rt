@@ -3,3 +3,4 @@
 
 pub mod impls;
 pub mod links;
+pub mod remapper;
