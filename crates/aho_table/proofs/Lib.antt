@@ -1,3 +1,5 @@
+-- borders between bytes, and the classes that they make
+pub mod Classes
 -- a list of transitions that rises by byte: what it answers, and what one entry more makes of it
 pub mod TransitionLists
 -- a table of states whose states are read, changed and added

@@ -1,6 +1,8 @@
--- The inside of a table, as one representation keeps it: where the transition of a byte stands in a list, and the counts.
-use Rattle.std.specs.Prelude.{◌≡◌, ℕ, ◌+◌, ◌<◌, ◌≤◌, take, drop, List, length, slice_index_or}
+-- The inside of a table, as one representation keeps it: where the transition of a byte stands in a list, the counts, and the
+-- numbers of classes.
+use Rattle.std.specs.Prelude.{◌≡◌, ℕ, ◌+◌, ◌<◌, ◌≤◌, Bool, nat_lt, take, drop, List, [], ◌∷◌, length, slice_index_or}
 use Rattle.std.specs.List.{All}
+use Rattle.aho_table.specs.Alphabet.{class_of}
 use Rattle.aho_table.specs.Table.{State, AllRising, transitions_count, matches_count}
 
 -- the byte's transition is the one of this place
@@ -23,3 +25,14 @@ pub record IsConsistent (states : List State) (limit transitions matches : ℕ) 
   pub matches_within : matches ≤ limit + 1
   pub states_within : length states ≤ limit + 1
   pub rising : AllRising states
+
+-- the borders that a class for each byte tells: one where the class rises from a byte to the next
+unfoldable pub borders_of : List ℕ → List Bool
+borders_of [] = []
+borders_of (class ∷ []) = []
+borders_of (class ∷ next ∷ classes) = nat_lt class next ∷ borders_of (next ∷ classes)
+
+-- each byte has the class that the borders give it
+pub record AreClasses (classes : List ℕ) : Type 0 where
+  pub sized : length classes ≡ 256
+  pub counted : (byte : ℕ) → byte < 256 → slice_index_or classes byte 0 ≡ class_of (borders_of classes) byte
