@@ -1,10 +1,10 @@
 -- Borders between bytes, and the classes that they make.
-use Rattle.std.proofs.Common.{◌≡◌, ℕ, ◌+◌, ◌-◌, ◌<◌, ◌≤◌, ◌↔◌, Bool, true, false, nat_lt, eqb, List, [], ◌∷◌, length, get_or, refl, sym, ap, subst, ◌∙◌, inl, inr, arith, zero, suc}
+use Rattle.std.proofs.Common.{◌≡◌, cond, ℕ, ◌+◌, ◌-◌, ◌<◌, ◌≤◌, ◌↔◌, Bool, true, false, nat_lt, eqb, List, [], ◌∷◌, length, get_or, refl, sym, ap, subst, ◌∙◌, inl, inr, arith, zero, suc}
 use Rattle.std.specs.List.{count_by}
 use Rattle.std.proofs.Math.ListN.{set}
 use Rattle.std.proofs.lemmas.Bool.{cases_Bool, cases_eq, cases_order, both_ways, false_from_ne_true, eq-eqb, lt-ltb, le-ltb, or_left, or_right}
 use Rattle.std.proofs.lemmas.List.{take_all, get_or_past, get_or-set_same, get_or-set_other, ext_get_or}
-use Rattle.std.proofs.lemmas.List.Sums.{count_by_more_yes, count_by_more_no}
+use Rattle.std.proofs.lemmas.List.Sums.{sum_by-take-le, count_by_more_yes, count_by_more_no}
 use Rattle.aho_table.specs.Alphabet.{is_border, is_edge, class_of, class_count, AreOfOneClass, IsNotParted, HasItsEdges, IsAlone}
 use Rattle.aho_table.specs.Inside.{borders_of, AreClasses}
 
@@ -107,6 +107,10 @@ alone borders byte below edges other within same =
     ]
 
 -- ---- how many classes there are
+
+pub class_of-count : (borders : List Bool) (byte : ℕ) → class_of borders byte < class_count borders
+unfolding class_of class_count
+class_of-count borders byte = omega (arith, sum_by-take-le (λ (b : Bool). cond b 1 0) borders byte)
 
 pub class_count-last : (borders : List Bool) (last : ℕ) → length borders ≡ last → class_count borders ≡ class_of borders last + 1
 unfolding class_of class_count

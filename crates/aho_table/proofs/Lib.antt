@@ -6,3 +6,5 @@ pub mod TransitionLists
 pub mod States
 -- why a table is not to have so many entries
 pub mod Refusals
+-- rows: how one is filled, and what a change of the table leaves of them
+pub mod Rows
