@@ -1,5 +1,5 @@
 -- One transition of the head.
-use Rattle.std.proofs.Common.{◌≡◌, ℕ, ◌+◌, ◌<◌, ◌≤◌, ◌≢◌, List, [], ◌∷◌, ◌++◌, length, get_or, Option, Some, refl, sym, ap, subst, ◌∙◌, arith}
+use Rattle.std.proofs.Common.{◌≡◌, ℕ, ◌+◌, ◌<◌, ◌≤◌, ◌≢◌, Bool, List, [], ◌∷◌, ◌++◌, length, get_or, Option, Some, refl, sym, ap, subst, ◌∙◌, arith}
 use Rattle.std.proofs.lemmas.List.{length_push, get_or_append_left, get_or_default}
 use Rattle.aho_base.specs.declared.error.BuildError.{BuildError}
 use Rattle.aho_base.specs.declared.search.MatchKind.{MatchKind}
@@ -101,10 +101,10 @@ module _ (kind : MatchKind) (queue : List ℕ) (head part : ℕ) (states : List 
           refusal
 
       -- and where it is, nothing else was changed
-      pub visit_copies : (limit : ℕ) (new : Tables) → IsLinkingBySome kind queue head part states → new.limit ≡ limit → new.states ≡ linked_state states child fail
-          → OnlyCopies (record { states = states; limit = limit }) new
-      visit_copies limit new some same_limit new_is =
-          let old : Tables = record { states = states; limit = limit } in
+      pub visit_copies : (limit : ℕ) (classes : List Bool) (dense_len : ℕ) (new : Tables) → IsLinkingBySome kind queue head part states → new.limit ≡ limit
+          → new.states ≡ linked_state states child fail → OnlyCopies (record { states = states; limit = limit; classes = classes; dense_len = dense_len }) new
+      visit_copies limit classes dense_len new some same_limit new_is =
+          let old : Tables = record { states = states; limit = limit; classes = classes; dense_len = dense_len } in
           let state : State = record (state_at states child) { fail = fail; matches = (state_at states child).matches ++ matches_in states fail } in
           OnlyCopies-state old new child state (visit_child_below some other) other refl same_limit new_is
 

@@ -1,6 +1,12 @@
+-- borders between bytes, and the classes that they make
+pub mod Classes
 -- a list of transitions that rises by byte: what it answers, and what one entry more makes of it
 pub mod TransitionLists
 -- a table of states whose states are read, changed and added
 pub mod States
 -- why a table is not to have so many entries
 pub mod Refusals
+-- two states that change places
+pub mod Renumbered
+-- rows: how one is filled, and what a change of the table leaves of them
+pub mod Rows

@@ -1,5 +1,5 @@
 -- Why a table refuses to grow.
-use Rattle.std.specs.Prelude.{◌≡◌, ℕ, ◌+◌, ◌<◌, ◌⊎◌, Bool, false, List, length, nat_lt, if◌then◌else◌}
+use Rattle.std.specs.Prelude.{◌≡◌, ℕ, ◌+◌, ◌<◌, ◌⊎◌, false, List, length, nat_lt, if◌then◌else◌}
 use Rattle.aho_base.specs.declared.error.BuildError.{BuildError}
 use Rattle.aho_base.specs.declared.error.BuildError.TheVariants.{StateIDOverflow, OutOfMemory}
 use Rattle.aho_table.specs.Table.{State, lists_byte, transitions_count}
@@ -7,6 +7,10 @@ use Rattle.aho_table.specs.Table.{State, lists_byte, transitions_count}
 -- the refusal of an entry at this index: the limit, where the index is above it, else want of memory
 abbrev pub refusal_at : ℕ → ℕ → BuildError
 refusal_at limit index = if nat_lt limit index then StateIDOverflow (limit) (limit + 1) else OutOfMemory
+
+-- the refusal of a row that starts at this index: the limit and the index, where it is above the limit, else want of memory
+abbrev pub row_refusal_at : ℕ → ℕ → BuildError
+row_refusal_at limit start = if nat_lt limit start then StateIDOverflow (limit) start else OutOfMemory
 
 -- why a table is not to have this many entries: they are more than the limit allows, or memory was wanted
 abbrev pub IsRefusalOf : ℕ → ℕ → BuildError → Type 0

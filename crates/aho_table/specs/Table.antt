@@ -1,6 +1,7 @@
 -- What a `Table` is seen as: for each state a list of transitions, a list of patterns, a failure link and a depth.
 use Rattle.std.specs.Prelude.{◌≡◌, ◌≢◌, ℕ, ◌+◌, ◌<◌, ◌≤◌, Bool, List, [], ◌∷◌, ◌++◌, length, nat_eq, nat_lt, sum_by, if◌then◌else◌, slice_index_or, slice_set}
 use Rattle.std.specs.List.{All, list_any}
+use Rattle.aho_table.specs.Alphabet.{AreOfOneClass}
 use Rattle.aho_table.specs.declared.links.Child.{Child}
 use Rattle.aho_table.specs.declared.links.Child.TheVariants.{Found, Added}
 
@@ -19,10 +20,13 @@ pub record State : Type 0 where
   pub fail : ℕ
   pub depth : ℕ
 
--- the states, and the greatest index that a table may use
+-- the states, the greatest index that a table may use, the borders between the classes of bytes, and how many entries the rows of
+-- states have together, the dummy at index 0 among them
 pub record Tables : Type 0 where
   pub states : List State
   pub limit : ℕ
+  pub classes : List Bool
+  pub dense_len : ℕ
 
 -- where the byte leads, and 1 (FAIL) where nothing is listed for it
 abbrev pub transition_at : List (ℕ × ℕ) → ℕ → ℕ
@@ -41,6 +45,10 @@ with_transition (transition ∷ transitions) byte next =
 abbrev pub IsRising : List (ℕ × ℕ) → Type 0
 IsRising [] = Unit {0}
 IsRising (transition ∷ transitions) = All (λ later. transition.0 < later.0) transitions × IsRising transitions
+
+-- bytes of one class lead alike
+abbrev pub LeadsAlike : List Bool → List (ℕ × ℕ) → Type 0
+LeadsAlike classes transitions = (byte other : ℕ) → byte < 256 → other < 256 → AreOfOneClass classes byte other → transition_at transitions byte ≡ transition_at transitions other
 
 -- whether the state lists the byte
 abbrev pub lists_transition : List (ℕ × ℕ) → ℕ → Bool

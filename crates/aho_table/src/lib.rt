@@ -1,5 +1,7 @@
 //! The table of an automaton's states.
 #![tactic(auto)]
 
+pub mod alphabet;
 pub mod impls;
 pub mod links;
+pub mod remapper;

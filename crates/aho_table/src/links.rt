@@ -3,15 +3,19 @@
 ghost use Rattle.std.specs.Prelude.{◌≡◌, ◌≢◌, ◌+◌, ◌<◌, ◌≤◌, ◌^◌, [], ◌∷◌, ◌++◌, length, true, IsTrue, ◌↔◌, IsOk, IfOk, IfErr, OnOk, OnErr, min, slice_get};
 ghost use Rattle.aho_base.specs.Numbers.{greatest_index};
 ghost use Rattle.aho_base.specs.declared.error.BuildError.TheVariants.{StateIDOverflow};
-ghost use Rattle.aho_table.specs.Refusal.{refusal_at, IsLeadRefusal};
-ghost use Rattle.aho_table.specs.Table.{fail_id, IsRising, transition_at, with_transition, new_state, transition_in, next_in, matches_in, fail_in, depth_in, set_transition, push_match, set_fail_of, state_at, lists_byte, transitions_count, matches_count, AllRising, IsWithinLimit, IsLedTo};
+ghost use Rattle.aho_table.specs.Refusal.{refusal_at, row_refusal_at, IsLeadRefusal};
+ghost use Rattle.aho_table.specs.Alphabet.{no_borders, class_count};
+ghost use Rattle.aho_table.specs.Table.{fail_id, IsRising, transition_at, with_transition, new_state, transition_in, next_in, matches_in, fail_in, depth_in, set_transition, push_match, set_fail_of, state_at, lists_byte, transitions_count, matches_count, AllRising, IsWithinLimit, IsLedTo, LeadsAlike};
 ghost use Rattle.aho_table.specs.Inside.{StandsAt, IsGapAt};
 
 mod lists;
+mod rows;
 
+use crate::alphabet::ByteClasses;
 use aho_base::error::BuildError;
 use aho_base::search::{PatternID, SmallIndex, StateID, Work};
 pub use lists::{Matches, Transitions};
+use rows::Rows;
 use std::alloc::{AllocError, Global};
 use std::marker::Model;
 
@@ -103,6 +107,14 @@ impl State {
         self.next_at(self.place(byte), byte)
     }
 
+    /// What it lists.
+    fn list(&self) -> Transitions<'_>
+        ensures listed { result ≡ self.now.transitions }
+        ensures rising { IsRising result }
+    {
+        Transitions::new(&self.transitions)
+    }
+
     /// The byte, whose transition stands at `place`, leads elsewhere.
     fn redirect(&mut self, place: usize, byte: u8, next: StateID)
         requires stands { StandsAt self.old.transitions byte place }
@@ -149,19 +161,23 @@ pub struct Table {
     transitions_len: usize,
     /// How many patterns the states list together, and one.
     matches_len: usize,
+    /// For each state where its row starts, and 0 where it has none.
+    starts: Vec<u32>,
+    rows: Rows,
     limit: usize,
     alloc: Global,
 }
 
 impl Model for Table {
+    ghost use Rattle.std.specs.Prelude.{◌+◌, length};
     ghost use Rattle.aho_table.specs.Table.{Tables};
     ghost use Rattle.aho_table.specs.Inside.{IsConsistent};
 
     ghost Value = { Tables };
 
-    ghost view = { λ t. record { states = t.states.items; limit = t.limit } };
+    ghost view = { λ t. record { states = t.states.items; limit = t.limit; classes = t.rows.classes; dense_len = length t.rows.entries.items + 1 } };
 
-    ghost invariant = { λ t. IsConsistent t.states.items t.limit t.transitions_len t.matches_len };
+    ghost invariant = { λ t. IsConsistent t.states.items t.limit t.transitions_len t.matches_len t.starts.items t.rows.classes t.rows.entries.items };
 }
 
 impl Table {
@@ -173,12 +189,19 @@ impl Table {
     pub fn new(alloc: Global, limit: usize) -> Result<Table, BuildError>
         ensures ok { IsOk result }
         ensures empty { IfOk result
-            (λ table. table ≡ record { states = []; limit = min limit greatest_index }) }
+            (λ table. table ≡ record {
+              states = [];
+              limit = min limit greatest_index;
+              classes = no_borders;
+              dense_len = 1;
+            }) }
     {
         Ok(Table {
             states: Vec::new(alloc),
             transitions_len: 1,
             matches_len: 1,
+            starts: Vec::new(alloc),
+            rows: Rows::new(alloc),
             limit: limit.min(SmallIndex::MAX.as_usize()),
             alloc,
         })
@@ -239,6 +262,10 @@ impl Table {
         if self.states.push(State::new(self.alloc, depth)).is_err() {
             return Err(BuildError::OutOfMemory);
         }
+        if self.starts.push(0).is_err() {
+            let _added = self.states.pop();
+            return Err(BuildError::OutOfMemory);
+        }
         Ok(StateID::new_unchecked(index))
     }
 
@@ -290,7 +317,10 @@ impl Table {
         let overflow = self.overflow();
         let state = &mut self.states[sid.as_usize()];
         match place {
-            Ok(place) => state.redirect(place, byte, next),
+            Ok(place) => {
+                state.redirect(place, byte, next);
+                self.starts[sid.as_usize()] = 0; // A row that led as the list did is forgotten.
+            }
             Err(place) => {
                 if full {
                     return Err(overflow);
@@ -299,6 +329,7 @@ impl Table {
                     return Err(BuildError::OutOfMemory);
                 };
                 self.transitions_len += 1;
+                self.starts[sid.as_usize()] = 0;
             }
         }
         Ok(())
@@ -320,6 +351,7 @@ impl Table {
         requires added { sid < length self.old.states }
         ensures led { IfOk result (IsLedTo sid byte depth self.old.states self.new.states) }
         ensures limit { self.new.limit ≡ self.old.limit }
+        ensures rows { self.new ≡ record self.old { states = self.new.states } }
         ensures free { OnErr result (next_in self.old.states sid byte ≡ fail_id) }
         ensures refused { IfErr result (IsLeadRefusal self.old.limit sid byte self.old.states) }
         ensures unchanged { OnErr result (self.new ≡ self.old) }
@@ -336,6 +368,7 @@ impl Table {
             Ok(()) => Ok(Child::Added(added)),
             Err(error) => {
                 let _added = self.states.pop();
+                let _start = self.starts.pop();
                 Err(error)
             }
         }
@@ -365,6 +398,55 @@ impl Table {
         }
         self.matches_len += 1;
         Ok(())
+    }
+
+    /// Goes by these classes of bytes, and forgets every row.
+    pub fn set_byte_classes(&mut self, classes: ByteClasses)
+        ensures set { self.new ≡ record self.old { classes = classes; dense_len = 1 } }
+    {
+        self.starts.fill(0);
+        self.rows.set_classes(classes);
+    }
+
+    /// Gives the state a row, by which `follow` answers in one look: an entry more for each class of bytes. A state that has
+    /// a row gets another one.
+    ///
+    /// # Errors
+    ///
+    /// `StateIDOverflow` where the row would start above the limit: `requested` is that start, which is the count of
+    /// entries before it. Else want of memory. The table is then unchanged.
+    pub fn add_row(&mut self, sid: StateID) -> Result<(), BuildError>
+        requires added { sid < length self.old.states }
+        requires alike { LeadsAlike self.old.classes (state_at self.old.states sid).transitions }
+        ensures added { OnOk result
+            (self.new ≡ record self.old {
+              dense_len = self.old.dense_len + class_count self.old.classes;
+            }) }
+        ensures within { OnOk result (self.old.dense_len ≤ self.old.limit) }
+        ensures refused { IfErr result
+            (λ error. error ≡ row_refusal_at self.old.limit self.old.dense_len) }
+        ensures unchanged { OnErr result (self.new ≡ self.old) }
+    {
+        let start = self.rows.len();
+        if start > self.limit {
+            return Err(BuildError::StateIDOverflow {
+                max: self.limit as u64,
+                requested: start as u64,
+            });
+        }
+        let Ok(()) = self.rows.add(self.states[sid.as_usize()].list()) else {
+            return Err(BuildError::OutOfMemory);
+        };
+        self.starts[sid.as_usize()] = start as u32;
+        Ok(())
+    }
+
+    /// How many entries the rows have together, and one for index 0.
+    pub fn dense_len(&self) -> usize
+        ensures len { result ≡ self.now.dense_len }
+        ensures bound { result ≤ 2147483902 }
+    {
+        self.rows.len()
     }
 
     /// The state leads on failure to another.
@@ -401,6 +483,10 @@ impl Table {
         ensures counted { work.new ≡ work.old + 1 }
     {
         work.tick();
+        let start = self.starts[sid.as_usize()];
+        if start != 0 {
+            return self.rows.next(start, byte);
+        }
         self.states[sid.as_usize()].follow(byte)
     }
 
@@ -489,6 +575,8 @@ impl Table {
             states,
             transitions_len: self.transitions_len,
             matches_len: self.matches_len,
+            starts: Vec::from_slice(self.alloc, &self.starts)?,
+            rows: self.rows.try_clone(self.alloc)?,
             limit: self.limit,
             alloc: self.alloc,
         })

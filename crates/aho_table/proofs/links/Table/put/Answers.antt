@@ -5,6 +5,7 @@ use Rattle.std.proofs.Math.ListN.{length-set}
 use Rattle.aho_table.specs.Inside.{IsGapAt}
 use Rattle.aho_table.specs.Table.{State, Tables, state_at, lists_byte, transitions_count}
 use Rattle.aho_table.proofs.States.{transitions_count-set, matches_count-set, AllRising-led}
+use Rattle.aho_table.proofs.Rows.{HasRows-forgotten}
 use Rattle.aho_table.proofs.TransitionLists.{lists_transition-gap}
 use Rattle.aho_table.proofs.links.Table.put.Goals as goal
 use Rattle.aho_table.proofs.links.Table.put.Goals.{in-Ok, in-Err+else-full+in-Ok-insert}
@@ -30,6 +31,8 @@ invariant_of-self c =
       states_within = omega (arith, length-set c.self.inside.states.items c.as_usize.result c.redirect.new.self);
       rising = AllRising-led c.self.inside.states.items c.as_usize.result c.args.byte c.args.next c.redirect.new.self c.index_mut-state.result.now below c.index_mut-state.ensures.value
           c.redirect.ensures.set c.self.invariant.rising;
+      rows = HasRows-forgotten c.self.inside.states.items c.self.inside.starts.items c.self.inside.rows.classes c.self.inside.rows.entries.items c.self.inside.limit c.self.invariant.rows
+          c.as_usize.result c.as_usize-in-Ok.result c.redirect.new.self below (omega arith);
     }
 
 pub returns-then-full-clause-there : goal.returns-then-full-clause-there
@@ -59,6 +62,8 @@ invariant_of-self-in-Err c =
       states_within = omega (arith, length-set c.self.inside.states.items c.as_usize.result c.insert.new.self);
       rising = AllRising-led c.self.inside.states.items c.as_usize.result c.args.byte c.args.next c.insert.new.self c.index_mut-state.result.now below c.index_mut-state.ensures.value
           c.in-Ok-insert.ensures.set c.self.invariant.rising;
+      rows = HasRows-forgotten c.self.inside.states.items c.self.inside.starts.items c.self.inside.rows.classes c.self.inside.rows.entries.items c.self.inside.limit c.self.invariant.rows
+          c.as_usize.result c.as_usize-in-Err.result c.insert.new.self below (omega arith);
     }
 
 pub returns-clause-within : goal.returns-clause-within

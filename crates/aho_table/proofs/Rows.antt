@@ -1,0 +1,187 @@
+-- Rows: how one is filled from a list, and what a change of the table leaves of them.
+use Rattle.std.proofs.Common.{◌≡◌, ℕ, ◌+◌, ◌-◌, ◌<◌, ◌≤◌, Bool, List, [], ◌∷◌, ◌++◌, length, get_or, drop, take, replicate, refl, sym, ap, subst, ◌∙◌, inl, inr, arith}
+use Rattle.std.proofs.Math.ListN.{set, length-set}
+use Rattle.std.proofs.lemmas.Bool.{cases_eq, cases_lt}
+use Rattle.std.proofs.lemmas.List.Sums.{sum_by_push}
+use Rattle.std.proofs.lemmas.List.{drop_more, drop_all, get_or_default, get_or_past, length_push, get_or-replicate, get_or-set_same, get_or-set_other, get_or_append_left, get_or-append-add, get_or-take, length-append, length-take-le, length-replicate}
+use Rattle.aho_table.specs.Alphabet.{class_of, class_count}
+use Rattle.aho_table.specs.Table.{State, new_state, state_at, transition_at, transitions_count, matches_count, IsRising, LeadsAlike}
+use Rattle.aho_table.specs.Inside.{StandsAt, IsRowOf, IsRowAdded, IsFilled, start_in, HasRows, IsConsistent}
+use Rattle.aho_table.proofs.States.{state_at-set_other, state_at-push_old}
+use Rattle.aho_table.proofs.Classes.{class_of-byte, class_of-count}
+use Rattle.aho_table.proofs.TransitionLists.{transition_at-other, transition_at-stands}
+
+-- ---- a row is filled, one transition of the list after another
+
+pub IsFilled-first : (classes : List Bool) (transitions : List (ℕ × ℕ)) → IsFilled classes transitions transitions (replicate 256 1)
+IsFilled-first classes transitions = record {
+  sized = length-replicate {A = ℕ} 256 1;
+  leads = λ byte below. inr (get_or-replicate 256 (class_of classes byte) 1 1 (omega (arith, class_of-byte classes byte)), refl);
+}
+
+module _ (classes : List Bool) (transitions : List (ℕ × ℕ)) (rising : IsRising transitions) (alike : LeadsAlike classes transitions) (place : ℕ) (row : List ℕ)
+    (filled : IsFilled classes transitions (drop place transitions) row) where
+  -- the next transition's class leads where the list leads its byte
+  pub IsFilled-more : (transition : ℕ × ℕ) → place < length transitions → transition ≡ get_or transitions place transition → transition.0 < 256
+      → IsFilled classes transitions (drop (place + 1) transitions) (set row (class_of classes transition.0) transition.1)
+  IsFilled-more transition within is small =
+      let stands : StandsAt transitions transition.0 place =
+      record { within = within; of_byte = ap (λ (t : ℕ × ℕ). t.0) (get_or_default transitions place (0, 1) transition within ∙ sym is) } in
+      let led : transition_at transitions transition.0 ≡ transition.1 = transition_at-stands transitions transition.0 place transition rising stands ∙ ap (λ (t : ℕ × ℕ). t.1) (sym is) in
+      let rest : drop place transitions ≡ transition ∷ drop (place + 1) transitions =
+      drop_more transitions place transition within ∙ ap (λ (t : ℕ × ℕ). t ∷ drop (place + 1) transitions) (sym is) in
+      record {
+        sized = length-set row (class_of classes transition.0) transition.1 ∙ filled.sized;
+        leads = λ byte below.
+            elim (cases_eq (class_of classes byte) (class_of classes transition.0)) [
+              | inl one ↦ inl
+                  (ap (λ (n : ℕ). get_or (set row (class_of classes transition.0) transition.1) n 1) one
+                  ∙ get_or-set_same row (class_of classes transition.0) transition.1 1 (omega (arith, filled.sized, class_of-byte classes transition.0))
+                  ∙ sym led ∙ alike transition.0 byte small below (sym one))
+              | inr two ↦
+                  let other = get_or-set_other row (class_of classes transition.0) (class_of classes byte) transition.1 1 two in
+                  elim (filled.leads byte below) [
+                    | inl leads ↦ inl (other ∙ leads)
+                    | inr nowhere ↦ inr (
+                      other ∙ nowhere.0,
+                      sym (transition_at-other transition (drop (place + 1) transitions) byte (λ e. two (ap (class_of classes) (sym e))))
+                          ∙ ap (λ (ts : List (ℕ × ℕ)). transition_at ts byte) (sym rest) ∙ nowhere.1,
+                    )
+                  ]
+            ];
+      }
+
+  pub filled_row : length transitions ≤ place → (byte : ℕ) → byte < 256 → get_or row (class_of classes byte) 1 ≡ transition_at transitions byte
+  filled_row past byte below =
+      elim (filled.leads byte below) [
+        | inl leads ↦ leads
+        | inr nowhere ↦ nowhere.0 ∙ ap (λ (ts : List (ℕ × ℕ)). transition_at ts byte) (sym (drop_all place transitions past)) ∙ nowhere.1
+      ]
+
+-- ---- it stands behind the others
+
+pub IsRowAdded-behind : (classes : List Bool) (transitions : List (ℕ × ℕ)) (old row new : List ℕ) (len : ℕ) → len ≡ class_count classes → len ≤ 256 → length row ≡ 256 → new ≡ old ++ take len row
+    → ((byte : ℕ) → byte < 256 → get_or row (class_of classes byte) 1 ≡ transition_at transitions byte) → IsRowAdded classes old transitions new
+IsRowAdded-behind classes transitions old row new len count few sized is leads =
+    let within : len ≤ length row = omega arith in
+    let longer : length new ≡ length old + len = ap length is ∙ length-append old (take len row) ∙ ap (λ (n : ℕ). length old + n) (length-take-le len row within) in
+    record {
+      few = omega arith;
+      longer = omega arith;
+      kept = λ i below. ap (λ (xs : List ℕ). get_or xs i 1) is ∙ get_or_append_left old (take len row) 1 i below;
+      added = record {
+        row = record { some = omega arith; within = omega arith };
+        leads = λ byte below.
+            let place : length old + 1 + class_of classes byte - 1 ≡ length old + class_of classes byte = omega arith in
+            ap (λ (n : ℕ). get_or new n 1) place ∙ ap (λ (xs : List ℕ). get_or xs (length old + class_of classes byte) 1) is
+            ∙ get_or-append-add old (take len row) (class_of classes byte) 1
+            ∙ get_or-take len row (class_of classes byte) 1 (omega (arith, class_of-count classes byte))
+            ∙ leads byte below;
+      };
+    }
+
+-- ---- what a change of the table leaves of the rows
+
+-- a row among the entries leads as before, once others stand behind them
+IsRowOf-kept : (classes : List Bool) (old new : List ℕ) (transitions : List (ℕ × ℕ)) (start : ℕ) → length old ≤ length new
+    → ((i : ℕ) → i < length old → get_or new i 1 ≡ get_or old i 1) → IsRowOf classes old transitions start → IsRowOf classes new transitions start
+IsRowOf-kept classes old new transitions start longer kept is = record {
+  row = record { some = is.row.some; within = let within = is.row.within in omega arith };
+  leads = λ byte below.
+      let some = is.row.some in
+      let within = is.row.within in
+      kept (start + class_of classes byte - 1) (omega (arith, class_of-count classes byte)) ∙ is.leads byte below;
+}
+
+module _ (states : List State) (starts : List ℕ) (classes : List Bool) (entries : List ℕ) (limit : ℕ) (has : HasRows states starts classes entries limit) where
+  -- the state leads elsewhere, and its row is forgotten
+  pub HasRows-forgotten : (sid again : ℕ) (state : State) → sid < length states → again ≡ sid → HasRows (set states sid state) (set starts again 0) classes entries limit
+  HasRows-forgotten sid again state below same = record {
+    state_count = let count = has.state_count in omega (arith, length-set states sid state, length-set starts again 0);
+    bounded = has.bounded;
+    rows = λ i some.
+        elim (cases_eq i again) [
+          | inl here ↦
+              let count = has.state_count in
+              let none : start_in (set starts again 0) i ≡ 0 = ap (λ (n : ℕ). get_or (set starts again 0) n 0) here ∙ get_or-set_same starts again 0 0 (omega arith) in
+              absurd (omega arith)
+          | inr there ↦
+              let start : start_in (set starts again 0) i ≡ start_in starts i = get_or-set_other starts again i 0 0 there in
+              subst (λ (n : ℕ). IsRowOf classes entries (state_at (set states sid state) i).transitions n) (sym start)
+              (subst (λ (r : State). IsRowOf classes entries r.transitions (start_in starts i)) (sym (state_at-set_other states sid i state (λ e. there (e ∙ sym same)))) (has.rows i (omega arith)))
+        ];
+  }
+
+  -- the state gets a row behind the others
+  pub HasRows-added : (sid again start : ℕ) (new : List ℕ) → sid < length states → again ≡ sid → start ≡ length entries + 1 → start ≤ limit
+      → IsRowAdded classes entries (state_at states sid).transitions new → HasRows states (set starts again start) classes new limit
+  HasRows-added sid again start new below same is small added =
+      let longer = added.longer in
+      let few = added.few in
+      let count = has.state_count in
+      record {
+        state_count = omega (arith, length-set starts again start);
+        bounded = omega arith;
+        rows = λ i some.
+            elim (cases_eq i again) [
+              | inl here ↦
+                  let first : start_in (set starts again start) i ≡ length entries + 1 =
+                  ap (λ (n : ℕ). get_or (set starts again start) n 0) here ∙ get_or-set_same starts again start 0 (omega arith) ∙ is in
+                  subst (λ (n : ℕ). IsRowOf classes new (state_at states i).transitions n) (sym first)
+                  (subst (λ (n : ℕ). IsRowOf classes new (state_at states n).transitions (length entries + 1)) (sym (here ∙ same)) added.added)
+              | inr there ↦
+                  let other : start_in (set starts again start) i ≡ start_in starts i = get_or-set_other starts again i start 0 there in
+                  subst (λ (n : ℕ). IsRowOf classes new (state_at states i).transitions n) (sym other)
+                  (IsRowOf-kept classes entries new (state_at states i).transitions (start_in starts i) (omega arith) added.kept (has.rows i (omega arith)))
+            ];
+      }
+
+  -- the last state is taken away
+  pub HasRows-popped : (fewer : List State) (last : State) (place : ℕ) → states ≡ fewer ++ last ∷ [] → place + 1 ≡ length starts → HasRows fewer (take place starts) classes entries limit
+  HasRows-popped fewer last place is least =
+      let count = has.state_count in
+      let length_is : length states ≡ length fewer + 1 = ap length is ∙ length_push fewer last in
+      let short = length-take-le place starts (omega arith) in
+      record {
+        state_count = omega arith;
+        bounded = has.bounded;
+        rows = λ i some.
+            elim (cases_lt i place) [
+              | inl below ↦
+                  let start : start_in (take place starts) i ≡ start_in starts i = get_or-take place starts i 0 below in
+                  let state : state_at states i ≡ state_at fewer i = ap (λ (ss : List State). state_at ss i) is ∙ state_at-push_old fewer last i (omega arith) in
+                  subst (λ (n : ℕ). IsRowOf classes entries (state_at fewer i).transitions n) (sym start)
+                  (subst (λ (r : State). IsRowOf classes entries r.transitions (start_in starts i)) state (has.rows i (omega arith)))
+              | inr past ↦
+                  let none : start_in (take place starts) i ≡ 0 = get_or_past (take place starts) i 0 (omega arith) in
+                  absurd (omega arith)
+            ];
+      }
+
+-- a table without the state that was just added
+pub IsConsistent-popped : (states fewer : List State) (depth limit transitions matches : ℕ) (starts : List ℕ) (classes : List Bool) (entries : List ℕ) (place : ℕ)
+    → states ≡ fewer ++ new_state depth ∷ [] → place + 1 ≡ length starts → IsConsistent states limit transitions matches starts classes entries
+    → IsConsistent fewer limit transitions matches (take place starts) classes entries
+IsConsistent-popped states fewer depth limit transitions matches starts classes entries place is least consistent =
+    let length_is : length states ≡ length fewer + 1 = ap length is ∙ length_push fewer (new_state depth) in
+    let listed : transitions_count states ≡ transitions_count fewer =
+    ap transitions_count is ∙ ap (λ (n : ℕ). 1 + n) (sum_by_push (λ (state : State). length state.transitions) fewer (new_state depth) ∙ omega arith) in
+    let matched : matches_count states ≡ matches_count fewer =
+    ap matches_count is ∙ ap (λ (n : ℕ). 1 + n) (sum_by_push (λ (state : State). length state.matches) fewer (new_state depth) ∙ omega arith) in
+    let states_within = consistent.states_within in
+    record {
+      small = consistent.small;
+      transitions_are = consistent.transitions_are ∙ listed;
+      transitions_within = consistent.transitions_within;
+      matches_are = consistent.matches_are ∙ matched;
+      matches_within = consistent.matches_within;
+      states_within = omega arith;
+      rising = λ i.
+          elim (cases_lt i (length fewer)) [
+            | inl below ↦
+                subst (λ (r : State). IsRising r.transitions)
+                (ap (λ (ss : List State). state_at ss i) is ∙ state_at-push_old fewer (new_state depth) i below) (consistent.rising i)
+            | inr past ↦ subst (λ (r : State). IsRising r.transitions) (sym (get_or_past fewer i (new_state 0) past)) tt
+          ];
+      rows = HasRows-popped states starts classes entries limit consistent.rows fewer (new_state depth) place is least;
+    }
