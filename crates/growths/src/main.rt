@@ -2,7 +2,7 @@
 //! was refused, and `refused` where one was and the call told it, left what it should and then, made again, answered right.
 //!
 //! `.ci/growths` runs it once for each growth of a call, under a library that refuses that one growth. The calls are `new`,
-//! `build`, `clone`, `text`, `bytes`, `text-with`, `bytes-with` (replacement in memory), `chunks` and `stream`. The settings of
+//! `build`, `clone`, `text`, `bytes`, `text-with`, `bytes-with` (replacement in memory), `chunks`, `stream`, `stream-with` and `remapper`. The settings of
 //! a build are `first` or `longest` (Standard without either), `-i`, `sparse` (no dense rows) and `bare` (no prefilter), in any
 //! order.
 //!
@@ -10,6 +10,7 @@
 #![tactic(auto)]
 
 mod builds;
+mod chains;
 mod replacing;
 mod streams;
 mod wants;
@@ -80,6 +81,8 @@ fn call(alloc: Global, words: &[String], want: &mut Want) -> Result<(), Wrong> {
         "bytes-with" => replacing::bytes_with(alloc, want),
         "chunks" => streams::chunks(alloc, want),
         "stream" => streams::replace(alloc, want),
+        "stream-with" => streams::replace_with(alloc, want),
+        "remapper" => chains::remapper(alloc, want),
         _ => Err("no such call"),
     }
 }

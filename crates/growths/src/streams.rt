@@ -1,16 +1,18 @@
 //! Streams.
 
 ghost use Rattle.std.specs.Prelude.{None};
+ghost use Rattle.aho_base.specs.Patterns.{Patterns};
 
 use crate::builds::automaton;
 use crate::wants::{Want, Wrong};
 use aho_base::error::{Fault, StreamError};
-use aho_corasick::noncontiguous::Builder;
+use aho_corasick::noncontiguous::{Builder, NFA};
 use aho_devices::adapters::FromRead;
-use aho_devices::device::Sink;
+use aho_devices::device::{Sink, Source};
+use aho_devices::write::write_whole;
 use aho_search::automaton::Automaton;
 use aho_stream::chunks::StreamChunkIter;
-use aho_stream::replace::try_stream_replace_all;
+use aho_stream::replace::{try_stream_replace_all, try_stream_replace_all_with};
 use std::alloc::Global;
 
 const GIVEN: &[u8] = b"the fox and the fox";
@@ -19,12 +21,12 @@ const WRITTEN: &[u8] = b"the sloth and the sloth";
 
 /// A sink that compares what it takes with what is wanted. It takes no memory.
 #[derive(Drop)]
-struct Compare {
-    rest: &'static [u8],
+struct Compare<'w> {
+    rest: &'w [u8],
     differs: bool,
 }
 
-impl Sink for Compare {
+impl<'w> Sink for Compare<'w> {
     ghost taken = { λ _. None };
 
     ghost failures = { λ _. 0 };
@@ -87,6 +89,48 @@ pub fn replace(alloc: Global, want: &mut Want) -> Result<(), Wrong> {
         return Err("a stream is replaced wrong");
     }
     Ok(())
+}
+
+/// `try_stream_replace_all_with`, which leaves the source unread and the sink unwritten where it is refused.
+pub fn replace_with(alloc: Global, want: &mut Want) -> Result<(), Wrong> {
+    let nfa = automaton(alloc, &Builder::new(), &[b"fox"], want)?;
+    let mut input = GIVEN;
+    let mut source = FromRead::new(&mut input);
+    let mut sink = Compare {
+        rest: WRITTEN,
+        differs: false,
+    };
+    match replace_each(alloc, &nfa, &mut source, &mut sink) {
+        Ok(()) => {}
+        Err(StreamError::Memory) => {
+            want.meet()?;
+            if sink.rest != WRITTEN || sink.differs {
+                return Err("a refused replacement has written");
+            }
+            if replace_each(alloc, &nfa, &mut source, &mut sink).is_err() {
+                return Err("a second replacement was refused");
+            }
+        }
+        Err(_) => return Err("a replacement was refused for another cause"),
+    }
+    if sink.differs || !sink.rest.is_empty() {
+        return Err("a stream is replaced wrong");
+    }
+    Ok(())
+}
+
+/// A closure writes the other word for each match.
+fn replace_each<R: Source>(
+    alloc: Global,
+    nfa: &NFA,
+    source: &mut R,
+    sink: &mut Compare<'_>,
+) -> Result<(), StreamError>
+    requires of { (p : Patterns) × ⟦<NFA as Automaton>⟧.is_of nfa.now p }
+{
+    try_stream_replace_all_with(alloc, nfa, source, sink, |_m, _matched, sink| {
+        write_whole(sink, b"sloth")
+    })
 }
 
 /// Looks at what is left of the bytes of a stream that was not begun.
