@@ -1,10 +1,12 @@
 //! What the tables of a few states answer.
 
-ghost use Rattle.std.specs.Prelude.{◌≡◌, length};
+ghost use Rattle.std.specs.Prelude.{◌≡◌, [], length};
 ghost use Rattle.std.specs.Iterator.{IsFinite};
+ghost use Rattle.aho_table.specs.Table.{fail_id, state_at};
 
 use aho_base::error::BuildError;
 use aho_base::search::{PatternID, SmallIndex, StateID, Work};
+use aho_table::alphabet::ByteClassSet;
 use aho_table::links::{DEAD, FAIL, Table};
 use std::alloc::{AllocError, Global};
 use std::process::Abort;
@@ -20,6 +22,7 @@ fn pattern(rt: &impl Abort, number: usize) -> PatternID {
 // A table of two states, with three more entries in each of its tables at most.
 fn two_states(rt: &impl Abort, alloc: Global) -> Table
     ensures two { length result.states ≡ 2 }
+    ensures bare { (state_at result.states fail_id).transitions ≡ [] }
 {
     let mut table = Table::new(alloc, 3).expect(rt, "an empty table");
     assert!(rt; table.is_empty());
@@ -95,6 +98,38 @@ fn iterators_give_what_was_listed(rt: HostRuntime) {
     assert_eq!(rt; table.match_pattern(DEAD, 1), second);
     assert_eq!(rt; table.matches_count(), 3);
     assert_eq!(rt; table.matches(FAIL).count(), 0);
+}
+
+#[test]
+fn a_row_starts_within_the_limit(rt: HostRuntime) {
+    let mut table = two_states(&rt, rt.alloc());
+    let mut borders = ByteClassSet::empty();
+    borders.set_range(b'a', b'a');
+    borders.set_range(0, 9);
+    let classes = borders.byte_classes();
+    assert_eq!(rt; classes.alphabet_len(), 4);
+    assert_eq!(rt;
+        (
+            classes.get(9),
+            classes.get(10),
+            classes.get(b'a'),
+            classes.get(255)
+        ),
+        (0, 1, 2, 3)
+    );
+    table.set_byte_classes(classes);
+    table.add_row(FAIL).expect(&rt, "the row at 1");
+    assert_eq!(rt; table.dense_len(), 5);
+    let above = BuildError::StateIDOverflow {
+        max: 3,
+        requested: 5,
+    };
+    assert!(rt; table.add_row(FAIL) == Err(above));
+    let mut work = Work::new();
+    assert_eq!(rt; table.follow(FAIL, b'a', &mut work), FAIL);
+    lead(&rt, &mut table, b'a', DEAD);
+    assert_eq!(rt; table.follow(FAIL, b'a', &mut work), DEAD);
+    assert_eq!(rt; (work.count(), table.dense_len()), (2, 5));
 }
 
 // The refusal of the entry past the third.
