@@ -31,9 +31,9 @@ impl Remappable for Chain {
     }
 
     fn remap<F: Fn(StateID) -> StateID>(&mut self, map: F) {
-        for name in self.names.iter_mut() {
-            *name = map(*name);
-        }
+        let [first, second, third] = self.names;
+        let names = [map(first), map(second), map(third)];
+        self.names = names;
     }
 }
 
