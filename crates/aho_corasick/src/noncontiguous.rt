@@ -12,6 +12,7 @@ use aho_base::search::{Anchored, MatchKind, PatternID, SmallIndex, StateID, Work
 use aho_build::compiler::Compiled;
 use aho_build::special::Special;
 use aho_build::walk;
+use aho_prefilter::prefilter::Prefilter;
 use aho_search::automaton::Automaton;
 use aho_table::links::{DEAD, Table};
 use std::alloc::{AllocError, Global};
@@ -106,7 +107,8 @@ impl NFA {
             ⟦<NFA as Automaton>⟧.kind ⟦<NFA as Automaton>⟧.lengths ⟦<NFA as Automaton>⟧.list
             ⟦<NFA as Automaton>⟧.dead ⟦<NFA as Automaton>⟧.special ⟦<NFA as Automaton>⟧.starts
             ⟦<NFA as Automaton>⟧.depth ⟦<NFA as Automaton>⟧.next ⟦<NFA as Automaton>⟧.lookups
-            ⟦<NFA as Automaton>⟧.start ⟦<NFA as Automaton>⟧.memory nfa self.now) }
+            ⟦<NFA as Automaton>⟧.start ⟦<NFA as Automaton>⟧.memory
+            ⟦<NFA as Automaton>⟧.prefilter nfa self.now) }
     {
         Ok(NFA {
             match_kind: self.match_kind,
@@ -127,7 +129,7 @@ impl NFA {
 }
 
 impl Automaton for NFA {
-    ghost use Rattle.std.specs.Prelude.{ℕ, nat_eq, Ok};
+    ghost use Rattle.std.specs.Prelude.{ℕ, nat_eq, None, Ok};
     ghost use Rattle.aho_base.specs.Bytes.{folded};
     ghost use Rattle.aho_base.specs.Held.{held_after};
     ghost use Rattle.aho_base.specs.Patterns.{Patterns};
@@ -167,6 +169,8 @@ impl Automaton for NFA {
 
     ghost memory = { λ n. memory_of n.table.states n.pattern_lens.items };
 
+    ghost prefilter = { λ n. None };
+
     fn start_state(&self, anchored: Anchored) -> Result<StateID, MatchError> {
         match anchored {
             Anchored::No => Ok(self.special.start_unanchored_id),
@@ -202,6 +206,10 @@ impl Automaton for NFA {
 
     fn match_kind(&self) -> MatchKind {
         self.match_kind
+    }
+
+    fn prefilter(&self) -> Option<&Prefilter> {
+        None
     }
 
     fn match_len(&self, sid: StateID) -> usize {
@@ -248,6 +256,8 @@ impl Automaton for NFA {
     ghost dead_shallow = { λ n sid valid. dead_shallow_of n.table.states sid n.sound };
 
     ghost starts_shallow = { λ n sid valid. starts_shallow_of n.special n.table.states sid n.starts };
+
+    ghost prefilters = { λ n p of. tt };
 }
 
 /// The least of the lengths, in bytes; the greatest `usize` where there is none.

@@ -5,7 +5,6 @@ use Rattle.aho_base.specs.Iteration.{IsNextFind}
 use Rattle.aho_base.specs.Patterns.{Patterns}
 use Rattle.aho_base.specs.Search.{Search}
 use Rattle.std.specs.declared.alloc.AllocError.{AllocError}
-use Rattle.aho_search.specs.declared.iter.FindIter.{FindIter}
 use Rattle.aho_search.proofs.NextFinds.{find-within}
 use Rattle.aho_search.proofs.RunsLeft.{IsLeft-true, Runs-end, Runs-false, Runs-refused_call, Runs-refused_copy, refused, rest_copied}
 use Rattle.aho_search.proofs.replace.replace_bytes.Goals as goal
