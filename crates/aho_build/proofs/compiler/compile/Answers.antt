@@ -102,6 +102,7 @@ returns-clause-built g c =
     let few : matches_size p ≤ (in_force settings).id + 1 = omega (arith, size, c.facts.ensures.within.matches, limit) in (
       built.0,
       (built.1.0, cause-within settings p built.1.1.1.1.1.0 room few),
+      (
       record {
         kind_is = refl;
         lengths_are = built.1.1.0;
@@ -112,4 +113,6 @@ returns-clause-built g c =
             (c.in_ok-set_anchored_start_state.ensures.transitions holds.listed.anchored_full)
             (c.in_ok-add_unanchored_start_state_loop.ensures.transitions (root_full-led p old mid holds led));
       },
+      (let made = c.in-Ok.ensures.held settings p built.1.1.1.1.1.1 in cc),
+      ),
     )
