@@ -198,7 +198,18 @@ fn candidate_in<W: Walk, T: Text>(walk: &W, text: &T, span: Span) -> Candidate
     }
 }
 
-/// What an unanchored search answers that skips to the next candidate at its beginning and wherever its walk waits.
+/// How many candidates that bring it no further a search asks for.
+const PATIENCE: usize = 32;
+
+/// What is left of a search's patience after a candidate that lies so many bytes further: it costs one, and each of these
+/// bytes gives one back. Once there is none the walk waits no more, since where candidates are dense asking for them costs
+/// more than walking. So a search asks for no more candidates than it skips bytes, and for these few.
+fn patience_after(patience: usize, skipped: usize) -> usize {
+    patience.saturating_add(skipped).saturating_sub(1)
+}
+
+/// What an unanchored search answers that skips to the next candidate at its beginning and wherever its walk waits, as long
+/// as its patience lasts.
 ///
 /// Its clauses are those of `find_in`.
 fn find_skipping<W: Walk, T: Text>(
@@ -231,6 +242,7 @@ fn find_skipping<W: Walk, T: Text>(
 {
     let Span { start, end } = span;
     let mut at = start;
+    let mut patience = PATIENCE;
     'skips: loop {
         let candidate = candidate_in(walk, text, Span { start: at, end });
         if let Candidate::Match(found) = &candidate {
@@ -241,8 +253,9 @@ fn find_skipping<W: Walk, T: Text>(
         let Some(origin) = candidate.into_option() else {
             return None;
         };
-        let part = Span { start: origin, end };
-        match find_from(walk, text, part, Anchored::No, earliest, true, sid) {
+        patience = patience_after(patience, origin.saturating_sub(at));
+        let (part, may_wait) = (Span { start: origin, end }, patience > 0);
+        match find_from(walk, text, part, Anchored::No, earliest, may_wait, sid) {
             Walked::Answer(found) => return found,
             Walked::Waits(place, next) => {
                 at = place;
