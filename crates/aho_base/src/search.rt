@@ -1,16 +1,14 @@
-//! Spans, matches, match kinds and inputs, with the numbers, texts and counters that searches use.
+//! Spans, matches, match kinds and inputs, with the numbers and counters that searches use.
 
 ghost use Rattle.std.specs.Prelude.{◌≡◌, ◌+◌, ◌-◌, ◌<◌, ◌≤◌, ◌^◌, ◌↔◌, length, IsTrue};
 
 pub mod primitives;
-pub mod text;
 pub mod work;
 
 pub use primitives::{
     PatternID, PatternIDError, SmallIndex, SmallIndexError, StateID, StateIDError,
 };
 use std::marker::Model;
-pub use text::{Bytes, Text};
 pub use work::Work;
 
 /// A range of a haystack in bytes, from `start` up to, and without, `end`.

@@ -1,6 +1,6 @@
 -- The laws of the automaton that a table is.
 use Rattle.std.proofs.Common.{◌≡◌, ◌⊎◌, ℕ, inl, inr, Bool, true, false, ◌||◌, List, [], ◌∷◌, ◌++◌, length, refl, sym, ◌∙◌, ap, subst, arith}
-use Rattle.std.specs.Prelude.{Option, Some, None, nat_eq, nat_lt}
+use Rattle.std.specs.Prelude.{Option, Some, None, nat_eq, nat_lt, ◌&&◌}
 use Rattle.std.proofs.lemmas.Bool.{cases_eq, cond-true, eqb-true, lt-ltb}
 use Rattle.std.proofs.lemmas.Bool.Decides.{nat_tests}
 use Rattle.aho_base.specs.declared.search.Anchored.{Anchored}
@@ -72,13 +72,13 @@ goes_on_of p special states anchored word byte sid next h follows = λ names aut
     (follows p special names (held_after p anchored word) automaton (h names automaton))
 
 -- a state that is not special is not dead, and lists nothing
-pub plain_of : (states : List State) (sid : ℕ) → is_special_in states sid ≡ false → (nat_eq sid dead_id ≡ false) × (matches_in states sid ≡ [])
-plain_of states sid e = parts (nat_eq sid 0) (matches_in states sid) e
+pub plain_of : (skips : Bool) (special : Special) (states : List State) (sid : ℕ) → is_special_in skips special states sid ≡ false → (nat_eq sid dead_id ≡ false) × (matches_in states sid ≡ [])
+plain_of skips special states sid e = parts (nat_eq sid 0) (matches_in states sid) (skips && is_start_in special sid) e
   where
-    parts : (dead : Bool) (list : List ℕ) → (dead || nat_lt 0 (length list)) ≡ false → (dead ≡ false) × (list ≡ [])
-    parts true list e = cc
-    parts false [] e = (refl, refl)
-    parts false (x ∷ xs) e = let clash : true ≡ false = sym (lt-ltb 0 (length (x ∷ xs)) (omega arith)) ∙ e in cc
+    parts : (dead : Bool) (list : List ℕ) (skipped : Bool) → (dead || (nat_lt 0 (length list) || skipped)) ≡ false → (dead ≡ false) × (list ≡ [])
+    parts true list skipped e = cc
+    parts false [] skipped e = (refl, refl)
+    parts false (x ∷ xs) skipped e = let clash : true ≡ false = subst (λ (b : Bool). (b || skipped) ≡ false) (lt-ltb 0 (length (x ∷ xs)) (omega arith)) e in cc
 
 -- DEAD is no deeper than the start
 pub dead_shallow_of : (states : List State) (sid : ℕ) → IsSound states → nat_eq sid dead_id ≡ true → depth_in states sid ≡ 0

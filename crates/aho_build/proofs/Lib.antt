@@ -43,3 +43,5 @@ pub mod SizeChecks
 pub mod AutomatonStates
 pub mod SoundAutomata
 pub mod AutomatonLaws
+-- What is held is a prefilter of the patterns.
+pub mod HeldPrefilters

@@ -10,7 +10,10 @@ use Rattle.aho_base.specs.Among.{is_node_among, own_among}
 use Rattle.aho_base.specs.Bytes.{folded_word}
 use Rattle.aho_base.specs.Patterns.{Patterns}
 use Rattle.aho_base.specs.Trie.{begins, is_kept, is_word, kept_by, pattern_word}
+use Rattle.aho_build.specs.Prefilters.{Collects}
+use Rattle.aho_build.specs.declared.compiler.prefilter.PrefilterPatterns.{PrefilterPatterns}
 use Rattle.aho_build.specs.declared.settings.Settings.{Settings}
+use Rattle.aho_prefilter.specs.Prefilter.{with_word}
 use Rattle.aho_build.specs.TrieGrowth.{IsNumbered, AwaitsWord, AddsPattern}
 use Rattle.aho_build.specs.Trie.{HoldsFirst, HoldsTrie, names_before, names_of, longer, missing_at, IsTrie, IsTrieOf}
 use Rattle.aho_build.specs.Items.{patterns_of}
@@ -168,6 +171,11 @@ module _ (settings : Settings) (items : List (Bor (List ℕ))) (item : Bor (List
 
   pub words_next : map (λ (i : Bor (List ℕ)). i.now) (items ++ item ∷ []) ≡ words_before ++ item.now ∷ []
   words_next = map-append (λ (i : Bor (List ℕ)). i.now) items (item ∷ [])
+
+  -- what was collected for a prefilter, with one pattern more
+  pub Collects-next : (collected : PrefilterPatterns) → Collects settings (with_word (patterns_of settings items) item.now) collected → Collects settings patterns_next collected
+  Collects-next collected =
+      subst (λ (words : List (List ℕ)). Collects settings (record { words = words; kind = settings.kind; ignore_case = settings.ignore_case }) collected) (sym words_next)
 
   pub IsNumbered-next : (number : ℕ) → number ≡ length words_before → IsNumbered patterns_next number settings item.now
   IsNumbered-next number e = record {

@@ -1,6 +1,6 @@
 -- What it means that a table is the automaton of some patterns, whatever numbers its states have, and which of its states
 -- may be held after a word.
-use Rattle.std.specs.Prelude.{◌≡◌, ◌≢◌, ℕ, ◌+◌, ◌*◌, ◌<◌, ◌||◌, if◌then◌else◌, Bool, true, List, [], ◌∷◌, map, length, nat_eq, nat_lt, Option, Some, None, MatchBool}
+use Rattle.std.specs.Prelude.{◌≡◌, ◌≢◌, ℕ, ◌+◌, ◌*◌, ◌<◌, ◌||◌, ◌&&◌, if◌then◌else◌, Bool, true, List, [], ◌∷◌, map, length, nat_eq, nat_lt, Option, Some, None, MatchBool}
 use Rattle.aho_base.specs.declared.search.Anchored.{Anchored}
 use Rattle.aho_base.specs.declared.search.Anchored.TheVariants.{No, Yes}
 use Rattle.aho_base.specs.declared.search.MatchKind.{MatchKind}
@@ -107,13 +107,13 @@ abbrev pub start_of : Special → Anchored → ℕ
 start_of special No = special.start_unanchored_id
 start_of special Yes = special.start_anchored_id
 
--- a state that a search has to look at: DEAD, or one that lists a pattern
-abbrev pub is_special_in : List State → ℕ → Bool
-is_special_in states sid = nat_eq sid dead_id || nat_lt 0 (length (matches_in states sid))
-
 -- whether the state is one of the starts
 abbrev pub is_start_in : Special → ℕ → Bool
 is_start_in special sid = nat_eq sid special.start_unanchored_id || nat_eq sid special.start_anchored_id
+
+-- a state that a search has to look at: DEAD, or one that lists a pattern, or, where the search may skip from it, a start
+abbrev pub is_special_in : Bool → Special → List State → ℕ → Bool
+is_special_in skips special states sid = nat_eq sid dead_id || (nat_lt 0 (length (matches_in states sid)) || (skips && is_start_in special sid))
 
 -- the bytes of all tables: stated sizes for each state, transition, listed pattern, pattern length, and the dummy of the
 -- dense table

@@ -6,6 +6,7 @@ pub mod Trie
 pub mod TrieGrowth
 pub mod Refusals
 pub mod Items
+pub mod Prefilters
 pub mod Starts
 pub mod FailureLinks
 pub mod Built

@@ -1,12 +1,14 @@
 //! The phases of a build, in their order.
 
-ghost use Rattle.std.specs.Prelude.{◌+◌, ◌≤◌, length, IfOk, IfErr};
+ghost use Rattle.std.specs.Prelude.{◌≡◌, ◌+◌, ◌≤◌, length, IfOk, IfErr};
 ghost use Rattle.std.specs.Iterator.{IsFinite};
 ghost use Rattle.aho_build.specs.Automaton.{IsOf};
 ghost use Rattle.aho_build.specs.Items.{IsFailure, OfAccepted};
+ghost use Rattle.aho_build.specs.Prefilters.{held_by};
 ghost use Rattle.aho_base.specs.Numbers.{greatest_index};
 
 pub mod failure;
+pub mod prefilter;
 pub mod starts;
 pub mod trie;
 
@@ -14,6 +16,7 @@ use crate::settings::Settings;
 use crate::special::Special;
 use aho_base::error::BuildError;
 use aho_base::search::SmallIndex;
+use aho_prefilter::prefilter::Prefilter;
 use aho_table::links::Table;
 use std::alloc::Global;
 use trie::Trie;
@@ -26,6 +29,8 @@ pub struct Compiled {
     pub pattern_lens: Vec<SmallIndex>,
     /// Where its searches start.
     pub special: Special,
+    /// One of the patterns, all of them, where there is one and the settings want it.
+    pub prefilter: Option<Prefilter>,
     ghost counted: { length pattern_lens.items ≤ greatest_index + 1 },
 }
 
@@ -45,7 +50,8 @@ pub fn compile<'p, I: Iterator<Item = &'p [u8]> + Drop>(
     requires ends { IsFinite (I.remaining patterns) }
     ensures built { IfOk result (λ compiled. OfAccepted I.next_gives patterns settings.now
         (λ p. IsOf p settings.now.kind compiled.pattern_lens.items
-        compiled.special compiled.table.states)) }
+        compiled.special compiled.table.states
+        × (compiled.prefilter ≡ held_by settings.now p))) }
     ensures refused { IfErr result (IsFailure I.next_gives patterns settings.now) }
 {
     let mut trie = trie::build_trie(alloc, settings, patterns)?;
@@ -54,11 +60,15 @@ pub fn compile<'p, I: Iterator<Item = &'p [u8]> + Drop>(
     failure::add_unanchored_start_state_loop(table, settings.kind)?;
     // Dense rows come here: the links are then followed through them.
     failure::fill_failure_transitions(alloc, table, settings.kind)?;
-    // Shuffling comes here, and after it the prefilter.
+    // Shuffling comes here.
     trie.table.facts();
+    let Ok(prefilter) = trie.prefilter.build() else {
+        return Err(BuildError::OutOfMemory);
+    };
     Ok(Compiled {
         table: trie.table,
         pattern_lens: trie.lens,
         special: Special::in_order_of_creation(),
+        prefilter,
     })
 }

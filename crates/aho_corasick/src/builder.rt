@@ -41,6 +41,7 @@ impl Builder {
     ghost use Rattle.std.specs.Prelude.{IfOk, IfErr};
     ghost use Rattle.std.specs.Iterator.{IsFinite};
     ghost use Rattle.aho_build.specs.Items.{IsFailure, OfAccepted};
+    ghost use Rattle.aho_build.specs.Prefilters.{held_by};
 
     /// Standard, with regard to case, dense rows up to depth 3, a prefilter where one can be held, and the greatest limits.
     pub fn new() -> Builder
@@ -68,6 +69,8 @@ impl Builder {
         requires ends { IsFinite (I.remaining patterns) }
         ensures built { IfOk result (λ nfa.
             OfAccepted I.next_gives patterns self.now (⟦<NFA as Automaton>⟧.is_of nfa)) }
+        ensures held { IfOk result (λ nfa. OfAccepted I.next_gives patterns self.now
+            (λ p. ⟦<NFA as Automaton>⟧.prefilter nfa ≡ held_by self.now p)) }
         ensures refused { IfErr result (IsFailure I.next_gives patterns self.now) }
     {
         let compiled = compiler::compile(alloc, &self.settings, patterns)?;

@@ -1,10 +1,11 @@
 //! The noncontiguous automaton: its states are the nodes of the trie of the patterns, and a byte that leads to no node is
 //! looked for further down the failure links.
 
-ghost use Rattle.std.specs.Prelude.{◌≡◌, ◌≤◌, ℕ, length};
+ghost use Rattle.std.specs.Prelude.{◌≡◌, ◌<◌, ◌≤◌, ◌^◌, ℕ, length, IfOk};
 ghost use Rattle.aho_base.specs.Laws.{shortest, longest};
 ghost use Rattle.aho_base.specs.Numbers.{greatest_index};
 ghost use Rattle.aho_build.specs.Walking.{IsSound, AreStarts};
+ghost use Rattle.aho_prefilter.specs.Prefilter.{prefilter_bytes};
 
 pub use crate::builder::{Builder, Limits};
 use aho_base::error::{BuildError, MatchError};
@@ -12,6 +13,7 @@ use aho_base::search::{Anchored, MatchKind, PatternID, SmallIndex, StateID, Work
 use aho_build::compiler::Compiled;
 use aho_build::special::Special;
 use aho_build::walk;
+use aho_prefilter::prefilter::Prefilter;
 use aho_search::automaton::Automaton;
 use aho_table::links::{DEAD, Table};
 use std::alloc::{AllocError, Global};
@@ -35,6 +37,7 @@ pub struct NFA {
     pattern_lens: Vec<SmallIndex>,
     min_pattern_len: usize,
     max_pattern_len: usize,
+    prefilter: Option<Prefilter>,
     ghost sound: { IsSound table.states },
     ghost starts: { AreStarts special table.states },
     ghost shortest: { min_pattern_len ≡ shortest pattern_lens.items },
@@ -44,13 +47,15 @@ pub struct NFA {
 }
 
 impl NFA {
-    ghost use Rattle.std.specs.Prelude.{ℕ, List, IfOk, IfErr};
+    ghost use Rattle.std.specs.Prelude.{ℕ, List, IfOk, IfErr, IfSome};
     ghost use Rattle.std.specs.Iterator.{IsFinite};
     ghost use Rattle.aho_base.specs.declared.search.Anchored.{Anchored};
     ghost use Rattle.aho_base.specs.Patterns.{Patterns};
     ghost use Rattle.aho_build.specs.Automaton.{IsOf};
     ghost use Rattle.aho_build.specs.Items.{IsFailure, OfAccepted};
+    ghost use Rattle.aho_build.specs.Prefilters.{held_by};
     ghost use Rattle.aho_build.specs.Settings.{default_settings};
+    ghost use Rattle.aho_prefilter.specs.Prefilter.{IsPrefilterOf};
     ghost use Rattle.aho_search.specs.Clones.{IsCloneOf};
 
     /// The automaton of these patterns, as a new `Builder` builds it.
@@ -67,6 +72,8 @@ impl NFA {
         requires ends { IsFinite (I.remaining patterns) }
         ensures built { IfOk result (λ nfa.
             OfAccepted I.next_gives patterns default_settings (⟦<NFA as Automaton>⟧.is_of nfa)) }
+        ensures held { IfOk result (λ nfa. OfAccepted I.next_gives patterns default_settings
+            (λ p. ⟦<NFA as Automaton>⟧.prefilter nfa ≡ held_by default_settings p)) }
         ensures refused { IfErr result (IsFailure I.next_gives patterns default_settings) }
     {
         Builder::new().build(alloc, patterns)
@@ -78,12 +85,15 @@ impl NFA {
             × IsOf p kind compiled.pattern_lens.items compiled.special compiled.table.states }
         ensures of { (p : Patterns)
             → IsOf p kind compiled.pattern_lens.items compiled.special compiled.table.states
+            → IfSome compiled.prefilter (λ searcher. IsPrefilterOf searcher p)
             → ⟦<NFA as Automaton>⟧.is_of result p }
+        ensures held { ⟦<NFA as Automaton>⟧.prefilter result ≡ compiled.prefilter }
     {
         let Compiled {
             table,
             pattern_lens,
             special,
+            prefilter,
         } = compiled;
         NFA {
             match_kind: kind,
@@ -92,6 +102,7 @@ impl NFA {
             table,
             special,
             pattern_lens,
+            prefilter,
         }
     }
 
@@ -106,7 +117,8 @@ impl NFA {
             ⟦<NFA as Automaton>⟧.kind ⟦<NFA as Automaton>⟧.lengths ⟦<NFA as Automaton>⟧.list
             ⟦<NFA as Automaton>⟧.dead ⟦<NFA as Automaton>⟧.special ⟦<NFA as Automaton>⟧.starts
             ⟦<NFA as Automaton>⟧.depth ⟦<NFA as Automaton>⟧.next ⟦<NFA as Automaton>⟧.lookups
-            ⟦<NFA as Automaton>⟧.start ⟦<NFA as Automaton>⟧.memory nfa self.now) }
+            ⟦<NFA as Automaton>⟧.start ⟦<NFA as Automaton>⟧.memory
+            ⟦<NFA as Automaton>⟧.prefilter nfa self.now) }
     {
         Ok(NFA {
             match_kind: self.match_kind,
@@ -115,6 +127,7 @@ impl NFA {
             pattern_lens: self.pattern_lens.clone()?,
             min_pattern_len: self.min_pattern_len,
             max_pattern_len: self.max_pattern_len,
+            prefilter: clone_of(&self.prefilter)?,
         })
     }
 
@@ -127,18 +140,20 @@ impl NFA {
 }
 
 impl Automaton for NFA {
-    ghost use Rattle.std.specs.Prelude.{ℕ, nat_eq, Ok};
+    ghost use Rattle.std.specs.Prelude.{◌+◌, ℕ, IfSome, is_some, nat_eq, Ok};
     ghost use Rattle.aho_base.specs.Bytes.{folded};
     ghost use Rattle.aho_base.specs.Held.{held_after};
     ghost use Rattle.aho_base.specs.Patterns.{Patterns};
     ghost use Rattle.aho_base.specs.Step.{lookups};
     ghost use Rattle.aho_build.specs.Automaton.{IsOf, IsHeld, start_of, is_special_in, is_start_in, memory_of};
     ghost use Rattle.aho_build.specs.Sizes.{memory_size};
+    ghost use Rattle.aho_prefilter.specs.Prefilter.{IsPrefilterOf};
     ghost use Rattle.aho_table.specs.Table.{dead_id, depth_in, matches_in};
     ghost use Rattle.aho_build.specs.Walking.{IsState, step_in};
     ghost use Rattle.aho_build.proofs.AutomatonLaws.{reads_of, plain_of, dead_shallow_of, starts_shallow_of};
 
-    ghost is_of = { λ n p. IsOf p n.match_kind n.pattern_lens.items n.special n.table.states };
+    ghost is_of = { λ n p. IsOf p n.match_kind n.pattern_lens.items n.special n.table.states
+        × IfSome n.prefilter (λ searcher. IsPrefilterOf searcher p) };
 
     ghost held = { λ n p anchored word sid. IsHeld p n.special n.table.states anchored word sid };
 
@@ -152,7 +167,7 @@ impl Automaton for NFA {
 
     ghost dead = { λ n sid. nat_eq sid dead_id };
 
-    ghost special = { λ n sid. is_special_in n.table.states sid };
+    ghost special = { λ n sid. is_special_in (is_some n.prefilter) n.special n.table.states sid };
 
     ghost starts = { λ n sid. is_start_in n.special sid };
 
@@ -165,7 +180,9 @@ impl Automaton for NFA {
 
     ghost start = { λ n anchored. Ok (start_of n.special anchored) };
 
-    ghost memory = { λ n. memory_of n.table.states n.pattern_lens.items };
+    ghost memory = { λ n. memory_of n.table.states n.pattern_lens.items + prefilter_bytes n.prefilter };
+
+    ghost prefilter = { λ n. n.prefilter };
 
     fn start_state(&self, anchored: Anchored) -> Result<StateID, MatchError> {
         match anchored {
@@ -184,8 +201,11 @@ impl Automaton for NFA {
         walk::step(&self.table, anchored, sid, byte, work)
     }
 
+    /// Where a prefilter is held, each start is special too.
     fn is_special(&self, sid: StateID) -> bool {
-        sid == DEAD || self.table.match_len(sid) > 0
+        sid == DEAD
+            || self.table.match_len(sid) > 0
+            || (self.prefilter.is_some() && self.is_start(sid))
     }
 
     fn is_dead(&self, sid: StateID) -> bool {
@@ -202,6 +222,10 @@ impl Automaton for NFA {
 
     fn match_kind(&self) -> MatchKind {
         self.match_kind
+    }
+
+    fn prefilter(&self) -> Option<&Prefilter> {
+        self.prefilter.as_ref()
     }
 
     fn match_len(&self, sid: StateID) -> usize {
@@ -228,26 +252,30 @@ impl Automaton for NFA {
         self.max_pattern_len
     }
 
-    /// For the automaton of some patterns it is their `memory_size`: stated sizes, whatever its vectors take.
+    /// For the automaton of some patterns it is their `memory_size`, stated sizes, whatever its vectors take; and what its
+    /// prefilter holds.
     fn memory_usage(&self) -> usize
         ensures memory { result ≡ ⟦<NFA as Automaton>⟧.memory self.now }
         ensures exact { (p : Patterns) → ⟦<NFA as Automaton>⟧.is_of self.now p
-            → result ≡ memory_size p }
+            → result ≡ memory_size p + prefilter_bytes (⟦<NFA as Automaton>⟧.prefilter self.now) }
     {
         20 * self.table.len()
             + 9 * self.table.transitions_count()
             + 8 * self.table.matches_count()
             + 4
             + 4 * self.pattern_lens.len()
+            + bytes_of(&self.prefilter)
     }
 
-    ghost laws = { λ n p of. reads_of p n.match_kind n.pattern_lens.items n.special n.table.states of };
+    ghost laws = { λ n p of. reads_of p n.match_kind n.pattern_lens.items n.special n.table.states of.0 };
 
-    ghost plain = { λ n sid valid. plain_of n.table.states sid };
+    ghost plain = { λ n sid valid. plain_of (is_some n.prefilter) n.special n.table.states sid };
 
     ghost dead_shallow = { λ n sid valid. dead_shallow_of n.table.states sid n.sound };
 
     ghost starts_shallow = { λ n sid valid. starts_shallow_of n.special n.table.states sid n.starts };
+
+    ghost prefilters = { λ n p of. of.1 };
 }
 
 /// The least of the lengths, in bytes; the greatest `usize` where there is none.
@@ -271,4 +299,25 @@ fn longest_len(lens: &[SmallIndex]) -> usize
         most = most.max(len.as_usize());
     }
     most
+}
+
+/// The bytes that a prefilter holds, where there is one.
+fn bytes_of(prefilter: &Option<Prefilter>) -> usize
+    ensures bytes { result ≡ prefilter_bytes prefilter.now }
+    ensures bound { result < 2 ^ 63 }
+{
+    match prefilter {
+        Some(prefilter) => prefilter.memory_usage(),
+        None => 0,
+    }
+}
+
+/// The same prefilter, or none.
+fn clone_of(prefilter: &Option<Prefilter>) -> Result<Option<Prefilter>, AllocError>
+    ensures same { IfOk result (λ copy. copy ≡ prefilter.now) }
+{
+    match prefilter {
+        Some(prefilter) => Ok(Some(prefilter.try_clone()?)),
+        None => Ok(None),
+    }
 }

@@ -36,6 +36,11 @@ bytes_held (Memchr x) = 0
 bytes_held (Memchr2 x y) = 0
 bytes_held (Memchr3 x y z) = 0
 
+-- the same where it may be that none is held
+abbrev pub prefilter_bytes : Option Searcher → ℕ
+prefilter_bytes None = 0
+prefilter_bytes (Some searcher) = bytes_held searcher
+
 -- whether it is a search for a whole pattern, which it holds a copy of
 abbrev pub is_whole : Searcher → Bool
 is_whole (Memmem needle) = true

@@ -1,6 +1,6 @@
 //! What a prefilter holds, and what it answers.
 
-ghost use Rattle.std.specs.Prelude.{◌≡◌, ◌≤◌, length, true, IfOk, IfErr};
+ghost use Rattle.std.specs.Prelude.{◌≡◌, ◌<◌, ◌≤◌, ◌^◌, length, true, IfOk, IfErr};
 ghost use Rattle.aho_base.specs.Patterns.{Patterns};
 ghost use Rattle.aho_prefilter.specs.Candidate.{IsCandidate, place_of};
 ghost use Rattle.aho_prefilter.specs.Finding.{FindsFirst, StopsFirst};
@@ -8,11 +8,12 @@ ghost use Rattle.aho_prefilter.specs.Prefilter.{IsPrefilterOf, is_whole, bytes_h
 
 mod builder;
 mod first_bytes;
+mod needle;
 
 use aho_base::search::{Match, PatternID, Span};
 pub use builder::PrefilterBuilder;
-use memchr::memmem::Finder;
 use memchr::{memchr, memchr2, memchr3};
+use needle::Needle;
 use std::alloc::AllocError;
 use std::marker::Model;
 
@@ -44,7 +45,7 @@ impl Candidate {
 #[derive(Drop)]
 enum Searcher {
     /// For the only pattern, as a whole.
-    Memmem(Finder<'static>),
+    Memmem(Needle),
     /// For the one byte with which patterns begin.
     Memchr(u8),
     /// For two such bytes.
@@ -59,7 +60,7 @@ impl Searcher {
         ensures first { StopsFirst self.now part.now result }
     {
         match self {
-            Searcher::Memmem(finder) => finder.find(part),
+            Searcher::Memmem(needle) => needle.find(part),
             Searcher::Memchr(x) => memchr(*x, part),
             Searcher::Memchr2(x, y) => memchr2(*x, *y, part),
             Searcher::Memchr3(x, y, z) => memchr3(*x, *y, *z, part),
@@ -100,10 +101,10 @@ impl Prefilter {
             return Candidate::None;
         };
         let start = span.start + at;
-        let Searcher::Memmem(finder) = &self.searcher else {
+        let Searcher::Memmem(needle) = &self.searcher else {
             return Candidate::PossibleStartOfMatch(start);
         };
-        let end = start + finder.needle().len();
+        let end = start + needle.len();
         let pattern = PatternID::new_unchecked(0);
         Candidate::Match(Match::new(pattern, Span { start, end }))
     }
@@ -111,9 +112,10 @@ impl Prefilter {
     /// How many bytes of memory it holds: those of the pattern that is searched for as a whole.
     pub fn memory_usage(&self) -> usize
         ensures memory_usage { result ≡ bytes_held self.now }
+        ensures bound { result < 2 ^ 63 }
     {
         match &self.searcher {
-            Searcher::Memmem(finder) => finder.needle().len(),
+            Searcher::Memmem(needle) => needle.len(),
             Searcher::Memchr(_) | Searcher::Memchr2(_, _) | Searcher::Memchr3(_, _, _) => 0,
         }
     }
@@ -128,7 +130,7 @@ impl Prefilter {
         ensures wanted { IfErr result (λ _. is_whole self.now ≡ true) }
     {
         let searcher = match &self.searcher {
-            Searcher::Memmem(finder) => Searcher::Memmem(finder.clone()?),
+            Searcher::Memmem(needle) => Searcher::Memmem(needle.try_clone()?),
             Searcher::Memchr(x) => Searcher::Memchr(*x),
             Searcher::Memchr2(x, y) => Searcher::Memchr2(*x, *y),
             Searcher::Memchr3(x, y, z) => Searcher::Memchr3(*x, *y, *z),

@@ -11,3 +11,5 @@ pub mod Gives
 pub mod Drained
 pub mod NextFinds
 pub mod RunsLeft
+-- a search that skips
+pub mod Skipping

@@ -5,9 +5,10 @@
 //! a search off these lists. What it takes for that to be the right answer are the trait's laws: whoever implements the
 //! trait proves them once, and each search is proved from them alone.
 
-ghost use Rattle.std.specs.Prelude.{◌≡◌, ℕ, List, [], ◌∷◌, ◌++◌, Bool, true, false, Option, Result, IsOk, IfOk, IfErr, Ok, Err, None, Some, ◌+◌, ◌-◌, ◌<◌, ◌≤◌, ◌^◌, ◌↔◌, IsTrue, length, slice_get, slice_index, ◌≢◌, ◌*◌, min, OnOk, alloc_error, string_bytes, take, vec_items};
+ghost use Rattle.std.specs.Prelude.{◌≡◌, ℕ, List, [], ◌∷◌, ◌++◌, Bool, true, false, Option, Result, IsOk, IfOk, IfErr, Ok, Err, None, Some, IfSome, ◌+◌, ◌-◌, ◌<◌, ◌≤◌, ◌^◌, ◌↔◌, IsTrue, length, slice_get, slice_index, ◌≢◌, ◌*◌, min, OnOk, alloc_error, string_bytes, take, vec_items};
 ghost use Rattle.std.specs.Iterator.{UpTo};
 ghost use Rattle.std.specs.Iterator.Runs.{EachRunFrom};
+ghost use Rattle.std.specs.Option.{option_map};
 ghost use Rattle.aho_base.specs.Answer.{IsAnswer};
 ghost use Rattle.aho_base.specs.ClosureRun.{RunsInMemory};
 ghost use Rattle.aho_base.specs.Iteration.{AreFinds};
@@ -28,6 +29,8 @@ ghost use Rattle.aho_base.specs.declared.search.Anchored.TheVariants.{No, Yes};
 ghost use Rattle.aho_base.specs.declared.search.MatchKind.{MatchKind};
 ghost use Rattle.aho_base.specs.declared.search.MatchKind.TheVariants.{Standard};
 ghost use Rattle.aho_base.specs.Steps.{GoesOn, IsPaid};
+ghost use Rattle.aho_prefilter.specs.Prefilter.{IsPrefilterOf};
+ghost use Rattle.aho_prefilter.specs.declared.prefilter.Searcher.{Searcher};
 ghost use Rattle.aho_search.specs.Finding.{AreFirstFinds};
 ghost use Rattle.aho_search.specs.Overlaps.{IsFused};
 
@@ -38,7 +41,9 @@ pub use crate::overlapping::{FindOverlappingIter, OverlappingState};
 use crate::replace::{append_piece, append_text, replace_bytes, replace_text};
 pub use crate::walk::{Counted, Walk};
 use aho_base::error::{MatchError, ReplaceError};
-use aho_base::search::{Anchored, Bytes, Input, Match, MatchKind, PatternID, Span, StateID, Work};
+use aho_base::search::{Anchored, Input, Match, MatchKind, PatternID, Span, StateID, Work};
+use aho_prefilter::prefilter::Prefilter;
+use aho_prefilter::text::Bytes;
 use std::alloc::{AllocError, Global};
 
 /// An automaton that reads bytes, and tells the best match that ends where it stands.
@@ -84,6 +89,9 @@ pub trait Automaton {
 
     /// The bytes of memory that it holds.
     ghost memory: { Self → ℕ };
+
+    /// The search of the prefilter that is held.
+    ghost prefilter: { Self → Option Searcher };
 
     /// The state in which a search begins.
     ///
@@ -147,6 +155,11 @@ pub trait Automaton {
     fn match_kind(&self) -> MatchKind
         ensures kind { result ≡ kind self.now };
 
+    /// A prefilter of the patterns, where one is held: a quick search for a place where a match may start. Unanchored
+    /// searches skip by it.
+    fn prefilter(&self) -> Option<&Prefilter>
+        ensures prefilter { option_map (λ held. held.now) result ≡ prefilter self.now };
+
     /// How many patterns the state lists.
     fn match_len(&self, sid: StateID) -> usize
         requires valid { valid self.now sid }
@@ -196,6 +209,10 @@ pub trait Automaton {
     /// Nor is any start.
     ghost starts_shallow: { (a : Self) (sid : ℕ) → valid a sid → starts a sid ≡ true →
         depth a sid ≡ 0 };
+
+    /// What is held is a prefilter of the patterns.
+    ghost prefilters: { (a : Self) (p : Patterns) → is_of a p →
+        IfSome (prefilter a) (λ searcher. IsPrefilterOf searcher p) };
 
     /// The match that the input's search finds: the best by the automaton's match kind or, where the input asks for
     /// the earliest, the best of those that end first. None is found where nothing matches.
@@ -545,6 +562,8 @@ impl<A: Automaton> Automaton for &A {
 
     ghost memory = { λ a. A.memory a.now };
 
+    ghost prefilter = { λ a. A.prefilter a.now };
+
     fn start_state(&self, anchored: Anchored) -> Result<StateID, MatchError> {
         (**self).start_state(anchored)
     }
@@ -575,6 +594,10 @@ impl<A: Automaton> Automaton for &A {
 
     fn match_kind(&self) -> MatchKind {
         (**self).match_kind()
+    }
+
+    fn prefilter(&self) -> Option<&Prefilter> {
+        (**self).prefilter()
     }
 
     fn match_len(&self, sid: StateID) -> usize {
@@ -612,4 +635,6 @@ impl<A: Automaton> Automaton for &A {
     ghost dead_shallow = { λ a. A.dead_shallow a.now };
 
     ghost starts_shallow = { λ a. A.starts_shallow a.now };
+
+    ghost prefilters = { λ a. A.prefilters a.now };
 }

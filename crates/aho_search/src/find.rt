@@ -29,7 +29,7 @@
 //! look-ups are paid by depth: with each byte, the look-ups so far and the state's depth grow together by at most two.
 //! The depth is 0 at the start and never less. So a walk makes at most two look-ups for each byte that it reads.
 
-ghost use Rattle.std.specs.Prelude.{◌≡◌, ℕ, [], ◌+◌, ◌-◌, ◌*◌, ◌<◌, ◌≤◌, ◌^◌, IsOk, IfOk, IfErr, Ok, Err, None, Some, Result, length};
+ghost use Rattle.std.specs.Prelude.{◌≡◌, ℕ, [], ◌+◌, ◌-◌, ◌*◌, ◌<◌, ◌≤◌, ◌^◌, IsOk, IfOk, IfErr, Ok, Err, None, Some, IsSome, Result, length, true};
 ghost use Rattle.aho_base.specs.Answer.{IsAnswer};
 ghost use Rattle.aho_base.specs.Laws.{Fits, first_is_answer, furthest, longest, told};
 ghost use Rattle.aho_base.specs.Occurrence.{Occurrence};
@@ -37,11 +37,16 @@ ghost use Rattle.aho_base.specs.Patterns.{Patterns};
 ghost use Rattle.aho_base.specs.Search.{search_of};
 ghost use Rattle.aho_base.specs.declared.error.MatchErrorKind.{MatchErrorKind};
 ghost use Rattle.aho_base.specs.declared.search.Anchored.TheVariants.{No, Yes};
+ghost use Rattle.aho_prefilter.specs.Candidate.{IsCandidate};
 ghost use Rattle.aho_search.specs.Reading.{ReadsUpTo};
+ghost use Rattle.aho_search.specs.Walked.{AnswersSearch, WaitsFor, WaitsIn, WaitsOnlyIf, WaitsWithin};
+ghost use Rattle.aho_search.specs.declared.find.Walked.TheVariants.{Answer};
 
 use crate::walk::Walk;
 use aho_base::error::MatchError;
-use aho_base::search::{Anchored, Match, MatchKind, Span, StateID, Text};
+use aho_base::search::{Anchored, Match, MatchKind, Span, StateID};
+use aho_prefilter::prefilter::Candidate;
+use aho_prefilter::text::Text;
 
 /// The match that a state tells at a place of a search from `start`: the first pattern that it lists, which ends there.
 ///
@@ -85,34 +90,61 @@ fn stops_at_first<W: Walk>(walk: &W, earliest: bool) -> bool
     }
 }
 
-/// What a search from a state that is held after no byte answers, over the bytes of a span that is not done.
+/// How a walk ends.
+#[derive(Clone, Copy)]
+enum Walked {
+    /// With the search's answer.
+    Answer(Option<Match>),
+    /// At a place where a start is held and nothing was found: with the place and the start.
+    Waits(usize, StateID),
+}
+
+/// Whether a walk that may wait waits in a state.
+fn waits_in<W: Walk>(walk: &W, may_wait: bool, best: &Option<Match>, sid: StateID) -> bool
+    requires valid { W.Of.valid (W.of walk.now) sid }
+    ensures waits { result ≡ true → (may_wait ≡ true) × (best.now ≡ None)
+        × (W.Of.starts (W.of walk.now) sid ≡ true) }
+{
+    may_wait && best.is_none() && walk.is_start(sid)
+}
+
+/// The walk of a search from a state that is held after no byte, over the bytes of a span that is not done.
 ///
-/// Its clauses are those of `find_in`, which says what they mean.
+/// Where it may wait, it ends in the first start that it is led to with nothing found. The clauses on its answer are those of
+/// `find_in`, which says what they mean.
 fn find_from<W: Walk, T: Text>(
     walk: &mut W,
     text: &mut T,
     span: Span,
     anchored: Anchored,
     earliest: bool,
+    may_wait: bool,
     mut sid: StateID,
-) -> Option<Match>
+) -> Walked
     requires within { span.end ≤ length (T.bytes text.old) }
     requires ordered { span.start ≤ span.end }
     requires unread { T.next text.old ≤ span.start }
     requires room { W.lookups walk.old + 2 * (span.end - span.start) < 2 ^ 128 }
     requires of { (p : Patterns) × W.Of.is_of (W.of walk.old) p }
     requires valid { W.Of.valid (W.of walk.old) sid }
+    requires unanchored { may_wait ≡ true → anchored ≡ No }
     requires shallow { W.Of.depth (W.of walk.old) sid ≡ 0 }
     requires begins { (p : Patterns) → W.Of.is_of (W.of walk.old) p →
         W.Of.held (W.of walk.old) p anchored [] sid }
     ensures found { (p : Patterns) → W.Of.is_of (W.of walk.old) p →
-        IsAnswer p (search_of (T.bytes text.old) span anchored earliest) result }
+        AnswersSearch p (search_of (T.bytes text.old) span anchored earliest) result }
+    ensures forward { T.next text.old ≤ T.next text.new }
+    ensures may_wait { WaitsOnlyIf may_wait result }
+    ensures waits_within { WaitsWithin span.start span.end (T.next text.new) result }
+    ensures waits_in { WaitsIn (W.Of.valid (W.of walk.old)) (W.Of.starts (W.of walk.old)) result }
+    ensures waits_for { (p : Patterns) → W.Of.is_of (W.of walk.old) p →
+        WaitsFor p (W.Of.held (W.of walk.old) p No) (T.bytes text.old) span.start span.end result }
     ensures same_walk { W.of walk.new ≡ W.of walk.old }
     ensures same_text { T.bytes text.new ≡ T.bytes text.old }
     ensures cost { W.lookups walk.new ≤ W.lookups walk.old + 2 * (T.next text.new - span.start) }
     ensures grows { W.lookups walk.old ≤ W.lookups walk.new }
     ensures read { ReadsUpTo (T.next text.old) (T.next text.new) span.end }
-    ensures near { anchored ≡ No → (m : Occurrence) → result ≡ Some m →
+    ensures near { anchored ≡ No → (m : Occurrence) → result ≡ Answer (Some m) →
         ReadsUpTo (T.next text.old) (T.next text.new)
         (furthest (W.Of.kind (W.of walk.old)) earliest (W.Of.lengths (W.of walk.old)) m) }
     ensures anchored_near { anchored ≡ Yes → ReadsUpTo (T.next text.old) (T.next text.new)
@@ -122,24 +154,115 @@ fn find_from<W: Walk, T: Text>(
     let stops = stops_at_first(walk, earliest);
     let mut best = told_at(walk, anchored, sid, start, start);
     if stops && best.is_some() {
-        return best;
+        return Walked::Answer(best);
     }
     for at in start..end {
         let byte = text.byte(at);
         sid = walk.step(anchored, sid, byte);
         if walk.is_special(sid) {
             if walk.is_dead(sid) {
-                return best;
+                return Walked::Answer(best);
             }
             if let Some(m) = told_at(walk, anchored, sid, start, at + 1) {
                 best = Some(m);
                 if stops {
-                    return best;
+                    return Walked::Answer(best);
                 }
+            } else if waits_in(walk, may_wait, &best, sid) {
+                return Walked::Waits(at + 1, sid);
             }
         }
     }
-    best
+    Walked::Answer(best)
+}
+
+/// Whether a search skips by the automaton's prefilter: no anchored one does.
+fn skips<W: Walk>(walk: &W, anchored: Anchored) -> bool
+    ensures unanchored { result ≡ true → anchored ≡ No }
+    ensures held { result ≡ true → IsSome (W.Of.prefilter (W.of walk.now)) }
+{
+    anchored == Anchored::No && walk.prefilter().is_some()
+}
+
+/// What the automaton's prefilter answers for a span.
+fn candidate_in<W: Walk, T: Text>(walk: &W, text: &T, span: Span) -> Candidate
+    requires held { IsSome (W.Of.prefilter (W.of walk.now)) }
+    requires ordered { span.start ≤ span.end }
+    requires within { span.end ≤ length (T.bytes text.now) }
+    ensures candidate { (p : Patterns) → W.Of.is_of (W.of walk.now) p →
+        IsCandidate p (T.bytes text.now) span.start span.end result }
+{
+    match walk.prefilter() {
+        Some(prefilter) => text.candidate(prefilter, span),
+        None => unreachable!(),
+    }
+}
+
+/// How many candidates that bring it no further a search asks for.
+const PATIENCE: usize = 32;
+
+/// What is left of a search's patience after a candidate that lies so many bytes further: it costs one, and each of these
+/// bytes gives one back. Once there is none the walk waits no more, since where candidates are dense asking for them costs
+/// more than walking. So a search asks for no more candidates than it skips bytes, and for these few.
+fn patience_after(patience: usize, skipped: usize) -> usize {
+    patience.saturating_add(skipped).saturating_sub(1)
+}
+
+/// What an unanchored search answers that skips to the next candidate at its beginning and wherever its walk waits, as long
+/// as its patience lasts.
+///
+/// Its clauses are those of `find_in`.
+fn find_skipping<W: Walk, T: Text>(
+    walk: &mut W,
+    text: &mut T,
+    span: Span,
+    earliest: bool,
+    mut sid: StateID,
+) -> Option<Match>
+    requires held { IsSome (W.Of.prefilter (W.of walk.old)) }
+    requires within { span.end ≤ length (T.bytes text.old) }
+    requires ordered { span.start ≤ span.end }
+    requires unread { T.next text.old ≤ span.start }
+    requires room { W.lookups walk.old + 2 * (span.end - span.start) < 2 ^ 128 }
+    requires of { (p : Patterns) × W.Of.is_of (W.of walk.old) p }
+    requires valid { W.Of.valid (W.of walk.old) sid }
+    requires shallow { W.Of.depth (W.of walk.old) sid ≡ 0 }
+    requires begins { (p : Patterns) → W.Of.is_of (W.of walk.old) p →
+        W.Of.held (W.of walk.old) p No [] sid }
+    ensures found { (p : Patterns) → W.Of.is_of (W.of walk.old) p →
+        IsAnswer p (search_of (T.bytes text.old) span No earliest) result }
+    ensures same_walk { W.of walk.new ≡ W.of walk.old }
+    ensures same_text { T.bytes text.new ≡ T.bytes text.old }
+    ensures cost { W.lookups walk.new ≤ W.lookups walk.old + 2 * (T.next text.new - span.start) }
+    ensures grows { W.lookups walk.old ≤ W.lookups walk.new }
+    ensures read { ReadsUpTo (T.next text.old) (T.next text.new) span.end }
+    ensures near { (m : Occurrence) → result ≡ Some m →
+        ReadsUpTo (T.next text.old) (T.next text.new)
+        (furthest (W.Of.kind (W.of walk.old)) earliest (W.Of.lengths (W.of walk.old)) m) }
+{
+    let Span { start, end } = span;
+    let mut at = start;
+    let mut patience = PATIENCE;
+    'skips: loop {
+        let candidate = candidate_in(walk, text, Span { start: at, end });
+        if let Candidate::Match(found) = &candidate {
+            if !earliest {
+                return Some(*found);
+            }
+        }
+        let Some(origin) = candidate.into_option() else {
+            return None;
+        };
+        patience = patience_after(patience, origin.saturating_sub(at));
+        let (part, may_wait) = (Span { start: origin, end }, patience > 0);
+        match find_from(walk, text, part, Anchored::No, earliest, may_wait, sid) {
+            Walked::Answer(found) => return found,
+            Walked::Waits(place, next) => {
+                at = place;
+                sid = next;
+            }
+        }
+    }
 }
 
 /// The match that the search of a span finds, by a walk that reads each byte at most once and takes no memory.
@@ -197,5 +320,11 @@ pub fn find_in<W: Walk, T: Text>(
         return Ok(None);
     }
     let sid = walk.start_state(anchored)?;
-    Ok(find_from(walk, text, span, anchored, earliest, sid))
+    if skips(walk, anchored) {
+        return Ok(find_skipping(walk, text, span, earliest, sid));
+    }
+    match find_from(walk, text, span, anchored, earliest, false, sid) {
+        Walked::Answer(found) => Ok(found),
+        Walked::Waits(_, _) => unreachable!(),
+    }
 }

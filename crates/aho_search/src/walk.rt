@@ -3,12 +3,14 @@
 //! A search holds a `Walk`, and never the automaton itself. So it can take no step that is not counted.
 
 ghost use Rattle.std.specs.Prelude.{◌≡◌, ℕ, List, [], ◌∷◌, ◌++◌, Some, ◌+◌, ◌<◌, ◌≤◌, ◌^◌, ◌↔◌, true, IsTrue, IfOk, length, slice_get, slice_index};
+ghost use Rattle.std.specs.Option.{option_map};
 ghost use Rattle.aho_base.specs.Patterns.{Patterns};
 ghost use Rattle.aho_base.specs.Steps.{GoesOn, IsPaid};
 
 use crate::automaton::Automaton;
 use aho_base::error::MatchError;
 use aho_base::search::{Anchored, MatchKind, PatternID, StateID, Work};
+use aho_prefilter::prefilter::Prefilter;
 
 /// What a search reads of an automaton, with a counted step as the only way on.
 ///
@@ -77,6 +79,11 @@ pub trait Walk {
     /// Which of several matches is found.
     fn match_kind(&self) -> MatchKind
         ensures kind { result ≡ Self.Of.kind (of self.now) };
+
+    /// The prefilter of the patterns, where one is held.
+    fn prefilter(&self) -> Option<&Prefilter>
+        ensures prefilter { option_map (λ held. held.now) result
+            ≡ Self.Of.prefilter (of self.now) };
 
     /// A pattern that the state lists, by its place in the list.
     fn match_pattern(&self, sid: StateID, index: usize) -> PatternID
@@ -150,6 +157,10 @@ impl<'a, A: Automaton> Walk for Counted<'a, A> {
 
     fn match_kind(&self) -> MatchKind {
         self.automaton.match_kind()
+    }
+
+    fn prefilter(&self) -> Option<&Prefilter> {
+        self.automaton.prefilter()
     }
 
     fn match_pattern(&self, sid: StateID, index: usize) -> PatternID {

@@ -19,7 +19,7 @@ ghost use Rattle.aho_search.specs.Finding.{AreFirstFinds};
 ghost use Rattle.bench.specs.Callers.{both_cases};
 
 use aho_base::error::{BuildError, ReplaceError, StreamError};
-use aho_base::search::{Anchored, Bytes, Input, Match, MatchKind, Span};
+use aho_base::search::{Anchored, Input, Match, MatchKind, Span};
 use aho_corasick::answers::answer_of;
 use aho_corasick::noncontiguous::{Builder, NFA};
 use aho_devices::buffer::Buffer;
@@ -27,6 +27,7 @@ use aho_devices::device::{Sink, Source};
 use aho_devices::write::write_whole;
 use aho_prefilter::laws::candidates_tell_where;
 use aho_prefilter::prefilter::{Prefilter, PrefilterBuilder};
+use aho_prefilter::text::Bytes;
 use aho_search::automaton::{Automaton, Counted, find_in};
 use std::alloc::{AllocError, Global};
 

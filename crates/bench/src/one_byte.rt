@@ -5,6 +5,7 @@ ghost use Rattle.bench.specs.OneByte.{one_pattern};
 
 use aho_base::error::MatchError;
 use aho_base::search::{Anchored, MatchKind, PatternID, StateID, Work};
+use aho_prefilter::prefilter::Prefilter;
 use aho_search::automaton::Automaton;
 use std::marker::Model;
 
@@ -32,7 +33,7 @@ impl OneByte {
 }
 
 impl Automaton for OneByte {
-    ghost use Rattle.std.specs.Prelude.{◌≡◌, ℕ, [], ◌∷◌, ◌<◌, true, false, refl};
+    ghost use Rattle.std.specs.Prelude.{◌≡◌, ℕ, [], ◌∷◌, ◌<◌, true, false, refl, None};
     ghost use Rattle.aho_base.specs.declared.search.MatchKind.TheVariants.{Standard};
     ghost use Rattle.bench.specs.OneByte.{IsHeldByOne, all_special, is_first, list_of, next_of, one_pattern, reads_one, start_of_one};
 
@@ -63,6 +64,8 @@ impl Automaton for OneByte {
     ghost start = { λ one anchored. start_of_one anchored };
 
     ghost memory = { λ one. 1 };
+
+    ghost prefilter = { λ one. None };
 
     fn start_state(&self, anchored: Anchored) -> Result<StateID, MatchError> {
         match anchored {
@@ -104,6 +107,10 @@ impl Automaton for OneByte {
         MatchKind::Standard
     }
 
+    fn prefilter(&self) -> Option<&Prefilter> {
+        None
+    }
+
     fn match_len(&self, sid: StateID) -> usize {
         sid.as_usize()
     }
@@ -139,4 +146,6 @@ impl Automaton for OneByte {
     ghost dead_shallow = { λ one sid valid dead. refl };
 
     ghost starts_shallow = { λ one sid valid starts. refl };
+
+    ghost prefilters = { λ one p of. tt };
 }

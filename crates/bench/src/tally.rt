@@ -4,6 +4,7 @@ ghost use Rattle.aho_base.specs.Patterns.{Patterns};
 
 use aho_base::error::MatchError;
 use aho_base::search::{Anchored, MatchKind, PatternID, StateID, Work};
+use aho_prefilter::prefilter::Prefilter;
 use aho_search::automaton::Automaton;
 use std::cell::Cell;
 
@@ -70,6 +71,8 @@ impl<A: Automaton> Automaton for Tally<A> {
 
     ghost memory = { λ a. A.memory a.automaton };
 
+    ghost prefilter = { λ a. A.prefilter a.automaton };
+
     fn start_state(&self, anchored: Anchored) -> Result<StateID, MatchError> {
         self.automaton.start_state(anchored)
     }
@@ -103,6 +106,10 @@ impl<A: Automaton> Automaton for Tally<A> {
 
     fn match_kind(&self) -> MatchKind {
         self.automaton.match_kind()
+    }
+
+    fn prefilter(&self) -> Option<&Prefilter> {
+        self.automaton.prefilter()
     }
 
     fn match_len(&self, sid: StateID) -> usize {
@@ -140,4 +147,6 @@ impl<A: Automaton> Automaton for Tally<A> {
     ghost dead_shallow = { λ a. A.dead_shallow a.automaton };
 
     ghost starts_shallow = { λ a. A.starts_shallow a.automaton };
+
+    ghost prefilters = { λ a. A.prefilters a.automaton };
 }

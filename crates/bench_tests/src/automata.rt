@@ -29,6 +29,22 @@ pub(crate) fn builder_of(kind: MatchKind, ignore_case: bool) -> Builder {
     builder
 }
 
+/// The automaton of these patterns, which holds a prefilter only where this is wanted.
+pub(crate) fn nfa_with(
+    rt: &impl Abort,
+    alloc: Global,
+    words: &[&[u8]],
+    kind: MatchKind,
+    ignore_case: bool,
+    prefilter: bool,
+) -> NFA
+    ensures of { (p : Patterns) × ⟦<NFA as Automaton>⟧.is_of result p }
+{
+    let mut builder = builder_of(kind, ignore_case);
+    builder.prefilter(prefilter);
+    nfa_by(rt, alloc, &builder, words)
+}
+
 /// The automaton that a builder makes of these patterns.
 pub(crate) fn nfa_by(rt: &impl Abort, alloc: Global, builder: &Builder, words: &[&[u8]]) -> NFA
     ensures of { (p : Patterns) × ⟦<NFA as Automaton>⟧.is_of result p }

@@ -2,7 +2,7 @@
 
 ghost use Rattle.std.specs.Prelude.{◌+◌, ◌<◌, ◌^◌};
 
-use crate::automata::{listed, nfa_of, start_of, state_after};
+use crate::automata::{listed, nfa_of, nfa_with, start_of, state_after};
 use aho_base::search::{Anchored, MatchKind, PatternID, StateID, Work};
 use aho_search::automaton::Automaton;
 use bench::one_byte::OneByte;
@@ -86,9 +86,10 @@ fn states_list_their_patterns(rt: HostRuntime) -> Result<(), Fail> {
             let case = (states.kind, states.patterns, *anchored, *word);
             assert_eq!(rt; nfa.is_dead(sid), listing.is_none(), "{case:?}");
             assert_eq!(rt; nfa.is_match(sid), !want.is_empty(), "{case:?}");
+            let skips = nfa.prefilter().is_some() && nfa.is_start(sid);
             assert_eq!(rt;
                 nfa.is_special(sid),
-                listing.is_none() || !want.is_empty(),
+                listing.is_none() || !want.is_empty() || skips,
                 "{case:?}"
             );
             assert_eq!(rt; listed(rt.alloc(), &nfa, sid)?.as_slice(), want, "{case:?}");
@@ -125,6 +126,28 @@ fn starts_are_told(rt: HostRuntime) {
     let dead = state_after(&rt, &nfa, Anchored::Yes, b"ax");
     assert!(rt; nfa.is_dead(dead));
     assert!(rt; !nfa.is_start(dead));
+}
+
+#[test]
+fn starts_are_special_where_a_prefilter_is_held(rt: HostRuntime) {
+    for prefilter in [true, false] {
+        let words: [&[u8]; 1] = [b"abc"];
+        let nfa = nfa_with(
+            &rt,
+            rt.alloc(),
+            &words,
+            MatchKind::Standard,
+            false,
+            prefilter,
+        );
+        assert_eq!(rt; nfa.prefilter().is_some(), prefilter);
+        for anchored in [Anchored::No, Anchored::Yes] {
+            let start = start_of(&rt, &nfa, anchored);
+            assert_eq!(rt; nfa.is_special(start), prefilter, "{anchored:?}");
+        }
+        let memory = if prefilter { 7106 } else { 7103 };
+        assert_eq!(rt; nfa.memory_usage(), memory);
+    }
 }
 
 /// From the state that is held after this word, each byte leads `step` where it leads `next_state`.
@@ -245,7 +268,7 @@ const TOLD: &[Told] = &[
         lens: &[3],
         shortest: 3,
         longest: 3,
-        memory: 7103,
+        memory: 7106,
     },
     Told {
         kind: MatchKind::Standard,

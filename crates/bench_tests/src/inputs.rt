@@ -4,7 +4,7 @@
 ghost use Rattle.std.specs.Prelude.{◌+◌, ◌<◌, ◌≤◌, length};
 ghost use Rattle.aho_base.specs.Patterns.{Patterns};
 
-use crate::automata::{builder_of, nfa_by, nfa_of};
+use crate::automata::{builder_of, nfa_by, nfa_of, nfa_with};
 use crate::overlaps::{found_by_calls, found_by_iterator};
 use aho_base::search::{Anchored, Input, MatchKind, PatternID, Span};
 use aho_corasick::noncontiguous::{Limits, NFA};
@@ -202,6 +202,12 @@ const CASES: &[Case] = &[
         letters: *b"ab",
     },
     Case {
+        name: "one pattern",
+        patterns: &[b"aab"],
+        ignore_case: false,
+        letters: *b"ab",
+    },
+    Case {
         name: "patterns that end others",
         patterns: &[b"aab", b"ab", b"b", b"aabb", b"ba"],
         ignore_case: false,
@@ -283,8 +289,11 @@ fn search_cases(rt: &impl Abort, alloc: Global, way: Way, sizes: &[(usize, usize
         assert!(rt; case.patterns.len() <= PatternID::MAX.as_usize());
         for kind in KINDS {
             let patterns = PatternSet::new(case.patterns, kind, case.ignore_case);
-            let nfa = nfa_of(rt, alloc, case.patterns, kind, case.ignore_case);
-            search_haystacks(rt, alloc, way, case, &patterns, &nfa, sizes);
+            for prefilter in [true, false] {
+                let words = case.patterns;
+                let nfa = nfa_with(rt, alloc, words, kind, case.ignore_case, prefilter);
+                search_haystacks(rt, alloc, way, case, &patterns, &nfa, sizes);
+            }
         }
     }
 }

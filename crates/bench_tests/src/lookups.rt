@@ -3,22 +3,24 @@
 ghost use Rattle.std.specs.Prelude.{◌+◌, ◌<◌, ◌≤◌, ◌^◌, length};
 ghost use Rattle.aho_base.specs.Patterns.{Patterns};
 
-use crate::automata::nfa_of;
+use crate::automata::nfa_with;
 use crate::reading::Reading;
 use aho_base::error::MatchError;
-use aho_base::search::{Anchored, Bytes, Input, MatchKind, Span, Text};
+use aho_base::search::{Anchored, Input, MatchKind, Span};
+use aho_prefilter::text::{Bytes, Text};
 use aho_search::automaton::{Automaton, Counted, find_in};
 use bench::one_byte::OneByte;
 use bench::tally::Tally;
 use std::test::Fail;
 
-/// A search, the look-ups that it makes, and the bytes that it reads, all from the span's start on.
+/// A search, the look-ups that it makes, and the bytes that it reads outside a prefilter, all from the span's start on.
 struct Row {
     kind: MatchKind,
     patterns: &'static [&'static [u8]],
     haystack: &'static [u8],
     span: Span,
     anchored: Anchored,
+    prefilter: bool,
     lookups: u128,
     reads: usize,
 }
@@ -30,6 +32,7 @@ const ROWS: &[Row] = &[
         haystack: b"abcef",
         span: Span { start: 0, end: 5 },
         anchored: Anchored::No,
+        prefilter: false,
         lookups: 6,
         reads: 5,
     },
@@ -39,6 +42,7 @@ const ROWS: &[Row] = &[
         haystack: b"abce",
         span: Span { start: 0, end: 4 },
         anchored: Anchored::No,
+        prefilter: false,
         lookups: 5,
         reads: 4,
     },
@@ -48,6 +52,7 @@ const ROWS: &[Row] = &[
         haystack: b"abxxxxxxxx",
         span: Span { start: 0, end: 10 },
         anchored: Anchored::No,
+        prefilter: false,
         lookups: 4,
         reads: 3,
     },
@@ -57,8 +62,19 @@ const ROWS: &[Row] = &[
         haystack: b"aaaaaaaa",
         span: Span { start: 0, end: 8 },
         anchored: Anchored::No,
+        prefilter: false,
         lookups: 13,
         reads: 8,
+    },
+    Row {
+        kind: MatchKind::Standard,
+        patterns: &[b"aaab"],
+        haystack: b"aaaaaaaa",
+        span: Span { start: 0, end: 8 },
+        anchored: Anchored::No,
+        prefilter: true,
+        lookups: 0,
+        reads: 0,
     },
     Row {
         kind: MatchKind::Standard,
@@ -66,6 +82,7 @@ const ROWS: &[Row] = &[
         haystack: b"aab",
         span: Span { start: 0, end: 3 },
         anchored: Anchored::Yes,
+        prefilter: false,
         lookups: 2,
         reads: 2,
     },
@@ -75,6 +92,7 @@ const ROWS: &[Row] = &[
         haystack: b"aab",
         span: Span { start: 3, end: 2 },
         anchored: Anchored::No,
+        prefilter: false,
         lookups: 0,
         reads: 0,
     },
@@ -101,7 +119,14 @@ fn lookups_over<A: Automaton, T: Text>(
 #[test]
 fn searches_cost_what_they_should(rt: HostRuntime) -> Result<(), Fail> {
     for row in ROWS {
-        let nfa = nfa_of(&rt, rt.alloc(), row.patterns, row.kind, false);
+        let nfa = nfa_with(
+            &rt,
+            rt.alloc(),
+            row.patterns,
+            row.kind,
+            false,
+            row.prefilter,
+        );
         let (haystack, span) = (row.haystack, row.span);
         let case = (row.kind, row.patterns, haystack, span, row.anchored);
         assert!(rt; span.end <= haystack.len(), "{case:?}");
@@ -121,7 +146,14 @@ fn searches_cost_what_they_should(rt: HostRuntime) -> Result<(), Fail> {
 #[test]
 fn searches_step_once_a_byte(rt: HostRuntime) -> Result<(), Fail> {
     for row in ROWS {
-        let nfa = nfa_of(&rt, rt.alloc(), row.patterns, row.kind, false);
+        let nfa = nfa_with(
+            &rt,
+            rt.alloc(),
+            row.patterns,
+            row.kind,
+            false,
+            row.prefilter,
+        );
         let tally = Tally::new(nfa);
         let (haystack, span) = (row.haystack, row.span);
         let case = (row.kind, row.patterns, haystack, span, row.anchored);

@@ -2,7 +2,9 @@
 
 ghost use Rattle.std.specs.Prelude.{◌≡◌};
 
-use aho_base::search::Text;
+use aho_base::search::Span;
+use aho_prefilter::prefilter::{Candidate, Prefilter};
+use aho_prefilter::text::Text;
 
 /// The text over a slice, with a count of its reads.
 #[derive(Drop)]
@@ -49,5 +51,9 @@ impl<'h> Text for Reading<'h> {
         self.next = at + 1;
         self.reads = self.reads.saturating_add(1);
         self.haystack[at]
+    }
+
+    fn candidate(&self, prefilter: &Prefilter, span: Span) -> Candidate {
+        prefilter.find_in(self.haystack, span)
     }
 }

@@ -4,7 +4,7 @@
 ghost use Rattle.std.specs.Prelude.{◌+◌, ◌≤◌, length};
 ghost use Rattle.aho_base.specs.Patterns.{Patterns};
 
-use crate::automata::nfa_of;
+use crate::automata::nfa_with;
 use crate::overlaps::{found_by_calls, found_by_iterator};
 use aho_base::search::{Anchored, Input, Match, MatchKind, PatternID, Span};
 use aho_corasick::noncontiguous::NFA;
@@ -229,6 +229,13 @@ const ROWS: &[Row] = &[
         patterns: &[b"aab"],
         haystack: b"xaaab",
         want: Want::First(Some((0, 2, 5))),
+        ..PLAIN
+    },
+    Row {
+        name: "overlapping, a pattern at the end",
+        patterns: &[b"aab"],
+        haystack: b"xaaab",
+        want: Want::Listing(&[(0, 2, 5)]),
         ..PLAIN
     },
     Row {
@@ -500,8 +507,14 @@ fn is_listed(
     Ok(())
 }
 
-/// The plain program and the automaton answer what is wanted of a row, at one match kind.
-fn row_is_met(rt: &impl Abort, alloc: Global, row: &Row, kind: MatchKind) -> Result<(), Fail> {
+/// The plain program and the automaton answer what is wanted of a row, at one match kind, with and without a prefilter.
+fn row_is_met(
+    rt: &impl Abort,
+    alloc: Global,
+    row: &Row,
+    kind: MatchKind,
+    prefilter: bool,
+) -> Result<(), Fail> {
     let span = span_of(row);
     assert!(rt; row.patterns.len() <= PatternID::MAX.as_usize());
     assert!(rt; span.end <= row.haystack.len());
@@ -509,7 +522,7 @@ fn row_is_met(rt: &impl Abort, alloc: Global, row: &Row, kind: MatchKind) -> Res
     let patterns = PatternSet::new(row.patterns, kind, row.ignore_case);
     let input = input_of(row, span);
     let answer = plain(&patterns, &input);
-    let nfa = nfa_of(rt, alloc, row.patterns, kind, row.ignore_case);
+    let nfa = nfa_with(rt, alloc, row.patterns, kind, row.ignore_case, prefilter);
     assert_eq!(rt; nfa.try_find(&input)?, answer, "{kind:?} {row:?}");
     is_listed(rt, alloc, row, &nfa, input.clone()?)?;
     let iterated = iterated(alloc, row, &nfa, input_of(row, span))?;
@@ -530,7 +543,9 @@ fn row_is_met(rt: &impl Abort, alloc: Global, row: &Row, kind: MatchKind) -> Res
 fn rows_are_met(rt: HostRuntime) -> Result<(), Fail> {
     for row in ROWS {
         for kind in row.kinds {
-            row_is_met(&rt, rt.alloc(), row, *kind)?;
+            for prefilter in [true, false] {
+                row_is_met(&rt, rt.alloc(), row, *kind, prefilter)?;
+            }
         }
     }
     Ok(())

@@ -12,8 +12,10 @@ ghost use Rattle.aho_table.specs.Refusal.{IsRefusalOf};
 ghost use Rattle.aho_build.specs.Settings.{in_force};
 ghost use Rattle.aho_build.specs.Refusals.{IsAccepted};
 ghost use Rattle.aho_build.specs.Items.{patterns_of, IsTrieFailure};
+ghost use Rattle.aho_build.specs.Prefilters.{Collects};
 ghost use Rattle.aho_table.specs.Table.{IsWithinLimit, state_at, matches_in, transitions_count};
 
+use crate::compiler::prefilter::PrefilterPatterns;
 use crate::compiler::starts::unanchored_start;
 use crate::settings::Settings;
 use aho_base::error::BuildError;
@@ -27,6 +29,8 @@ pub struct Trie {
     pub table: Table,
     /// By the patterns' numbers, in bytes.
     pub lens: Vec<SmallIndex>,
+    /// All patterns, those that are not kept as well.
+    pub prefilter: PrefilterPatterns,
 }
 
 /// The other case of an ASCII letter, and every other byte itself.
@@ -221,7 +225,8 @@ pub fn build_trie<'p, I: Iterator<Item = &'p [u8]> + Drop>(
         × ((trie.lens.items ≡ map length (patterns_of settings.now items).words)
         × (HoldsTrie (patterns_of settings.now items) trie.table.states
         × (AreWithin settings.now (patterns_of settings.now items)
-        × IsAccepted settings.now (patterns_of settings.now items)))))) }
+        × (IsAccepted settings.now (patterns_of settings.now items)
+        × Collects settings.now (patterns_of settings.now items) trie.prefilter)))))) }
     ensures limit { IfOk result (λ trie. trie.table.limit ≡ (in_force settings.now).id) }
     ensures within { IfOk result (λ trie.
         IsWithinLimit (in_force settings.now).id trie.table.states) }
@@ -231,11 +236,15 @@ pub fn build_trie<'p, I: Iterator<Item = &'p [u8]> + Drop>(
     let mut trie = Trie {
         table: first_states(alloc, limits.id)?,
         lens: Vec::new(alloc),
+        prefilter: PrefilterPatterns::new(alloc, settings),
     };
     trie.table.facts();
     for pattern in patterns {
         let number = number_of(trie.lens.len(), limits.pattern)?;
         let len = length_of(number, pattern.len(), limits.length)?;
+        let Ok(()) = trie.prefilter.add(pattern) else {
+            return Err(BuildError::OutOfMemory);
+        };
         add_pattern(&mut trie.table, settings, pattern, number)?;
         trie.table.facts();
         if trie.lens.push(len).is_err() {

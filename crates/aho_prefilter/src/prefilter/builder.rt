@@ -7,8 +7,8 @@ ghost use Rattle.aho_prefilter.specs.Prefilter.{held_for, is_searched_whole, wit
 ghost use Rattle.aho_prefilter.specs.Inside.{search_for_few};
 
 use crate::prefilter::first_bytes::FirstBytes;
+use crate::prefilter::needle::Needle;
 use crate::prefilter::{Prefilter, Searcher};
-use memchr::memmem::FinderBuilder;
 use std::alloc::{AllocError, Global};
 
 /// Decides which prefilter there is for some patterns, which are added one after another.
@@ -95,10 +95,7 @@ impl PrefilterBuilder {
             first_bytes,
         } = self;
         let searcher = match whole {
-            Some(needle) => {
-                let finder = FinderBuilder::new().build_forward_owned(needle);
-                Some(Searcher::Memmem(finder))
-            }
+            Some(bytes) => Some(Searcher::Memmem(Needle::new(bytes))),
             None => search_for(first_bytes),
         };
         match searcher {

@@ -35,7 +35,7 @@ returns-in_err-set_anchored_start_state-clause-refused g c =
     let holds = built.1.1.1.0 in
     let room : 1 + length (kept_before p (length p.words)) ≤ (in_force settings).id + 1 = omega (arith, c.in_ok-trie.ensures.within.matches, holds.counted.matches) in
     IfErr-given (IsFailure gives c.args.patterns settings) c.from_residual-in_err-set_anchored_start_state.result error c.from_residual-in_err-set_anchored_start_state.ensures.1
-    (IsRefusal-copied gives c.args.patterns settings built.0 error table.limit c.in_ok-trie.ensures.limit built.1.0 built.1.1.1.1.1 room
+    (IsRefusal-copied gives c.args.patterns settings built.0 error table.limit c.in_ok-trie.ensures.limit built.1.0 built.1.1.1.1.1.0 room
     (IsRefusalOf-larger table.limit (matches_size p) table.limit (matches_count table.states + length (matches_in table.states root_id)) error refl
     (matches_count-start p table.states holds) (c.in_err-set_anchored_start_state.ensures.refused holds.listed.anchored_full)))
 
@@ -77,7 +77,7 @@ returns-in_err-fill_failure_transitions-clause-refused g c =
     let limit = c.in_ok-add_unanchored_start_state_loop.ensures.limit ∙ c.in_ok-set_anchored_start_state.ensures.limit ∙ c.in_ok-trie.ensures.limit in
     let room : 1 + length (kept_before p (length p.words)) ≤ (in_force settings).id + 1 = omega (arith, c.in_ok-trie.ensures.within.matches, holds.counted.matches) in
     IfErr-given (IsFailure gives c.args.patterns settings) c.from_residual-in_err-fill_failure_transitions.result error c.from_residual-in_err-fill_failure_transitions.ensures.1
-    (IsRefusal-copied gives c.args.patterns settings built.0 error ready.limit limit built.1.0 built.1.1.1.1.1 room
+    (IsRefusal-copied gives c.args.patterns settings built.0 error ready.limit limit built.1.0 built.1.1.1.1.1.0 room
     (c.in_err-fill_failure_transitions.ensures.refused p refl (IsReady-led p c.in_ok-trie.trie.table.states mid holds led ready closed)
     (fail_matches-led p c.in_ok-trie.trie.table.states mid holds led ready closed)))
 
@@ -101,7 +101,8 @@ returns-clause-built g c =
     let size = matches_count-linked p old mid holds led ready closed new copies linked in
     let few : matches_size p ≤ (in_force settings).id + 1 = omega (arith, size, c.facts.ensures.within.matches, limit) in (
       built.0,
-      (built.1.0, cause-within settings p built.1.1.1.1.1 room few),
+      (built.1.0, cause-within settings p built.1.1.1.1.1.0 room few),
+      (
       record {
         kind_is = refl;
         lengths_are = built.1.1.0;
@@ -112,4 +113,6 @@ returns-clause-built g c =
             (c.in_ok-set_anchored_start_state.ensures.transitions holds.listed.anchored_full)
             (c.in_ok-add_unanchored_start_state_loop.ensures.transitions (root_full-led p old mid holds led));
       },
+      (let made = c.in-Ok.ensures.held settings p built.1.1.1.1.1.1 in cc),
+      ),
     )

@@ -5,8 +5,9 @@ use Rattle.aho_base.specs.Laws.{first_is_answer}
 use Rattle.aho_base.specs.Patterns.{Patterns}
 use Rattle.aho_search.proofs.Told.{is_none}
 use Rattle.aho_search.proofs.Walks.{Standing, stands_at_start, stands_silent, stands_unlisted, stands_first, stands_last, answer_at_end, answer_when_dead, answer_found, not_before, later, near_at_start, near_further, anchored_near_further}
+use Rattle.aho_search.proofs.Skipping.{waits_there}
 use Rattle.aho_search.proofs.find.find_from.Given.{Over}
-use Rattle.aho_search.proofs.find.find_from.Goals.{After-step-sid, Joined-else-stops, Joined-is_special, then-is_special+else-is_dead+in-Some+else-stops-2, then-is_special+else-is_dead+in_default, else-is_special, else-stops-via-then-stops+else-is_some, else-stops-via-else-stops}
+use Rattle.aho_search.proofs.find.find_from.Goals.{After-step-sid, Joined-else-stops, Joined-is_special, then-is_special+else-is_dead+in-Some+else-stops-2, then-is_special+else-is_dead+in_default+else-waits_in, else-is_special, else-stops-via-then-stops+else-is_some, else-stops-via-else-stops}
 use Rattle.aho_search.proofs.find.find_from.Goals as goal
 
 -- a match that is told before the first byte is the answer of a search that stops there
@@ -26,6 +27,7 @@ loop-at-init g c = record {
   same_walk = refl;
   same_text = refl;
   unread = c.requires.unread;
+  forward = omega arith;
   paid = omega (arith, c.requires.shallow);
   grows = omega arith;
   valid = c.requires.valid;
@@ -81,7 +83,7 @@ stood g c p of =
     elim c.if-is_special.branch [
       | then-is_special+else-is_dead+in-Some+else-stops-2 w ↦
           stands_last laws _ _ _ c.args.earliest _ _ _ _ _ _ (cc (c.stops_at_first-stops.ensures.first, w.if-stops-2.false)) (omega arith) (omega arith) held (rw (same_walk g d) at w.in-Some.ensures.told) stands w.best-is
-      | then-is_special+else-is_dead+in_default w ↦
+      | then-is_special+else-is_dead+in_default+else-waits_in w ↦
           stands_silent laws _ _ _ _ _ _ _ _ (omega arith) (omega arith) held (rw (same_walk g d) at w.in_default.ensures.told) stands w.best-is
       | else-is_special w ↦
           stands_unlisted laws _ _ _ _ _ _ _ _ (omega arith) (omega arith) held (plain g d w.if-is_special.ensures.special).1 stands w.best-is
@@ -93,7 +95,7 @@ alive g c =
     let d = (goal.at.loop-at-preserved g c).After-step-sid in
     elim c.if-is_special.branch [
       | then-is_special+else-is_dead+in-Some+else-stops-2 w ↦ sym (rw (same_walk g d) at w.if-is_dead.ensures.dead)
-      | then-is_special+else-is_dead+in_default w ↦ sym (rw (same_walk g d) at w.if-is_dead.ensures.dead)
+      | then-is_special+else-is_dead+in_default+else-waits_in w ↦ sym (rw (same_walk g d) at w.if-is_dead.ensures.dead)
       | else-is_special w ↦ (plain g d w.if-is_special.ensures.special).0
     ]
 
@@ -104,12 +106,13 @@ loop-at-preserved g c =
       same_walk = same_walk g d;
       same_text = c.byte-byte.ensures.same ∙ c.loop-at.invariant.same_text;
       unread = omega (arith, c.byte-byte.ensures.passed);
+      forward = omega (arith, c.byte-byte.ensures.passed, c.loop-at.invariant.forward, c.loop-at.invariant.unread);
       paid = omega (arith, rw c.loop-at.invariant.same_walk at c.step-sid.ensures.cost, c.loop-at.invariant.paid);
       grows = omega (arith, c.step-sid.ensures.grows, c.loop-at.invariant.grows);
       valid = rw c.loop-at.invariant.same_walk at c.step-sid.ensures.valid;
       quiet = λ stops. elim c.if-is_special.branch [
         | then-is_special+else-is_dead+in-Some+else-stops-2 w ↦ cc (c.stops_at_first-stops.ensures.first, w.if-stops-2.false, stops)
-        | then-is_special+else-is_dead+in_default w ↦ w.best-is ∙ c.loop-at.invariant.quiet stops
+        | then-is_special+else-is_dead+in_default+else-waits_in w ↦ w.best-is ∙ c.loop-at.invariant.quiet stops
         | else-is_special w ↦ w.best-is ∙ c.loop-at.invariant.quiet stops
       ];
       near = λ unanchored leftmost m e. near_further (g.met.W.Of.Automaton.laws _ _ c.requires.of.1) _ _ _ (c.loop-at.at + 1) _ _ m unanchored leftmost (omega arith) (alive g c) (stood g c _ c.requires.of.1) e;
@@ -121,3 +124,13 @@ loop-at-preserved g c =
 pub returns-clause-found : goal.returns-clause-found
 returns-clause-found g c p of =
     answer_at_end (g.met.W.Of.Automaton.laws (g.W.Walk.of c.args.walk.now) p of) _ _ _ _ _ c.loop-at.at c.loop-at.sid _ (omega arith) c.loop-at.invariant.quiet (omega arith) (omega arith) (c.loop-at.invariant.stands p of)
+
+-- where it waits in a start, nothing was found
+pub returns-then-waits_in-clause-waits_for : goal.returns-then-waits_in-clause-waits_for
+returns-then-waits_in-clause-waits_for g c p of =
+    let d = (goal.at.returns-then-waits_in-clause-waits_for g c).After-step-sid in
+    let laws = g.met.W.Of.Automaton.laws (g.W.Walk.of c.args.walk.now) p of in
+    let waits = c.waits_in.ensures.waits c.if-waits_in.true in
+    let stands = stands_silent laws _ _ _ _ _ _ _ _ (omega arith) (omega arith) (held_after g d p of) (rw (same_walk g d) at c.in_default.ensures.told) (c.loop-at.invariant.stands p of) refl in
+    waits_there p _ _ _ _ _ _ laws _ (c.requires.unanchored waits.0) _ _ _ _ _ (omega arith) (omega arith) (omega arith)
+    (rw waits.1 at stands) (rw (same_walk g d) at waits.2)

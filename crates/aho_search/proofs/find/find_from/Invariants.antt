@@ -22,6 +22,7 @@ invariant-loop-at g l =
       same_walk : g.W.Walk.of l.walk ≡ automaton;
       same_text : g.T.Text.bytes l.text ≡ g.T.Text.bytes l.initial.text;
       unread : g.T.Text.next l.text ≤ l.at;
+      forward : g.T.Text.next l.initial.text ≤ g.T.Text.next l.text;
       paid : g.W.Walk.lookups l.walk + g.W.Of.Automaton.depth automaton l.sid ≤ g.W.Walk.lookups l.initial.walk + 2 * (g.T.Text.next l.text - l.start);
       grows : g.W.Walk.lookups l.initial.walk ≤ g.W.Walk.lookups l.walk;
       valid : g.W.Of.Automaton.valid automaton l.sid;

@@ -1,22 +1,32 @@
-use Rattle.std.proofs.Common.{subst}
+use Rattle.std.proofs.Common.{◌≡◌, ◌∙◌, subst}
 use Rattle.std.specs.Result.{IfErr}
-use Rattle.aho_build.specs.Automaton.{IsOf}
 use Rattle.aho_build.specs.Items.{patterns_of, IsFailure, OfAccepted}
+use Rattle.aho_build.specs.Prefilters.{held_by}
 use Rattle.aho_build.specs.declared.settings.Settings.{Settings}
+use Rattle.aho_build.proofs.HeldPrefilters.{held_by-of}
 use Rattle.aho_build.proofs.StoppedBuilds.{IfErr-given}
+use Rattle.aho_corasick.specs.contracts.noncontiguous.NFAAutomaton.TheImpl.{ghosts}
 use Rattle.aho_corasick.proofs.builder.Builder.build.Goals as goal
 
 pub of_compiled-requires : goal.of_compiled-requires
 of_compiled-requires g c =
     let built = c.in_ok-compiled.ensures.built in
-    record { of = (patterns_of c.self.inside.settings built.0, built.2) }
+    record { of = (patterns_of c.self.inside.settings built.0, built.2.0) }
 
 pub returns-clause-built : goal.returns-clause-built
 returns-clause-built g c =
     let built = c.in_ok-compiled.ensures.built in
+    let p = patterns_of c.self.inside.settings built.0 in
     subst
-    (λ (s : Settings). OfAccepted g.I.Iterator.next_gives c.args.patterns s (λ p. IsOf p c.of_compiled.result.match_kind c.of_compiled.result.pattern_lens.items c.of_compiled.result.special c.of_compiled.result.table.states))
-    c.self.view_is (built.0, built.1, c.of_compiled.ensures.of (patterns_of c.self.inside.settings built.0) built.2)
+    (λ (s : Settings). OfAccepted g.I.Iterator.next_gives c.args.patterns s (ghosts.is_of c.of_compiled.result))
+    c.self.view_is (built.0, built.1, c.of_compiled.ensures.of p built.2.0 (held_by-of c.self.inside.settings p _ built.2.1))
+
+pub returns-clause-held : goal.returns-clause-held
+returns-clause-held g c =
+    let built = c.in_ok-compiled.ensures.built in
+    subst
+    (λ (s : Settings). OfAccepted g.I.Iterator.next_gives c.args.patterns s (λ p. ghosts.prefilter c.of_compiled.result ≡ held_by s p))
+    c.self.view_is (built.0, built.1, c.of_compiled.ensures.held ∙ built.2.1)
 
 pub returns-in_err-compiled-clause-refused : goal.returns-in_err-compiled-clause-refused
 returns-in_err-compiled-clause-refused g c =

@@ -36,10 +36,10 @@ returns-in_default-searcher c =
 pub returns : goal.returns
 returns c =
     let place = c.args.span.start + c.in-Some.at in
-    let made : c.new.result ≡ occurrence place (place + length c.in-Memmem.finder) 0 =
+    let made : c.new.result ≡ occurrence place (place + length c.in-Memmem.needle) 0 =
     c.new.ensures.made
-    ∙ ap (λ (k : ℕ). occurrence place (place + length c.needle.result.now) k) c.new_unchecked-pattern.ensures.value
-    ∙ ap (λ (w : List ℕ). occurrence place (place + length w) 0) c.needle.ensures in
+    ∙ ap (λ (k : ℕ). occurrence place (place + c.len.result) k) c.new_unchecked-pattern.ensures.value
+    ∙ ap (λ (n : ℕ). occurrence place (place + n) 0) c.len.ensures.len in
     let finds : FindsFirst c.self.inside.searcher c.args.haystack.now c.args.span.start c.args.span.end (Match c.new.result) = record {
       at = Some c.in-Some.at;
       first = rw c.in-Some.is at c.find.ensures.first;

@@ -13,8 +13,8 @@ held c p taken =
     elim c.match-whole.branch [
       | in-Some w ↦
           let whole = sym (rw w.in-Some.is at taken.whole) in
-          let made = rw w.build_forward_owned-finder.ensures at w.searcher-is in
-          held_for-whole p w.in-Some.needle.items whole ∙ sym made ∙ c.in-Some-searcher.is
+          let made = rw w.new.ensures.bytes at w.searcher-is in
+          held_for-whole p w.in-Some.bytes.items whole ∙ sym made ∙ c.in-Some-searcher.is
       | in-None w ↦
           let whole = sym (rw w.in-None.is at taken.whole) in
           held_for-bytes p whole ∙ sym (w.searcher-is ∙ w.search_for-searcher.ensures.search ∙ ap search_for_few taken.first_bytes) ∙ c.in-Some-searcher.is

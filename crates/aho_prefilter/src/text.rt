@@ -1,6 +1,13 @@
-//! A text that hands out each byte at most once.
+//! A text that hands out each byte at most once, and lets prefilters look ahead.
 
 ghost use Rattle.std.specs.Prelude.{◌≡◌, ℕ, List, ◌+◌, ◌<◌, ◌≤◌, length, slice_index};
+ghost use Rattle.aho_base.specs.Patterns.{Patterns};
+ghost use Rattle.aho_prefilter.specs.Candidate.{IsCandidate};
+ghost use Rattle.aho_prefilter.specs.Finding.{FindsFirst};
+ghost use Rattle.aho_prefilter.specs.Prefilter.{IsPrefilterOf};
+
+use crate::prefilter::{Candidate, Prefilter};
+use aho_base::search::Span;
 
 /// A text that hands out each of its bytes at most once, from the first to the last.
 pub trait Text {
@@ -21,6 +28,14 @@ pub trait Text {
         ensures read { result ≡ slice_index (bytes self.old) at }
         ensures same { bytes self.new ≡ bytes self.old }
         ensures passed { next self.new ≡ at + 1 };
+
+    /// What a prefilter answers for a span, whatever of it was read. What the prefilter reads stays unread for `byte`.
+    fn candidate(&self, prefilter: &Prefilter, span: Span) -> Candidate
+        requires ordered { span.start ≤ span.end }
+        requires within { span.end ≤ length (bytes self.now) }
+        ensures candidate { (p : Patterns) → IsPrefilterOf prefilter.now p
+            → IsCandidate p (bytes self.now) span.start span.end result }
+        ensures first { FindsFirst prefilter.now (bytes self.now) span.start span.end result };
 }
 
 /// The text over a slice.
@@ -52,5 +67,9 @@ impl<'h> Text for Bytes<'h> {
     fn byte(&mut self, at: usize) -> u8 {
         self.next = at + 1;
         self.haystack[at]
+    }
+
+    fn candidate(&self, prefilter: &Prefilter, span: Span) -> Candidate {
+        prefilter.find_in(self.haystack, span)
     }
 }

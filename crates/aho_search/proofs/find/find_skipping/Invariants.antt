@@ -1,0 +1,27 @@
+-- What the loop over candidates keeps.
+use Rattle.std.proofs.Common.{◌≡◌, ◌+◌, ◌-◌, ◌*◌, ◌≤◌, []}
+use Rattle.aho_base.specs.Patterns.{Patterns}
+use Rattle.aho_base.specs.declared.search.Anchored.TheVariants.{No}
+use Rattle.aho_search.specs.Walked.{Carries}
+use Rattle.aho_search.proofs.find.find_skipping.Given as goal
+
+abbrev pub invariant-skips : goal.invariant-skips
+invariant-skips g l =
+    let automaton = g.W.Walk.of l.initial.walk in
+    record {
+      same_walk : g.W.Walk.of l.walk ≡ automaton;
+      same_text : g.T.Text.bytes l.text ≡ g.T.Text.bytes l.initial.text;
+      after_start : l.start ≤ l.at;
+      before_end : l.at ≤ l.end;
+      unread : g.T.Text.next l.text ≤ l.at;
+      forward : g.T.Text.next l.initial.text ≤ g.T.Text.next l.text;
+      paid : g.W.Walk.lookups l.walk ≤ g.W.Walk.lookups l.initial.walk + 2 * (g.T.Text.next l.text - l.start);
+      grows : g.W.Walk.lookups l.initial.walk ≤ g.W.Walk.lookups l.walk;
+      valid : g.W.Of.Automaton.valid automaton l.sid;
+      shallow : g.W.Of.Automaton.depth automaton l.sid ≡ 0;
+      begins : (p : Patterns) → g.W.Of.Automaton.is_of automaton p → g.W.Of.Automaton.held automaton p No [] l.sid;
+      carries : (p : Patterns) → g.W.Of.Automaton.is_of automaton p → Carries p (g.T.Text.bytes l.initial.text) l.start l.end l.at;
+    }
+
+abbrev pub decreases-skips : goal.decreases-skips
+decreases-skips g l = l.end - l.at

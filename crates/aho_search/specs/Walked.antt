@@ -1,0 +1,34 @@
+-- How a walk ends.
+use Rattle.std.specs.Prelude.{◌≡◌, ℕ, ◌<◌, ◌≤◌, List, [], true, Bool}
+use Rattle.aho_base.specs.Answer.{IsAnswer}
+use Rattle.aho_base.specs.Patterns.{Patterns}
+use Rattle.aho_base.specs.Search.{Search}
+use Rattle.aho_prefilter.specs.Candidate.{NoneStartsBefore}
+use Rattle.aho_search.specs.declared.find.Walked.{Walked}
+use Rattle.aho_search.specs.declared.find.Walked.TheVariants.{Answer, Waits}
+
+abbrev pub Carries : Patterns → List ℕ → ℕ → ℕ → ℕ → Type 0
+Carries p haystack start end at = (place : ℕ) → NoneStartsBefore p haystack at end place → NoneStartsBefore p haystack start end place
+
+abbrev pub AnswersSearch : Patterns → Search → Walked → Type 0
+AnswersSearch p search (Answer m) = IsAnswer p search m
+AnswersSearch p search (Waits at sid) = Unit {0}
+
+-- it waits only where it may
+abbrev pub WaitsOnlyIf : Bool → Walked → Type 0
+WaitsOnlyIf may_wait (Answer m) = Unit {0}
+WaitsOnlyIf may_wait (Waits at sid) = may_wait ≡ true
+
+-- it waits in a start at a place past the span's start
+abbrev pub WaitsWithin : ℕ → ℕ → ℕ → Walked → Type 0
+WaitsWithin start end next (Answer m) = Unit {0}
+WaitsWithin start end next (Waits at sid) = (start < at) × (at ≤ end) × (next ≡ at)
+
+abbrev pub WaitsIn : (ℕ → Type 0) → (ℕ → Bool) → Walked → Type 0
+WaitsIn valid starts (Answer m) = Unit {0}
+WaitsIn valid starts (Waits at sid) = valid sid × (starts sid ≡ true)
+
+-- and there the search goes on as if it began there
+abbrev pub WaitsFor : Patterns → (List ℕ → ℕ → Type 0) → List ℕ → ℕ → ℕ → Walked → Type 0
+WaitsFor p held haystack start end (Answer m) = Unit {0}
+WaitsFor p held haystack start end (Waits at sid) = held [] sid × Carries p haystack start end at
