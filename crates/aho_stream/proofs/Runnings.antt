@@ -19,7 +19,7 @@ use Rattle.aho_base.specs.Search.{plain_search}
 use Rattle.aho_devices.specs.Counts.{AppendsBeginning, counted}
 use Rattle.aho_devices.specs.Refusals.{IsFillRefusal, IsWriteRefusal, is_write_fault, is_write_of_nothing}
 use Rattle.aho_search.proofs.Places.{length_part}
-use Rattle.aho_stream.specs.After.{IsAfter, MayFollow, greatest_position, search_from}
+use Rattle.aho_stream.specs.After.{IsAfter, MayFollow, greatest_position, kept_for, search_from}
 use Rattle.aho_stream.specs.Chunks.{Advances, Tells, TellsError, TellsFault, TellsMatch, TellsPlain, ends_between, tells_read_fault}
 use Rattle.aho_stream.specs.Replacing.{Gives, MayBe}
 use Rattle.aho_stream.specs.StreamRun.{RunsOver}
@@ -30,7 +30,7 @@ use Rattle.aho_stream.proofs.Found.{same_fault}
 use Rattle.aho_stream.proofs.GivenBytes.{part_stays}
 use Rattle.aho_stream.proofs.PatternLengths.{occurs_some}
 use Rattle.aho_stream.proofs.Replacings.{all_told, fault_told, gives_on, less_left, limit_told, might_be}
-use Rattle.aho_stream.proofs.StreamRuns.{LeftRun, Took, left_run_first, left_run_match, left_run_plain, runs_to_end, runs_to_refusal, runs_to_stop}
+use Rattle.aho_stream.proofs.StreamRuns.{LeftRun, Took, left_run_first, left_run_match, left_run_plain, runs_to_end, runs_to_refusal, runs_to_stop, runs_up_to}
 
 -- an error that is told is one that a fill can give
 fills_told : (s s' : Progress) (given : List ℕ) (error : StreamError) → TellsError s s' given error → IsFillRefusal error
@@ -102,7 +102,7 @@ module _ {F S : Type 0} (taken : S → Option (List ℕ)) (failures empty_writes
 
     -- the whole run ends so
     abbrev pub Over : ℕ → ℕ → Result (Unit {0}) StreamError → S → Type 0
-    Over failed failed' result new = RunsOver taken failures empty_writes IsOf calls first left' first_reads reads' failed failed' closure begun result new
+    Over failed failed' result new = RunsOver taken failures empty_writes IsOf calls first left' first_reads reads' failed failed' closure begun result new (kept_for lengths)
 
     module _ (p : Patterns) (of : IsOf p) (bytes : List ℕ) (ms : List Occurrence) (may : MayBe given s'.ended bytes) (finds : AreFinds p (plain_search bytes) None ms) where
       abbrev WasLeft : Type 0
@@ -177,6 +177,7 @@ module _ {F S : Type 0} (taken : S → Option (List ℕ)) (failures empty_writes
           whole = over.0;
           read_failed = read_failed_of None is;
           limit = λ stopped. cc;
+          near = λ stopped. cc;
           run = λ p bytes ms of may finds.
               let tells = tells_of p of None is in
               let same = bytes_given bytes may in
@@ -200,6 +201,12 @@ module _ {F S : Type 0} (taken : S → Option (List ℕ)) (failures empty_writes
         fills : IsFillRefusal error
         fills = fills_told s s' given error tells_error
 
+        still_clear : (p : Patterns) (of : IsOf p) (bytes : List ℕ) (ms : List Occurrence) (may : MayBe given s'.ended bytes) (finds : AreFinds p (plain_search bytes) None ms)
+            (m : Occurrence) → IsAnswer p (search_from s.from bytes) (Some m) → s'.reported ≤ m.start
+        still_clear p of bytes ms may finds m found =
+            (now_after p of).clear may.0 m may.2 (subst (λ (k : ℕ). IsAnswer p (search_from k (given ++ may.0)) (Some m)) (sym fault.still.from)
+            (subst (λ (xs : List ℕ). IsAnswer p (search_from s.from xs) (Some m)) may.1 found))
+
         pub over_error : s.limit ≡ greatest_position → Over failed failed' (Err error) sink
         over_error greatest = record {
           given = given;
@@ -209,13 +216,22 @@ module _ {F S : Type 0} (taken : S → Option (List ℕ)) (failures empty_writes
           whole = tt;
           read_failed = read_failed_of (Some (Err error)) is ∙ ap (λ (b : Bool). counted b failed) (same_fault StreamPiece (Unit {0}) error);
           limit = λ stopped met. limit_told s s' given error tells_error met ∙ greatest;
+          near = λ stopped.
+              let a' = now_after p₀ of₀ in (
+                s.reported,
+                omega (arith, fault.still.reported, a'.reported_walked, a'.walked_read, a'.count),
+                omega (arith, fault.still.reported, fault.near, a'.least),
+                λ p bytes ms of may finds. (
+                  now,
+                  runs_up_to taken failures empty_writes calls closure begun p bytes ms lengths (are p of) (now_after p of).no_empty s.from s.reported ((running.after p of).from_reported) now sink
+                      (was p of bytes ms may finds) true (λ m found. omega (arith, still_clear p of bytes ms may finds m found, fault.still.reported)),
+                ),
+              );
           run = λ p bytes ms of may finds.
               let left = was p of bytes ms may finds in
               let a = running.after p of in
               let a' = now_after p of in
-              let clear = λ (m : Occurrence) (found : IsAnswer p (search_from s.from bytes) (Some m)).
-              a'.clear may.0 m may.2 (subst (λ (k : ℕ). IsAnswer p (search_from k (given ++ may.0)) (Some m)) (sym fault.still.from)
-              (subst (λ (xs : List ℕ). IsAnswer p (search_from s.from xs) (Some m)) may.1 found)) in (
+              let clear = still_clear p of bytes ms may finds in (
                 now,
                 runs_to_stop taken failures empty_writes calls closure begun p bytes ms lengths (are p of) a'.no_empty s.from s.reported a.from_reported now sink left
                     true s'.reported (omega (arith, fits p of bytes ms may finds, a'.reported_walked, a'.walked_read, a'.count)) clear
@@ -242,6 +258,7 @@ module _ {F S : Type 0} (taken : S → Option (List ℕ)) (failures empty_writes
           whole = tt;
           read_failed = read_failed_of (Some (Ok NonMatch)) is;
           limit = λ stopped. cc;
+          near = λ stopped. cc;
           run = λ p bytes ms of may finds.
               let tells = tells_of p of (Some (Ok NonMatch)) is in
               let left = was p of bytes ms may finds in
@@ -278,6 +295,7 @@ module _ {F S : Type 0} (taken : S → Option (List ℕ)) (failures empty_writes
         whole = tt;
         read_failed = read_failed_of (Some (Ok (Match m))) is;
         limit = λ stopped. cc;
+        near = λ stopped. cc;
         run = λ p bytes ms of may finds.
             let tells = tells_of p of (Some (Ok (Match m))) is in
             let a = running.after p of in (

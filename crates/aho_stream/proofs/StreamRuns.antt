@@ -1,11 +1,12 @@
 -- What is left of a run of a closure over a stream, from one chunk told to the next.
-use Rattle.std.proofs.Common.{◌≡◌, ℕ, ◌+◌, ◌-◌, ◌≤◌, Bool, true, List, [], ◌∷◌, ◌++◌, length, drop, take, map, refl, sym, ◌∙◌, ap, subst, arith, append-nil, inl, inr}
+use Rattle.std.proofs.Common.{◌≡◌, ℕ, ◌+◌, ◌-◌, ◌≤◌, Bool, true, if◌then◌else◌, List, [], ◌∷◌, ◌++◌, length, drop, take, map, refl, sym, ◌∙◌, ap, subst, arith, append-nil, inl, inr}
 use Rattle.std.specs.Prelude.{Option, Some, None, Result, Ok, Err, MatchBool, slice_range}
 use Rattle.std.specs.Borrow.{Bor, MutBor}
 use Rattle.std.specs.Fn.{Mut}
 use Rattle.std.specs.Io.KnownBytes.{Appends}
 use Rattle.std.proofs.KnownBytes.{Appends-nil, Appends-trans}
-use Rattle.std.proofs.lemmas.List.{drop_all, length-drop, length-take, take-take}
+use Rattle.std.proofs.lemmas.Bool.{lt-ltb, le-ltb}
+use Rattle.std.proofs.lemmas.List.{drop_all, drop-take, length-drop, length-take, take-take}
 use Rattle.std.proofs.lemmas.List.Folds.{drop_split}
 use Rattle.aho_base.specs.declared.error.stream.StreamError.{StreamError}
 use Rattle.aho_base.specs.Answer.{IsAnswer}
@@ -20,8 +21,16 @@ use Rattle.aho_devices.specs.Refusals.{IsFillRefusal, IsWriteRefusal, is_write_f
 use Rattle.aho_search.proofs.NextFinds.{finds-next, finds-none}
 use Rattle.aho_search.proofs.Places.{no_part, part_join}
 use Rattle.aho_stream.specs.After.{search_from}
-use Rattle.aho_stream.specs.StreamRun.{CallsOn, Takes}
+use Rattle.aho_stream.specs.StreamRun.{CallsOn, Takes, starting_before}
+use Rattle.aho_stream.proofs.PatternLengths.{occurs_some}
 use Rattle.aho_stream.proofs.StreamFinds.{answer_of_find, find_of_answer}
+
+-- a part of what stands before a place
+part_cut : (bytes : List ℕ) (place start end : ℕ) → start ≤ end → end ≤ place → slice_range (take place bytes) start end ≡ slice_range bytes start end
+part_cut bytes place start end ordered within =
+    let split : start + (place - start) ≡ place = omega arith in
+    ap (take (end - start)) (ap (λ (k : ℕ). drop start (take k bytes)) (sym split) ∙ drop-take start (place - start) bytes)
+    ∙ take-take (end - start) (place - start) (drop start bytes) (omega arith)
 
 module _ {F S : Type 0} (taken : S → Option (List ℕ)) (failures empty_writes : S → ℕ)
     (calls : Mut F (Bor Occurrence × (Bor (List ℕ) × (MutBor S × Unit {0}))) (Result (Unit {0}) StreamError × (MutBor S × Unit {0}))) (closure : F) (begun : S) where
@@ -47,6 +56,9 @@ module _ {F S : Type 0} (taken : S → Option (List ℕ)) (failures empty_writes
       pub lent : S
       pub gap : Took lent (slice_range bytes from reported) sink
       pub whole : (stopped : Bool) (result : Result (Unit {0}) StreamError) (left : F) (new : S) → Run stopped bytes from rest now lent result left new → Run stopped bytes 0 ms closure begun result left new
+      -- and the run up to a place to that up to the place
+      pub up_to : (place : ℕ) → reported ≤ place → (stopped : Bool) (result : Result (Unit {0}) StreamError) (left : F) (new : S)
+          → Run stopped (take place bytes) from (starting_before place rest) now lent result left new → Run stopped (take place bytes) 0 (starting_before place ms) closure begun result left new
 
     pub left_run_first : AreFinds p (plain_search bytes) None ms → LeftRun 0 0 closure begun
     left_run_first finds = record {
@@ -56,6 +68,7 @@ module _ {F S : Type 0} (taken : S → Option (List ℕ)) (failures empty_writes
       lent = begun;
       gap = record { bytes_are = subst (Appends (taken begun) (taken begun)) (sym (no_part bytes 0)) (Appends-nil (taken begun)); no_failure = refl; no_empty_write = refl };
       whole = λ stopped result left new run. run;
+      up_to = λ place after stopped result left new run. run;
     }
 
     module _ (lengths : List ℕ) (are : lengths ≡ map length p.words) (no_empty : 1 ≤ shortest lengths) (from reported : ℕ) (ordered : from ≤ reported) (now : F) (sink : S) (left : LeftRun from reported now sink) where
@@ -73,6 +86,7 @@ module _ {F S : Type 0} (taken : S → Option (List ℕ)) (failures empty_writes
           no_empty_write = took.no_empty_write ∙ left.gap.no_empty_write;
         };
         whole = left.whole;
+        up_to = λ place after. left.up_to place (omega (arith, after, later));
       }
 
       -- no more comes, and all was written
@@ -84,6 +98,24 @@ module _ {F S : Type 0} (taken : S → Option (List ℕ)) (failures empty_writes
           let run : Run stopped bytes from [] now left.lent (Ok tt) now sink =
           (refl, took_takes stopped left.lent (drop from bytes) sink (subst (λ (xs : List ℕ). Took left.lent xs sink) rest left.gap)) in
           left.whole stopped (Ok tt) now sink (subst (λ (ns : List Occurrence). Run stopped bytes from ns now left.lent (Ok tt) now sink) (sym over) run)
+
+      none_before : ((m : Occurrence) → IsAnswer p (search_from from bytes) (Some m) → reported ≤ m.start) → (last : Option ℕ) (rest : List Occurrence)
+          → AreFinds p (search_from from bytes) last rest → starting_before reported rest ≡ []
+      none_before clear last [] finds = refl
+      none_before clear last (m ∷ rest) finds =
+          ap (λ (b : Bool). if b then m ∷ starting_before reported rest else [])
+          (le-ltb m.start reported (clear m (answer_of_find p lengths are no_empty bytes from last (Some m) finds.0)))
+
+      -- where the next match starts at what was reported or later, the run up to there has come to its end
+      pub runs_up_to : (stopped : Bool) → ((m : Occurrence) → IsAnswer p (search_from from bytes) (Some m) → reported ≤ m.start)
+          → Run stopped (take reported bytes) 0 (starting_before reported ms) closure begun (Ok tt) now sink
+      runs_up_to stopped clear =
+          let split : from + (reported - from) ≡ reported = omega arith in
+          let gap : drop from (take reported bytes) ≡ slice_range bytes from reported = ap (λ (k : ℕ). drop from (take k bytes)) (sym split) ∙ drop-take from (reported - from) bytes in
+          let run : Run stopped (take reported bytes) from [] now left.lent (Ok tt) now sink =
+          (refl, took_takes stopped left.lent (drop from (take reported bytes)) sink (subst (λ (xs : List ℕ). Took left.lent xs sink) (sym gap) left.gap)) in
+          left.up_to reported (omega arith) stopped (Ok tt) now sink
+          (subst (λ (ns : List Occurrence). Run stopped (take reported bytes) from ns now left.lent (Ok tt) now sink) (sym (none_before clear left.last left.rest left.finds)) run)
 
       -- a beginning of the next gap was taken, and then it stopped
       module _ (stopped : Bool) (place : ℕ) (within : place ≤ length bytes) (clear : (m : Occurrence) → IsAnswer p (search_from from bytes) (Some m) → place ≤ m.start)
@@ -132,6 +164,20 @@ module _ {F S : Type 0} (taken : S → Option (List ℕ)) (failures empty_writes
                   let whole_run : Run stopped bytes from (m ∷ rest) now left.lent result last new =
                   inr (sink, took_takes stopped left.lent (slice_range bytes from m.start) sink took_gap, (Ok true, next, sink', (refl, called), run)) in
                   left.whole stopped result last new (subst (λ (ns : List Occurrence). Run stopped bytes from ns now left.lent result last new) (sym same) whole_run);
+              up_to = λ place after stopped result last new run.
+                  let some = occurs_some p lengths are m answer.0 no_empty in
+                  let cut : starting_before place left.rest ≡ m ∷ starting_before place rest =
+                  ap (starting_before place) same ∙ ap (λ (b : Bool). if b then m ∷ starting_before place rest else []) (lt-ltb m.start place (omega (arith, some, after))) in
+                  let gap = part_cut bytes place from m.start (omega (arith, starts, ordered)) (omega (arith, some, after)) in
+                  let piece = part_cut bytes place m.start m.end (omega (arith, some)) after in
+                  let cut_run : Run stopped (take place bytes) from (m ∷ starting_before place rest) now left.lent result last new =
+                  inr (
+                    sink,
+                    took_takes stopped left.lent (slice_range (take place bytes) from m.start) sink (subst (λ (xs : List ℕ). Took left.lent xs sink) (sym gap) took_gap),
+                    (Ok true, next, sink', (refl, subst (λ (xs : List ℕ). CalledOn calls now m xs sink (Ok tt) next sink') (sym piece) called), run),
+                  ) in
+                  left.up_to place (omega (arith, some, starts, after)) stopped result last new
+                  (subst (λ (ns : List Occurrence). Run stopped (take place bytes) from ns now left.lent result last new) (sym cut) cut_run);
             }
 
         -- or it refused

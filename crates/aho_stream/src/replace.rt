@@ -181,7 +181,8 @@ where
         (R.remaining chunks.old.source.now) (R.remaining chunks.new.source.now)
         (R.empty_reads chunks.old.source.now) (R.empty_reads chunks.new.source.now)
         (R.failures chunks.old.source.now) (R.failures chunks.new.source.now)
-        replace_with sink.old result sink.new }
+        replace_with sink.old result sink.new
+        (kept_for (A.lengths (⟦<Counted<'a, A> as Walk>⟧.of chunks.old.walk))) }
 {
     while let Some(answer) = chunks.advance() {
         match answer? {
@@ -203,7 +204,9 @@ where
 /// `Match` and `Memory` as `StreamChunkIter::new`, before anything is read. An error of the closure ends the replacing
 /// and is passed on. Else `Read` exactly where a read fails, `Write` where a write of bytes outside of a match fails,
 /// `WriteZero` where such a write takes none, and `PositionLimit` where 2^63 - 1 bytes were given and the end was not
-/// seen. Nothing is tried again, and of the bytes behind the last match a beginning was written then.
+/// seen. Nothing is tried again, and of the bytes behind the last match a beginning was written then. After a
+/// failed read, and at the limit, every match was passed on and all was written up to a place that is as far from the
+/// last byte given as the longest pattern is long, at most.
 pub fn try_stream_replace_all_with<A: Automaton, R: Source, W: Sink, F>(
     alloc: Global,
     automaton: &A,
@@ -222,7 +225,7 @@ where
         (R.remaining source.old) (R.remaining source.new)
         (R.empty_reads source.old) (R.empty_reads source.new)
         (R.failures source.old) (R.failures source.new)
-        replace_with sink.old result sink.new }
+        replace_with sink.old result sink.new (kept_for (A.lengths automaton.now)) }
     ensures unsupported { A.kind automaton.now ≢ Standard
         → (result ≡ Err (StreamError.Match (UnsupportedStream (A.kind automaton.now))))
         × (source.new ≡ source.old) × (sink.new ≡ sink.old) }
