@@ -1,27 +1,30 @@
--- The clone has an equal table and equal lengths.
-use Rattle.std.proofs.Common.{◌≡◌, ℕ, List, [], ◌∷◌, rules, refl, sym, ap, subst, ◌∙◌}
-use Rattle.std.specs.List.{AllZip}
+-- The clone has an equal table, equal lengths and an equal prefilter.
+use Rattle.std.proofs.Common.{◌≡◌, ℕ, List, Option, ◌+◌, rules, sym, ap, subst, ◌∙◌}
+use Rattle.std.specs.List.{each_same}
+use Rattle.std.specs.Prelude.{IfSome}
+use Rattle.aho_base.specs.Patterns.{Patterns}
+use Rattle.aho_prefilter.specs.Prefilter.{IsPrefilterOf, prefilter_bytes}
+use Rattle.aho_prefilter.specs.declared.prefilter.Searcher.{Searcher}
 use Rattle.aho_table.specs.Table.{Tables}
 use Rattle.aho_build.specs.Automaton.{IsOf, memory_of}
 use Rattle.aho_corasick.proofs.noncontiguous.NFA.try_clone.Goals as goal
 
-same_items : (xs ys : List ℕ) → AllZip (λ x y. y ≡ x) xs ys → ys ≡ xs
-same_items [] [] same = refl
-same_items [] (y ∷ ys) same = absurd same
-same_items (x ∷ xs) [] same = absurd same
-same_items (x ∷ xs) (y ∷ ys) same = ap (λ (n : ℕ). n ∷ ys) same.0 ∙ ap (λ (l : List ℕ). x ∷ l) (same_items xs ys same.1)
-
 pub returns : goal.returns
 returns c =
     let table : c.in_ok-try_clone.field-0 ≡ c.args.self.now.table = c.in_ok-try_clone.ensures.same in
-    let lens : c.in_ok-clone.field-0.items ≡ c.args.self.now.pattern_lens.items = same_items c.args.self.now.pattern_lens.items c.in_ok-clone.field-0.items c.in_ok-clone.ensures.cases.0 in
+    let lens : c.in_ok-clone.field-0.items ≡ c.args.self.now.pattern_lens.items = each_same c.args.self.now.pattern_lens.items c.in_ok-clone.field-0.items c.in_ok-clone.ensures.cases.0 in
+    let held : c.in_ok-clone_of.field-0 ≡ c.args.self.now.prefilter = c.in_ok-clone_of.ensures.same in
     record {
       same = record {
         same_patterns = λ p. (
-          λ is. subst (λ (t : Tables). IsOf p c.args.self.now.match_kind c.in_ok-clone.field-0.items c.args.self.now.special t.states) (sym table)
-              (subst (λ (ls : List ℕ). IsOf p c.args.self.now.match_kind ls c.args.self.now.special c.args.self.now.table.states) (sym lens) is),
-          λ is. subst (λ (ls : List ℕ). IsOf p c.args.self.now.match_kind ls c.args.self.now.special c.args.self.now.table.states) lens
-              (subst (λ (t : Tables). IsOf p c.args.self.now.match_kind c.in_ok-clone.field-0.items c.args.self.now.special t.states) table is),
+          λ is. (
+            subst (λ (t : Tables). IsOf p c.args.self.now.match_kind c.in_ok-clone.field-0.items c.args.self.now.special t.states) (sym table)
+              (subst (λ (ls : List ℕ). IsOf p c.args.self.now.match_kind ls c.args.self.now.special c.args.self.now.table.states) (sym lens) is.0),
+            subst (λ (searcher : Option Searcher). IfSome searcher (λ s. IsPrefilterOf s p)) (sym held) is.1),
+          λ is. (
+            subst (λ (ls : List ℕ). IsOf p c.args.self.now.match_kind ls c.args.self.now.special c.args.self.now.table.states) lens
+              (subst (λ (t : Tables). IsOf p c.args.self.now.match_kind c.in_ok-clone.field-0.items c.args.self.now.special t.states) table is.0),
+            subst (λ (searcher : Option Searcher). IfSome searcher (λ s. IsPrefilterOf s p)) held is.1),
         );
         same_held = search rules;
         same_valid = search rules;
@@ -35,6 +38,10 @@ returns c =
         same_next = search rules;
         same_lookups = search rules;
         same_start = search rules;
-        same_memory = ap (λ (t : Tables). memory_of t.states c.in_ok-clone.field-0.items) table ∙ ap (memory_of c.args.self.now.table.states) lens;
+        same_memory =
+            ap (λ (t : Tables). memory_of t.states c.in_ok-clone.field-0.items + prefilter_bytes c.in_ok-clone_of.field-0) table
+            ∙ ap (λ (ls : List ℕ). memory_of c.args.self.now.table.states ls + prefilter_bytes c.in_ok-clone_of.field-0) lens
+            ∙ ap (λ (searcher : Option Searcher). memory_of c.args.self.now.table.states c.args.self.now.pattern_lens.items + prefilter_bytes searcher) held;
+        same_prefilter = held;
       };
     }
