@@ -6,7 +6,7 @@
 //! or writing fails, and then a line on standard error says why.
 #![tactic(auto)]
 
-ghost use Rattle.std.specs.Prelude.{◌≢◌, ◌≡◌, ◌<◌, ◌≤◌, map, Some, None, IfOk, IfErr, OnErr, string_bytes};
+ghost use Rattle.std.specs.Prelude.{◌≢◌, ◌≡◌, ◌<◌, ◌≤◌, map, Some, None, IfOk, IfErr, OnErr, false, is_some, string_bytes};
 ghost use Rattle.std.specs.IoError.{error_kind};
 ghost use Rattle.std.specs.Process.{exit_status};
 ghost use Rattle.acfind.specs.Answers.{AppendsBeginning, Replaces, Tells};
@@ -72,7 +72,11 @@ fn exit_over<W: Write + Drop>(
 }
 
 /// Whether each line of the output is to be seen soon, since the input may have no end.
-fn shows_lines(words: &Result<Vec<String>, Fault>) -> bool {
+fn shows_lines(words: &Result<Vec<String>, Fault>) -> bool
+    ensures replaces { IfOk words.now (λ words.
+        result ≡ is_some (replacing_by (map string_bytes words.items))) }
+    ensures faulty { OnErr words.now (result ≡ false) }
+{
     match words {
         Ok(words) => parse_replace(words.as_slice()).is_some(),
         Err(_) => false,
