@@ -25,7 +25,7 @@ pub struct Settings {
     pub ignore_case: bool,
     /// Up to which distance from the start states have dense rows. It has no effect yet.
     pub dense_depth: usize,
-    /// Whether a prefilter may be held. It has no effect yet.
+    /// Whether a prefilter is held where there is one for the patterns.
     pub prefilter: bool,
     /// The greatest numbers that the build may use.
     pub limits: Limits,

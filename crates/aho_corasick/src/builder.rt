@@ -13,7 +13,8 @@ use aho_search::automaton::Automaton;
 use std::alloc::Global;
 use std::marker::Model;
 
-/// How an automaton is built: the match kind, the case rule, the limits, and two settings that are kept for later layouts.
+/// How an automaton is built: the match kind, the case rule, the limits, whether a prefilter may be held, and a setting that
+/// is kept for later layouts.
 #[derive(Clone, Drop)]
 pub struct Builder {
     settings: Settings,
@@ -104,7 +105,7 @@ impl Builder {
         self
     }
 
-    /// Whether a prefilter may be held. It is kept, and has no effect yet.
+    /// Whether a prefilter is held where there is one for the patterns. No answer depends on it.
     pub fn prefilter(&mut self, yes: bool) -> &mut Builder
         ensures same { result.ghost_name ≡ self.entry.ghost_name }
         ensures set { result.now ≡ record self.old { prefilter = yes } }

@@ -131,7 +131,8 @@ pub trait Automaton {
             held self.now p anchored word sid →
             work.new ≡ work.old + lookups self.now p anchored word byte };
 
-    /// Whether a search has to look at the state: each dead state is special, and each that lists a pattern.
+    /// Whether a search has to look at the state: each dead state is special, and each that lists a pattern. A search skips
+    /// only from a start that is special.
     fn is_special(&self, sid: StateID) -> bool
         requires valid { valid self.now sid }
         ensures special { result ≡ special self.now sid };

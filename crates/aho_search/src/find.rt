@@ -23,6 +23,14 @@
 //!
 //! A state that is not special is neither dead nor tells a match, so it is passed over after one test.
 //!
+//! # Where it skips
+//!
+//! Unanchored, and where the automaton holds a prefilter, the search asks it for a candidate at its beginning. Nothing of
+//! the span starts before a candidate, so the walk begins there. Once it is led to a start with nothing found it waits:
+//! what ends later starts there or later, so a candidate of the rest is the next place to begin at. No other state says
+//! that, and none is skipped from. A candidate that is a whole match is the answer, unless the earliest is wanted: then the
+//! walk begins where that match starts, since it need not end first.
+//!
 //! # What it costs
 //!
 //! A step may look up many transitions, but each look-up past the second leads one state back towards the start. So
@@ -266,6 +274,9 @@ fn find_skipping<W: Walk, T: Text>(
 }
 
 /// The match that the search of a span finds, by a walk that reads each byte at most once and takes no memory.
+///
+/// An unanchored search skips by the automaton's prefilter, where one is held. What the prefilter reads is not counted, and
+/// no answer depends on it.
 ///
 /// A span whose start is above its end is done: nothing is found, and nothing is read.
 ///

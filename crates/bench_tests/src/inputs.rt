@@ -482,7 +482,8 @@ fn search_random(
         for kind in KINDS {
             for ignore_case in [false, true] {
                 let patterns = PatternSet::new(&words, kind, ignore_case);
-                let nfa = nfa_of(rt, alloc, &words, kind, ignore_case);
+                let prefilter = random.below(2) == 0;
+                let nfa = nfa_with(rt, alloc, &words, kind, ignore_case, prefilter);
                 let haystack = random.range(&bytes, 12);
                 search_spans(rt, alloc, Way::Once, name, &patterns, &nfa, haystack);
                 if kind == MatchKind::Standard {

@@ -19,7 +19,8 @@ pub struct PrefilterPatterns {
 impl PrefilterPatterns {
     /// No pattern yet.
     pub fn new(alloc: Global, settings: &Settings) -> PrefilterPatterns
-        ensures empty { (p : Patterns) → p.words ≡ [] → p.ignore_case ≡ settings.now.ignore_case
+        ensures empty { (p : Patterns) → p.words ≡ []
+            → p.ignore_case ≡ settings.now.ignore_case
             → Collects settings.now p result }
     {
         if !settings.prefilter {
