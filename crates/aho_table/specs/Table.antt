@@ -20,8 +20,8 @@ pub record State : Type 0 where
   pub fail : ℕ
   pub depth : ℕ
 
--- the states, the greatest index that a table may use, the borders between the classes of bytes, and how many entries the rows of
--- states have together, the dummy at index 0 among them
+-- the states, the greatest index that a table may use, the borders between the classes of bytes, and how many entries there are
+-- for rows of states, the dummy at index 0 among them
 pub record Tables : Type 0 where
   pub states : List State
   pub limit : ℕ

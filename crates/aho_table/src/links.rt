@@ -152,8 +152,8 @@ impl State {
 
 /// The states of an automaton, with the transitions and patterns that each lists.
 ///
-/// An index of a state, of a transition or of a listed pattern is at most the table's limit. Index 0 of the transitions and
-/// of the patterns is taken from the start.
+/// An index of a state, of a transition, of a listed pattern or of the start of a row is at most the table's limit. Index 0 of
+/// the transitions, of the patterns and of the rows' entries is taken from the start.
 #[derive(Drop)]
 pub struct Table {
     states: Vec<State>,
@@ -270,7 +270,7 @@ impl Table {
     }
 
     /// The byte leads from the state to the next one. A byte that leads somewhere already is led elsewhere, and nothing
-    /// grows.
+    /// grows. A row of the state is forgotten: its entries stay counted, and the state answers by its list.
     ///
     /// # Errors
     ///
