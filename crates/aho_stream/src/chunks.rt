@@ -3,14 +3,13 @@
 ghost use Rattle.std.specs.Prelude.{◌≡◌, ◌≢◌, ◌+◌, ◌*◌, ◌<◌, ◌≤◌, ◌^◌, min, ℕ, List, [], Option, Some, None, Ok, Err, IfOk, IfErr, IfSome, length, slice_range, true, false, MatchBool, ◌-◌, ◌||◌};
 ghost use Rattle.aho_base.specs.Laws.{shortest};
 ghost use Rattle.aho_base.specs.Patterns.{Patterns};
-ghost use Rattle.aho_base.specs.declared.error.MatchErrorKind.{MatchErrorKind};
 ghost use Rattle.aho_base.specs.declared.error.MatchErrorKind.TheVariants.{UnsupportedStream, UnsupportedEmpty};
 ghost use Rattle.aho_base.specs.declared.search.Anchored.TheVariants.{No};
 ghost use Rattle.aho_base.specs.declared.search.MatchKind.TheVariants.{Standard};
 ghost use Rattle.aho_devices.specs.Counts.{counted};
 ghost use Rattle.aho_stream.specs.After.{IsAfter, greatest_position};
 ghost use Rattle.aho_stream.specs.Chunks.{Advances, TellsChunk, ends_between, tells_limit, tells_read_fault};
-ghost use Rattle.aho_stream.specs.Replacing.{IsMakingRefusal};
+ghost use Rattle.aho_stream.specs.Replacing.{IsMakingRefusal, Refuses};
 
 use crate::progress::{Progress, StreamPiece};
 use crate::walk::walk_on;
@@ -75,19 +74,8 @@ pub(crate) fn begin<A: Automaton>(
     ensures after { (p : Patterns) → A.is_of automaton.now p → IfOk result (λ s.
         IsAfter p (A.lengths automaton.now) (A.valid automaton.now) (A.held automaton.now p)
         (A.depth automaton.now) 0 s []) }
-    ensures unsupported { A.kind automaton.now ≢ Standard
-        → result ≡ Err (StreamError.Match (UnsupportedStream (A.kind automaton.now))) }
-    ensures empty { A.kind automaton.now ≡ Standard
-        → shortest (A.lengths automaton.now) ≡ 0
-        → result ≡ Err (StreamError.Match UnsupportedEmpty) }
-    ensures refused { (reason : MatchErrorKind) → A.kind automaton.now ≡ Standard
-        → 1 ≤ shortest (A.lengths automaton.now)
-        → A.start automaton.now No ≡ Err reason
-        → result ≡ Err (StreamError.Match reason) }
-    ensures memory { (sid : ℕ) → A.kind automaton.now ≡ Standard
-        → 1 ≤ shortest (A.lengths automaton.now)
-        → A.start automaton.now No ≡ Ok sid
-        → IfErr result (λ error. error ≡ StreamError.Memory) }
+    ensures refuses { Refuses (A.kind automaton.now) (A.lengths automaton.now)
+        (A.start automaton.now No) result }
     ensures only { IfErr result IsMakingRefusal }
 {
     let start = check(automaton)?;
@@ -258,19 +246,8 @@ impl<'a, 'r, A: Automaton, R: Source> StreamChunkIter<'a, 'r, A, R> {
             IsAfter p (A.lengths automaton.entry.now) (A.valid automaton.entry.now)
             (A.held automaton.entry.now p) (A.depth automaton.entry.now)
             (⟦<Counted<'a, A> as Walk>⟧.lookups it.walk) it.progress []) }
-        ensures unsupported { A.kind automaton.entry.now ≢ Standard
-            → result ≡ Err (StreamError.Match (UnsupportedStream (A.kind automaton.entry.now))) }
-        ensures empty { A.kind automaton.entry.now ≡ Standard
-            → shortest (A.lengths automaton.entry.now) ≡ 0
-            → result ≡ Err (StreamError.Match UnsupportedEmpty) }
-        ensures refused { (reason : MatchErrorKind) → A.kind automaton.entry.now ≡ Standard
-            → 1 ≤ shortest (A.lengths automaton.entry.now)
-            → A.start automaton.entry.now No ≡ Err reason
-            → result ≡ Err (StreamError.Match reason) }
-        ensures memory { (sid : ℕ) → A.kind automaton.entry.now ≡ Standard
-            → 1 ≤ shortest (A.lengths automaton.entry.now)
-            → A.start automaton.entry.now No ≡ Ok sid
-            → IfErr result (λ error. error ≡ StreamError.Memory) }
+        ensures refuses { Refuses (A.kind automaton.entry.now) (A.lengths automaton.entry.now)
+            (A.start automaton.entry.now No) result }
     {
         StreamChunkIter::with_limit(alloc, automaton, source, MAX_POSITION)
     }
@@ -301,19 +278,8 @@ impl<'a, 'r, A: Automaton, R: Source> StreamChunkIter<'a, 'r, A, R> {
             IsAfter p (A.lengths automaton.entry.now) (A.valid automaton.entry.now)
             (A.held automaton.entry.now p) (A.depth automaton.entry.now)
             (⟦<Counted<'a, A> as Walk>⟧.lookups it.walk) it.progress []) }
-        ensures unsupported { A.kind automaton.entry.now ≢ Standard
-            → result ≡ Err (StreamError.Match (UnsupportedStream (A.kind automaton.entry.now))) }
-        ensures empty { A.kind automaton.entry.now ≡ Standard
-            → shortest (A.lengths automaton.entry.now) ≡ 0
-            → result ≡ Err (StreamError.Match UnsupportedEmpty) }
-        ensures refused { (reason : MatchErrorKind) → A.kind automaton.entry.now ≡ Standard
-            → 1 ≤ shortest (A.lengths automaton.entry.now)
-            → A.start automaton.entry.now No ≡ Err reason
-            → result ≡ Err (StreamError.Match reason) }
-        ensures memory { (sid : ℕ) → A.kind automaton.entry.now ≡ Standard
-            → 1 ≤ shortest (A.lengths automaton.entry.now)
-            → A.start automaton.entry.now No ≡ Ok sid
-            → IfErr result (λ error. error ≡ StreamError.Memory) }
+        ensures refuses { Refuses (A.kind automaton.entry.now) (A.lengths automaton.entry.now)
+            (A.start automaton.entry.now No) result }
     {
         let progress = begin(alloc, automaton, limit)?;
         Ok(StreamChunkIter::over(automaton, source, progress))

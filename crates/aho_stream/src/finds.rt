@@ -1,16 +1,13 @@
 //! The matches of a stream, one after another.
 
-ghost use Rattle.std.specs.Prelude.{◌≡◌, ◌≢◌, ◌≤◌, ℕ, List, [], None, Some, Ok, Err, IfOk, IfErr, true};
-ghost use Rattle.aho_base.specs.Laws.{shortest};
+ghost use Rattle.std.specs.Prelude.{◌≡◌, ◌≤◌, ℕ, List, [], None, IfOk, true};
 ghost use Rattle.aho_base.specs.Patterns.{Patterns};
-ghost use Rattle.aho_base.specs.declared.error.MatchErrorKind.{MatchErrorKind};
-ghost use Rattle.aho_base.specs.declared.error.MatchErrorKind.TheVariants.{UnsupportedStream, UnsupportedEmpty};
 ghost use Rattle.aho_base.specs.declared.search.Anchored.TheVariants.{No};
-ghost use Rattle.aho_base.specs.declared.search.MatchKind.TheVariants.{Standard};
 ghost use Rattle.aho_devices.specs.Counts.{counted};
 ghost use Rattle.aho_stream.specs.After.{IsAfter, greatest_position};
 ghost use Rattle.aho_stream.specs.Chunks.{ends_between, tells_read_fault};
 ghost use Rattle.aho_stream.specs.Finds.{FindsNext};
+ghost use Rattle.aho_stream.specs.Replacing.{Refuses};
 
 use crate::chunks::StreamChunkIter;
 use aho_base::error::StreamError;
@@ -50,19 +47,8 @@ pub fn try_stream_find_iter<'a, 'r, A: Automaton, R: Source>(
         (A.held automaton.entry.now p) (A.depth automaton.entry.now)
         (⟦<Counted<'a, A> as Walk>⟧.lookups it.chunks.walk) it.chunks.progress []) }
     ensures ready { IfOk result ⟦<StreamFindIter<'a, 'r, A, R> as Iterator>⟧.can_next }
-    ensures unsupported { A.kind automaton.entry.now ≢ Standard
-        → result ≡ Err (StreamError.Match (UnsupportedStream (A.kind automaton.entry.now))) }
-    ensures empty { A.kind automaton.entry.now ≡ Standard
-        → shortest (A.lengths automaton.entry.now) ≡ 0
-        → result ≡ Err (StreamError.Match UnsupportedEmpty) }
-    ensures refused { (reason : MatchErrorKind) → A.kind automaton.entry.now ≡ Standard
-        → 1 ≤ shortest (A.lengths automaton.entry.now)
-        → A.start automaton.entry.now No ≡ Err reason
-        → result ≡ Err (StreamError.Match reason) }
-    ensures memory { (sid : ℕ) → A.kind automaton.entry.now ≡ Standard
-        → 1 ≤ shortest (A.lengths automaton.entry.now)
-        → A.start automaton.entry.now No ≡ Ok sid
-        → IfErr result (λ error. error ≡ StreamError.Memory) }
+    ensures refuses { Refuses (A.kind automaton.entry.now) (A.lengths automaton.entry.now)
+        (A.start automaton.entry.now No) result }
 {
     Ok(StreamFindIter {
         chunks: StreamChunkIter::new(alloc, automaton, source)?,

@@ -110,6 +110,22 @@ fn puts_in_brackets(
     })
 }
 
+/// What the replacement of a stream answers, where "X" is written for each match, and the closure answers this.
+fn puts_an_x(
+    alloc: Global,
+    nfa: &NFA,
+    source: &mut ScriptedSource<'_>,
+    sink: &mut ScriptedSink<'_>,
+    answer: Result<(), StreamError>,
+) -> Result<(), StreamError>
+    requires of { (p : Patterns) × ⟦<NFA as Automaton>⟧.is_of nfa.now p }
+{
+    try_stream_replace_all_with(alloc, nfa, source, sink, |_m, _matched, sink| {
+        write_whole(sink, b"X")?;
+        answer
+    })
+}
+
 #[test]
 fn each_row_is_replaced_under_every_cut(rt: HostRuntime) -> Result<(), Fail> {
     let alloc = rt.alloc();
@@ -251,6 +267,16 @@ fn a_closure_is_called_on_each_match(rt: HostRuntime) -> Result<(), Fail> {
         let answer = puts_in_brackets(rt.alloc(), &nfa, &mut source, &mut sink, closure);
         assert_eq!(&rt; sink.taken(), row.written);
         assert_eq!(&rt; answer, wanted);
+    }
+    let nfa = nfa_of(&rt, rt.alloc(), &[b"a"], MatchKind::Standard, false);
+    for refuses in [false, true] {
+        let closure = if refuses { answers[1] } else { Ok(()) };
+        let written: &[u8] = if refuses { b"bX" } else { b"bXc" };
+        let mut source = ScriptedSource::new(b"bac", &[]);
+        let mut sink = ScriptedSink::new(rt.alloc(), &[]);
+        let answer = puts_an_x(rt.alloc(), &nfa, &mut source, &mut sink, closure);
+        assert_eq!(&rt; sink.taken(), written);
+        assert_eq!(&rt; answer, closure);
     }
     Ok(())
 }
