@@ -1,4 +1,4 @@
--- How a walk ends.
+-- How a walk ends that may wait for a candidate. An answer waits for nothing, and a walk that waits has no answer yet.
 use Rattle.std.specs.Prelude.{◌≡◌, ℕ, ◌<◌, ◌≤◌, List, [], true, Bool}
 use Rattle.aho_base.specs.Answer.{IsAnswer}
 use Rattle.aho_base.specs.Patterns.{Patterns}
@@ -7,9 +7,11 @@ use Rattle.aho_prefilter.specs.Candidate.{NoneStartsBefore}
 use Rattle.aho_search.specs.declared.find.Walked.{Walked}
 use Rattle.aho_search.specs.declared.find.Walked.TheVariants.{Answer, Waits}
 
+-- where none of the part from `at` on starts before a place, none of the span does: all before `at` is done with
 abbrev pub Carries : Patterns → List ℕ → ℕ → ℕ → ℕ → Type 0
 Carries p haystack start end at = (place : ℕ) → NoneStartsBefore p haystack at end place → NoneStartsBefore p haystack start end place
 
+-- an answer is that of the search
 abbrev pub AnswersSearch : Patterns → Search → Walked → Type 0
 AnswersSearch p search (Answer m) = IsAnswer p search m
 AnswersSearch p search (Waits at sid) = Unit {0}

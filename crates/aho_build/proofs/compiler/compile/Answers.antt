@@ -103,16 +103,16 @@ returns-clause-built g c =
       built.0,
       (built.1.0, cause-within settings p built.1.1.1.1.1.0 room few),
       (
-      record {
-        kind_is = refl;
-        lengths_are = built.1.1.0;
-        names = names;
-        automaton =
-            subst (λ (special : Special). IsAutomaton special p names new.states) (sym c.in_order_of_creation.ensures.starts) (IsAutomaton-built p names new.states linked);
-        sized = IsSized-linked p old mid holds led ready closed new copies linked
-            (c.in_ok-set_anchored_start_state.ensures.transitions holds.listed.anchored_full)
-            (c.in_ok-add_unanchored_start_state_loop.ensures.transitions (root_full-led p old mid holds led));
-      },
-      (let made = c.in-Ok.ensures.held settings p built.1.1.1.1.1.1 in cc),
+        record {
+          kind_is = refl;
+          lengths_are = built.1.1.0;
+          names = names;
+          automaton =
+              subst (λ (special : Special). IsAutomaton special p names new.states) (sym c.in_order_of_creation.ensures.starts) (IsAutomaton-built p names new.states linked);
+          sized = IsSized-linked p old mid holds led ready closed new copies linked
+              (c.in_ok-set_anchored_start_state.ensures.transitions holds.listed.anchored_full)
+              (c.in_ok-add_unanchored_start_state_loop.ensures.transitions (root_full-led p old mid holds led));
+        },
+        (let made = c.in-Ok.ensures.held settings p built.1.1.1.1.1.1 in cc),
       ),
     )
