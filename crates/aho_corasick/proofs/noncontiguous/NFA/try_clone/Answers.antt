@@ -19,12 +19,14 @@ returns c =
         same_patterns = λ p. (
           λ is. (
             subst (λ (t : Tables). IsOf p c.args.self.now.match_kind c.in_ok-clone.field-0.items c.args.self.now.special t.states) (sym table)
-              (subst (λ (ls : List ℕ). IsOf p c.args.self.now.match_kind ls c.args.self.now.special c.args.self.now.table.states) (sym lens) is.0),
-            subst (λ (searcher : Option Searcher). IfSome searcher (λ s. IsPrefilterOf s p)) (sym held) is.1),
+                (subst (λ (ls : List ℕ). IsOf p c.args.self.now.match_kind ls c.args.self.now.special c.args.self.now.table.states) (sym lens) is.0),
+            subst (λ (searcher : Option Searcher). IfSome searcher (λ s. IsPrefilterOf s p)) (sym held) is.1,
+          ),
           λ is. (
             subst (λ (ls : List ℕ). IsOf p c.args.self.now.match_kind ls c.args.self.now.special c.args.self.now.table.states) lens
-              (subst (λ (t : Tables). IsOf p c.args.self.now.match_kind c.in_ok-clone.field-0.items c.args.self.now.special t.states) table is.0),
-            subst (λ (searcher : Option Searcher). IfSome searcher (λ s. IsPrefilterOf s p)) held is.1),
+                (subst (λ (t : Tables). IsOf p c.args.self.now.match_kind c.in_ok-clone.field-0.items c.args.self.now.special t.states) table is.0),
+            subst (λ (searcher : Option Searcher). IfSome searcher (λ s. IsPrefilterOf s p)) held is.1,
+          ),
         );
         same_held = search rules;
         same_valid = search rules;
