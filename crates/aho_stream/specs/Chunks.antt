@@ -1,5 +1,5 @@
 -- What each call of an iterator over the chunks of a stream answers.
-use Rattle.std.specs.Prelude.{◌≡◌, ℕ, ◌+◌, ◌≤◌, ◌⊎◌, ◌&&◌, not, Bool, true, false, List, [], ◌++◌, Option, Some, None, Result, Ok, Err, length}
+use Rattle.std.specs.Prelude.{◌≡◌, ℕ, ◌+◌, ◌≤◌, ◌⊎◌, ◌&&◌, not, Bool, true, false, List, [], ◌++◌, Option, Some, None, Result, Ok, Err, length, slice_range, ⊤}
 use Rattle.std.specs.Io.KnownBytes.{Consumes}
 use Rattle.aho_base.specs.declared.error.stream.StreamError.{StreamError}
 use Rattle.aho_base.specs.declared.error.stream.StreamError.TheVariants.{Match as Refused, Read, Write, WriteZero, Memory, PositionLimit}
@@ -9,6 +9,8 @@ use Rattle.aho_base.specs.Patterns.{Patterns}
 use Rattle.aho_devices.specs.Refusals.{is_read_fault}
 use Rattle.aho_stream.specs.After.{MayFollow, search_from}
 use Rattle.aho_stream.specs.Refills.{is_limit}
+use Rattle.aho_stream.specs.declared.chunks.StreamChunk.{StreamChunk}
+use Rattle.aho_stream.specs.declared.chunks.StreamChunk.TheVariants.{NonMatch as Bytes, Match as BytesOf}
 use Rattle.aho_stream.specs.declared.progress.Progress.{Progress}
 use Rattle.aho_stream.specs.declared.progress.StreamPiece.{StreamPiece}
 use Rattle.aho_stream.specs.declared.progress.StreamPiece.TheVariants.{NonMatch, Match}
@@ -60,6 +62,11 @@ abbrev pub match_told : StreamPiece → Option Occurrence
 match_told NonMatch = None
 match_told (Match m) = Some m
 
+-- a match, or what is outside of every match
+abbrev pub piece_of : Option Occurrence → StreamPiece
+piece_of None = NonMatch
+piece_of (Some m) = Match m
+
 -- what a chunk tells
 abbrev pub TellsChunk : Patterns → Progress → Progress → List ℕ → StreamPiece → Type 0
 TellsChunk p s s' given NonMatch = TellsPlain p s s' given
@@ -79,6 +86,23 @@ abbrev pub Tells : Patterns → Progress → Progress → List ℕ → Option (R
 Tells p s s' given None = TellsEnd p s s' given
 Tells p s s' given (Some (Ok piece)) = TellsChunk p s s' given piece
 Tells p s s' given (Some (Err error)) = TellsError s s' given error
+
+-- the match of a chunk, where it has one, and the bytes that it lends
+abbrev pub chunk_told : StreamChunk → Option Occurrence × List ℕ
+chunk_told (Bytes bytes) = (None, bytes.now)
+chunk_told (BytesOf bytes m) = (Some m, bytes.now)
+
+-- what an answer tells that lends the bytes of a chunk
+abbrev pub told_by : Option (Result StreamChunk StreamError) → Option (Result StreamPiece StreamError)
+told_by None = None
+told_by (Some (Err error)) = Some (Err error)
+told_by (Some (Ok chunk)) = Some (Ok (piece_of (chunk_told chunk).0))
+
+-- the bytes of the chunk, where one is told, are these
+abbrev pub LendsBytes : Option (Result StreamChunk StreamError) → List ℕ → Type 0
+LendsBytes None bytes = ⊤
+LendsBytes (Some (Err error)) bytes = ⊤
+LendsBytes (Some (Ok chunk)) bytes = (chunk_told chunk).1 ≡ bytes
 
 -- whether the answer is a failed read
 abbrev pub tells_read_fault : {A : Type 0} → Option (Result A StreamError) → Bool
@@ -107,3 +131,14 @@ module _ (IsOf : Patterns → Type 0) (After : Patterns → ℕ → Progress →
   pub record Advances (answer : Option (Result StreamPiece StreamError)) : Type 0 where
     pub reads : Reads
     pub tells : (p : Patterns) (given : List ℕ) → IsOf p → After p lookups s given → Tells p s s' (given ++ reads.bytes) answer
+    -- the answer of a call that lends the bytes of the chunk it tells: some bytes are read, the iterator has come so far then, and the
+    -- answer tells what it should
+
+module _ (IsOf : Patterns → Type 0) (After : Patterns → ℕ → Progress → List ℕ → Type 0) (lookups : ℕ) (s : Progress) where
+  pub record Lends (answer : Option (Result StreamChunk StreamError)) : Type 0 where
+    pub after : Progress
+    pub bytes : List ℕ
+    pub closed : s.ended ≡ true → bytes ≡ []
+    pub tells : (p : Patterns) (given : List ℕ) → IsOf p → After p lookups s given → Tells p s after (given ++ bytes) (told_by answer)
+    pub lent : (p : Patterns) (given : List ℕ) → IsOf p → After p lookups s given
+        → LendsBytes answer (slice_range (given ++ bytes) after.told after.reported)

@@ -8,13 +8,13 @@ ghost use Rattle.aho_base.specs.declared.search.Anchored.TheVariants.{No};
 ghost use Rattle.aho_base.specs.declared.search.MatchKind.TheVariants.{Standard};
 ghost use Rattle.aho_devices.specs.Counts.{counted};
 ghost use Rattle.aho_stream.specs.After.{IsAfter, greatest_position};
-ghost use Rattle.aho_stream.specs.Chunks.{Advances, TellsChunk, ends_between, tells_limit, tells_read_fault};
+ghost use Rattle.aho_stream.specs.Chunks.{Advances, Lends, chunk_told, TellsChunk, ends_between, tells_limit, tells_read_fault};
 ghost use Rattle.aho_stream.specs.Replacing.{IsMakingRefusal, Refuses};
 
 use crate::progress::{Progress, StreamPiece};
 use crate::walk::walk_on;
 use aho_base::error::{MatchError, StreamError};
-use aho_base::search::{Anchored, MatchKind, StateID};
+use aho_base::search::{Anchored, Match, MatchKind, StateID};
 use aho_devices::buffer::Buffer;
 use aho_devices::device::Source;
 use aho_search::automaton::Automaton;
@@ -23,6 +23,23 @@ use std::alloc::Global;
 
 /// The most bytes that a stream may give: 2^63 - 1.
 pub(crate) const MAX_POSITION: u64 = 9_223_372_036_854_775_807;
+
+/// A chunk of a stream, with its bytes.
+#[derive(Drop)]
+pub enum StreamChunk<'b> {
+    /// Bytes outside of every match.
+    NonMatch {
+        /// One at least.
+        bytes: &'b [u8],
+    },
+    /// A match.
+    Match {
+        /// The bytes of the match.
+        bytes: &'b [u8],
+        /// Its places count from the first byte of the stream.
+        mat: Match,
+    },
+}
 
 /// The chunks of a stream, one after another: matches, and the bytes between them.
 #[derive(Drop)]
@@ -56,6 +73,16 @@ fn check<A: Automaton>(automaton: &A) -> Result<StateID, MatchError>
         return Err(MatchError::unsupported_empty());
     }
     automaton.start_state(Anchored::No)
+}
+
+/// The chunk of these bytes.
+fn chunk_of<'b>(found: Option<Match>, bytes: &'b [u8]) -> StreamChunk<'b>
+    ensures chunk { chunk_told result ≡ (found, bytes.entry.now) }
+{
+    match found {
+        Some(mat) => StreamChunk::Match { bytes, mat },
+        None => StreamChunk::NonMatch { bytes },
+    }
 }
 
 /// How far a search of a stream has come before it begins. It takes all memory of the search.
@@ -366,6 +393,29 @@ impl<'a, 'r, A: Automaton, R: Source> StreamChunkIter<'a, 'r, A, R> {
             if let Err(error) = self.progress.refill(self.source) {
                 return Some(Err(error));
             }
+        }
+    }
+
+    /// The next chunk with its bytes, which are lent until the next call; else as `advance`, which says what is kept too.
+    pub fn next(&mut self) -> Option<Result<StreamChunk<'_>, StreamError>>
+        requires some { (p : Patterns) × (given : List ℕ)
+            × A.is_of (⟦<Counted<'a, A> as Walk>⟧.of self.old.walk) p
+            × IsAfter p (A.lengths (⟦<Counted<'a, A> as Walk>⟧.of self.old.walk))
+            (A.valid (⟦<Counted<'a, A> as Walk>⟧.of self.old.walk))
+            (A.held (⟦<Counted<'a, A> as Walk>⟧.of self.old.walk) p)
+            (A.depth (⟦<Counted<'a, A> as Walk>⟧.of self.old.walk))
+            (⟦<Counted<'a, A> as Walk>⟧.lookups self.old.walk) self.old.progress given }
+        ensures lends { Lends (A.is_of (⟦<Counted<'a, A> as Walk>⟧.of self.old.walk))
+            (λ p. IsAfter p (A.lengths (⟦<Counted<'a, A> as Walk>⟧.of self.old.walk))
+            (A.valid (⟦<Counted<'a, A> as Walk>⟧.of self.old.walk))
+            (A.held (⟦<Counted<'a, A> as Walk>⟧.of self.old.walk) p)
+            (A.depth (⟦<Counted<'a, A> as Walk>⟧.of self.old.walk)))
+            (⟦<Counted<'a, A> as Walk>⟧.lookups self.old.walk) self.old.progress result }
+    {
+        match self.advance() {
+            None => None,
+            Some(Err(error)) => Some(Err(error)),
+            Some(Ok(piece)) => Some(Ok(chunk_of(piece.found(), self.bytes()))),
         }
     }
 
