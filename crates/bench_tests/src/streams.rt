@@ -11,6 +11,7 @@ use aho_base::search::{Input, Match, MatchKind};
 use aho_corasick::noncontiguous::NFA;
 use aho_devices::write::write_whole;
 use aho_search::automaton::Automaton;
+use aho_stream::chunks::{StreamChunk, StreamChunkIter};
 use aho_stream::replace::{try_stream_replace_all, try_stream_replace_all_with};
 use bench::listing::finds;
 use bench::pattern_set::PatternSet;
@@ -455,4 +456,16 @@ fn last_failed(turns: &[Turn], calls: usize) -> bool {
         Some(Turn::Fail) => true,
         _ => false,
     }
+}
+
+#[test]
+fn a_chunk_is_lent(rt: HostRuntime) -> Result<(), Fail> {
+    let nfa = nfa_of(&rt, rt.alloc(), &[b"fox"], MatchKind::Standard, false);
+    let mut source = ScriptedSource::new(b"the fox", &[]);
+    let mut chunks = StreamChunkIter::new(rt.alloc(), &nfa, &mut source)?;
+    match chunks.next() {
+        Some(Ok(StreamChunk::NonMatch { bytes })) => assert_eq!(&rt; bytes, b"the ".as_slice()),
+        _ => panic!(&rt; "a match, a fault or none"),
+    }
+    Ok(())
 }
