@@ -12,7 +12,11 @@ use Rattle.aho_base.specs.Patterns.{Patterns}
 use Rattle.aho_base.specs.Step.{follow, lookups}
 use Rattle.aho_base.specs.Trie.{is_node}
 use Rattle.aho_table.specs.Table.{State, Tables, dead_id, fail_id, next_in, fail_in, depth_in, matches_in, transitions_count, matches_count}
+use Rattle.aho_prefilter.specs.Prefilter.{prefilter_bytes}
+use Rattle.aho_build.specs.declared.settings.Settings.{Settings}
 use Rattle.aho_build.specs.declared.special.Special.{Special}
+use Rattle.aho_build.specs.Dense.{memory_size}
+use Rattle.aho_build.specs.Prefilters.{held_by}
 use Rattle.aho_build.specs.StateNames.{name_at, IsStateOf}
 use Rattle.aho_build.specs.Trie.{longer}
 use Rattle.aho_build.specs.Starts.{IsDead}
@@ -119,3 +123,7 @@ is_special_in skips special states sid = nat_eq sid dead_id || (nat_lt 0 (length
 abbrev pub memory_of : Tables → List ℕ → ℕ
 memory_of table lengths =
     20 * length table.states + 9 * transitions_count table.states + 8 * matches_count table.states + 4 * table.dense_len + 4 * length lengths
+
+-- the bytes of the automaton that these settings make of the patterns: those of its tables, and what its prefilter holds
+abbrev pub bytes_for : Settings → Patterns → ℕ
+bytes_for settings p = memory_size settings.dense_depth p + prefilter_bytes (held_by settings p)

@@ -1,5 +1,5 @@
 -- For callers: what an automaton is of, from the patterns that were passed.
-use Rattle.std.proofs.Common.{◌≡◌, ◌∙◌, sym, subst, Bool, List, ℕ, map, Iter, Option}
+use Rattle.std.proofs.Common.{◌≡◌, ◌∙◌, sym, subst, List, ℕ, Iter, Option}
 use Rattle.std.specs.declared.iter.Copied.{Copied}
 use Rattle.std.specs.Iterator.Adapters.{copied_source}
 use Rattle.std.specs.Prelude.{Result, IfOk}

@@ -2,7 +2,6 @@
 use Rattle.std.proofs.Common.{◌≡◌, ℕ, List, Option, ◌+◌, rules, sym, ap, subst, ◌∙◌}
 use Rattle.std.specs.List.{each_same}
 use Rattle.std.specs.Prelude.{IfSome}
-use Rattle.aho_base.specs.Patterns.{Patterns}
 use Rattle.aho_prefilter.specs.Prefilter.{IsPrefilterOf, prefilter_bytes}
 use Rattle.aho_prefilter.specs.declared.prefilter.Searcher.{Searcher}
 use Rattle.aho_table.specs.Table.{Tables}
@@ -19,12 +18,14 @@ returns c =
         same_patterns = λ p. (
           λ is. (
             subst (λ (t : Tables). IsOf p c.args.self.now.match_kind c.in_ok-clone.field-0.items c.args.self.now.special t.states) (sym table)
-              (subst (λ (ls : List ℕ). IsOf p c.args.self.now.match_kind ls c.args.self.now.special c.args.self.now.table.states) (sym lens) is.0),
-            subst (λ (searcher : Option Searcher). IfSome searcher (λ s. IsPrefilterOf s p)) (sym held) is.1),
+                (subst (λ (ls : List ℕ). IsOf p c.args.self.now.match_kind ls c.args.self.now.special c.args.self.now.table.states) (sym lens) is.0),
+            subst (λ (searcher : Option Searcher). IfSome searcher (λ s. IsPrefilterOf s p)) (sym held) is.1,
+          ),
           λ is. (
             subst (λ (ls : List ℕ). IsOf p c.args.self.now.match_kind ls c.args.self.now.special c.args.self.now.table.states) lens
-              (subst (λ (t : Tables). IsOf p c.args.self.now.match_kind c.in_ok-clone.field-0.items c.args.self.now.special t.states) table is.0),
-            subst (λ (searcher : Option Searcher). IfSome searcher (λ s. IsPrefilterOf s p)) held is.1),
+                (subst (λ (t : Tables). IsOf p c.args.self.now.match_kind c.in_ok-clone.field-0.items c.args.self.now.special t.states) table is.0),
+            subst (λ (searcher : Option Searcher). IfSome searcher (λ s. IsPrefilterOf s p)) held is.1,
+          ),
         );
         same_held = search rules;
         same_valid = search rules;
@@ -39,9 +40,9 @@ returns c =
         same_lookups = search rules;
         same_start = search rules;
         same_memory =
-            ap (λ (t : Tables). memory_of t.states c.in_ok-clone.field-0.items + prefilter_bytes c.in_ok-clone_of.field-0) table
-            ∙ ap (λ (ls : List ℕ). memory_of c.args.self.now.table.states ls + prefilter_bytes c.in_ok-clone_of.field-0) lens
-            ∙ ap (λ (searcher : Option Searcher). memory_of c.args.self.now.table.states c.args.self.now.pattern_lens.items + prefilter_bytes searcher) held;
+            ap (λ (t : Tables). memory_of t c.in_ok-clone.field-0.items + prefilter_bytes c.in_ok-clone_of.field-0) table
+            ∙ ap (λ (ls : List ℕ). memory_of c.args.self.now.table ls + prefilter_bytes c.in_ok-clone_of.field-0) lens
+            ∙ ap (λ (searcher : Option Searcher). memory_of c.args.self.now.table c.args.self.now.pattern_lens.items + prefilter_bytes searcher) held;
         same_prefilter = held;
       };
     }
