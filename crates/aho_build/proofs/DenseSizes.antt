@@ -1,14 +1,18 @@
 -- How many classes the borders of the kept patterns make, and how many states have rows.
-use Rattle.std.proofs.Common.{◌≡◌, ℕ, zero, suc, ◌+◌, ◌*◌, ◌<◌, Bool, false, cond, List, [], ◌∷◌, length, drop, get_or, Some, None, sym, ap, ◌∙◌, arith}
+use Rattle.std.proofs.Common.{◌≡◌, ℕ, zero, suc, ◌+◌, ◌*◌, ◌<◌, Bool, false, cond, List, [], ◌∷◌, length, drop, get_or, map, Option, Some, None, sym, ap, ◌∙◌, arith}
 use Rattle.std.specs.List.{count_by, range_with_len}
 use Rattle.std.proofs.lemmas.List.{get_or-drop, get_or-map, length-drop, length-map}
 use Rattle.std.proofs.lemmas.List.FromFn.{get_or-range_with_len, length-range_with_len}
 use Rattle.aho_base.specs.Patterns.{Patterns}
 use Rattle.aho_table.specs.Alphabet.{class_count, is_border}
 use Rattle.aho_table.specs.Table.{State, Tables, new_state, depth_in, transitions_count, matches_count}
-use Rattle.aho_build.specs.Automaton.{memory_of}
+use Rattle.aho_prefilter.specs.Prefilter.{prefilter_bytes}
+use Rattle.aho_prefilter.specs.declared.prefilter.Searcher.{Searcher}
+use Rattle.aho_build.specs.Automaton.{bytes_for, memory_of}
 use Rattle.aho_build.specs.Dense.{HasBorders, is_parted_among, classes_size, is_near, is_dense, rows_size, dense_count, dense_size, memory_size, row_start}
 use Rattle.aho_build.specs.FirstStates.{root_id}
+use Rattle.aho_build.specs.Prefilters.{held_by}
+use Rattle.aho_build.specs.declared.settings.Settings.{Settings}
 use Rattle.aho_build.specs.Sizes.{nodes, IsSized, states_size, transitions_size, matches_size}
 use Rattle.aho_build.specs.Starts.{IsReady}
 use Rattle.aho_build.specs.Trie.{names_before}
@@ -72,7 +76,7 @@ module _ (p : Patterns) (states : List State) (ready : IsReady p (names_before p
     dense_size-of depth = row_start-of (dense_count depth states) ∙ ap (λ (n : ℕ). n * classes_size p + 1) (dense_count-of depth)
 
 -- the bytes of the tables of an automaton of the patterns
-pub memory_of-sized : (depth : ℕ) (p : Patterns) (table : Tables) (lengths : List ℕ) → IsSized p table.states → table.dense_len ≡ dense_size depth p → length lengths ≡ length p.words
+memory_of-sized : (depth : ℕ) (p : Patterns) (table : Tables) (lengths : List ℕ) → IsSized p table.states → table.dense_len ≡ dense_size depth p → length lengths ≡ length p.words
     → memory_of table lengths ≡ memory_size depth p
 memory_of-sized depth p table lengths sized dense same =
     ap (λ (n : ℕ). 20 * n + 9 * transitions_count table.states + 8 * matches_count table.states + 4 * table.dense_len + 4 * length lengths) sized.state_count
@@ -80,3 +84,11 @@ memory_of-sized depth p table lengths sized dense same =
     ∙ ap (λ (n : ℕ). 20 * states_size p + 9 * transitions_size p + 8 * n + 4 * table.dense_len + 4 * length lengths) sized.matches
     ∙ ap (λ (n : ℕ). 20 * states_size p + 9 * transitions_size p + 8 * matches_size p + 4 * n + 4 * length lengths) dense
     ∙ ap (λ (n : ℕ). 20 * states_size p + 9 * transitions_size p + 8 * matches_size p + 4 * dense_size depth p + 4 * n) same
+
+-- and of that automaton as a whole
+pub bytes_for-sized : (settings : Settings) (p : Patterns) (table : Tables) (lengths : List ℕ) (held : Option Searcher) → IsSized p table.states
+    → table.dense_len ≡ dense_size settings.dense_depth p → lengths ≡ map length p.words → held ≡ held_by settings p → memory_of table lengths + prefilter_bytes held ≡ bytes_for settings p
+unfolding bytes_for
+bytes_for-sized settings p table lengths held sized dense same held_is =
+    ap (λ (n : ℕ). n + prefilter_bytes held) (memory_of-sized settings.dense_depth p table lengths sized dense (ap length same ∙ length-map p.words length))
+    ∙ ap (λ (searcher : Option Searcher). memory_size settings.dense_depth p + prefilter_bytes searcher) held_is

@@ -15,7 +15,7 @@ use Rattle.aho_build.specs.Settings.{in_force}
 use Rattle.aho_build.proofs.MorePatterns.{is_kept-more, kept_before-appended, new_nodes-appended, nodes_before-appended}
 use Rattle.aho_build.specs.Dense.{AreWithinLimit, classes_size, row_start, rows_size}
 use Rattle.aho_build.specs.Sizes.{kept_before, new_nodes, nodes_before, transitions_for, matches_size}
-use Rattle.aho_build.specs.Refusals.{Growth, PatternNumber, PatternLength, TableIndex, is_refused, entries_from, growth_for_kept, growth_for, first_growth, trie_growth, row_growth, own_size, start_size, cause, followed_by, IsCause, IsAccepted}
+use Rattle.aho_build.specs.Refusals.{Growth, PatternNumber, PatternLength, TableIndex, is_refused, entries_from, growth_for_kept, growth_for, first_growth, trie_growth, row_growth, growth, own_size, start_size, cause, followed_by, IsCause, IsAccepted}
 use Rattle.aho_build.specs.declared.settings.Limits.{Limits}
 
 flat_map_range-same : (f g : ℕ → List Growth) (a n : ℕ) → ((k : ℕ) → k < a + n → f k ≡ g k) → flat_map f (range_with_len a n) ≡ flat_map g (range_with_len a n)
@@ -73,6 +73,7 @@ module _ (settings : Settings) where
       ∙ find-first (trie_growth p) (flat_map (growth_for (followed_by p more)) (range_with_len (length p.words) (length more))) g some
 
   cause-longer : (p : Patterns) (more : List (List ℕ)) (g : Growth) → find (is_refused settings) (trie_growth p) ≡ Some g → cause settings (followed_by p more) ≡ Some g
+  unfolding growth
   cause-longer p more g some = find-first (trie_growth (followed_by p more)) _ g (trie_cause-longer p more g some)
 
   pub IsCause-found : (p : Patterns) (g : Growth) → find (is_refused settings) (trie_growth p) ≡ Some g → IsCause settings p g
@@ -171,18 +172,22 @@ module _ (settings : Settings) where
     rows_none rows = rows-none (λ row. row * classes_size p + 1) (rows_size settings.dense_depth p) rows
 
     pub cause-start : own_size p ≤ limits.id + 1 → limits.id + 1 < own_size p + start_size p → cause settings p ≡ Some (TableIndex (limits.id + 1))
+    unfolding growth
     cause-start = first-start (trie_growth p) (row_growth settings.dense_depth p) (own_size p) (start_size p) (matches_size p) accepted.none
 
     pub cause-row : (row : ℕ) → own_size p + start_size p ≤ limits.id + 1 → row < rows_size settings.dense_depth p → limits.id < row * classes_size p + 1
         → ((earlier : ℕ) → earlier < row → earlier * classes_size p + 1 ≤ limits.id) → cause settings p ≡ Some (TableIndex (row * classes_size p + 1))
+    unfolding growth
     cause-row row few below past earlier =
         first-row (trie_growth p) (row_growth settings.dense_depth p) (own_size p) (start_size p) (matches_size p) accepted.none (TableIndex (row * classes_size p + 1)) few
         (rows-first (λ row. row * classes_size p + 1) (rows_size settings.dense_depth p) row below past earlier)
 
     pub cause-past : own_size p + start_size p ≤ limits.id + 1 → AreRowsWithin p → limits.id + 1 < matches_size p → cause settings p ≡ Some (TableIndex (limits.id + 1))
+    unfolding growth
     cause-past few rows =
         first-copied (trie_growth p) (row_growth settings.dense_depth p) (own_size p) (start_size p) (matches_size p) accepted.none few (rows_none rows)
 
     pub cause-within : own_size p + start_size p ≤ limits.id + 1 → AreRowsWithin p → matches_size p ≤ limits.id + 1 → cause settings p ≡ None
+    unfolding growth
     cause-within few rows =
         none-asked (trie_growth p) (row_growth settings.dense_depth p) (own_size p) (start_size p) (matches_size p) accepted.none few (rows_none rows)

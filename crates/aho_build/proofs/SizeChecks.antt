@@ -8,7 +8,7 @@ use Rattle.aho_base.specs.Patterns.{Patterns}
 use Rattle.aho_base.specs.Trie.{is_kept, is_node, pattern_word}
 use Rattle.aho_build.specs.Sizes.{states_size, transitions_size, matches_size}
 use Rattle.aho_build.specs.Dense.{memory_size}
-use Rattle.aho_build.specs.Refusals.{cause, row_growth, PatternNumber, PatternLength, TableIndex}
+use Rattle.aho_build.specs.Refusals.{cause, growth, row_growth, PatternNumber, PatternLength, TableIndex}
 use Rattle.aho_build.specs.Settings.{default_settings}
 use Rattle.aho_build.specs.declared.settings.Settings.{Settings}
 
@@ -106,23 +106,23 @@ with_id id = record default_settings { limits = record { id = id; pattern = 2147
 
 -- the entry at the limit is allowed
 cause_at_limit : cause (with_id 770) (of_kind Standard (codes "abc" ∷ [])) ≡ None
-unfolding is_kept pattern_word own_matches is_node is_cut
+unfolding growth is_kept pattern_word own_matches is_node is_cut
 cause_at_limit = refl
 
 cause_past_limit : cause (with_id 770) (of_kind Standard (codes "abcd" ∷ [])) ≡ Some (TableIndex 771)
-unfolding is_kept pattern_word own_matches is_node is_cut
+unfolding growth is_kept pattern_word own_matches is_node is_cut
 cause_past_limit = refl
 
 cause_of_none : cause (with_id 768) (of_kind Standard []) ≡ None
-unfolding is_kept pattern_word own_matches is_node is_cut
+unfolding growth is_kept pattern_word own_matches is_node is_cut
 cause_of_none = refl
 
 cause_of_none_past : cause (with_id 767) (of_kind Standard []) ≡ Some (TableIndex 768)
-unfolding is_kept pattern_word own_matches is_node is_cut
+unfolding growth is_kept pattern_word own_matches is_node is_cut
 cause_of_none_past = refl
 
 cause_of_few : cause (with_id 2) (of_kind Standard []) ≡ Some (TableIndex 3)
-unfolding is_kept pattern_word own_matches is_node is_cut
+unfolding growth is_kept pattern_word own_matches is_node is_cut
 cause_of_few = refl
 
 -- each row of five classes starts behind the one before
@@ -140,18 +140,18 @@ abbrev with_both : ℕ → ℕ → Settings
 with_both pattern length = record default_settings { limits = record { id = 2147483646; pattern = pattern; length = length } }
 
 cause_of_length : cause (with_length 2) (of_kind Standard (codes "ab" ∷ codes "abc" ∷ [])) ≡ Some (PatternLength 1 3)
-unfolding is_kept pattern_word own_matches is_node is_cut
+unfolding growth is_kept pattern_word own_matches is_node is_cut
 cause_of_length = refl
 
 cause_of_number : cause (with_pattern 0) (of_kind Standard (codes "a" ∷ codes "b" ∷ [])) ≡ Some (PatternNumber 1)
-unfolding is_kept pattern_word own_matches is_node is_cut
+unfolding growth is_kept pattern_word own_matches is_node is_cut
 cause_of_number = refl
 
 -- what comes first is named
 cause_of_length_first : cause (with_both 0 2) (of_kind Standard (codes "abc" ∷ codes "b" ∷ [])) ≡ Some (PatternLength 0 3)
-unfolding is_kept pattern_word own_matches is_node is_cut
+unfolding growth is_kept pattern_word own_matches is_node is_cut
 cause_of_length_first = refl
 
 cause_of_number_first : cause (with_both 0 2) (of_kind Standard (codes "a" ∷ codes "abc" ∷ [])) ≡ Some (PatternNumber 1)
-unfolding is_kept pattern_word own_matches is_node is_cut
+unfolding growth is_kept pattern_word own_matches is_node is_cut
 cause_of_number_first = refl

@@ -125,5 +125,5 @@ memory_of table lengths =
     20 * length table.states + 9 * transitions_count table.states + 8 * matches_count table.states + 4 * table.dense_len + 4 * length lengths
 
 -- the bytes of the automaton that these settings make of the patterns: those of its tables, and what its prefilter holds
-abbrev pub bytes_for : Settings → Patterns → ℕ
+unfoldable pub bytes_for : Settings → Patterns → ℕ
 bytes_for settings p = memory_size settings.dense_depth p + prefilter_bytes (held_by settings p)

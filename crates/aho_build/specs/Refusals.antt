@@ -80,7 +80,7 @@ abbrev pub row_growth : ℕ → Patterns → List Growth
 row_growth depth p = map (λ row. TableIndex (row * classes_size p + 1)) (range_with_len 0 (rows_size depth p))
 
 -- and then: the anchored start's matches, the dense rows, and the copied matches
-abbrev pub growth : Settings → Patterns → List Growth
+unfoldable pub growth : Settings → Patterns → List Growth
 growth settings p =
     trie_growth p
     ++ (entries_from (own_size p) (start_size p)

@@ -158,6 +158,31 @@ fn copied_matches_are_limited(rt: HostRuntime) -> Result<(), Fail> {
     Ok(())
 }
 
+#[test]
+fn starts_of_rows_are_limited(rt: HostRuntime) -> Result<(), Fail> {
+    let alloc = rt.alloc();
+    let mut bytes = [0; 256];
+    for byte in 0..256u16 {
+        bytes[byte as usize] = byte as u8;
+    }
+    let mut patterns: Vec<&[u8]> = Vec::new(alloc);
+    for byte in &bytes {
+        patterns.push(std::slice::from_ref(byte))?;
+    }
+    // Rows of 256 classes start at 1, 257, 513 and 769, and the next one at 1025.
+    let mut builder = Builder::new();
+    builder.dense_depth(1).limits(by_id(1000));
+    let built = builder.build(alloc, patterns.iter().copied());
+    let refused = BuildError::StateIDOverflow {
+        max: 1000,
+        requested: 1025,
+    };
+    assert_eq!(&rt; built.err(), Some(refused));
+    builder.dense_depth(0);
+    assert!(&rt; builder.build(alloc, patterns.iter().copied()).is_ok());
+    Ok(())
+}
+
 /// A pattern is longer than this limit.
 fn is_too_long(number: usize, len: usize, max: usize) -> Result<Option<BuildError>, Fail> {
     let pattern = PatternID::new(number)?;

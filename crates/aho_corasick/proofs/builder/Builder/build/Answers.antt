@@ -1,14 +1,10 @@
-use Rattle.std.proofs.Common.{◌≡◌, ℕ, ◌+◌, ◌∙◌, Option, ap, length, subst}
-use Rattle.std.proofs.lemmas.List.{length-map}
+use Rattle.std.proofs.Common.{◌≡◌, ◌∙◌, subst}
 use Rattle.std.specs.Result.{IfErr}
 use Rattle.aho_build.specs.Items.{patterns_of, IsFailure, OfAccepted}
-use Rattle.aho_prefilter.specs.Prefilter.{prefilter_bytes}
-use Rattle.aho_prefilter.specs.declared.prefilter.Searcher.{Searcher}
 use Rattle.aho_build.specs.Automaton.{bytes_for}
-use Rattle.aho_build.specs.Dense.{memory_size}
 use Rattle.aho_build.specs.Prefilters.{held_by}
 use Rattle.aho_build.specs.declared.settings.Settings.{Settings}
-use Rattle.aho_build.proofs.DenseSizes.{memory_of-sized}
+use Rattle.aho_build.proofs.DenseSizes.{bytes_for-sized}
 use Rattle.aho_build.proofs.HeldPrefilters.{held_by-of}
 use Rattle.aho_build.proofs.StoppedBuilds.{IfErr-given}
 use Rattle.aho_corasick.specs.contracts.noncontiguous.NFAAutomaton.TheImpl.{ghosts}
@@ -46,9 +42,7 @@ returns-clause-sized g c =
       built.0,
       built.1,
       c.of_compiled.ensures.memory
-          ∙ ap (λ (n : ℕ). n + prefilter_bytes compiled.prefilter)
-          (memory_of-sized settings.dense_depth p compiled.table compiled.pattern_lens.items built.2.0.sized built.2.1 (ap length built.2.0.lengths_are ∙ length-map p.words length))
-          ∙ ap (λ (searcher : Option Searcher). memory_size settings.dense_depth p + prefilter_bytes searcher) built.2.2,
+          ∙ bytes_for-sized settings p compiled.table compiled.pattern_lens.items compiled.prefilter built.2.0.sized built.2.1 built.2.0.lengths_are built.2.2,
     )
 
 pub returns-in_err-compiled-clause-refused : goal.returns-in_err-compiled-clause-refused
