@@ -71,10 +71,10 @@ Grows-from ignore_case parent byte depth transitions old new below added leads o
       ];
 }
 
-same_letter : (x y : ℕ) → folded_by true x ≡ folded_by true y → (x ≡ y) ⊎ (x ≡ opposite y)
+pub same_letter : (x y : ℕ) → folded_by true x ≡ folded_by true y → (x ≡ y) ⊎ (x ≡ opposite y)
 same_letter x y e = grind (arith, nat_tests)
 
-other_letter : (x y : ℕ) → folded_by true x ≢ folded_by true y → x ≢ opposite y
+pub other_letter : (x y : ℕ) → folded_by true x ≢ folded_by true y → x ≢ opposite y
 other_letter x y ne e = ne (grind (arith, nat_tests))
 
 -- the byte is the only one that is compared as it is

@@ -77,6 +77,7 @@ matches_count-led sid count leads old new led =
 pub OnlyCopies-both : (old mid new : Tables) → OnlyCopies old mid → OnlyCopies mid new → OnlyCopies old new
 OnlyCopies-both old mid new first second = record {
   limit = second.limit ∙ first.limit;
+  rows = second.rows ∙ first.rows;
   state_count = second.state_count ∙ first.state_count;
   transitions = λ i. second.transitions i ∙ first.transitions i;
   fail_matches = second.fail_matches ∙ first.fail_matches;
@@ -84,9 +85,10 @@ OnlyCopies-both old mid new first second = record {
 
 -- another state's link and patterns
 pub OnlyCopies-state : (old new : Tables) (sid : ℕ) (state : State) → sid < length old.states → sid ≢ fail_id → state.transitions ≡ (state_at old.states sid).transitions
-    → new.limit ≡ old.limit → new.states ≡ slice_set old.states sid state → OnlyCopies old new
-OnlyCopies-state old new sid state below apart same limit states_are = record {
+    → new.limit ≡ old.limit → new.dense_len ≡ old.dense_len → new.states ≡ slice_set old.states sid state → OnlyCopies old new
+OnlyCopies-state old new sid state below apart same limit rows states_are = record {
   limit = limit;
+  rows = rows;
   state_count = ap (λ (t : List State). length t) states_are ∙ length-set old.states sid state;
   transitions = λ i. ap (λ (t : List State). (state_at t i).transitions) states_are ∙ part-set (λ (r : State). r.transitions) old.states sid state below same i;
   fail_matches = ap (λ (t : List State). matches_in t fail_id) states_are ∙ ap (λ (r : State). r.matches) (state_at-set_other old.states sid fail_id state (λ e. apart (sym e)));

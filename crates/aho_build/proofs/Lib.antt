@@ -45,3 +45,10 @@ pub mod SoundAutomata
 pub mod AutomatonLaws
 -- What is held is a prefilter of the patterns.
 pub mod HeldPrefilters
+-- Dense rows: how many there are, and the classes of bytes that they are by.
+pub mod RowCounts
+pub mod AlikeBytes
+pub mod ByteBorders
+pub mod NodeBorders
+pub mod KeptBorders
+pub mod DenseSizes

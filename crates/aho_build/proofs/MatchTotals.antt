@@ -7,7 +7,6 @@ use Rattle.std.proofs.lemmas.List.{length-set, length-append, length-take-le, le
 use Rattle.std.proofs.lemmas.List.Sums.{sum_by-cons, sum_by-set}
 use Rattle.aho_base.specs.declared.error.BuildError.{BuildError}
 use Rattle.aho_base.specs.declared.error.BuildError.TheVariants.{StateIDOverflow}
-use Rattle.aho_base.specs.Among.{is_node_among}
 use Rattle.aho_base.specs.MatchList.{own_matches, matches_of}
 use Rattle.aho_base.specs.Failure.{failure_of}
 use Rattle.aho_base.specs.Patterns.{Patterns}
@@ -43,6 +42,19 @@ matches_count-append states to from below =
 pub matches_count-link : (states : List State) (sid fail : ℕ) → sid < length states → matches_count (linked_state states sid fail) ≡ matches_count states + length (matches_in states fail)
 matches_count-link states sid fail below =
     matches_count-longer states sid (record (state_at states sid) { fail = fail; matches = (state_at states sid).matches ++ matches_in states fail }) (matches_in states fail) below refl
+
+-- with one state's list after another's own, whatever else was changed
+pub matches_count-after : (old new : List State) (to from : ℕ) → to < length old → length new ≡ length old → matches_in new to ≡ matches_in old to ++ matches_in old from
+    → ((i : ℕ) → i ≢ to → matches_in new i ≡ matches_in old i) → matches_count new ≡ matches_count old + length (matches_in old from)
+matches_count-after old new to from below size here others =
+    let state : State = record (state_at old to) { matches = (state_at old to).matches ++ matches_in old from } in
+    matches_count-same (append_matches old to from) new (size ∙ sym (length-set old to state))
+    (λ i.
+    elim (cases_eq i to) [
+      | inl same ↦ ap (matches_in new) same ∙ here ∙ sym (ap (λ (r : State). r.matches) (state_at-set_same old to state below)) ∙ ap (matches_in (append_matches old to from)) (sym same)
+      | inr other ↦ others i other ∙ sym (ap (λ (r : State). r.matches) (state_at-set_other old to i state other))
+    ])
+    ∙ matches_count-append old to from below
 
 -- the next pattern of a list is refused
 pub copied_refused : (old states : List State) (to from i limit : ℕ) (error : BuildError) → to < length old → i < length (matches_in old from)
@@ -184,24 +196,7 @@ module _ (p : Patterns) where
       (ap (λ (l : List ℕ). length l) (built.anchored.matches ∙ sym (matches-root p)))
       (λ i word past named. ap (λ (l : List ℕ). length l) (built.linked i word named (named-nonempty (is_node p) (root_loop p) states built.trie i word past named)).matches))
 
-  -- and when the anchored start gets the root's
-  pub matches_count-start : (states : List State) → HoldsTrie p states → matches_count states + length (matches_in states root_id) ≤ matches_size p
-  matches_count-start states finished =
-      let trie = finished.trie.trie in
-      let among : List ℕ → Bool = is_node_among p (length p.words) in
-      let size = states_length among fail_id states trie in
-      let state : State = record (state_at states anchored_id) { matches = (state_at states anchored_id).matches ++ matches_in states root_id } in
-      let new : List State = set states anchored_id state in
-      let own : (i : ℕ) (word : List ℕ) → name_at names i ≡ Some word → matches_in states i ≡ own_matches p word = λ i word named. finished.trie.lists i word named ∙ own_among-all p word in
-      let other : (i : ℕ) → i ≢ anchored_id → matches_in new i ≡ matches_in states i = λ i ne. ap (λ (r : State). r.matches) (state_at-set_other states anchored_id i state ne) in
-      let anchored : matches_in new anchored_id ≡ own_matches p [] =
-      ap (λ (r : State). r.matches) (state_at-set_same states anchored_id state (omega (arith, size)))
-      ∙ ap (λ (l : List ℕ). l ++ matches_in states root_id) finished.trie.first.anchored_matches ∙ own root_id [] trie.root in
-      let total = total-le new (length-set states anchored_id state ∙ size)
-      (by_place (λ (a b : ℕ). a ≤ b) new
-      (omega (arith, ap (λ (l : List ℕ). length l) (other dead_id (λ e. omega arith) ∙ finished.trie.first.dead_matches)))
-      (omega (arith, ap (λ (l : List ℕ). length l) (other fail_id (λ e. omega arith) ∙ finished.trie.first.fail_matches)))
-      (own-le_list new root_id [] (other root_id (λ e. omega arith) ∙ own root_id [] trie.root))
-      (own-le_list new anchored_id [] anchored)
-      (λ i word past named. own-le_list new i word (other i (λ e. omega arith) ∙ own i word named))) in
-      omega (arith, total, matches_count-append states anchored_id root_id (omega (arith, size)))
+  -- what the anchored start gets are the root's own patterns
+  pub root_list-own : (states : List State) → HoldsTrie p states → length (matches_in states root_id) ≡ length (matches_of p (Some []))
+  root_list-own states finished =
+      ap (λ (l : List ℕ). length l) (finished.trie.lists root_id [] finished.trie.trie.root ∙ own_among-all p [] ∙ sym (matches-root p))

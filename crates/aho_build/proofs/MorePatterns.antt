@@ -21,7 +21,7 @@ use Rattle.aho_build.specs.Sizes.{kept_before, new_nodes, nodes_before, transiti
 use Rattle.aho_build.specs.StateNames.{name_at}
 use Rattle.aho_table.specs.Table.{State, next_in}
 
-list_any-same : (f g : ℕ → Bool) (a n : ℕ) → ((k : ℕ) → k < a + n → f k ≡ g k) → list_any f (range_with_len a n) ≡ list_any g (range_with_len a n)
+pub list_any-same : (f g : ℕ → Bool) (a n : ℕ) → ((k : ℕ) → k < a + n → f k ≡ g k) → list_any f (range_with_len a n) ≡ list_any g (range_with_len a n)
 list_any-same f g a zero same = refl
 list_any-same f g a (suc n) same =
     ap (λ (b : Bool). b || list_any f (range_with_len (a + 1) n)) (same a (omega arith))

@@ -1,14 +1,15 @@
 -- What the phases that follow the trie make of it: the starts are led, then the links are made.
-use Rattle.std.proofs.Common.{◌≡◌, ◌∙◌, List, [], length, refl, ap, arith}
+use Rattle.std.proofs.Common.{◌≡◌, ℕ, ◌+◌, ◌∙◌, List, [], length, refl, ap, arith}
 use Rattle.aho_base.specs.Patterns.{Patterns}
-use Rattle.aho_build.specs.FirstStates.{root_id}
+use Rattle.aho_build.specs.FirstStates.{anchored_id, root_id}
+use Rattle.aho_build.specs.Refusals.{own_size, start_size}
 use Rattle.aho_build.specs.Sizes.{matches_size, IsSized}
 use Rattle.aho_build.specs.Trie.{names_before, HoldsTrie}
 use Rattle.aho_build.specs.Starts.{IsLedAsRoot, IsLedBelow, IsReady, ListsAllBytes, looped}
 use Rattle.aho_build.specs.FailureLinks.{OnlyCopies}
 use Rattle.aho_build.specs.Built.{IsBuilt}
 use Rattle.aho_build.proofs.KeptTransitions.{ListsAllBytes-state, transitions_count-same}
-use Rattle.aho_build.proofs.MatchTotals.{matches_count-built}
+use Rattle.aho_build.proofs.MatchTotals.{matches_count-after, matches_count-built, root_list-own}
 use Rattle.aho_build.proofs.StartTransitions.{IsReady-of_kind}
 use Rattle.aho_table.specs.Table.{fail_id, State, Tables, matches_in, matches_count, transitions_count}
 
@@ -16,6 +17,12 @@ module _ (p : Patterns) (old mid : List State) (holds : HoldsTrie p old) (led : 
   -- the root still takes every byte
   pub root_full-led : ListsAllBytes mid root_id
   root_full-led = ListsAllBytes-state old mid root_id (led.others root_id (λ e. omega arith)) holds.listed.root_full
+
+  -- the listed patterns are the own ones and those of the anchored start
+  pub matches_count-led : matches_count mid ≡ own_size p + start_size p
+  matches_count-led =
+      matches_count-after old mid anchored_id root_id (omega (arith, holds.counted.state_count)) led.sized led.matches (λ i other. ap (λ (s : State). s.matches) (led.others i other))
+      ∙ ap (λ (n : ℕ). n + length (matches_in old root_id)) holds.counted.matches ∙ ap (λ (n : ℕ). own_size p + n) (root_list-own p old holds)
 
   module _ (ready : Tables) (closed : IsLedBelow root_id 256 (looped p.kind mid) mid ready.states) where
     pub IsReady-led : IsReady p (names_before p (length p.words)) ready.states

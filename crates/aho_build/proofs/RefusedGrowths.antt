@@ -1,10 +1,10 @@
 -- What a build asks for, one pattern after another, and the first of it that the limits refuse.
-use Rattle.std.proofs.Common.{◌≡◌, ℕ, zero, suc, ◌+◌, ◌-◌, ◌<◌, ◌≤◌, Bool, cond, List, [], ◌∷◌, ◌++◌, length, Option, Some, None, refl, sym, ap, ◌∙◌, inl, inr, arith, append_assoc}
-use Rattle.std.proofs.lemmas.Bool.{cases_lt, le-ltb, lt-ltb}
+use Rattle.std.proofs.Common.{◌≡◌, ℕ, zero, suc, ◌+◌, ◌*◌, ◌-◌, ◌<◌, ◌≤◌, Bool, cond, nat_lt, List, [], ◌∷◌, ◌++◌, length, Option, Some, None, refl, sym, ap, subst, ◌∙◌, inl, inr, arith, append_assoc}
+use Rattle.std.proofs.lemmas.Bool.{cases_eq, cases_lt, le-ltb, lt-ltb}
 use Rattle.std.proofs.lemmas.Grind.{flat_map-append}
 use Rattle.std.proofs.lemmas.List.{get_or_append_left, length-append}
 use Rattle.std.proofs.lemmas.List.Folds.{find-append}
-use Rattle.std.specs.Prelude.{find, sum_by}
+use Rattle.std.specs.Prelude.{find, map, sum_by}
 use Rattle.std.specs.List.{flat_map, range_with_len}
 use Rattle.std.specs.Option.{option_or}
 use Rattle.aho_base.specs.Patterns.{Patterns, pattern_at}
@@ -13,8 +13,9 @@ use Rattle.aho_laws.proofs.Ranges.{range_with_len-add}
 use Rattle.aho_build.specs.declared.settings.Settings.{Settings}
 use Rattle.aho_build.specs.Settings.{in_force}
 use Rattle.aho_build.proofs.MorePatterns.{is_kept-more, kept_before-appended, new_nodes-appended, nodes_before-appended}
+use Rattle.aho_build.specs.Dense.{AreWithinLimit, classes_size, row_start, rows_size}
 use Rattle.aho_build.specs.Sizes.{kept_before, new_nodes, nodes_before, transitions_for, matches_size}
-use Rattle.aho_build.specs.Refusals.{Growth, PatternNumber, PatternLength, TableIndex, is_refused, entries_from, growth_for_kept, growth_for, first_growth, trie_growth, cause, followed_by, IsCause, IsAccepted}
+use Rattle.aho_build.specs.Refusals.{Growth, PatternNumber, PatternLength, TableIndex, is_refused, entries_from, growth_for_kept, growth_for, first_growth, trie_growth, row_growth, growth, own_size, start_size, cause, followed_by, IsCause, IsAccepted}
 use Rattle.aho_build.specs.declared.settings.Limits.{Limits}
 
 flat_map_range-same : (f g : ℕ → List Growth) (a n : ℕ) → ((k : ℕ) → k < a + n → f k ≡ g k) → flat_map f (range_with_len a n) ≡ flat_map g (range_with_len a n)
@@ -72,6 +73,7 @@ module _ (settings : Settings) where
       ∙ find-first (trie_growth p) (flat_map (growth_for (followed_by p more)) (range_with_len (length p.words) (length more))) g some
 
   cause-longer : (p : Patterns) (more : List (List ℕ)) (g : Growth) → find (is_refused settings) (trie_growth p) ≡ Some g → cause settings (followed_by p more) ≡ Some g
+  unfolding growth
   cause-longer p more g some = find-first (trie_growth (followed_by p more)) _ g (trie_cause-longer p more g some)
 
   pub IsCause-found : (p : Patterns) (g : Growth) → find (is_refused settings) (trie_growth p) ≡ Some g → IsCause settings p g
@@ -97,22 +99,95 @@ module _ (settings : Settings) where
             ∙ entries_from-past (size + 1) added (omega arith) (omega arith)
       ]
 
-  -- where the trie is accepted, all is, unless the copied matches are too many
-  module _ (p : Patterns) (accepted : IsAccepted settings p) (room : 1 + length (kept_before p (length p.words)) ≤ limits.id + 1) where
-    abbrev own : ℕ
-    own = 1 + length (kept_before p (length p.words))
+  -- rows that start within the limit, and the first one past it
+  rows-within : (start : ℕ → ℕ) (a n : ℕ) → ((row : ℕ) → row < a + n → start row ≤ limits.id) → find (is_refused settings) (map (λ row. TableIndex (start row)) (range_with_len a n)) ≡ None
+  rows-within start a zero within = refl
+  rows-within start a (suc n) within =
+      ap (λ (b : Bool). cond b (Some (TableIndex (start a))) (find (is_refused settings) (map (λ row. TableIndex (start row)) (range_with_len (a + 1) n)))) (le-ltb limits.id (start a) (within a (omega arith)))
+      ∙ rows-within start (a + 1) n (λ row less. within row (omega (arith, less)))
 
-    cause-copied : cause settings p ≡ find (is_refused settings) (entries_from own (matches_size p - own))
-    cause-copied = find-after (trie_growth p) (entries_from own (matches_size p - own)) accepted.none
+  rows-past : (start : ℕ → ℕ) (a n row : ℕ) → a ≤ row → row < a + n → limits.id < start row → ((earlier : ℕ) → earlier < row → start earlier ≤ limits.id)
+      → find (is_refused settings) (map (λ row. TableIndex (start row)) (range_with_len a n)) ≡ Some (TableIndex (start row))
+  rows-past start a zero row least below past earlier = absurd (omega arith)
+  rows-past start a (suc n) row least below past earlier =
+      elim (cases_eq a row) [
+        | inl here ↦
+            ap (λ (b : Bool). cond b (Some (TableIndex (start a))) (find (is_refused settings) (map (λ k. TableIndex (start k)) (range_with_len (a + 1) n))))
+            (ap (λ (k : ℕ). nat_lt limits.id (start k)) here ∙ lt-ltb limits.id (start row) past)
+            ∙ ap (λ (k : ℕ). Some (TableIndex (start k))) here
+        | inr later ↦
+            (let before : a < row = omega arith in
+            ap (λ (b : Bool). cond b (Some (TableIndex (start a))) (find (is_refused settings) (map (λ k. TableIndex (start k)) (range_with_len (a + 1) n)))) (le-ltb limits.id (start a) (earlier a before))
+            ∙ rows-past start (a + 1) n row (omega arith) (omega arith) past earlier)
+      ]
 
-    pub cause-within : matches_size p ≤ limits.id + 1 → cause settings p ≡ None
-    cause-within few = cause-copied ∙ within (matches_size p) few
-      where
-        within : (size : ℕ) → size ≤ limits.id + 1 → find (is_refused settings) (entries_from own (size - own)) ≡ None
-        within size fits = entries_from-within own (size - own) (omega arith)
+  rows-first : (start : ℕ → ℕ) (n row : ℕ) → row < n → limits.id < start row → ((earlier : ℕ) → earlier < row → start earlier ≤ limits.id)
+      → find (is_refused settings) (map (λ row. TableIndex (start row)) (range_with_len 0 n)) ≡ Some (TableIndex (start row))
+  rows-first start n row below past earlier = rows-past start 0 n row (omega arith) (omega arith) past earlier
 
-    pub cause-past : limits.id + 1 < matches_size p → cause settings p ≡ Some (TableIndex (limits.id + 1))
-    cause-past many = cause-copied ∙ past (matches_size p) many
-      where
-        past : (size : ℕ) → limits.id + 1 < size → find (is_refused settings) (entries_from own (size - own)) ≡ Some (TableIndex (limits.id + 1))
-        past size more = entries_from-past own (size - own) room (omega arith)
+  rows-none : (start : ℕ → ℕ) (n : ℕ) → ((row : ℕ) → row < n → start row ≤ limits.id) → find (is_refused settings) (map (λ row. TableIndex (start row)) (range_with_len 0 n)) ≡ None
+  rows-none start n within = rows-within start 0 n (λ row less. within row (omega (arith, less)))
+
+  -- once the trie is accepted: the anchored start's matches, then the rows, then the copied matches
+  module _ (taken rows : List Growth) (own start total : ℕ) (accepted : find (is_refused settings) taken ≡ None) where
+    abbrev later : List Growth
+    later = rows ++ entries_from (own + start) (total - (own + start))
+
+    abbrev asked : List Growth
+    asked = taken ++ (entries_from own start ++ later)
+
+    find-start : own + start ≤ limits.id + 1 → find (is_refused settings) asked ≡ find (is_refused settings) later
+    find-start few = find-after taken (entries_from own start ++ later) accepted ∙ find-after (entries_from own start) later (entries_from-within own start few)
+
+    pub first-start : own ≤ limits.id + 1 → limits.id + 1 < own + start → find (is_refused settings) asked ≡ Some (TableIndex (limits.id + 1))
+    first-start room past =
+        find-after taken (entries_from own start ++ later) accepted
+        ∙ find-first (entries_from own start) later (TableIndex (limits.id + 1)) (entries_from-past own start room past)
+
+    pub first-row : (g : Growth) → own + start ≤ limits.id + 1 → find (is_refused settings) rows ≡ Some g → find (is_refused settings) asked ≡ Some g
+    first-row g few found = find-start few ∙ find-first rows (entries_from (own + start) (total - (own + start))) g found
+
+    pub first-copied : own + start ≤ limits.id + 1 → find (is_refused settings) rows ≡ None → limits.id + 1 < total → find (is_refused settings) asked ≡ Some (TableIndex (limits.id + 1))
+    first-copied few none past =
+        find-start few ∙ find-after rows (entries_from (own + start) (total - (own + start))) none
+        ∙ entries_from-past (own + start) (total - (own + start)) few (omega arith)
+
+    pub none-asked : own + start ≤ limits.id + 1 → find (is_refused settings) rows ≡ None → total ≤ limits.id + 1 → find (is_refused settings) asked ≡ None
+    none-asked few none within =
+        find-start few ∙ find-after rows (entries_from (own + start) (total - (own + start))) none
+        ∙ entries_from-within (own + start) (total - (own + start)) (omega arith)
+
+  -- the rows of the patterns start within the limit
+  abbrev pub AreRowsWithin : Patterns → Type 0
+  AreRowsWithin p = (row : ℕ) → row < rows_size settings.dense_depth p → row * classes_size p + 1 ≤ limits.id
+
+  pub AreRowsWithin-of : (p : Patterns) (limit : ℕ) (borders : List Bool) (count : ℕ) → limit ≡ limits.id → count ≡ rows_size settings.dense_depth p
+      → ((row : ℕ) → row_start borders row ≡ row * classes_size p + 1) → AreWithinLimit limit borders count → AreRowsWithin p
+  AreRowsWithin-of p limit borders count same counted start within row less =
+      subst (λ (n : ℕ). n ≤ limits.id) (start row)
+      (subst (λ (n : ℕ). row_start borders row ≤ n) same (within row (subst (λ (n : ℕ). row < n) (sym counted) less)))
+
+  module _ (p : Patterns) (accepted : IsAccepted settings p) where
+    rows_none : AreRowsWithin p → find (is_refused settings) (row_growth settings.dense_depth p) ≡ None
+    rows_none rows = rows-none (λ row. row * classes_size p + 1) (rows_size settings.dense_depth p) rows
+
+    pub cause-start : own_size p ≤ limits.id + 1 → limits.id + 1 < own_size p + start_size p → cause settings p ≡ Some (TableIndex (limits.id + 1))
+    unfolding growth
+    cause-start = first-start (trie_growth p) (row_growth settings.dense_depth p) (own_size p) (start_size p) (matches_size p) accepted.none
+
+    pub cause-row : (row : ℕ) → own_size p + start_size p ≤ limits.id + 1 → row < rows_size settings.dense_depth p → limits.id < row * classes_size p + 1
+        → ((earlier : ℕ) → earlier < row → earlier * classes_size p + 1 ≤ limits.id) → cause settings p ≡ Some (TableIndex (row * classes_size p + 1))
+    unfolding growth
+    cause-row row few below past earlier =
+        first-row (trie_growth p) (row_growth settings.dense_depth p) (own_size p) (start_size p) (matches_size p) accepted.none (TableIndex (row * classes_size p + 1)) few
+        (rows-first (λ row. row * classes_size p + 1) (rows_size settings.dense_depth p) row below past earlier)
+
+    pub cause-past : own_size p + start_size p ≤ limits.id + 1 → AreRowsWithin p → limits.id + 1 < matches_size p → cause settings p ≡ Some (TableIndex (limits.id + 1))
+    unfolding growth
+    cause-past few rows =
+        first-copied (trie_growth p) (row_growth settings.dense_depth p) (own_size p) (start_size p) (matches_size p) accepted.none few (rows_none rows)
+
+    pub cause-within : own_size p + start_size p ≤ limits.id + 1 → AreRowsWithin p → matches_size p ≤ limits.id + 1 → cause settings p ≡ None
+    unfolding growth
+    cause-within few rows =
+        none-asked (trie_growth p) (row_growth settings.dense_depth p) (own_size p) (start_size p) (matches_size p) accepted.none few (rows_none rows)

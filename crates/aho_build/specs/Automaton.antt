@@ -11,8 +11,12 @@ use Rattle.aho_base.specs.MatchList.{own_matches}
 use Rattle.aho_base.specs.Patterns.{Patterns}
 use Rattle.aho_base.specs.Step.{follow, lookups}
 use Rattle.aho_base.specs.Trie.{is_node}
-use Rattle.aho_table.specs.Table.{State, dead_id, fail_id, next_in, fail_in, depth_in, matches_in, transitions_count, matches_count}
+use Rattle.aho_table.specs.Table.{State, Tables, dead_id, fail_id, next_in, fail_in, depth_in, matches_in, transitions_count, matches_count}
+use Rattle.aho_prefilter.specs.Prefilter.{prefilter_bytes}
+use Rattle.aho_build.specs.declared.settings.Settings.{Settings}
 use Rattle.aho_build.specs.declared.special.Special.{Special}
+use Rattle.aho_build.specs.Dense.{memory_size}
+use Rattle.aho_build.specs.Prefilters.{held_by}
 use Rattle.aho_build.specs.StateNames.{name_at, IsStateOf}
 use Rattle.aho_build.specs.Trie.{longer}
 use Rattle.aho_build.specs.Starts.{IsDead}
@@ -115,7 +119,11 @@ is_start_in special sid = nat_eq sid special.start_unanchored_id || nat_eq sid s
 abbrev pub is_special_in : Bool → Special → List State → ℕ → Bool
 is_special_in skips special states sid = nat_eq sid dead_id || (nat_lt 0 (length (matches_in states sid)) || (skips && is_start_in special sid))
 
--- the bytes of all tables: stated sizes for each state, transition, listed pattern, pattern length, and the dummy of the
--- dense table
-abbrev pub memory_of : List State → List ℕ → ℕ
-memory_of states lengths = 20 * length states + 9 * transitions_count states + 8 * matches_count states + 4 + 4 * length lengths
+-- the bytes of all tables: stated sizes for each state, transition, listed pattern, dense entry and pattern length
+abbrev pub memory_of : Tables → List ℕ → ℕ
+memory_of table lengths =
+    20 * length table.states + 9 * transitions_count table.states + 8 * matches_count table.states + 4 * table.dense_len + 4 * length lengths
+
+-- the bytes of the automaton that these settings make of the patterns: those of its tables, and what its prefilter holds
+unfoldable pub bytes_for : Settings → Patterns → ℕ
+bytes_for settings p = memory_size settings.dense_depth p + prefilter_bytes (held_by settings p)

@@ -29,9 +29,11 @@ linked_state states sid fail = slice_set states sid (record (state_at states sid
 abbrev pub HasSameTransitions : List State → List State → Type 0
 HasSameTransitions old new = (i : ℕ) → (state_at new i).transitions ≡ (state_at old i).transitions
 
--- links were set and patterns copied, and all else stays: the limit, the states, their transitions, and what FAIL lists
+-- links were set and patterns copied, and all else stays: the limit, the rows, the states, their transitions, and what FAIL
+-- lists
 pub record OnlyCopies (old new : Tables) : Type 0 where
   pub limit : new.limit ≡ old.limit
+  pub rows : new.dense_len ≡ old.dense_len
   pub state_count : length new.states ≡ length old.states
   pub transitions : HasSameTransitions old.states new.states
   pub fail_matches : matches_in new.states fail_id ≡ matches_in old.states fail_id

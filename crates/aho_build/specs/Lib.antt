@@ -4,6 +4,7 @@ pub mod StateNames
 pub mod Sizes
 pub mod Trie
 pub mod TrieGrowth
+pub mod Dense
 pub mod Refusals
 pub mod Items
 pub mod Prefilters

@@ -1,16 +1,19 @@
 -- What the limits refuse. What a build asks for is a list of growths in their order; the cause of a refusal is the first of
 -- them that is above its limit.
-use Rattle.std.specs.Prelude.{Bool, List, None, Option, Some, [], find, flat_map, if◌then◌else◌, length, map, nat_lt, sum_by, ℕ, ◌++◌, ◌+◌, ◌-◌, ◌∷◌, ◌≡◌}
+use Rattle.std.specs.Prelude.{Bool, List, None, Option, Some, [], find, flat_map, if◌then◌else◌, length, map, nat_lt, sum_by, ℕ, ◌++◌, ◌*◌, ◌+◌, ◌-◌, ◌∷◌, ◌≡◌}
 use Rattle.std.specs.List.{range_with_len}
+use Rattle.aho_base.specs.MatchList.{matches_of}
 use Rattle.aho_base.specs.Patterns.{Patterns, numbers, pattern_at}
 use Rattle.aho_base.specs.Trie.{is_kept}
 use Rattle.aho_base.specs.declared.error.BuildError.{BuildError}
 use Rattle.aho_base.specs.declared.error.BuildError.TheVariants.{PatternIDOverflow, PatternTooLong, StateIDOverflow}
+use Rattle.aho_build.specs.Dense.{classes_size, rows_size}
 use Rattle.aho_build.specs.Settings.{in_force}
 use Rattle.aho_build.specs.Sizes.{kept_before, matches_size, new_nodes, nodes_before, transitions_for}
 use Rattle.aho_build.specs.declared.settings.Settings.{Settings}
 
--- one thing that a build asks for: a pattern of this number, a pattern of this number and length, an entry at this index
+-- one thing that a build asks for: a pattern of this number, a pattern of this number and length, an entry or a row that
+-- starts at this index
 pub data Growth : Type 0 where
   PatternNumber : ℕ → Growth
   PatternLength : ℕ → ℕ → Growth
@@ -65,11 +68,24 @@ first_growth = entries_from 0 769
 abbrev pub trie_growth : Patterns → List Growth
 trie_growth p = first_growth ++ flat_map (growth_for p) (numbers p)
 
--- and then: the anchored start's matches, and the copied matches. The settings say which states get dense rows: none yet
-abbrev pub growth : Settings → Patterns → List Growth
+-- the listed patterns once all patterns are taken, and those that the anchored start then gets
+abbrev pub own_size : Patterns → ℕ
+own_size p = 1 + length (kept_before p (length p.words))
+
+abbrev pub start_size : Patterns → ℕ
+start_size p = length (matches_of p (Some []))
+
+-- dense rows by their starts, one behind another, where states up to this depth have one
+abbrev pub row_growth : ℕ → Patterns → List Growth
+row_growth depth p = map (λ row. TableIndex (row * classes_size p + 1)) (range_with_len 0 (rows_size depth p))
+
+-- and then: the anchored start's matches, the dense rows, and the copied matches
+unfoldable pub growth : Settings → Patterns → List Growth
 growth settings p =
     trie_growth p
-    ++ entries_from (1 + length (kept_before p (length p.words))) (matches_size p - (1 + length (kept_before p (length p.words))))
+    ++ (entries_from (own_size p) (start_size p)
+    ++ (row_growth settings.dense_depth p
+    ++ entries_from (own_size p + start_size p) (matches_size p - (own_size p + start_size p))))
 
 -- why a build is refused where memory is found: the first thing that the limits refuse
 abbrev pub cause : Settings → Patterns → Option Growth

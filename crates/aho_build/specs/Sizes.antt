@@ -56,10 +56,6 @@ abbrev pub matches_size : Patterns → ℕ
 matches_size p =
     1 + 2 * length (matches_of p (Some [])) + sum_by (λ word. length (matches_of p (Some word))) (nodes p)
 
--- the bytes of all tables together; the dense table has its dummy alone
-abbrev pub memory_size : Patterns → ℕ
-memory_size p = 20 * states_size p + 9 * transitions_size p + 8 * matches_size p + 4 + 4 * length p.words
-
 -- the table has a state for each of these nodes, the transitions into them, and this many listed patterns
 pub record HasNodes (p : Patterns) (words : List (List ℕ)) (kept : ℕ) (states : List State) : Type 0 where
   pub state_count : length states ≡ 4 + length words
@@ -70,7 +66,7 @@ pub record HasNodes (p : Patterns) (words : List (List ℕ)) (kept : ℕ) (state
 abbrev pub IsCountedTrie : Patterns → ℕ → List State → Type 0
 IsCountedTrie p number states = HasNodes p (nodes_before p number) (length (kept_before p number)) states
 
--- the tables of an automaton of the patterns
+-- the tables of states, transitions and matches of an automaton of the patterns
 pub record IsSized (p : Patterns) (states : List State) : Type 0 where
   pub state_count : length states ≡ states_size p
   pub transitions : transitions_count states ≡ transitions_size p

@@ -3,10 +3,13 @@
 ghost use Rattle.std.specs.Prelude.{◌≡◌, ◌+◌, ◌≤◌, length, IfOk, IfErr};
 ghost use Rattle.std.specs.Iterator.{IsFinite};
 ghost use Rattle.aho_build.specs.Automaton.{IsOf};
+ghost use Rattle.aho_build.specs.Dense.{dense_size};
 ghost use Rattle.aho_build.specs.Items.{IsFailure, OfAccepted};
 ghost use Rattle.aho_build.specs.Prefilters.{held_by};
 ghost use Rattle.aho_base.specs.Numbers.{greatest_index};
 
+pub mod borders;
+pub mod dense;
 pub mod failure;
 pub mod prefilter;
 pub mod starts;
@@ -40,7 +43,8 @@ pub struct Compiled {
 ///
 /// The first that the limits refuse of what is asked for: for each pattern in turn its number (`PatternIDOverflow`), its
 /// length in bytes (`PatternTooLong`), and the indexes of its states, transitions and match (`StateIDOverflow`); after the
-/// last pattern the indexes of the copied matches. Or want of memory, at any time.
+/// last pattern the indexes of the anchored start's matches, the starts of the dense rows, and the indexes of the copied
+/// matches. Or want of memory, at any time.
 pub fn compile<'p, I: Iterator<Item = &'p [u8]> + Drop>(
     alloc: Global,
     settings: &Settings,
@@ -51,14 +55,18 @@ pub fn compile<'p, I: Iterator<Item = &'p [u8]> + Drop>(
     ensures built { IfOk result (λ compiled. OfAccepted I.next_gives patterns settings.now
         (λ p. IsOf p settings.now.kind compiled.pattern_lens.items
         compiled.special compiled.table.states
+        × (compiled.table.dense_len ≡ dense_size settings.now.dense_depth p)
         × (compiled.prefilter ≡ held_by settings.now p))) }
     ensures refused { IfErr result (IsFailure I.next_gives patterns settings.now) }
 {
     let mut trie = trie::build_trie(alloc, settings, patterns)?;
+    let classes = trie.borders.byte_classes();
     let table = &mut trie.table;
     failure::set_anchored_start_state(table)?;
+    table.facts();
     failure::add_unanchored_start_state_loop(table, settings.kind)?;
-    // Dense rows come here: the links are then followed through them.
+    // No transition is set behind it, so no row is forgotten; and the links are followed through the rows.
+    dense::densify(table, classes, settings.dense_depth)?;
     failure::fill_failure_transitions(alloc, table, settings.kind)?;
     // Shuffling comes here.
     trie.table.facts();

@@ -23,7 +23,7 @@ pub struct Settings {
     pub kind: MatchKind,
     /// Whether ASCII letters are the same in both cases.
     pub ignore_case: bool,
-    /// Up to which distance from the start states have dense rows. It has no effect yet.
+    /// Up to which distance from the start states have dense rows; none at 0.
     pub dense_depth: usize,
     /// Whether a prefilter is held where there is one for the patterns.
     pub prefilter: bool,

@@ -42,6 +42,7 @@ impl Builder {
     ghost use Rattle.std.specs.Prelude.{IfOk, IfErr};
     ghost use Rattle.std.specs.Iterator.{IsFinite};
     ghost use Rattle.aho_build.specs.Items.{IsFailure, OfAccepted};
+    ghost use Rattle.aho_build.specs.Automaton.{bytes_for};
     ghost use Rattle.aho_build.specs.Prefilters.{held_by};
 
     /// Standard, with regard to case, dense rows up to depth 3, a prefilter where one can be held, and the greatest limits.
@@ -59,8 +60,8 @@ impl Builder {
     ///
     /// The first that the limits refuse of what is asked for: for each pattern in turn its number (`PatternIDOverflow`), its
     /// length in bytes (`PatternTooLong`), and the indexes of its states, transitions and match (`StateIDOverflow`); after
-    /// the last pattern the indexes of the copied matches. Patterns that come after one that is refused change nothing of
-    /// the error. Or want of memory, at any time. The builder can be used again.
+    /// the last pattern the indexes of the anchored start's matches, the starts of the dense rows, and the indexes of the
+    /// copied matches. Patterns that come after one that is refused change nothing of the error. Or want of memory, at any time. The builder can be used again.
     pub fn build<'p, I: Iterator<Item = &'p [u8]> + Drop>(
         &self,
         alloc: Global,
@@ -72,6 +73,8 @@ impl Builder {
             OfAccepted I.next_gives patterns self.now (⟦<NFA as Automaton>⟧.is_of nfa)) }
         ensures held { IfOk result (λ nfa. OfAccepted I.next_gives patterns self.now
             (λ p. ⟦<NFA as Automaton>⟧.prefilter nfa ≡ held_by self.now p)) }
+        ensures sized { IfOk result (λ nfa. OfAccepted I.next_gives patterns self.now
+            (λ p. ⟦<NFA as Automaton>⟧.memory nfa ≡ bytes_for self.now p)) }
         ensures refused { IfErr result (IsFailure I.next_gives patterns self.now) }
     {
         let compiled = compiler::compile(alloc, &self.settings, patterns)?;
@@ -96,7 +99,8 @@ impl Builder {
         self
     }
 
-    /// Up to which distance from the start states have dense rows. It is kept, and has no effect yet.
+    /// Up to which distance from the start states have dense rows, by which a step is one look; none at 0. A row takes four
+    /// bytes for each class of bytes. No answer depends on it.
     pub fn dense_depth(&mut self, depth: usize) -> &mut Builder
         ensures same { result.ghost_name ≡ self.entry.ghost_name }
         ensures set { result.now ≡ record self.old { dense_depth = depth } }

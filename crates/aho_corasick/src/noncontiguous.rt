@@ -47,11 +47,11 @@ pub struct NFA {
 }
 
 impl NFA {
-    ghost use Rattle.std.specs.Prelude.{ℕ, List, IfOk, IfErr, IfSome};
+    ghost use Rattle.std.specs.Prelude.{◌+◌, ℕ, List, IfOk, IfErr, IfSome};
     ghost use Rattle.std.specs.Iterator.{IsFinite};
     ghost use Rattle.aho_base.specs.declared.search.Anchored.{Anchored};
     ghost use Rattle.aho_base.specs.Patterns.{Patterns};
-    ghost use Rattle.aho_build.specs.Automaton.{IsOf};
+    ghost use Rattle.aho_build.specs.Automaton.{IsOf, bytes_for, memory_of};
     ghost use Rattle.aho_build.specs.Items.{IsFailure, OfAccepted};
     ghost use Rattle.aho_build.specs.Prefilters.{held_by};
     ghost use Rattle.aho_build.specs.Settings.{default_settings};
@@ -74,6 +74,8 @@ impl NFA {
             OfAccepted I.next_gives patterns default_settings (⟦<NFA as Automaton>⟧.is_of nfa)) }
         ensures held { IfOk result (λ nfa. OfAccepted I.next_gives patterns default_settings
             (λ p. ⟦<NFA as Automaton>⟧.prefilter nfa ≡ held_by default_settings p)) }
+        ensures sized { IfOk result (λ nfa. OfAccepted I.next_gives patterns default_settings
+            (λ p. ⟦<NFA as Automaton>⟧.memory nfa ≡ bytes_for default_settings p)) }
         ensures refused { IfErr result (IsFailure I.next_gives patterns default_settings) }
     {
         Builder::new().build(alloc, patterns)
@@ -88,6 +90,8 @@ impl NFA {
             → IfSome compiled.prefilter (λ searcher. IsPrefilterOf searcher p)
             → ⟦<NFA as Automaton>⟧.is_of result p }
         ensures held { ⟦<NFA as Automaton>⟧.prefilter result ≡ compiled.prefilter }
+        ensures memory { ⟦<NFA as Automaton>⟧.memory result
+            ≡ memory_of compiled.table compiled.pattern_lens.items + prefilter_bytes compiled.prefilter }
     {
         let Compiled {
             table,
@@ -146,7 +150,6 @@ impl Automaton for NFA {
     ghost use Rattle.aho_base.specs.Patterns.{Patterns};
     ghost use Rattle.aho_base.specs.Step.{lookups};
     ghost use Rattle.aho_build.specs.Automaton.{IsOf, IsHeld, start_of, is_special_in, is_start_in, memory_of};
-    ghost use Rattle.aho_build.specs.Sizes.{memory_size};
     ghost use Rattle.aho_prefilter.specs.Prefilter.{IsPrefilterOf};
     ghost use Rattle.aho_table.specs.Table.{dead_id, depth_in, matches_in};
     ghost use Rattle.aho_build.specs.Walking.{IsState, step_in};
@@ -180,7 +183,7 @@ impl Automaton for NFA {
 
     ghost start = { λ n anchored. Ok (start_of n.special anchored) };
 
-    ghost memory = { λ n. memory_of n.table.states n.pattern_lens.items + prefilter_bytes n.prefilter };
+    ghost memory = { λ n. memory_of n.table n.pattern_lens.items + prefilter_bytes n.prefilter };
 
     ghost prefilter = { λ n. n.prefilter };
 
@@ -252,17 +255,15 @@ impl Automaton for NFA {
         self.max_pattern_len
     }
 
-    /// For the automaton of some patterns it is their `memory_size`, stated sizes, whatever its vectors take; and what its
-    /// prefilter holds.
+    /// For an automaton that was built it is what its settings and patterns tell, as `new` and `build` say: stated sizes,
+    /// whatever its vectors take, and what its prefilter holds.
     fn memory_usage(&self) -> usize
         ensures memory { result ≡ ⟦<NFA as Automaton>⟧.memory self.now }
-        ensures exact { (p : Patterns) → ⟦<NFA as Automaton>⟧.is_of self.now p
-            → result ≡ memory_size p + prefilter_bytes (⟦<NFA as Automaton>⟧.prefilter self.now) }
     {
         20 * self.table.len()
             + 9 * self.table.transitions_count()
             + 8 * self.table.matches_count()
-            + 4
+            + 4 * self.table.dense_len()
             + 4 * self.pattern_lens.len()
             + bytes_of(&self.prefilter)
     }

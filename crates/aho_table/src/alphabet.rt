@@ -47,6 +47,7 @@ impl ByteClassSet {
     /// The classes that these borders make.
     pub fn byte_classes(&self) -> ByteClasses
         ensures borders { result ≡ self.now }
+        ensures sized { length result ≡ 255 }
     {
         let mut classes = [0u8; 256];
         let mut class = 0;

@@ -9,6 +9,9 @@ use aho_search::automaton::Automaton;
 use std::alloc::{AllocError, Global};
 use std::process::Abort;
 
+/// How far from the start states have dense rows, as the tests have it.
+pub(crate) const DEPTHS: [usize; 4] = [0, 1, 3, usize::MAX];
+
 /// The automaton of these patterns.
 pub(crate) fn nfa_of(
     rt: &impl Abort,
@@ -29,7 +32,7 @@ pub(crate) fn builder_of(kind: MatchKind, ignore_case: bool) -> Builder {
     builder
 }
 
-/// The automaton of these patterns, which holds a prefilter only where this is wanted.
+/// The automaton of these patterns, which holds a prefilter only where this is wanted, and rows up to this depth.
 pub(crate) fn nfa_with(
     rt: &impl Abort,
     alloc: Global,
@@ -37,11 +40,12 @@ pub(crate) fn nfa_with(
     kind: MatchKind,
     ignore_case: bool,
     prefilter: bool,
+    dense_depth: usize,
 ) -> NFA
     ensures of { (p : Patterns) × ⟦<NFA as Automaton>⟧.is_of result p }
 {
     let mut builder = builder_of(kind, ignore_case);
-    builder.prefilter(prefilter);
+    builder.prefilter(prefilter).dense_depth(dense_depth);
     nfa_by(rt, alloc, &builder, words)
 }
 

@@ -15,17 +15,20 @@ const NO_LIMITS: Limits = Limits {
     length: usize::MAX,
 };
 
-/// Why these patterns are refused under these limits; none where they are not.
-fn refusal(alloc: Global, patterns: &[&[u8]], limits: Limits) -> Option<BuildError> {
+/// Up to which distance from the start states have rows: none, the first, those of a new builder, and all.
+const DEPTHS: [usize; 4] = [0, 1, 3, usize::MAX];
+
+/// Why these patterns are refused under these limits, where states up to this depth have rows; none where they are not.
+fn refusal(alloc: Global, depth: usize, patterns: &[&[u8]], limits: Limits) -> Option<BuildError> {
     let mut builder = Builder::new();
-    builder.limits(limits);
+    builder.limits(limits).dense_depth(depth);
     match builder.build(alloc, patterns.iter().copied()) {
         Ok(_nfa) => None,
         Err(error) => Some(error),
     }
 }
 
-/// These patterns are refused so under these limits. A message tells the case by its name.
+/// These patterns are refused so under these limits, whatever states have rows. A message tells the case by its name.
 fn check(
     rt: &impl Abort,
     alloc: Global,
@@ -34,8 +37,14 @@ fn check(
     limits: Limits,
     want: Option<BuildError>,
 ) {
-    let refusal = refusal(alloc, patterns, limits);
-    assert_eq!(rt; refusal, want, "{name}: {patterns:?} {limits:?}");
+    for depth in DEPTHS {
+        let refusal = refusal(alloc, depth, patterns, limits);
+        assert_eq!(rt;
+            refusal,
+            want,
+            "{name}, depth {depth}: {patterns:?} {limits:?}"
+        );
+    }
 }
 
 /// A limit on indexes alone.
@@ -155,6 +164,38 @@ fn copied_matches_are_limited(rt: HostRuntime) -> Result<(), Fail> {
         limits,
         is_full(1000),
     );
+    Ok(())
+}
+
+/// A row would start here, past this limit.
+fn is_past(max: u64, requested: u64) -> Option<BuildError> {
+    Some(BuildError::StateIDOverflow { max, requested })
+}
+
+#[test]
+fn starts_of_rows_are_limited(rt: HostRuntime) -> Result<(), Fail> {
+    let alloc = rt.alloc();
+    let mut bytes = [0; 256];
+    for byte in 0..256u16 {
+        bytes[byte as usize] = byte as u8;
+    }
+    let mut patterns: Vec<&[u8]> = Vec::new(alloc);
+    for byte in &bytes {
+        patterns.push(std::slice::from_ref(byte))?;
+    }
+    // The rows of the two starts and of the 256 states start at 1, 257, .., 65793.
+    for (id, want) in [
+        (1000, is_past(1000, 1025)),
+        (65792, is_past(65792, 65793)),
+        (65793, None),
+    ] {
+        for depth in [1, 3] {
+            let refusal = refusal(alloc, depth, &patterns, by_id(id));
+            assert_eq!(&rt; refusal, want, "depth {depth}, {id}");
+        }
+        let refusal = refusal(alloc, 0, &patterns, by_id(id));
+        assert_eq!(&rt; refusal, None, "no rows, {id}");
+    }
     Ok(())
 }
 

@@ -139,13 +139,14 @@ fn starts_are_special_where_a_prefilter_is_held(rt: HostRuntime) {
             MatchKind::Standard,
             false,
             prefilter,
+            1,
         );
         assert_eq!(rt; nfa.prefilter().is_some(), prefilter);
         for anchored in [Anchored::No, Anchored::Yes] {
             let start = start_of(&rt, &nfa, anchored);
             assert_eq!(rt; nfa.is_special(start), prefilter, "{anchored:?}");
         }
-        let memory = if prefilter { 7106 } else { 7103 };
+        let memory = if prefilter { 7166 } else { 7163 };
         assert_eq!(rt; nfa.memory_usage(), memory);
     }
 }
@@ -268,7 +269,7 @@ const TOLD: &[Told] = &[
         lens: &[3],
         shortest: 3,
         longest: 3,
-        memory: 7106,
+        memory: 7206,
     },
     Told {
         kind: MatchKind::Standard,
@@ -276,7 +277,7 @@ const TOLD: &[Told] = &[
         lens: &[0, 2],
         shortest: 0,
         longest: 2,
-        memory: 7110,
+        memory: 7174,
     },
     Told {
         kind: MatchKind::LeftmostLongest,
@@ -284,7 +285,7 @@ const TOLD: &[Told] = &[
         lens: &[],
         shortest: usize::MAX,
         longest: 0,
-        memory: 7013,
+        memory: 7021,
     },
 ];
 

@@ -1,4 +1,4 @@
-//! How large a build becomes: which patterns share states, and which are left out.
+//! How large a build becomes: which patterns share states, which are left out, and which states have dense rows.
 
 use aho_base::search::{Input, MatchKind};
 use aho_corasick::noncontiguous::Builder;
@@ -10,7 +10,7 @@ fn a_letter_leads_by_both_cases(rt: HostRuntime) -> Result<(), Fail> {
     let alloc = rt.alloc();
     let patterns: [&[u8]; 2] = [b"ab", b"aB"];
     let mut builder = Builder::new();
-    builder.ascii_case_insensitive(true);
+    builder.ascii_case_insensitive(true).dense_depth(0);
     let nfa = builder.build(alloc, patterns.iter().copied())?;
     // Six states, 769 + 2 transitions, 1 + 2 listed patterns and two lengths.
     assert_eq!(rt;
@@ -36,10 +36,73 @@ fn a_pattern_behind_a_prefix_adds_no_state(rt: HostRuntime) -> Result<(), Fail> 
         (MatchKind::LeftmostLongest, 7086),
     ] {
         let mut builder = Builder::new();
-        builder.match_kind(kind);
+        builder.match_kind(kind).dense_depth(0);
         let nfa = builder.build(alloc, patterns.iter().copied())?;
         assert_eq!(rt; nfa.memory_usage(), memory, "{patterns:?} by {kind:?}");
         assert_eq!(rt; nfa.patterns_len(), 2, "{patterns:?} by {kind:?}");
+    }
+    Ok(())
+}
+
+/// Patterns, and the bytes of their automaton without a prefilter at a depth of dense rows.
+struct Sum {
+    kind: MatchKind,
+    patterns: &'static [&'static [u8]],
+    dense_depth: usize,
+    memory: usize,
+}
+
+const SUMS: &[Sum] = &[
+    Sum {
+        kind: MatchKind::Standard,
+        patterns: &[b"abc"],
+        dense_depth: 0,
+        memory: 7103,
+    },
+    Sum {
+        kind: MatchKind::LeftmostLongest,
+        patterns: &[b"abc"],
+        dense_depth: 1,
+        memory: 7163,
+    },
+    Sum {
+        kind: MatchKind::Standard,
+        patterns: &[b"abc"],
+        dense_depth: 3,
+        memory: 7203,
+    },
+    Sum {
+        kind: MatchKind::LeftmostFirst,
+        patterns: &[b"abc"],
+        dense_depth: usize::MAX,
+        memory: 7203,
+    },
+    Sum {
+        kind: MatchKind::Standard,
+        patterns: &[b"", b"ab"],
+        dense_depth: 3,
+        memory: 7174,
+    },
+    Sum {
+        kind: MatchKind::LeftmostFirst,
+        patterns: &[b"", b"xyz"],
+        dense_depth: 3,
+        memory: 7045,
+    },
+];
+
+#[test]
+fn rows_take_memory(rt: HostRuntime) -> Result<(), Fail> {
+    for sum in SUMS {
+        let mut builder = Builder::new();
+        builder
+            .match_kind(sum.kind)
+            .prefilter(false)
+            .dense_depth(sum.dense_depth);
+        let nfa = builder.build(rt.alloc(), sum.patterns.iter().copied())?;
+        let case = (sum.kind, sum.patterns, sum.dense_depth);
+        assert_eq!(rt; nfa.memory_usage(), sum.memory, "{case:?}");
+        assert_eq!(rt; nfa.try_clone()?.memory_usage(), sum.memory, "{case:?}");
     }
     Ok(())
 }

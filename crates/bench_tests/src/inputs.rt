@@ -4,7 +4,7 @@
 ghost use Rattle.std.specs.Prelude.{◌+◌, ◌<◌, ◌≤◌, length};
 ghost use Rattle.aho_base.specs.Patterns.{Patterns};
 
-use crate::automata::{builder_of, nfa_by, nfa_of, nfa_with};
+use crate::automata::{DEPTHS, builder_of, nfa_by, nfa_of, nfa_with};
 use crate::overlaps::{found_by_calls, found_by_iterator};
 use aho_base::search::{Anchored, Input, MatchKind, PatternID, Span};
 use aho_corasick::noncontiguous::{Limits, NFA};
@@ -289,9 +289,11 @@ fn search_cases(rt: &impl Abort, alloc: Global, way: Way, sizes: &[(usize, usize
         assert!(rt; case.patterns.len() <= PatternID::MAX.as_usize());
         for kind in KINDS {
             let patterns = PatternSet::new(case.patterns, kind, case.ignore_case);
-            for prefilter in [true, false] {
+            for depth in DEPTHS {
+                // A prefilter and rows have nothing to do with each other, so half of the pairs will do.
+                let prefilter = depth == 1 || depth == 3;
                 let words = case.patterns;
-                let nfa = nfa_with(rt, alloc, words, kind, case.ignore_case, prefilter);
+                let nfa = nfa_with(rt, alloc, words, kind, case.ignore_case, prefilter, depth);
                 search_haystacks(rt, alloc, way, case, &patterns, &nfa, sizes);
             }
         }
@@ -483,7 +485,8 @@ fn search_random(
             for ignore_case in [false, true] {
                 let patterns = PatternSet::new(&words, kind, ignore_case);
                 let prefilter = random.below(2) == 0;
-                let nfa = nfa_with(rt, alloc, &words, kind, ignore_case, prefilter);
+                let depth = DEPTHS[random.below(4)];
+                let nfa = nfa_with(rt, alloc, &words, kind, ignore_case, prefilter, depth);
                 let haystack = random.range(&bytes, 12);
                 search_spans(rt, alloc, Way::Once, name, &patterns, &nfa, haystack);
                 if kind == MatchKind::Standard {

@@ -3,7 +3,7 @@
 ghost use Rattle.std.specs.Prelude.{◌+◌, ◌<◌, ◌≤◌, ◌^◌, length};
 ghost use Rattle.aho_base.specs.Patterns.{Patterns};
 
-use crate::automata::nfa_with;
+use crate::automata::{DEPTHS, nfa_with};
 use crate::reading::Reading;
 use aho_base::error::MatchError;
 use aho_base::search::{Anchored, Input, MatchKind, Span};
@@ -119,26 +119,29 @@ fn lookups_over<A: Automaton, T: Text>(
 #[test]
 fn searches_cost_what_they_should(rt: HostRuntime) -> Result<(), Fail> {
     for row in ROWS {
-        let nfa = nfa_with(
-            &rt,
-            rt.alloc(),
-            row.patterns,
-            row.kind,
-            false,
-            row.prefilter,
-        );
-        let (haystack, span) = (row.haystack, row.span);
-        let case = (row.kind, row.patterns, haystack, span, row.anchored);
-        assert!(rt; span.end <= haystack.len(), "{case:?}");
-        assert!(rt; span.start <= span.end + 1, "{case:?}");
-        let mut bytes = Bytes::new(haystack);
-        let lookups = lookups_over(&nfa, &mut bytes, span, row.anchored)?;
-        assert_eq!(rt; lookups, row.lookups, "{case:?}");
-        let mut text = Reading::new(haystack);
-        let lookups = lookups_over(&nfa, &mut text, span, row.anchored)?;
-        assert_eq!(rt; lookups, row.lookups, "{case:?}");
-        assert_eq!(rt; text.reads(), row.reads, "{case:?}");
-        assert_eq!(rt; text.next_place(), row.reads, "{case:?}");
+        for depth in DEPTHS {
+            let nfa = nfa_with(
+                &rt,
+                rt.alloc(),
+                row.patterns,
+                row.kind,
+                false,
+                row.prefilter,
+                depth,
+            );
+            let (haystack, span) = (row.haystack, row.span);
+            let case = (row.kind, row.patterns, haystack, span, row.anchored);
+            assert!(rt; span.end <= haystack.len(), "{case:?}");
+            assert!(rt; span.start <= span.end + 1, "{case:?}");
+            let mut bytes = Bytes::new(haystack);
+            let lookups = lookups_over(&nfa, &mut bytes, span, row.anchored)?;
+            assert_eq!(rt; lookups, row.lookups, "{case:?}");
+            let mut text = Reading::new(haystack);
+            let lookups = lookups_over(&nfa, &mut text, span, row.anchored)?;
+            assert_eq!(rt; lookups, row.lookups, "{case:?}");
+            assert_eq!(rt; text.reads(), row.reads, "{case:?}");
+            assert_eq!(rt; text.next_place(), row.reads, "{case:?}");
+        }
     }
     Ok(())
 }
@@ -146,23 +149,26 @@ fn searches_cost_what_they_should(rt: HostRuntime) -> Result<(), Fail> {
 #[test]
 fn searches_step_once_a_byte(rt: HostRuntime) -> Result<(), Fail> {
     for row in ROWS {
-        let nfa = nfa_with(
-            &rt,
-            rt.alloc(),
-            row.patterns,
-            row.kind,
-            false,
-            row.prefilter,
-        );
-        let tally = Tally::new(nfa);
-        let (haystack, span) = (row.haystack, row.span);
-        let case = (row.kind, row.patterns, haystack, span, row.anchored);
-        assert!(rt; span.end <= haystack.len(), "{case:?}");
-        assert!(rt; span.start <= span.end + 1, "{case:?}");
-        let input = Input::new(haystack).span(span).anchored(row.anchored);
-        let _found = tally.try_find(&input)?;
-        assert_eq!(rt; tally.steps(), row.reads as u64, "{case:?}");
-        assert_eq!(rt; tally.next_states(), 0, "{case:?}");
+        for depth in DEPTHS {
+            let nfa = nfa_with(
+                &rt,
+                rt.alloc(),
+                row.patterns,
+                row.kind,
+                false,
+                row.prefilter,
+                depth,
+            );
+            let tally = Tally::new(nfa);
+            let (haystack, span) = (row.haystack, row.span);
+            let case = (row.kind, row.patterns, haystack, span, row.anchored);
+            assert!(rt; span.end <= haystack.len(), "{case:?}");
+            assert!(rt; span.start <= span.end + 1, "{case:?}");
+            let input = Input::new(haystack).span(span).anchored(row.anchored);
+            let _found = tally.try_find(&input)?;
+            assert_eq!(rt; tally.steps(), row.reads as u64, "{case:?}");
+            assert_eq!(rt; tally.next_states(), 0, "{case:?}");
+        }
     }
     Ok(())
 }

@@ -4,7 +4,7 @@
 ghost use Rattle.std.specs.Prelude.{◌+◌, ◌≤◌, length};
 ghost use Rattle.aho_base.specs.Patterns.{Patterns};
 
-use crate::automata::nfa_with;
+use crate::automata::{DEPTHS, nfa_with};
 use crate::overlaps::{found_by_calls, found_by_iterator};
 use aho_base::search::{Anchored, Input, Match, MatchKind, PatternID, Span};
 use aho_corasick::noncontiguous::NFA;
@@ -507,13 +507,15 @@ fn is_listed(
     Ok(())
 }
 
-/// The plain program and the automaton answer what is wanted of a row, at one match kind, with and without a prefilter.
+/// The plain program and the automaton answer what is wanted of a row, at one match kind, with and without a prefilter, at a
+/// depth of dense rows.
 fn row_is_met(
     rt: &impl Abort,
     alloc: Global,
     row: &Row,
     kind: MatchKind,
     prefilter: bool,
+    depth: usize,
 ) -> Result<(), Fail> {
     let span = span_of(row);
     assert!(rt; row.patterns.len() <= PatternID::MAX.as_usize());
@@ -522,7 +524,7 @@ fn row_is_met(
     let patterns = PatternSet::new(row.patterns, kind, row.ignore_case);
     let input = input_of(row, span);
     let answer = plain(&patterns, &input);
-    let nfa = nfa_with(rt, alloc, row.patterns, kind, row.ignore_case, prefilter);
+    let nfa = nfa_with(rt, alloc, row.patterns, kind, row.ignore_case, prefilter, depth);
     assert_eq!(rt; nfa.try_find(&input)?, answer, "{kind:?} {row:?}");
     is_listed(rt, alloc, row, &nfa, input.clone()?)?;
     let iterated = iterated(alloc, row, &nfa, input_of(row, span))?;
@@ -543,8 +545,10 @@ fn row_is_met(
 fn rows_are_met(rt: HostRuntime) -> Result<(), Fail> {
     for row in ROWS {
         for kind in row.kinds {
-            for prefilter in [true, false] {
-                row_is_met(&rt, rt.alloc(), row, *kind, prefilter)?;
+            for depth in DEPTHS {
+                for prefilter in [true, false] {
+                    row_is_met(&rt, rt.alloc(), row, *kind, prefilter, depth)?;
+                }
             }
         }
     }

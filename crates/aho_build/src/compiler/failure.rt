@@ -30,6 +30,7 @@ fn copy_matches(table: &mut Table, from: StateID, to: StateID) -> Result<(), Bui
     requires apart { to ≢ from }
     ensures copied { OnOk result (table.new.states ≡ append_matches table.old.states to from) }
     ensures limit { OnOk result (table.new.limit ≡ table.old.limit) }
+    ensures rows { OnOk result (table.new.dense_len ≡ table.old.dense_len) }
     ensures refused { IfErr result
         (IsRefusalOf table.old.limit
         (matches_count table.old.states + length (matches_in table.old.states from))) }
@@ -140,6 +141,7 @@ fn link(table: &mut Table, sid: StateID, fail: StateID) -> Result<(), BuildError
     requires apart { sid ≢ fail }
     ensures linked { OnOk result (table.new.states ≡ linked_state table.old.states sid fail) }
     ensures limit { OnOk result (table.new.limit ≡ table.old.limit) }
+    ensures rows { OnOk result (table.new.dense_len ≡ table.old.dense_len) }
     ensures refused { IfErr result
         (IsRefusalOf table.old.limit
         (matches_count table.old.states + length (matches_in table.old.states fail))) }

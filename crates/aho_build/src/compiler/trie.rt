@@ -6,20 +6,23 @@ ghost use denote.Ref.{Bor};
 ghost use Rattle.aho_base.specs.Numbers.{greatest_index};
 ghost use Rattle.aho_base.specs.declared.error.BuildError.TheVariants.{PatternIDOverflow, PatternTooLong};
 ghost use Rattle.aho_base.specs.Patterns.{Patterns};
-ghost use Rattle.aho_build.specs.TrieGrowth.{opposite, HasChild, IsFilledBelow, is_first, AwaitsWord, AddsWord, AddsPattern, IsChildRefusal, IsWordRefusal, AreWithin};
+ghost use Rattle.aho_build.specs.TrieGrowth.{HasChild, IsFilledBelow, is_first, AwaitsWord, AddsWord, AddsPattern, IsChildRefusal, IsWordRefusal, AreWithin};
 ghost use Rattle.aho_build.specs.Trie.{HoldsFirst, HoldsTrie};
 ghost use Rattle.aho_table.specs.Refusal.{IsRefusalOf};
 ghost use Rattle.aho_build.specs.Settings.{in_force};
 ghost use Rattle.aho_build.specs.Refusals.{IsAccepted};
 ghost use Rattle.aho_build.specs.Items.{patterns_of, IsTrieFailure};
+ghost use Rattle.aho_build.specs.Dense.{AddsBorders, HasBorders};
 ghost use Rattle.aho_build.specs.Prefilters.{Collects};
 ghost use Rattle.aho_table.specs.Table.{IsWithinLimit, state_at, matches_in, transitions_count};
 
+use crate::compiler::borders::{opposite_ascii_case, set_bytes};
 use crate::compiler::prefilter::PrefilterPatterns;
 use crate::compiler::starts::unanchored_start;
 use crate::settings::Settings;
 use aho_base::error::BuildError;
 use aho_base::search::{MatchKind, PatternID, SmallIndex, StateID};
+use aho_table::alphabet::ByteClassSet;
 use aho_table::links::{Child, Table};
 use std::alloc::Global;
 
@@ -31,19 +34,8 @@ pub struct Trie {
     pub lens: Vec<SmallIndex>,
     /// All patterns, those that are not kept as well.
     pub prefilter: PrefilterPatterns,
-}
-
-/// The other case of an ASCII letter, and every other byte itself.
-fn opposite_ascii_case(byte: u8) -> u8
-    ensures opposite { result ≡ opposite byte }
-{
-    if byte >= 65 && byte <= 90 {
-        byte + 32
-    } else if byte >= 97 && byte <= 122 {
-        byte - 32
-    } else {
-        byte
-    }
+    /// Around each byte of the patterns that are kept.
+    pub borders: ByteClassSet,
 }
 
 /// The state to which the byte leads, which is added at this depth where there is none.
@@ -186,9 +178,11 @@ fn length_of(pattern: PatternID, len: usize, limit: usize) -> Result<SmallIndex,
     Ok(SmallIndex::new_unchecked(len))
 }
 
-/// One pattern more: its states, and its number at the last of them.
+/// One pattern more: its states, its number at the last of them, and borders around its bytes. A pattern that is left out
+/// adds none.
 fn add_pattern(
     table: &mut Table,
+    borders: &mut ByteClassSet,
     settings: &Settings,
     pattern: &[u8],
     number: PatternID,
@@ -197,11 +191,14 @@ fn add_pattern(
     requires trie { AwaitsWord settings.now pattern.now table.old.states }
     ensures adds { OnOk result
         (AddsPattern settings.now pattern.now number table.old.states table.new.states) }
+    ensures borders { OnOk result
+        (AddsBorders settings.now pattern.now number table.old.states borders.old borders.new) }
     ensures limit { OnOk result (table.new.limit ≡ table.old.limit) }
     ensures refused { IfErr result
         (IsWordRefusal settings.now pattern.now table.old.limit table.old.states) }
 {
     if let Some(end) = add_word(table, settings, pattern)? {
+        set_bytes(borders, settings.ignore_case, pattern);
         table.add_match(end, number)?;
     }
     Ok(())
@@ -226,7 +223,8 @@ pub fn build_trie<'p, I: Iterator<Item = &'p [u8]> + Drop>(
         × (HoldsTrie (patterns_of settings.now items) trie.table.states
         × (AreWithin settings.now (patterns_of settings.now items)
         × (IsAccepted settings.now (patterns_of settings.now items)
-        × Collects settings.now (patterns_of settings.now items) trie.prefilter)))))) }
+        × (Collects settings.now (patterns_of settings.now items) trie.prefilter
+        × HasBorders (patterns_of settings.now items) trie.borders))))))) }
     ensures limit { IfOk result (λ trie. trie.table.limit ≡ (in_force settings.now).id) }
     ensures within { IfOk result (λ trie.
         IsWithinLimit (in_force settings.now).id trie.table.states) }
@@ -237,6 +235,7 @@ pub fn build_trie<'p, I: Iterator<Item = &'p [u8]> + Drop>(
         table: first_states(alloc, limits.id)?,
         lens: Vec::new(alloc),
         prefilter: PrefilterPatterns::new(alloc, settings),
+        borders: ByteClassSet::empty(),
     };
     trie.table.facts();
     for pattern in patterns {
@@ -245,7 +244,13 @@ pub fn build_trie<'p, I: Iterator<Item = &'p [u8]> + Drop>(
         let Ok(()) = trie.prefilter.add(pattern) else {
             return Err(BuildError::OutOfMemory);
         };
-        add_pattern(&mut trie.table, settings, pattern, number)?;
+        add_pattern(
+            &mut trie.table,
+            &mut trie.borders,
+            settings,
+            pattern,
+            number,
+        )?;
         trie.table.facts();
         if trie.lens.push(len).is_err() {
             return Err(BuildError::OutOfMemory);

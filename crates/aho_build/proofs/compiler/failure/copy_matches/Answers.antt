@@ -7,7 +7,7 @@ use Rattle.aho_build.proofs.StoppedBuilds.{IfErr-given}
 use Rattle.aho_build.proofs.compiler.failure.copy_matches.Goals as goal
 
 pub loop-index-init : goal.loop-index-init
-loop-index-init c = record { states = copied_none c.args.table.now.states c.args.to c.args.from; limit = refl }
+loop-index-init c = record { states = copied_none c.args.table.now.states c.args.to c.args.from; limit = refl; rows = refl }
 
 pub loop-index-preserved : goal.loop-index-preserved
 loop-index-preserved c =
@@ -16,6 +16,7 @@ loop-index-preserved c =
       states = copied_more c.args.table.now.states c.loop-index.table.states c.add_match.new.self.states c.args.to c.args.from c.loop-index.index c.match_pattern-pattern.result c.requires.to c.requires.apart below
           c.loop-index.invariant.states c.match_pattern-pattern.ensures.listed (ap (λ (t : Tables). t.states) c.in_ok-add_match.ensures.listed);
       limit = ap (λ (t : Tables). t.limit) c.in_ok-add_match.ensures.listed ∙ c.loop-index.invariant.limit;
+      rows = ap (λ (t : Tables). t.dense_len) c.in_ok-add_match.ensures.listed ∙ c.loop-index.invariant.rows;
     }
 
 pub returns-in_err-add_match-clause-refused : goal.returns-in_err-add_match-clause-refused
@@ -32,5 +33,6 @@ returns c =
     record {
       copied = copied_all c.args.table.now.states c.loop-index.table.states c.args.to c.args.from c.loop-index.index past c.loop-index.invariant.states;
       limit = c.loop-index.invariant.limit;
+      rows = c.loop-index.invariant.rows;
       refused = tt;
     }

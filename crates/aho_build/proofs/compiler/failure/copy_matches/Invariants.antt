@@ -6,4 +6,5 @@ abbrev pub invariant-loop-index : goal.invariant-loop-index
 invariant-loop-index l = record {
   states : l.table.states ≡ slice_set l.fn.table.states l.to (copied_state l.fn.table.states l.to l.from l.index);
   limit : l.table.limit ≡ l.fn.table.limit;
+  rows : l.table.dense_len ≡ l.fn.table.dense_len;
 }

@@ -27,7 +27,7 @@ states-init c =
     record {
       within = omega arith;
       copies = OnlyCopies-state c.args.table.now c.set_fail.new.self root_id (record (state_at c.args.table.now.states root_id) { fail = dead_id }) below (λ e. omega arith) refl
-          (ap (λ (t : Tables). t.limit) c.set_fail.ensures.set) states_are;
+          (ap (λ (t : Tables). t.limit) c.set_fail.ensures.set) (ap (λ (t : Tables). t.dense_len) c.set_fail.ensures.set) states_are;
       linking = λ p names same ready.
           subst (λ (q : List ℕ). IsLinking p names q 0 0 c.set_fail.new.self.states) (sym queue_is)
           (IsLinking-start p names c.args.table.now.states c.set_fail.new.self.states ready states_are);

@@ -1,9 +1,12 @@
-use Rattle.std.proofs.Common.{◌≡◌, ℕ, ◌∙◌, Some, None, ap, sym, subst, ◌+◌}
+use Rattle.std.proofs.Common.{◌≡◌, ℕ, Bool, ◌&&◌, ◌||◌, List, ◌∙◌, Some, None, ap, sym, subst, ◌+◌}
 use Rattle.aho_build.specs.TrieGrowth.{EndsAt, IsWordRefusal}
+use Rattle.aho_build.specs.Dense.{is_parted_by}
 use Rattle.aho_build.specs.Trie.{HoldsFirst}
+use Rattle.aho_table.specs.Alphabet.{is_border}
 use Rattle.aho_table.specs.Refusal.{refusal_at}
 use Rattle.aho_table.specs.Table.{Tables, matches_count}
 use Rattle.aho_build.proofs.CountedTrie.{EndsAt-below, HoldsFirst-end, HoldsFirst-left_out}
+use Rattle.aho_build.proofs.KeptBorders.{or_none}
 use Rattle.aho_build.proofs.RefusedPattern.{IsPatternRefusal-end}
 use Rattle.aho_build.proofs.StoppedBuilds.{IfErr-given}
 use Rattle.aho_build.proofs.compiler.trie.add_pattern.Goals as goal
@@ -28,6 +31,23 @@ returns-clause-adds c =
       | in_default w ↦
           (let ends : EndsAt p number states None = subst (EndsAt p number states) w.in_default.is (c.in_ok-end.ensures.ends p number numbered holds) in
           subst (λ (t : Tables). HoldsFirst p (number + 1) t.states) (sym w.table-is) (HoldsFirst-left_out p number states ends.0 ends.1))
+    ]
+
+pub returns-clause-borders : goal.returns-clause-borders
+returns-clause-borders c =
+    let number = c.args.number in
+    let states = c.add_word.new.table.states in
+    λ p numbered holds at below.
+    elim c.match-branch-2.branch [
+      | in-Some+in_ok-add_match w ↦
+          (let ends : EndsAt p number states (Some w.in-Some.end) = subst (EndsAt p number states) w.in-Some.is (c.in_ok-end.ensures.ends p number numbered holds) in
+          ap (λ (bs : List Bool). is_border bs at) w.borders-is ∙ w.set_bytes.ensures.borders at below
+          ∙ ap (λ (b : Bool). is_border c.args.borders.now at || is_parted_by b c.args.pattern.now at) (sym numbered.case_is)
+          ∙ ap (λ (b : Bool). is_border c.args.borders.now at || (b && is_parted_by p.ignore_case c.args.pattern.now at)) (sym ends.0))
+      | in_default w ↦
+          (let ends : EndsAt p number states None = subst (EndsAt p number states) w.in_default.is (c.in_ok-end.ensures.ends p number numbered holds) in
+          ap (λ (bs : List Bool). is_border bs at) w.borders-is ∙ sym (or_none (is_border c.args.borders.now at))
+          ∙ ap (λ (b : Bool). is_border c.args.borders.now at || (b && is_parted_by p.ignore_case c.args.pattern.now at)) (sym ends.0))
     ]
 
 pub returns-in_err-add_match-clause-refused : goal.returns-in_err-add_match-clause-refused

@@ -6,6 +6,7 @@ use Rattle.aho_build.specs.TrieGrowth.{IsPatternRefusal}
 use Rattle.aho_table.specs.Table.{IsWithinLimit}
 use Rattle.aho_build.specs.Items.{patterns_of, IsTrieFailure}
 use Rattle.aho_build.specs.Settings.{in_force}
+use Rattle.aho_build.proofs.KeptBorders.{HasBorders-none, HasBorders-next}
 use Rattle.aho_build.proofs.MorePatterns.{AwaitsWord-next, Collects-next, HoldsFirst-next, HoldsFirst-counted, HoldsTrie-next, IsNumbered-next, count-next, lengths-next, patterns_next, place-next}
 use Rattle.aho_build.proofs.StoppedBuilds.{IfErr-given, AreWithin-none, AreWithin-next, HoldsFirst-room, IsAccepted-none, IsAccepted-next, IsStopped-first, IsStopped-number, IsStopped-length, IsStopped-pattern}
 use Rattle.aho_build.proofs.compiler.trie.build_trie.Goals as goal
@@ -23,6 +24,7 @@ loop-pattern-init g c =
       accepted = IsAccepted-none c.args.settings.now
           (HoldsFirst-room (patterns_of c.args.settings.now []) (in_force c.args.settings.now).id c.in_ok-first_states.field-0.states
           (c.in_ok-first_states.ensures.start (patterns_of c.args.settings.now [])) room);
+      bordered = HasBorders-none c.args.settings.now c.empty.result c.empty.ensures.empty;
       collected = c.new-2.ensures.empty (patterns_of c.args.settings.now []) refl refl;
     }
 
@@ -58,6 +60,8 @@ loop-pattern-preserved g c =
       room = room;
       accepted = IsAccepted-next c.args.settings.now c.loop-pattern.yielded c.in-Some.pattern c.len.result place_is c.loop-pattern.invariant.accepted low short
           c.add_pattern.new.table.states (HoldsFirst-counted next c.len.result c.add_pattern.new.table.states counted trie) room;
+      bordered = HasBorders-next c.args.settings.now c.loop-pattern.yielded c.in-Some.pattern c.in_ok-number.number c.loop-pattern.trie.table.states c.loop-pattern.trie.borders c.add_pattern.new.borders place
+          c.loop-pattern.invariant.trie c.in_ok-add_pattern.ensures.borders c.loop-pattern.invariant.bordered;
       collected = Collects-next c.args.settings.now c.loop-pattern.yielded c.in-Some.pattern c.add.new.self
           (c.in-Ok.ensures.added c.args.settings.now (patterns_of c.args.settings.now c.loop-pattern.yielded) c.loop-pattern.invariant.collected);
     }
@@ -69,7 +73,7 @@ returns-clause-built g c =
       c.loop-pattern.yielded,
       (
         (c.next.new.self, (c.loop-pattern.pattern-iterator, begun, last)),
-        (c.loop-pattern.invariant.lens, (c.loop-pattern.invariant.trie, (c.loop-pattern.invariant.within, (c.loop-pattern.invariant.accepted, c.loop-pattern.invariant.collected)))),
+        (c.loop-pattern.invariant.lens, (c.loop-pattern.invariant.trie, (c.loop-pattern.invariant.within, (c.loop-pattern.invariant.accepted, (c.loop-pattern.invariant.collected, c.loop-pattern.invariant.bordered))))),
       ),
     )
 

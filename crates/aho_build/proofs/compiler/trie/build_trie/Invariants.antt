@@ -3,6 +3,7 @@ use Rattle.aho_build.specs.TrieGrowth.{AreWithin}
 use Rattle.aho_table.specs.Table.{IsWithinLimit}
 use Rattle.aho_build.specs.Trie.{HoldsTrie}
 use Rattle.aho_build.specs.Items.{patterns_of}
+use Rattle.aho_build.specs.Dense.{HasBorders}
 use Rattle.aho_build.specs.Prefilters.{Collects}
 use Rattle.aho_build.specs.Settings.{in_force}
 use Rattle.aho_build.specs.Refusals.{IsAccepted}
@@ -16,5 +17,6 @@ invariant-loop-pattern g l = record {
   within : AreWithin l.settings (patterns_of l.settings l.yielded);
   room : IsWithinLimit (in_force l.settings).id l.trie.table.states;
   accepted : IsAccepted l.settings (patterns_of l.settings l.yielded);
+  bordered : HasBorders (patterns_of l.settings l.yielded) l.trie.borders;
   collected : Collects l.settings (patterns_of l.settings l.yielded) l.trie.prefilter;
 }

@@ -1,6 +1,7 @@
 use Rattle.std.proofs.Common.{◌≡◌, subst}
 use Rattle.std.specs.Result.{IfErr, IfOk}
 use Rattle.aho_build.specs.Items.{IsFailure, OfAccepted}
+use Rattle.aho_build.specs.Automaton.{bytes_for}
 use Rattle.aho_build.specs.Prefilters.{held_by}
 use Rattle.aho_build.specs.declared.settings.Settings.{Settings}
 use Rattle.aho_corasick.specs.contracts.noncontiguous.NFAAutomaton.TheImpl.{ghosts}
@@ -14,6 +15,9 @@ returns g c = record {
   held = subst
       (λ (s : Settings). IfOk c.build.result (λ nfa. OfAccepted g.I.Iterator.next_gives c.args.patterns s (λ p. ghosts.prefilter nfa ≡ held_by s p)))
       c.new.ensures.new c.build.ensures.held;
+  sized = subst
+      (λ (s : Settings). IfOk c.build.result (λ nfa. OfAccepted g.I.Iterator.next_gives c.args.patterns s (λ p. ghosts.memory nfa ≡ bytes_for s p)))
+      c.new.ensures.new c.build.ensures.sized;
   refused = subst
       (λ (s : Settings). IfErr c.build.result (IsFailure g.I.Iterator.next_gives c.args.patterns s))
       c.new.ensures.new c.build.ensures.refused;

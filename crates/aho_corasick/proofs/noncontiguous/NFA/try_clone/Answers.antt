@@ -2,7 +2,6 @@
 use Rattle.std.proofs.Common.{◌≡◌, ℕ, List, Option, ◌+◌, rules, sym, ap, subst, ◌∙◌}
 use Rattle.std.specs.List.{each_same}
 use Rattle.std.specs.Prelude.{IfSome}
-use Rattle.aho_base.specs.Patterns.{Patterns}
 use Rattle.aho_prefilter.specs.Prefilter.{IsPrefilterOf, prefilter_bytes}
 use Rattle.aho_prefilter.specs.declared.prefilter.Searcher.{Searcher}
 use Rattle.aho_table.specs.Table.{Tables}
@@ -41,9 +40,9 @@ returns c =
         same_lookups = search rules;
         same_start = search rules;
         same_memory =
-            ap (λ (t : Tables). memory_of t.states c.in_ok-clone.field-0.items + prefilter_bytes c.in_ok-clone_of.field-0) table
-            ∙ ap (λ (ls : List ℕ). memory_of c.args.self.now.table.states ls + prefilter_bytes c.in_ok-clone_of.field-0) lens
-            ∙ ap (λ (searcher : Option Searcher). memory_of c.args.self.now.table.states c.args.self.now.pattern_lens.items + prefilter_bytes searcher) held;
+            ap (λ (t : Tables). memory_of t c.in_ok-clone.field-0.items + prefilter_bytes c.in_ok-clone_of.field-0) table
+            ∙ ap (λ (ls : List ℕ). memory_of c.args.self.now.table ls + prefilter_bytes c.in_ok-clone_of.field-0) lens
+            ∙ ap (λ (searcher : Option Searcher). memory_of c.args.self.now.table c.args.self.now.pattern_lens.items + prefilter_bytes searcher) held;
         same_prefilter = held;
       };
     }

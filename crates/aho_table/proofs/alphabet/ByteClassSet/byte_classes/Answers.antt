@@ -1,5 +1,5 @@
 -- A class for each byte, which tells the borders again.
-use Rattle.std.proofs.Common.{◌≡◌, ℕ, ◌+◌, replicate, refl, sym, ap, ◌∙◌, rules, arith}
+use Rattle.std.proofs.Common.{◌≡◌, ℕ, ◌+◌, length, replicate, refl, sym, ap, ◌∙◌, rules, arith}
 use Rattle.std.proofs.Math.ListN.{length-set}
 use Rattle.aho_table.specs.Alphabet.{class_of}
 use Rattle.aho_table.proofs.Classes.{class_of-first, class_of-border, class_of-none, class_of-byte, counted-first, counted-more, borders_of-counted, AreClasses-counted}
@@ -36,6 +36,5 @@ invariant_of-result c =
 pub returns : goal.returns
 returns c =
     let last = c.loop-at-test.false in
-    record {
-      borders = borders_of-counted c.loop-at.classes c.self.inside.borders c.loop-at.invariant.sized c.self.told (λ byte below. c.loop-at.invariant.counted byte (omega arith)) ∙ c.self.view_is;
-    }
+    let borders = borders_of-counted c.loop-at.classes c.self.inside.borders c.loop-at.invariant.sized c.self.told (λ byte below. c.loop-at.invariant.counted byte (omega arith)) in
+    record { borders = borders ∙ c.self.view_is; sized = ap length borders ∙ c.self.told }

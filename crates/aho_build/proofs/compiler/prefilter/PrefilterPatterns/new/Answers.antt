@@ -1,4 +1,3 @@
-use Rattle.std.proofs.Common.{sym, ◌∙◌}
 use Rattle.aho_build.proofs.compiler.prefilter.PrefilterPatterns.new.Goals as goal
 
 pub returns : goal.returns
