@@ -42,18 +42,17 @@ fn set_kind(builder: &mut Builder, kind: MatchKind) {
 
 /// `NFA::new`, which is refused for want of memory alone and then makes the automaton.
 pub fn new(alloc: Global, want: &mut Want) -> Result<(), Wrong> {
-    let nfa = match NFA::new(alloc, PATTERNS.iter().copied()) {
-        Ok(nfa) => nfa,
+    match NFA::new(alloc, PATTERNS.iter().copied()) {
+        Ok(nfa) => finds(&nfa),
         Err(BuildError::OutOfMemory) => {
             want.meet()?;
             match NFA::new(alloc, PATTERNS.iter().copied()) {
-                Ok(nfa) => nfa,
-                Err(_) => return Err("a second build was refused"),
+                Ok(nfa) => finds(&nfa),
+                Err(_) => Err("a second build was refused"),
             }
         }
-        Err(_) => return Err("a build was refused for another cause"),
-    };
-    finds(&nfa)
+        Err(_) => Err("a build was refused for another cause"),
+    }
 }
 
 /// `Builder::build`, which is refused for want of memory alone; the builder then builds as before.
