@@ -524,7 +524,15 @@ fn row_is_met(
     let patterns = PatternSet::new(row.patterns, kind, row.ignore_case);
     let input = input_of(row, span);
     let answer = plain(&patterns, &input);
-    let nfa = nfa_with(rt, alloc, row.patterns, kind, row.ignore_case, prefilter, depth);
+    let nfa = nfa_with(
+        rt,
+        alloc,
+        row.patterns,
+        kind,
+        row.ignore_case,
+        prefilter,
+        depth,
+    );
     assert_eq!(rt; nfa.try_find(&input)?, answer, "{kind:?} {row:?}");
     is_listed(rt, alloc, row, &nfa, input.clone()?)?;
     let iterated = iterated(alloc, row, &nfa, input_of(row, span))?;
