@@ -1,5 +1,6 @@
 -- The borders that the bytes of a word make.
 use Rattle.std.proofs.Common.{◌≡◌, ℕ, ◌+◌, ◌<◌, Bool, true, false, ◌||◌, nat_eq, List, [], ◌∷◌, length, get_or, take, refl, sym, ap, ◌∙◌, inl, inr, arith}
+use Rattle.std.proofs.Math.Bool.{or-false}
 use Rattle.std.proofs.lemmas.Bool.{cases_Bool, eqb-true, eqb-false, eq-eqb, ne_eqb, or_left, or_right, or_from}
 use Rattle.std.proofs.lemmas.Bool.Decides.{nat_tests}
 use Rattle.std.proofs.lemmas.List.Folds.{list_any_more}
@@ -45,10 +46,6 @@ same_test x y =
           (or_from (nat_eq y x) (nat_eq y (opposite x)) (ne_eqb y x (λ e. ne (ap (folded_by true) (sym e)))) (ne_eqb y (opposite x) (other_letter y x (λ e. ne (sym e)))))
     ]
 
-or_none : (x : Bool) → (x || false) ≡ x
-or_none true = refl
-or_none false = refl
-
 -- one byte, as it is
 pub parted-byte : (x : Bool) (byte at : ℕ) → (x || is_edge byte byte at) ≡ (x || is_parted_by false (byte ∷ []) at)
 parted-byte x byte at = ap (λ (b : Bool). x || b) (grind (arith, nat_tests))
@@ -57,7 +54,7 @@ parted-byte x byte at = ap (λ (b : Bool). x || b) (grind (arith, nat_tests))
 pub parted-letter : (x : Bool) (byte at : ℕ) → ((x || is_edge byte byte at) || is_edge (opposite byte) (opposite byte) at) ≡ (x || is_parted_by true (byte ∷ []) at)
 parted-letter x byte at =
     let has : (y : ℕ) → has_byte true (byte ∷ []) y ≡ (nat_eq y byte || nat_eq y (opposite byte)) =
-    λ y. or_none (nat_eq (folded_by true byte) (folded_by true y)) ∙ same_test byte y in
+    λ y. or-false (nat_eq (folded_by true byte) (folded_by true y)) ∙ same_test byte y in
     one_more x (nat_eq (at + 1) byte) (nat_eq at byte) (nat_eq (at + 1) (opposite byte)) (nat_eq at (opposite byte))
     ∙ ap (λ (b : Bool). x || b)
     (shuffled (nat_eq (at + 1) byte) (nat_eq at byte) (nat_eq (at + 1) (opposite byte)) (nat_eq at (opposite byte))
@@ -70,7 +67,7 @@ parted-more ignore_case x word place byte at within is =
     let has : (y : ℕ) → (has_byte ignore_case (take place word) y || has_byte ignore_case (byte ∷ []) y) ≡ has_byte ignore_case (take (place + 1) word) y =
     λ y.
     ap (λ (b : Bool). has_byte ignore_case (take place word) y || b)
-    (or_none (nat_eq (folded_by ignore_case byte) (folded_by ignore_case y)) ∙ ap (λ (n : ℕ). nat_eq (folded_by ignore_case n) (folded_by ignore_case y)) is)
+    (or-false (nat_eq (folded_by ignore_case byte) (folded_by ignore_case y)) ∙ ap (λ (n : ℕ). nat_eq (folded_by ignore_case n) (folded_by ignore_case y)) is)
     ∙ sym (list_any_more (λ (other : ℕ). nat_eq (folded_by ignore_case other) (folded_by ignore_case y)) word place byte within) in
     regrouped x (has_byte ignore_case (take place word) at) (has_byte ignore_case (take place word) (at + 1)) (has_byte ignore_case (byte ∷ []) at) (has_byte ignore_case (byte ∷ []) (at + 1))
     ∙ ap (λ (b : Bool). x || (b || (has_byte ignore_case (take place word) (at + 1) || has_byte ignore_case (byte ∷ []) (at + 1)))) (has at)

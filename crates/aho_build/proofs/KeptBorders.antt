@@ -1,6 +1,7 @@
 -- The borders of the kept patterns, one pattern after another.
-use Rattle.std.proofs.Common.{◌≡◌, ℕ, suc, ◌+◌, ◌<◌, ◌≤◌, Bool, true, false, ◌&&◌, ◌||◌, List, [], ◌∷◌, ◌++◌, length, refl, sym, ap, ◌∙◌, arith}
+use Rattle.std.proofs.Common.{◌≡◌, ℕ, suc, ◌+◌, ◌<◌, ◌≤◌, Bool, false, ◌&&◌, ◌||◌, List, [], ◌∷◌, ◌++◌, length, sym, ap, ◌∙◌, arith}
 use Rattle.std.specs.List.{list_any, range_with_len}
+use Rattle.std.proofs.Math.Bool.{or-false}
 use Rattle.std.proofs.lemmas.List.{get_or_append_left, get_or-replicate}
 use Rattle.std.proofs.lemmas.List.Folds.{list_any-append}
 use denote.Ref.{Bor}
@@ -14,10 +15,6 @@ use Rattle.aho_build.specs.Items.{patterns_of}
 use Rattle.aho_build.specs.Trie.{HoldsTrie}
 use Rattle.aho_build.specs.declared.settings.Settings.{Settings}
 use Rattle.aho_build.proofs.MorePatterns.{list_any-same, with_more, is_kept-more, words_before, words_next, patterns_next, HoldsFirst-next, IsNumbered-next, count-next}
-
-pub or_none : (x : Bool) → (x || false) ≡ x
-or_none true = refl
-or_none false = refl
 
 -- no pattern makes no border
 pub HasBorders-none : (settings : Settings) (borders : List Bool) → borders ≡ no_borders → HasBorders (patterns_of settings []) borders
@@ -35,7 +32,7 @@ parted-more p number at =
     ap (λ (n : ℕ). list_any (parts p at) (range_with_len 0 n)) count
     ∙ ap (list_any (parts p at)) (range_with_len-more 0 number ∙ ap (λ (n : ℕ). range_with_len 0 number ++ n ∷ []) last)
     ∙ list_any-append (parts p at) (range_with_len 0 number) (number ∷ [])
-    ∙ ap (λ (b : Bool). is_parted_among p number at || b) (or_none (parts p at number))
+    ∙ ap (λ (b : Bool). is_parted_among p number at || b) (or-false (parts p at number))
 
 -- patterns behind do not change it
 parted-appended : (p : Patterns) (more : List (List ℕ)) (number at : ℕ) → number ≤ length p.words → is_parted_among (with_more p more) number at ≡ is_parted_among p number at

@@ -6,7 +6,7 @@ use Rattle.aho_table.specs.Alphabet.{is_border}
 use Rattle.aho_table.specs.Refusal.{refusal_at}
 use Rattle.aho_table.specs.Table.{Tables, matches_count}
 use Rattle.aho_build.proofs.CountedTrie.{EndsAt-below, HoldsFirst-end, HoldsFirst-left_out}
-use Rattle.aho_build.proofs.KeptBorders.{or_none}
+use Rattle.std.proofs.Math.Bool.{or-false}
 use Rattle.aho_build.proofs.RefusedPattern.{IsPatternRefusal-end}
 use Rattle.aho_build.proofs.StoppedBuilds.{IfErr-given}
 use Rattle.aho_build.proofs.compiler.trie.add_pattern.Goals as goal
@@ -46,7 +46,7 @@ returns-clause-borders c =
           ∙ ap (λ (b : Bool). is_border c.args.borders.now at || (b && is_parted_by p.ignore_case c.args.pattern.now at)) (sym ends.0))
       | in_default w ↦
           (let ends : EndsAt p number states None = subst (EndsAt p number states) w.in_default.is (c.in_ok-end.ensures.ends p number numbered holds) in
-          ap (λ (bs : List Bool). is_border bs at) w.borders-is ∙ sym (or_none (is_border c.args.borders.now at))
+          ap (λ (bs : List Bool). is_border bs at) w.borders-is ∙ sym (or-false (is_border c.args.borders.now at))
           ∙ ap (λ (b : Bool). is_border c.args.borders.now at || (b && is_parted_by p.ignore_case c.args.pattern.now at)) (sym ends.0))
     ]
 
