@@ -9,22 +9,15 @@
 ghost use Rattle.std.specs.Prelude.{◌≢◌, ◌≡◌, ◌<◌, ◌≤◌, map, Some, None, IfOk, IfErr, OnErr, false, is_some, string_bytes};
 ghost use Rattle.std.specs.IoError.{error_kind};
 ghost use Rattle.std.specs.Process.{exit_status};
-ghost use Rattle.acfind.specs.Answers.{AppendsBeginning, Replaces, Tells};
-ghost use Rattle.acfind.specs.Asked.{Asked, Replacing};
-ghost use Rattle.acfind.specs.Faults.{status_of_fault, line_of_fault};
-ghost use Rattle.acfind.specs.Words.{AreWrong, asked_by, replacing_by};
+ghost use Rattle.commands.specs.Answers.{AppendsBeginning, Replaces, Tells};
+ghost use Rattle.commands.specs.Asked.{Asked, Replacing};
+ghost use Rattle.commands.specs.Faults.{status_of_fault, line_of_fault};
+ghost use Rattle.commands.specs.Words.{AreWrong, asked_by, replacing_by};
 
-mod command;
-mod devices;
-mod fault;
-mod print;
-mod replace;
-mod run;
-
-use command::parse_replace;
-use devices::{ReadSource, WriteSink};
-use fault::Fault;
-use run::{report, run};
+use commands::command::parse_replace;
+use commands::devices::{ReadSource, WriteSink};
+use commands::fault::Fault;
+use commands::run::{report, run};
 use std::alloc::{Alloc, Global};
 use std::env::Env;
 use std::io::{BufWriter, ErrorKind, LineWriter, Read, Write};

@@ -22,7 +22,7 @@ use Rattle.aho_build.proofs.AutomatonStates.{held-lists, held-dead}
 use Rattle.aho_build.proofs.LinkedNodes.{named-ne_dead}
 
 -- a number that is one of two
-one_of_two : (sid first second : ℕ) → (nat_eq sid first || nat_eq sid second) ≡ true → (sid ≡ first) ⊎ (sid ≡ second)
+pub one_of_two : (sid first second : ℕ) → (nat_eq sid first || nat_eq sid second) ≡ true → (sid ≡ first) ⊎ (sid ≡ second)
 one_of_two sid first second h =
     elim (cases_eq sid first) [
       | inl e ↦ inl e

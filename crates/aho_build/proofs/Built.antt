@@ -9,7 +9,8 @@ use Rattle.aho_table.specs.Table.{State, next_in}
 use Rattle.aho_build.specs.Automaton.{AreNodes, IsAutomaton, missing_from}
 use Rattle.aho_build.specs.Starts.{root_loop}
 use Rattle.aho_build.specs.Built.{IsBuilt}
-use Rattle.aho_build.specs.FirstStates.{root_id, first_starts}
+use Rattle.aho_build.specs.declared.special.Special.{Special}
+use Rattle.aho_build.specs.FirstStates.{root_id, with_first_starts}
 use Rattle.aho_build.specs.StateNames.{name_at}
 use Rattle.aho_build.specs.Trie.{longer, missing_at, IsTrie}
 
@@ -33,8 +34,8 @@ AreNodes-trie p names states trie = record {
     transition_of i (x ∷ word) byte h = h
 
 -- what was built is an automaton
-pub IsAutomaton-built : (p : Patterns) (names : List (Option (List ℕ))) (states : List State) → IsBuilt p names states → IsAutomaton first_starts p names states
-IsAutomaton-built p names states b = record {
+pub IsAutomaton-built : (special : Special) (p : Patterns) (names : List (Option (List ℕ))) (states : List State) → IsBuilt p names states → IsAutomaton (with_first_starts special) p names states
+IsAutomaton-built special p names states b = record {
   nodes = AreNodes-trie p names states b.trie;
   dead = b.dead;
   anchored = record {

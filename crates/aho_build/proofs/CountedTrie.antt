@@ -78,12 +78,13 @@ module _ (ignore_case : Bool) (parent byte depth : ℕ) (old new : List State) (
             ]
       ]
 
-  AreListed-grows : 4 ≤ length old → AreListed old → AreListed new
-  AreListed-grows four listed = record {
+  AreListed-grows : 4 ≤ length old → parent ≢ 1 → AreListed old → AreListed new
+  AreListed-grows four apart listed = record {
     rising = lists.rising listed.rising;
     dead_full = λ other small. full_after 0 other (omega (arith, four)) (listed.dead_full other small);
     root_full = λ other small. full_after 2 other (omega (arith, four)) (listed.root_full other small);
     anchored_full = λ other small. full_after 3 other (omega (arith, four)) (listed.anchored_full other small);
+    fail_none = λ other. lists.listed_old 1 other (omega (arith, four)) (λ e. apart (sym e)) ∙ listed.fail_none other;
     leading = leading_after four listed;
   }
 
@@ -205,7 +206,8 @@ module _ (p : Patterns) (number : ℕ) where
           counted = subst (λ (w : List (List ℕ)). HasNodes p w (length (kept_before p number)) new) (sym words)
               (HasNodes-push p (nodes_with p number more) (longer p more byte) (length (kept_before p number)) old new grows.sized
               (lists.transitions_more holds.listed.rising ∙ ap (λ (n : ℕ). transitions_count old + n) entries) lists.matches_same holds.counted);
-          listed = AreListed-grows p.ignore_case state byte (length more + 1) old new grows lists (AreFirst-four (names_with more) old holds.trie.first) holds.listed;
+          listed = AreListed-grows p.ignore_case state byte (length more + 1) old new grows lists (AreFirst-four (names_with more) old holds.trie.first)
+              (λ e. let clash : Some more ≡ None = sym at ∙ ap (name_at (names_with more)) e ∙ holds.trie.trie.fail in cc) holds.listed;
         },
         ap (λ (names : List (Option (List ℕ))). name_at names sid) (sym names_are) ∙ held,
       )
@@ -258,6 +260,7 @@ AreListed-states old new same listed = record {
   dead_full = λ byte small. ap (λ (transitions : List (ℕ × ℕ)). lists_transition transitions byte) (same 0) ∙ listed.dead_full byte small;
   root_full = λ byte small. ap (λ (transitions : List (ℕ × ℕ)). lists_transition transitions byte) (same 2) ∙ listed.root_full byte small;
   anchored_full = λ byte small. ap (λ (transitions : List (ℕ × ℕ)). lists_transition transitions byte) (same 3) ∙ listed.anchored_full byte small;
+  fail_none = λ byte. ap (λ (transitions : List (ℕ × ℕ)). lists_transition transitions byte) (same 1) ∙ listed.fail_none byte;
   leading = λ i byte late small is one.
       listed.leading i byte late small
       (ap (λ (transitions : List (ℕ × ℕ)). lists_transition transitions byte) (sym (same i)) ∙ is)

@@ -76,7 +76,7 @@ module _ (p : Patterns) (states : List State) (ready : IsReady p (names_before p
     dense_size-of depth = row_start-of (dense_count depth states) ∙ ap (λ (n : ℕ). n * classes_size p + 1) (dense_count-of depth)
 
 -- the bytes of the tables of an automaton of the patterns
-memory_of-sized : (depth : ℕ) (p : Patterns) (table : Tables) (lengths : List ℕ) → IsSized p table.states → table.dense_len ≡ dense_size depth p → length lengths ≡ length p.words
+pub memory_of-sized : (depth : ℕ) (p : Patterns) (table : Tables) (lengths : List ℕ) → IsSized p table.states → table.dense_len ≡ dense_size depth p → length lengths ≡ length p.words
     → memory_of table lengths ≡ memory_size depth p
 memory_of-sized depth p table lengths sized dense same =
     ap (λ (n : ℕ). 20 * n + 9 * transitions_count table.states + 8 * matches_count table.states + 4 * table.dense_len + 4 * length lengths) sized.state_count

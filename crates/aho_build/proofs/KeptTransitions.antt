@@ -5,7 +5,7 @@ use Rattle.std.proofs.lemmas.Bool.{cases_eq}
 use Rattle.std.proofs.lemmas.List.{length-set}
 use Rattle.std.proofs.lemmas.List.Sums.{sum_by-cons}
 use Rattle.aho_build.specs.Starts.{IsLedBelow, ListsAllBytes}
-use Rattle.aho_build.specs.FailureLinks.{HasSameTransitions, OnlyCopies, append_matches}
+use Rattle.aho_build.specs.FailureLinks.{rows_of, HasSameTransitions, OnlyCopies, append_matches}
 use Rattle.aho_table.specs.Table.{fail_id, State, Tables, new_state, state_at, matches_in, with_transition, set_transition, lists_transition, transitions_count, matches_count}
 use Rattle.aho_table.proofs.States.{state_at-set_same, state_at-set_other, part-set}
 use Rattle.aho_build.proofs.ListedBytes.{lists_transition-with_transition, lists_transition-with_transition_other}
@@ -60,6 +60,14 @@ ListsAllBytes-set states new sid byte next below new_is listed other small =
     ∙ ap (λ (r : State). lists_transition r.transitions other) (state_at-set_same states sid state below)
     ∙ lists_transition-stays (state_at states sid).transitions byte next other (listed other small)
 
+-- and so do patterns that are copied
+pub ListsAllBytes-append : (states new : List State) (to from sid : ℕ) → to < length states → new ≡ append_matches states to from → ListsAllBytes states sid → ListsAllBytes new sid
+ListsAllBytes-append states new to from sid below is listed other small =
+    let state : State = record (state_at states to) { matches = (state_at states to).matches ++ matches_in states from } in
+    ap (λ (t : List State). lists_transition (state_at t sid).transitions other) is
+    ∙ ap (λ (l : List (ℕ × ℕ)). lists_transition l other) (part-set (λ (r : State). r.transitions) states to state below refl sid)
+    ∙ listed other small
+
 -- and so does a change of another state
 pub ListsAllBytes-state : (states new : List State) (sid : ℕ) → state_at new sid ≡ state_at states sid → ListsAllBytes states sid → ListsAllBytes new sid
 ListsAllBytes-state states new sid same listed other small = ap (λ (r : State). lists_transition r.transitions other) same ∙ listed other small
@@ -80,16 +88,16 @@ OnlyCopies-both old mid new first second = record {
   rows = second.rows ∙ first.rows;
   state_count = second.state_count ∙ first.state_count;
   transitions = λ i. second.transitions i ∙ first.transitions i;
-  fail_matches = second.fail_matches ∙ first.fail_matches;
+  fail_state = second.fail_state ∙ first.fail_state;
 }
 
 -- another state's link and patterns
 pub OnlyCopies-state : (old new : Tables) (sid : ℕ) (state : State) → sid < length old.states → sid ≢ fail_id → state.transitions ≡ (state_at old.states sid).transitions
-    → new.limit ≡ old.limit → new.dense_len ≡ old.dense_len → new.states ≡ slice_set old.states sid state → OnlyCopies old new
+    → new.limit ≡ old.limit → rows_of new ≡ rows_of old → new.states ≡ slice_set old.states sid state → OnlyCopies old new
 OnlyCopies-state old new sid state below apart same limit rows states_are = record {
   limit = limit;
   rows = rows;
   state_count = ap (λ (t : List State). length t) states_are ∙ length-set old.states sid state;
   transitions = λ i. ap (λ (t : List State). (state_at t i).transitions) states_are ∙ part-set (λ (r : State). r.transitions) old.states sid state below same i;
-  fail_matches = ap (λ (t : List State). matches_in t fail_id) states_are ∙ ap (λ (r : State). r.matches) (state_at-set_other old.states sid fail_id state (λ e. apart (sym e)));
+  fail_state = ap (λ (t : List State). state_at t fail_id) states_are ∙ state_at-set_other old.states sid fail_id state (λ e. apart (sym e));
 }

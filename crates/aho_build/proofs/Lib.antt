@@ -52,3 +52,7 @@ pub mod ByteBorders
 pub mod NodeBorders
 pub mod KeptBorders
 pub mod DenseSizes
+-- The numbers that states keep.
+pub mod ShuffledStates
+pub mod RenumberedAutomata
+pub mod EmptyPatterns

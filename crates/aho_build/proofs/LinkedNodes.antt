@@ -80,7 +80,7 @@ module _ (root : ℕ) (p : Patterns) (names : List (Option (List ℕ))) (states 
         | inr uncut ↦ rw uncut nodes.root
       ])
 
-  root_next-ne : missing_from root p [] ≢ fail_id
+  pub root_next-ne : missing_from root p [] ≢ fail_id
   root_next-ne e =
       elim (cases_Bool (is_cut p [])) [
         | inl cut ↦ omega (arith, e, cond-true {A = ℕ} (is_cut p []) dead_id root cut)

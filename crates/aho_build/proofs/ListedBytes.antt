@@ -7,10 +7,13 @@ use Rattle.std.proofs.lemmas.List.Sums.{sum_by-append}
 use Rattle.aho_build.specs.TrieGrowth.{missing_in}
 use Rattle.aho_table.specs.Table.{State, new_state, state_at, with_transition, lists_transition, lists_byte, IsRising, AllRising, set_transition, transitions_count, matches_count}
 use Rattle.aho_table.proofs.States.{state_at-set_same, state_at-set_other, transitions_count-set, matches_count-set}
-use Rattle.aho_table.proofs.TransitionLists.{lists_transition-other, lists_transition-gap, gap_before, with_transition-more, with_transition-same, with_transition-less, IsRising-with_transition}
+use Rattle.aho_table.proofs.TransitionLists.{lists_transition-same, lists_transition-other, with_transition-more, with_transition-same, with_transition-less, IsRising-with_transition, length-with_transition}
 
-lists_transition-same : (transition : ℕ × ℕ) (transitions : List (ℕ × ℕ)) (byte : ℕ) → transition.0 ≡ byte → lists_transition (transition ∷ transitions) byte ≡ true
-lists_transition-same transition transitions byte e = ap (λ (b : Bool). b || lists_transition transitions byte) (eq-eqb transition.0 byte e)
+-- a list of no byte is empty
+pub nothing_listed : (transitions : List (ℕ × ℕ)) → ((byte : ℕ) → lists_transition transitions byte ≡ false) → transitions ≡ []
+nothing_listed [] none = refl
+nothing_listed (transition ∷ transitions) none =
+    let clash : true ≡ false = sym (lists_transition-same transition transitions transition.0 refl) ∙ none transition.0 in cc
 
 -- the entry lists its byte
 pub lists_transition-with_transition : (transitions : List (ℕ × ℕ)) (byte next : ℕ) → lists_transition (with_transition transitions byte next) byte ≡ true
@@ -36,23 +39,6 @@ lists_transition-with_transition_other (transition ∷ transitions) byte next ot
           elim apart [
             | inl less ↦ rw (with_transition-more transition transitions byte next less) (ap (λ (b : Bool). nat_eq transition.0 other || b) (lists_transition-with_transition_other transitions byte next other ne))
             | inr more ↦ rw (with_transition-less transition transitions byte next more) (lists_transition-other (byte, next) (transition ∷ transitions) other (λ e. ne (sym e)))
-          ]
-    ]
-
--- there is one entry more, unless the byte was listed
-length-with_transition : (transitions : List (ℕ × ℕ)) (byte next : ℕ) → IsRising transitions → length (with_transition transitions byte next) ≡ length transitions + cond (lists_transition transitions byte) 0 1
-length-with_transition [] byte next rising = refl
-length-with_transition (transition ∷ transitions) byte next rising =
-    elim (cases_order transition.0 byte) [
-      | inl same ↦ rw (with_transition-same transition transitions byte next same, lists_transition-same transition transitions byte same) (omega arith)
-      | inr apart ↦
-          elim apart [
-            | inl less ↦ rw (with_transition-more transition transitions byte next less, lists_transition-other transition transitions byte (λ e. omega arith))
-                (omega (arith, length-with_transition transitions byte next rising.1))
-            | inr more ↦
-                (let none : lists_transition (transition ∷ transitions) byte ≡ false =
-                lists_transition-gap (transition ∷ transitions) byte 0 (gap_before (transition ∷ transitions) 0 byte transition rising (omega arith) (All-nil (λ (e : ℕ × ℕ). e.0 < byte)) more) in
-                rw (with_transition-less transition transitions byte next more, none) (omega arith))
           ]
     ]
 

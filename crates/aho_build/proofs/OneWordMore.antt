@@ -259,6 +259,7 @@ module _ (p : Patterns) (is_word : List ℕ → Bool) (at_root : ℕ) (names : L
     dead_depth = grows.depth_old 0 (omega (arith, four)) ∙ first.dead_depth;
     fail_fail = grows.fail_old 1 (omega (arith, four)) ∙ first.fail_fail;
     fail_matches = grows.matches_old 1 (omega (arith, four)) ∙ first.fail_matches;
+    fail_depth = grows.depth_old 1 (omega (arith, four)) ∙ first.fail_depth;
     anchored_fail = grows.fail_old 3 (omega (arith, four)) ∙ first.anchored_fail;
     anchored_matches = grows.matches_old 3 (omega (arith, four)) ∙ first.anchored_matches;
     anchored_depth = grows.depth_old 3 (omega (arith, four)) ∙ first.anchored_depth;

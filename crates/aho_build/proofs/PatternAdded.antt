@@ -52,6 +52,7 @@ AreFirst-states names old new transitions depths fails dead fail anchored first 
   dead_depth = depths 0 ∙ first.dead_depth;
   fail_fail = fails 1 ∙ first.fail_fail;
   fail_matches = fail ∙ first.fail_matches;
+  fail_depth = depths 1 ∙ first.fail_depth;
   anchored_fail = fails 3 ∙ first.anchored_fail;
   anchored_matches = anchored ∙ first.anchored_matches;
   anchored_depth = depths 3 ∙ first.anchored_depth;

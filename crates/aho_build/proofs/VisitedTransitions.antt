@@ -7,7 +7,7 @@ use Rattle.aho_base.specs.Failure.{failure_of}
 use Rattle.aho_base.specs.Patterns.{Patterns}
 use Rattle.aho_base.specs.Trie.{is_node}
 use Rattle.aho_build.specs.Starts.{root_loop}
-use Rattle.aho_build.specs.FailureLinks.{CanLink, CanLinkBySome, LinksTo, IsLinking, IsLinkingBySome, KeepsLinking, OnlyCopies, linked_state, unlinked_count}
+use Rattle.aho_build.specs.FailureLinks.{rows_of, CanLink, CanLinkBySome, LinksTo, IsLinking, IsLinkingBySome, KeepsLinking, OnlyCopies, linked_state, unlinked_count}
 use Rattle.aho_table.specs.Refusal.{IsRefusalOf}
 use Rattle.aho_build.specs.StateNames.{name_at, IsStateOf}
 use Rattle.aho_build.specs.Trie.{longer, names_before}
@@ -101,7 +101,7 @@ module _ (kind : MatchKind) (queue : List ℕ) (head part : ℕ) (states : List 
           refusal
 
       -- and where it is, nothing else was changed
-      pub visit_copies : (limit : ℕ) (classes : List Bool) (dense_len : ℕ) (new : Tables) → IsLinkingBySome kind queue head part states → new.limit ≡ limit → new.dense_len ≡ dense_len
+      pub visit_copies : (limit : ℕ) (classes : List Bool) (dense_len : ℕ) (new : Tables) → IsLinkingBySome kind queue head part states → new.limit ≡ limit → rows_of new ≡ (classes, dense_len)
           → new.states ≡ linked_state states child fail → OnlyCopies (record { states = states; limit = limit; classes = classes; dense_len = dense_len }) new
       visit_copies limit classes dense_len new some same_limit same_rows new_is =
           let old : Tables = record { states = states; limit = limit; classes = classes; dense_len = dense_len } in

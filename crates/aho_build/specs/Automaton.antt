@@ -11,7 +11,7 @@ use Rattle.aho_base.specs.MatchList.{own_matches}
 use Rattle.aho_base.specs.Patterns.{Patterns}
 use Rattle.aho_base.specs.Step.{follow, lookups}
 use Rattle.aho_base.specs.Trie.{is_node}
-use Rattle.aho_table.specs.Table.{State, Tables, dead_id, fail_id, next_in, fail_in, depth_in, matches_in, transitions_count, matches_count}
+use Rattle.aho_table.specs.Table.{State, Tables, dead_id, fail_id, new_state, state_at, lists_byte, next_in, fail_in, depth_in, matches_in, transitions_count, matches_count}
 use Rattle.aho_prefilter.specs.Prefilter.{prefilter_bytes}
 use Rattle.aho_build.specs.declared.settings.Settings.{Settings}
 use Rattle.aho_build.specs.declared.special.Special.{Special}
@@ -19,7 +19,7 @@ use Rattle.aho_build.specs.Dense.{memory_size}
 use Rattle.aho_build.specs.Prefilters.{held_by}
 use Rattle.aho_build.specs.StateNames.{name_at, IsStateOf}
 use Rattle.aho_build.specs.Trie.{longer}
-use Rattle.aho_build.specs.Starts.{IsDead}
+use Rattle.aho_build.specs.Starts.{IsDead, ListsAllBytes}
 use Rattle.aho_build.specs.FailureLinks.{IsLinked}
 use Rattle.aho_build.specs.Sizes.{IsSized}
 
@@ -69,13 +69,21 @@ pub record IsAutomaton (special : Special) (p : Patterns) (names : List (Option 
   pub complete : (i : ℕ) → i < length states → i ≢ dead_id → i ≢ fail_id → i ≢ special.start_anchored_id
       → (word : List ℕ) × (name_at names i ≡ Some word)
 
--- the kind and the lengths are the patterns', by some naming the table is their automaton, and it has as many entries as it
--- should
+-- what the states list, beside where their bytes lead: the anchored start lists every byte, FAIL is blank, and any other state
+-- lists only bytes that lead on
+pub record ListsExactly (special : Special) (states : List State) : Type 0 where
+  pub anchored : ListsAllBytes states special.start_anchored_id
+  pub fail : state_at states fail_id ≡ record (new_state 0) { fail = dead_id }
+  pub leading : (i byte : ℕ) → i ≢ special.start_anchored_id → byte < 256 → lists_byte states i byte ≡ true → next_in states i byte ≢ fail_id
+
+-- the kind and the lengths are the patterns', by some naming the table is their automaton, its states list what they should and
+-- no more, and it has as many entries as it should
 pub record IsOf (p : Patterns) (kind : MatchKind) (lengths : List ℕ) (special : Special) (states : List State) : Type 0 where
   pub kind_is : kind ≡ p.kind
   pub lengths_are : lengths ≡ map length p.words
   pub names : List (Option (List ℕ))
   pub automaton : IsAutomaton special p names states
+  pub listed : ListsExactly special states
   pub sized : IsSized p states
 
 -- anchored the state of the root is the anchored start

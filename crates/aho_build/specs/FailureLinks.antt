@@ -1,5 +1,5 @@
 -- The failure links being made: one step along those that are made, a child's link, the queue.
-use Rattle.std.specs.Prelude.{◌≡◌, ◌≢◌, ℕ, ◌+◌, ◌<◌, ◌≤◌, nat_eq, if◌then◌else◌, List, [], ◌++◌, length, sum_by, Option, Some, slice_index, slice_set}
+use Rattle.std.specs.Prelude.{Bool, ◌≡◌, ◌≢◌, ℕ, ◌+◌, ◌<◌, ◌≤◌, nat_eq, if◌then◌else◌, List, [], ◌++◌, length, sum_by, Option, Some, slice_index, slice_set}
 use Rattle.aho_base.specs.declared.error.BuildError.{BuildError}
 use Rattle.aho_base.specs.declared.search.Anchored.TheVariants.{No}
 use Rattle.aho_base.specs.declared.search.MatchKind.{MatchKind}
@@ -29,14 +29,17 @@ linked_state states sid fail = slice_set states sid (record (state_at states sid
 abbrev pub HasSameTransitions : List State → List State → Type 0
 HasSameTransitions old new = (i : ℕ) → (state_at new i).transitions ≡ (state_at old i).transitions
 
--- links were set and patterns copied, and all else stays: the limit, the rows, the states, their transitions, and what FAIL
--- lists
+-- the classes of bytes, and how many entries the rows by them have
+abbrev pub rows_of : Tables → List Bool × ℕ
+rows_of table = (table.classes, table.dense_len)
+
+-- links were set and patterns copied, and all else stays: the limit, the rows, the states, their transitions, and FAIL
 pub record OnlyCopies (old new : Tables) : Type 0 where
   pub limit : new.limit ≡ old.limit
-  pub rows : new.dense_len ≡ old.dense_len
+  pub rows : rows_of new ≡ rows_of old
   pub state_count : length new.states ≡ length old.states
   pub transitions : HasSameTransitions old.states new.states
-  pub fail_matches : matches_in new.states fail_id ≡ matches_in old.states fail_id
+  pub fail_state : state_at new.states fail_id ≡ state_at old.states fail_id
 
 -- the state's link and its list are those of its word
 pub record IsLinked (p : Patterns) (names : List (Option (List ℕ))) (states : List State) (sid : ℕ) (word : List ℕ) : Type 0 where

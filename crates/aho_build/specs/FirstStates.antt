@@ -10,6 +10,6 @@ root_id = 2
 abbrev pub anchored_id : ℕ
 anchored_id = 3
 
--- both, as an automaton knows them whose states keep these numbers
-abbrev pub first_starts : Special
-first_starts = record { start_unanchored_id = root_id; start_anchored_id = anchored_id }
+-- both, in the place of the starts that an automaton has once its states have the numbers that they keep
+abbrev pub with_first_starts : Special → Special
+with_first_starts special = record special { start_unanchored_id = root_id; start_anchored_id = anchored_id }

@@ -12,4 +12,6 @@ pub mod Starts
 pub mod FailureLinks
 pub mod Built
 pub mod Walking
+-- the numbers that states keep
+pub mod Shuffled
 pub mod Automaton

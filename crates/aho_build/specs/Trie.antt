@@ -1,5 +1,5 @@
 -- When a table is the trie of some words.
-use Rattle.std.specs.Prelude.{Bool, List, MatchBool, None, Option, Some, [], length, map, true, ℕ, ◌++◌, ◌<◌, ◌||◌, ◌∷◌, ◌≡◌, ◌≢◌, ◌≤◌}
+use Rattle.std.specs.Prelude.{Bool, List, MatchBool, None, Option, Some, [], false, length, map, true, ℕ, ◌++◌, ◌<◌, ◌||◌, ◌∷◌, ◌≡◌, ◌≢◌, ◌≤◌}
 use Rattle.aho_base.specs.Among.{is_node_among, own_among}
 use Rattle.aho_base.specs.Bytes.{folded, folded_word}
 use Rattle.aho_base.specs.Patterns.{Patterns}
@@ -43,14 +43,15 @@ pub record IsTrie (p : Patterns) (is_word : List ℕ → Bool) (at_root : ℕ) (
 abbrev pub Lists : List (Option (List ℕ)) → (List ℕ → List ℕ) → List State → Type 0
 Lists names list_of states = (i : ℕ) (word : List ℕ) → name_at names i ≡ Some word → matches_in states i ≡ list_of word
 
--- the four first states while the trie grows: DEAD, FAIL and the anchored start have no patterns and their links, the
--- anchored start leads nowhere, and no named state is linked yet (its link is FAIL)
+-- the four first states while the trie grows: DEAD, FAIL and the anchored start have no patterns, their links and depth 0,
+-- the anchored start leads nowhere, and no named state is linked yet (its link is FAIL)
 pub record AreFirst (names : List (Option (List ℕ))) (states : List State) : Type 0 where
   pub dead_fail : fail_in states dead_id ≡ dead_id
   pub dead_matches : matches_in states dead_id ≡ []
   pub dead_depth : depth_in states dead_id ≡ 0
   pub fail_fail : fail_in states fail_id ≡ dead_id
   pub fail_matches : matches_in states fail_id ≡ []
+  pub fail_depth : depth_in states fail_id ≡ 0
   pub anchored_fail : fail_in states anchored_id ≡ dead_id
   pub anchored_matches : matches_in states anchored_id ≡ []
   pub anchored_depth : depth_in states anchored_id ≡ 0
@@ -77,13 +78,14 @@ names_of words = None ∷ None ∷ Some [] ∷ None ∷ map Some words
 abbrev pub names_before : Patterns → ℕ → List (Option (List ℕ))
 names_before p number = names_of (nodes_before p number)
 
--- how a trie's states list their bytes: each list rises, DEAD and the two starts list every byte, and a state of a nonempty
--- word only bytes that lead on
+-- how a trie's states list their bytes: each list rises, DEAD and the two starts list every byte, FAIL none, and a state of a
+-- nonempty word only bytes that lead on
 pub record AreListed (states : List State) : Type 0 where
   pub rising : AllRising states
   pub dead_full : (byte : ℕ) → byte < 256 → lists_byte states dead_id byte ≡ true
   pub root_full : (byte : ℕ) → byte < 256 → lists_byte states root_id byte ≡ true
   pub anchored_full : (byte : ℕ) → byte < 256 → lists_byte states anchored_id byte ≡ true
+  pub fail_none : (byte : ℕ) → lists_byte states fail_id byte ≡ false
   pub leading : (i byte : ℕ) → 4 ≤ i → byte < 256 → lists_byte states i byte ≡ true → next_in states i byte ≢ fail_id
 
 -- the table is the trie of the patterns before this number, with its states in the order in which they are made, and as large

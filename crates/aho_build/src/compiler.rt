@@ -1,17 +1,21 @@
 //! The phases of a build, in their order.
 
-ghost use Rattle.std.specs.Prelude.{◌≡◌, ◌+◌, ◌≤◌, length, IfOk, IfErr};
+ghost use Rattle.std.specs.Prelude.{◌≡◌, ◌+◌, ◌≤◌, length, IfOk, IfErr, is_some};
 ghost use Rattle.std.specs.Iterator.{IsFinite};
 ghost use Rattle.aho_build.specs.Automaton.{IsOf};
-ghost use Rattle.aho_build.specs.Dense.{dense_size};
+ghost use Rattle.aho_build.specs.Dense.{dense_size, HasBorders};
 ghost use Rattle.aho_build.specs.Items.{IsFailure, OfAccepted};
 ghost use Rattle.aho_build.specs.Prefilters.{held_by};
+ghost use Rattle.aho_build.specs.Shuffled.{IsInOrder, starts_match};
 ghost use Rattle.aho_base.specs.Numbers.{greatest_index};
+ghost use Rattle.aho_prefilter.specs.Prefilter.{has_empty};
+ghost use Rattle.aho_table.specs.Table.{matches_in};
 
 pub mod borders;
 pub mod dense;
 pub mod failure;
 pub mod prefilter;
+pub mod shuffle;
 pub mod starts;
 pub mod trie;
 
@@ -30,11 +34,13 @@ pub struct Compiled {
     pub table: Table,
     /// By the patterns' numbers, in bytes.
     pub pattern_lens: Vec<SmallIndex>,
-    /// Where its searches start.
+    /// Which states are not like the others.
     pub special: Special,
     /// One of the patterns, all of them, where there is one and the settings want it.
     pub prefilter: Option<Prefilter>,
     ghost counted: { length pattern_lens.items ≤ greatest_index + 1 },
+    ghost ordered: { IsInOrder (starts_match special table.states)
+        (is_some prefilter) special (matches_in table.states) },
 }
 
 /// The automaton of these patterns, which are numbered from 0 on as they come.
@@ -56,7 +62,11 @@ pub fn compile<'p, I: Iterator<Item = &'p [u8]> + Drop>(
         (λ p. IsOf p settings.now.kind compiled.pattern_lens.items
         compiled.special compiled.table.states
         × (compiled.table.dense_len ≡ dense_size settings.now.dense_depth p)
-        × (compiled.prefilter ≡ held_by settings.now p))) }
+        × (compiled.prefilter ≡ held_by settings.now p)
+        × HasBorders p compiled.table.classes)) }
+    ensures numbered { IfOk result (λ compiled. OfAccepted I.next_gives patterns settings.now
+        (λ p. IsInOrder (has_empty p) (is_some compiled.prefilter)
+        compiled.special (matches_in compiled.table.states))) }
     ensures refused { IfErr result (IsFailure I.next_gives patterns settings.now) }
 {
     let mut trie = trie::build_trie(alloc, settings, patterns)?;
@@ -68,15 +78,17 @@ pub fn compile<'p, I: Iterator<Item = &'p [u8]> + Drop>(
     // No transition is set behind it, so no row is forgotten; and the links are followed through the rows.
     dense::densify(table, classes, settings.dense_depth)?;
     failure::fill_failure_transitions(alloc, table, settings.kind)?;
-    // Shuffling comes here.
     trie.table.facts();
     let Ok(prefilter) = trie.prefilter.build() else {
+        return Err(BuildError::OutOfMemory);
+    };
+    let Ok(special) = shuffle::shuffle(alloc, &mut trie.table, prefilter.is_some()) else {
         return Err(BuildError::OutOfMemory);
     };
     Ok(Compiled {
         table: trie.table,
         pattern_lens: trie.lens,
-        special: Special::in_order_of_creation(),
+        special,
         prefilter,
     })
 }

@@ -13,6 +13,7 @@ use aho_table::links::{DEAD, FAIL, Table};
 ///
 /// Unanchored it goes down the failure links until a state takes the byte. It ends, since each link leads nearer to the
 /// start, the start takes every byte, and so does DEAD.
+#[inline(always)]
 pub fn step(table: &Table, anchored: Anchored, from: StateID, byte: u8, work: &mut Work) -> StateID
     requires sound { IsSound table.now.states }
     requires state { IsState table.now.states from }

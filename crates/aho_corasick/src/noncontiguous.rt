@@ -1,17 +1,20 @@
 //! The noncontiguous automaton: its states are the nodes of the trie of the patterns, and a byte that leads to no node is
 //! looked for further down the failure links.
 
-ghost use Rattle.std.specs.Prelude.{◌≡◌, ◌<◌, ◌≤◌, ◌^◌, ℕ, length, IfOk};
+ghost use Rattle.std.specs.Prelude.{◌≡◌, ◌<◌, ◌≤◌, ◌^◌, ℕ, length, IfOk, is_some};
 ghost use Rattle.aho_base.specs.Laws.{shortest, longest};
 ghost use Rattle.aho_base.specs.Numbers.{greatest_index};
+ghost use Rattle.aho_build.specs.Shuffled.{AreNumbered};
 ghost use Rattle.aho_build.specs.Walking.{IsSound, AreStarts};
 ghost use Rattle.aho_prefilter.specs.Prefilter.{prefilter_bytes};
+
+mod read_out;
 
 pub use crate::builder::{Builder, Limits};
 use aho_base::error::{BuildError, MatchError};
 use aho_base::search::{Anchored, MatchKind, PatternID, SmallIndex, StateID, Work};
 use aho_build::compiler::Compiled;
-use aho_build::special::Special;
+pub use aho_build::special::Special;
 use aho_build::walk;
 use aho_prefilter::prefilter::Prefilter;
 use aho_search::automaton::Automaton;
@@ -40,6 +43,7 @@ pub struct NFA {
     prefilter: Option<Prefilter>,
     ghost sound: { IsSound table.states },
     ghost starts: { AreStarts special table.states },
+    ghost numbered: { AreNumbered (is_some prefilter) special table.states },
     ghost shortest: { min_pattern_len ≡ shortest pattern_lens.items },
     ghost longest: { max_pattern_len ≡ longest pattern_lens.items },
     ghost counted: { length pattern_lens.items ≤ 2147483647 },
@@ -47,15 +51,17 @@ pub struct NFA {
 }
 
 impl NFA {
-    ghost use Rattle.std.specs.Prelude.{◌+◌, ℕ, List, IfOk, IfErr, IfSome};
+    ghost use Rattle.std.specs.Prelude.{◌+◌, ℕ, List, IfOk, IfErr, IfSome, is_some};
     ghost use Rattle.std.specs.Iterator.{IsFinite};
     ghost use Rattle.aho_base.specs.declared.search.Anchored.{Anchored};
     ghost use Rattle.aho_base.specs.Patterns.{Patterns};
     ghost use Rattle.aho_build.specs.Automaton.{IsOf, bytes_for, memory_of};
+    ghost use Rattle.aho_build.specs.Dense.{HasBorders};
     ghost use Rattle.aho_build.specs.Items.{IsFailure, OfAccepted};
     ghost use Rattle.aho_build.specs.Prefilters.{held_by};
     ghost use Rattle.aho_build.specs.Settings.{default_settings};
-    ghost use Rattle.aho_prefilter.specs.Prefilter.{IsPrefilterOf};
+    ghost use Rattle.aho_build.specs.Shuffled.{IsInOrder};
+    ghost use Rattle.aho_prefilter.specs.Prefilter.{IsPrefilterOf, has_empty};
     ghost use Rattle.aho_search.specs.Clones.{IsCloneOf};
 
     /// The automaton of these patterns, as a new `Builder` builds it.
@@ -88,6 +94,7 @@ impl NFA {
         ensures of { (p : Patterns)
             → IsOf p kind compiled.pattern_lens.items compiled.special compiled.table.states
             → IfSome compiled.prefilter (λ searcher. IsPrefilterOf searcher p)
+            → HasBorders p compiled.table.classes
             → ⟦<NFA as Automaton>⟧.is_of result p }
         ensures held { ⟦<NFA as Automaton>⟧.prefilter result ≡ compiled.prefilter }
         ensures memory { ⟦<NFA as Automaton>⟧.memory result
@@ -149,6 +156,7 @@ impl Automaton for NFA {
     ghost use Rattle.aho_base.specs.Held.{held_after};
     ghost use Rattle.aho_base.specs.Patterns.{Patterns};
     ghost use Rattle.aho_base.specs.Step.{lookups};
+    ghost use Rattle.aho_build.specs.Dense.{HasBorders};
     ghost use Rattle.aho_build.specs.Automaton.{IsOf, IsHeld, start_of, is_special_in, is_start_in, memory_of};
     ghost use Rattle.aho_prefilter.specs.Prefilter.{IsPrefilterOf};
     ghost use Rattle.aho_table.specs.Table.{dead_id, depth_in, matches_in};
@@ -156,7 +164,8 @@ impl Automaton for NFA {
     ghost use Rattle.aho_build.proofs.AutomatonLaws.{reads_of, plain_of, dead_shallow_of, starts_shallow_of};
 
     ghost is_of = { λ n p. IsOf p n.match_kind n.pattern_lens.items n.special n.table.states
-        × IfSome n.prefilter (λ searcher. IsPrefilterOf searcher p) };
+        × IfSome n.prefilter (λ searcher. IsPrefilterOf searcher p)
+        × HasBorders p n.table.classes };
 
     ghost held = { λ n p anchored word sid. IsHeld p n.special n.table.states anchored word sid };
 
@@ -205,10 +214,9 @@ impl Automaton for NFA {
     }
 
     /// Where a prefilter is held, each start is special too.
+    /// Where a prefilter is held, each start is special too.
     fn is_special(&self, sid: StateID) -> bool {
-        sid == DEAD
-            || self.table.match_len(sid) > 0
-            || (self.prefilter.is_some() && self.is_start(sid))
+        sid <= self.special.max_special_id
     }
 
     fn is_dead(&self, sid: StateID) -> bool {
@@ -216,7 +224,7 @@ impl Automaton for NFA {
     }
 
     fn is_match(&self, sid: StateID) -> bool {
-        self.table.match_len(sid) > 0
+        sid != DEAD && sid <= self.special.max_match_id
     }
 
     fn is_start(&self, sid: StateID) -> bool {

@@ -7,7 +7,10 @@ pub mod TransitionGaps
 pub mod TransitionChanges
 pub mod Results
 pub mod Walks
-pub mod FullLists
+pub mod SideBySide
 pub mod MatchChanges
 pub mod Families
 pub mod Firsts
+pub mod Sides
+pub mod Renamed
+pub mod Counted

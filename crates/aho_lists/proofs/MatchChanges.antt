@@ -16,10 +16,10 @@ abbrev pub match_lists : List Match → List (List ℕ)
 match_lists entries = lists_of (match_entries entries) (length entries)
 
 pub match_of-pushed : (entries : List Match) (more : Match) (place : ℕ) → place < length entries → match_of (entries ++ more ∷ []) place ≡ match_of entries place
-match_of-pushed entries more place below = get_or_append_left entries (more ∷ []) (record { pattern = 0; link = 0 }) place below
+match_of-pushed entries more place below = get_or_append_left entries (more ∷ []) (record { pattern = 0; link = 0; before = 0 }) place below
 
 match_of-push : (entries : List Match) (more : Match) (place : ℕ) → length entries ≡ place → match_of (entries ++ more ∷ []) place ≡ more
-match_of-push entries more place is = get_or_push entries more (record { pattern = 0; link = 0 }) place is
+match_of-push entries more place is = get_or_push entries more (record { pattern = 0; link = 0; before = 0 }) place is
 
 pub relinked_match-pushed : (entries : List Match) (more : Match) (place link : ℕ) → place < length entries → relinked_match (entries ++ more ∷ []) place link ≡ relinked_match entries place link ++ more ∷ []
 relinked_match-pushed entries more place link below =
@@ -29,17 +29,17 @@ relinked_match-pushed entries more place link below =
 -- ---- a list of one pattern
 
 module _ (entries new : List Match) (limit pattern : ℕ) (store : IsStore (match_entries entries) (length entries) limit)
-    (pushed : new ≡ entries ++ record { pattern = pattern; link = length entries } ∷ []) where
-  count_new : length new ≡ length entries + 1
-  count_new = ap (λ (es : List Match). length es) pushed ∙ length_push entries (record { pattern = pattern; link = length entries })
+    (pushed : new ≡ entries ++ record { pattern = pattern; link = length entries; before = 0 } ∷ []) where
+  pub count_new : length new ≡ length entries + 1
+  count_new = ap (λ (es : List Match). length es) pushed ∙ length_push entries (record { pattern = pattern; link = length entries; before = 0 })
 
-  one-old : (i : ℕ) → i < length entries → match_of new i ≡ match_of entries i
-  one-old i below = ap (λ (es : List Match). match_of es i) pushed ∙ match_of-pushed entries (record { pattern = pattern; link = length entries }) i below
+  pub one-old : (i : ℕ) → i < length entries → match_of new i ≡ match_of entries i
+  one-old i below = ap (λ (es : List Match). match_of es i) pushed ∙ match_of-pushed entries (record { pattern = pattern; link = length entries; before = 0 }) i below
 
-  one-new : match_of new (length entries) ≡ record { pattern = pattern; link = length entries }
-  one-new = ap (λ (es : List Match). match_of es (length entries)) pushed ∙ match_of-push entries (record { pattern = pattern; link = length entries }) (length entries) refl
+  pub one-new : match_of new (length entries) ≡ record { pattern = pattern; link = length entries; before = 0 }
+  one-new = ap (λ (es : List Match). match_of es (length entries)) pushed ∙ match_of-push entries (record { pattern = pattern; link = length entries; before = 0 }) (length entries) refl
 
-  one-link : (match_entries new).link (length entries) ≡ length entries
+  pub one-link : (match_entries new).link (length entries) ≡ length entries
   one-link = ap (λ (m : Match). m.link) one-new
 
   one-change : IsChange (match_entries entries) (match_entries new) (length entries) (length entries) 0
@@ -85,7 +85,7 @@ module _ (entries : List Match) (limit list : ℕ) (store : IsStore (match_entri
   pub match_list_in : list < length entries
   match_list_in = (is_last (match_entries entries) (length entries) list known some).0
 
-  list_ends : (match_of entries list).link ≤ list
+  pub list_ends : (match_of entries list).link ≤ list
   list_ends = (is_last (match_entries entries) (length entries) list known some).1
 
   pub match_list_run : IsRun (match_entries entries) list (match_of entries list).link (list_at (match_lists entries) list)
@@ -95,26 +95,26 @@ module _ (entries : List Match) (limit list : ℕ) (store : IsStore (match_entri
     relinked_count : length (relinked_match entries list (length entries)) ≡ length entries
     relinked_count = length-set entries list (record (match_of entries list) { link = length entries })
 
-    more_count : length new ≡ length entries + 1
+    pub more_count : length new ≡ length entries + 1
     more_count =
-        ap (λ (es : List Match). length es) pushed ∙ length_push (relinked_match entries list (length entries)) (record { pattern = pattern; link = (match_of entries list).link })
+        ap (λ (es : List Match). length es) pushed ∙ length_push (relinked_match entries list (length entries)) (record { pattern = pattern; link = (match_of entries list).link; before = (match_of entries list).before + 1 })
         ∙ ap (λ (n : ℕ). n + 1) relinked_count
 
     more-relinked : (i : ℕ) → i < length entries → match_of new i ≡ match_of (relinked_match entries list (length entries)) i
     more-relinked i below =
         ap (λ (es : List Match). match_of es i) pushed
-        ∙ match_of-pushed (relinked_match entries list (length entries)) (record { pattern = pattern; link = (match_of entries list).link }) i (omega (arith, relinked_count))
+        ∙ match_of-pushed (relinked_match entries list (length entries)) (record { pattern = pattern; link = (match_of entries list).link; before = (match_of entries list).before + 1 }) i (omega (arith, relinked_count))
 
-    more-new : match_of new (length entries) ≡ record { pattern = pattern; link = (match_of entries list).link }
+    pub more-new : match_of new (length entries) ≡ record { pattern = pattern; link = (match_of entries list).link; before = (match_of entries list).before + 1 }
     more-new =
         ap (λ (es : List Match). match_of es (length entries)) pushed
-        ∙ match_of-push (relinked_match entries list (length entries)) (record { pattern = pattern; link = (match_of entries list).link }) (length entries) relinked_count
+        ∙ match_of-push (relinked_match entries list (length entries)) (record { pattern = pattern; link = (match_of entries list).link; before = (match_of entries list).before + 1 }) (length entries) relinked_count
 
     more-last : match_of new list ≡ record (match_of entries list) { link = length entries }
-    more-last = more-relinked list match_list_in ∙ get_or-set_same entries list (record (match_of entries list) { link = length entries }) (record { pattern = 0; link = 0 }) match_list_in
+    more-last = more-relinked list match_list_in ∙ get_or-set_same entries list (record (match_of entries list) { link = length entries }) (record { pattern = 0; link = 0; before = 0 }) match_list_in
 
-    more-other : (i : ℕ) → i < length entries → i ≢ list → match_of new i ≡ match_of entries i
-    more-other i below ne = more-relinked i below ∙ get_or-set_other entries list i (record (match_of entries list) { link = length entries }) (record { pattern = 0; link = 0 }) ne
+    pub more-other : (i : ℕ) → i < length entries → i ≢ list → match_of new i ≡ match_of entries i
+    more-other i below ne = more-relinked i below ∙ get_or-set_other entries list i (record (match_of entries list) { link = length entries }) (record { pattern = 0; link = 0; before = 0 }) ne
 
     more-item : (i : ℕ) → i < length entries → (match_of new i).pattern ≡ (match_of entries i).pattern
     more-item i below = elim (cases_eq i list) [
@@ -122,10 +122,10 @@ module _ (entries : List Match) (limit list : ℕ) (store : IsStore (match_entri
       | inr ne ↦ ap (λ (m : Match). m.pattern) (more-other i below ne)
     ]
 
-    to_more : (match_entries new).link list ≡ length entries
+    pub to_more : (match_entries new).link list ≡ length entries
     to_more = ap (λ (m : Match). m.link) more-last
 
-    from_more : (match_entries new).link (length entries) ≡ (match_of entries list).link
+    pub from_more : (match_entries new).link (length entries) ≡ (match_of entries list).link
     from_more = ap (λ (m : Match). m.link) more-new
 
     more-change : IsChange (match_entries entries) (match_entries new) (length entries) list list

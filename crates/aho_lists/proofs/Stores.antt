@@ -102,3 +102,11 @@ list_at-cases {X = X} entries count rings number =
 pub push_in-empty : {X : Type 0} (lists : List (List X)) (item : X) → list_at lists 0 ≡ [] → push_in lists 0 item ≡ lists ++ (item ∷ []) ∷ []
 push_in-empty [] item none = refl
 push_in-empty {X = X} (list ∷ lists) item none = ap (λ (l : List X). (l ∷ lists) ++ (list ++ item ∷ []) ∷ []) (sym none) ∙ ap (λ (l : List X). (list ∷ lists) ++ (l ++ item ∷ []) ∷ []) none
+
+-- a list that has an item has a number
+pub some_list : {X : Type 0} (lists : List (List X)) (list index : ℕ) → list_at lists 0 ≡ [] → index < length (list_at lists list) → 0 < list
+some_list lists list index none below =
+    elim (cases_eq list 0) [
+      | inl is ↦ absurd (omega (arith, ap (λ (n : ℕ). length (list_at lists n)) is, ap length none))
+      | inr ne ↦ omega (arith, ne)
+    ]

@@ -108,35 +108,36 @@ number_after-behind lists number byte above = rw above refl
 
 -- ---- the byte's entry leads elsewhere
 
-module _ (entries : List Transition) (last byte next place : ℕ) (rings : AreRings (transition_entries entries) (length entries)) (some : 0 < last) (below : last < length entries)
-    (ends : (transition_of entries (transition_of entries last).link).byte ≤ (transition_of entries last).byte) (inside : place < length entries)
-    (found : IsOn (transition_entries entries) last byte place)
-    (run : IsRun (transition_entries entries) last (transition_of entries last).link (list_at (lists_of (transition_entries entries) (length entries)) last)) where
-  redirected-link : (i : ℕ) → (transition_of (redirected entries place next) i).link ≡ (transition_of entries i).link
+module _ (entries : List Transition) (next place : ℕ) (inside : place < length entries) where
+  pub redirected-link : (i : ℕ) → (transition_of (redirected entries place next) i).link ≡ (transition_of entries i).link
   redirected-link i = elim (cases_eq i place) [
     | inl is ↦ subst (λ (n : ℕ). (transition_of (redirected entries place next) n).link ≡ (transition_of entries n).link) (sym is)
         (ap (λ (t : Transition). t.link) (transition_of-set_same entries place (record (transition_of entries place) { next = next }) inside))
     | inr ne ↦ ap (λ (t : Transition). t.link) (transition_of-set_other entries place i (record (transition_of entries place) { next = next }) ne)
   ]
 
-  redirected-byte : (i : ℕ) → (transition_of (redirected entries place next) i).byte ≡ (transition_of entries i).byte
+  pub redirected-byte : (i : ℕ) → (transition_of (redirected entries place next) i).byte ≡ (transition_of entries i).byte
   redirected-byte i = elim (cases_eq i place) [
     | inl is ↦ subst (λ (n : ℕ). (transition_of (redirected entries place next) n).byte ≡ (transition_of entries n).byte) (sym is)
         (ap (λ (t : Transition). t.byte) (transition_of-set_same entries place (record (transition_of entries place) { next = next }) inside))
     | inr ne ↦ ap (λ (t : Transition). t.byte) (transition_of-set_other entries place i (record (transition_of entries place) { next = next }) ne)
   ]
 
+module _ (entries : List Transition) (last byte next place : ℕ) (rings : AreRings (transition_entries entries) (length entries)) (some : 0 < last) (below : last < length entries)
+    (ends : (transition_of entries (transition_of entries last).link).byte ≤ (transition_of entries last).byte) (inside : place < length entries)
+    (found : IsOn (transition_entries entries) last byte place)
+    (run : IsRun (transition_entries entries) last (transition_of entries last).link (list_at (lists_of (transition_entries entries) (length entries)) last)) where
   redirected-rises : place ≢ last → (transition_of (redirected entries place next) place).byte < (transition_of (redirected entries place next) (transition_of (redirected entries place next) place).link).byte
   redirected-rises ne =
       let from = run-from run found.passed in
       let less : (transition_of entries place).byte < (transition_of entries (transition_of entries place).link).byte = (run-next from.1 ne).1 in
-      rw (redirected-link place, redirected-byte place, redirected-byte (transition_of entries place).link) less
+      rw (redirected-link entries next place inside place, redirected-byte entries next place inside place, redirected-byte entries next place inside (transition_of entries place).link) less
 
   redirected-change : IsChange (transition_entries entries) (transition_entries (redirected entries place next)) (length entries) place last
   redirected-change = record {
     items = λ i less ne. ap (λ (t : Transition). (t.byte, t.next)) (transition_of-set_other entries place i (record (transition_of entries place) { next = next }) ne);
-    keys = λ i less. redirected-byte i;
-    links = λ i less ne. redirected-link i;
+    keys = λ i less. redirected-byte entries next place inside i;
+    links = λ i less ne. redirected-link entries next place inside i;
     ends = λ less. ends;
     of_list = λ less. run-from run found.passed;
     rises = λ less ne. redirected-rises ne;
@@ -146,13 +147,13 @@ module _ (entries : List Transition) (last byte next place : ℕ) (rings : AreRi
       (with_transition (list_at (lists_of (transition_entries entries) (length entries)) last) byte next)
   redirected-run =
       let this = ap (λ (t : Transition). (t.byte, t.next)) (transition_of-set_same entries place (record (transition_of entries place) { next = next }) inside) in
-      subst (λ (n : ℕ). IsRun (transition_entries (redirected entries place next)) last n (with_transition (list_at (lists_of (transition_entries entries) (length entries)) last) byte next)) (sym (redirected-link last))
+      subst (λ (n : ℕ). IsRun (transition_entries (redirected entries place next)) last n (with_transition (list_at (lists_of (transition_entries entries) (length entries)) last) byte next)) (sym (redirected-link entries next place inside last))
       (subst (λ (b : ℕ). IsRun (transition_entries (redirected entries place next)) last (transition_of entries last).link (with_transition (list_at (lists_of (transition_entries entries) (length entries)) last) b next)) found.of_byte
-      (run-replaced next (keyed entries) redirected-link redirected-byte
+      (run-replaced next (keyed entries) (redirected-link entries next place inside) (redirected-byte entries next place inside)
       (λ i ne. ap (λ (t : Transition). (t.byte, t.next)) (transition_of-set_other entries place i (record (transition_of entries place) { next = next }) ne)) this run found.passed))
 
   pub AreRings-redirected : AreRings (transition_entries (redirected entries place next)) (length entries)
-  AreRings-redirected = AreRings-changed redirected-change rings (λ less. rw (redirected-link place) (rings.within place less)) redirected-run
+  AreRings-redirected = AreRings-changed redirected-change rings (λ less. rw (redirected-link entries next place inside place) (rings.within place less)) redirected-run
 
   found-within : (transition_entries entries).key place ≤ (transition_entries entries).key last
   found-within = key-le (run-from run found.passed).1
@@ -161,7 +162,7 @@ module _ (entries : List Transition) (last byte next place : ℕ) (rings : AreRi
   lists_of-redirected =
       lists_of-set (transition_entries entries) (transition_entries (redirected entries place next)) (length entries) last (with_transition (list_at (lists_of (transition_entries entries) (length entries)) last) byte next) below
       (λ i less other. other_lists redirected-change rings i less other)
-      (list_ending-ring some (omega (arith, redirected-byte last, redirected-byte (transition_of entries last).link, ap (transition_entries (redirected entries place next)).key (redirected-link last))) redirected-run)
+      (list_ending-ring some (omega (arith, redirected-byte entries next place inside last, redirected-byte entries next place inside (transition_of entries last).link, ap (transition_entries (redirected entries place next)).key (redirected-link entries next place inside last))) redirected-run)
       ∙ sym (set_transition_in-listed (lists_of (transition_entries entries) (length entries)) last byte next (lists_transition-on (keyed entries) run found)
       (is_above-within (keyed entries) run byte (omega (arith, found-within, found.of_byte))))
 

@@ -1,7 +1,8 @@
 -- The vectors of the stores: what stands at each place.
-use Rattle.std.specs.Prelude.{◌≡◌, ◌≢◌, ℕ, ◌+◌, ◌<◌, ◌≤◌, List, [], ◌∷◌, ◌++◌, length, map, slice_index_or, slice_set}
-use Rattle.std.specs.List.{range_with_len}
-use Rattle.aho_lists.specs.Rings.{Entries, AreRings, IsPassed}
+use Rattle.std.specs.Prelude.{◌≡◌, ◌≢◌, ℕ, ◌+◌, ◌<◌, ◌≤◌, List, [], ◌∷◌, ◌++◌, length, slice_index_or, slice_set}
+use Rattle.aho_lists.specs.Rings.{Entries, lists_of, AreRings, IsPassed}
+use Rattle.aho_lists.specs.Lists.{list_at}
+use Rattle.aho_lists.specs.Renaming.{IsLed}
 use Rattle.aho_lists.specs.declared.transitions.Transition.{Transition}
 use Rattle.aho_lists.specs.declared.matches.Match.{Match}
 
@@ -22,14 +23,6 @@ transition_entries entries = record {
   key = λ place. (transition_of entries place).byte;
 }
 
--- an entry for each byte below this one, which lead to the same state, where the first has this index; each links to the next
-unfoldable pub byte_entries : ℕ → ℕ → ℕ → List Transition
-byte_entries first next bytes = map (λ byte. record { byte = byte; next = next; link = first + byte + 1 }) (range_with_len 0 bytes)
-
--- an entry for each byte: the last one links back to the first
-abbrev pub full_entries : ℕ → ℕ → List Transition
-full_entries first next = byte_entries first next 255 ++ record { byte = 255; next = next; link = first } ∷ []
-
 -- the entries, where the one at this place leads to another state
 abbrev pub redirected : List Transition → ℕ → ℕ → List Transition
 redirected entries place next = slice_set entries place (record (transition_of entries place) { next = next })
@@ -43,12 +36,18 @@ abbrev pub linked_behind : List Transition → ℕ → ℕ → ℕ → List Tran
 linked_behind entries place byte next =
     relinked entries place (length entries) ++ record { byte = byte; next = next; link = (transition_of entries place).link } ∷ []
 
+-- the entry's byte and link stay, and its state is led to another
+pub record IsEntryLed (leads : ℕ → ℕ → Type 0) (old new : Transition) : Type 0 where
+  pub byte : new.byte ≡ old.byte
+  pub link : new.link ≡ old.link
+  pub next : IsLed leads old.next new.next
+
 abbrev pub match_of : List Match → ℕ → Match
-match_of entries place = slice_index_or entries place (record { pattern = 0; link = 0 })
+match_of entries place = slice_index_or entries place (record { pattern = 0; link = 0; before = 0 })
 
 -- the entries, the one at index 0 among them, which comes with the first one of a list
 abbrev pub with_first_match : List Match → List Match
-with_first_match [] = record { pattern = 0; link = 0 } ∷ []
+with_first_match [] = record { pattern = 0; link = 0; before = 0 } ∷ []
 with_first_match (entry ∷ entries) = entry ∷ entries
 
 abbrev pub relinked_match : List Match → ℕ → ℕ → List Match
@@ -56,7 +55,7 @@ relinked_match entries place link = slice_set entries place (record (match_of en
 
 -- the entries and one more, which stands in a list behind this place
 abbrev pub matched_behind : List Match → ℕ → ℕ → List Match
-matched_behind entries place pattern = relinked_match entries place (length entries) ++ record { pattern = pattern; link = (match_of entries place).link } ∷ []
+matched_behind entries place pattern = relinked_match entries place (length entries) ++ record { pattern = pattern; link = (match_of entries place).link; before = (match_of entries place).before + 1 } ∷ []
 
 -- a match's key is its place
 abbrev pub match_entries : List Match → Entries ℕ
@@ -65,6 +64,11 @@ match_entries entries = record {
   link = λ place. (match_of entries place).link;
   key = λ place. place;
 }
+
+-- each last entry tells how many stand before it in its list
+abbrev pub AreCounted : List Match → Type 0
+AreCounted entries = (number : ℕ) → list_at (lists_of (match_entries entries) (length entries)) number ≢ []
+    → length (list_at (lists_of (match_entries entries) (length entries)) number) ≡ (match_of entries number).before + 1
 
 -- the entries are lists, and none is above the limit
 pub record IsStore {X : Type 0} (entries : Entries X) (count limit : ℕ) : Type 0 where

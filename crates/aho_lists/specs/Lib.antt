@@ -8,3 +8,5 @@ pub mod TransitionList
 pub mod Refusal
 -- the inside of the stores: for private clauses, and cited by no other crate
 pub mod Inside
+-- numbers of states that are exchanged
+pub mod Renaming

@@ -1,5 +1,5 @@
 -- What a store of lists is seen as: at each number the list that has it, and the greatest index of an entry.
-use Rattle.std.specs.Prelude.{◌≡◌, ℕ, ◌-◌, List, [], ◌∷◌, ◌++◌, length, replicate, slice_index_or, slice_set}
+use Rattle.std.specs.Prelude.{◌≡◌, ℕ, List, [], ◌∷◌, ◌++◌, slice_index_or, slice_set}
 
 -- `lists` has an item for each entry of the vector, the one at index 0 included. A list stands at its own number. A number
 -- that no list has, as 0, has the empty list
@@ -14,10 +14,6 @@ list_at lists number = slice_index_or lists number []
 -- the number is that of a list, or 0, the number of the empty list
 abbrev pub IsList : {X : Type 0} → List (List X) → ℕ → Type 0
 IsList lists number = list_at lists number ≡ [] → number ≡ 0
-
--- one list more, of as many entries as it has items, behind the others; its number is that of the last entry
-abbrev pub with_list_behind : {X : Type 0} → List (List X) → List X → List (List X)
-with_list_behind lists items = lists ++ (replicate (length items - 1) [] ++ items ∷ [])
 
 -- the list of this number has none any more
 abbrev pub without : {X : Type 0} → List (List X) → ℕ → List (List X)

@@ -1,5 +1,5 @@
 -- Lists in one vector: each entry links to the next of its list, and the last one back to the first.
-use Rattle.std.specs.Prelude.{Option, Some, None, IfSome, ◌≡◌, ◌≢◌, ℕ, zero, suc, ◌-◌, ◌<◌, ◌≤◌, List, [], ◌∷◌, map, nat_eq, nat_lt, if◌then◌else◌}
+use Rattle.std.specs.Prelude.{Bool, true, ◌+◌, ◌⊎◌, Option, Some, None, IfSome, ◌≡◌, ◌≢◌, ℕ, zero, suc, ◌-◌, ◌<◌, ◌≤◌, List, [], ◌∷◌, map, nat_eq, nat_lt, if◌then◌else◌}
 use Rattle.std.specs.List.{range_with_len}
 
 -- what stands at each place: an item, the place that it links to, and a key, which rises along a list
@@ -54,6 +54,18 @@ pub record AreRings {X : Type 0} (entries : Entries X) (count : ℕ) : Type 0 wh
   pub some : 0 < count
   pub within : (i : ℕ) → i < count → entries.link i < count
   pub joined : (last : ℕ) → 0 < last → last < count → entries.key (entries.link last) ≤ entries.key last → (xs : List X) × IsRun entries last (entries.link last) xs
+
+-- below `beside` the entries of a list lie side by side: each that is not a last one links to the next place
+pub record AreSideBySide {X : Type 0} (entries : Entries X) (count beside : ℕ) : Type 0 where
+  pub within : beside ≤ count
+  pub linked : (i : ℕ) → i < beside → entries.key i < entries.key (entries.link i) → entries.link i ≡ i + 1
+
+-- how far they lie side by side once the entry at this place of a list links to one more at the end, `made`, which is
+-- behind the last one or elsewhere: as far as before, but not past the place; or all of them
+abbrev pub IsBesideBehind : ℕ → ℕ → ℕ → ℕ → Bool → ℕ → Type 0
+IsBesideBehind beside list place made above now =
+    ((now ≤ beside) × (now ≤ place))
+    ⊎ ((above ≡ true) × (place ≡ list) × (beside ≡ made) × (place + 1 ≡ made) × (now ≡ made + 1))
 
 -- a walk along a list: it is at an entry from which the links lead to the last one, or at its end
 pub record IsWalk {X : Type 0} (entries : Entries X) (count : ℕ) (at : Option ℕ) (last : ℕ) : Type 0 where

@@ -1,6 +1,6 @@
 -- A list of transitions: pairs of a byte and the state that it leads to, rising by byte.
-use Rattle.std.specs.Prelude.{ℕ, ◌<◌, Bool, List, [], ◌∷◌, ◌++◌, length, map, nat_eq, nat_lt, if◌then◌else◌, slice_set}
-use Rattle.std.specs.List.{All, list_any, list_all, range_with_len}
+use Rattle.std.specs.Prelude.{ℕ, ◌<◌, Bool, List, [], ◌∷◌, ◌++◌, length, nat_eq, nat_lt, if◌then◌else◌, slice_set}
+use Rattle.std.specs.List.{All, list_any, list_all}
 use Rattle.aho_lists.specs.Lists.{list_at, without}
 
 -- where the byte leads, and 1 (FAIL) where nothing is listed for it
@@ -28,10 +28,6 @@ lists_transition transitions byte = list_any (λ transition. nat_eq transition.0
 -- whether the byte is above all that are listed
 abbrev pub is_above : List (ℕ × ℕ) → ℕ → Bool
 is_above transitions byte = list_all (λ transition. nat_lt transition.0 byte) transitions
-
--- the list in which every byte leads to the same state
-unfoldable pub full_list : ℕ → List (ℕ × ℕ)
-full_list next = map (λ byte. (byte, next)) (range_with_len 0 256)
 
 -- ---- a store after a byte of the list of this number was led to a state
 

@@ -2,5 +2,6 @@
 #![tactic(auto)]
 
 pub mod matches;
+pub mod renumber;
 pub mod transitions;
 mod walk;

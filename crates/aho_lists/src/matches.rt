@@ -3,12 +3,13 @@
 //! An entry links to the next of its list, and the last one back to the first. A list's number is the index of its last
 //! entry, which its caller keeps; 0 is the number of the empty list. So a pattern is added at the end in constant time.
 
-ghost use Rattle.std.specs.Prelude.{◌≡◌, ℕ, ◌≢◌, ◌+◌, ◌-◌, ◌<◌, ◌≤◌, ◌∷◌, ◌++◌, [], length, IfOk, IfErr, OnOk, OnErr, min, unwrap_or};
+ghost use Rattle.std.specs.Prelude.{◌≡◌, ℕ, ◌≢◌, ◌+◌, ◌-◌, ◌<◌, ◌≤◌, ◌∷◌, ◌++◌, [], length, IfOk, IfErr, OnOk, OnErr, min, slice_get, unwrap_or};
 ghost use Rattle.std.specs.Iterator.{YieldsFirst, item_count};
 ghost use Rattle.aho_base.specs.Numbers.{greatest_index};
 ghost use Rattle.aho_lists.specs.Refusal.{refusal_at};
+ghost use Rattle.aho_lists.specs.Rings.{AreRings, lists_of};
 ghost use Rattle.aho_lists.specs.Lists.{list_at, IsList, push_in};
-ghost use Rattle.aho_lists.specs.Inside.{with_first_match, match_of, match_entries, relinked_match, matched_behind};
+ghost use Rattle.aho_lists.specs.Inside.{with_first_match, AreCounted, match_of, match_entries, relinked_match, matched_behind};
 
 use crate::walk::{overflow, place_after};
 use aho_base::error::BuildError;
@@ -22,6 +23,8 @@ use std::marker::Model;
 struct Match {
     pattern: PatternID,
     link: StateID,
+    /// How many entries of the list stand before it.
+    before: u32,
 }
 
 /// Lists of patterns.
@@ -38,7 +41,7 @@ impl Model for MatchLists {
     ghost use Rattle.std.specs.Prelude.{ℕ, length};
     ghost use Rattle.aho_lists.specs.Rings.{lists_of};
     ghost use Rattle.aho_lists.specs.Lists.{Lists};
-    ghost use Rattle.aho_lists.specs.Inside.{match_entries, with_first_match, IsStore};
+    ghost use Rattle.aho_lists.specs.Inside.{match_entries, with_first_match, IsStore, AreCounted};
 
     ghost Value = { Lists ℕ };
 
@@ -48,7 +51,8 @@ impl Model for MatchLists {
     } };
 
     ghost invariant = { λ s.
-        IsStore (match_entries (with_first_match s.entries.items)) (length (with_first_match s.entries.items)) s.limit };
+        IsStore (match_entries (with_first_match s.entries.items)) (length (with_first_match s.entries.items)) s.limit
+        × AreCounted (with_first_match s.entries.items) };
 }
 
 impl MatchLists {
@@ -121,6 +125,27 @@ impl MatchLists {
     {
         let made = push_alone(&mut self.entries, self.limit, pattern)?;
         Ok(made)
+    }
+
+    /// How many patterns the list of this number has.
+    pub fn len_of(&self, list: StateID) -> usize
+        requires known { IsList self.now.lists list }
+        ensures len { result ≡ length (list_at self.now.lists list) }
+    {
+        let entries = self.entries.as_slice();
+        if list == StateID::ZERO {
+            return 0;
+        }
+        entry(entries, list).before as usize + 1
+    }
+
+    /// The pattern of this place in the list of this number. It walks along the list to where the entries lie side by side.
+    pub fn get(&self, list: StateID, index: usize) -> PatternID
+        requires known { IsList self.now.lists list }
+        requires within { index < length (list_at self.now.lists list) }
+        ensures listed { slice_get (list_at self.now.lists list) index ≡ Some result }
+    {
+        read(&self.entries, list, index)
     }
 
     /// An equal store, in memory of its own.
@@ -208,17 +233,45 @@ fn entry(entries: &[Match], place: StateID) -> Match
     entries[place.as_usize()]
 }
 
+/// The pattern of this place in the list that ends at `last`.
+fn read(entries: &[Match], last: StateID, index: usize) -> PatternID
+    requires counted { AreCounted entries.now }
+    requires rings { AreRings (match_entries entries.now) (length entries.now) }
+    requires some { 0 < last }
+    requires known { IsList (lists_of (match_entries entries.now) (length entries.now)) last }
+    requires inside { index < length (list_at (lists_of (match_entries entries.now) (length entries.now)) last) }
+    ensures listed { slice_get (list_at (lists_of (match_entries entries.now) (length entries.now)) last) index ≡ Some result }
+{
+    let end = entry(entries, last);
+    let mut at = end.link;
+    let mut behind = end.before as usize;
+    let mut steps = index;
+    'walk: loop {
+        if last.as_usize() - at.as_usize() == behind {
+            return entry(entries, StateID::new_unchecked(at.as_usize() + steps)).pattern;
+        }
+        let listed = entry(entries, at);
+        if steps == 0 {
+            return listed.pattern;
+        }
+        at = listed.link;
+        behind -= 1;
+        steps -= 1;
+    }
+}
+
 /// One entry more, which links to `link`, or to itself where there is none.
 fn push(
     entries: &mut Vec<Match>,
     limit: usize,
     pattern: PatternID,
     link: Option<StateID>,
+    before: u32,
 ) -> Result<StateID, BuildError>
     requires small { limit ≤ greatest_index }
     ensures number { IfOk result (λ made. made ≡ length entries.old.items) }
     ensures pushed { OnOk result (entries.new.items ≡ entries.old.items
-        ++ record { pattern = pattern; link = unwrap_or link (length entries.old.items) } ∷ []) }
+        ++ record { pattern = pattern; link = unwrap_or link (length entries.old.items); before = before } ∷ []) }
     ensures within { OnOk result (length entries.old.items ≤ limit) }
     ensures refused { IfErr result (λ error. error ≡ refusal_at limit (length entries.old.items)) }
     ensures unchanged { OnErr result (entries.new.items ≡ entries.old.items) }
@@ -229,7 +282,14 @@ fn push(
     }
     let made = StateID::new_unchecked(index);
     let link = link.unwrap_or(made);
-    if entries.push(Match { pattern, link }).is_err() {
+    if entries
+        .push(Match {
+            pattern,
+            link,
+            before,
+        })
+        .is_err()
+    {
         return Err(BuildError::OutOfMemory);
     }
     Ok(made)
@@ -244,6 +304,7 @@ fn add_dummy(entries: &mut Vec<Match>) -> Result<(), AllocError>
         let dummy = Match {
             pattern: PatternID::new_unchecked(0),
             link: StateID::ZERO,
+            before: 0,
         };
         entries.push(dummy)?;
     }
@@ -259,7 +320,7 @@ fn push_alone(
     requires small { limit ≤ greatest_index }
     ensures number { IfOk result (λ made. made ≡ length (with_first_match entries.old.items)) }
     ensures pushed { OnOk result (entries.new.items ≡ with_first_match entries.old.items
-        ++ record { pattern = pattern; link = length (with_first_match entries.old.items) } ∷ []) }
+        ++ record { pattern = pattern; link = length (with_first_match entries.old.items); before = 0 } ∷ []) }
     ensures within { OnOk result (length (with_first_match entries.old.items) ≤ limit) }
     ensures refused { IfErr result
         (λ error. error ≡ refusal_at limit (length (with_first_match entries.old.items))) }
@@ -272,7 +333,7 @@ fn push_alone(
     let Ok(()) = add_dummy(entries) else {
         return Err(BuildError::OutOfMemory);
     };
-    push(entries, limit, pattern, None)
+    push(entries, limit, pattern, None, 0)
 }
 
 /// The entry at this place links to another.
@@ -294,6 +355,7 @@ fn push_behind(
 ) -> Result<StateID, BuildError>
     requires small { limit ≤ greatest_index }
     requires place { last < length entries.old.items }
+    requires few { (match_of entries.old.items last).before < 2147483647 }
     ensures number { IfOk result (λ made. made ≡ length entries.old.items) }
     ensures pushed { OnOk result
         (entries.new.items ≡ matched_behind entries.old.items last pattern) }
@@ -302,8 +364,8 @@ fn push_behind(
     ensures refused { IfErr result (λ error. error ≡ refusal_at limit (length entries.old.items)) }
     ensures unchanged { OnErr result (entries.new.items ≡ entries.old.items) }
 {
-    let first = entry(entries, last).link;
-    let made = push(entries, limit, pattern, Some(first))?;
+    let end = entry(entries, last);
+    let made = push(entries, limit, pattern, Some(end.link), end.before + 1)?;
     relink(entries, last, made);
     Ok(made)
 }

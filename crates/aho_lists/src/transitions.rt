@@ -4,16 +4,19 @@
 //! entry, which its caller keeps; 0 is the number of the empty list. So an entry can be added at either end in constant
 //! time, and a walk towards a byte that is not above the last one needs no test for the list's end.
 
-ghost use Rattle.std.specs.Prelude.{◌≡◌, ℕ, ◌≢◌, ◌+◌, ◌<◌, ◌≤◌, ◌∷◌, ◌++◌, [], length, true, IsOk, IfOk, IfErr, OnOk, OnErr, min, take, unwrap_or};
+ghost use Rattle.std.specs.Prelude.{◌≡◌, ℕ, ◌≢◌, ◌+◌, ◌<◌, ◌≤◌, ◌∷◌, ◌++◌, [], length, true, IsOk, IfOk, IfErr, OnOk, OnErr, min, slice_get, unwrap_or};
 ghost use Rattle.std.specs.Iterator.{YieldsFirst, item_count};
 ghost use Rattle.aho_base.specs.Numbers.{greatest_index};
 ghost use Rattle.aho_lists.specs.Refusal.{refusal_at};
-ghost use Rattle.aho_lists.specs.Rings.{AreRings, IsRun};
-ghost use Rattle.aho_lists.specs.Lists.{list_at, IsList, with_list_behind};
-ghost use Rattle.aho_lists.specs.TransitionList.{transition_at, with_transition, lists_transition, IsRising, full_list, number_after, set_transition_in};
-ghost use Rattle.aho_lists.specs.Inside.{with_first, transition_of, transition_entries, IsGapBehind, IsOn, redirected, relinked, linked_behind, full_entries};
+ghost use Rattle.aho_lists.specs.Rings.{AreRings, AreSideBySide, IsRun};
+ghost use Rattle.aho_lists.specs.Lists.{list_at, IsList};
+ghost use Rattle.aho_lists.specs.TransitionList.{transition_at, with_transition, lists_transition, IsRising, number_after, set_transition_in};
+ghost use Rattle.aho_lists.specs.Inside.{with_first, transition_of, transition_entries, IsGapBehind, IsOn, redirected, relinked, linked_behind, IsEntryLed};
+ghost use Rattle.aho_lists.specs.Renaming.{IsTransitionLed};
+ghost use Rattle.std.specs.List.{AllZip};
 
-use crate::walk::{overflow, place_after};
+use crate::renumber::renamed;
+use crate::walk::{are_beside, beside_alone, beside_behind, overflow, place_after};
 use aho_base::error::BuildError;
 use aho_base::search::{SmallIndex, StateID};
 use std::alloc::{AllocError, Global};
@@ -38,12 +41,14 @@ struct Transition {
 pub struct TransitionLists {
     /// None, or those of the lists behind the one at index 0.
     entries: Vec<Transition>,
+    /// Below this index the entries of a list lie side by side: one that is not the last links to the next index.
+    beside: usize,
     limit: usize,
 }
 
 impl Model for TransitionLists {
     ghost use Rattle.std.specs.Prelude.{ℕ, length};
-    ghost use Rattle.aho_lists.specs.Rings.{lists_of};
+    ghost use Rattle.aho_lists.specs.Rings.{lists_of, AreSideBySide};
     ghost use Rattle.aho_lists.specs.Lists.{Lists};
     ghost use Rattle.aho_lists.specs.Inside.{transition_entries, with_first, IsStore};
 
@@ -55,7 +60,8 @@ impl Model for TransitionLists {
     } };
 
     ghost invariant = { λ s.
-        IsStore (transition_entries (with_first s.entries.items)) (length (with_first s.entries.items)) s.limit };
+        IsStore (transition_entries (with_first s.entries.items)) (length (with_first s.entries.items)) s.limit
+        × AreSideBySide (transition_entries (with_first s.entries.items)) (length (with_first s.entries.items)) s.beside };
 }
 
 impl TransitionLists {
@@ -65,6 +71,7 @@ impl TransitionLists {
     {
         TransitionLists {
             entries: Vec::new(alloc),
+            beside: 1,
             limit: limit.min(SmallIndex::MAX.as_usize()),
         }
     }
@@ -97,7 +104,7 @@ impl TransitionLists {
         if list == StateID::ZERO {
             return FAIL;
         }
-        match place(entries, list, byte) {
+        match place(entries, self.beside, list, byte) {
             Ok(place) => entry(entries, place).next,
             Err(_) => FAIL,
         }
@@ -129,7 +136,7 @@ impl TransitionLists {
         if list == StateID::ZERO {
             return self.start(byte, next);
         }
-        match place(&self.entries, list, byte) {
+        match place(&self.entries, self.beside, list, byte) {
             Ok(place) => {
                 redirect(&mut self.entries, place, next);
                 Ok(list)
@@ -137,38 +144,10 @@ impl TransitionLists {
             Err(before) => {
                 let above = entry(&self.entries, list).byte < byte;
                 let made = insert_behind(&mut self.entries, self.limit, before, byte, next)?;
+                self.beside = beside_behind(self.beside, list, before, made, above);
                 Ok(if above { made } else { list })
             }
         }
-    }
-
-    /// One list more, in which every byte leads to the same state. Answers its number.
-    ///
-    /// # Errors
-    ///
-    /// `StateIDOverflow` where the last of its entries has an index above the limit; else want of memory. The store is then
-    /// unchanged.
-    pub fn fill(&mut self, next: StateID) -> Result<StateID, BuildError>
-        ensures number { IfOk result (λ made. made ≡ length self.old.lists + 255) }
-        ensures filled { OnOk result (self.new
-            ≡ record self.old { lists = with_list_behind self.old.lists (full_list next) }) }
-        ensures within { OnOk result (length self.new.lists ≤ self.old.limit + 1) }
-        ensures refused { IfErr result
-            (λ error. error ≡ refusal_at self.old.limit (length self.old.lists + 255)) }
-        ensures unchanged { OnErr result (self.new ≡ self.old) }
-    {
-        let first = self.len();
-        if self.limit < first + 255 {
-            return Err(overflow(self.limit));
-        }
-        let Ok(()) = add_dummy(&mut self.entries) else {
-            return Err(BuildError::OutOfMemory);
-        };
-        let Ok(()) = push_full(&mut self.entries, self.limit, next) else {
-            self.entries.truncate(first);
-            return Err(BuildError::OutOfMemory);
-        };
-        Ok(StateID::new_unchecked(first + 255))
     }
 
     /// The transitions of the list of this number, rising by byte.
@@ -192,6 +171,49 @@ impl TransitionLists {
         }
     }
 
+    /// How many transitions the list of this number has.
+    pub fn len_of(&self, list: StateID) -> usize
+        requires known { IsList self.now.lists list }
+        ensures len { result ≡ length (list_at self.now.lists list) }
+    {
+        let entries = self.entries.as_slice();
+        if list == StateID::ZERO {
+            return 0;
+        }
+        let end = entry(entries, list);
+        let first = end.link;
+        if are_beside(self.beside, first, list) {
+            return list.as_usize() - first.as_usize() + 1;
+        }
+        self.iter(list).count()
+    }
+
+    /// The transition of this place in the list of this number.
+    pub fn get(&self, list: StateID, index: usize) -> (u8, StateID)
+        requires known { IsList self.now.lists list }
+        requires within { index < length (list_at self.now.lists list) }
+        ensures listed { slice_get (list_at self.now.lists list) index ≡ Some result }
+    {
+        let first = entry(&self.entries, list).link;
+        if are_beside(self.beside, first, list) {
+            let place = StateID::new_unchecked(first.as_usize() + index);
+            let listed = entry(&self.entries, place);
+            return (listed.byte, listed.next);
+        }
+        self.iter(list).nth(index).unwrap()
+    }
+
+    /// Each state to which a transition leads is exchanged for the one that the closure answers for it. FAIL names no state,
+    /// and stays.
+    pub fn rename<F: Fn(StateID) -> StateID>(&mut self, map: &F)
+        requires callable { F.IsAlwaysCallable map.now }
+        ensures count { length self.new.lists ≡ length self.old.lists }
+        ensures limit { self.new.limit ≡ self.old.limit }
+        ensures renamed { (list : ℕ) → AllZip (IsTransitionLed (F.post map.now)) (list_at self.old.lists list) (list_at self.new.lists list) }
+    {
+        rename_entries(&mut self.entries, map);
+    }
+
     /// An equal store, in memory of its own.
     ///
     /// # Errors
@@ -202,6 +224,7 @@ impl TransitionLists {
     {
         Ok(TransitionLists {
             entries: Vec::from_slice(alloc, &self.entries)?,
+            beside: self.beside,
             limit: self.limit,
         })
     }
@@ -218,6 +241,7 @@ impl TransitionLists {
         ensures unchanged { OnErr result (self.new ≡ self.old) }
     {
         let made = push_alone(&mut self.entries, self.limit, byte, next)?;
+        self.beside = beside_alone(self.beside, made);
         Ok(made)
     }
 }
@@ -265,8 +289,31 @@ impl<'t> Iterator for Transitions<'t> {
 impl<'t> FusedIterator for Transitions<'t> {}
 
 /// The place of the byte's entry in the list that ends at `last`; or, where it has none, the place of the entry that it
-/// would stand behind.
-fn place(entries: &[Transition], last: StateID, byte: u8) -> Result<StateID, StateID>
+/// would stand behind. A list of all bytes whose entries lie side by side is read by index.
+fn place(entries: &[Transition], beside: usize, last: StateID, byte: u8) -> Result<StateID, StateID>
+    requires rings { AreRings (transition_entries entries.now) (length entries.now) }
+    requires side_by_side { AreSideBySide (transition_entries entries.now) (length entries.now) beside }
+    requires within { last < length entries.now }
+    requires some { 0 < last }
+    requires ends { (transition_of entries.now (transition_of entries.now last).link).byte
+        ≤ (transition_of entries.now last).byte }
+    ensures found { IfOk result (IsOn (transition_entries entries.now) last byte) }
+    ensures absent { IfErr result (IsGapBehind (transition_entries entries.now) last byte) }
+    ensures inside { IfOk result (λ place. place < length entries.now) }
+    ensures inside_gap { IfErr result (λ place. place < length entries.now) }
+{
+    if last.as_usize() < beside {
+        let end = entry(entries, last);
+        let first = end.link.as_usize();
+        if first + 255 == last.as_usize() {
+            return Ok(StateID::new_unchecked(first + byte as usize));
+        }
+    }
+    walked_place(entries, last, byte)
+}
+
+/// The same, by a walk along the list.
+fn walked_place(entries: &[Transition], last: StateID, byte: u8) -> Result<StateID, StateID>
     requires rings { AreRings (transition_entries entries.now) (length entries.now) }
     requires within { last < length entries.now }
     requires some { 0 < last }
@@ -421,25 +468,12 @@ fn insert_behind(
     Ok(made)
 }
 
-/// An entry more for each byte, which lead to the same state: a list of their own.
-fn push_full(entries: &mut Vec<Transition>, limit: usize, next: StateID) -> Result<(), BuildError>
-    requires small { limit ≤ greatest_index }
-    requires room { length entries.old.items + 255 ≤ limit }
-    ensures pushed { OnOk result (entries.new.items
-        ≡ entries.old.items ++ full_entries (length entries.old.items) next) }
-    ensures kept { take (length entries.old.items) entries.new.items ≡ entries.old.items }
+/// Each entry leads to the state that the closure answers for the one to which it led.
+fn rename_entries<F: Fn(StateID) -> StateID>(entries: &mut Vec<Transition>, map: &F)
+    requires callable { F.IsAlwaysCallable map.now }
+    ensures renamed { AllZip (IsEntryLed (F.post map.now)) entries.old.items entries.new.items }
 {
-    let first = entries.len();
-    for byte in 0..255u8 {
-        let link = StateID::new_unchecked(first + byte as usize + 1);
-        push(entries, limit, byte, next, Some(link))?;
+    for transition in entries.iter_mut() {
+        transition.next = renamed(transition.next, map);
     }
-    push(
-        entries,
-        limit,
-        255,
-        next,
-        Some(StateID::new_unchecked(first)),
-    )?;
-    Ok(())
 }

@@ -30,6 +30,7 @@ pub enum Candidate {
 
 impl Candidate {
     /// Where the match starts, or may start; none where there is no match.
+    #[inline]
     pub fn into_option(self) -> Option<usize>
         ensures place { result ≡ place_of self }
     {
@@ -56,6 +57,7 @@ enum Searcher {
 
 impl Searcher {
     /// The first place of this part of a haystack at which it stops.
+    #[inline(never)]
     fn find(&self, part: &[u8]) -> Option<usize>
         ensures first { StopsFirst self.now part.now result }
     {
@@ -89,6 +91,7 @@ impl Prefilter {
     /// haystack's length; places are those of the haystack.
     ///
     /// It takes no memory.
+    #[inline]
     pub fn find_in(&self, haystack: &[u8], span: Span) -> Candidate
         requires ordered { span.start ≤ span.end }
         requires within { span.end ≤ length haystack.now }

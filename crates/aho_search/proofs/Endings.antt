@@ -192,6 +192,12 @@ module _ (p : Patterns) where
         let ends_sooner = apart (occurrence from at k) (occurs_at start from at at k least (omega arith) (omega arith) within below h) (omega arith) in
         omega (arith, ends_sooner))))
 
+    -- where nothing that occurs ends, none is listed
+    pub nothing_ends : (start at upto : ℕ) → at ≤ upto → at ≤ length haystack → ((m : Occurrence) → Occurs p No haystack start upto m → m.end ≡ at → ⊥) → occurrences_ending p haystack start at ≡ []
+    nothing_ends start at upto high within none =
+        flat_map-nothing (λ from. occurrences_at p haystack from at) start (at + 1 - start) (λ from least most.
+        nothing_at from at (λ k below h. none (occurrence from at k) (occurs_at start from at upto k least (omega arith) high within below h) refl))
+
 module _ {p : Patterns} {kind : MatchKind} {lengths : List ℕ} {held : Anchored → List ℕ → ℕ → Type 0} {list : ℕ → List ℕ} {dead starts : ℕ → Bool} (laws : Reads p kind lengths held list dead starts) (standard : kind ≡ Standard) where
   -- where the bytes from the start to here begin a pattern, all that ends here is listed
   begins_here : (haystack : List ℕ) (start at : ℕ) → begins_some p (slice_range haystack start at) ≡ true → ending p haystack start Yes at ≡ occurrences_ending p haystack start at
@@ -297,6 +303,11 @@ module _ {p : Patterns} {kind : MatchKind} {lengths : List ℕ} {held : Anchored
       by_anchored Yes is =
           listed_anchored search.haystack search.start at sid (omega (arith, s.after_start, s.before_place)) (omega (arith, s.in_span))
           (subst (λ (x : ℕ). held Yes (slice_range search.haystack x at) sid) (s.from_start is) (subst (λ (a : Anchored). held a (slice_range search.haystack s.origin at) sid) is s.is_held))
+
+  -- where it lists nothing, none is listed there
+  pub nothing_here : (valid : ℕ → Type 0) (search : Search) (sid at : ℕ) → search.end ≤ length search.haystack → StandsAt valid held p search sid at → list sid ≡ []
+      → ending p search.haystack search.start search.anchored at ≡ []
+  nothing_here valid search sid at within s nothing = sym (lists_here valid search sid at within s) ∙ ap (map (ended lengths at)) nothing
 
   -- where an anchored search is dead, nothing that is listed ends there or later
   pub dead_ends : (valid : ℕ → Type 0) (search : Search) (sid at end : ℕ) → search.end ≤ length search.haystack → search.anchored ≡ Yes → search.start < at → StandsAt valid held p search sid at → dead sid ≡ true

@@ -13,3 +13,5 @@ pub mod NextFinds
 pub mod RunsLeft
 -- a search that skips
 pub mod Skipping
+-- an overlapping search that skips
+pub mod Passed

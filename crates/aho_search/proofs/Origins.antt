@@ -50,27 +50,34 @@ module _ (p : Patterns) (haystack : List ℕ) (start origin end : ℕ) (le : sta
     best_sooner is_answer.0 (Some m) is_answer.1.within none is_answer.2,
   )
 
+  -- what the laws say of a start held at a place: what ends past it in a longer word starts there or later
+  abbrev Apart : ℕ → Type 0
+  Apart at = (v : List ℕ) (n : Occurrence) → Occurs p No (slice_range haystack origin at ++ v) 0 (length (slice_range haystack origin at ++ v)) n → length (slice_range haystack origin at) < n.end → length (slice_range haystack origin at) ≤ n.start
+
+  -- the same of the part from the origin on
+  pub starts_past : (at : ℕ) → origin ≤ at → at ≤ end → end ≤ length haystack → Apart at
+      → (n : Occurrence) → Occurs p No haystack origin end n → at < n.end → at ≤ n.start
+  starts_past at lt in_span within apart n here past =
+      let front : List ℕ = slice_range haystack origin at in
+      let rest : List ℕ = slice_range haystack at end in
+      let joined : slice_range haystack origin end ≡ front ++ rest = part_join haystack origin at end lt in_span in
+      let whole : length (front ++ rest) ≡ end - origin = sym (ap length joined) ∙ length_part haystack origin end within in
+      let apart_here = apart rest (moved_back origin n)
+      (subst (λ (x : ℕ). Occurs p No (front ++ rest) 0 x (moved_back origin n)) (sym whole)
+      (subst (λ (w : List ℕ). Occurs p No w 0 (end - origin) (moved_back origin n)) joined (into_part p No haystack origin end n here)))
+      (omega (arith, here.after_start, length_part haystack origin at (omega arith))) in
+      omega (arith, here.after_start, apart_here, length_part haystack origin at (omega arith))
+
   -- where nothing was found and the state is a start, nothing starts before the next candidate either
   pub skipped : (at next sid : ℕ) (held : Anchored → List ℕ → ℕ → Type 0) → origin ≤ at → at ≤ end → end ≤ length haystack
-      → NoneBefore origin
-      → ((v : List ℕ) (n : Occurrence) → Occurs p No (slice_range haystack origin at ++ v) 0 (length (slice_range haystack origin at ++ v)) n → length (slice_range haystack origin at) < n.end → length (slice_range haystack origin at) ≤ n.start)
+      → NoneBefore origin → Apart at
       → ((n : Occurrence) → Occurs p No haystack at end n → next ≤ n.start)
       → Standing p held No haystack origin at sid None
       → NoneBefore next
   skipped at next sid held lt in_span within none apart candidate stands n o =
       let late : origin ≤ n.start = none n o in
-      let here : Occurs p No haystack origin end n = occurs_later end n late o in
       elim (cases_lt at n.end) [
-        | inl past ↦
-            let front : List ℕ = slice_range haystack origin at in
-            let rest : List ℕ = slice_range haystack at end in
-            let joined : slice_range haystack origin end ≡ front ++ rest = part_join haystack origin at end lt in_span in
-            let whole : length (front ++ rest) ≡ end - origin = sym (ap length joined) ∙ length_part haystack origin end within in
-            let apart_here = apart rest (moved_back origin n)
-            (subst (λ (x : ℕ). Occurs p No (front ++ rest) 0 x (moved_back origin n)) (sym whole)
-            (subst (λ (w : List ℕ). Occurs p No w 0 (end - origin) (moved_back origin n)) joined (into_part p No haystack origin end n here)))
-            (omega (arith, length_part haystack origin at (omega arith))) in
-            candidate n (record { numbered = o.numbered; after_start = omega (arith, apart_here, length_part haystack origin at (omega arith)); before_end = o.before_end; sized = o.sized; same = o.same; admitted = λ x. cc })
+        | inl past ↦ candidate n (record { numbered = o.numbered; after_start = starts_past at lt in_span within apart n (occurs_later end n late o) past; before_end = o.before_end; sized = o.sized; same = o.same; admitted = λ x. cc })
         | inr ge ↦ absurd (none_here at sid held lt (omega arith) stands n (record { numbered = o.numbered; after_start = late; before_end = ge; sized = o.sized; same = o.same; admitted = λ x. cc }))
       ]
     where

@@ -1,5 +1,5 @@
 -- What is known of a later part of a span is known of the whole span: what a search keeps that skips.
-use Rattle.std.proofs.Common.{◌≡◌, ℕ, ◌+◌, ◌≤◌, Bool, true, false, List, [], length, subst, arith}
+use Rattle.std.proofs.Common.{◌≡◌, ℕ, ◌+◌, ◌≤◌, Bool, true, false, List, length, subst, arith}
 use Rattle.std.specs.Prelude.{Some, None, slice_range}
 use Rattle.aho_base.specs.declared.search.Anchored.{Anchored}
 use Rattle.aho_base.specs.declared.search.Anchored.TheVariants.{No}
@@ -54,12 +54,10 @@ pub waits_there : (p : Patterns) (kind : MatchKind) (lengths : List ℕ) (held :
     → Reads p kind lengths held list dead starts → (anchored : Anchored) → anchored ≡ No
     → (haystack : List ℕ) (start at end sid : ℕ) → start ≤ at → at ≤ end → end ≤ length haystack
     → Standing p held anchored haystack start at sid None → starts sid ≡ true
-    → held No [] sid × Carries p haystack start end at
+    → Carries p haystack start end at
 waits_there p kind lengths held list dead starts laws anchored unanchored haystack start at end sid lt in_span within stands is_start =
-    let here : Standing p held No haystack start at sid None = subst (λ (a : Anchored). Standing p held a haystack start at sid None) unanchored stands in (
-      laws.start_again (slice_range haystack start at) sid here.held_now is_start,
-      Carries-skipped p haystack start end start at sid kind lengths held list dead starts laws (omega arith) lt in_span within (λ m o. o.after_start) here is_start,
-    )
+    Carries-skipped p haystack start end start at sid kind lengths held list dead starts laws (omega arith) lt in_span within (λ m o. o.after_start)
+    (subst (λ (a : Anchored). Standing p held a haystack start at sid None) unanchored stands) is_start
 
 -- from an origin on, and then from a later place
 pub carried_on : (p : Patterns) (haystack : List ℕ) (start origin end at : ℕ) → start ≤ origin → NoneStartsBefore p haystack start end origin → Carries p haystack origin end at → Carries p haystack start end at

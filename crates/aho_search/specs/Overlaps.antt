@@ -1,5 +1,5 @@
 -- What the steps of an overlapping search promise.
-use Rattle.std.specs.Prelude.{◌≡◌, ℕ, ◌+◌, ◌-◌, ◌*◌, ◌<◌, min, Bool, false, List, [], ◌∷◌, length, Option, Some, None, Result, Ok, slice_get, slice_index}
+use Rattle.std.specs.Prelude.{◌≡◌, ℕ, ◌+◌, ◌-◌, ◌*◌, ◌<◌, ◌≤◌, min, Bool, false, List, [], ◌∷◌, length, Option, Some, None, Result, Ok, slice_get, slice_index}
 use Rattle.std.specs.Iterator.{YieldsThen}
 use Rattle.std.specs.List.{All}
 use Rattle.aho_base.specs.declared.error.MatchErrorKind.{MatchErrorKind}
@@ -25,6 +25,11 @@ NoneEnds p search from upto = (end : ℕ) → from < end → end < upto → list
 abbrev pub WalksOn : (ℕ → Type 0) → (Anchored → List ℕ → ℕ → Type 0) → Patterns → Search → ℕ → Option (ℕ × ℕ) → Type 0
 WalksOn valid held p search at None = NoneEnds p search at (search.end + 1)
 WalksOn valid held p search at (Some (sid, place)) = (at < place) × StandsAt valid held p search sid place × NoneEnds p search at place
+
+-- nor on the way to where it skips, with the same state
+abbrev pub SkipsTo : (ℕ → Type 0) → (Anchored → List ℕ → ℕ → Type 0) → Patterns → Search → ℕ → ℕ → Option ℕ → Type 0
+SkipsTo valid held p search sid at None = NoneEnds p search at (search.end + 1)
+SkipsTo valid held p search sid at (Some place) = (at ≤ place) × StandsAt valid held p search sid place × NoneEnds p search at (place + 1)
 
 -- an anchored search ends in a dead state; any other goes on
 abbrev pub ends_at : Anchored → Bool → Bool

@@ -1,5 +1,5 @@
 -- How a walk ends that may wait for a candidate. An answer waits for nothing, and a walk that waits has no answer yet.
-use Rattle.std.specs.Prelude.{◌≡◌, ℕ, ◌<◌, ◌≤◌, List, [], true, Bool}
+use Rattle.std.specs.Prelude.{◌≡◌, ℕ, ◌<◌, ◌≤◌, List, true, Bool}
 use Rattle.aho_base.specs.Answer.{IsAnswer}
 use Rattle.aho_base.specs.Patterns.{Patterns}
 use Rattle.aho_base.specs.Search.{Search}
@@ -14,23 +14,19 @@ Carries p haystack start end at = (place : ℕ) → NoneStartsBefore p haystack 
 -- an answer is that of the search
 abbrev pub AnswersSearch : Patterns → Search → Walked → Type 0
 AnswersSearch p search (Answer m) = IsAnswer p search m
-AnswersSearch p search (Waits at sid) = Unit {0}
+AnswersSearch p search (Waits at) = Unit {0}
 
 -- it waits only where it may
 abbrev pub WaitsOnlyIf : Bool → Walked → Type 0
 WaitsOnlyIf may_wait (Answer m) = Unit {0}
-WaitsOnlyIf may_wait (Waits at sid) = may_wait ≡ true
+WaitsOnlyIf may_wait (Waits at) = may_wait ≡ true
 
--- it waits in a start at a place past the span's start
+-- it waits at a place past the span's start
 abbrev pub WaitsWithin : ℕ → ℕ → ℕ → Walked → Type 0
 WaitsWithin start end next (Answer m) = Unit {0}
-WaitsWithin start end next (Waits at sid) = (start < at) × (at ≤ end) × (next ≡ at)
-
-abbrev pub WaitsIn : (ℕ → Type 0) → (ℕ → Bool) → Walked → Type 0
-WaitsIn valid starts (Answer m) = Unit {0}
-WaitsIn valid starts (Waits at sid) = valid sid × (starts sid ≡ true)
+WaitsWithin start end next (Waits at) = (start < at) × (at ≤ end) × (next ≡ at)
 
 -- and there the search goes on as if it began there
-abbrev pub WaitsFor : Patterns → (List ℕ → ℕ → Type 0) → List ℕ → ℕ → ℕ → Walked → Type 0
-WaitsFor p held haystack start end (Answer m) = Unit {0}
-WaitsFor p held haystack start end (Waits at sid) = held [] sid × Carries p haystack start end at
+abbrev pub WaitsFor : Patterns → List ℕ → ℕ → ℕ → Walked → Type 0
+WaitsFor p haystack start end (Answer m) = Unit {0}
+WaitsFor p haystack start end (Waits at) = Carries p haystack start end at

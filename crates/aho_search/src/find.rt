@@ -47,7 +47,7 @@ ghost use Rattle.aho_base.specs.declared.error.MatchErrorKind.{MatchErrorKind};
 ghost use Rattle.aho_base.specs.declared.search.Anchored.TheVariants.{No, Yes};
 ghost use Rattle.aho_prefilter.specs.Candidate.{IsCandidate};
 ghost use Rattle.aho_search.specs.Reading.{ReadsUpTo};
-ghost use Rattle.aho_search.specs.Walked.{AnswersSearch, WaitsFor, WaitsIn, WaitsOnlyIf, WaitsWithin};
+ghost use Rattle.aho_search.specs.Walked.{AnswersSearch, WaitsFor, WaitsOnlyIf, WaitsWithin};
 ghost use Rattle.aho_search.specs.declared.find.Walked.TheVariants.{Answer};
 
 use crate::walk::Walk;
@@ -103,8 +103,8 @@ fn stops_at_first<W: Walk>(walk: &W, earliest: bool) -> bool
 enum Walked {
     /// With the search's answer.
     Answer(Option<Match>),
-    /// At a place where a start is held and nothing was found: with the place and the start.
-    Waits(usize, StateID),
+    /// At this place, where a start is held and nothing was found.
+    Waits(usize),
 }
 
 /// Whether a walk that may wait waits in a state.
@@ -120,6 +120,7 @@ fn waits_in<W: Walk>(walk: &W, may_wait: bool, best: &Option<Match>, sid: StateI
 ///
 /// Where it may wait, it ends in the first start that it is led to with nothing found. The clauses on its answer are those of
 /// `find_in`, which says what they mean.
+#[inline(always)]
 fn find_from<W: Walk, T: Text>(
     walk: &mut W,
     text: &mut T,
@@ -144,9 +145,8 @@ fn find_from<W: Walk, T: Text>(
     ensures forward { T.next text.old ≤ T.next text.new }
     ensures may_wait { WaitsOnlyIf may_wait result }
     ensures waits_within { WaitsWithin span.start span.end (T.next text.new) result }
-    ensures waits_in { WaitsIn (W.Of.valid (W.of walk.old)) (W.Of.starts (W.of walk.old)) result }
     ensures waits_for { (p : Patterns) → W.Of.is_of (W.of walk.old) p →
-        WaitsFor p (W.Of.held (W.of walk.old) p No) (T.bytes text.old) span.start span.end result }
+        WaitsFor p (T.bytes text.old) span.start span.end result }
     ensures same_walk { W.of walk.new ≡ W.of walk.old }
     ensures same_text { T.bytes text.new ≡ T.bytes text.old }
     ensures cost { W.lookups walk.new ≤ W.lookups walk.old + 2 * (T.next text.new - span.start) }
@@ -177,7 +177,7 @@ fn find_from<W: Walk, T: Text>(
                     return Walked::Answer(best);
                 }
             } else if waits_in(walk, may_wait, &best, sid) {
-                return Walked::Waits(at + 1, sid);
+                return Walked::Waits(at + 1);
             }
         }
     }
@@ -206,14 +206,17 @@ fn candidate_in<W: Walk, T: Text>(walk: &W, text: &T, span: Span) -> Candidate
     }
 }
 
-/// How many candidates that bring it no further a search asks for.
-const PATIENCE: usize = 32;
+/// What a candidate costs, in bytes: to ask for it takes about as long as to walk over two of them.
+const COST: usize = 2;
 
-/// What is left of a search's patience after a candidate that lies so many bytes further: it costs one, and each of these
-/// bytes gives one back. Once there is none the walk waits no more, since where candidates are dense asking for them costs
-/// more than walking. So a search asks for no more candidates than it skips bytes, and for these few.
-fn patience_after(patience: usize, skipped: usize) -> usize {
-    patience.saturating_add(skipped).saturating_sub(1)
+/// The patience with which a search begins: it asks for 32 candidates that bring it no further.
+pub(crate) const PATIENCE: usize = 32 * COST;
+
+/// What is left of a search's patience after a candidate that lies so many bytes further: each of these bytes gives one back.
+/// Once there is none the walk waits no more, since where candidates are dense asking for them costs more than walking. So a
+/// search asks for no more candidates than half of the bytes that it skips, and for these few.
+pub(crate) fn patience_after(patience: usize, skipped: usize) -> usize {
+    patience.wrapping_add(skipped).saturating_sub(COST)
 }
 
 /// What an unanchored search answers that skips to the next candidate at its beginning and wherever its walk waits, as long
@@ -225,7 +228,7 @@ fn find_skipping<W: Walk, T: Text>(
     text: &mut T,
     span: Span,
     earliest: bool,
-    mut sid: StateID,
+    sid: StateID,
 ) -> Option<Match>
     requires held { IsSome (W.Of.prefilter (W.of walk.old)) }
     requires within { span.end ≤ length (T.bytes text.old) }
@@ -261,14 +264,11 @@ fn find_skipping<W: Walk, T: Text>(
         let Some(origin) = candidate.into_option() else {
             return None;
         };
-        patience = patience_after(patience, origin.saturating_sub(at));
+        patience = patience_after(patience, origin.wrapping_sub(at));
         let (part, may_wait) = (Span { start: origin, end }, patience > 0);
         match find_from(walk, text, part, Anchored::No, earliest, may_wait, sid) {
             Walked::Answer(found) => return found,
-            Walked::Waits(place, next) => {
-                at = place;
-                sid = next;
-            }
+            Walked::Waits(place) => at = place,
         }
     }
 }
@@ -336,6 +336,6 @@ pub fn find_in<W: Walk, T: Text>(
     }
     match find_from(walk, text, span, anchored, earliest, false, sid) {
         Walked::Answer(found) => Ok(found),
-        Walked::Waits(_, _) => unreachable!(),
+        Walked::Waits(_) => unreachable!(),
     }
 }

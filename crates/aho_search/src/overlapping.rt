@@ -12,11 +12,14 @@
 //! - Where the state lists one more pattern, that is the next match. Patterns that end together are read off the list
 //!   by their index, so a list costs time in proportion to its length, and no byte is read again.
 //! - Else it walks to the next state that lists a pattern, and gives the first of them.
+//! - Unanchored, and where the automaton holds a prefilter, it asks for a candidate in each start that lists nothing, at its
+//!   beginning too: whatever ends later starts there or later, so the next candidate is where the walk goes on from, in the
+//!   same state. Each call asks as long as a search for one match does (`patience_after`).
 //! - An anchored search ends at a dead state: from there on the bytes begin no pattern. Any other search walks to the
 //!   end of its span, for the laws say of a dead state that the best match stays, and not that none ends later.
 
 ghost use Rattle.std.specs.Iterator.{at_most};
-ghost use Rattle.std.specs.Prelude.{◌≡◌, ◌≢◌, ℕ, ◌+◌, ◌<◌, ◌≤◌, ◌^◌, min, IsOk, IfOk, IfErr, IfSome, Ok, Err, None, Some, length, slice_get, slice_index};
+ghost use Rattle.std.specs.Prelude.{◌≡◌, ◌≢◌, ℕ, [], true, false, ◌+◌, ◌<◌, ◌≤◌, ◌^◌, min, IsOk, IfOk, IfErr, IfSome, Ok, Err, None, Some, length, slice_get, slice_index};
 ghost use Rattle.aho_base.specs.Impls.{ClonesTheSame};
 ghost use Rattle.aho_base.specs.Laws.{Fits};
 ghost use Rattle.aho_base.specs.Overlapping.{overlapping};
@@ -24,12 +27,15 @@ ghost use Rattle.aho_base.specs.Patterns.{Patterns};
 ghost use Rattle.aho_base.specs.Progress.{FitsFrom, FitsSearch, IsPartWay, StandsAt, fresh, without_match};
 ghost use Rattle.aho_base.specs.declared.error.MatchErrorKind.{MatchErrorKind};
 ghost use Rattle.aho_base.specs.declared.error.MatchErrorKind.TheVariants.{UnsupportedOverlapping};
+ghost use Rattle.aho_base.specs.declared.search.Anchored.TheVariants.{No};
 ghost use Rattle.aho_base.specs.declared.search.MatchKind.TheVariants.{Standard};
-ghost use Rattle.aho_search.specs.Overlaps.{CanGive, GivesNext, WalksOn, ended, ends_at, left, left_at};
+ghost use Rattle.aho_search.specs.Overlaps.{CanGive, GivesNext, SkipsTo, WalksOn, ended, ends_at, left, left_at};
 
 use crate::automaton::Automaton;
+use crate::find::{PATIENCE, patience_after};
 use aho_base::error::MatchError;
 use aho_base::search::{Anchored, Input, Match, MatchKind, Span, StateID};
+use aho_prefilter::prefilter::Prefilter;
 use std::iter::FusedIterator;
 use std::marker::Model;
 
@@ -107,12 +113,23 @@ fn has_ended<A: Automaton>(automaton: &A, anchored: Anchored, sid: StateID) -> b
     }
 }
 
-/// The next state that lists a pattern, with the place where it is held; none where the span ends first.
-fn walk_on<A: Automaton>(
+/// Whether a walk stops in a state: where a pattern is listed and, if it may wait, in a start.
+fn stops_in<A: Automaton>(automaton: &A, may_wait: bool, sid: StateID) -> bool
+    requires valid { A.valid automaton.now sid }
+    ensures lists { result ≡ true → may_wait ≡ false → 0 < length (A.list automaton.now sid) }
+    ensures goes_on { result ≡ false → A.list automaton.now sid ≡ [] }
+{
+    automaton.match_len(sid) > 0 || (may_wait && automaton.is_start(sid))
+}
+
+/// The next state that lists a pattern or, for a walk that may wait, that is a start, with the place where it is held; none
+/// where no more ends in the span.
+fn walk_to<A: Automaton>(
     automaton: &A,
     input: &Input<'_>,
     sid: StateID,
     at: usize,
+    may_wait: bool,
 ) -> Option<(StateID, usize)>
     requires standard { A.kind automaton.now ≡ Standard }
     requires stands { (p : Patterns) × A.is_of automaton.now p
@@ -120,7 +137,8 @@ fn walk_on<A: Automaton>(
     ensures walks { (p : Patterns) → A.is_of automaton.now p
         → StandsAt (A.valid automaton.now) (A.held automaton.now p) p input.now sid at
         → WalksOn (A.valid automaton.now) (A.held automaton.now p) p input.now at result }
-    ensures lists { IfSome result (λ next. 0 < length (A.list automaton.now next.0)) }
+    ensures lists { may_wait ≡ false
+        → IfSome result (λ next. 0 < length (A.list automaton.now next.0)) }
 {
     let haystack = input.haystack();
     let anchored = input.get_anchored();
@@ -128,7 +146,7 @@ fn walk_on<A: Automaton>(
     for place in at..input.end() {
         sid = automaton.next_state(anchored, sid, haystack[place]);
         if automaton.is_special(sid) {
-            if automaton.match_len(sid) > 0 {
+            if stops_in(automaton, may_wait, sid) {
                 return Some((sid, place + 1));
             }
             if has_ended(automaton, anchored, sid) {
@@ -137,6 +155,93 @@ fn walk_on<A: Automaton>(
         }
     }
     None
+}
+
+/// The prefilter by which a search skips as long as it has patience: no anchored one does.
+fn skips_by<A: Automaton>(automaton: &A, anchored: Anchored, patience: usize) -> Option<&Prefilter>
+    ensures held { IfSome result (λ held. A.prefilter automaton.now ≡ Some held.now) }
+    ensures unanchored { IfSome result (λ held. anchored ≡ No) }
+{
+    match anchored {
+        Anchored::No if patience > 0 => automaton.prefilter(),
+        Anchored::No | Anchored::Yes => None,
+    }
+}
+
+/// Whether a search may skip from a state: from a start that lists nothing.
+fn may_skip<A: Automaton>(automaton: &A, sid: StateID) -> bool
+    requires valid { A.valid automaton.now sid }
+    ensures starts { result ≡ true → A.starts automaton.now sid ≡ true }
+    ensures lists_none { result ≡ true → A.list automaton.now sid ≡ [] }
+{
+    automaton.is_start(sid) && automaton.match_len(sid) == 0
+}
+
+/// From where on the walk has to go: from the next candidate, if there is a prefilter and the state is one to skip from; none
+/// where no more ends in the span.
+fn next_origin<A: Automaton>(
+    automaton: &A,
+    input: &Input<'_>,
+    prefilter: Option<&Prefilter>,
+    sid: StateID,
+    at: usize,
+) -> Option<usize>
+    requires standard { A.kind automaton.now ≡ Standard }
+    requires stands { (p : Patterns) × A.is_of automaton.now p
+        × StandsAt (A.valid automaton.now) (A.held automaton.now p) p input.now sid at }
+    requires held { IfSome prefilter (λ held. A.prefilter automaton.now ≡ Some held.now) }
+    requires unanchored { IfSome prefilter (λ held. input.now.anchored ≡ No) }
+    ensures skips { (p : Patterns) → A.is_of automaton.now p
+        → StandsAt (A.valid automaton.now) (A.held automaton.now p) p input.now sid at
+        → SkipsTo (A.valid automaton.now) (A.held automaton.now p) p input.now sid at result }
+{
+    let Some(prefilter) = prefilter else {
+        return Some(at);
+    };
+    if !may_skip(automaton, sid) {
+        return Some(at);
+    }
+    let rest = Span {
+        start: at,
+        end: input.end(),
+    };
+    prefilter.find_in(input.haystack(), rest).into_option()
+}
+
+/// The next state that lists a pattern, with the place where it is held; none where no more ends in the span. Unanchored it
+/// skips by the automaton's prefilter, as long as its patience lasts.
+fn walk_on<A: Automaton>(
+    automaton: &A,
+    input: &Input<'_>,
+    sid: StateID,
+    at: usize,
+) -> Option<(StateID, usize)>
+    requires standard { A.kind automaton.now ≡ Standard }
+    requires within { input.now.end ≤ length input.now.haystack }
+    requires stands { (p : Patterns) × A.is_of automaton.now p
+        × StandsAt (A.valid automaton.now) (A.held automaton.now p) p input.now sid at }
+    ensures walks { (p : Patterns) → A.is_of automaton.now p
+        → StandsAt (A.valid automaton.now) (A.held automaton.now p) p input.now sid at
+        → WalksOn (A.valid automaton.now) (A.held automaton.now p) p input.now at result }
+    ensures lists { IfSome result (λ next. 0 < length (A.list automaton.now next.0)) }
+{
+    let (mut sid, mut at) = (sid, at);
+    let mut patience = PATIENCE;
+    'skips: loop {
+        let prefilter = skips_by(automaton, input.get_anchored(), patience);
+        let Some(origin) = next_origin(automaton, input, prefilter, sid, at) else {
+            return None;
+        };
+        patience = patience_after(patience, origin.wrapping_sub(at));
+        let Some((next, place)) = walk_to(automaton, input, sid, origin, prefilter.is_some()) else {
+            return None;
+        };
+        if automaton.match_len(next) > 0 {
+            return Some((next, place));
+        }
+        sid = next;
+        at = place;
+    }
 }
 
 /// The state with the match of a listed pattern.

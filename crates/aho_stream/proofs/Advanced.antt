@@ -1,6 +1,6 @@
 -- What a call has read, and what its answer tells.
-use Rattle.std.proofs.Common.{◌≡◌, ℕ, ◌≤◌, ◌⊎◌, inl, inr, Bool, true, false, List, [], ◌++◌, length, refl, sym, ◌∙◌, ap, subst, arith, append_assoc, append-nil}
-use Rattle.std.specs.Prelude.{Option, None, Result, Err}
+use Rattle.std.proofs.Common.{◌≡◌, ◌≢◌, ℕ, ◌≤◌, ◌⊎◌, inl, inr, Bool, true, false, List, [], ◌++◌, length, refl, sym, ◌∙◌, ap, subst, arith, append_assoc, append-nil}
+use Rattle.std.specs.Prelude.{OnErr, Option, None, Result, Ok, Err}
 use Rattle.std.specs.Io.KnownBytes.{Consumes}
 use Rattle.std.proofs.KnownBytes.{Consumes-nil, Consumes-trans}
 use Rattle.aho_base.specs.Patterns.{Patterns}
@@ -9,14 +9,15 @@ use Rattle.aho_base.specs.declared.error.stream.StreamError.TheVariants.{Match a
 use Rattle.aho_base.specs.Laws.{BestAfter}
 use Rattle.aho_base.specs.declared.search.Anchored.{Anchored}
 use Rattle.aho_base.specs.declared.search.Anchored.TheVariants.{No}
+use Rattle.aho_base.specs.declared.search.MatchKind.TheVariants.{Standard}
 use Rattle.aho_devices.specs.Counts.{counted}
 use Rattle.aho_devices.specs.Refusals.{IsFillRefusal}
 use Rattle.aho_stream.specs.After.{IsAfter, word_of}
-use Rattle.aho_stream.specs.Chunks.{Advances, Reads, Tells, TellsEnd, TellsError, TellsFault, TellsNone, ends_between}
+use Rattle.aho_stream.specs.Chunks.{Advances, DiesAt, Reads, Tells, TellsEnd, TellsError, TellsFault, TellsNone, ends_between}
 use Rattle.aho_stream.specs.Refills.{is_limit}
 use Rattle.aho_stream.specs.declared.progress.Progress.{Progress}
 use Rattle.aho_stream.specs.declared.progress.StreamPiece.{StreamPiece}
-use Rattle.aho_stream.proofs.NextMatches.{nothing_found}
+use Rattle.aho_stream.proofs.NextMatches.{found_at_end}
 
 -- nothing was told since
 pub record IsUntold (s t : Progress) : Type 0 where
@@ -79,25 +80,31 @@ module _ (IsOf : Patterns → Type 0) (After : Patterns → ℕ → Progress →
     tells = λ p given of a. tells p (given ++ r.bytes) of (r.is_after p given of a);
   }
 
--- nothing occurs in what was given, and all of it was walked
+-- nothing that is still to be told occurs in what was given, and all of it was walked
 pub end_told : (p : Patterns) (lengths : List ℕ) (valid : ℕ → Type 0) (held : Anchored → List ℕ → ℕ → Type 0) (depth : ℕ → ℕ) (lookups : ℕ) (s s' : Progress) (given : List ℕ)
-    → IsAfter p lengths valid held depth lookups s' given → s'.in_hand ≡ None → s'.walked ≡ s'.read → TellsNone s s'
+    → IsAfter p lengths valid held depth lookups s' given → ((p.kind ≡ Standard) ⊎ (s'.ended ≡ true) → s'.in_hand ≡ None) → s'.walked ≡ s'.read → TellsNone s s'
     → ((s'.ended ≡ true) × (s'.read ≤ s'.reported)) ⊎ (s.refused ≡ true) → TellsEnd p s s' given
 end_told p lengths valid held depth lookups s s' given a free walked still over = record {
-  none = nothing_found p given s'.from s'.walked (omega (arith, a.from_reported, a.reported_walked)) (walked ∙ a.count) (subst (BestAfter p No (word_of s' given)) free a.best_is);
+  none = λ why. found_at_end p given s'.from s'.walked None (omega (arith, a.from_reported, a.reported_walked)) (walked ∙ a.count) (subst (BestAfter p No (word_of s' given)) (free why) a.best_is);
   over = elim over [ inl (ended, all) ↦ inl (ended, omega (arith, all, a.reported_walked, a.walked_read, a.count)) | inr refused ↦ inr refused ];
   still = still;
 }
 
 -- a refill that was refused tells a fault, and nothing more
-pub error_told : (s s' : Progress) (given : List ℕ) (error : StreamError) → IsFillRefusal error → TellsFault s s' given
-    → (is_limit {A = Unit {0}} (Err error) ≡ true → (length given ≡ s.limit) × (s'.refused ≡ true)) → s.refused ≡ false → TellsError s s' given error
-error_told s s' given (Refused cause) only fault limit first = absurd only
-error_told s s' given (ReadFault reason) only fault limit first = fault
-error_told s s' given (Write reason) only fault limit first = absurd only
-error_told s s' given WriteZero only fault limit first = absurd only
-error_told s s' given Memory only fault limit first = absurd only
-error_told s s' given PositionLimit only fault limit first = record { fault = fault; reached = (limit refl).0; first = first; refused = (limit refl).1 }
+pub error_told : (p : Patterns) (s s' : Progress) (given : List ℕ) (error : StreamError) → IsFillRefusal error → TellsFault s s' given
+    → (is_limit {A = Unit {0}} (Err error) ≡ true → (length given ≡ s.limit) × (s'.refused ≡ true)) → s.refused ≡ false
+    → (is_limit {A = Unit {0}} (Err error) ≡ true → p.kind ≢ Standard → (place : ℕ) → DiesAt p given s'.from place → ⊥) → TellsError p s s' given error
+error_told p s s' given (Refused cause) only fault limit first lives = absurd only
+error_told p s s' given (ReadFault reason) only fault limit first lives = fault
+error_told p s s' given (Write reason) only fault limit first lives = absurd only
+error_told p s s' given WriteZero only fault limit first lives = absurd only
+error_told p s s' given Memory only fault limit first lives = absurd only
+error_told p s s' given PositionLimit only fault limit first lives = record { fault = fault; unsettled = lives refl; reached = (limit refl).0; first = first; refused = (limit refl).1 }
+
+-- the limit is a refusal
+pub of_limit : {P : Type 0} (answer : Result (Unit {0}) StreamError) → OnErr answer P → is_limit answer ≡ true → P
+of_limit (Ok x) says limit = cc
+of_limit (Err error) says limit = says
 
 -- no end was seen where it was seen before, or not since
 pub counted_same : (ended : Bool) (count : ℕ) → count ≡ counted (ends_between ended ended) count

@@ -1,33 +1,46 @@
 -- How each move of an iterator over a stream keeps what is known of how far it has come.
 use Rattle.std.proofs.Common.{◌≡◌, ℕ, ◌+◌, ◌-◌, ◌*◌, ◌^◌, ◌<◌, ◌≤◌, inl, inr, Bool, true, false, List, [], ◌++◌, length, take, map, refl, sym, ◌∙◌, ap, subst, arith, append_assoc, length-append}
-use Rattle.std.specs.Prelude.{Option, Some, None, slice_range}
+use Rattle.std.specs.Prelude.{Option, Some, None, IfSome, slice_range}
 use Rattle.aho_base.specs.Answer.{IsAnswer}
-use Rattle.aho_base.specs.Laws.{BestAfter, shortest}
+use Rattle.aho_base.specs.Laws.{BestAfter, longest, shortest}
 use Rattle.aho_base.specs.Occurrence.{Occurrence}
 use Rattle.aho_base.specs.Patterns.{Patterns}
 use Rattle.aho_base.specs.declared.search.Anchored.{Anchored}
 use Rattle.aho_base.specs.declared.search.Anchored.TheVariants.{No}
 use Rattle.aho_base.specs.declared.search.MatchKind.TheVariants.{Standard}
 use Rattle.aho_devices.specs.Buffer.{Buffered}
-use Rattle.aho_search.proofs.Places.{moved, no_part, part_join, part_of_part}
+use Rattle.std.proofs.Math.Nat.{le-mul_of_pos_right}
+use Rattle.aho_search.proofs.Places.{length_part, no_part, part_join, part_of_part}
 use Rattle.aho_stream.specs.After.{IsAfter, IsInHand, MayFollow, kept_for, search_from, word_of}
 use Rattle.aho_stream.specs.Refills.{Refills}
+use Rattle.aho_stream.specs.Walking.{WalksOn}
 use Rattle.aho_stream.specs.declared.progress.Progress.{Progress}
+use Rattle.aho_stream.specs.declared.walk.Walked.{Walked}
 use Rattle.aho_stream.proofs.GivenBytes.{part_stays}
-use Rattle.aho_stream.proofs.NextMatches.{MayFollow-nothing, found_first, none_in_nothing}
+use Rattle.aho_stream.proofs.NextMatches.{none_in_nothing}
+use Rattle.aho_stream.proofs.PatternLengths.{occurs_some}
+
+-- what a match of some bytes pays for
+more_paid : (most from end : ℕ) → 1 ≤ end → most * from + most ≤ most * (from + end)
+more_paid most from end some = omega (arith, le-mul_of_pos_right most some)
 
 module _ (p : Patterns) (lengths : List ℕ) (valid : ℕ → Type 0) (held : Anchored → List ℕ → ℕ → Type 0) (depth : ℕ → ℕ) where
   abbrev After : ℕ → Progress → List ℕ → Type 0
   After lookups s given = IsAfter p lengths valid held depth lookups s given
 
+  -- a match stays in hand where the walk stays
+  in_hand_same : (s t : Progress) → t.from ≡ s.from → t.walked ≡ s.walked → (found : Option Occurrence) → IsInHand p.kind (longest lengths) s found → IsInHand p.kind (longest lengths) t found
+  in_hand_same s t from walked None i = tt
+  in_hand_same s t from walked (Some m) i = (omega (arith, i.0, from, walked), omega (arith, i.1, from, walked), λ standard. omega (arith, i.2 standard, from, walked))
+
   -- before the first byte
   pub after_made : (lookups : ℕ) (buffer : Buffered) (start limit : ℕ) → lookups ≡ 0 → lengths ≡ map length p.words
-      → p.kind ≡ Standard → 1 ≤ shortest lengths → valid start → depth start ≡ 0 → held No [] start
+      → 1 ≤ shortest lengths → longest lengths < 2 ^ 64 → valid start → depth start ≡ 0 → held No [] start
       → limit < 2 ^ 63 → buffer.least ≡ kept_for lengths → buffer.bytes ≡ []
       → After lookups (record { buffer = buffer; read = 0; limit = limit; from = 0; told = 0; reported = 0; walked = 0; position = 0; sid = start; start = start; in_hand = None; ended = false; refused = false }) []
-  after_made lookups buffer start limit none are standard no_empty is_state shallow is_held bounded least empty = record {
-    standard = standard;
+  after_made lookups buffer start limit none are no_empty sized is_state shallow is_held bounded least empty = record {
     no_empty = no_empty;
+    sized = sized;
     start_is = is_state;
     start_shallow = shallow;
     start_held = is_held;
@@ -41,7 +54,8 @@ module _ (p : Patterns) (lengths : List ℕ) (valid : ℕ → Type 0) (held : An
     from_reported = omega arith;
     reported_walked = omega arith;
     walked_read = omega arith;
-    position = refl;
+    position = omega arith;
+    once = λ standard. refl;
     paid = omega (arith, none, shallow);
     is_state = is_state;
     held_is = subst (λ (w : List ℕ). held No w start) (sym (no_part [] 0)) is_held;
@@ -54,8 +68,8 @@ module _ (p : Patterns) (lengths : List ℕ) (valid : ℕ → Type 0) (held : An
   -- the last chunk is let go
   pub after_told : (lookups : ℕ) (s : Progress) (given : List ℕ) → After lookups s given → After lookups (record s { told = s.reported }) given
   after_told lookups s given a = record {
-    standard = a.standard;
     no_empty = a.no_empty;
+    sized = a.sized;
     start_is = a.start_is;
     start_shallow = a.start_shallow;
     start_held = a.start_held;
@@ -70,18 +84,15 @@ module _ (p : Patterns) (lengths : List ℕ) (valid : ℕ → Type 0) (held : An
     reported_walked = a.reported_walked;
     walked_read = a.walked_read;
     position = a.position;
+    once = a.once;
     paid = a.paid;
     is_state = a.is_state;
     held_is = a.held_is;
     best_is = a.best_is;
-    in_hand_is = in_hand_told s s.in_hand a.in_hand_is;
+    in_hand_is = in_hand_same s (record s { told = s.reported }) refl refl s.in_hand a.in_hand_is;
     clear = a.clear;
     stopped = a.stopped;
   }
-    where
-      in_hand_told : (s : Progress) (found : Option Occurrence) → IsInHand s found → IsInHand (record s { told = s.reported }) found
-      in_hand_told s None i = tt
-      in_hand_told s (Some m) i = i
 
   -- what was walked, after some bytes more
   word_more : (s : Progress) (given : List ℕ) (count : ℕ) → s.from ≤ s.walked → s.walked + count ≤ s.read → s.read ≤ length given
@@ -92,30 +103,20 @@ module _ (p : Patterns) (lengths : List ℕ) (valid : ℕ → Type 0) (held : An
       (sym (part_of_part given s.walked s.read 0 count s.walked (s.walked + count) (omega arith) (omega arith) (omega arith) within)
       ∙ (let same : count - 0 ≡ count = omega arith in ap (λ (n : ℕ). take n (slice_range given s.walked s.read)) same))
 
-  -- a match that was found is in hand
-  found_in_hand : (s : Progress) (given : List ℕ) (walked : ℕ) (found : Option Occurrence)
-      → ((m : Occurrence) → found ≡ Some m → s.from + m.end ≡ walked) → ((m : Occurrence) → found ≡ Some m → s.reported ≤ s.from + m.start)
-      → (s.from + 0 ≤ walked) → (t : Progress) → t.from ≡ s.from → t.walked ≡ walked → t.reported ≡ s.reported → IsInHand t found
-  found_in_hand s given walked None ends clear some t from_is walked_is reported_is = tt
-  found_in_hand s given walked (Some m) ends clear some t from_is walked_is reported_is =
-      (omega (arith, ends m refl, from_is, walked_is), omega (arith, clear m refl, from_is, reported_is))
-
   -- the walk went on
-  pub after_walked : (lookups lookups' : ℕ) (s : Progress) (given : List ℕ) (count sid : ℕ) (found : Option Occurrence)
-      → After lookups s given → s.in_hand ≡ None → s.refused ≡ false
-      → s.walked + count ≤ s.read → valid sid → lookups' + depth sid ≤ lookups + depth s.sid + 2 * count
-      → held No (word_of s given ++ take count (slice_range given s.walked s.read)) sid
-      → BestAfter p No (word_of s given ++ take count (slice_range given s.walked s.read)) found
-      → ((m : Occurrence) → found ≡ Some m → s.from + m.end ≡ s.walked + count)
-      → After lookups' (record s { walked = s.walked + count; position = s.position + count; sid = sid; in_hand = found }) given
-  after_walked lookups lookups' s given count sid found a free unrefused within is_state paid is_held is_best ends =
+  pub after_walked : (lookups lookups' : ℕ) (s : Progress) (given : List ℕ) (walked : Walked)
+      → After lookups s given → s.refused ≡ false
+      → s.walked + walked.count ≤ s.read → valid walked.sid → lookups' + depth walked.sid ≤ lookups + depth s.sid + 2 * walked.count
+      → WalksOn p lengths held (word_of s given) (slice_range given s.walked s.read) walked
+      → After lookups' (record s { walked = s.walked + walked.count; position = s.position + walked.count; sid = walked.sid; in_hand = walked.found }) given
+  after_walked lookups lookups' s given walked a unrefused within is_state paid walks =
       let ordered : s.from ≤ s.walked = omega (arith, a.from_reported, a.reported_walked) in
       let all : s.read ≤ length given = omega (arith, a.count) in
-      let more = word_more s given count ordered within all in
-      let best = subst (λ (w : List ℕ). BestAfter p No w found) (sym more) is_best in
+      let more = word_more s given walked.count ordered within all in
+      let best = subst (λ (w : List ℕ). BestAfter p No w walked.found) (sym more) walks.best_is in
       record {
-        standard = a.standard;
         no_empty = a.no_empty;
+        sized = a.sized;
         start_is = a.start_is;
         start_shallow = a.start_shallow;
         start_held = a.start_held;
@@ -130,26 +131,39 @@ module _ (p : Patterns) (lengths : List ℕ) (valid : ℕ → Type 0) (held : An
         reported_walked = omega (arith, a.reported_walked);
         walked_read = within;
         position = omega (arith, a.position);
+        once = λ standard. omega (arith, a.once standard);
         paid = omega (arith, paid, a.paid);
         is_state = is_state;
-        held_is = subst (λ (w : List ℕ). held No w sid) (sym more) is_held;
+        held_is = subst (λ (w : List ℕ). held No w walked.sid) (sym more) walks.held_is;
         best_is = best;
-        in_hand_is = found_in_hand s given (s.walked + count) found ends (λ m e.
-            a.clear [] (moved s.from m) (MayFollow-nothing s.ended)
-            (found_first p given [] s.from (s.walked + count) (omega arith) (omega arith) m a.standard (ends m e) (subst (BestAfter p No (slice_range given s.from (s.walked + count))) e best)))
-            (omega arith) (record s { walked = s.walked + count; position = s.position + count; sid = sid; in_hand = found }) refl refl refl;
+        in_hand_is = found_in_hand walked.found best walks.near walks.ends;
         clear = a.clear;
         stopped = λ e. cc;
       }
+    where
+      long : s.from ≤ s.walked → s.walked ≤ length given → length (word_of s given) ≡ s.walked - s.from
+      long ordered within = length_part given s.from s.walked within
+
+      found_in_hand : (found : Option Occurrence) → BestAfter p No (slice_range given s.from (s.walked + walked.count)) found
+          → IfSome found (λ m. length (word_of s given) + walked.count ≤ m.start + longest lengths + 1) → (p.kind ≡ Standard → IfSome found (λ m. length (word_of s given) + walked.count ≤ m.end))
+          → IsInHand p.kind (longest lengths) (record s { walked = s.walked + walked.count; position = s.position + walked.count; sid = walked.sid; in_hand = walked.found }) found
+      found_in_hand None best near ends = tt
+      found_in_hand (Some m) best near ends =
+          let ordered : s.from ≤ s.walked = omega (arith, a.from_reported, a.reported_walked) in
+          let size = long ordered (omega (arith, within, a.count)) in
+          let whole = length_part given s.from (s.walked + walked.count) (omega (arith, within, a.count)) in (
+            omega (arith, best.0.before_end, whole, ordered),
+            omega (arith, near, size, ordered),
+            λ standard. omega (arith, ends standard, size, ordered),
+          )
 
   -- bytes were reported, up to a place that no further match starts before
   pub after_reported : (lookups : ℕ) (s : Progress) (given : List ℕ) (end : ℕ) → After lookups s given → s.reported ≤ end → end ≤ s.walked
-      → ((m : Occurrence) → s.in_hand ≡ Some m → end ≤ s.from + m.start)
       → ((more : List ℕ) (m : Occurrence) → MayFollow s.ended more → IsAnswer p (search_from s.from (given ++ more)) (Some m) → end ≤ m.start)
       → After lookups (record s { told = s.reported; reported = end }) given
-  after_reported lookups s given end a later within before clear = record {
-    standard = a.standard;
+  after_reported lookups s given end a later within clear = record {
     no_empty = a.no_empty;
+    sized = a.sized;
     start_is = a.start_is;
     start_shallow = a.start_shallow;
     start_held = a.start_held;
@@ -164,28 +178,26 @@ module _ (p : Patterns) (lengths : List ℕ) (valid : ℕ → Type 0) (held : An
     reported_walked = within;
     walked_read = a.walked_read;
     position = a.position;
+    once = a.once;
     paid = a.paid;
     is_state = a.is_state;
     held_is = a.held_is;
     best_is = a.best_is;
-    in_hand_is = still_in_hand s.in_hand a.in_hand_is before;
+    in_hand_is = in_hand_same s (record s { told = s.reported; reported = end }) refl refl s.in_hand a.in_hand_is;
     clear = clear;
     stopped = a.stopped;
   }
-    where
-      still_in_hand : (found : Option Occurrence) → IsInHand s found → ((m : Occurrence) → found ≡ Some m → end ≤ s.from + m.start) → IsInHand (record s { told = s.reported; reported = end }) found
-      still_in_hand None i before = tt
-      still_in_hand (Some m) i before = (i.0, before m refl)
 
   -- the match in hand was given
   pub after_given : (lookups : ℕ) (s : Progress) (given : List ℕ) (m : Occurrence) → After lookups s given → lengths ≡ map length p.words → s.in_hand ≡ Some m
-      → m.start ≤ m.end → s.refused ≡ false
+      → s.reported ≤ s.from + m.start → s.refused ≡ false
       → After lookups (record s { told = s.from + m.start; reported = s.from + m.end; from = s.from + m.end; walked = s.from + m.end; sid = s.start; in_hand = None }) given
-  after_given lookups s given m a are in_hand ordered unrefused =
-      let i = subst (IsInHand s) in_hand a.in_hand_is in
+  after_given lookups s given m a are in_hand starts unrefused =
+      let i = subst (IsInHand p.kind (longest lengths) s) in_hand a.in_hand_is in
+      let some : m.start + 1 ≤ m.end = let best = subst (BestAfter p No (word_of s given)) in_hand a.best_is in occurs_some p lengths are m best.0 a.no_empty in
       record {
-        standard = a.standard;
         no_empty = a.no_empty;
+        sized = a.sized;
         start_is = a.start_is;
         start_shallow = a.start_shallow;
         start_held = a.start_held;
@@ -194,12 +206,13 @@ module _ (p : Patterns) (lengths : List ℕ) (valid : ℕ → Type 0) (held : An
         bounded = a.bounded;
         least = a.least;
         last = a.last;
-        kept = omega (arith, a.kept, a.told_reported, i.1);
-        told_reported = omega (arith, ordered);
+        kept = omega (arith, a.kept, a.told_reported, starts);
+        told_reported = omega (arith, some);
         from_reported = omega arith;
         reported_walked = omega arith;
         walked_read = omega (arith, i.0, a.walked_read);
-        position = a.position ∙ sym i.0;
+        position = omega (arith, a.position, i.1, some, more_paid (longest lengths) s.from m.end (omega (arith, some)));
+        once = λ standard. omega (arith, a.once standard, i.0, i.2 standard);
         paid = omega (arith, a.paid, a.start_shallow);
         is_state = a.start_is;
         held_is = subst (λ (w : List ℕ). held No w s.start) (sym (no_part given (s.from + m.end))) a.start_held;
@@ -211,14 +224,14 @@ module _ (p : Patterns) (lengths : List ℕ) (valid : ℕ → Type 0) (held : An
 
   -- the buffer was filled again, where no match is in hand and no more is unreported than it keeps
   pub after_refilled : (lookups : ℕ) (s s' : Progress) (given : List ℕ) (before after : Option (List ℕ)) (refills : Refills s s' before after)
-      → After lookups s given → s.in_hand ≡ None → s.walked ≡ s.read → s.told ≡ s.reported → s.read ≤ s.reported + s.buffer.least → s.ended ≡ false
-      → (s'.refused ≡ true → s.read ≡ s.limit)
+      → After lookups s given → (p.kind ≡ Standard → s.in_hand ≡ None) → s.walked ≡ s.read → s.told ≡ s.reported → s.read ≤ s.reported + s.buffer.least → s.ended ≡ false
+      → (s'.refused ≡ true → (s.read ≡ s.limit) × (s'.ended ≡ false))
       → After lookups s' (given ++ refills.bytes)
   after_refilled lookups s s' given before after refills a free walked told near going refused =
       subst (λ (t : Progress). After lookups t (given ++ refills.bytes)) (sym refills.others)
       (record {
-        standard = a.standard;
         no_empty = a.no_empty;
+        sized = a.sized;
         start_is = a.start_is;
         start_shallow = a.start_shallow;
         start_held = a.start_held;
@@ -233,19 +246,16 @@ module _ (p : Patterns) (lengths : List ℕ) (valid : ℕ → Type 0) (held : An
         reported_walked = a.reported_walked;
         walked_read = omega (arith, refills.count, a.walked_read);
         position = a.position;
+        once = a.once;
         paid = a.paid;
         is_state = a.is_state;
         held_is = subst (λ (w : List ℕ). held No w s.sid) (sym same) a.held_is;
         best_is = subst (λ (w : List ℕ). BestAfter p No w s.in_hand) (sym same) a.best_is;
-        in_hand_is = still s.in_hand free;
+        in_hand_is = in_hand_same s (record s { buffer = s'.buffer; read = s'.read; ended = s'.ended; refused = s'.refused }) refl refl s.in_hand a.in_hand_is;
         clear = λ more m follows answer. a.clear (refills.bytes ++ more) m (subst (λ (b : Bool). MayFollow b (refills.bytes ++ more)) (sym going) tt)
             (subst (λ (bytes : List ℕ). IsAnswer p (search_from s.from bytes) (Some m)) (append_assoc given refills.bytes more) answer);
-        stopped = λ e. (omega (arith, walked, refused e, refills.limited, refills.count), free);
+        stopped = λ e. (let r = refused e in (omega (arith, walked, r.0, refills.limited, refills.count), r.1, free));
       })
     where
       same : slice_range (given ++ refills.bytes) s.from s.walked ≡ word_of s given
       same = part_stays given refills.bytes s.from s.walked (omega (arith, a.from_reported, a.reported_walked)) (omega (arith, a.walked_read, a.count))
-
-      still : (found : Option Occurrence) → found ≡ None → IsInHand (record s { buffer = s'.buffer; read = s'.read; ended = s'.ended; refused = s'.refused }) found
-      still None e = tt
-      still (Some m) e = cc

@@ -10,7 +10,7 @@ use Rattle.aho_base.specs.declared.error.stream.StreamError.TheVariants.{Match a
 use Rattle.aho_devices.specs.Counts.{counted}
 use Rattle.aho_devices.specs.Refusals.{is_read_fault}
 use Rattle.aho_stream.specs.After.{search_from}
-use Rattle.aho_stream.specs.Chunks.{Advances, Reads, Tells, TellsError, TellsEnd, TellsMatch, TellsPlain, ends_between, match_told}
+use Rattle.aho_stream.specs.Chunks.{Advances, DiesAt, Reads, Tells, TellsError, TellsEnd, TellsMatch, TellsPlain, ends_between, match_told}
 use Rattle.aho_stream.specs.Finds.{Finds, FindsEnd, FindsError, FindsMatch, FindsNext}
 use Rattle.aho_stream.specs.declared.progress.Progress.{Progress}
 use Rattle.aho_stream.specs.declared.progress.StreamPiece.{StreamPiece}
@@ -43,6 +43,7 @@ module _ (IsOf : Patterns → Type 0) (After : Patterns → ℕ → Progress →
 pub match_found : (p : Patterns) (s t s' : Progress) (given : List ℕ) (m : Occurrence) → t.from ≡ s.from → TellsMatch p t s' given m → FindsMatch p s s' given m
 match_found p s t s' given m from tells = record {
   answer = λ more follows. subst (λ (x : ℕ). IsAnswer p (search_from x (given ++ more)) (Some m)) from (tells.answer more follows);
+  settled = λ goes leftmost. subst (λ (x : ℕ). (place : ℕ) × DiesAt p given x place) from (tells.settled goes leftmost);
   read = tells.read;
   from = tells.from;
 }
@@ -58,12 +59,12 @@ plain_told p t s' given (Match m) e tells = cc
 
 pub end_found : (p : Patterns) (s t s' : Progress) (given : List ℕ) → t.from ≡ s.from → t.refused ≡ s.refused → TellsEnd p t s' given → FindsEnd p s s' given
 end_found p s t s' given from refused tells = record {
-  none = subst (λ (x : ℕ). IsAnswer p (search_from x given) None) (tells.still.from ∙ from) tells.none;
+  none = λ why. subst (λ (x : ℕ). IsAnswer p (search_from x given) None) (tells.still.from ∙ from) (tells.none why);
   over = elim tells.over [ inl both ↦ inl both | inr e ↦ inr (sym refused ∙ e) ];
   from = tells.still.from ∙ from;
 }
 
-pub error_found : (p : Patterns) (s t s' : Progress) (given : List ℕ) (error : StreamError) → t.from ≡ s.from → t.refused ≡ s.refused → t.limit ≡ s.limit → TellsError t s' given error → FindsError s s' given error
+pub error_found : (p : Patterns) (s t s' : Progress) (given : List ℕ) (error : StreamError) → t.from ≡ s.from → t.refused ≡ s.refused → t.limit ≡ s.limit → TellsError p t s' given error → FindsError p s s' given error
 error_found p s t s' given (Refused cause) from refused limit tells = tells
 error_found p s t s' given (ReadFault reason) from refused limit tells = record { from = tells.still.from ∙ from; near = tells.near }
 error_found p s t s' given (Write reason) from refused limit tells = tells
@@ -71,6 +72,7 @@ error_found p s t s' given WriteZero from refused limit tells = tells
 error_found p s t s' given Memory from refused limit tells = tells
 error_found p s t s' given PositionLimit from refused limit tells = record {
   fault = record { from = tells.fault.still.from ∙ from; near = tells.fault.near };
+  unsettled = λ leftmost. subst (λ (x : ℕ). (place : ℕ) → DiesAt p given x place → ⊥) (tells.fault.still.from ∙ from) (tells.unsettled leftmost);
   reached = tells.reached ∙ limit;
   first = sym refused ∙ tells.first;
   refused = tells.refused;

@@ -3,6 +3,7 @@ mod PatternLengths
 mod NextMatches
 mod Refilled
 mod Walks
+mod Deaths
 mod Afters
 mod Reported
 mod Advanced

@@ -1,5 +1,5 @@
 -- What is known of the next match, whatever bytes follow.
-use Rattle.std.proofs.Common.{◌≡◌, ℕ, ◌+◌, ◌-◌, ◌<◌, ◌≤◌, inl, inr, Bool, true, false, List, [], ◌++◌, length, map, refl, sym, ◌∙◌, ap, subst, arith, length-append}
+use Rattle.std.proofs.Common.{◌≡◌, ◌≢◌, ℕ, ◌+◌, ◌-◌, ◌<◌, ◌≤◌, inl, inr, Bool, true, false, List, [], ◌++◌, length, map, refl, sym, ◌∙◌, ap, subst, arith, length-append}
 use Rattle.std.specs.Prelude.{Option, Some, None, slice_range}
 use Rattle.std.proofs.lemmas.Bool.{cases_lt}
 use Rattle.aho_base.specs.Answer.{IsAnswer}
@@ -14,6 +14,8 @@ use Rattle.aho_base.specs.declared.search.Anchored.TheVariants.{No}
 use Rattle.aho_base.specs.declared.search.MatchKind.{MatchKind}
 use Rattle.aho_base.specs.declared.search.MatchKind.TheVariants.{Standard}
 use Rattle.aho_laws.proofs.Answers.{IsAnswer-unique}
+use Rattle.aho_laws.proofs.Kept.{other_than_standard}
+use Rattle.aho_laws.proofs.Stands.{best_starts}
 use Rattle.aho_search.proofs.Places.{best_in_whole, into_part, length_part, moved, moved_option, moved_back, part_join, widened, narrowed}
 use Rattle.aho_stream.specs.After.{MayFollow, search_from}
 use Rattle.aho_stream.proofs.GivenBytes.{part_stays}
@@ -56,6 +58,29 @@ module _ (p : Patterns) (given more : List ℕ) (from walked : ℕ) (ordered : f
         ],
       )
 
+  -- what was found before the state was dead is the answer, whatever follows
+  pub found_dead : {kind : MatchKind} {lengths : List ℕ} {held : Anchored → List ℕ → ℕ → Type 0} {list : ℕ → List ℕ} {dead starts : ℕ → Bool} → Reads p kind lengths held list dead starts
+      → (sid : ℕ) (m : Occurrence) → held No (slice_range given from walked) sid → dead sid ≡ true → BestAfter p No (slice_range given from walked) (Some m) → IsAnswer p (search_from from (given ++ more)) (Some (moved from m))
+  found_dead {held} laws sid m is_held died is_best =
+      let h = given ++ more in
+      let end = length h in
+      let word = slice_range h from walked in
+      let kept = laws.dead_keeps No word (slice_range h walked end) sid (Some m) (subst (λ (w : List ℕ). held No w sid) (sym same_word) is_held) died
+      (subst (λ (w : List ℕ). BestAfter p No w (Some m)) (sym same_word) is_best) in
+      best_in_whole p No h from end (Some m) (omega (arith, longer)) (omega arith) (subst (λ (w : List ℕ). BestAfter p No w (Some m)) (sym (part_join h from walked end ordered longer)) kept)
+
+  -- a leftmost kind: where a match was found, what may come in its place starts no farther before the place than the longest
+  -- pattern is long, as that match does
+  pub starts_near_found : (lengths : List ℕ) (best m : Occurrence) → lengths ≡ map length p.words → p.kind ≢ Standard → BestAfter p No (slice_range given from walked) (Some best) → walked ≤ from + best.start + longest lengths
+      → IsAnswer p (search_from from (given ++ more)) (Some m) → walked ≤ m.start + longest lengths
+  starts_near_found lengths best m are leftmost is_best near answer = elim (cases_lt walked m.end) [
+    | inl past ↦ omega (arith, past, occurs_short p lengths are m answer.0)
+    | inr ge ↦
+        (let whole = best_walked (Some best) is_best in
+        let first = best_starts p.kind (moved from best) m (other_than_standard p.kind leftmost) (whole.1 m (narrowed p No (given ++ more) from walked (length (given ++ more)) m ge answer.0)) in
+        omega (arith, near, first))
+  ]
+
   -- where nothing was found, what occurs ends later
   pub ends_later : (m : Occurrence) → BestAfter p No (slice_range given from walked) None → IsAnswer p (search_from from (given ++ more)) (Some m) → walked < m.end
   ends_later m none answer = elim (cases_lt walked m.end) [
@@ -85,9 +110,9 @@ module _ (p : Patterns) (given more : List ℕ) (from walked : ℕ) (ordered : f
       omega (arith, apart, long, answer.0.after_start)
 
 -- the answer of what was walked where nothing follows
-pub nothing_found : (p : Patterns) (given : List ℕ) (from walked : ℕ) → from ≤ walked → walked ≡ length given → BestAfter p No (slice_range given from walked) None → IsAnswer p (search_from from given) None
-nothing_found p given from walked ordered all none n o =
-    subst (λ (end : ℕ). (n : Occurrence) → Occurs p No given from end n → ⊥) all (best_in_whole p No given from walked None ordered (omega arith) none) n o
+pub found_at_end : (p : Patterns) (given : List ℕ) (from walked : ℕ) (best : Option Occurrence) → from ≤ walked → walked ≡ length given → BestAfter p No (slice_range given from walked) best → IsAnswer p (search_from from given) (moved_option from best)
+found_at_end p given from walked best ordered all is_best =
+    subst (λ (end : ℕ). IsBestOrNone p.kind (Occurs p No given from end) (moved_option from best)) all (best_in_whole p No given from walked best ordered (omega arith) is_best)
 
 -- two answers of one search start together
 pub answers_together : (p : Patterns) (given more : List ℕ) (from : ℕ) (m n : Occurrence) → IsAnswer p (search_from from (given ++ more)) (Some m) → IsAnswer p (search_from from (given ++ more)) (Some n) → m ≡ n

@@ -31,22 +31,22 @@ err_given (Ok x) error is = absurd is
 err_given (Err e) error is = ap Err is
 
 -- each error of a call leaves all as it was
-pub fault_told : (s s' : Progress) (given : List ℕ) (error : StreamError) → TellsError s s' given error → TellsFault s s' given
-fault_told s s' given (Refused cause) tells = absurd tells
-fault_told s s' given (Read fault) tells = tells
-fault_told s s' given (Write fault) tells = absurd tells
-fault_told s s' given WriteZero tells = absurd tells
-fault_told s s' given Memory tells = absurd tells
-fault_told s s' given PositionLimit tells = tells.fault
+pub fault_told : (p : Patterns) (s s' : Progress) (given : List ℕ) (error : StreamError) → TellsError p s s' given error → TellsFault s s' given
+fault_told p s s' given (Refused cause) tells = absurd tells
+fault_told p s s' given (Read fault) tells = tells
+fault_told p s s' given (Write fault) tells = absurd tells
+fault_told p s s' given WriteZero tells = absurd tells
+fault_told p s s' given Memory tells = absurd tells
+fault_told p s s' given PositionLimit tells = tells.fault
 
 -- the limit is answered where as many bytes were given
-pub limit_told : (s s' : Progress) (given : List ℕ) (error : StreamError) → TellsError s s' given error → is_limit {A = Unit {0}} (Err error) ≡ true → length given ≡ s.limit
-limit_told s s' given (Refused cause) tells met = absurd tells
-limit_told s s' given (Read fault) tells met = cc
-limit_told s s' given (Write fault) tells met = absurd tells
-limit_told s s' given WriteZero tells met = absurd tells
-limit_told s s' given Memory tells met = absurd tells
-limit_told s s' given PositionLimit tells met = tells.reached
+pub limit_told : (p : Patterns) (s s' : Progress) (given : List ℕ) (error : StreamError) → TellsError p s s' given error → is_limit {A = Unit {0}} (Err error) ≡ true → length given ≡ s.limit
+limit_told p s s' given (Refused cause) tells met = absurd tells
+limit_told p s s' given (Read fault) tells met = cc
+limit_told p s s' given (Write fault) tells met = absurd tells
+limit_told p s s' given WriteZero tells met = absurd tells
+limit_told p s s' given Memory tells met = absurd tells
+limit_told p s s' given PositionLimit tells met = tells.reached
 
 -- the end of a stream that was not refused
 pub all_told : (p : Patterns) (s s' : Progress) (given : List ℕ) → s.refused ≡ false → TellsEnd p s s' given → (s'.ended ≡ true) × (s'.reported ≡ length given)
@@ -215,11 +215,11 @@ module _ (IsOf : Patterns → Type 0) (lengths : List ℕ)
 
     -- an error was answered
     module _ (error : StreamError) (is : answer ≡ Some (Err error)) (p₀ : Patterns) (of₀ : IsOf p₀) where
-      tells_error : TellsError s s' given error
+      tells_error : TellsError p₀ s s' given error
       tells_error = subst (Tells p₀ s s' given) is (advance.tells p₀ going.given of₀ (going.after p₀ of₀))
 
       fault : TellsFault s s' given
-      fault = fault_told s s' given error tells_error
+      fault = fault_told p₀ s s' given error tells_error
 
       error_left : (p : Patterns) (of : IsOf p) (bytes : List ℕ) (ms : List Occurrence) (may : MayBe given s'.ended bytes) (finds : AreFinds p (plain_search bytes) None ms)
           → IsLeft p of bytes ms may finds s'.from s'.reported going.written
@@ -259,7 +259,7 @@ module _ (IsOf : Patterns → Type 0) (lengths : List ℕ)
 
       -- at the limit as many bytes were given
       pub limit_met : is_limit {A = Unit {0}} (Err error) ≡ true → (all : List ℕ) × Consumes first left' all × (length all ≡ s.limit)
-      limit_met met = (given, now_gives.bytes, limit_told s s' given error tells_error met)
+      limit_met met = (given, now_gives.bytes, limit_told p₀ s s' given error tells_error met)
 
     -- no more was answered
     module _ (is : answer ≡ None) (below : s.refused ≡ false) (p₀ : Patterns) (of₀ : IsOf p₀) where
@@ -277,6 +277,6 @@ module _ (IsOf : Patterns → Type 0) (lengths : List ℕ)
             writes = λ p ms of finds.
                 let may : MayBe given s'.ended given = ([], sym (append-nil given), subst (λ (b : Bool). MayFollow b []) (sym over.0) refl) in
                 subst (Appends begun taken)
-                (sym (left_none p (piece_for pieces) given ms lengths (are p of) ((now_after p of).no_empty) s'.from s'.reported going.written (still_left tells.still.from tells.still.reported p of given ms may finds) ((tells_end p of).none) (sym over.1)))
+                (sym (left_none p (piece_for pieces) given ms lengths (are p of) ((now_after p of).no_empty) s'.from s'.reported going.written (still_left tells.still.from tells.still.reported p of given ms may finds) ((tells_end p of).none (inr over.0)) (sym over.1)))
                 going.writes;
           }

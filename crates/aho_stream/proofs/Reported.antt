@@ -1,23 +1,27 @@
 -- What a chunk tells, and how far the iterator has come with it.
-use Rattle.std.proofs.Common.{◌≡◌, ℕ, ◌+◌, ◌-◌, ◌<◌, ◌≤◌, inl, inr, Bool, true, false, List, [], ◌++◌, length, map, refl, sym, ◌∙◌, ap, subst, arith, append-nil}
-use Rattle.std.specs.Prelude.{Option, Some, None, IfSome, MatchBool}
+use Rattle.std.proofs.Common.{◌≡◌, ◌≢◌, ℕ, ◌+◌, ◌-◌, ◌<◌, ◌≤◌, ◌||◌, ◌&&◌, inl, inr, Bool, true, false, List, [], ◌++◌, length, map, refl, sym, ◌∙◌, ap, subst, arith, append-nil}
+use Rattle.std.specs.Prelude.{Option, Some, None, IfSome, MatchBool, is_none}
+use Rattle.std.proofs.Math.Bool.{or-false}
 use Rattle.std.proofs.lemmas.Bool.{cases_lt, cases_Bool}
 use Rattle.aho_base.specs.Answer.{IsAnswer}
-use Rattle.aho_base.specs.Laws.{BestAfter, Reads, shortest}
+use Rattle.aho_base.specs.Laws.{BestAfter, Reads, longest, shortest}
 use Rattle.aho_base.specs.Occurrence.{Occurrence}
 use Rattle.aho_base.specs.Patterns.{Patterns}
 use Rattle.aho_base.specs.declared.search.Anchored.{Anchored}
 use Rattle.aho_base.specs.declared.search.Anchored.TheVariants.{No}
 use Rattle.aho_base.specs.declared.search.MatchKind.{MatchKind}
-use Rattle.aho_search.proofs.Places.{moved}
-use Rattle.aho_stream.specs.After.{IsAfter, IsInHand, MayFollow, search_from, word_of}
-use Rattle.aho_stream.specs.Chunks.{TellsChunk, TellsMatch, TellsPlain}
+use Rattle.aho_base.specs.declared.search.MatchKind.TheVariants.{Standard}
+use Rattle.aho_search.proofs.Places.{length_part, moved}
+use Rattle.aho_stream.specs.After.{IsAfter, IsInHand, MayFollow, is_settled, search_from, word_of}
+use Rattle.aho_stream.specs.Chunks.{DiesAt, TellsChunk, TellsMatch, TellsPlain}
 use Rattle.aho_stream.specs.declared.progress.Progress.{Progress}
 use Rattle.aho_stream.specs.declared.progress.StreamPiece.{StreamPiece}
 use Rattle.aho_stream.specs.declared.progress.StreamPiece.TheVariants.{NonMatch, Match}
 use Rattle.aho_stream.proofs.Afters.{after_given, after_reported}
 use Rattle.aho_stream.proofs.PatternLengths.{occurs_some}
-use Rattle.aho_stream.proofs.NextMatches.{MayFollow-nothing, answers_together, ends_later, found_first, nothing_follows, starts_behind, starts_near}
+use Rattle.aho_stream.proofs.Deaths.{dies}
+use Rattle.aho_stream.proofs.NextMatches.{MayFollow-nothing, answers_together, ends_later, found_at_end, found_dead, found_first, nothing_follows, starts_behind, starts_near, starts_near_found}
+use Rattle.aho_stream.proofs.Walks.{near_unsettled, unsettled_leftmost, why_settled}
 
 module _ (p : Patterns) (lengths : List ℕ) (valid : ℕ → Type 0) (held : Anchored → List ℕ → ℕ → Type 0) (depth : ℕ → ℕ) where
   abbrev After : ℕ → Progress → List ℕ → Type 0
@@ -29,14 +33,14 @@ module _ (p : Patterns) (lengths : List ℕ) (valid : ℕ → Type 0) (held : An
 
   -- bytes were told up to a place, where some were left
   pub reported : (lookups : ℕ) (s s' : Progress) (given : List ℕ) (end : ℕ) (answer : Option StreamPiece) → After lookups s given → end ≤ s.walked
-      → ((m : Occurrence) → s.in_hand ≡ Some m → end ≤ s.from + m.start) → IsClearTo s given end
+      → IsClearTo s given end
       → (s.reported < end → (answer ≡ Some NonMatch) × (s' ≡ record s { told = s.reported; reported = end }))
       → (end ≤ s.reported → (answer ≡ None) × (s' ≡ s))
       → After lookups s' given × IfSome answer (TellsChunk p s s' given)
-  reported lookups s s' given end answer a within before clear some none = elim (cases_lt s.reported end) [
+  reported lookups s s' given end answer a within clear some none = elim (cases_lt s.reported end) [
     | inl less ↦
         (let told = some less in (
-          subst (λ (t : Progress). After lookups t given) (sym told.1) (after_reported p lengths valid held depth lookups s given end a (omega (arith, less)) within before clear),
+          subst (λ (t : Progress). After lookups t given) (sym told.1) (after_reported p lengths valid held depth lookups s given end a (omega (arith, less)) within clear),
           subst (λ (r : Option StreamPiece). IfSome r (TellsChunk p s s' given)) (sym told.0)
               (subst (λ (t : Progress). TellsPlain p s t given) (sym told.1)
               (record { some = omega (arith, less); read = omega (arith, within, a.walked_read, a.count); told = refl; from = refl; clear = clear })),
@@ -48,26 +52,22 @@ module _ (p : Patterns) (lengths : List ℕ) (valid : ℕ → Type 0) (held : An
         ))
   ]
 
-  -- what is outside of every match where none is in hand
+  -- what is outside of every match where none is given yet
   pub outside_clear : {kind : MatchKind} {list : ℕ → List ℕ} {dead starts : ℕ → Bool} → Reads p kind lengths held list dead starts
-      → (lookups : ℕ) (s : Progress) (given : List ℕ) (end : ℕ) → After lookups s given → s.in_hand ≡ None → s.walked ≡ s.read
+      → (lookups : ℕ) (s : Progress) (given : List ℕ) (end : ℕ) → After lookups s given → is_settled kind (dead s.sid) s.in_hand ≡ false → (s.ended ≡ true → s.in_hand ≡ None) → s.walked ≡ s.read
       → (s.ended ≡ true → end ≡ s.read)
-      → (s.ended ≡ false → MatchBool (starts s.sid) (end ≡ s.walked) (end ≡ s.walked - s.buffer.least))
+      → (s.ended ≡ false → MatchBool (is_none s.in_hand && starts s.sid) (end ≡ s.walked) (end ≡ s.walked - s.buffer.least))
       → (end ≤ s.walked) × IsClearTo s given end
-  outside_clear {starts} laws lookups s given end a free walked ended open_end = elim (cases_Bool s.ended) [
+  outside_clear {kind} {dead} {starts} laws lookups s given end a going free walked ended open_end = elim (cases_Bool s.ended) [
     | inl ends ↦ (
       omega (arith, ended ends, walked),
       λ more m follows answer.
           let none = nothing_follows s.ended more ends follows in
           let long : length (given ++ more) ≡ length given = ap (λ (xs : List ℕ). length (given ++ xs)) none ∙ ap length (append-nil given) in
-          absurd (omega (arith, later more m answer, answer.0.before_end, long, walked, a.count)),
+          let none_walked = subst (BestAfter p No (word_of s given)) (free ends) a.best_is in
+          absurd (omega (arith, ends_later p given more s.from s.walked ordered within m none_walked answer, answer.0.before_end, long, walked, a.count)),
     )
-    | inr goes ↦ elim (cases_Bool (starts s.sid)) [
-      | inl start ↦ (let at : end ≡ s.walked = subst (λ (b : Bool). MatchBool b (end ≡ s.walked) (end ≡ s.walked - s.buffer.least)) start (open_end goes) in
-          (omega (arith, at), λ more m follows answer. omega (arith, at, starts_behind p given more s.from s.walked ordered within laws s.sid m a.held_is start none_walked answer)))
-      | inr other ↦ (let at : end ≡ s.walked - s.buffer.least = subst (λ (b : Bool). MatchBool b (end ≡ s.walked) (end ≡ s.walked - s.buffer.least)) other (open_end goes) in
-          (omega (arith, at), λ more m follows answer. omega (arith, at, a.least, starts_near p given more s.from s.walked ordered within lengths m laws.lengths_are none_walked answer)))
-    ]
+    | inr goes ↦ by_hand s.in_hand going a.best_is (open_end goes)
   ]
     where
       ordered : s.from ≤ s.walked
@@ -76,49 +76,103 @@ module _ (p : Patterns) (lengths : List ℕ) (valid : ℕ → Type 0) (held : An
       within : s.walked ≤ length given
       within = omega (arith, a.walked_read, a.count)
 
-      none_walked : BestAfter p No (word_of s given) None
-      none_walked = subst (BestAfter p No (word_of s given)) free a.best_is
+      behind : end ≡ s.walked - s.buffer.least → ((more : List ℕ) (m : Occurrence) → IsAnswer p (search_from s.from (given ++ more)) (Some m) → s.walked ≤ m.start + longest lengths) → (end ≤ s.walked) × IsClearTo s given end
+      behind at near = (omega (arith, at), λ more m follows answer. omega (arith, at, a.least, near more m answer))
 
-      later : (more : List ℕ) (m : Occurrence) → IsAnswer p (search_from s.from (given ++ more)) (Some m) → s.walked < m.end
-      later more m answer = ends_later p given more s.from s.walked ordered within m none_walked answer
+      by_hand : (found : Option Occurrence) → is_settled kind (dead s.sid) found ≡ false → BestAfter p No (word_of s given) found
+          → MatchBool (is_none found && starts s.sid) (end ≡ s.walked) (end ≡ s.walked - s.buffer.least) → (end ≤ s.walked) × IsClearTo s given end
+      by_hand None going none at_end = elim (cases_Bool (starts s.sid)) [
+        | inl start ↦ (let at : end ≡ s.walked = subst (λ (b : Bool). MatchBool b (end ≡ s.walked) (end ≡ s.walked - s.buffer.least)) start at_end in
+            (omega (arith, at), λ more m follows answer. omega (arith, at, starts_behind p given more s.from s.walked ordered within laws s.sid m a.held_is start none answer)))
+        | inr other ↦ behind (subst (λ (b : Bool). MatchBool b (end ≡ s.walked) (end ≡ s.walked - s.buffer.least)) other at_end)
+            (λ more m answer. starts_near p given more s.from s.walked ordered within lengths m laws.lengths_are none answer)
+      ]
+      by_hand (Some best) going is_best at_end =
+          let leftmost = (unsettled_leftmost kind (dead s.sid) best going).0 in
+          let size = length_part given s.from s.walked within in
+          let near = near_unsettled laws (word_of s given) s.sid best a.held_is going is_best in
+          behind at_end (λ more m answer. starts_near_found p given more s.from s.walked ordered within lengths best m laws.lengths_are (λ e. leftmost (laws.kind_is ∙ e)) is_best (omega (arith, near, size, ordered)) answer)
 
-  -- the match in hand ends where it starts or later
-  pub in_hand_ordered : (lookups : ℕ) (s : Progress) (given : List ℕ) (m : Occurrence) → After lookups s given → s.in_hand ≡ Some m → m.start ≤ m.end
-  in_hand_ordered lookups s given m a in_hand = let best = subst (BestAfter p No (word_of s given)) in_hand a.best_is in omega (arith, best.0.sized)
+  -- the match in hand is in what was walked
+  pub in_hand_within : (lookups : ℕ) (s : Progress) (given : List ℕ) (m : Occurrence) → After lookups s given → s.in_hand ≡ Some m → (m.start ≤ m.end) × (s.from + m.end ≤ s.walked)
+  in_hand_within lookups s given m a in_hand =
+      let best = subst (BestAfter p No (word_of s given)) in_hand a.best_is in
+      (omega (arith, best.0.sized), (subst (IsInHand p.kind (longest lengths) s) in_hand a.in_hand_is).0)
 
-  -- the match in hand is the next one
-  pub in_hand_answers : (lookups : ℕ) (s : Progress) (given : List ℕ) (m : Occurrence) → After lookups s given → s.in_hand ≡ Some m
-      → (more : List ℕ) → IsAnswer p (search_from s.from (given ++ more)) (Some (moved s.from m))
-  in_hand_answers lookups s given m a in_hand more =
-      found_first p given more s.from s.walked (omega (arith, a.from_reported, a.reported_walked)) (omega (arith, a.walked_read, a.count)) m a.standard
-      (subst (IsInHand s) in_hand a.in_hand_is).0 (subst (BestAfter p No (word_of s given)) in_hand a.best_is)
+  module _ {kind : MatchKind} {list : ℕ → List ℕ} {dead starts : ℕ → Bool} (laws : Reads p kind lengths held list dead starts) (lookups : ℕ) (s : Progress) (given : List ℕ) (m : Occurrence) (a : After lookups s given)
+      (in_hand : s.in_hand ≡ Some m) (due : (s.ended || is_settled kind (dead s.sid) s.in_hand) ≡ true) (walked : is_settled kind (dead s.sid) s.in_hand ≡ false → s.walked ≡ s.read) where
+    ordered : s.from ≤ s.walked
+    ordered = omega (arith, a.from_reported, a.reported_walked)
 
-  -- so the bytes up to its start are outside of every match
-  pub gap_clear : (lookups : ℕ) (s : Progress) (given : List ℕ) (m : Occurrence) → After lookups s given → s.in_hand ≡ Some m → IsClearTo s given (s.from + m.start)
-  gap_clear lookups s given m a in_hand more n follows answer =
-      let same = answers_together p given more s.from (moved s.from m) n (in_hand_answers lookups s given m a in_hand more) answer in
-      omega (arith, ap (λ (x : Occurrence). x.start) same)
+    within : s.walked ≤ length given
+    within = omega (arith, a.walked_read, a.count)
 
-  -- and it is told
-  pub match_told : (lookups : ℕ) (s s' : Progress) (given : List ℕ) (m told : Occurrence) → After lookups s given → lengths ≡ map length p.words → s.in_hand ≡ Some m → s.refused ≡ false
-      → s.from + m.start ≤ s.reported → m.start ≤ m.end
-      → told ≡ moved s.from m
-      → s' ≡ record s { told = s.from + m.start; reported = s.from + m.end; from = s.from + m.end; walked = s.from + m.end; sid = s.start; in_hand = None }
-      → After lookups s' given × TellsMatch p s s' given told
-  match_told lookups s s' given m told a are in_hand unrefused reached ordered is moves =
-      let i = subst (IsInHand s) in_hand a.in_hand_is in (
-        subst (λ (t : Progress). After lookups t given) (sym moves) (after_given p lengths valid held depth lookups s given m a are in_hand ordered unrefused),
-        subst (λ (x : Occurrence). TellsMatch p s s' given x) (sym is)
-            (subst (λ (t : Progress). TellsMatch p s t given (moved s.from m)) (sym moves)
-            (record {
-              answer = λ more follows. in_hand_answers lookups s given m a in_hand more;
-              starts = omega (arith, reached, i.1);
-              read = omega (arith, i.0, a.walked_read, a.count);
-              told = refl;
-              reported = refl;
-              from = refl;
-            })),
-      )
+    best : BestAfter p No (word_of s given) (Some m)
+    best = subst (BestAfter p No (word_of s given)) in_hand a.best_is
+
+    is_last : is_settled kind (dead s.sid) (Some m) ≡ false → (s.ended ≡ true) × (s.walked ≡ length given)
+    is_last going =
+        let unsettled = ap (is_settled kind (dead s.sid)) in_hand ∙ going in
+        (sym (ap (λ (b : Bool). s.ended || b) unsettled ∙ or-false s.ended) ∙ due, walked unsettled ∙ a.count)
+
+    -- under Standard it is settled as it ends where the walk stands, else as the state is dead
+    settled_answers : (more : List ℕ) → is_settled kind (dead s.sid) (Some m) ≡ true → IsAnswer p (search_from s.from (given ++ more)) (Some (moved s.from m))
+    settled_answers more settled = elim (why_settled kind (dead s.sid) m settled) [
+      | inl standard ↦
+          (let i = subst (IsInHand p.kind (longest lengths) s) in_hand a.in_hand_is in
+          let is : p.kind ≡ Standard = sym laws.kind_is ∙ standard in
+          found_first p given more s.from s.walked ordered within m is (omega (arith, i.0, i.2 is)) best)
+      | inr died ↦ found_dead p given more s.from s.walked ordered within laws s.sid m a.held_is died best
+    ]
+
+    -- a match that is given is the next one
+    pub in_hand_answers : (more : List ℕ) → MayFollow s.ended more → IsAnswer p (search_from s.from (given ++ more)) (Some (moved s.from m))
+    in_hand_answers more follows = elim (cases_Bool (is_settled kind (dead s.sid) (Some m))) [
+      | inl settled ↦ settled_answers more settled
+      | inr going ↦
+          (let last = is_last going in
+          let none = nothing_follows s.ended more last.0 follows in
+          subst (λ (bytes : List ℕ). IsAnswer p (search_from s.from bytes) (Some (moved s.from m))) (sym (ap (λ (xs : List ℕ). given ++ xs) none ∙ append-nil given))
+          (found_at_end p given s.from s.walked (Some m) ordered last.1 best))
+    ]
+
+    -- before the end was seen a leftmost kind gives it only where the state is dead
+    in_hand_died : s.ended ≡ false → p.kind ≢ Standard → (place : ℕ) × DiesAt p given s.from place
+    in_hand_died goes leftmost =
+        let settled : is_settled kind (dead s.sid) (Some m) ≡ true = sym (ap (is_settled kind (dead s.sid)) in_hand) ∙ sym (ap (λ (b : Bool). b || is_settled kind (dead s.sid) s.in_hand) goes) ∙ due in
+        elim (why_settled kind (dead s.sid) m settled) [
+          | inl standard ↦ absurd (leftmost (sym laws.kind_is ∙ standard))
+          | inr died ↦ (s.walked, dies laws given s.from s.walked s.sid leftmost a.held_is ordered within died)
+        ]
+
+    -- so the bytes up to its start are outside of every match
+    pub gap_clear : IsClearTo s given (s.from + m.start)
+    gap_clear more n follows answer =
+        let same = answers_together p given more s.from (moved s.from m) n (in_hand_answers more follows) answer in
+        omega (arith, ap (λ (x : Occurrence). x.start) same)
+
+    -- nothing behind its start was reported
+    unreported : s.reported ≤ s.from + m.start
+    unreported = a.clear [] (moved s.from m) (MayFollow-nothing s.ended) (in_hand_answers [] (MayFollow-nothing s.ended))
+
+    -- and it is told
+    pub match_told : (s' : Progress) (told : Occurrence) → s.refused ≡ false → s.from + m.start ≤ s.reported → told ≡ moved s.from m
+        → s' ≡ record s { told = s.from + m.start; reported = s.from + m.end; from = s.from + m.end; walked = s.from + m.end; sid = s.start; in_hand = None }
+        → After lookups s' given × TellsMatch p s s' given told
+    match_told s' told unrefused reached is moves = (
+      subst (λ (t : Progress). After lookups t given) (sym moves) (after_given p lengths valid held depth lookups s given m a laws.lengths_are in_hand unreported unrefused),
+      subst (λ (x : Occurrence). TellsMatch p s s' given x) (sym is)
+          (subst (λ (t : Progress). TellsMatch p s t given (moved s.from m)) (sym moves)
+          (record {
+            answer = in_hand_answers;
+            settled = in_hand_died;
+            starts = omega (arith, reached, unreported);
+            read = omega (arith, (in_hand_within lookups s given m a in_hand).1, within);
+            told = refl;
+            reported = refl;
+            from = refl;
+          })),
+    )
 
 -- what is told of a match or a gap, by the end of the last match and of the last chunk alone
 pub told_from : (p : Patterns) (s t s' : Progress) (given : List ℕ) (piece : StreamPiece) → t.reported ≡ s.reported → t.from ≡ s.from → TellsChunk p t s' given piece → TellsChunk p s s' given piece
@@ -131,6 +185,7 @@ told_from p s t s' given NonMatch reported from tells = record {
 }
 told_from p s t s' given (Match m) reported from tells = record {
   answer = λ more follows. subst (λ (x : ℕ). IsAnswer p (search_from x (given ++ more)) (Some m)) from (tells.answer more follows);
+  settled = λ goes leftmost. subst (λ (x : ℕ). (place : ℕ) × DiesAt p given x place) from (tells.settled goes leftmost);
   starts = tells.starts ∙ reported;
   read = tells.read;
   told = tells.told;

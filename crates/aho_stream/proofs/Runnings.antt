@@ -1,5 +1,5 @@
 -- How far a replacement of a stream by a closure has come, from one chunk told to the next.
-use Rattle.std.proofs.Common.{◌≡◌, ℕ, ◌+◌, ◌-◌, ◌<◌, ◌≤◌, Bool, true, false, List, [], ◌++◌, length, drop, take, map, refl, sym, ◌∙◌, ap, subst, arith, append-nil}
+use Rattle.std.proofs.Common.{◌≡◌, inr, ℕ, ◌+◌, ◌-◌, ◌<◌, ◌≤◌, Bool, true, false, List, [], ◌++◌, length, drop, take, map, refl, sym, ◌∙◌, ap, subst, arith, append-nil}
 use Rattle.std.specs.Prelude.{Option, Some, None, Result, Ok, Err, slice_range}
 use Rattle.std.specs.Borrow.{Bor, MutBor}
 use Rattle.std.specs.Fn.{Mut}
@@ -33,13 +33,13 @@ use Rattle.aho_stream.proofs.Replacings.{all_told, fault_told, gives_on, less_le
 use Rattle.aho_stream.proofs.StreamRuns.{LeftRun, Took, left_run_first, left_run_match, left_run_plain, runs_to_end, runs_to_refusal, runs_to_stop, runs_up_to}
 
 -- an error that is told is one that a fill can give
-fills_told : (s s' : Progress) (given : List ℕ) (error : StreamError) → TellsError s s' given error → IsFillRefusal error
-fills_told s s' given (Refused cause) tells = absurd tells
-fills_told s s' given (Read fault) tells = tt
-fills_told s s' given (Write fault) tells = absurd tells
-fills_told s s' given WriteZero tells = absurd tells
-fills_told s s' given Memory tells = absurd tells
-fills_told s s' given PositionLimit tells = tt
+fills_told : (p : Patterns) (s s' : Progress) (given : List ℕ) (error : StreamError) → TellsError p s s' given error → IsFillRefusal error
+fills_told p s s' given (Refused cause) tells = absurd tells
+fills_told p s s' given (Read fault) tells = tt
+fills_told p s s' given (Write fault) tells = absurd tells
+fills_told p s s' given WriteZero tells = absurd tells
+fills_told p s s' given Memory tells = absurd tells
+fills_told p s s' given PositionLimit tells = tt
 
 -- such an error is none of a write
 no_write : (error : StreamError) → IsFillRefusal error → (is_write_fault {A = Unit {0}} (Err error) ≡ false) × (is_write_of_nothing {A = Unit {0}} (Err error) ≡ false)
@@ -183,7 +183,7 @@ module _ {F S : Type 0} (taken : S → Option (List ℕ)) (failures empty_writes
               let same = bytes_given bytes may in
               let none : IsAnswer p (search_from s.from bytes) None =
               subst (λ (xs : List ℕ). IsAnswer p (search_from s.from xs) None) (sym same)
-              (subst (λ (k : ℕ). IsAnswer p (search_from k given) None) tells.still.from tells.none) in (
+              (subst (λ (k : ℕ). IsAnswer p (search_from k given) None) tells.still.from (tells.none (inr over.0))) in (
                 now,
                 runs_to_end taken failures empty_writes calls closure begun p bytes ms lengths (are p of) ((now_after p of).no_empty) s.from s.reported ((running.after p of).from_reported) now sink
                     (was p of bytes ms may finds) false none (ap (λ (xs : List ℕ). length xs) same ∙ sym over.1 ∙ tells.still.reported),
@@ -192,14 +192,14 @@ module _ {F S : Type 0} (taken : S → Option (List ℕ)) (failures empty_writes
 
       -- an error was answered
       module _ (error : StreamError) (is : answer ≡ Some (Err error)) (p₀ : Patterns) (of₀ : IsOf p₀) where
-        tells_error : TellsError s s' given error
+        tells_error : TellsError p₀ s s' given error
         tells_error = tells_of p₀ of₀ (Some (Err error)) is
 
         fault : TellsFault s s' given
-        fault = fault_told s s' given error tells_error
+        fault = fault_told p₀ s s' given error tells_error
 
         fills : IsFillRefusal error
-        fills = fills_told s s' given error tells_error
+        fills = fills_told p₀ s s' given error tells_error
 
         still_clear : (p : Patterns) (of : IsOf p) (bytes : List ℕ) (ms : List Occurrence) (may : MayBe given s'.ended bytes) (finds : AreFinds p (plain_search bytes) None ms)
             (m : Occurrence) → IsAnswer p (search_from s.from bytes) (Some m) → s'.reported ≤ m.start
@@ -215,7 +215,7 @@ module _ {F S : Type 0} (taken : S → Option (List ℕ)) (failures empty_writes
           gives = now_gives;
           whole = tt;
           read_failed = read_failed_of (Some (Err error)) is ∙ ap (λ (b : Bool). counted b failed) (same_fault StreamPiece (Unit {0}) error);
-          limit = λ stopped met. limit_told s s' given error tells_error met ∙ greatest;
+          limit = λ stopped met. limit_told p₀ s s' given error tells_error met ∙ greatest;
           near = λ stopped.
               let a' = now_after p₀ of₀ in (
                 s.reported,

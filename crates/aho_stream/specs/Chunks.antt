@@ -1,11 +1,14 @@
 -- What each call of an iterator over the chunks of a stream answers.
-use Rattle.std.specs.Prelude.{◌≡◌, ℕ, ◌+◌, ◌≤◌, ◌⊎◌, ◌&&◌, not, Bool, true, false, List, [], ◌++◌, Option, Some, None, Result, Ok, Err, length, slice_range, ⊤}
+use Rattle.std.specs.Prelude.{◌≡◌, ◌≢◌, ℕ, ◌+◌, ◌≤◌, ◌⊎◌, ◌&&◌, not, Bool, true, false, List, [], ◌++◌, Option, Some, None, Result, Ok, Err, length, slice_range, ⊤}
 use Rattle.std.specs.Io.KnownBytes.{Consumes}
 use Rattle.aho_base.specs.declared.error.stream.StreamError.{StreamError}
 use Rattle.aho_base.specs.declared.error.stream.StreamError.TheVariants.{Match as Refused, Read, Write, WriteZero, Memory, PositionLimit}
 use Rattle.aho_base.specs.Answer.{IsAnswer}
+use Rattle.aho_base.specs.Held.{held_after}
 use Rattle.aho_base.specs.Occurrence.{Occurrence}
 use Rattle.aho_base.specs.Patterns.{Patterns}
+use Rattle.aho_base.specs.declared.search.Anchored.TheVariants.{No}
+use Rattle.aho_base.specs.declared.search.MatchKind.TheVariants.{Standard}
 use Rattle.aho_devices.specs.Refusals.{is_read_fault}
 use Rattle.aho_stream.specs.After.{MayFollow, search_from}
 use Rattle.aho_stream.specs.Refills.{is_limit}
@@ -24,9 +27,15 @@ pub record TellsPlain (p : Patterns) (s s' : Progress) (given : List ℕ) : Type
   pub clear : (more : List ℕ) (m : Occurrence) → MayFollow s'.ended more
       → IsAnswer p (search_from s.from (given ++ more)) (Some m) → s'.reported ≤ m.start
 
--- the next match, whatever comes: all before it was reported
+-- the state is dead that is held after the bytes from one place up to another: no byte that follows changes the next match
+abbrev pub DiesAt : Patterns → List ℕ → ℕ → ℕ → Type 0
+DiesAt p given from place = (from ≤ place) × (place ≤ length given) × (held_after p No (slice_range given from place) ≡ None)
+
+-- the next match, whatever comes: all before it was reported. Before the end was seen a leftmost kind tells it only where the
+-- state has died
 pub record TellsMatch (p : Patterns) (s s' : Progress) (given : List ℕ) (m : Occurrence) : Type 0 where
   pub answer : (more : List ℕ) → MayFollow s'.ended more → IsAnswer p (search_from s.from (given ++ more)) (Some m)
+  pub settled : s'.ended ≡ false → p.kind ≢ Standard → (place : ℕ) × DiesAt p given s.from place
   pub starts : m.start ≡ s.reported
   pub read : m.end ≤ length given
   pub told : s'.told ≡ m.start
@@ -39,9 +48,10 @@ pub record TellsNone (s s' : Progress) : Type 0 where
   pub reported : s'.reported ≡ s.reported
   pub from : s'.from ≡ s.from
 
--- nothing occurs any more in what was given, and all of it was reported, or the limit was answered before
+-- nothing occurs any more in what was given, and all of it was reported, or the limit was answered before; then a leftmost kind
+-- may leave out a match that bytes to come could change
 pub record TellsEnd (p : Patterns) (s s' : Progress) (given : List ℕ) : Type 0 where
-  pub none : IsAnswer p (search_from s'.from given) None
+  pub none : (p.kind ≡ Standard) ⊎ (s'.ended ≡ true) → IsAnswer p (search_from s'.from given) None
   pub over : ((s'.ended ≡ true) × (s'.reported ≡ length given)) ⊎ (s.refused ≡ true)
   pub still : TellsNone s s'
 
@@ -50,9 +60,10 @@ pub record TellsFault (s s' : Progress) (given : List ℕ) : Type 0 where
   pub still : TellsNone s s'
   pub near : length given ≤ s'.reported + s'.buffer.least
 
--- the limit is answered once, where as many bytes were given
-pub record TellsLimit (s s' : Progress) (given : List ℕ) : Type 0 where
+-- the limit is answered once, where as many bytes were given. Under a leftmost kind the state has not died since the last match
+pub record TellsLimit (p : Patterns) (s s' : Progress) (given : List ℕ) : Type 0 where
   pub fault : TellsFault s s' given
+  pub unsettled : p.kind ≢ Standard → (place : ℕ) → DiesAt p given s'.from place → ⊥
   pub reached : length given ≡ s.limit
   pub first : s.refused ≡ false
   pub refused : s'.refused ≡ true
@@ -73,19 +84,19 @@ TellsChunk p s s' given NonMatch = TellsPlain p s s' given
 TellsChunk p s s' given (Match m) = TellsMatch p s s' given m
 
 -- what an error tells: a failed read, or that no room was left under the limit
-abbrev pub TellsError : Progress → Progress → List ℕ → StreamError → Type 0
-TellsError s s' given (Refused cause) = ⊥
-TellsError s s' given (Read fault) = TellsFault s s' given
-TellsError s s' given (Write fault) = ⊥
-TellsError s s' given WriteZero = ⊥
-TellsError s s' given Memory = ⊥
-TellsError s s' given PositionLimit = TellsLimit s s' given
+abbrev pub TellsError : Patterns → Progress → Progress → List ℕ → StreamError → Type 0
+TellsError p s s' given (Refused cause) = ⊥
+TellsError p s s' given (Read fault) = TellsFault s s' given
+TellsError p s s' given (Write fault) = ⊥
+TellsError p s s' given WriteZero = ⊥
+TellsError p s s' given Memory = ⊥
+TellsError p s s' given PositionLimit = TellsLimit p s s' given
 
 -- what an answer tells of the bytes given, those of this call among them, by what was kept before and after the call
 abbrev pub Tells : Patterns → Progress → Progress → List ℕ → Option (Result StreamPiece StreamError) → Type 0
 Tells p s s' given None = TellsEnd p s s' given
 Tells p s s' given (Some (Ok piece)) = TellsChunk p s s' given piece
-Tells p s s' given (Some (Err error)) = TellsError s s' given error
+Tells p s s' given (Some (Err error)) = TellsError p s s' given error
 
 -- the match of a chunk, where it has one, and the bytes that it lends
 abbrev pub chunk_told : StreamChunk → Option Occurrence × List ℕ

@@ -1,12 +1,10 @@
 -- What the replacement of a stream writes.
-use Rattle.std.specs.Prelude.{◌≡◌, ◌≢◌, ℕ, ◌+◌, ◌≤◌, Bool, true, List, [], ◌∷◌, ◌++◌, Option, None, Result, Ok, Err, IfErr, length, nat_lt, if◌then◌else◌, slice_index_or, slice_range}
+use Rattle.std.specs.Prelude.{◌≡◌, ℕ, ◌+◌, ◌≤◌, Bool, true, List, [], ◌∷◌, ◌++◌, Option, None, Result, Ok, Err, IfErr, length, nat_lt, if◌then◌else◌, slice_index_or, slice_range}
 use Rattle.std.specs.Io.{StartsWith}
 use Rattle.std.specs.Io.KnownBytes.{Appends, Consumes}
 use Rattle.aho_base.specs.Laws.{shortest}
 use Rattle.aho_base.specs.declared.error.MatchErrorKind.{MatchErrorKind}
-use Rattle.aho_base.specs.declared.error.MatchErrorKind.TheVariants.{UnsupportedStream, UnsupportedEmpty}
-use Rattle.aho_base.specs.declared.search.MatchKind.{MatchKind}
-use Rattle.aho_base.specs.declared.search.MatchKind.TheVariants.{Standard}
+use Rattle.aho_base.specs.declared.error.MatchErrorKind.TheVariants.{UnsupportedEmpty}
 use Rattle.aho_base.specs.declared.error.stream.StreamError.{StreamError}
 use Rattle.aho_base.specs.declared.error.stream.StreamError.TheVariants.{Match as Refused, Read, Write, WriteZero, Memory, PositionLimit}
 use Rattle.aho_base.specs.Iteration.{AreFinds}
@@ -45,7 +43,7 @@ pub record Gives (before after : Option (List ℕ)) (reads reads' : ℕ) (given 
 abbrev pub MayBe : List ℕ → Bool → List ℕ → Type 0
 MayBe given ended bytes = (more : List ℕ) × (bytes ≡ given ++ more) × MayFollow ended more
 
--- before a stream was begun: it is no kind of automaton for it, or there was no memory
+-- before a stream was begun: it is no automaton for it, or there was no memory
 abbrev pub IsMakingRefusal : StreamError → Type 0
 IsMakingRefusal (Refused cause) = Unit {0}
 IsMakingRefusal (Read fault) = ⊥
@@ -54,13 +52,12 @@ IsMakingRefusal WriteZero = ⊥
 IsMakingRefusal Memory = Unit {0}
 IsMakingRefusal PositionLimit = ⊥
 
--- what is not begun is refused for this, in this order, and for want of memory alone else. By the kind and the lengths of an
--- automaton's patterns, and its start
-pub record Refuses {A : Type 0} (kind : MatchKind) (lengths : List ℕ) (start : Result ℕ MatchErrorKind) (result : Result A StreamError) : Type 0 where
-  pub unsupported : kind ≢ Standard → result ≡ Err (Refused (UnsupportedStream kind))
-  pub empty : kind ≡ Standard → shortest lengths ≡ 0 → result ≡ Err (Refused UnsupportedEmpty)
-  pub refused : (reason : MatchErrorKind) → kind ≡ Standard → 1 ≤ shortest lengths → start ≡ Err reason → result ≡ Err (Refused reason)
-  pub memory : (sid : ℕ) → kind ≡ Standard → 1 ≤ shortest lengths → start ≡ Ok sid → IfErr result (λ error. error ≡ Memory)
+-- what is not begun is refused for this, in this order, and for want of memory alone else. By the lengths of an automaton's
+-- patterns, and its start
+pub record Refuses {A : Type 0} (lengths : List ℕ) (start : Result ℕ MatchErrorKind) (result : Result A StreamError) : Type 0 where
+  pub empty : shortest lengths ≡ 0 → result ≡ Err (Refused UnsupportedEmpty)
+  pub refused : (reason : MatchErrorKind) → 1 ≤ shortest lengths → start ≡ Err reason → result ≡ Err (Refused reason)
+  pub memory : (sid : ℕ) → 1 ≤ shortest lengths → start ≡ Ok sid → IfErr result (λ error. error ≡ Memory)
 
 -- once it was begun: a device failed, or took nothing, or the limit was met
 abbrev pub IsStreamFault : StreamError → Type 0

@@ -1,12 +1,16 @@
 -- What a walk over further bytes of a stream promises.
-use Rattle.std.specs.Prelude.{ℕ, List, ◌++◌, take}
-use Rattle.aho_base.specs.Laws.{BestAfter}
+use Rattle.std.specs.Prelude.{◌≡◌, ℕ, ◌+◌, ◌≤◌, List, ◌++◌, IfSome, length, take}
+use Rattle.aho_base.specs.Laws.{BestAfter, longest}
 use Rattle.aho_base.specs.Patterns.{Patterns}
 use Rattle.aho_base.specs.declared.search.Anchored.{Anchored}
 use Rattle.aho_base.specs.declared.search.Anchored.TheVariants.{No}
+use Rattle.aho_base.specs.declared.search.MatchKind.TheVariants.{Standard}
 use Rattle.aho_stream.specs.declared.walk.Walked.{Walked}
 
--- after the word and the bytes that were walked the state is held, and what was found is the best of them
-pub record WalksOn (p : Patterns) (held : Anchored → List ℕ → ℕ → Type 0) (word bytes : List ℕ) (walked : Walked) : Type 0 where
+-- after the word and the bytes that were walked the state is held, and what was found is the best of them. The walk stands at
+-- its end under Standard, and else at most one byte farther from its start than the longest pattern is long
+pub record WalksOn (p : Patterns) (lengths : List ℕ) (held : Anchored → List ℕ → ℕ → Type 0) (word bytes : List ℕ) (walked : Walked) : Type 0 where
   pub held_is : held No (word ++ take walked.count bytes) walked.sid
   pub best_is : BestAfter p No (word ++ take walked.count bytes) walked.found
+  pub near : IfSome walked.found (λ m. length word + walked.count ≤ m.start + longest lengths + 1)
+  pub ends : p.kind ≡ Standard → IfSome walked.found (λ m. length word + walked.count ≤ m.end)

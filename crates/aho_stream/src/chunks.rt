@@ -1,20 +1,20 @@
 //! The chunks of a stream, one after another: matches, and the bytes between them.
 
-ghost use Rattle.std.specs.Prelude.{◌≡◌, ◌≢◌, ◌+◌, ◌*◌, ◌<◌, ◌≤◌, ◌^◌, min, ℕ, List, [], Option, Some, None, Ok, Err, IfOk, IfErr, IfSome, length, slice_range, true, false, MatchBool, ◌-◌, ◌||◌};
-ghost use Rattle.aho_base.specs.Laws.{shortest};
+ghost use Rattle.std.specs.Prelude.{◌≡◌, ◌+◌, ◌*◌, ◌<◌, ◌≤◌, ◌^◌, min, ℕ, List, [], Option, Some, None, Ok, Err, IfOk, IfErr, IfSome, length, slice_range, true, false, MatchBool, ◌-◌, ◌||◌, ◌&&◌, is_none};
+ghost use Rattle.aho_base.specs.Laws.{longest, shortest};
 ghost use Rattle.aho_base.specs.Patterns.{Patterns};
-ghost use Rattle.aho_base.specs.declared.error.MatchErrorKind.TheVariants.{UnsupportedStream, UnsupportedEmpty};
+ghost use Rattle.aho_base.specs.declared.error.MatchErrorKind.TheVariants.{UnsupportedEmpty};
 ghost use Rattle.aho_base.specs.declared.search.Anchored.TheVariants.{No};
 ghost use Rattle.aho_base.specs.declared.search.MatchKind.TheVariants.{Standard};
 ghost use Rattle.aho_devices.specs.Counts.{counted};
-ghost use Rattle.aho_stream.specs.After.{IsAfter, greatest_position};
+ghost use Rattle.aho_stream.specs.After.{IsAfter, greatest_position, is_settled};
 ghost use Rattle.aho_stream.specs.Chunks.{Advances, Lends, chunk_told, TellsChunk, ends_between, tells_limit, tells_read_fault};
 ghost use Rattle.aho_stream.specs.Replacing.{IsMakingRefusal, Refuses};
 
 use crate::progress::{Progress, StreamPiece};
-use crate::walk::walk_on;
+use crate::walk::{is_settled, walk_on};
 use aho_base::error::{MatchError, StreamError};
-use aho_base::search::{Anchored, Match, MatchKind, StateID};
+use aho_base::search::{Anchored, Match, StateID};
 use aho_devices::buffer::Buffer;
 use aho_devices::device::Source;
 use aho_search::automaton::Automaton;
@@ -52,23 +52,15 @@ pub struct StreamChunkIter<'a, 'r, A, R> {
 /// The state in which each search of a stream begins, where the automaton can search one.
 fn check<A: Automaton>(automaton: &A) -> Result<StateID, MatchError>
     ensures start { IfOk result (λ sid. A.start automaton.now No ≡ Ok sid) }
-    ensures standard { IfOk result (λ sid. A.kind automaton.now ≡ Standard) }
     ensures no_empty { IfOk result (λ sid. 1 ≤ shortest (A.lengths automaton.now)) }
     ensures valid { IfOk result (A.valid automaton.now) }
     ensures shallow { IfOk result (λ sid. A.depth automaton.now sid ≡ 0) }
     ensures begins { IfOk result (λ sid. (p : Patterns) → A.is_of automaton.now p →
         A.held automaton.now p No [] sid) }
-    ensures unsupported { A.kind automaton.now ≢ Standard
-        → result ≡ Err (UnsupportedStream (A.kind automaton.now)) }
-    ensures empty { A.kind automaton.now ≡ Standard
-        → shortest (A.lengths automaton.now) ≡ 0 → result ≡ Err UnsupportedEmpty }
-    ensures refused { A.kind automaton.now ≡ Standard → 1 ≤ shortest (A.lengths automaton.now)
+    ensures empty { shortest (A.lengths automaton.now) ≡ 0 → result ≡ Err UnsupportedEmpty }
+    ensures refused { 1 ≤ shortest (A.lengths automaton.now)
         → result ≡ A.start automaton.now No }
 {
-    let kind = automaton.match_kind();
-    if kind != MatchKind::Standard {
-        return Err(MatchError::unsupported_stream(kind));
-    }
     if automaton.min_pattern_len() == 0 {
         return Err(MatchError::unsupported_empty());
     }
@@ -101,8 +93,7 @@ pub(crate) fn begin<A: Automaton>(
     ensures after { (p : Patterns) → A.is_of automaton.now p → IfOk result (λ s.
         IsAfter p (A.lengths automaton.now) (A.valid automaton.now) (A.held automaton.now p)
         (A.depth automaton.now) 0 s []) }
-    ensures refuses { Refuses (A.kind automaton.now) (A.lengths automaton.now)
-        (A.start automaton.now No) result }
+    ensures refuses { Refuses (A.lengths automaton.now) (A.start automaton.now No) result }
     ensures only { IfErr result IsMakingRefusal }
 {
     let start = check(automaton)?;
@@ -110,7 +101,7 @@ pub(crate) fn begin<A: Automaton>(
     Ok(Progress::new(buffer, start, limit.min(MAX_POSITION)))
 }
 
-/// Walks on over what was read and not walked yet, up to the first match, where none is in hand.
+/// Walks on over what was read and not walked yet, until the match in hand is settled.
 fn search<W: Walk>(walk: &mut W, progress: &mut Progress)
     requires after { (p : Patterns) × (given : List ℕ) × W.Of.is_of (W.of walk.old) p
         × IsAfter p (W.Of.lengths (W.of walk.old)) (W.Of.valid (W.of walk.old))
@@ -124,7 +115,8 @@ fn search<W: Walk>(walk: &mut W, progress: &mut Progress)
         → IsAfter p (W.Of.lengths (W.of walk.old)) (W.Of.valid (W.of walk.old))
         (W.Of.held (W.of walk.old) p) (W.Of.depth (W.of walk.old))
         (W.lookups walk.new) progress.new given }
-    ensures all { progress.new.in_hand ≡ None → progress.new.walked ≡ progress.new.read }
+    ensures all { is_settled (W.Of.kind (W.of walk.old)) (W.Of.dead (W.of walk.old) progress.new.sid)
+        progress.new.in_hand ≡ false → progress.new.walked ≡ progress.new.read }
     ensures same { W.of walk.new ≡ W.of walk.old }
     ensures others { progress.new ≡ record progress.old {
       walked = progress.new.walked;
@@ -133,34 +125,35 @@ fn search<W: Walk>(walk: &mut W, progress: &mut Progress)
       in_hand = progress.new.in_hand;
     } }
 {
-    if progress.in_hand.is_some() {
+    if is_settled(walk, progress.sid, &progress.in_hand) {
         return;
     }
     let at = (progress.walked - progress.from) as usize;
     let bytes = progress.bytes(progress.walked, progress.read);
-    let walked = walk_on(walk, bytes, at, progress.sid);
+    let walked = walk_on(walk, bytes, at, progress.sid, progress.in_hand);
     progress.walked += walked.count as u64;
     progress.position += walked.count as u128;
     progress.sid = walked.sid;
     progress.in_hand = walked.found;
 }
 
-/// The place up to which bytes are outside of every match, where none is in hand and all that was read was walked.
+/// The place up to which bytes are outside of every match, where all that was read was walked and a match in hand is not
+/// given yet.
 ///
-/// A match that ends later starts behind what the walk read in a start state; else it is no longer than the longest
-/// pattern.
+/// A match that ends later is no longer than the longest pattern, and starts behind what the walk read where that ended in
+/// a start state. A match in hand starts no farther back, while the state is not dead.
 fn outside<W: Walk>(walk: &W, progress: &Progress) -> u64
     requires valid { W.Of.valid (W.of walk.now) progress.now.sid }
     ensures ended { progress.now.ended ≡ true → result ≡ progress.now.read }
     ensures open { progress.now.ended ≡ false →
-        MatchBool (W.Of.starts (W.of walk.now) progress.now.sid)
+        MatchBool (is_none progress.now.in_hand && W.Of.starts (W.of walk.now) progress.now.sid)
         (result ≡ progress.now.walked)
         (result ≡ progress.now.walked - progress.now.buffer.least) }
 {
     if progress.ended {
         return progress.read;
     }
-    if walk.is_start(progress.sid) {
+    if progress.in_hand.is_none() && walk.is_start(progress.sid) {
         return progress.walked;
     }
     progress
@@ -168,13 +161,30 @@ fn outside<W: Walk>(walk: &W, progress: &Progress) -> u64
         .saturating_sub(progress.buffer.min_buffer_len() as u64)
 }
 
-/// The next chunk of what was walked: the match in hand, and before it the bytes that are outside of every match.
+/// The match that is given next: the one in hand, once it is settled or the end of the stream was seen.
+fn next_match<W: Walk>(walk: &W, progress: &Progress) -> Option<Match>
+    requires valid { W.Of.valid (W.of walk.now) progress.now.sid }
+    ensures in_hand { IfSome result (λ m. progress.now.in_hand ≡ Some m) }
+    ensures due { IfSome result (λ m. (progress.now.ended || is_settled (W.Of.kind (W.of walk.now))
+        (W.Of.dead (W.of walk.now) progress.now.sid) progress.now.in_hand) ≡ true) }
+    ensures none { result ≡ None → (is_settled (W.Of.kind (W.of walk.now))
+        (W.Of.dead (W.of walk.now) progress.now.sid) progress.now.in_hand ≡ false)
+        × (progress.now.ended ≡ true → progress.now.in_hand ≡ None) }
+{
+    if progress.ended || is_settled(walk, progress.sid, &progress.in_hand) {
+        return progress.in_hand;
+    }
+    None
+}
+
+/// The next chunk of what was walked: the match that is given next, and before it the bytes that are outside of every match.
 fn piece<W: Walk>(walk: &W, progress: &mut Progress) -> Option<StreamPiece>
     requires after { (p : Patterns) × (given : List ℕ) × W.Of.is_of (W.of walk.now) p
         × IsAfter p (W.Of.lengths (W.of walk.now)) (W.Of.valid (W.of walk.now))
         (W.Of.held (W.of walk.now) p) (W.Of.depth (W.of walk.now))
         (W.lookups walk.now) progress.old given }
-    requires walked { progress.old.in_hand ≡ None → progress.old.walked ≡ progress.old.read }
+    requires walked { is_settled (W.Of.kind (W.of walk.now)) (W.Of.dead (W.of walk.now) progress.old.sid)
+        progress.old.in_hand ≡ false → progress.old.walked ≡ progress.old.read }
     requires open { progress.old.refused ≡ false }
     ensures after { (p : Patterns) (given : List ℕ) → W.Of.is_of (W.of walk.now) p
         → IsAfter p (W.Of.lengths (W.of walk.now)) (W.Of.valid (W.of walk.now))
@@ -188,16 +198,18 @@ fn piece<W: Walk>(walk: &W, progress: &mut Progress) -> Option<StreamPiece>
         (W.Of.held (W.of walk.now) p) (W.Of.depth (W.of walk.now))
         (W.lookups walk.now) progress.old given
         → IfSome result (TellsChunk p progress.old progress.new given) }
-    ensures none { result ≡ None → (progress.new ≡ progress.old) × (progress.old.in_hand ≡ None) }
+    ensures none { result ≡ None → (progress.new ≡ progress.old)
+        × (is_settled (W.Of.kind (W.of walk.now)) (W.Of.dead (W.of walk.now) progress.old.sid)
+        progress.old.in_hand ≡ false) }
     ensures near { result ≡ None
         → progress.new.walked ≤ progress.new.reported + progress.new.buffer.least }
     ensures end { result ≡ None → progress.new.ended ≡ true
-        → progress.new.read ≤ progress.new.reported }
+        → (progress.new.read ≤ progress.new.reported) × (progress.new.in_hand ≡ None) }
     ensures ended { progress.new.ended ≡ progress.old.ended }
     ensures refused { progress.new.refused ≡ progress.old.refused }
     ensures limit { progress.new.limit ≡ progress.old.limit }
 {
-    let Some(m) = progress.in_hand else {
+    let Some(m) = next_match(walk, progress) else {
         let end = outside(walk, progress);
         return progress.report(end);
     };
@@ -210,7 +222,7 @@ fn piece<W: Walk>(walk: &W, progress: &mut Progress) -> Option<StreamPiece>
     }
 }
 
-/// The next chunk of what was read, by walking on where no match is in hand; none where more has to be read first.
+/// The next chunk of what was read, by walking on where no match in hand is settled; none where more has to be read first.
 fn next_piece<W: Walk>(walk: &mut W, progress: &mut Progress) -> Option<StreamPiece>
     requires after { (p : Patterns) × (given : List ℕ) × W.Of.is_of (W.of walk.old) p
         × IsAfter p (W.Of.lengths (W.of walk.old)) (W.Of.valid (W.of walk.old))
@@ -235,12 +247,13 @@ fn next_piece<W: Walk>(walk: &mut W, progress: &mut Progress) -> Option<StreamPi
       sid = progress.new.sid;
       in_hand = progress.new.in_hand;
     } }
-    ensures walked { result ≡ None → (progress.new.in_hand ≡ None)
+    ensures walked { result ≡ None → (is_settled (W.Of.kind (W.of walk.old))
+        (W.Of.dead (W.of walk.old) progress.new.sid) progress.new.in_hand ≡ false)
         × (progress.new.walked ≡ progress.new.read) }
     ensures near { result ≡ None
         → progress.new.read ≤ progress.new.reported + progress.new.buffer.least }
     ensures end { result ≡ None → progress.new.ended ≡ true
-        → progress.new.read ≤ progress.new.reported }
+        → (progress.new.read ≤ progress.new.reported) × (progress.new.in_hand ≡ None) }
     ensures limit { progress.new.limit ≡ progress.old.limit }
     ensures ended { progress.new.ended ≡ progress.old.ended }
     ensures refused { progress.new.refused ≡ progress.old.refused }
@@ -273,7 +286,7 @@ impl<'a, 'r, A: Automaton, R: Source> StreamChunkIter<'a, 'r, A, R> {
             IsAfter p (A.lengths automaton.entry.now) (A.valid automaton.entry.now)
             (A.held automaton.entry.now p) (A.depth automaton.entry.now)
             (⟦<Counted<'a, A> as Walk>⟧.lookups it.walk) it.progress []) }
-        ensures refuses { Refuses (A.kind automaton.entry.now) (A.lengths automaton.entry.now)
+        ensures refuses { Refuses (A.lengths automaton.entry.now)
             (A.start automaton.entry.now No) result }
     {
         StreamChunkIter::with_limit(alloc, automaton, source, MAX_POSITION)
@@ -286,9 +299,8 @@ impl<'a, 'r, A: Automaton, R: Source> StreamChunkIter<'a, 'r, A, R> {
     ///
     /// # Errors
     ///
-    /// In this order, and each exactly where it is so: a leftmost kind is refused with `UnsupportedStream`, an empty
-    /// pattern with `UnsupportedEmpty`, and what `start_state` refuses; then `Memory`, where the buffer's growth is
-    /// refused. Nothing is read here.
+    /// In this order, and each exactly where it is so: an empty pattern is refused with `UnsupportedEmpty`, and what
+    /// `start_state` refuses; then `Memory`, where the buffer's growth is refused. Nothing is read here.
     pub fn with_limit(
         alloc: Global,
         automaton: &'a A,
@@ -305,7 +317,7 @@ impl<'a, 'r, A: Automaton, R: Source> StreamChunkIter<'a, 'r, A, R> {
             IsAfter p (A.lengths automaton.entry.now) (A.valid automaton.entry.now)
             (A.held automaton.entry.now p) (A.depth automaton.entry.now)
             (⟦<Counted<'a, A> as Walk>⟧.lookups it.walk) it.progress []) }
-        ensures refuses { Refuses (A.kind automaton.entry.now) (A.lengths automaton.entry.now)
+        ensures refuses { Refuses (A.lengths automaton.entry.now)
             (A.start automaton.entry.now No) result }
     {
         let progress = begin(alloc, automaton, limit)?;
@@ -339,6 +351,9 @@ impl<'a, 'r, A: Automaton, R: Source> StreamChunkIter<'a, 'r, A, R> {
 
     /// Goes on to the next chunk of the stream, whose bytes `bytes` then lends: a match, or some bytes outside of every
     /// match. None where the stream has ended, and after the position limit was answered.
+    ///
+    /// A match is given once no byte that follows can change it: under `Standard` when it is seen, under the leftmost kinds
+    /// when the state is dead or the end of the stream was seen.
     ///
     /// # Errors
     ///
@@ -455,10 +470,19 @@ impl<'a, 'r, A: Automaton, R: Source> StreamChunkIter<'a, 'r, A, R> {
         self.walk.lookups()
     }
 
-    /// How many bytes the automaton walked: each byte that was given once at most.
+    /// How many bytes the automaton walked, each time that it walked them: under `Standard` each byte that was given once at
+    /// most, under the leftmost kinds once and as many times again as the longest pattern has bytes.
     pub fn position(&self) -> u128
         ensures position { result ≡ self.now.progress.position }
-        ensures once { (p : Patterns) (given : List ℕ)
+        ensures bounded { (p : Patterns) (given : List ℕ)
+            → IsAfter p (A.lengths (⟦<Counted<'a, A> as Walk>⟧.of self.now.walk))
+            (A.valid (⟦<Counted<'a, A> as Walk>⟧.of self.now.walk))
+            (A.held (⟦<Counted<'a, A> as Walk>⟧.of self.now.walk) p)
+            (A.depth (⟦<Counted<'a, A> as Walk>⟧.of self.now.walk))
+            (⟦<Counted<'a, A> as Walk>⟧.lookups self.now.walk) self.now.progress given
+            → result ≤ (1 + longest (A.lengths (⟦<Counted<'a, A> as Walk>⟧.of self.now.walk)))
+            * length given }
+        ensures once { (p : Patterns) (given : List ℕ) → p.kind ≡ Standard
             → IsAfter p (A.lengths (⟦<Counted<'a, A> as Walk>⟧.of self.now.walk))
             (A.valid (⟦<Counted<'a, A> as Walk>⟧.of self.now.walk))
             (A.held (⟦<Counted<'a, A> as Walk>⟧.of self.now.walk) p)

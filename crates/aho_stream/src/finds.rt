@@ -47,8 +47,7 @@ pub fn try_stream_find_iter<'a, 'r, A: Automaton, R: Source>(
         (A.held automaton.entry.now p) (A.depth automaton.entry.now)
         (⟦<Counted<'a, A> as Walk>⟧.lookups it.chunks.walk) it.chunks.progress []) }
     ensures ready { IfOk result ⟦<StreamFindIter<'a, 'r, A, R> as Iterator>⟧.can_next }
-    ensures refuses { Refuses (A.kind automaton.entry.now) (A.lengths automaton.entry.now)
-        (A.start automaton.entry.now No) result }
+    ensures refuses { Refuses (A.lengths automaton.entry.now) (A.start automaton.entry.now No) result }
 {
     Ok(StreamFindIter {
         chunks: StreamChunkIter::new(alloc, automaton, source)?,

@@ -6,9 +6,8 @@ ghost use Rattle.aho_base.specs.Laws.{shortest};
 ghost use Rattle.aho_base.specs.Patterns.{Patterns};
 ghost use Rattle.aho_base.specs.Replacement.{pieces_of};
 ghost use Rattle.aho_base.specs.declared.error.MatchErrorKind.{MatchErrorKind};
-ghost use Rattle.aho_base.specs.declared.error.MatchErrorKind.TheVariants.{UnsupportedStream, UnsupportedEmpty};
+ghost use Rattle.aho_base.specs.declared.error.MatchErrorKind.TheVariants.{UnsupportedEmpty};
 ghost use Rattle.aho_base.specs.declared.search.Anchored.TheVariants.{No};
-ghost use Rattle.aho_base.specs.declared.search.MatchKind.TheVariants.{Standard};
 ghost use Rattle.aho_devices.specs.Counts.{counted};
 ghost use Rattle.aho_devices.specs.Refusals.{IsFillRefusal, is_read_fault, is_write_fault, is_write_of_nothing};
 ghost use Rattle.aho_stream.specs.After.{IsAfter, greatest_position, kept_for};
@@ -137,16 +136,12 @@ pub fn try_stream_replace_all<A: Automaton, R: Source, W: Sink>(
         ≡ counted (is_write_of_nothing result) (W.empty_writes sink.old) }
     ensures untouched { IfErr result (λ error. IsMakingRefusal error →
         (source.new ≡ source.old) × (sink.new ≡ sink.old)) }
-    ensures unsupported { A.kind automaton.now ≢ Standard
-        → result ≡ Err (StreamError.Match (UnsupportedStream (A.kind automaton.now))) }
-    ensures empty { A.kind automaton.now ≡ Standard → shortest (A.lengths automaton.now) ≡ 0
+    ensures empty { shortest (A.lengths automaton.now) ≡ 0
         → result ≡ Err (StreamError.Match UnsupportedEmpty) }
-    ensures refused { (reason : MatchErrorKind) → A.kind automaton.now ≡ Standard
-        → 1 ≤ shortest (A.lengths automaton.now) → A.start automaton.now No ≡ Err reason
-        → result ≡ Err (StreamError.Match reason) }
-    ensures suits { (sid : ℕ) (reason : MatchErrorKind) → A.kind automaton.now ≡ Standard
-        → 1 ≤ shortest (A.lengths automaton.now) → A.start automaton.now No ≡ Ok sid
-        → result ≢ Err (StreamError.Match reason) }
+    ensures refused { (reason : MatchErrorKind) → 1 ≤ shortest (A.lengths automaton.now)
+        → A.start automaton.now No ≡ Err reason → result ≡ Err (StreamError.Match reason) }
+    ensures suits { (sid : ℕ) (reason : MatchErrorKind) → 1 ≤ shortest (A.lengths automaton.now)
+        → A.start automaton.now No ≡ Ok sid → result ≢ Err (StreamError.Match reason) }
 {
     let progress = begin(alloc, automaton, MAX_POSITION)?;
     let mut chunks = StreamChunkIter::over(automaton, source, progress);
@@ -218,7 +213,7 @@ where
     F: FnMut(&Match, &[u8], &mut W) -> Result<(), StreamError>,
     requires of { (p : Patterns) × A.is_of automaton.now p }
     requires callable { F.IsAlwaysCallable replace_with }
-    ensures runs { (sid : ℕ) → A.kind automaton.now ≡ Standard
+    ensures runs { (sid : ℕ)
         → 1 ≤ shortest (A.lengths automaton.now) → A.start automaton.now No ≡ Ok sid
         → ((result ≡ Err StreamError.Memory) × (source.new ≡ source.old) × (sink.new ≡ sink.old))
         ⊎ RunsOver W.taken W.failures W.empty_writes (A.is_of automaton.now) F.FnMut
@@ -226,13 +221,10 @@ where
         (R.empty_reads source.old) (R.empty_reads source.new)
         (R.failures source.old) (R.failures source.new)
         replace_with sink.old result sink.new (kept_for (A.lengths automaton.now)) }
-    ensures unsupported { A.kind automaton.now ≢ Standard
-        → (result ≡ Err (StreamError.Match (UnsupportedStream (A.kind automaton.now))))
-        × (source.new ≡ source.old) × (sink.new ≡ sink.old) }
-    ensures empty { A.kind automaton.now ≡ Standard → shortest (A.lengths automaton.now) ≡ 0
+    ensures empty { shortest (A.lengths automaton.now) ≡ 0
         → (result ≡ Err (StreamError.Match UnsupportedEmpty))
         × (source.new ≡ source.old) × (sink.new ≡ sink.old) }
-    ensures refused { (reason : MatchErrorKind) → A.kind automaton.now ≡ Standard
+    ensures refused { (reason : MatchErrorKind)
         → 1 ≤ shortest (A.lengths automaton.now) → A.start automaton.now No ≡ Err reason
         → (result ≡ Err (StreamError.Match reason))
         × (source.new ≡ source.old) × (sink.new ≡ sink.old) }

@@ -1,13 +1,14 @@
-//! The walk over the bytes of a stream, from where it stands up to the next match.
+//! The walk over the bytes of a stream, from where it stands up to where the next match is known.
 
-ghost use Rattle.std.specs.Prelude.{◌≡◌, ◌+◌, ◌*◌, ◌<◌, ◌≤◌, ◌^◌, ℕ, List, IfSome, None, length};
-ghost use Rattle.aho_base.specs.Laws.{BestAfter};
+ghost use Rattle.std.specs.Prelude.{◌≡◌, ◌+◌, ◌*◌, ◌<◌, ◌≤◌, ◌^◌, ℕ, List, IfSome, None, false, length};
+ghost use Rattle.aho_base.specs.Laws.{BestAfter, Fits, better, told};
 ghost use Rattle.aho_base.specs.Patterns.{Patterns};
 ghost use Rattle.aho_base.specs.declared.search.Anchored.TheVariants.{No};
 ghost use Rattle.aho_base.specs.declared.search.MatchKind.TheVariants.{Standard};
+ghost use Rattle.aho_stream.specs.After.{is_settled};
 ghost use Rattle.aho_stream.specs.Walking.{WalksOn};
 
-use aho_base::search::{Anchored, Match, StateID};
+use aho_base::search::{Anchored, Match, MatchKind, StateID};
 use aho_search::find::told_at;
 use aho_search::walk::Walk;
 
@@ -18,13 +19,52 @@ pub struct Walked {
     pub count: usize,
     /// The state that is held after them.
     pub sid: StateID,
-    /// The match that ends there. Its places count from the end of the match before.
+    /// The best match in all that was walked. Its places count from the end of the match before.
     pub found: Option<Match>,
 }
 
-/// Walks over bytes up to the first match, from a state that is held after `at` bytes of which none end a match.
-pub fn walk_on<W: Walk>(walk: &mut W, bytes: &[u8], at: usize, sid: StateID) -> Walked
-    requires standard { W.Of.kind (W.of walk.old) ≡ Standard }
+/// Whether a match in hand is the next one, whatever follows: under `Standard` always, under the leftmost kinds where the
+/// state is dead.
+pub fn is_settled<W: Walk>(walk: &W, sid: StateID, in_hand: &Option<Match>) -> bool
+    requires valid { W.Of.valid (W.of walk.now) sid }
+    ensures settled { result ≡ is_settled (W.Of.kind (W.of walk.now))
+        (W.Of.dead (W.of walk.now) sid) in_hand.now }
+{
+    if in_hand.is_none() {
+        return false;
+    }
+    match walk.match_kind() {
+        MatchKind::Standard => true,
+        MatchKind::LeftmostFirst | MatchKind::LeftmostLongest => walk.is_dead(sid),
+    }
+}
+
+/// The best match after one byte more, by the best before it and by what the state tells. Under `Standard` none was found
+/// before.
+fn better_at<W: Walk>(walk: &W, sid: StateID, at: usize, best: Option<Match>) -> Option<Match>
+    requires valid { W.Of.valid (W.of walk.now) sid }
+    requires fits { Fits (W.Of.lengths (W.of walk.now)) at (W.Of.list (W.of walk.now) sid) }
+    requires first { W.Of.kind (W.of walk.now) ≡ Standard → best ≡ None }
+    ensures better { result ≡ better (W.Of.kind (W.of walk.now)) best
+        (told (W.Of.lengths (W.of walk.now)) No 0 at (W.Of.list (W.of walk.now) sid)) }
+{
+    match told_at(walk, Anchored::No, sid, 0, at) {
+        Some(m) => Some(m),
+        None => best,
+    }
+}
+
+/// Walks over bytes until the match in hand is settled, from a state that is held after `at` bytes of which it is the best
+/// match.
+pub fn walk_on<W: Walk>(
+    walk: &mut W,
+    bytes: &[u8],
+    at: usize,
+    sid: StateID,
+    in_hand: Option<Match>,
+) -> Walked
+    requires unsettled { is_settled (W.Of.kind (W.of walk.old))
+        (W.Of.dead (W.of walk.old) sid) in_hand ≡ false }
     requires valid { W.Of.valid (W.of walk.old) sid }
     requires held { (p : Patterns) × (word : List ℕ) × W.Of.is_of (W.of walk.old) p
         × (length word ≡ at) × W.Of.held (W.of walk.old) p No word sid }
@@ -32,25 +72,28 @@ pub fn walk_on<W: Walk>(walk: &mut W, bytes: &[u8], at: usize, sid: StateID) -> 
     requires room { W.lookups walk.old + W.Of.depth (W.of walk.old) sid
         + 2 * length bytes.now < 2 ^ 128 }
     ensures walks { (p : Patterns) (word : List ℕ) → W.Of.is_of (W.of walk.old) p
-        → length word ≡ at → W.Of.held (W.of walk.old) p No word sid → BestAfter p No word None
-        → WalksOn p (W.Of.held (W.of walk.old) p) word bytes.now result }
+        → length word ≡ at → W.Of.held (W.of walk.old) p No word sid → BestAfter p No word in_hand
+        → WalksOn p (W.Of.lengths (W.of walk.old)) (W.Of.held (W.of walk.old) p) word bytes.now
+        result }
     ensures valid { W.Of.valid (W.of walk.old) result.sid }
     ensures within { result.count ≤ length bytes.now }
-    ensures all { result.found ≡ None → result.count ≡ length bytes.now }
-    ensures ends { IfSome result.found (λ m. m.end ≡ at + result.count) }
+    ensures all { is_settled (W.Of.kind (W.of walk.old)) (W.Of.dead (W.of walk.old) result.sid)
+        result.found ≡ false → result.count ≡ length bytes.now }
     ensures same { W.of walk.new ≡ W.of walk.old }
     ensures cost { W.lookups walk.new + W.Of.depth (W.of walk.old) result.sid
         ≤ W.lookups walk.old + W.Of.depth (W.of walk.old) sid + 2 * result.count }
 {
     let mut sid = sid;
+    let mut found = in_hand;
     for count in 0..bytes.len() {
         sid = walk.step(Anchored::No, sid, bytes[count]);
         if walk.is_special(sid) {
-            if let Some(m) = told_at(walk, Anchored::No, sid, 0, at + count + 1) {
+            found = better_at(walk, sid, at + count + 1, found);
+            if is_settled(walk, sid, &found) {
                 return Walked {
                     count: count + 1,
                     sid,
-                    found: Some(m),
+                    found,
                 };
             }
         }
@@ -58,6 +101,6 @@ pub fn walk_on<W: Walk>(walk: &mut W, bytes: &[u8], at: usize, sid: StateID) -> 
     Walked {
         count: bytes.len(),
         sid,
-        found: None,
+        found,
     }
 }

@@ -10,3 +10,15 @@ pub mod Refusals
 pub mod Renumbered
 -- rows: how one is filled, and what a change of the table leaves of them
 pub mod Rows
+-- numbers that are exchanged for others
+pub mod RenamedStates
+-- two states that change places
+pub mod SwappedStates
+-- the numbers of the states' lists
+pub mod Numbers
+-- the states of records
+pub mod Records
+-- a table where a list of one state was changed, or its link
+pub mod Changes
+-- the same of records, and of the lists by their numbers
+pub mod RenumberedRecords

@@ -1,26 +1,27 @@
 -- Two states that change places: where each stands then.
-use Rattle.std.proofs.Common.{◌≡◌, ℕ, ◌+◌, ◌<◌, ◌≢◌, List, [], ◌∷◌, ◌++◌, length, map, slice_index, slice_set, refl, sym, ap, subst, ◌∙◌, inl, inr, arith}
-use Rattle.std.specs.List.{AllZip, range_with_len}
+use Rattle.std.proofs.Common.{◌≡◌, ℕ, ◌+◌, ◌<◌, ◌≢◌, List, [], ◌∷◌, ◌++◌, length, get_or, map, slice_index, slice_set, refl, sym, ap, subst, ◌∙◌, inl, inr, arith}
+use Rattle.std.specs.List.{range_with_len, swap}
 use Rattle.std.proofs.lemmas.Bool.{cases_eq, eq-eqb}
 use Rattle.std.proofs.lemmas.Bool.Decides.{nat_tests}
+use Rattle.std.proofs.lemmas.List.Edits.{swapped_from_swap}
 use Rattle.std.proofs.lemmas.List.FromFn.{get_or-range_with_len, length-range_with_len, map-range_with_len_more}
 use Rattle.std.proofs.lemmas.List.{ext_get_or, get_or-map, map-id, get_or-set_same, get_or-set_other, length-map, length-set}
 use Rattle.aho_table.specs.Remapping.{transposed, AreInverse}
 
 -- the first of the two, the second, and any other number
-transposed-first : (a b n : ℕ) → n ≡ a → transposed a b n ≡ b
+pub transposed-first : (a b n : ℕ) → n ≡ a → transposed a b n ≡ b
 transposed-first a b n is = rw (eq-eqb n a is) refl
 
-transposed-second : (a b n : ℕ) → n ≡ b → transposed a b n ≡ a
+pub transposed-second : (a b n : ℕ) → n ≡ b → transposed a b n ≡ a
 transposed-second a b n is = elim (cases_eq n a) [
   | inl same ↦ transposed-first a b n same ∙ sym is ∙ same
   | inr other ↦ grind (arith, nat_tests, is, other)
 ]
 
-transposed-other : (a b n : ℕ) → n ≢ a → n ≢ b → transposed a b n ≡ n
+pub transposed-other : (a b n : ℕ) → n ≢ a → n ≢ b → transposed a b n ≡ n
 transposed-other a b n not_a not_b = grind (arith, nat_tests, not_a, not_b)
 
-transposed-below : (a b n len : ℕ) → a < len → b < len → n < len → transposed a b n < len
+pub transposed-below : (a b n len : ℕ) → a < len → b < len → n < len → transposed a b n < len
 transposed-below a b n len of_a of_b of_n = elim (cases_eq n a) [
   | inl is_a ↦ subst (λ m. m < len) (sym (transposed-first a b n is_a)) of_b
   | inr not_a ↦ elim (cases_eq n b) [
@@ -29,7 +30,7 @@ transposed-below a b n len of_a of_b of_n = elim (cases_eq n a) [
   ]
 ]
 
-transposed-twice : (a b n : ℕ) → transposed a b (transposed a b n) ≡ n
+pub transposed-twice : (a b n : ℕ) → transposed a b (transposed a b n) ≡ n
 transposed-twice a b n = elim (cases_eq n a) [
   | inl is_a ↦ ap (transposed a b) (transposed-first a b n is_a) ∙ transposed-second a b b refl ∙ sym is_a
   | inr not_a ↦ elim (cases_eq n b) [
@@ -37,6 +38,18 @@ transposed-twice a b n = elim (cases_eq n a) [
     | inr not_b ↦ ap (transposed a b) (transposed-other a b n not_a not_b) ∙ transposed-other a b n not_a not_b
   ]
 ]
+
+-- where two items of a list have changed places
+pub swap-at : {X : Type 0} (default : X) (xs ys : List X) (a b : ℕ) → a < length xs → b < length xs → ys ≡ swap xs a b → (n : ℕ) → get_or ys n default ≡ get_or xs (transposed a b n) default
+swap-at default xs ys a b of_a of_b is n =
+    let swapped = swapped_from_swap xs ys a b default of_a of_b is in
+    elim (cases_eq n a) [
+      | inl is_a ↦ ap (λ (i : ℕ). get_or ys i default) is_a ∙ swapped.0 ∙ ap (λ (i : ℕ). get_or xs i default) (sym (transposed-first a b n is_a))
+      | inr not_a ↦ elim (cases_eq n b) [
+        | inl is_b ↦ ap (λ (i : ℕ). get_or ys i default) is_b ∙ swapped.1 ∙ ap (λ (i : ℕ). get_or xs i default) (sym (transposed-second a b n is_b))
+        | inr not_b ↦ swapped.2 n not_a not_b ∙ ap (λ (i : ℕ). get_or xs i default) (sym (transposed-other a b n not_a not_b))
+      ]
+    ]
 
 module _ (places origins : List ℕ) (a b : ℕ) (inverse : AreInverse places origins) (of_a : a < length places) (of_b : b < length places) where
   abbrev first : ℕ
@@ -147,10 +160,3 @@ module _ (len : ℕ) where
 
   pub AreInverse-range : AreInverse numbers numbers
   AreInverse-range = record { as_many = refl; placed = below; numbered = below; back = back; there = back }
-
--- a relation of the items of two lists implies a weaker one
-pub AllZip-weaker : {X Y : Type 0} (R Q : X → Y → Type 0) → ((x : X) (y : Y) → R x y → Q x y) → (xs : List X) (ys : List Y) → AllZip R xs ys → AllZip Q xs ys
-AllZip-weaker R Q weaker [] [] both = both
-AllZip-weaker R Q weaker [] (y ∷ ys) both = both
-AllZip-weaker R Q weaker (x ∷ xs) [] both = both
-AllZip-weaker R Q weaker (x ∷ xs) (y ∷ ys) both = (weaker x y both.0, AllZip-weaker R Q weaker xs ys both.1)

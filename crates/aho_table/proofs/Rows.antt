@@ -2,14 +2,13 @@
 use Rattle.std.proofs.Common.{◌≡◌, ℕ, ◌+◌, ◌-◌, ◌<◌, ◌≤◌, Bool, List, [], ◌∷◌, ◌++◌, length, get_or, drop, take, replicate, refl, sym, ap, subst, ◌∙◌, inl, inr, arith}
 use Rattle.std.proofs.Math.ListN.{set, length-set}
 use Rattle.std.proofs.lemmas.Bool.{cases_eq, cases_lt}
-use Rattle.std.proofs.lemmas.List.Sums.{sum_by_push}
 use Rattle.std.proofs.lemmas.List.{drop_more, drop_all, get_or_default, get_or_past, length_push, get_or-replicate, get_or-set_same, get_or-set_other, get_or_append_left, get_or-append-add, get_or-take, length-append, length-take-le, length-replicate}
 use Rattle.aho_table.specs.Alphabet.{class_of, class_count}
-use Rattle.aho_table.specs.Table.{State, new_state, state_at, transition_at, transitions_count, matches_count, IsRising, LeadsAlike}
-use Rattle.aho_table.specs.Inside.{StandsAt, IsRowOf, IsRowAdded, IsFilled, start_in, HasRows, IsConsistent}
+use Rattle.aho_table.specs.Table.{State, state_at, transition_at, IsRising, LeadsAlike}
+use Rattle.aho_table.specs.Inside.{IsRowOf, IsRowAdded, IsFilled, start_in, HasRows}
 use Rattle.aho_table.proofs.States.{state_at-set_other, state_at-push_old}
 use Rattle.aho_table.proofs.Classes.{class_of-byte, class_of-count}
-use Rattle.aho_table.proofs.TransitionLists.{transition_at-other, transition_at-stands}
+use Rattle.aho_table.proofs.TransitionLists.{transition_at-other, transition_at-at}
 
 -- ---- a row is filled, one transition of the list after another
 
@@ -25,9 +24,9 @@ module _ (classes : List Bool) (transitions : List (ℕ × ℕ)) (rising : IsRis
   pub IsFilled-more : (transition : ℕ × ℕ) → place < length transitions → transition ≡ get_or transitions place transition → transition.0 < 256
       → IsFilled classes transitions (drop (place + 1) transitions) (set row (class_of classes transition.0) transition.1)
   IsFilled-more transition within is small =
-      let stands : StandsAt transitions transition.0 place =
-      record { within = within; of_byte = ap (λ (t : ℕ × ℕ). t.0) (get_or_default transitions place (0, 1) transition within ∙ sym is) } in
-      let led : transition_at transitions transition.0 ≡ transition.1 = transition_at-stands transitions transition.0 place transition rising stands ∙ ap (λ (t : ℕ × ℕ). t.1) (sym is) in
+      let here = get_or_default transitions place (0, 1) transition within ∙ sym is in
+      let led : transition_at transitions transition.0 ≡ transition.1 =
+      transition_at-at transitions place transition.0 (0, 1) rising within (ap (λ (t : ℕ × ℕ). t.0) here) ∙ ap (λ (t : ℕ × ℕ). t.1) here in
       let rest : drop place transitions ≡ transition ∷ drop (place + 1) transitions =
       drop_more transitions place transition within ∙ ap (λ (t : ℕ × ℕ). t ∷ drop (place + 1) transitions) (sym is) in
       record {
@@ -157,31 +156,3 @@ module _ (states : List State) (starts : List ℕ) (classes : List Bool) (entrie
                   absurd (omega arith)
             ];
       }
-
--- a table without the state that was just added
-pub IsConsistent-popped : (states fewer : List State) (depth limit transitions matches : ℕ) (starts : List ℕ) (classes : List Bool) (entries : List ℕ) (place : ℕ)
-    → states ≡ fewer ++ new_state depth ∷ [] → place + 1 ≡ length starts → IsConsistent states limit transitions matches starts classes entries
-    → IsConsistent fewer limit transitions matches (take place starts) classes entries
-IsConsistent-popped states fewer depth limit transitions matches starts classes entries place is least consistent =
-    let length_is : length states ≡ length fewer + 1 = ap length is ∙ length_push fewer (new_state depth) in
-    let listed : transitions_count states ≡ transitions_count fewer =
-    ap transitions_count is ∙ ap (λ (n : ℕ). 1 + n) (sum_by_push (λ (state : State). length state.transitions) fewer (new_state depth) ∙ omega arith) in
-    let matched : matches_count states ≡ matches_count fewer =
-    ap matches_count is ∙ ap (λ (n : ℕ). 1 + n) (sum_by_push (λ (state : State). length state.matches) fewer (new_state depth) ∙ omega arith) in
-    let states_within = consistent.states_within in
-    record {
-      small = consistent.small;
-      transitions_are = consistent.transitions_are ∙ listed;
-      transitions_within = consistent.transitions_within;
-      matches_are = consistent.matches_are ∙ matched;
-      matches_within = consistent.matches_within;
-      states_within = omega arith;
-      rising = λ i.
-          elim (cases_lt i (length fewer)) [
-            | inl below ↦
-                subst (λ (r : State). IsRising r.transitions)
-                (ap (λ (ss : List State). state_at ss i) is ∙ state_at-push_old fewer (new_state depth) i below) (consistent.rising i)
-            | inr past ↦ subst (λ (r : State). IsRising r.transitions) (sym (get_or_past fewer i (new_state 0) past)) tt
-          ];
-      rows = HasRows-popped states starts classes entries limit consistent.rows fewer (new_state depth) place is least;
-    }

@@ -21,6 +21,15 @@ pub matches_count-set : (states : List State) (sid : ℕ) (state old : State) �
 matches_count-set states sid state old below is =
     omega (arith, sum_by-set (λ (r : State). length r.matches) states sid state old below, ap (λ (r : State). length r.matches) is)
 
+-- a state's lists are shorter than the tables are
+pub transitions-within : (states : List State) (sid : ℕ) → sid < length states → length (state_at states sid).transitions < transitions_count states
+transitions-within states sid below =
+    omega (arith, transitions_count-set states sid (new_state 0) (state_at states sid) below (get_or_default states sid (new_state 0) (state_at states sid) below))
+
+pub matches-within : (states : List State) (sid : ℕ) → sid < length states → length (state_at states sid).matches < matches_count states
+matches-within states sid below =
+    omega (arith, matches_count-set states sid (new_state 0) (state_at states sid) below (get_or_default states sid (new_state 0) (state_at states sid) below))
+
 -- ---- the states after one was changed or added
 
 pub state_at-set_same : (states : List State) (sid : ℕ) (state : State) → sid < length states → state_at (set states sid state) sid ≡ state

@@ -1,20 +1,63 @@
--- The inside of a table, as one representation keeps it: where the transition of a byte stands in a list, the counts,
--- the classes of bytes, and the rows by them.
-use Rattle.std.specs.Prelude.{◌≡◌, ℕ, ◌+◌, ◌-◌, ◌<◌, ◌≤◌, ◌⊎◌, Bool, nat_lt, take, drop, List, [], ◌∷◌, length, slice_index_or}
-use Rattle.std.specs.List.{All}
+-- The inside of a table: what its records and its stores of lists make of its states, the classes of bytes, and the rows by them.
+use Rattle.std.specs.Prelude.{◌≡◌, ◌≢◌, ℕ, ◌+◌, ◌-◌, ◌<◌, ◌≤◌, ◌⊎◌, Bool, nat_lt, List, [], ◌∷◌, map, length, slice_index, slice_index_or}
+use Rattle.aho_lists.specs.Lists.{Lists, list_at, IsList}
+use Rattle.aho_lists.specs.Renaming.{IsLed}
 use Rattle.aho_table.specs.Alphabet.{class_of, class_count}
-use Rattle.aho_table.specs.Table.{State, AllRising, state_at, transition_at, transitions_count, matches_count}
+use Rattle.aho_table.specs.Table.{State, state_at, transition_at, transitions_count, matches_count}
+use Rattle.aho_table.specs.declared.links.states.Record.{Record}
 
--- the byte's transition is the one of this place
-pub record StandsAt (transitions : List (ℕ × ℕ)) (byte place : ℕ) : Type 0 where
-  pub within : place < length transitions
-  pub of_byte : (slice_index_or transitions place (0, 1)).0 ≡ byte
+-- states, and the greatest index that they may use
+pub record LimitedStates : Type 0 where
+  pub states : List State
+  pub limit : ℕ
 
--- nothing is listed for the byte, and it would stand at this place
-pub record IsGapAt (transitions : List (ℕ × ℕ)) (byte place : ℕ) : Type 0 where
-  pub within : place ≤ length transitions
-  pub before : All (λ transition. transition.0 < byte) (take place transitions)
-  pub after : All (λ transition. byte < transition.0) (drop place transitions)
+-- the record of this state
+abbrev pub record_at : List Record → ℕ → Record
+record_at records sid = slice_index_or records sid (record { transitions = 0; matches = 0; fail = 1; depth = 0 })
+
+-- the state of a record, where these are the lists
+abbrev pub state_of : List (List (ℕ × ℕ)) → List (List ℕ) → Record → State
+state_of transitions matches state = record {
+  transitions = list_at transitions state.transitions;
+  matches = list_at matches state.matches;
+  fail = state.fail;
+  depth = state.depth;
+}
+
+unfoldable pub states_of : List (List (ℕ × ℕ)) → List (List ℕ) → List Record → List State
+states_of transitions matches records = map (state_of transitions matches) records
+
+-- the record's link is led to another, and all else stays
+pub record IsLinkLed (leads : ℕ → ℕ → Type 0) (old new : Record) : Type 0 where
+  pub transitions : new.transitions ≡ old.transitions
+  pub matches : new.matches ≡ old.matches
+  pub depth : new.depth ≡ old.depth
+  pub fail : IsLed leads old.fail new.fail
+
+-- the numbers of the states' lists
+abbrev pub transition_numbers : List Record → List ℕ
+transition_numbers records = map (λ (state : Record). state.transitions) records
+
+abbrev pub match_numbers : List Record → List ℕ
+match_numbers records = map (λ (state : Record). state.matches) records
+
+-- each number is that of a list, and no two are of one list, but of the empty one
+pub record AreNumbers {X : Type 0} (numbers : List ℕ) (lists : List (List X)) : Type 0 where
+  pub known : (i : ℕ) → i < length numbers → IsList lists (slice_index numbers i)
+  pub apart : (i j : ℕ) → i < length numbers → j < length numbers → i ≢ j → slice_index numbers i ≡ slice_index numbers j → slice_index numbers i ≡ 0
+
+-- each state has lists of its own, and no store has others; no index is above the limit
+pub record IsConsistent (records : List Record) (transitions : Lists (ℕ × ℕ)) (matches : Lists ℕ) (limit : ℕ) : Type 0 where
+  pub small : limit ≤ 2147483646
+  pub states_within : length records ≤ limit + 1
+  pub transitions_limit : transitions.limit ≡ limit
+  pub matches_limit : matches.limit ≡ limit
+  pub transition_lists : AreNumbers (transition_numbers records) transitions.lists
+  pub match_lists : AreNumbers (match_numbers records) matches.lists
+  pub transitions_are : length transitions.lists ≡ transitions_count (states_of transitions.lists matches.lists records)
+  pub matches_are : length matches.lists ≡ matches_count (states_of transitions.lists matches.lists records)
+
+-- ---- the rows
 
 -- the borders that a class for each byte tells: one where the class rises from a byte to the next
 unfoldable pub borders_of : List ℕ → List Bool
@@ -64,14 +107,3 @@ pub record IsFilled (classes : List Bool) (transitions rest : List (ℕ × ℕ))
   pub leads : (byte : ℕ) → byte < 256
       → (slice_index_or row (class_of classes byte) 1 ≡ transition_at transitions byte)
       ⊎ ((slice_index_or row (class_of classes byte) 1 ≡ 1) × (transition_at rest byte ≡ transition_at transitions byte))
-
--- the counts are those of the lists, no index of a table is above the limit, each list rises, and rows lead as lists do
-pub record IsConsistent (states : List State) (limit transitions matches : ℕ) (starts : List ℕ) (classes : List Bool) (entries : List ℕ) : Type 0 where
-  pub small : limit ≤ 2147483646
-  pub transitions_are : transitions ≡ transitions_count states
-  pub transitions_within : transitions ≤ limit + 1
-  pub matches_are : matches ≡ matches_count states
-  pub matches_within : matches ≤ limit + 1
-  pub states_within : length states ≤ limit + 1
-  pub rising : AllRising states
-  pub rows : HasRows states starts classes entries limit

@@ -5,3 +5,4 @@ pub mod Refusal
 -- the inside of one representation: for the clauses of `links` that are private, and cited by no other crate
 pub mod Inside
 pub mod Remapping
+pub mod Renaming

@@ -1,20 +1,13 @@
 -- Why a table refuses to grow.
-use Rattle.std.specs.Prelude.{◌≡◌, ℕ, ◌+◌, ◌<◌, ◌⊎◌, false, List, length, nat_lt, if◌then◌else◌}
+use Rattle.std.specs.Prelude.{◌≡◌, ℕ, ◌⊎◌, false, List, length, nat_lt, if◌then◌else◌}
 use Rattle.aho_base.specs.declared.error.BuildError.{BuildError}
 use Rattle.aho_base.specs.declared.error.BuildError.TheVariants.{StateIDOverflow, OutOfMemory}
+pub use Rattle.aho_lists.specs.Refusal.{refusal_at, IsRefusalOf}
 use Rattle.aho_table.specs.Table.{State, lists_byte, transitions_count}
-
--- the refusal of an entry at this index: the limit, where the index is above it, else want of memory
-abbrev pub refusal_at : ℕ → ℕ → BuildError
-refusal_at limit index = if nat_lt limit index then StateIDOverflow (limit) (limit + 1) else OutOfMemory
 
 -- the refusal of a row that starts at this index: the limit and the index, where it is above the limit, else want of memory
 abbrev pub row_refusal_at : ℕ → ℕ → BuildError
 row_refusal_at limit start = if nat_lt limit start then StateIDOverflow (limit) start else OutOfMemory
-
--- why a table is not to have this many entries: they are more than the limit allows, or memory was wanted
-abbrev pub IsRefusalOf : ℕ → ℕ → BuildError → Type 0
-IsRefusalOf limit size error = (error ≡ OutOfMemory) ⊎ ((error ≡ StateIDOverflow limit (limit + 1)) × (limit + 1 < size))
 
 -- why a byte that leads nowhere is not led to a new state: there is no state more, or no transition more where one is needed
 abbrev pub IsLeadRefusal : ℕ → ℕ → ℕ → List State → BuildError → Type 0

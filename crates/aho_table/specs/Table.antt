@@ -1,6 +1,6 @@
 -- What a `Table` is seen as: for each state a list of transitions, a list of patterns, a failure link and a depth.
-use Rattle.std.specs.Prelude.{◌≡◌, ◌≢◌, ℕ, ◌+◌, ◌<◌, ◌≤◌, Bool, List, [], ◌∷◌, ◌++◌, length, nat_eq, nat_lt, sum_by, if◌then◌else◌, slice_index_or, slice_set}
-use Rattle.std.specs.List.{All, list_any}
+use Rattle.std.specs.Prelude.{◌≡◌, ◌≢◌, ℕ, ◌+◌, ◌<◌, ◌≤◌, Bool, List, [], ◌∷◌, ◌++◌, length, sum_by, slice_index_or, slice_set}
+pub use Rattle.aho_lists.specs.TransitionList.{transition_at, with_transition, IsRising, lists_transition}
 use Rattle.aho_table.specs.Alphabet.{AreOfOneClass}
 use Rattle.aho_table.specs.declared.links.Child.{Child}
 use Rattle.aho_table.specs.declared.links.Child.TheVariants.{Found, Added}
@@ -28,31 +28,9 @@ pub record Tables : Type 0 where
   pub classes : List Bool
   pub dense_len : ℕ
 
--- where the byte leads, and 1 (FAIL) where nothing is listed for it
-abbrev pub transition_at : List (ℕ × ℕ) → ℕ → ℕ
-transition_at [] byte = 1
-transition_at (transition ∷ transitions) byte = if nat_eq transition.0 byte then transition.1 else transition_at transitions byte
-
--- the list with this entry for the byte, in the bytes' order
-abbrev pub with_transition : List (ℕ × ℕ) → ℕ → ℕ → List (ℕ × ℕ)
-with_transition [] byte next = (byte, next) ∷ []
-with_transition (transition ∷ transitions) byte next =
-    if nat_lt transition.0 byte then transition ∷ with_transition transitions byte next
-    else if nat_eq transition.0 byte then (byte, next) ∷ transitions
-    else (byte, next) ∷ transition ∷ transitions
-
--- each entry's byte is below all that follow it
-abbrev pub IsRising : List (ℕ × ℕ) → Type 0
-IsRising [] = Unit {0}
-IsRising (transition ∷ transitions) = All (λ later. transition.0 < later.0) transitions × IsRising transitions
-
 -- bytes of one class lead alike
 abbrev pub LeadsAlike : List Bool → List (ℕ × ℕ) → Type 0
 LeadsAlike classes transitions = (byte other : ℕ) → byte < 256 → other < 256 → AreOfOneClass classes byte other → transition_at transitions byte ≡ transition_at transitions other
-
--- whether the state lists the byte
-abbrev pub lists_transition : List (ℕ × ℕ) → ℕ → Bool
-lists_transition transitions byte = list_any (λ transition. nat_eq transition.0 byte) transitions
 
 -- a state that was just added: nothing is listed, and its link (1) is still to be set
 abbrev pub new_state : ℕ → State

@@ -1,29 +1,28 @@
 //! The states of an automaton with their transitions, match lists and failure links.
 
-ghost use Rattle.std.specs.Prelude.{◌≡◌, ◌≢◌, ◌+◌, ◌<◌, ◌≤◌, ◌^◌, [], ◌∷◌, ◌++◌, length, true, IsTrue, ◌↔◌, IsOk, IfOk, IfErr, OnOk, OnErr, min, slice_get};
+ghost use Rattle.std.specs.Prelude.{◌≡◌, ◌≢◌, ◌+◌, ◌<◌, ◌≤◌, ◌^◌, [], ◌∷◌, ◌++◌, length, true, IsTrue, ◌↔◌, IsOk, IfOk, IfErr, OnOk, OnErr, min, slice_get, nat_lt, ℕ, List};
 ghost use Rattle.aho_base.specs.Numbers.{greatest_index};
-ghost use Rattle.aho_base.specs.declared.error.BuildError.TheVariants.{StateIDOverflow};
 ghost use Rattle.aho_table.specs.Refusal.{refusal_at, row_refusal_at, IsLeadRefusal};
 ghost use Rattle.aho_table.specs.Alphabet.{no_borders, class_count};
-ghost use Rattle.aho_table.specs.Table.{fail_id, IsRising, transition_at, with_transition, new_state, transition_in, next_in, matches_in, fail_in, depth_in, set_transition, push_match, set_fail_of, state_at, lists_byte, transitions_count, matches_count, AllRising, IsWithinLimit, IsLedTo, LeadsAlike};
-ghost use Rattle.aho_table.specs.Inside.{StandsAt, IsGapAt};
+ghost use Rattle.aho_table.specs.Table.{State, fail_id, IsRising, new_state, transition_in, next_in, matches_in, fail_in, depth_in, set_transition, push_match, set_fail_of, state_at, lists_byte, transitions_count, matches_count, AllRising, IsWithinLimit, IsLedTo, LeadsAlike};
 
-mod lists;
+mod renumber;
 mod rows;
+mod states;
 
 use crate::alphabet::ByteClasses;
 use aho_base::error::BuildError;
 use aho_base::search::{PatternID, SmallIndex, StateID, Work};
-pub use lists::{Matches, Transitions};
+pub use aho_lists::matches::Matches;
+/// What `Table::follow` answers where no transition is listed.
+pub use aho_lists::transitions::{FAIL, Transitions};
 use rows::Rows;
+use states::States;
 use std::alloc::{AllocError, Global};
 use std::marker::Model;
 
 /// The state that every byte leads back to: a search that holds it has ended.
 pub const DEAD: StateID = StateID::ZERO;
-
-/// What `Table::follow` answers where no transition is listed.
-pub const FAIL: StateID = StateID::ONE;
 
 /// The state to which a byte leads.
 #[derive(Clone, Copy)]
@@ -34,150 +33,29 @@ pub enum Child {
     Added(StateID),
 }
 
-/// One state.
-#[derive(Drop)]
-struct State {
-    /// Rising by byte.
-    transitions: Vec<(u8, StateID)>,
-    matches: Vec<PatternID>,
-    fail: StateID,
-    depth: SmallIndex,
-}
-
-impl Model for State {
-    ghost use Rattle.aho_table.specs.Table.{State as StateValue, IsRising};
-
-    ghost Value = { StateValue };
-
-    ghost view = { λ s. record { transitions = s.transitions.items; matches = s.matches.items; fail = s.fail; depth = s.depth } };
-
-    ghost invariant = { λ s. IsRising s.transitions.items };
-}
-
-impl State {
-    fn new(alloc: Global, depth: SmallIndex) -> State
-        ensures empty { result ≡ new_state depth }
-    {
-        State {
-            transitions: Vec::new(alloc),
-            matches: Vec::new(alloc),
-            fail: FAIL,
-            depth,
-        }
-    }
-
-    /// The place of the byte's transition, or the place where it would stand.
-    fn place(&self, byte: u8) -> Result<usize, usize>
-        ensures found { IfOk result (StandsAt self.now.transitions byte) }
-        ensures absent { IfErr result (IsGapAt self.now.transitions byte) }
-    {
-        // A state that lists every byte has each at its own place.
-        if let Some(transition) = self.transitions.get(byte as usize)
-            && transition.0 == byte
-        {
-            return Ok(byte as usize);
-        }
-        for (place, transition) in self.transitions.iter().enumerate() {
-            if transition.0 == byte {
-                return Ok(place);
-            }
-            if transition.0 > byte {
-                return Err(place);
-            }
-        }
-        Err(self.transitions.len())
-    }
-
-    /// Where the byte leads, whose transition stands or would stand at `place`; FAIL where it leads nowhere.
-    fn next_at(&self, place: Result<usize, usize>, byte: u8) -> StateID
-        requires found { IfOk place (StandsAt self.now.transitions byte) }
-        requires absent { IfErr place (IsGapAt self.now.transitions byte) }
-        ensures next { result ≡ transition_at self.now.transitions byte }
-    {
-        match place {
-            Ok(place) => self.transitions[place].1,
-            Err(_) => FAIL,
-        }
-    }
-
-    /// Where the byte leads, and FAIL where it leads nowhere.
-    fn follow(&self, byte: u8) -> StateID
-        ensures next { result ≡ transition_at self.now.transitions byte }
-    {
-        self.next_at(self.place(byte), byte)
-    }
-
-    /// What it lists.
-    fn list(&self) -> Transitions<'_>
-        ensures listed { result ≡ self.now.transitions }
-        ensures rising { IsRising result }
-    {
-        Transitions::new(&self.transitions)
-    }
-
-    /// The byte, whose transition stands at `place`, leads elsewhere.
-    fn redirect(&mut self, place: usize, byte: u8, next: StateID)
-        requires stands { StandsAt self.old.transitions byte place }
-        ensures set { self.new ≡
-            record self.old { transitions = with_transition self.old.transitions byte next } }
-        ensures len { length self.new.transitions ≡ length self.old.transitions }
-    {
-        self.transitions[place] = (byte, next);
-    }
-
-    /// One transition more, of a byte that would stand at `place`.
-    fn insert(&mut self, place: usize, byte: u8, next: StateID) -> Result<(), AllocError>
-        requires gap { IsGapAt self.old.transitions byte place }
-        ensures set { OnOk result
-            (self.new
-            ≡ record self.old { transitions = with_transition self.old.transitions byte next }) }
-        ensures len { OnOk result (length self.new.transitions ≡ length self.old.transitions + 1) }
-        ensures unchanged { OnErr result (self.new ≡ self.old) }
-    {
-        self.transitions.insert(place, (byte, next))?;
-        Ok(())
-    }
-
-    fn try_clone(&self, alloc: Global) -> Result<State, AllocError>
-        ensures same { IfOk result (λ state. state ≡ self.now) }
-    {
-        Ok(State {
-            transitions: Vec::from_slice(alloc, &self.transitions)?,
-            matches: Vec::from_slice(alloc, &self.matches)?,
-            fail: self.fail,
-            depth: self.depth,
-        })
-    }
-}
-
 /// The states of an automaton, with the transitions and patterns that each lists.
 ///
 /// An index of a state, of a transition, of a listed pattern or of the start of a row is at most the table's limit. Index 0 of
 /// the transitions, of the patterns and of the rows' entries is taken from the start.
 #[derive(Drop)]
 pub struct Table {
-    states: Vec<State>,
-    /// How many transitions the states list together, and one.
-    transitions_len: usize,
-    /// How many patterns the states list together, and one.
-    matches_len: usize,
+    states: States,
     /// For each state where its row starts, and 0 where it has none.
     starts: Vec<u32>,
     rows: Rows,
-    limit: usize,
     alloc: Global,
 }
 
 impl Model for Table {
     ghost use Rattle.std.specs.Prelude.{◌+◌, length};
     ghost use Rattle.aho_table.specs.Table.{Tables};
-    ghost use Rattle.aho_table.specs.Inside.{IsConsistent};
+    ghost use Rattle.aho_table.specs.Inside.{HasRows};
 
     ghost Value = { Tables };
 
-    ghost view = { λ t. record { states = t.states.items; limit = t.limit; classes = t.rows.classes; dense_len = length t.rows.entries.items + 1 } };
+    ghost view = { λ t. record { states = t.states.states; limit = t.states.limit; classes = t.rows.classes; dense_len = length t.rows.entries.items + 1 } };
 
-    ghost invariant = { λ t. IsConsistent t.states.items t.limit t.transitions_len t.matches_len t.starts.items t.rows.classes t.rows.entries.items };
+    ghost invariant = { λ t. HasRows t.states.states t.starts.items t.rows.classes t.rows.entries.items t.states.limit };
 }
 
 impl Table {
@@ -197,24 +75,11 @@ impl Table {
             }) }
     {
         Ok(Table {
-            states: Vec::new(alloc),
-            transitions_len: 1,
-            matches_len: 1,
+            states: States::new(alloc, limit),
             starts: Vec::new(alloc),
             rows: Rows::new(alloc),
-            limit: limit.min(SmallIndex::MAX.as_usize()),
             alloc,
         })
-    }
-
-    /// The refusal of an index above the limit.
-    fn overflow(&self) -> BuildError
-        ensures overflow { result ≡ StateIDOverflow self.now.limit (self.now.limit + 1) }
-    {
-        BuildError::StateIDOverflow {
-            max: self.limit as u64,
-            requested: self.limit as u64 + 1,
-        }
     }
 
     /// How many states there are.
@@ -230,14 +95,14 @@ impl Table {
         ensures within { IsWithinLimit self.now.limit self.now.states }
         ensures rising { AllRising self.now.states }
     {
-        let _states = &self.states;
+        self.states.facts();
     }
 
     /// Whether there is no state.
     pub fn is_empty(&self) -> bool
         ensures empty { IsTrue result ↔ (length self.now.states ≡ 0) }
     {
-        self.states.is_empty()
+        self.states.len() == 0
     }
 
     /// One more state, without transitions or patterns, and with FAIL as its link. Answers its number, which is the count
@@ -255,18 +120,12 @@ impl Table {
             (λ error. error ≡ refusal_at self.old.limit (length self.old.states)) }
         ensures unchanged { OnErr result (self.new ≡ self.old) }
     {
-        let index = self.states.len();
-        if index > self.limit {
-            return Err(self.overflow());
-        }
-        if self.states.push(State::new(self.alloc, depth)).is_err() {
-            return Err(BuildError::OutOfMemory);
-        }
+        let added = self.states.add_state(depth)?;
         if self.starts.push(0).is_err() {
-            let _added = self.states.pop();
+            self.states.remove_last();
             return Err(BuildError::OutOfMemory);
         }
-        Ok(StateID::new_unchecked(index))
+        Ok(added)
     }
 
     /// The byte leads from the state to the next one. A byte that leads somewhere already is led elsewhere, and nothing
@@ -288,50 +147,8 @@ impl Table {
             (λ error. error ≡ refusal_at self.old.limit (transitions_count self.old.states)) }
         ensures unchanged { OnErr result (self.new ≡ self.old) }
     {
-        let place = self.states[sid.as_usize()].place(byte);
-        self.put(sid, place, byte, next)
-    }
-
-    /// The byte, whose transition stands or would stand at `place`, leads from the state to the next one.
-    fn put(
-        &mut self,
-        sid: StateID,
-        place: Result<usize, usize>,
-        byte: u8,
-        next: StateID,
-    ) -> Result<(), BuildError>
-        requires added { sid < length self.old.states }
-        requires found { IfOk place (StandsAt (state_at self.old.states sid).transitions byte) }
-        requires absent { IfErr place (IsGapAt (state_at self.old.states sid).transitions byte) }
-        ensures set { OnOk result
-            (self.new ≡ record self.old { states = set_transition self.old.states sid byte next }) }
-        ensures there { lists_byte self.old.states sid byte ≡ true → IsOk result }
-        ensures kept { lists_byte self.old.states sid byte ≡ true
-            → transitions_count self.new.states ≡ transitions_count self.old.states }
-        ensures within { OnOk result (transitions_count self.new.states ≤ self.old.limit + 1) }
-        ensures refused { IfErr result
-            (λ error. error ≡ refusal_at self.old.limit (transitions_count self.old.states)) }
-        ensures unchanged { OnErr result (self.new ≡ self.old) }
-    {
-        let full = self.transitions_len > self.limit;
-        let overflow = self.overflow();
-        let state = &mut self.states[sid.as_usize()];
-        match place {
-            Ok(place) => {
-                state.redirect(place, byte, next);
-                self.starts[sid.as_usize()] = 0; // A row that led as the list did is forgotten.
-            }
-            Err(place) => {
-                if full {
-                    return Err(overflow);
-                }
-                let Ok(()) = state.insert(place, byte, next) else {
-                    return Err(BuildError::OutOfMemory);
-                };
-                self.transitions_len += 1;
-                self.starts[sid.as_usize()] = 0;
-            }
-        }
+        self.states.set(sid, byte, next)?;
+        self.starts[sid.as_usize()] = 0; // A row that led as the list did is forgotten.
         Ok(())
     }
 
@@ -357,21 +174,30 @@ impl Table {
         ensures unchanged { OnErr result (self.new ≡ self.old) }
         ensures rising { IsRising (state_at self.old.states sid).transitions }
     {
-        let state = &self.states[sid.as_usize()];
-        let place = state.place(byte);
-        let next = state.next_at(place, byte);
+        self.states.facts();
+        let next = self.states.next(sid, byte);
         if next != FAIL {
             return Ok(Child::Found(next));
         }
         let added = self.add_state(depth)?;
-        match self.put(sid, place, byte, added) {
+        match self.set(sid, byte, added) {
             Ok(()) => Ok(Child::Added(added)),
             Err(error) => {
-                let _added = self.states.pop();
-                let _start = self.starts.pop();
+                self.remove_last();
                 Err(error)
             }
         }
+    }
+
+    /// The last state is gone again, which lists nothing.
+    fn remove_last(&mut self)
+        requires last { (states : List State) × (depth : ℕ) × (self.old.states ≡ states ++ new_state depth ∷ []) }
+        ensures removed { (states : List State) (depth : ℕ) → self.old.states ≡ states ++ new_state depth ∷ []
+            → self.new ≡ record self.old { states = states } }
+    {
+        self.states.remove_last();
+        let count = self.states.len();
+        self.starts.truncate(count);
     }
 
     /// One more pattern of the state, after those that it lists.
@@ -389,15 +215,7 @@ impl Table {
             (λ error. error ≡ refusal_at self.old.limit (matches_count self.old.states)) }
         ensures unchanged { OnErr result (self.new ≡ self.old) }
     {
-        if self.matches_len > self.limit {
-            return Err(self.overflow());
-        }
-        let state = &mut self.states[sid.as_usize()];
-        if state.matches.push(pattern).is_err() {
-            return Err(BuildError::OutOfMemory);
-        }
-        self.matches_len += 1;
-        Ok(())
+        self.states.add_match(sid, pattern)
     }
 
     /// Goes by these classes of bytes, and forgets every row.
@@ -406,6 +224,13 @@ impl Table {
     {
         self.starts.fill(0);
         self.rows.set_classes(classes);
+    }
+
+    /// The classes of bytes that the rows go by.
+    pub fn byte_classes(&self) -> &ByteClasses
+        ensures classes { result.now ≡ self.now.classes }
+    {
+        self.rows.classes()
     }
 
     /// Gives the state a row, by which `follow` answers in one look: an entry more for each class of bytes. A state that has
@@ -427,14 +252,15 @@ impl Table {
             (λ error. error ≡ row_refusal_at self.old.limit self.old.dense_len) }
         ensures unchanged { OnErr result (self.new ≡ self.old) }
     {
+        let limit = self.states.limit();
         let start = self.rows.len();
-        if start > self.limit {
+        if start > limit {
             return Err(BuildError::StateIDOverflow {
-                max: self.limit as u64,
+                max: limit as u64,
                 requested: start as u64,
             });
         }
-        let Ok(()) = self.rows.add(self.states[sid.as_usize()].list()) else {
+        let Ok(()) = self.rows.add(self.states.transitions(sid)) else {
             return Err(BuildError::OutOfMemory);
         };
         self.starts[sid.as_usize()] = start as u32;
@@ -446,6 +272,7 @@ impl Table {
         ensures len { result ≡ self.now.dense_len }
         ensures bound { result ≤ 2147483902 }
     {
+        let _limit = self.states.limit();
         self.rows.len()
     }
 
@@ -454,8 +281,7 @@ impl Table {
         requires added { sid < length self.old.states }
         ensures set { self.new ≡ record self.old { states = set_fail_of self.old.states sid fail } }
     {
-        let state = &mut self.states[sid.as_usize()];
-        state.fail = fail;
+        self.states.set_fail(sid, fail);
     }
 
     /// Where the state leads on failure.
@@ -463,7 +289,7 @@ impl Table {
         requires added { sid < length self.now.states }
         ensures fail { result ≡ fail_in self.now.states sid }
     {
-        self.states[sid.as_usize()].fail
+        self.states.fail(sid)
     }
 
     /// How far the state is from the start.
@@ -472,7 +298,7 @@ impl Table {
         ensures depth { result ≡ depth_in self.now.states sid }
         ensures bound { result ≤ greatest_index }
     {
-        self.states[sid.as_usize()].depth.as_usize()
+        self.states.depth(sid)
     }
 
     /// Where the byte leads from the state, and FAIL where it leads nowhere. Adds one look-up to the work.
@@ -487,7 +313,7 @@ impl Table {
         if start != 0 {
             return self.rows.next(start, byte);
         }
-        self.states[sid.as_usize()].follow(byte)
+        self.states.next(sid, byte)
     }
 
     /// How many transitions the state lists.
@@ -495,7 +321,7 @@ impl Table {
         requires added { sid < length self.now.states }
         ensures len { result ≡ length (state_at self.now.states sid).transitions }
     {
-        self.states[sid.as_usize()].transitions.len()
+        self.states.transitions_len(sid)
     }
 
     /// The transition of this place in the state's list, which rises by byte: the byte and where it leads.
@@ -505,7 +331,7 @@ impl Table {
         ensures listed { result ≡ transition_in self.now.states sid index }
         ensures leads { next_in self.now.states sid result.0 ≡ result.1 }
     {
-        self.states[sid.as_usize()].transitions[index]
+        self.states.transition(sid, index)
     }
 
     /// How many patterns the state lists.
@@ -513,7 +339,27 @@ impl Table {
         requires added { sid < length self.now.states }
         ensures len { result ≡ length (matches_in self.now.states sid) }
     {
-        self.states[sid.as_usize()].matches.len()
+        self.states.match_len(sid)
+    }
+
+    /// Whether the state lists a pattern.
+    pub fn has_matches(&self, sid: StateID) -> bool
+        requires added { sid < length self.now.states }
+        ensures some { result ≡ nat_lt 0 (length (matches_in self.now.states sid)) }
+    {
+        self.states.has_matches(sid)
+    }
+
+    /// The patterns of the state, in a vector of their own, in the order of their listing.
+    ///
+    /// # Errors
+    ///
+    /// Want of memory.
+    pub fn patterns(&self, sid: StateID) -> Result<Vec<PatternID>, AllocError>
+        requires added { sid < length self.now.states }
+        ensures listed { IfOk result (λ patterns. patterns.items ≡ matches_in self.now.states sid) }
+    {
+        self.states.patterns(sid)
     }
 
     /// The pattern of this place in the state's list.
@@ -522,7 +368,7 @@ impl Table {
         requires within { index < length (matches_in self.now.states sid) }
         ensures listed { slice_get (matches_in self.now.states sid) index ≡ Some result }
     {
-        self.states[sid.as_usize()].matches[index]
+        self.states.match_pattern(sid, index)
     }
 
     /// The transitions of the state, rising by byte.
@@ -531,7 +377,7 @@ impl Table {
         ensures listed { result ≡ (state_at self.now.states sid).transitions }
         ensures rising { IsRising result }
     {
-        Transitions::new(&self.states[sid.as_usize()].transitions)
+        self.states.transitions(sid)
     }
 
     /// The patterns of the state, in the order of their listing.
@@ -539,7 +385,7 @@ impl Table {
         requires added { sid < length self.now.states }
         ensures listed { result ≡ matches_in self.now.states sid }
     {
-        Matches::new(&self.states[sid.as_usize()].matches)
+        self.states.matches(sid)
     }
 
     /// How many entries the table of transitions has: one for each that a state lists, and the one at index 0.
@@ -547,7 +393,7 @@ impl Table {
         ensures count { result ≡ transitions_count self.now.states }
         ensures bound { result ≤ 2147483647 }
     {
-        self.transitions_len
+        self.states.transitions_count()
     }
 
     /// How many entries the table of patterns has: one for each that a state lists, and the one at index 0.
@@ -556,7 +402,7 @@ impl Table {
         ensures bound { result ≤ 2147483647 }
         ensures within { result ≤ self.now.limit + 1 }
     {
-        self.matches_len
+        self.states.matches_count()
     }
 
     /// An equal table, in memory of its own.
@@ -567,17 +413,10 @@ impl Table {
     pub fn try_clone(&self) -> Result<Table, AllocError>
         ensures same { IfOk result (λ table. table ≡ self.now) }
     {
-        let mut states = Vec::with_capacity(self.alloc, self.states.len())?;
-        for state in &self.states {
-            states.push(state.try_clone(self.alloc)?)?;
-        }
         Ok(Table {
-            states,
-            transitions_len: self.transitions_len,
-            matches_len: self.matches_len,
+            states: self.states.try_clone()?,
             starts: Vec::from_slice(self.alloc, &self.starts)?,
             rows: self.rows.try_clone(self.alloc)?,
-            limit: self.limit,
             alloc: self.alloc,
         })
     }

@@ -24,6 +24,12 @@ pub trait Remappable {
     ghost renames_by: { (f g : ℕ → ℕ → Type 0) → ((a b : ℕ) → f a b → g a b) →
         (x y : State) → is_renamed f x y → is_renamed g x y };
 
+    /// What no renumbering changes.
+    ghost Kept: { Type 0 };
+
+    /// What there is of it.
+    ghost kept: { Self → Kept };
+
     /// How many states there are.
     fn state_len(&self) -> usize
         ensures len { result ≡ length (states self.now) }
@@ -33,12 +39,16 @@ pub trait Remappable {
     fn swap_states(&mut self, a: StateID, b: StateID)
         requires a { a < length (states self.old) }
         requires b { b < length (states self.old) }
-        ensures swapped { states self.new ≡ swap (states self.old) a b };
+        ensures swapped { states self.new ≡ swap (states self.old) a b }
+        ensures kept { kept self.new ≡ kept self.old };
 
-    /// Each number that stands in a state is exchanged for the one that the closure answers for it.
+    /// Each number that stands in a state is exchanged for the one that the closure answers for it, which is one and the
+    /// same for each.
     fn remap<F: Fn(StateID) -> StateID>(&mut self, map: F)
         requires callable { F.IsAlwaysCallable map }
-        ensures renamed { AllZip (is_renamed (F.post map)) (states self.old) (states self.new) };
+        requires one { (n a b : ℕ) → F.post map n a → F.post map n b → a ≡ b }
+        ensures renamed { AllZip (is_renamed (F.post map)) (states self.old) (states self.new) }
+        ensures kept { kept self.new ≡ kept self.old };
 }
 
 /// The places to which states have moved.
@@ -84,6 +94,7 @@ impl Remapper {
         requires b { b < length self.old }
         requires as_many { length (R.states r.old) ≡ length self.old }
         ensures swapped { R.states r.new ≡ swap (R.states r.old) a b }
+        ensures kept { R.kept r.new ≡ R.kept r.old }
         ensures moved { self.new ≡ map (transposed a b) self.old }
     {
         r.swap_states(a, b);
@@ -100,6 +111,7 @@ impl Remapper {
     pub fn remap<R: Remappable>(self, r: &mut R)
         ensures renamed { AllZip (R.is_renamed (λ named now. now ≡ place_of self named))
             (R.states r.old) (R.states r.new) }
+        ensures kept { R.kept r.new ≡ R.kept r.old }
     {
         let places = self.places.as_slice();
         r.remap(

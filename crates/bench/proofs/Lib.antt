@@ -3,3 +3,4 @@ pub mod BestOfTwo
 pub mod BestAtRange
 pub mod Begins
 pub mod ListedEnds
+pub mod Relinking

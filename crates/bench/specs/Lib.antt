@@ -1,4 +1,5 @@
 pub mod Better
 pub mod OneByte
+pub mod Relinked
 pub mod Range
 pub mod Callers

@@ -10,6 +10,7 @@ pub mod listing;
 pub mod one_byte;
 pub mod pattern_set;
 pub mod plain;
+pub mod relinked;
 pub mod tally;
 
 pub use pattern_set::PatternSet;

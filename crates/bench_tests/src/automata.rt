@@ -6,6 +6,7 @@ ghost use Rattle.aho_base.specs.Patterns.{Patterns};
 use aho_base::search::{Anchored, MatchKind, StateID};
 use aho_corasick::noncontiguous::{Builder, NFA};
 use aho_search::automaton::Automaton;
+use bench::relinked::Relinked;
 use std::alloc::{AllocError, Global};
 use std::process::Abort;
 
@@ -55,6 +56,14 @@ pub(crate) fn nfa_by(rt: &impl Abort, alloc: Global, builder: &Builder, words: &
 {
     let nfa = builder.build(alloc, words.iter().copied());
     nfa.expect(rt, "an automaton")
+}
+
+/// The automaton of what this one tells of its states.
+pub(crate) fn relinked_of(rt: &impl Abort, alloc: Global, nfa: &NFA) -> Relinked
+    requires of { (p : Patterns) × ⟦<NFA as Automaton>⟧.is_of nfa.now p }
+    ensures of { (p : Patterns) × ⟦<Relinked as Automaton>⟧.is_of result p }
+{
+    Relinked::new(alloc, nfa).expect(rt, "an automaton")
 }
 
 /// The start of an anchoring.

@@ -4,7 +4,7 @@
 ghost use Rattle.std.specs.Prelude.{◌+◌, ◌<◌, ◌≤◌, length};
 ghost use Rattle.aho_base.specs.Patterns.{Patterns};
 
-use crate::automata::{DEPTHS, builder_of, nfa_by, nfa_of, nfa_with};
+use crate::automata::{DEPTHS, builder_of, nfa_by, nfa_with};
 use crate::overlaps::{found_by_calls, found_by_iterator};
 use aho_base::search::{Anchored, Input, MatchKind, PatternID, Span};
 use aho_corasick::noncontiguous::{Limits, NFA};
@@ -310,31 +310,36 @@ fn shorter_inputs_are_iterated(rt: HostRuntime) {
     search_cases(&rt, rt.alloc(), Way::OneAfterAnother, &SIZES[..5]);
 }
 
+/// Lists what matches in each short haystack.
+fn list_haystacks(
+    rt: &impl Abort,
+    alloc: Global,
+    case: &Case,
+    patterns: &PatternSet<'_>,
+    nfa: &NFA,
+) -> Result<(), AllocError>
+    requires of { (p : Patterns) × ⟦<NFA as Automaton>⟧.is_of nfa.now p }
+{
+    for (size, count) in SIZES {
+        for number in 0..count {
+            let haystack = haystack_of(number, case.letters);
+            assert!(rt; size <= haystack.len());
+            list_spans(rt, alloc, case.name, patterns, nfa, &haystack[..size])?;
+        }
+    }
+    Ok(())
+}
+
 #[test]
 fn short_inputs_are_listed(rt: HostRuntime) -> Result<(), Fail> {
     for case in CASES {
         assert!(rt; case.patterns.len() <= PatternID::MAX.as_usize());
         let patterns = PatternSet::new(case.patterns, MatchKind::Standard, case.ignore_case);
-        let nfa = nfa_of(
-            &rt,
-            rt.alloc(),
-            case.patterns,
-            MatchKind::Standard,
-            case.ignore_case,
-        );
-        for (size, count) in SIZES {
-            for number in 0..count {
-                let haystack = haystack_of(number, case.letters);
-                assert!(rt; size <= haystack.len());
-                list_spans(
-                    &rt,
-                    rt.alloc(),
-                    case.name,
-                    &patterns,
-                    &nfa,
-                    &haystack[..size],
-                )?;
-            }
+        for prefilter in [false, true] {
+            let words = case.patterns;
+            let kind = MatchKind::Standard;
+            let nfa = nfa_with(&rt, rt.alloc(), words, kind, case.ignore_case, prefilter, 3);
+            list_haystacks(&rt, rt.alloc(), case, &patterns, &nfa)?;
         }
     }
     Ok(())

@@ -19,9 +19,13 @@ mod inputs;
 #[cfg(test)]
 mod iteration;
 #[cfg(test)]
+mod leftmost_streams;
+#[cfg(test)]
 mod lists;
 #[cfg(test)]
 mod lookups;
+#[cfg(test)]
+mod numbers;
 #[cfg(test)]
 mod one_byte;
 #[cfg(test)]
@@ -29,7 +33,11 @@ mod overlaps;
 #[cfg(test)]
 mod prefilter;
 #[cfg(test)]
+mod read_out;
+#[cfg(test)]
 mod reading;
+#[cfg(test)]
+mod relinked;
 #[cfg(test)]
 mod replacing;
 #[cfg(test)]

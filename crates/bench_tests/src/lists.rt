@@ -49,15 +49,21 @@ fn a_list_rises_by_byte(rt: HostRuntime) {
 }
 
 #[test]
-fn a_full_list_has_each_byte(rt: HostRuntime) {
-    let mut store = TransitionLists::new(rt.alloc(), 256);
-    let list = store.fill(state(&rt, 3)).expect(&rt, "a full list");
-    assert_eq!(rt; list, state(&rt, 256));
-    assert_eq!(rt; store.len(), 257);
-    assert_eq!(rt; store.fill(FAIL), Err(overflow(256)));
-    assert_eq!(rt; store.len(), 257);
+fn a_list_is_read_by_index(rt: HostRuntime) {
+    let mut store = TransitionLists::new(rt.alloc(), 9);
+    let list = store
+        .set(StateID::ZERO, b'd', state(&rt, 7))
+        .expect(&rt, "d");
+    let list = store.set(list, b'e', state(&rt, 8)).expect(&rt, "e");
+    assert_eq!(rt; store.len_of(list), 2);
+    assert_eq!(rt; store.get(list, 1), (b'e', state(&rt, 8)));
+    let list = store.set(list, b'a', state(&rt, 9)).expect(&rt, "a");
+    assert_eq!(rt; store.len_of(list), 3);
+    assert_eq!(rt; store.get(list, 0), (b'a', state(&rt, 9)));
+    assert_eq!(rt; store.get(list, 2), (b'e', state(&rt, 8)));
+    assert_eq!(rt; store.len_of(StateID::ZERO), 0);
     let clone = store.try_clone(rt.alloc()).expect(&rt, "memory");
-    assert_eq!(rt; clone.len(), 257);
+    assert_eq!(rt; clone.len(), 4);
 }
 
 #[test]
@@ -69,6 +75,8 @@ fn patterns_stand_in_their_order(rt: HostRuntime) {
     let list = store.push(list, pattern(&rt, 2)).expect(&rt, "another");
     let list = store.push(list, pattern(&rt, 4)).expect(&rt, "a third");
     assert_eq!(rt; store.len(), 4);
+    assert_eq!(rt; store.len_of(list), 3);
+    assert_eq!(rt; store.get(list, 1), pattern(&rt, 2));
     let mut walk = store.iter(list);
     assert_eq!(rt; walk.next(), Some(pattern(&rt, 4)));
     assert_eq!(rt; walk.next(), Some(pattern(&rt, 2)));

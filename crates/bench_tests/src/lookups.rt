@@ -3,7 +3,7 @@
 ghost use Rattle.std.specs.Prelude.{◌+◌, ◌<◌, ◌≤◌, ◌^◌, length};
 ghost use Rattle.aho_base.specs.Patterns.{Patterns};
 
-use crate::automata::{DEPTHS, nfa_with};
+use crate::automata::{DEPTHS, nfa_with, relinked_of};
 use crate::reading::Reading;
 use aho_base::error::MatchError;
 use aho_base::search::{Anchored, Input, MatchKind, Span};
@@ -136,6 +136,13 @@ fn searches_cost_what_they_should(rt: HostRuntime) -> Result<(), Fail> {
             let mut bytes = Bytes::new(haystack);
             let lookups = lookups_over(&nfa, &mut bytes, span, row.anchored)?;
             assert_eq!(rt; lookups, row.lookups, "{case:?}");
+            if !row.prefilter && depth == 0 {
+                let relinked = relinked_of(&rt, rt.alloc(), &nfa);
+                let mut text = Reading::new(haystack);
+                let lookups = lookups_over(&relinked, &mut text, span, row.anchored)?;
+                assert_eq!(rt; lookups, row.lookups, "{case:?}");
+                assert_eq!(rt; text.next_place(), row.reads, "{case:?}");
+            }
             let mut text = Reading::new(haystack);
             let lookups = lookups_over(&nfa, &mut text, span, row.anchored)?;
             assert_eq!(rt; lookups, row.lookups, "{case:?}");

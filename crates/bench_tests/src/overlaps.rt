@@ -4,7 +4,7 @@ ghost use Rattle.std.specs.Prelude.{◌≡◌, ◌≤◌};
 ghost use Rattle.aho_base.specs.Patterns.{Patterns};
 ghost use Rattle.aho_base.specs.Progress.{without_match};
 
-use crate::automata::nfa_of;
+use crate::automata::{nfa_of, nfa_with};
 use aho_base::error::MatchError;
 use aho_base::search::{Anchored, Input, Match, MatchKind, PatternID, Span};
 use aho_search::automaton::{Automaton, OverlappingState};
@@ -189,6 +189,58 @@ fn other_automata_are_listed(rt: HostRuntime) -> Result<(), Fail> {
     let found = found_by_iterator(&rt, rt.alloc(), &tally, Input::new(b"wow"))?;
     assert_eq!(rt; found.len(), 2);
     assert_eq!(rt; tally.next_states(), 3, "each byte leads on once");
+    Ok(())
+}
+
+/// How many matches an overlapping search lists, and how many bytes lead it on.
+fn listed_and_read(
+    rt: &impl Abort,
+    alloc: Global,
+    words: &[&[u8]],
+    prefilter: bool,
+    haystack: &[u8],
+) -> Result<(usize, u64), AllocError> {
+    let kind = MatchKind::Standard;
+    let tally = Tally::new(nfa_with(rt, alloc, words, kind, false, prefilter, 3));
+    let found = found_by_iterator(rt, alloc, &tally, Input::new(haystack))?;
+    Ok((found.len(), tally.next_states()))
+}
+
+#[test]
+fn an_overlapping_search_skips(rt: HostRuntime) -> Result<(), Fail> {
+    let whole: &[&[u8]] = &[b"aab"];
+    assert_eq!(rt;
+        listed_and_read(&rt, rt.alloc(), whole, false, b"xaaab")?,
+        (1, 5)
+    );
+    assert_eq!(rt;
+        listed_and_read(&rt, rt.alloc(), whole, true, b"xaaab")?,
+        (1, 3)
+    );
+    let by_byte: &[&[u8]] = &[b"ab", b"ac"];
+    let haystack = b"xxabxxxaxxxacxx";
+    assert_eq!(rt;
+        listed_and_read(&rt, rt.alloc(), by_byte, false, haystack)?,
+        (2, 15)
+    );
+    assert_eq!(rt;
+        listed_and_read(&rt, rt.alloc(), by_byte, true, haystack)?,
+        (2, 8)
+    );
+    Ok(())
+}
+
+#[test]
+fn candidates_side_by_side_change_no_answer(rt: HostRuntime) -> Result<(), Fail> {
+    let by_byte: &[&[u8]] = &[b"ab", b"aac"];
+    let mut haystack = [b'a'; 100];
+    haystack[70] = b'b';
+    haystack[98] = b'x';
+    haystack[99] = b'b';
+    let (without, _all) = listed_and_read(&rt, rt.alloc(), by_byte, false, &haystack)?;
+    let (found, _read) = listed_and_read(&rt, rt.alloc(), by_byte, true, &haystack)?;
+    assert_eq!(rt; found, without);
+    assert_eq!(rt; found, 1);
     Ok(())
 }
 

@@ -2,7 +2,7 @@
 
 ghost use Rattle.aho_base.specs.Patterns.{Patterns};
 
-use crate::automata::nfa_of;
+use crate::automata::{nfa_of, relinked_of};
 use aho_base::error::ReplaceError;
 use aho_base::search::{Input, Match, MatchKind, PatternID};
 use aho_corasick::noncontiguous::NFA;
@@ -94,58 +94,96 @@ fn bytes_of<'t>(alloc: Global, texts: &[&'t str]) -> Result<Vec<&'t [u8]>, Alloc
     Ok(all)
 }
 
+/// The automaton replaces what is wanted of a row.
+fn row_is_replaced<A: Automaton>(
+    rt: &impl Abort,
+    alloc: Global,
+    row: &Row,
+    automaton: &A,
+) -> Result<(), Fail>
+    requires of { (p : Patterns) × A.is_of automaton.now p }
+{
+    let pieces = bytes_of(alloc, row.pieces)?;
+    assert_eq!(rt; row.pieces.len(), automaton.patterns_len(), "{}", row.name);
+    assert_eq!(rt; pieces.len(), automaton.patterns_len(), "{}", row.name);
+    let text = automaton.try_replace_all(alloc, row.haystack, row.pieces)?;
+    assert_eq!(rt; text.as_str(), row.text, "{}", row.name);
+    let bytes = automaton.try_replace_all_bytes(alloc, row.haystack.as_bytes(), &pieces)?;
+    assert_eq!(rt; bytes.as_slice(), row.bytes, "{}", row.name);
+    Ok(())
+}
+
 #[test]
 fn rows_are_replaced(rt: HostRuntime) -> Result<(), Fail> {
     let alloc = rt.alloc();
     for row in ROWS {
         let nfa = nfa_of(&rt, alloc, row.patterns, row.kind, false);
-        let pieces = bytes_of(alloc, row.pieces)?;
-        assert_eq!(&rt; row.pieces.len(), nfa.patterns_len(), "{}", row.name);
-        assert_eq!(&rt; pieces.len(), nfa.patterns_len(), "{}", row.name);
-        let text = nfa.try_replace_all(alloc, row.haystack, row.pieces)?;
-        assert_eq!(&rt; text.as_str(), row.text, "{}", row.name);
-        let bytes = nfa.try_replace_all_bytes(alloc, row.haystack.as_bytes(), &pieces)?;
-        assert_eq!(&rt; bytes.as_slice(), row.bytes, "{}", row.name);
+        row_is_replaced(&rt, alloc, row, &nfa)?;
+        let relinked = relinked_of(&rt, alloc, &nfa);
+        row_is_replaced(&rt, alloc, row, &relinked)?;
     }
     Ok(())
 }
 
-#[test]
-fn the_rest_is_copied_after_false(rt: HostRuntime) -> Result<(), Fail> {
-    let nfa = nfa_of(&rt, rt.alloc(), &[b"a"], MatchKind::Standard, false);
-    let mut dst = Vec::new(rt.alloc());
-    nfa.try_replace_all_with_bytes(b"aba", &mut dst, |_m, _matched, dst| {
+/// The rest is copied once the closure answered false.
+fn copies_after_false<A: Automaton>(
+    rt: &impl Abort,
+    alloc: Global,
+    automaton: &A,
+) -> Result<(), Fail>
+    requires of { (p : Patterns) × A.is_of automaton.now p }
+{
+    let mut dst = Vec::new(alloc);
+    automaton.try_replace_all_with_bytes(b"aba", &mut dst, |_m, _matched, dst| {
         dst.extend_from_slice(b"X")?;
         Ok(false)
     })?;
-    assert_eq!(&rt; dst.as_slice(), b"Xba".as_slice());
+    assert_eq!(rt; dst.as_slice(), b"Xba".as_slice());
     Ok(())
 }
 
-#[test]
-fn want_of_memory_leaves_what_was_appended(rt: HostRuntime) -> Result<(), Fail> {
-    let nfa = nfa_of(&rt, rt.alloc(), &[b"a"], MatchKind::Standard, false);
-    let mut dst = Vec::from_slice(rt.alloc(), b"z")?;
-    let answer = nfa.try_replace_all_with_bytes(b"bac", &mut dst, |_m, _matched, dst| {
+/// Want of memory leaves what was appended.
+fn keeps_after_want_of_memory<A: Automaton>(
+    rt: &impl Abort,
+    alloc: Global,
+    automaton: &A,
+) -> Result<(), Fail>
+    requires of { (p : Patterns) × A.is_of automaton.now p }
+{
+    let mut dst = Vec::from_slice(alloc, b"z")?;
+    let answer = automaton.try_replace_all_with_bytes(b"bac", &mut dst, |_m, _matched, dst| {
         dst.extend_from_slice(b"X")?;
         Err(AllocError)
     });
-    assert_eq!(&rt; answer, Err(ReplaceError::Memory));
-    assert_eq!(&rt; dst.as_slice(), b"zbX".as_slice());
+    assert_eq!(rt; answer, Err(ReplaceError::Memory));
+    assert_eq!(rt; dst.as_slice(), b"zbX".as_slice());
+    Ok(())
+}
+
+/// What the destination had stays before what is appended.
+fn appends<A: Automaton>(rt: &impl Abort, alloc: Global, automaton: &A) -> Result<(), Fail>
+    requires of { (p : Patterns) × A.is_of automaton.now p }
+{
+    let mut dst = String::new(alloc);
+    dst.push_str("z")?;
+    automaton.try_replace_all_with("bac", &mut dst, |_m, _matched, dst| {
+        dst.push_str("X")?;
+        Ok(true)
+    })?;
+    assert_eq!(rt; dst.as_str(), "zbXc");
     Ok(())
 }
 
 #[test]
-fn what_the_destination_had_stays_before(rt: HostRuntime) -> Result<(), Fail> {
+fn closures_are_obeyed(rt: HostRuntime) -> Result<(), Fail> {
     let nfa = nfa_of(&rt, rt.alloc(), &[b"a"], MatchKind::Standard, false);
-    let mut dst = String::new(rt.alloc());
-    dst.push_str("z")?;
-    nfa.try_replace_all_with("bac", &mut dst, |_m, _matched, dst| {
-        dst.push_str("X")?;
-        Ok(true)
-    })?;
-    assert_eq!(&rt; dst.as_str(), "zbXc");
-    Ok(())
+    copies_after_false(&rt, rt.alloc(), &nfa)?;
+    keeps_after_want_of_memory(&rt, rt.alloc(), &nfa)?;
+    appends(&rt, rt.alloc(), &nfa)?;
+    let relinked = relinked_of(&rt, rt.alloc(), &nfa);
+    copies_after_false(&rt, rt.alloc(), &relinked)?;
+    keeps_after_want_of_memory(&rt, rt.alloc(), &relinked)?;
+    appends(&rt, rt.alloc(), &relinked)
 }
 
 /// Each call replaces the one pattern by this piece.

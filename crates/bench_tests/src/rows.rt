@@ -4,12 +4,10 @@
 ghost use Rattle.std.specs.Prelude.{◌+◌, ◌≤◌, length};
 ghost use Rattle.aho_base.specs.Patterns.{Patterns};
 
-use crate::automata::{DEPTHS, nfa_with};
+use crate::automata::{DEPTHS, nfa_of, nfa_with, relinked_of};
 use crate::overlaps::{found_by_calls, found_by_iterator};
 use aho_base::search::{Anchored, Input, Match, MatchKind, PatternID, Span};
-use aho_corasick::noncontiguous::NFA;
 use aho_search::automaton::Automaton;
-use bench::callers::all_matches;
 use bench::listing::{all, anchored, finds};
 use bench::pattern_set::PatternSet;
 use bench::plain::plain;
@@ -458,11 +456,19 @@ fn listed(
 }
 
 /// What iteration over the automaton gives.
-fn iterated(alloc: Global, row: &Row, nfa: &NFA, input: Input<'_>) -> Result<Vec<Found>, AllocError>
-    requires of { (p : Patterns) × ⟦<NFA as Automaton>⟧.is_of nfa.now p }
+fn iterated<A: Automaton>(
+    alloc: Global,
+    row: &Row,
+    automaton: &A,
+    input: Input<'_>,
+) -> Result<Vec<Found>, Fail>
+    requires of { (p : Patterns) × A.is_of automaton.now p }
 {
     match row.want {
-        Want::Finds(_) => all_found(alloc, &all_matches(alloc, nfa, input)?),
+        Want::Finds(_) => {
+            let found: Vec<Match> = automaton.try_find_iter(input)?.collect(alloc)?;
+            Ok(all_found(alloc, &found)?)
+        }
         Want::First(_) | Want::Listing(_) => Ok(Vec::new(alloc)),
     }
 }
@@ -486,37 +492,37 @@ fn is_wanted(row: &Row, answer: Option<Found>, listed: &[Found]) -> bool {
 
 /// The automaton lists what is wanted of a row whose listing is wanted, by its calls and, where it is not anchored, by
 /// its iterator.
-fn is_listed(
+fn is_listed<A: Automaton>(
     rt: &impl Abort,
     alloc: Global,
     row: &Row,
-    nfa: &NFA,
+    automaton: &A,
     input: Input<'_>,
 ) -> Result<(), Fail>
-    requires of { (p : Patterns) × ⟦<NFA as Automaton>⟧.is_of nfa.now p }
+    requires of { (p : Patterns) × A.is_of automaton.now p }
 {
     let Want::Listing(want) = row.want else {
         return Ok(());
     };
-    let by_calls = all_found(alloc, &found_by_calls(rt, alloc, nfa, &input)?)?;
+    let by_calls = all_found(alloc, &found_by_calls(rt, alloc, automaton, &input)?)?;
     assert_eq!(rt; by_calls.as_slice(), want, "{row:?}");
     if row.anchored == Anchored::No {
-        let by_iterator = all_found(alloc, &found_by_iterator(rt, alloc, nfa, input)?)?;
+        let by_iterator = all_found(alloc, &found_by_iterator(rt, alloc, automaton, input)?)?;
         assert_eq!(rt; by_iterator.as_slice(), want, "{row:?}");
     }
     Ok(())
 }
 
-/// The plain program and the automaton answer what is wanted of a row, at one match kind, with and without a prefilter, at a
-/// depth of dense rows.
-fn row_is_met(
+/// The plain program and the automaton answer what is wanted of a row, at one match kind.
+fn row_is_met<A: Automaton>(
     rt: &impl Abort,
     alloc: Global,
     row: &Row,
     kind: MatchKind,
-    prefilter: bool,
-    depth: usize,
-) -> Result<(), Fail> {
+    automaton: &A,
+) -> Result<(), Fail>
+    requires of { (p : Patterns) × A.is_of automaton.now p }
+{
     let span = span_of(row);
     assert!(rt; row.patterns.len() <= PatternID::MAX.as_usize());
     assert!(rt; span.end <= row.haystack.len());
@@ -524,18 +530,9 @@ fn row_is_met(
     let patterns = PatternSet::new(row.patterns, kind, row.ignore_case);
     let input = input_of(row, span);
     let answer = plain(&patterns, &input);
-    let nfa = nfa_with(
-        rt,
-        alloc,
-        row.patterns,
-        kind,
-        row.ignore_case,
-        prefilter,
-        depth,
-    );
-    assert_eq!(rt; nfa.try_find(&input)?, answer, "{kind:?} {row:?}");
-    is_listed(rt, alloc, row, &nfa, input.clone()?)?;
-    let iterated = iterated(alloc, row, &nfa, input_of(row, span))?;
+    assert_eq!(rt; automaton.try_find(&input)?, answer, "{kind:?} {row:?}");
+    is_listed(rt, alloc, row, automaton, input.clone()?)?;
+    let iterated = iterated(alloc, row, automaton, input_of(row, span))?;
     let listed = listed(alloc, row, &patterns, input)?;
     let found = answer.map(found_of);
     assert!(rt;
@@ -555,9 +552,21 @@ fn rows_are_met(rt: HostRuntime) -> Result<(), Fail> {
         for kind in row.kinds {
             for depth in DEPTHS {
                 for prefilter in [true, false] {
-                    row_is_met(&rt, rt.alloc(), row, *kind, prefilter, depth)?;
+                    let nfa = nfa_with(
+                        &rt,
+                        rt.alloc(),
+                        row.patterns,
+                        *kind,
+                        row.ignore_case,
+                        prefilter,
+                        depth,
+                    );
+                    row_is_met(&rt, rt.alloc(), row, *kind, &nfa)?;
                 }
             }
+            let nfa = nfa_of(&rt, rt.alloc(), row.patterns, *kind, row.ignore_case);
+            let relinked = relinked_of(&rt, rt.alloc(), &nfa);
+            row_is_met(&rt, rt.alloc(), row, *kind, &relinked)?;
         }
     }
     Ok(())

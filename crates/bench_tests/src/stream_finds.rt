@@ -4,15 +4,12 @@ ghost use Rattle.aho_base.specs.Patterns.{Patterns};
 
 use crate::automata::nfa_of;
 use crate::scripted::{ScriptedSource, Turn};
-use crate::streams::Numbers;
 use aho_base::error::{Fault, MatchError, StreamError};
-use aho_base::search::{Input, Match, MatchKind};
+use aho_base::search::{Match, MatchKind};
 use aho_search::automaton::Automaton;
 use aho_stream::chunks::StreamChunkIter;
 use aho_stream::finds::try_stream_find_iter;
-use bench::listing::finds;
 use bench::one_byte::OneByte;
-use bench::pattern_set::PatternSet;
 use bench::tally::Tally;
 use std::alloc::Global;
 use std::process::Abort;
@@ -24,10 +21,10 @@ const WORDS: &[&[u8]] = &[b"fox", b"brown", b"quick"];
 const TEXT: &[u8] = b"The quick brown fox.";
 
 /// A source that gives one byte a read.
-const ONE_BYTE: &[Turn] = &[Turn::Move(1); 64];
+pub(crate) const ONE_BYTE: &[Turn] = &[Turn::Move(1); 64];
 
 /// A pattern's number, and where its match starts and ends.
-fn found_of(m: Match) -> (usize, usize, usize) {
+pub(crate) fn found_of(m: Match) -> (usize, usize, usize) {
     (m.pattern().as_usize(), m.start(), m.end())
 }
 
@@ -48,14 +45,14 @@ fn items<A: Automaton>(
 
 /// What the chunks of a stream told: its matches and its faults, how many look-ups were made, and how many bytes were walked.
 #[derive(Drop)]
-struct Told {
-    items: Vec<Result<(usize, usize, usize), StreamError>>,
-    lookups: u128,
-    position: u128,
+pub(crate) struct Told {
+    pub(crate) items: Vec<Result<(usize, usize, usize), StreamError>>,
+    pub(crate) lookups: u128,
+    pub(crate) position: u128,
 }
 
 /// What the first two hundred chunks of a stream tell, of which so many bytes may be given.
-fn told_under<A: Automaton>(
+pub(crate) fn told_under<A: Automaton>(
     alloc: Global,
     automaton: &A,
     source: &mut ScriptedSource<'_>,
@@ -138,42 +135,6 @@ fn a_limit_is_answered_once(rt: HostRuntime) -> Result<(), Fail> {
 }
 
 #[test]
-fn random_streams_are_searched_as_plainly(rt: HostRuntime) -> Result<(), Fail> {
-    let alloc = rt.alloc();
-    let mut numbers = Numbers::new(11);
-    let words: [&[u8]; 4] = [b"ab", b"bca", b"c", b"abcb"];
-    let nfa = nfa_of(&rt, alloc, &words, MatchKind::Standard, false);
-    let patterns = PatternSet::new(&words, MatchKind::Standard, false);
-    for _ in 0..60 {
-        let given = numbers.bytes(alloc)?;
-        let turns = numbers.turns(alloc, 60, 10)?;
-        let limit = numbers.next(70);
-        let mut source = ScriptedSource::new(&given, &turns);
-        let told = told_under(alloc, &nfa, &mut source, limit)?;
-        let mut wanted = Vec::new(alloc);
-        for m in finds(alloc, &patterns, Input::new(&given))? {
-            if m.end() as u64 <= limit {
-                wanted.push(Ok(found_of(m)))?;
-            }
-        }
-        let made = turns.iter().take(source.reads());
-        let mut faults = made.filter(|turn| matches!(turn, Turn::Fail)).count();
-        if limit <= given.len() as u64 {
-            faults = faults.saturating_add(1);
-        }
-        assert_eq!(rt;
-            told.items.len(),
-            wanted.len().saturating_add(faults),
-            "{given:?}"
-        );
-        let mut matches = told.items;
-        matches.retain(|item| item.is_ok());
-        assert_eq!(rt; matches.as_slice(), wanted.as_slice(), "{given:?}");
-    }
-    Ok(())
-}
-
-#[test]
 fn each_byte_of_a_stream_is_stepped_once(rt: HostRuntime) -> Result<(), Fail> {
     let nfa = nfa_of(&rt, rt.alloc(), &[b"aaab"], MatchKind::Standard, false);
     let tally = Tally::new(nfa);
@@ -200,13 +161,14 @@ fn an_empty_read_ends_a_stream(rt: HostRuntime) -> Result<(), Fail> {
 
 #[test]
 fn what_no_stream_can_be_searched_for_is_refused(rt: HostRuntime) {
-    let leftmost = nfa_of(&rt, rt.alloc(), &[b"a"], MatchKind::LeftmostFirst, false);
-    let mut source = ScriptedSource::new(b"a", &[]);
-    assert_eq!(rt;
-        try_stream_find_iter(rt.alloc(), &leftmost, &mut source).err(),
-        Some(StreamError::Match(MatchError::unsupported_stream(MatchKind::LeftmostFirst)))
+    let empty = nfa_of(
+        &rt,
+        rt.alloc(),
+        &[b"a", b""],
+        MatchKind::LeftmostFirst,
+        false,
     );
-    let empty = nfa_of(&rt, rt.alloc(), &[b"a", b""], MatchKind::Standard, false);
+    let mut source = ScriptedSource::new(b"a", &[]);
     assert_eq!(rt;
         try_stream_find_iter(rt.alloc(), &empty, &mut source).err(),
         Some(StreamError::Match(MatchError::unsupported_empty()))

@@ -79,7 +79,7 @@ fn turns_of(alloc: Global, turn: Turn, count: usize) -> Result<Vec<Turn>, AllocE
 }
 
 /// What the replacement of a stream answers, and whether it wrote this.
-fn replaces(
+pub(crate) fn replaces(
     rt: &impl Abort,
     alloc: Global,
     nfa: &NFA,
@@ -286,22 +286,12 @@ fn a_closure_is_called_on_each_match(rt: HostRuntime) -> Result<(), Fail> {
 fn what_cannot_search_a_stream_reads_nothing(rt: HostRuntime) -> Result<(), Fail> {
     let alloc = rt.alloc();
     let empty: [&[u8]; 2] = [b"a", b""];
-    let refused = [
-        (
-            MatchKind::LeftmostFirst,
-            MatchError::unsupported_stream(MatchKind::LeftmostFirst),
-        ),
-        (
-            MatchKind::LeftmostLongest,
-            MatchError::unsupported_stream(MatchKind::LeftmostLongest),
-        ),
-        (MatchKind::Standard, MatchError::unsupported_empty()),
-    ];
-    for (kind, reason) in refused {
+    for kind in [MatchKind::Standard, MatchKind::LeftmostFirst] {
         let nfa = nfa_of(&rt, alloc, &empty, kind, false);
         let mut source = ScriptedSource::new(b"ab", &[]);
         let mut sink = ScriptedSink::new(alloc, &[]);
         let answer = replaces(&rt, alloc, &nfa, &[b"x", b"y"], &mut source, &mut sink);
+        let reason = MatchError::unsupported_empty();
         assert_eq!(&rt; answer, Err(StreamError::Match(reason)));
         assert_eq!(&rt; source.reads(), 0);
         assert_eq!(&rt; sink.writes(), 0);
@@ -310,7 +300,7 @@ fn what_cannot_search_a_stream_reads_nothing(rt: HostRuntime) -> Result<(), Fail
 }
 
 /// Some bytes "x", and these behind them.
-fn behind(alloc: Global, count: usize, last: &[u8]) -> Result<Vec<u8>, AllocError> {
+pub(crate) fn behind(alloc: Global, count: usize, last: &[u8]) -> Result<Vec<u8>, AllocError> {
     let mut bytes = vec![in alloc; 120; count]?;
     bytes.extend_from_slice(last)?;
     Ok(bytes)
@@ -415,36 +405,53 @@ fn replaced_by(
     Ok(bytes)
 }
 
+/// A random stream is replaced as iteration in memory says, or where a device fails a beginning of that is written.
+fn is_replaced_as_plainly(
+    rt: &impl Abort,
+    alloc: Global,
+    kind: MatchKind,
+    numbers: &mut Numbers,
+) -> Result<(), Fail> {
+    let words: [&[u8]; 4] = [b"ab", b"bca", b"c", b"abcb"];
+    let pieces: [&[u8]; 4] = [b"", b"-", b"ab", b"xyz"];
+    let nfa = nfa_of(rt, alloc, &words, kind, false);
+    let patterns = PatternSet::new(&words, kind, false);
+    let given = numbers.bytes(alloc)?;
+    let reads = numbers.turns(alloc, 30, 40)?;
+    let writes = numbers.turns(alloc, 30, 40)?;
+    let matches = finds(alloc, &patterns, Input::new(&given))?;
+    let wanted = replaced_by(alloc, &given, &matches, &pieces)?;
+    let mut source = ScriptedSource::new(&given, &reads);
+    let mut sink = ScriptedSink::new(alloc, &writes);
+    let answer = replaces(rt, alloc, &nfa, &pieces, &mut source, &mut sink);
+    assert!(rt; wanted.starts_with(sink.taken()), "{given:?}");
+    if answer.is_ok() {
+        assert_eq!(rt; sink.taken().len(), wanted.len(), "{given:?}");
+        return Ok(());
+    }
+    let read_failed = last_failed(&reads, source.reads());
+    let write_failed = last_failed(&writes, sink.writes());
+    let told = if read_failed {
+        StreamError::Read(Fault)
+    } else {
+        StreamError::Write(Fault)
+    };
+    assert!(rt; read_failed != write_failed, "{given:?}");
+    assert_eq!(rt; answer, Err(told), "{given:?}");
+    Ok(())
+}
+
 #[test]
 fn random_streams_are_replaced_as_plainly(rt: HostRuntime) -> Result<(), Fail> {
     let alloc = rt.alloc();
     let mut numbers = Numbers::new(7);
-    let words: [&[u8]; 4] = [b"ab", b"bca", b"c", b"abcb"];
-    let pieces: [&[u8]; 4] = [b"", b"-", b"ab", b"xyz"];
-    let nfa = nfa_of(&rt, alloc, &words, MatchKind::Standard, false);
-    let patterns = PatternSet::new(&words, MatchKind::Standard, false);
-    for _ in 0..60 {
-        let given = numbers.bytes(alloc)?;
-        let reads = numbers.turns(alloc, 30, 40)?;
-        let writes = numbers.turns(alloc, 30, 40)?;
-        let matches = finds(alloc, &patterns, Input::new(&given))?;
-        let wanted = replaced_by(alloc, &given, &matches, &pieces)?;
-        let mut source = ScriptedSource::new(&given, &reads);
-        let mut sink = ScriptedSink::new(alloc, &writes);
-        let answer = replaces(&rt, alloc, &nfa, &pieces, &mut source, &mut sink);
-        assert!(&rt; wanted.starts_with(sink.taken()), "{given:?}");
-        if answer.is_ok() {
-            assert_eq!(&rt; sink.taken().len(), wanted.len(), "{given:?}");
-        } else {
-            let read_failed = last_failed(&reads, source.reads());
-            let write_failed = last_failed(&writes, sink.writes());
-            let told = if read_failed {
-                StreamError::Read(Fault)
-            } else {
-                StreamError::Write(Fault)
-            };
-            assert!(&rt; read_failed != write_failed, "{given:?}");
-            assert_eq!(&rt; answer, Err(told), "{given:?}");
+    for kind in [
+        MatchKind::Standard,
+        MatchKind::LeftmostFirst,
+        MatchKind::LeftmostLongest,
+    ] {
+        for _ in 0..60 {
+            is_replaced_as_plainly(&rt, alloc, kind, &mut numbers)?;
         }
     }
     Ok(())
@@ -461,11 +468,18 @@ fn last_failed(turns: &[Turn], calls: usize) -> bool {
 #[test]
 fn a_chunk_is_lent(rt: HostRuntime) -> Result<(), Fail> {
     let nfa = nfa_of(&rt, rt.alloc(), &[b"fox"], MatchKind::Standard, false);
+    lends_a_chunk(&rt, &nfa)
+}
+
+// As above, of every automaton, whose proof sees no inside of one.
+fn lends_a_chunk<A: Automaton>(rt: &HostRuntime, automaton: &A) -> Result<(), Fail>
+    requires of { (p : Patterns) × A.is_of automaton.now p }
+{
     let mut source = ScriptedSource::new(b"the fox", &[]);
-    let mut chunks = StreamChunkIter::new(rt.alloc(), &nfa, &mut source)?;
+    let mut chunks = StreamChunkIter::new(rt.alloc(), automaton, &mut source)?;
     match chunks.next() {
-        Some(Ok(StreamChunk::NonMatch { bytes })) => assert_eq!(&rt; bytes, b"the ".as_slice()),
-        _ => panic!(&rt; "a match, a fault or none"),
+        Some(Ok(StreamChunk::NonMatch { bytes })) => assert_eq!(rt; bytes, b"the ".as_slice()),
+        _ => panic!(rt; "a match, a fault or none"),
     }
     Ok(())
 }

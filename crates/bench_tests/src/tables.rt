@@ -85,7 +85,8 @@ fn iterators_give_what_was_listed(rt: HostRuntime) {
     lead(&rt, &mut table, b'a', DEAD);
     let pairs = collected(rt.alloc(), table.transitions(FAIL)).expect(&rt, "memory");
     assert!(rt; pairs.as_slice() == [(b'a', DEAD), (b'm', FAIL), (b'z', DEAD)].as_slice());
-    assert_eq!(rt; table.transitions(DEAD).count(), 0);
+    let none = collected(rt.alloc(), table.transitions(DEAD)).expect(&rt, "memory");
+    assert!(rt; none.is_empty());
     let (first, second) = (pattern(&rt, 7), pattern(&rt, 2));
     table.add_match(DEAD, first).expect(&rt, "a pattern");
     table.add_match(DEAD, second).expect(&rt, "another pattern");
@@ -94,10 +95,18 @@ fn iterators_give_what_was_listed(rt: HostRuntime) {
         .collect(rt.alloc())
         .expect(&rt, "memory");
     assert!(rt; patterns.as_slice() == [first, second].as_slice());
+    let copied = table.patterns(DEAD).expect(&rt, "memory");
+    assert!(rt; copied.as_slice() == [first, second].as_slice());
+    assert!(rt; table.has_matches(DEAD));
+    assert!(rt; !table.has_matches(FAIL));
     assert_eq!(rt; table.match_len(DEAD), 2);
     assert_eq!(rt; table.match_pattern(DEAD, 1), second);
     assert_eq!(rt; table.matches_count(), 3);
-    assert_eq!(rt; table.matches(FAIL).count(), 0);
+    let unlisted: Vec<PatternID> = table
+        .matches(FAIL)
+        .collect(rt.alloc())
+        .expect(&rt, "memory");
+    assert!(rt; unlisted.is_empty());
 }
 
 #[test]

@@ -6,7 +6,7 @@ ghost use Rattle.aho_table.specs.Table.{state_at, next_in, fail_in, matches_in, 
 ghost use Rattle.aho_table.specs.Refusal.{IsRefusalOf};
 ghost use Rattle.aho_build.specs.FirstStates.{root_id, anchored_id};
 ghost use Rattle.aho_build.specs.Starts.{IsLedBelow, IsLedAsRoot, looped, stops_at, ListsAllBytes};
-ghost use Rattle.aho_build.specs.FailureLinks.{append_matches, linked_state, CanStepBySome, StepsTo, CanLinkBySome, LinksTo, IsLinkingBySome, KeepsLinking, unlinked_count, OnlyCopies, IsLinkingRefusal, IsReadyRefusal};
+ghost use Rattle.aho_build.specs.FailureLinks.{rows_of, append_matches, linked_state, CanStepBySome, StepsTo, CanLinkBySome, LinksTo, IsLinkingBySome, KeepsLinking, unlinked_count, OnlyCopies, IsLinkingRefusal, IsReadyRefusal};
 ghost use Rattle.aho_build.specs.Built.{IsReadyBySome, BuildsReady};
 
 use crate::compiler::starts::{anchored_start, unanchored_start};
@@ -30,13 +30,16 @@ fn copy_matches(table: &mut Table, from: StateID, to: StateID) -> Result<(), Bui
     requires apart { to ≢ from }
     ensures copied { OnOk result (table.new.states ≡ append_matches table.old.states to from) }
     ensures limit { OnOk result (table.new.limit ≡ table.old.limit) }
-    ensures rows { OnOk result (table.new.dense_len ≡ table.old.dense_len) }
+    ensures rows { OnOk result (rows_of table.new ≡ rows_of table.old) }
     ensures refused { IfErr result
         (IsRefusalOf table.old.limit
         (matches_count table.old.states + length (matches_in table.old.states from))) }
 {
-    for index in 0..table.match_len(from) {
-        let pattern = table.match_pattern(from, index);
+    let Ok(patterns) = table.patterns(from) else {
+        return Err(BuildError::OutOfMemory);
+    };
+    for index in 0..patterns.len() {
+        let pattern = patterns[index];
         table.add_match(to, pattern)?;
     }
     Ok(())
@@ -47,6 +50,8 @@ pub fn set_anchored_start_state(table: &mut Table) -> Result<(), BuildError>
     requires starts { anchored_id < length table.old.states }
     ensures led { OnOk result (IsLedAsRoot table.old.states table.new.states) }
     ensures limit { OnOk result (table.new.limit ≡ table.old.limit) }
+    ensures full { OnOk result
+        (ListsAllBytes table.old.states anchored_id → ListsAllBytes table.new.states anchored_id) }
     ensures transitions { OnOk result
         (ListsAllBytes table.old.states anchored_id
         → transitions_count table.new.states ≡ transitions_count table.old.states) }
@@ -71,7 +76,7 @@ fn ends_here(table: &Table, kind: MatchKind, sid: StateID) -> bool
 {
     match kind {
         MatchKind::Standard => false,
-        MatchKind::LeftmostFirst | MatchKind::LeftmostLongest => table.match_len(sid) > 0,
+        MatchKind::LeftmostFirst | MatchKind::LeftmostLongest => table.has_matches(sid),
     }
 }
 
@@ -141,7 +146,7 @@ fn link(table: &mut Table, sid: StateID, fail: StateID) -> Result<(), BuildError
     requires apart { sid ≢ fail }
     ensures linked { OnOk result (table.new.states ≡ linked_state table.old.states sid fail) }
     ensures limit { OnOk result (table.new.limit ≡ table.old.limit) }
-    ensures rows { OnOk result (table.new.dense_len ≡ table.old.dense_len) }
+    ensures rows { OnOk result (rows_of table.new ≡ rows_of table.old) }
     ensures refused { IfErr result
         (IsRefusalOf table.old.limit
         (matches_count table.old.states + length (matches_in table.old.states fail))) }

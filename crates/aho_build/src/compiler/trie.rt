@@ -71,7 +71,7 @@ fn passes_match(table: &Table, kind: MatchKind, state: StateID) -> bool
         (is_first kind && nat_lt 0 (length (matches_in table.now.states state))) }
 {
     match kind {
-        MatchKind::LeftmostFirst => table.match_len(state) > 0,
+        MatchKind::LeftmostFirst => table.has_matches(state),
         MatchKind::Standard => false,
         MatchKind::LeftmostLongest => false,
     }

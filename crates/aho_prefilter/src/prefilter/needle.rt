@@ -42,6 +42,7 @@ impl Needle {
     }
 
     /// The first place of this part of a haystack at which it stands.
+    #[inline(never)]
     pub(crate) fn find(&self, part: &[u8]) -> Option<usize>
         ensures first { FindsNeedle part.now self.now 0 result }
     {

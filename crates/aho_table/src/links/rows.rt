@@ -3,12 +3,14 @@
 ghost use Rattle.std.specs.Prelude.{◌≡◌, ℕ, ◌+◌, ◌<◌, ◌≤◌, [], length, slice_index_or, IfOk, OnOk, OnErr};
 ghost use Rattle.aho_table.specs.Alphabet.{no_borders, class_of};
 ghost use Rattle.aho_table.specs.Table.{IsRising, transition_at, LeadsAlike};
+ghost use Rattle.std.specs.List.{AllZip};
+ghost use Rattle.aho_table.specs.Renaming.{IsLed};
 ghost use Rattle.aho_table.specs.Inside.{row_next, IsRow, IsRowAdded};
 
-use super::FAIL;
-use super::lists::Transitions;
 use crate::alphabet::{ByteClassSet, ByteClasses};
 use aho_base::search::StateID;
+use aho_lists::renumber::renamed;
+use aho_lists::transitions::{FAIL, Transitions};
 use std::alloc::{AllocError, Global};
 
 /// The rows of a table. A row is named by the index at which it starts; index 0 is taken from the start.
@@ -38,6 +40,13 @@ impl Rows {
     {
         self.classes = classes;
         self.entries.clear();
+    }
+
+    /// The classes that the rows go by.
+    pub(super) fn classes(&self) -> &ByteClasses
+        ensures classes { result.now ≡ self.now.classes }
+    {
+        &self.classes
     }
 
     /// How many entries there are, the one at index 0 among them: the start of the row that is added next.
@@ -73,6 +82,17 @@ impl Rows {
         let len = self.classes.alphabet_len();
         self.entries.extend_from_slice(&row[..len])?;
         Ok(())
+    }
+
+    /// Each number that stands in a row is exchanged for the one that the closure answers for it.
+    pub(super) fn rename<F: Fn(StateID) -> StateID>(&mut self, map: &F)
+        requires callable { F.IsAlwaysCallable map.now }
+        ensures classes { self.new.classes ≡ self.old.classes }
+        ensures renamed { AllZip (IsLed (F.post map.now)) self.old.entries.items self.new.entries.items }
+    {
+        for entry in self.entries.iter_mut() {
+            *entry = renamed(*entry, map);
+        }
     }
 
     pub(super) fn try_clone(&self, alloc: Global) -> Result<Rows, AllocError>

@@ -1,4 +1,4 @@
-use Rattle.std.proofs.Common.{◌≡◌, ◌+◌, ◌≤◌, ◌∙◌, List, length, refl, sym, ap, subst, arith}
+use Rattle.std.proofs.Common.{ℕ, ◌≡◌, ◌+◌, ◌≤◌, ◌∙◌, Bool, List, length, refl, sym, ap, subst, rules, arith}
 use Rattle.aho_build.specs.Settings.{in_force}
 use Rattle.aho_build.specs.Sizes.{matches_size}
 use Rattle.aho_build.specs.Refusals.{own_size, start_size}
@@ -14,11 +14,14 @@ use Rattle.aho_build.proofs.DenseSizes.{dense_count-of, dense_size-of, row_start
 use Rattle.aho_build.proofs.MatchTotals.{IsRefusalOf-larger, root_list-own}
 use Rattle.aho_build.proofs.BuildRefusals.{IsRefusal-stopped, IsRefusal-start, IsRefusal-row, IsRefusal-copied}
 use Rattle.aho_build.proofs.RefusedGrowths.{AreRowsWithin-of, cause-within}
-use Rattle.aho_build.proofs.Phases.{root_full-led, IsReady-led, fail_matches-led, matches_count-led, matches_count-linked, IsSized-linked}
+use Rattle.aho_build.proofs.Phases.{ListsExactly-linked, root_full-led, IsReady-led, fail_matches-led, matches_count-led, matches_count-linked, IsSized-linked}
 use Rattle.aho_build.proofs.StoppedBuilds.{IfErr-given}
 use Rattle.aho_build.proofs.Built.{IsAutomaton-built}
-use Rattle.aho_build.specs.Automaton.{IsAutomaton}
-use Rattle.aho_build.specs.declared.special.Special.{Special}
+use Rattle.aho_build.proofs.RenumberedAutomata.{IsAutomaton-shuffled, ListsExactly-shuffled, IsSized-shuffled}
+use Rattle.std.specs.Option.{is_some}
+use Rattle.aho_prefilter.specs.Prefilter.{has_empty}
+use Rattle.aho_build.specs.Shuffled.{IsInOrder}
+use Rattle.aho_build.proofs.EmptyPatterns.{IsInOrder-empty}
 use Rattle.aho_build.proofs.compiler.compile.Goals as goal
 
 pub returns-in_err-trie-clause-refused : goal.returns-in_err-trie-clause-refused
@@ -164,6 +167,10 @@ returns-clause-built g c =
     let own : own_size p + start_size p ≤ (in_force settings).id + 1 = omega (arith, matches_count-led p old mid holds led, c.facts.ensures.within.matches, mid_limit) in
     let linked = c.in_ok-fill_failure_transitions.ensures.built p names refl (IsReady-led p old mid holds led ready closed) in
     let size = matches_count-linked p old mid holds led ready closed new copies linked in
+    let special = c.in-Ok-shuffle.special in
+    let shuffled = c.in-Ok-shuffle.ensures.shuffled in
+    let kept = ap (λ (t : Tables). t.dense_len) c.in-Ok-shuffle.ensures.kept in
+    let automaton = IsAutomaton-shuffled c.is_some.result new.states c.shuffle.new.table.states special p names shuffled (IsAutomaton-built special p names new.states linked) in
     let few : matches_size p ≤ (in_force settings).id + 1 = omega (arith, size, c.facts-2.ensures.within.matches, limit) in (
       built.0,
       (built.1.0, cause-within settings p built.1.1.1.1.1.0 own rows few),
@@ -171,14 +178,31 @@ returns-clause-built g c =
         record {
           kind_is = refl;
           lengths_are = built.1.1.0;
-          names = names;
-          automaton =
-              subst (λ (special : Special). IsAutomaton special p names new.states) (sym c.in_order_of_creation.ensures.starts) (IsAutomaton-built p names new.states linked);
-          sized = IsSized-linked p old mid holds led ready closed new copies linked
+          names = automaton.0;
+          automaton = automaton.1;
+          listed = ListsExactly-shuffled c.is_some.result new.states c.shuffle.new.table.states special shuffled
+              (ListsExactly-linked p old mid holds led ready closed new copies linked special (c.in_ok-set_anchored_start_state.ensures.full holds.listed.anchored_full));
+          sized = IsSized-shuffled c.is_some.result new.states c.shuffle.new.table.states special p shuffled (IsSized-linked p old mid holds led ready closed new copies linked
               (c.in_ok-set_anchored_start_state.ensures.transitions holds.listed.anchored_full)
-              (ap transitions_count same_states ∙ c.in_ok-add_unanchored_start_state_loop.ensures.transitions (root_full-led p old mid holds led));
+              (ap transitions_count same_states ∙ c.in_ok-add_unanchored_start_state_loop.ensures.transitions (root_full-led p old mid holds led)));
         },
-        copies.rows ∙ ap (λ (t : Tables). t.dense_len) c.in_ok-densify.ensures.dense ∙ dense_size-of p table.states before classes c.byte_classes-classes.ensures.sized has settings.dense_depth,
+        kept ∙ ap (λ (r : List Bool × ℕ). r.1) copies.rows ∙ ap (λ (t : Tables). t.dense_len) c.in_ok-densify.ensures.dense ∙ dense_size-of p table.states before classes c.byte_classes-classes.ensures.sized has settings.dense_depth,
         (let made = c.in-Ok.ensures.held settings p built.1.1.1.1.1.1.0 in cc),
+        subst (HasBorders p) (sym (ap (λ (t : Tables). t.classes) c.in-Ok-shuffle.ensures.kept ∙ ap (λ (r : List Bool × ℕ). r.0) copies.rows ∙ ap (λ (t : Tables). t.classes) c.in_ok-densify.ensures.dense)) has,
       ),
+    )
+
+pub returns-clause-numbered : goal.returns-clause-numbered
+returns-clause-numbered g c =
+    let special = c.in-Ok-shuffle.special in
+    let states = c.shuffle.new.table.states in
+    let built = returns-clause-built g c in
+    let p = patterns_of c.args.settings.now built.0 in
+    let skips : c.is_some.result ≡ is_some c.in-Ok.prefilter = search rules in
+    let order = c.in-Ok-shuffle.ensures.shuffled.order in
+    let automaton = built.2.0.automaton in (
+      built.0,
+      built.1,
+      subst (λ (skips : Bool). IsInOrder (has_empty p) skips special (matches_in states)) skips
+          (IsInOrder-empty c.is_some.result special p built.2.0.names states automaton order),
     )

@@ -29,7 +29,6 @@ skips-preserved g c =
     let here = told c.requires.of.0 c.requires.of.1 in
     let from : c.skips.at ≤ c.in-Some.origin = here.0 in
     let waits = c.in-Waits.ensures.waits_within in
-    let state = rw c.skips.invariant.same_walk at c.in-Waits.ensures.waits_in in
     let goes = rw (c.skips.invariant.same_walk, c.skips.invariant.same_text) at c.in-Waits.ensures.waits_for in
     record {
       same_walk = c.find_from.ensures.same_walk ∙ c.skips.invariant.same_walk;
@@ -40,10 +39,7 @@ skips-preserved g c =
       forward = omega (arith, c.find_from.ensures.forward, c.skips.invariant.forward);
       paid = omega (arith, c.find_from.ensures.cost, c.skips.invariant.paid, c.skips.invariant.unread, c.skips.invariant.after_start, waits.2, waits.0);
       grows = omega (arith, c.find_from.ensures.grows, c.skips.invariant.grows);
-      valid = state.0;
-      shallow = g.met.W.Of.Automaton.starts_shallow _ _ state.0 state.1;
-      begins = λ p of. (goes p of).0;
-      carries = λ p of. carried_on p bytes c.args.span.start c.in-Some.origin c.args.span.end c.in-Waits.place (omega (arith, c.skips.invariant.after_start)) (told p of).2 (goes p of).1;
+      carries = λ p of. carried_on p bytes c.args.span.start c.in-Some.origin c.args.span.end c.in-Waits.place (omega (arith, c.skips.invariant.after_start)) (told p of).2 (goes p of);
     }
 
 pub returns-then-not-earliest-clause-found : goal.returns-then-not-earliest-clause-found

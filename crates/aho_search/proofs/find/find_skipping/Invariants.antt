@@ -1,7 +1,6 @@
 -- What the loop over candidates keeps.
-use Rattle.std.proofs.Common.{◌≡◌, ◌+◌, ◌-◌, ◌*◌, ◌≤◌, []}
+use Rattle.std.proofs.Common.{◌≡◌, ◌+◌, ◌-◌, ◌*◌, ◌≤◌}
 use Rattle.aho_base.specs.Patterns.{Patterns}
-use Rattle.aho_base.specs.declared.search.Anchored.TheVariants.{No}
 use Rattle.aho_search.specs.Walked.{Carries}
 use Rattle.aho_search.proofs.find.find_skipping.Given as goal
 
@@ -17,9 +16,6 @@ invariant-skips g l =
       forward : g.T.Text.next l.initial.text ≤ g.T.Text.next l.text;
       paid : g.W.Walk.lookups l.walk ≤ g.W.Walk.lookups l.initial.walk + 2 * (g.T.Text.next l.text - l.start);
       grows : g.W.Walk.lookups l.initial.walk ≤ g.W.Walk.lookups l.walk;
-      valid : g.W.Of.Automaton.valid automaton l.sid;
-      shallow : g.W.Of.Automaton.depth automaton l.sid ≡ 0;
-      begins : (p : Patterns) → g.W.Of.Automaton.is_of automaton p → g.W.Of.Automaton.held automaton p No [] l.sid;
       carries : (p : Patterns) → g.W.Of.Automaton.is_of automaton p → Carries p (g.T.Text.bytes l.initial.text) l.start l.end l.at;
     }
 

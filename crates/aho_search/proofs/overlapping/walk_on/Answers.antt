@@ -1,85 +1,25 @@
--- Each way out of the walk, and each turn of its loop.
-use Rattle.std.proofs.Common.{◌≡◌, ◌+◌, ◌∷◌, ◌++◌, inl, inr, refl, sym, ◌∙◌, ap, subst, arith, ℕ, Bool, true, List, [], get_or, map}
-use Rattle.std.proofs.lemmas.Bool.{cases_lt}
+-- Each way out of the loop over candidates, and each turn.
+use Rattle.std.proofs.Common.{arith}
 use Rattle.std.proofs.lemmas.List.{nil_from_length}
-use Rattle.aho_base.specs.declared.search.Anchored.{Anchored}
-use Rattle.aho_base.specs.declared.search.Anchored.TheVariants.{No, Yes}
-use Rattle.aho_base.specs.Patterns.{Patterns}
-use Rattle.aho_base.specs.Progress.{StandsAt}
-use Rattle.aho_search.specs.Overlaps.{NoneEnds, ended, ends_at}
-use Rattle.aho_search.proofs.PartWay.{here_is, none_further, place_low, stands_further}
-use Rattle.aho_search.proofs.Endings.{lists_here, dead_ends}
-use Rattle.aho_search.proofs.overlapping.walk_on.Given.{Over}
-use Rattle.aho_search.proofs.overlapping.walk_on.Goals.{After-next_state-sid, then-is_special+else-match_len-gt0+else-has_ended, else-is_special}
+use Rattle.aho_search.proofs.Endings.{nothing_here}
+use Rattle.aho_search.proofs.PartWay.{none_further, place_low}
+use Rattle.aho_search.proofs.Passed.{none_joined}
 use Rattle.aho_search.proofs.overlapping.walk_on.Goals as goal
 
--- only an anchored search ends, in a dead state
-why_ended : (anchored : Anchored) (dead : Bool) → true ≡ ends_at anchored dead → (anchored ≡ Yes) × (dead ≡ true)
-why_ended No dead h = cc
-why_ended Yes dead h = (refl, sym h)
-
-pub loop-place-init : goal.loop-place-init
-loop-place-init g c = record {
-  valid = c.requires.stands.2.is_state;
-  stands = λ p of s. s;
-  none = λ p of s end least most. absurd (omega arith);
-}
-
--- the automaton is at the place where it began
-abbrev Began : (g : Over) → After-next_state-sid g → Patterns → Type 0
-Began g c p = StandsAt (g.A.Automaton.valid c.args.automaton.now) (g.A.Automaton.held c.args.automaton.now p) p c.args.input.now c.args.sid c.args.at
-
--- after one more byte
-stood : (g : Over) (c : After-next_state-sid g) (p : Patterns) → g.A.Automaton.is_of c.args.automaton.now p → Began g c p
-    → StandsAt (g.A.Automaton.valid c.args.automaton.now) (g.A.Automaton.held c.args.automaton.now p) p c.args.input.now c.next_state-sid.result (c.loop-place.place + 1)
-stood g c p of began =
-    let held = g.A.Automaton.held c.args.automaton.now p in
-    stands_further _ held p c.args.input.now c.loop-place.sid c.loop-place.place c.next_state-sid.result (omega arith) (omega arith) c.next_state-sid.ensures.valid
-    (λ word is_held.
-    subst (λ (xs : List ℕ). held c.args.input.now.anchored (word ++ get_or xs c.loop-place.place 0 ∷ []) c.next_state-sid.result) c.haystack-haystack.ensures.haystack
-    (subst (λ (a : Anchored). held a (word ++ get_or c.haystack-haystack.result.now c.loop-place.place 0 ∷ []) c.next_state-sid.result) c.get_anchored-anchored.ensures.anchored
-    (c.next_state-sid.ensures.goes_on p of word (subst (λ (a : Anchored). held a word c.loop-place.sid) (sym c.get_anchored-anchored.ensures.anchored) is_held))))
-    (c.loop-place.invariant.stands p of began)
-
--- where the state lists nothing, none ends there
-none_listed : (g : Over) (c : After-next_state-sid g) (p : Patterns) (of : g.A.Automaton.is_of c.args.automaton.now p) → Began g c p
-    → g.A.Automaton.list c.args.automaton.now c.next_state-sid.result ≡ [] → NoneEnds p c.args.input.now c.args.at (c.loop-place.place + 1 + 1)
-none_listed g c p of began nothing =
-    let s = stood g c p of began in
-    none_further p c.args.input.now c.args.at (c.loop-place.place + 1) (place_low _ _ p c.args.input.now _ _ s) (omega arith)
-    (sym (lists_here (g.met.A.Automaton.laws c.args.automaton.now p of) c.requires.standard _ c.args.input.now _ _ (omega arith) s)
-    ∙ ap (map (ended (g.A.Automaton.lengths c.args.automaton.now) (c.loop-place.place + 1))) nothing)
-    (c.loop-place.invariant.none p of began)
-
-pub loop-place-preserved : goal.loop-place-preserved
-loop-place-preserved g c =
-    let d = (goal.at.loop-place-preserved g c).After-next_state-sid in
+pub skips-preserved : goal.skips-preserved
+skips-preserved g c =
+    let of = c.requires.stands.1 in
+    let there = c.in-Some.ensures.skips _ of (c.skips.invariant.stands _ of c.requires.stands.2) in
+    let next = c.in-Some-walk_to.ensures.walks _ of there.1 in
     record {
-      valid = c.next_state-sid.ensures.valid;
-      stands = stood g d;
-      none = λ p of began.
-          none_listed g d p of began
-          (elim c.if-is_special.branch [
-            | then-is_special+else-match_len-gt0+else-has_ended w ↦ nil_from_length _ (omega (arith, w.match_len.ensures.len, w.if-match_len-gt0.false))
-            | else-is_special w ↦ (g.met.A.Automaton.plain c.args.automaton.now _ c.next_state-sid.ensures.valid (sym w.if-is_special.ensures.special)).1
-          ]);
+      further = omega (arith, c.skips.invariant.further, there.0, next.0);
+      stands = λ p is_of s. (c.in-Some-walk_to.ensures.walks p is_of (c.in-Some.ensures.skips p is_of (c.skips.invariant.stands p is_of s)).1).1;
+      none = λ p is_of s.
+          let from = c.in-Some.ensures.skips p is_of (c.skips.invariant.stands p is_of s) in
+          let upto = c.in-Some-walk_to.ensures.walks p is_of from.1 in
+          none_joined p c.args.input.now c.args.at c.skips.at _ (c.skips.invariant.none p is_of s)
+          (none_joined p c.args.input.now c.skips.at c.in-Some.origin _ from.2
+          (none_further p c.args.input.now c.in-Some.origin _ (place_low _ _ p c.args.input.now _ _ upto.1) upto.1.in_span
+          (nothing_here (g.met.A.Automaton.laws c.args.automaton.now p is_of) c.requires.standard _ c.args.input.now _ _ c.requires.within upto.1 (nil_from_length _ (omega (arith, c.match_len.ensures.len, c.if-match_len-gt0.false))))
+          upto.2));
     }
-
-pub returns-then-match_len-gt0-clause-walks : goal.returns-then-match_len-gt0-clause-walks
-returns-then-match_len-gt0-clause-walks g c p of began =
-    let d = (goal.at.returns-then-match_len-gt0-clause-walks g c).After-next_state-sid in
-    (omega arith, stood g d p of began, c.loop-place.invariant.none p of began)
-
-pub returns-then-has_ended-clause-walks : goal.returns-then-has_ended-clause-walks
-returns-then-has_ended-clause-walks g c p of began =
-    let d = (goal.at.returns-then-has_ended-clause-walks g c).After-next_state-sid in
-    let s = stood g d p of began in
-    let why = why_ended _ _ c.if-has_ended.ensures.ended in
-    let low = place_low _ _ p c.args.input.now _ _ (c.loop-place.invariant.stands p of began) in
-    λ end least most.
-    elim (cases_lt end (c.loop-place.place + 1)) [
-      | inl sooner ↦ c.loop-place.invariant.none p of began end least sooner
-      | inr ge ↦
-          here_is p c.args.input.now end (omega arith) (omega arith)
-          ∙ dead_ends (g.met.A.Automaton.laws c.args.automaton.now p of) c.requires.standard _ c.args.input.now _ _ end (omega arith) (sym c.get_anchored-anchored.ensures.anchored ∙ why.0) (omega arith) s why.1 (omega arith) (omega arith)
-    ]

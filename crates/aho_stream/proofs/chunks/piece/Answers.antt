@@ -1,13 +1,12 @@
 use Rattle.std.proofs.Common.{◌≡◌, ◌+◌, ◌≤◌, ◌∙◌, inl, inr, ap, subst, arith, List, ℕ}
 use Rattle.std.specs.Prelude.{Option, Some, None, IfSome}
 use Rattle.std.proofs.lemmas.Bool.{cases_lt}
-use Rattle.aho_base.specs.Occurrence.{Occurrence}
 use Rattle.aho_base.specs.Patterns.{Patterns}
-use Rattle.aho_stream.specs.After.{IsAfter, IsInHand}
+use Rattle.aho_stream.specs.After.{IsAfter}
 use Rattle.aho_stream.specs.Chunks.{TellsChunk, TellsMatch}
 use Rattle.aho_search.proofs.Places.{moved}
 use Rattle.aho_stream.specs.declared.progress.Progress.{Progress}
-use Rattle.aho_stream.proofs.Reported.{gap_clear, in_hand_ordered, match_told, outside_clear, reported}
+use Rattle.aho_stream.proofs.Reported.{gap_clear, in_hand_within, match_told, outside_clear, reported}
 use Rattle.aho_stream.proofs.chunks.piece.Given.{Over}
 use Rattle.aho_stream.proofs.chunks.piece.Goals.{After-report, After-report-2, After-give}
 use Rattle.aho_stream.proofs.chunks.piece.Goals as goal
@@ -20,9 +19,9 @@ plain : (g : Over) (c : After-report g) (p : Patterns) (given : List ℕ) → g.
     → AfterOf g c.args.walk.now p c.report.new.self given × IfSome c.report.result (TellsChunk p c.args.progress.now c.report.new.self given)
 plain g c p given of a =
     let s = c.args.progress.now in
-    let free : s.in_hand ≡ None = c.in_default.is in
-    let clear = outside_clear p _ _ _ _ (g.met.W.Of.Automaton.laws _ p of) _ s given c.outside-end.result a free (c.requires.walked free) c.outside-end.ensures.ended c.outside-end.ensures.open in
-    reported p _ _ _ _ _ s c.report.new.self given c.outside-end.result c.report.result a clear.0 (λ m e. cc) clear.1 c.report.ensures.some c.report.ensures.none
+    let none = c.next_match.ensures.none c.in_default.is in
+    let clear = outside_clear p _ _ _ _ (g.met.W.Of.Automaton.laws _ p of) _ s given c.outside-end.result a none.0 none.1 (c.requires.walked none.0) c.outside-end.ensures.ended c.outside-end.ensures.open in
+    reported p _ _ _ _ _ s c.report.new.self given c.outside-end.result c.report.result a clear.0 clear.1 c.report.ensures.some c.report.ensures.none
 
 pub returns-in_default-clause-after : goal.returns-in_default-clause-after
 returns-in_default-clause-after g c p given of a = (plain g c p given of a).0
@@ -35,11 +34,10 @@ gap : (g : Over) (c : After-report-2 g) (p : Patterns) (given : List ℕ) → g.
 gap g c p given of a =
     let s = c.args.progress.now in
     let m = c.in-Some.m in
-    let in_hand : s.in_hand ≡ Some m = c.in-Some.is in
-    let i = subst (IsInHand s) in_hand a.in_hand_is in
-    reported p _ _ _ _ _ s c.report-2.new.self given (s.from + c.start.result) c.report-2.result a (omega (arith, c.start.ensures.start, i.0, in_hand_ordered p _ _ _ _ _ s given m a in_hand))
-    (λ n e. let same : m ≡ n = cc in omega (arith, c.start.ensures.start, ap (λ (x : Occurrence). x.start) same))
-    (λ more n follows answer. omega (arith, c.start.ensures.start, gap_clear p _ _ _ _ _ s given m a in_hand more n follows answer)) c.report-2.ensures.some c.report-2.ensures.none
+    let in_hand : s.in_hand ≡ Some m = c.in-Some.ensures.in_hand in
+    let within = in_hand_within p _ _ _ _ _ s given m a in_hand in
+    reported p _ _ _ _ _ s c.report-2.new.self given (s.from + c.start.result) c.report-2.result a (omega (arith, c.start.ensures.start, within.0, within.1))
+    (λ more n follows answer. omega (arith, c.start.ensures.start, gap_clear p _ _ _ _ (g.met.W.Of.Automaton.laws _ p of) _ s given m a in_hand c.in-Some.ensures.due c.requires.walked more n follows answer)) c.report-2.ensures.some c.report-2.ensures.none
 
 pub returns-in-Some-report-clause-after : goal.returns-in-Some-report-clause-after
 returns-in-Some-report-clause-after g c p given of a = (gap g (goal.at.returns-in-Some-report-clause-after g c).After-report-2 p given of a).0
@@ -54,10 +52,9 @@ match_given : (g : Over) (c : After-give g) (p : Patterns) (given : List ℕ) �
 match_given g c p given of a =
     let s = c.args.progress.now in
     let m = c.in-Some.m in
-    let in_hand : s.in_hand ≡ Some m = c.in-Some.is in
     let reached : s.from + c.start.result ≤ s.reported = elim (cases_lt s.reported (s.from + c.start.result)) [ inl less ↦ (let told = (c.report-2.ensures.some less).0 in let none = c.in-None.is in cc) | inr ge ↦ ge ] in
     let same = (c.report-2.ensures.none reached).1 in
-    match_told p _ _ _ _ _ s c.give.new.self given m c.give.result a (g.met.W.Of.Automaton.laws _ p of).lengths_are in_hand c.requires.open (omega (arith, reached, c.start.ensures.start)) (in_hand_ordered p _ _ _ _ _ s given m a in_hand)
+    match_told p _ _ _ _ (g.met.W.Of.Automaton.laws _ p of) _ s given m a c.in-Some.ensures.in_hand c.in-Some.ensures.due c.requires.walked c.give.new.self c.give.result c.requires.open (omega (arith, reached, c.start.ensures.start))
     (c.give.ensures.placed ∙ ap (λ (t : Progress). moved t.from m) same) (c.give.ensures.moved ∙ ap (λ (t : Progress). record t { told = t.from + m.start; reported = t.from + m.end; from = t.from + m.end; walked = t.from + m.end; sid = t.start; in_hand = None }) same)
 
 pub returns-in-None-clause-after : goal.returns-in-None-clause-after

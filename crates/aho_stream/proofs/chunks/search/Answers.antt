@@ -1,10 +1,6 @@
-use Rattle.std.proofs.Common.{◌≡◌, ◌+◌, ◌-◌, ap, sym, subst, arith, List, ℕ, length}
-use Rattle.std.specs.Prelude.{Option, Some, None, IfSome, slice_range}
-use Rattle.aho_base.specs.Laws.{BestAfter}
-use Rattle.aho_base.specs.Occurrence.{Occurrence}
-use Rattle.aho_base.specs.declared.search.Anchored.TheVariants.{No}
+use Rattle.std.proofs.Common.{◌≡◌, ◌-◌, ap, sym, subst, arith, List, ℕ, length}
+use Rattle.std.specs.Prelude.{slice_range}
 use Rattle.aho_search.proofs.Places.{length_part}
-use Rattle.aho_search.proofs.Told.{is_none}
 use Rattle.aho_stream.specs.After.{word_of}
 use Rattle.aho_stream.specs.Walking.{WalksOn}
 use Rattle.aho_stream.proofs.Afters.{after_walked}
@@ -15,21 +11,15 @@ walk_on-walked-requires-clause-held g c =
     let (p, given, of, a) = c.requires.after in
     (p, word_of c.args.progress.now given, of, length_part given _ _ (omega (arith, a.walked_read, a.count)), a.held_is)
 
-of_found : (found : Option Occurrence) (P : Occurrence → Type 0) → IfSome found P → (m : Occurrence) → found ≡ Some m → P m
-of_found None P i m e = cc
-of_found (Some n) P i m e = let same : n ≡ m = cc in subst P same i
-
 pub returns-clause-after : goal.returns-clause-after
 returns-clause-after g c p given of a =
     let s = c.args.progress.now in
-    let free : s.in_hand ≡ None = is_none s.in_hand c.if-is_some.ensures in
     let walked = c.walk_on-walked.ensures in
     let result = c.walk_on-walked.result in
     let rest : c.bytes-bytes.result.now ≡ slice_range given s.walked s.read = c.bytes-bytes.ensures.part given (sym a.count) a.last in
     let long : length (slice_range given s.walked s.read) ≡ s.read - s.walked = length_part given s.walked s.read (omega (arith, a.count)) in
     let word : length (word_of s given) ≡ s.walked - s.from = length_part given s.from s.walked (omega (arith, a.walked_read, a.count)) in
-    let walks = subst (λ (bytes : List ℕ). WalksOn p (g.W.Of.Automaton.held (g.W.Walk.of c.args.walk.now) p) (word_of s given) bytes result) rest
-    (walked.walks p (word_of s given) of word a.held_is (subst (BestAfter p No (word_of s given)) free a.best_is)) in
-    after_walked p _ _ _ _ _ _ s given result.count result.sid result.found a free c.requires.open
-    (omega (arith, walked.within, ap length rest, long, a.walked_read)) walked.valid walked.cost walks.held_is walks.best_is
-    (λ m e. omega (arith, of_found result.found (λ n. n.end ≡ s.walked - s.from + result.count) walked.ends m e, a.from_reported, a.reported_walked))
+    let walks = subst (λ (bytes : List ℕ). WalksOn p (g.W.Of.Automaton.lengths (g.W.Walk.of c.args.walk.now)) (g.W.Of.Automaton.held (g.W.Walk.of c.args.walk.now) p) (word_of s given) bytes result) rest
+    (walked.walks p (word_of s given) of word a.held_is a.best_is) in
+    after_walked p _ _ _ _ _ _ s given result a c.requires.open
+    (omega (arith, walked.within, ap length rest, long, a.walked_read)) walked.valid walked.cost walks

@@ -1,12 +1,16 @@
 -- What the walk found, and each turn of the loop.
 use Rattle.std.proofs.Common.{◌≡◌, ◌+◌, sym, ◌∙◌, ap, subst, arith, false, ℕ, ◌++◌, [], take, length, List}
-use Rattle.std.specs.Prelude.{Option, None}
-use Rattle.aho_base.specs.Laws.{BestAfter, told}
+use Rattle.std.specs.Prelude.{Option}
+use Rattle.aho_base.specs.Laws.{BestAfter, better, told}
+use Rattle.aho_base.specs.Occurrence.{Occurrence}
 use Rattle.aho_base.specs.Patterns.{Patterns}
 use Rattle.aho_base.specs.declared.search.Anchored.TheVariants.{No}
-use Rattle.aho_stream.proofs.Walks.{one_more, best_of_more}
+use Rattle.aho_search.proofs.Told.{better-none}
+use Rattle.aho_stream.specs.After.{is_settled}
+use Rattle.aho_stream.specs.Walking.{WalksOn}
+use Rattle.aho_stream.proofs.Walks.{best_of_more, one_more, still_unsettled, walks_all, walks_settled}
 use Rattle.aho_stream.proofs.walk.walk_on.Given.{Over}
-use Rattle.aho_stream.proofs.walk.walk_on.Goals.{After-step-sid, else-is_special, then-is_special+in_default}
+use Rattle.aho_stream.proofs.walk.walk_on.Goals.{After-step-sid, else-is_special, then-is_special+else-is_settled}
 use Rattle.aho_stream.proofs.walk.walk_on.Goals as goal
 
 same_walk : (g : Over) (c : After-step-sid g) → g.W.Walk.of c.step-sid.new.self ≡ g.W.Walk.of c.args.walk.now
@@ -19,37 +23,54 @@ held_more g c p word of is_held =
     subst (λ (xs : List ℕ). g.W.Of.Automaton.held (g.W.Walk.of c.args.walk.now) p No xs c.step-sid.result) (sym (one_more word c.args.bytes.now c.loop-count.count (omega arith)))
     ((rw c.loop-count.invariant.same_walk at c.step-sid.ensures.goes_on) p of _ (c.loop-count.invariant.held p word of is_held))
 
--- the best after one byte more is what the state tells
-best_more : (g : Over) (c : After-step-sid g) (p : Patterns) (word : List ℕ) → g.W.Of.Automaton.is_of (g.W.Walk.of c.args.walk.now) p → length word ≡ c.args.at → g.W.Of.Automaton.held (g.W.Walk.of c.args.walk.now) p No word c.args.sid → BestAfter p No word None
-    → BestAfter p No (word ++ take (c.loop-count.count + 1) c.args.bytes.now) (told (g.W.Of.Automaton.lengths (g.W.Walk.of c.args.walk.now)) No 0 (c.args.at + c.loop-count.count + 1) (g.W.Of.Automaton.list (g.W.Walk.of c.args.walk.now) c.step-sid.result))
-best_more g c p word of place is_held none =
-    best_of_more (g.met.W.Of.Automaton.laws _ p of) word c.args.bytes.now c.loop-count.count c.args.at c.step-sid.result place (omega arith) (held_more g c p word of is_held) (c.loop-count.invariant.none p word of place is_held none)
+-- the best after one byte more is made of what was found and of what the state tells
+best_more : (g : Over) (c : After-step-sid g) (p : Patterns) (word : List ℕ) → g.W.Of.Automaton.is_of (g.W.Walk.of c.args.walk.now) p → length word ≡ c.args.at → g.W.Of.Automaton.held (g.W.Walk.of c.args.walk.now) p No word c.args.sid → BestAfter p No word c.args.in_hand
+    → BestAfter p No (word ++ take (c.loop-count.count + 1) c.args.bytes.now) (better (g.W.Of.Automaton.kind (g.W.Walk.of c.args.walk.now)) c.loop-count.found (told (g.W.Of.Automaton.lengths (g.W.Walk.of c.args.walk.now)) No 0 (c.args.at + c.loop-count.count + 1) (g.W.Of.Automaton.list (g.W.Walk.of c.args.walk.now) c.step-sid.result)))
+best_more g c p word of place is_held is_best =
+    best_of_more (g.met.W.Of.Automaton.laws _ p of) word c.args.bytes.now c.loop-count.count c.args.at c.step-sid.result c.loop-count.found place (omega arith) (held_more g c p word of is_held) (c.loop-count.invariant.best p word of place is_held is_best)
 
-pub returns-in-Some-clause-walks : goal.returns-in-Some-clause-walks
-returns-in-Some-clause-walks g c p word of place is_held none =
-    let d = (goal.at.returns-in-Some-clause-walks g c).After-step-sid in
-    record {
-      held_is = held_more g d p word of is_held;
-      best_is = subst (λ (best : Option _). BestAfter p No (word ++ take (c.loop-count.count + 1) c.args.bytes.now) best) (sym (rw (same_walk g d) at c.in-Some.ensures.told)) (best_more g d p word of place is_held none);
-    }
+pub returns-then-is_settled-clause-walks : goal.returns-then-is_settled-clause-walks
+returns-then-is_settled-clause-walks g c p word of place is_held is_best =
+    let d = (goal.at.returns-then-is_settled-clause-walks g c).After-step-sid in
+    let inv = c.loop-count.invariant in
+    walks_settled (g.met.W.Of.Automaton.laws _ p of) word c.args.bytes.now c.loop-count.count c.args.at c.loop-count.sid c.loop-count.found place (inv.held p word of is_held) inv.going (inv.best p word of place is_held is_best)
+    c.step-sid.result c.better_at-found.result (omega arith) (held_more g d p word of is_held) (rw (same_walk g d) at c.better_at-found.ensures.better)
 
--- a state that is not special lists no pattern
-unlisted : (g : Over) (c : After-step-sid g) → false ≡ g.W.Of.Automaton.special (g.W.Walk.of c.step-sid.new.self) c.step-sid.result → g.W.Of.Automaton.list (g.W.Walk.of c.args.walk.now) c.step-sid.result ≡ []
-unlisted g c plain = (rw c.loop-count.invariant.same_walk at (g.met.W.Of.Automaton.plain _ _ c.step-sid.ensures.valid (sym (rw c.step-sid.ensures.same at plain)))).1
+pub returns-clause-walks : goal.returns-clause-walks
+returns-clause-walks g c p word of place is_held is_best =
+    let inv = c.loop-count.invariant in
+    let all : c.loop-count.count ≡ length c.args.bytes.now = omega arith in
+    subst (λ (n : ℕ). WalksOn p (g.W.Of.Automaton.lengths (g.W.Walk.of c.args.walk.now)) (g.W.Of.Automaton.held (g.W.Walk.of c.args.walk.now) p) word c.args.bytes.now (record { count = n; sid = c.loop-count.sid; found = c.loop-count.found })) all
+    (walks_all (g.met.W.Of.Automaton.laws _ p of) word c.args.bytes.now c.loop-count.count c.args.at c.loop-count.sid c.loop-count.found place (inv.held p word of is_held) inv.going (inv.best p word of place is_held is_best) all)
+
+-- a state that is not special is not dead and lists no pattern
+plain : (g : Over) (c : After-step-sid g) → false ≡ g.W.Of.Automaton.special (g.W.Walk.of c.step-sid.new.self) c.step-sid.result
+    → (g.W.Of.Automaton.dead (g.W.Walk.of c.args.walk.now) c.step-sid.result ≡ false) × (g.W.Of.Automaton.list (g.W.Walk.of c.args.walk.now) c.step-sid.result ≡ [])
+plain g c is =
+    let told = rw c.loop-count.invariant.same_walk at (g.met.W.Of.Automaton.plain _ _ c.step-sid.ensures.valid (sym (rw c.step-sid.ensures.same at is))) in (told.0, told.1)
 
 pub loop-count-preserved : goal.loop-count-preserved
 loop-count-preserved g c =
     let d = (goal.at.loop-count-preserved g c).After-step-sid in
+    let inv = c.loop-count.invariant in
+    let automaton = g.W.Walk.of c.args.walk.now in
     record {
       same_walk = same_walk g d;
-      valid = rw c.loop-count.invariant.same_walk at c.step-sid.ensures.valid;
-      paid = omega (arith, rw c.loop-count.invariant.same_walk at c.step-sid.ensures.cost, c.loop-count.invariant.paid);
+      valid = rw inv.same_walk at c.step-sid.ensures.valid;
+      paid = omega (arith, rw inv.same_walk at c.step-sid.ensures.cost, inv.paid);
+      going = elim c.if-is_special.branch [
+        | else-is_special w ↦ subst (λ (found : Option Occurrence). is_settled (g.W.Of.Automaton.kind automaton) (g.W.Of.Automaton.dead automaton c.step-sid.result) found ≡ false) (sym w.found-is)
+            (still_unsettled _ _ _ c.loop-count.found inv.going (plain g d w.if-is_special.ensures.special).0)
+        | then-is_special+else-is_settled w ↦ subst (λ (found : Option Occurrence). is_settled (g.W.Of.Automaton.kind automaton) (g.W.Of.Automaton.dead automaton c.step-sid.result) found ≡ false) (sym w.found-is)
+            (sym (rw (same_walk g d) at w.if-is_settled.ensures.settled))
+      ];
       held = λ p word of is_held. held_more g d p word of is_held;
-      none = λ p word of place is_held none.
-          subst (λ (best : Option _). BestAfter p No (word ++ take (c.loop-count.count + 1) c.args.bytes.now) best)
+      best = λ p word of place is_held is_best.
+          subst (λ (best : Option Occurrence). BestAfter p No (word ++ take (c.loop-count.count + 1) c.args.bytes.now) best)
           (elim c.if-is_special.branch [
-            | else-is_special w ↦ ap (told _ No 0 _) (unlisted g d w.if-is_special.ensures.special)
-            | then-is_special+in_default w ↦ sym (rw (same_walk g d) at w.in_default.ensures.told)
+            | else-is_special w ↦ ap (λ (list : List ℕ). better (g.W.Of.Automaton.kind automaton) c.loop-count.found (told (g.W.Of.Automaton.lengths automaton) No 0 (c.args.at + c.loop-count.count + 1) list)) (plain g d w.if-is_special.ensures.special).1
+                ∙ better-none _ c.loop-count.found ∙ sym w.found-is
+            | then-is_special+else-is_settled w ↦ sym (rw (same_walk g d) at w.better_at-found.ensures.better) ∙ sym w.found-is
           ])
-          (best_more g d p word of place is_held none);
+          (best_more g d p word of place is_held is_best);
     }

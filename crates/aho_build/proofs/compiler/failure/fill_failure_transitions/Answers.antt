@@ -1,11 +1,11 @@
 use Rattle.std.proofs.Common.{◌≡◌, ◌≤◌, ◌<◌, ◌++◌, ◌∷◌, [], ◌∙◌, refl, sym, subst, ap, arith, length, get_or, ℕ, List}
 use Rattle.std.proofs.lemmas.List.{get_or_default}
 use Rattle.aho_base.specs.Trie.{is_node}
-use Rattle.aho_build.specs.FailureLinks.{IsLinking, IsReadyRefusal}
+use Rattle.aho_build.specs.FailureLinks.{IsLinking, IsReadyRefusal, rows_of}
 use Rattle.aho_build.specs.Starts.{root_loop}
 use Rattle.aho_build.specs.Sizes.{matches_size}
 use Rattle.aho_build.specs.Trie.{names_before}
-use Rattle.aho_table.specs.Table.{dead_id, Tables, state_at, set_fail_of}
+use Rattle.aho_table.specs.Table.{dead_id, State, Tables, state_at, set_fail_of}
 use Rattle.aho_build.specs.FirstStates.{root_id}
 use Rattle.aho_build.proofs.NamesOfTries.{named_below}
 use Rattle.aho_build.proofs.MatchTotals.{IsRefusalOf-larger}
@@ -27,7 +27,7 @@ states-init c =
     record {
       within = omega arith;
       copies = OnlyCopies-state c.args.table.now c.set_fail.new.self root_id (record (state_at c.args.table.now.states root_id) { fail = dead_id }) below (λ e. omega arith) refl
-          (ap (λ (t : Tables). t.limit) c.set_fail.ensures.set) (ap (λ (t : Tables). t.dense_len) c.set_fail.ensures.set) states_are;
+          (ap (λ (t : Tables). t.limit) c.set_fail.ensures.set) (ap rows_of c.set_fail.ensures.set) states_are;
       linking = λ p names same ready.
           subst (λ (q : List ℕ). IsLinking p names q 0 0 c.set_fail.new.self.states) (sym queue_is)
           (IsLinking-start p names c.args.table.now.states c.set_fail.new.self.states ready states_are);
@@ -85,4 +85,4 @@ returns-in_err-visit-clause-refused c =
     (λ p same ready none.
     let copies = c.transitions.invariant.copies in
     IsRefusalOf-larger c.args.table.now.limit (matches_size p) c.transitions.table.limit (matches_size p) c.in_err-visit.field-0.0 copies.limit (omega arith)
-    (c.in_err-visit.ensures.refused p same (c.transitions.invariant.linking p (names_before p (length p.words)) same ready) (copies.fail_matches ∙ none)))
+    (c.in_err-visit.ensures.refused p same (c.transitions.invariant.linking p (names_before p (length p.words)) same ready) (ap (λ (s : State). s.matches) copies.fail_state ∙ none)))

@@ -6,7 +6,7 @@ use Rattle.aho_table.specs.Refusal.{IsRefusalOf}
 use Rattle.aho_table.specs.Table.{Tables, State, next_in, matches_in, matches_count, set_transition, transition_at, lists_byte}
 use Rattle.aho_build.specs.FirstStates.{anchored_id, root_id}
 use Rattle.aho_build.proofs.MatchTotals.{IsRefusalOf-larger}
-use Rattle.aho_build.proofs.KeptTransitions.{ListsAllBytes-set, transitions_count-append, matches_count-led}
+use Rattle.aho_build.proofs.KeptTransitions.{ListsAllBytes-set, ListsAllBytes-append, transitions_count-append, matches_count-led}
 use Rattle.aho_build.proofs.StartTransitions.{IsLedBelow-none, IsLedBelow-set, IsLedAsRoot-both}
 use Rattle.aho_build.proofs.StoppedBuilds.{IfErr-given}
 use Rattle.aho_build.proofs.compiler.failure.set_anchored_start_state.Goals as goal
@@ -59,6 +59,12 @@ returns c =
           ∙ ap (λ (n : ℕ). append_matches c.loop-byte.table.states anchored_id n) c.unanchored_start-root.ensures.start))
           c.copy_matches.ensures.copied;
       limit = on_ok_weaker c.copy_matches.result (λ is. is ∙ c.loop-byte.invariant.limit) c.copy_matches.ensures.limit;
+      full = on_ok_weaker c.copy_matches.result
+          (λ is listed.
+          ListsAllBytes-append c.loop-byte.table.states c.copy_matches.new.table.states c.anchored_start-anchored.result c.unanchored_start-root.result anchored_id
+          (omega (arith, c.loop-byte.invariant.led.sized, c.anchored_start-anchored.ensures.start, c.requires.starts)) is
+          (c.loop-byte.invariant.listed listed))
+          c.copy_matches.ensures.copied;
       transitions = on_ok_weaker c.copy_matches.result
           (λ is listed.
           transitions_count-append c.loop-byte.table.states c.copy_matches.new.table.states c.anchored_start-anchored.result c.unanchored_start-root.result

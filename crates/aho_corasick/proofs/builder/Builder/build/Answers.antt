@@ -21,7 +21,7 @@ returns-clause-built g c =
     let p = patterns_of c.self.inside.settings built.0 in
     subst
     (λ (s : Settings). OfAccepted g.I.Iterator.next_gives c.args.patterns s (ghosts.is_of c.of_compiled.result))
-    c.self.view_is (built.0, built.1, c.of_compiled.ensures.of p built.2.0 (held_by-of c.self.inside.settings p _ built.2.2))
+    c.self.view_is (built.0, built.1, c.of_compiled.ensures.of p built.2.0 (held_by-of c.self.inside.settings p _ built.2.2) built.2.3)
 
 pub returns-clause-held : goal.returns-clause-held
 returns-clause-held g c =

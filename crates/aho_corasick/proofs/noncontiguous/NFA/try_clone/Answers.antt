@@ -6,6 +6,7 @@ use Rattle.aho_prefilter.specs.Prefilter.{IsPrefilterOf, prefilter_bytes}
 use Rattle.aho_prefilter.specs.declared.prefilter.Searcher.{Searcher}
 use Rattle.aho_table.specs.Table.{Tables}
 use Rattle.aho_build.specs.Automaton.{IsOf, memory_of}
+use Rattle.aho_build.specs.Dense.{HasBorders}
 use Rattle.aho_corasick.proofs.noncontiguous.NFA.try_clone.Goals as goal
 
 pub returns : goal.returns
@@ -20,11 +21,13 @@ returns c =
             subst (λ (t : Tables). IsOf p c.args.self.now.match_kind c.in_ok-clone.field-0.items c.args.self.now.special t.states) (sym table)
                 (subst (λ (ls : List ℕ). IsOf p c.args.self.now.match_kind ls c.args.self.now.special c.args.self.now.table.states) (sym lens) is.0),
             subst (λ (searcher : Option Searcher). IfSome searcher (λ s. IsPrefilterOf s p)) (sym held) is.1,
+            subst (λ (t : Tables). HasBorders p t.classes) (sym table) is.2,
           ),
           λ is. (
             subst (λ (ls : List ℕ). IsOf p c.args.self.now.match_kind ls c.args.self.now.special c.args.self.now.table.states) lens
                 (subst (λ (t : Tables). IsOf p c.args.self.now.match_kind c.in_ok-clone.field-0.items c.args.self.now.special t.states) table is.0),
             subst (λ (searcher : Option Searcher). IfSome searcher (λ s. IsPrefilterOf s p)) held is.1,
+            subst (λ (t : Tables). HasBorders p t.classes) table is.2,
           ),
         );
         same_held = search rules;

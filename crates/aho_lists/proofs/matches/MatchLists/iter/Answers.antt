@@ -17,15 +17,15 @@ returns-then-eq c =
     let none = is_zero c.args.list c.eq.result c.eq.ensures c.if-eq.true in
     record {
       listed = rest_from-none (match_entries c.as_slice-entries.result.now) c.args.list
-          ∙ sym (rw (← c.self.view_is, none) (list_at-zero (match_entries (with_first_match c.self.inside.entries.items)) (length (with_first_match c.self.inside.entries.items)) c.self.invariant.rings.some));
+          ∙ sym (rw (← c.self.view_is, none) (list_at-zero (match_entries (with_first_match c.self.inside.entries.items)) (length (with_first_match c.self.inside.entries.items)) c.self.invariant.0.rings.some));
     }
 
 pub entry-requires : goal.entry-requires
 entry-requires c =
     let some = is_some c.args.list c.eq.result c.eq.ensures c.if-eq.false in
     let known : IsList (match_lists (with_first_match c.self.inside.entries.items)) c.args.list = rw (← c.self.view_is) at c.requires.known in
-    let real = real_matches c.self.inside.entries.items c.args.list some (match_list_in (with_first_match c.self.inside.entries.items) c.self.inside.limit c.args.list c.self.invariant known some) in
-    record { within = rw (c.as_slice-entries.ensures.value ∙ sym real) (match_list_in (with_first_match c.self.inside.entries.items) c.self.inside.limit c.args.list c.self.invariant known some) }
+    let real = real_matches c.self.inside.entries.items c.args.list some (match_list_in (with_first_match c.self.inside.entries.items) c.self.inside.limit c.args.list c.self.invariant.0 known some) in
+    record { within = rw (c.as_slice-entries.ensures.value ∙ sym real) (match_list_in (with_first_match c.self.inside.entries.items) c.self.inside.limit c.args.list c.self.invariant.0 known some) }
 
 -- the run from the first entry, in the entries as the walk sees them
 first_run : (entries seen : List Match) (list : ℕ) (read : Match) (xs : List (ℕ)) → seen ≡ entries → read ≡ match_of seen list
@@ -38,11 +38,11 @@ pub invariant_of-result-2 : goal.invariant_of-result-2
 invariant_of-result-2 c =
     let some = is_some c.args.list c.eq.result c.eq.ensures c.if-eq.false in
     let known : IsList (match_lists (with_first_match c.self.inside.entries.items)) c.args.list = rw (← c.self.view_is) at c.requires.known in
-    let real = real_matches c.self.inside.entries.items c.args.list some (match_list_in (with_first_match c.self.inside.entries.items) c.self.inside.limit c.args.list c.self.invariant known some) in
-    let run = match_list_run (with_first_match c.self.inside.entries.items) c.self.inside.limit c.args.list c.self.invariant known some in
-    let below = match_list_in (with_first_match c.self.inside.entries.items) c.self.inside.limit c.args.list c.self.invariant known some in
+    let real = real_matches c.self.inside.entries.items c.args.list some (match_list_in (with_first_match c.self.inside.entries.items) c.self.inside.limit c.args.list c.self.invariant.0 known some) in
+    let run = match_list_run (with_first_match c.self.inside.entries.items) c.self.inside.limit c.args.list c.self.invariant.0 known some in
+    let below = match_list_in (with_first_match c.self.inside.entries.items) c.self.inside.limit c.args.list c.self.invariant.0 known some in
     let within : (i : ℕ) → i < length c.as_slice-entries.result.now → (match_of c.as_slice-entries.result.now i).link < length c.as_slice-entries.result.now =
-    rw (c.as_slice-entries.ensures.value ∙ sym real) c.self.invariant.rings.within in
+    rw (c.as_slice-entries.ensures.value ∙ sym real) c.self.invariant.0.rings.within in
     record {
       within = within;
       on_list = (
@@ -56,8 +56,8 @@ pub returns : goal.returns
 returns c =
     let some = is_some c.args.list c.eq.result c.eq.ensures c.if-eq.false in
     let known : IsList (match_lists (with_first_match c.self.inside.entries.items)) c.args.list = rw (← c.self.view_is) at c.requires.known in
-    let real = real_matches c.self.inside.entries.items c.args.list some (match_list_in (with_first_match c.self.inside.entries.items) c.self.inside.limit c.args.list c.self.invariant known some) in
-    let run = match_list_run (with_first_match c.self.inside.entries.items) c.self.inside.limit c.args.list c.self.invariant known some in
+    let real = real_matches c.self.inside.entries.items c.args.list some (match_list_in (with_first_match c.self.inside.entries.items) c.self.inside.limit c.args.list c.self.invariant.0 known some) in
+    let run = match_list_run (with_first_match c.self.inside.entries.items) c.self.inside.limit c.args.list c.self.invariant.0 known some in
     record {
       listed = rw (← c.self.view_is) (rest_from-some (first_run (with_first_match c.self.inside.entries.items) c.as_slice-entries.result.now c.args.list c.entry.result (list_at (match_lists (with_first_match c.self.inside.entries.items)) c.args.list) (c.as_slice-entries.ensures.value ∙ sym real) c.entry.ensures.entry run));
     }

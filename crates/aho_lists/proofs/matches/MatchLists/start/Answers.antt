@@ -1,7 +1,8 @@
 -- One entry that links to itself is a list.
 use Rattle.std.proofs.Common.{◌≡◌, List, length, ap, refl, sym, subst, ◌∙◌, arith}
 use Rattle.std.proofs.lemmas.List.{length_push}
-use Rattle.aho_lists.specs.Inside.{match_entries, IsStore}
+use Rattle.aho_lists.specs.Inside.{match_entries, IsStore, AreCounted}
+use Rattle.aho_lists.proofs.Counted.{AreCounted-one}
 use Rattle.aho_lists.specs.declared.matches.Match.{Match}
 use Rattle.aho_base.specs.declared.error.BuildError.{BuildError}
 use Rattle.aho_lists.specs.Refusal.{refusal_at}
@@ -13,10 +14,12 @@ use Rattle.aho_lists.specs.Inside.{with_first_match}
 use Rattle.aho_lists.proofs.matches.MatchLists.start.Goals as goal
 
 pub invariant_of-self : goal.invariant_of-self
-invariant_of-self c = subst (λ (es : List Match). IsStore (match_entries es) (length es) c.self.inside.limit) (sym c.in_err-made.ensures.unchanged) c.self.invariant
+invariant_of-self c =
+    subst (λ (es : List Match). IsStore (match_entries es) (length es) c.self.inside.limit × AreCounted es)
+    (sym c.in_err-made.ensures.unchanged) c.self.invariant
 
 pub returns-in_err-made-clause-empty : goal.returns-in_err-made-clause-empty
-returns-in_err-made-clause-empty c = rw (← c.self.view_is) (list_at-zero (match_entries (with_first_match c.self.inside.entries.items)) (length (with_first_match c.self.inside.entries.items)) c.self.invariant.rings.some)
+returns-in_err-made-clause-empty c = rw (← c.self.view_is) (list_at-zero (match_entries (with_first_match c.self.inside.entries.items)) (length (with_first_match c.self.inside.entries.items)) c.self.invariant.0.rings.some)
 
 pub returns-in_err-made-clause-refused : goal.returns-in_err-made-clause-refused
 returns-in_err-made-clause-refused c =
@@ -25,18 +28,21 @@ returns-in_err-made-clause-refused c =
 
 pub invariant_of-self-2 : goal.invariant_of-self-2
 invariant_of-self-2 c =
-    IsStore-one (with_first_match c.self.inside.entries.items) (with_first_match c.push_alone.new.entries.items) c.self.inside.limit c.args.pattern c.self.invariant (ap with_first_match c.in_ok-made.ensures.pushed ∙ first_match-push (with_first_match c.self.inside.entries.items) (record { pattern = c.args.pattern; link = length (with_first_match c.self.inside.entries.items) })) c.in_ok-made.ensures.within
+    let pushed = (ap with_first_match c.in_ok-made.ensures.pushed ∙ first_match-push (with_first_match c.self.inside.entries.items) (record { pattern = c.args.pattern; link = length (with_first_match c.self.inside.entries.items); before = 0 })) in (
+      IsStore-one (with_first_match c.self.inside.entries.items) (with_first_match c.push_alone.new.entries.items) c.self.inside.limit c.args.pattern c.self.invariant.0 pushed c.in_ok-made.ensures.within,
+      AreCounted-one (with_first_match c.self.inside.entries.items) (with_first_match c.push_alone.new.entries.items) c.self.inside.limit c.args.pattern c.self.invariant.0 c.self.invariant.1 pushed,
+    )
 
 pub returns-clause-number : goal.returns-clause-number
 returns-clause-number c = rw (← c.self.view_is, length-lists_of) c.in_ok-made.ensures.number
 
 pub returns-clause-empty : goal.returns-clause-empty
-returns-clause-empty c = rw (← c.self.view_is) (list_at-zero (match_entries (with_first_match c.self.inside.entries.items)) (length (with_first_match c.self.inside.entries.items)) c.self.invariant.rings.some)
+returns-clause-empty c = rw (← c.self.view_is) (list_at-zero (match_entries (with_first_match c.self.inside.entries.items)) (length (with_first_match c.self.inside.entries.items)) c.self.invariant.0.rings.some)
 
 pub returns-clause-within : goal.returns-clause-within
-returns-clause-within c = rw (← c.self.view_is, length-lists_of) (omega (arith, c.in_ok-made.ensures.within, ap (λ (es : List Match). length es) (ap with_first_match c.in_ok-made.ensures.pushed ∙ first_match-push (with_first_match c.self.inside.entries.items) (record { pattern = c.args.pattern; link = length (with_first_match c.self.inside.entries.items) })), length_push (with_first_match c.self.inside.entries.items) (record { pattern = c.args.pattern; link = length (with_first_match c.self.inside.entries.items) })))
+returns-clause-within c = rw (← c.self.view_is, length-lists_of) (omega (arith, c.in_ok-made.ensures.within, ap (λ (es : List Match). length es) (ap with_first_match c.in_ok-made.ensures.pushed ∙ first_match-push (with_first_match c.self.inside.entries.items) (record { pattern = c.args.pattern; link = length (with_first_match c.self.inside.entries.items); before = 0 })), length_push (with_first_match c.self.inside.entries.items) (record { pattern = c.args.pattern; link = length (with_first_match c.self.inside.entries.items); before = 0 })))
 
 pub returns-clause-started : goal.returns-clause-started
 returns-clause-started c =
     rw (← c.self.view_is)
-    (same_store (match_lists-one (with_first_match c.self.inside.entries.items) (with_first_match c.push_alone.new.entries.items) c.self.inside.limit c.args.pattern c.self.invariant (ap with_first_match c.in_ok-made.ensures.pushed ∙ first_match-push (with_first_match c.self.inside.entries.items) (record { pattern = c.args.pattern; link = length (with_first_match c.self.inside.entries.items) }))) refl)
+    (same_store (match_lists-one (with_first_match c.self.inside.entries.items) (with_first_match c.push_alone.new.entries.items) c.self.inside.limit c.args.pattern c.self.invariant.0 (ap with_first_match c.in_ok-made.ensures.pushed ∙ first_match-push (with_first_match c.self.inside.entries.items) (record { pattern = c.args.pattern; link = length (with_first_match c.self.inside.entries.items); before = 0 }))) refl)

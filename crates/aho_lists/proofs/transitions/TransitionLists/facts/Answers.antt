@@ -7,13 +7,13 @@ use Rattle.aho_lists.specs.Inside.{with_first}
 use Rattle.aho_lists.proofs.transitions.TransitionLists.facts.Goals as goal
 
 pub returns-clause-some : goal.returns-clause-some
-returns-clause-some c = rw (← c.self.view_is, length-lists_of) c.self.invariant.rings.some
+returns-clause-some c = rw (← c.self.view_is, length-lists_of) c.self.invariant.0.rings.some
 
 pub returns-clause-within : goal.returns-clause-within
-returns-clause-within c = rw (← c.self.view_is, length-lists_of) c.self.invariant.count_within
+returns-clause-within c = rw (← c.self.view_is, length-lists_of) c.self.invariant.0.count_within
 
 pub returns-clause-empty : goal.returns-clause-empty
-returns-clause-empty c = rw (← c.self.view_is) (list_at-zero (transition_entries (with_first c.self.inside.entries.items)) (length (with_first c.self.inside.entries.items)) c.self.invariant.rings.some)
+returns-clause-empty c = rw (← c.self.view_is) (list_at-zero (transition_entries (with_first c.self.inside.entries.items)) (length (with_first c.self.inside.entries.items)) c.self.invariant.0.rings.some)
 
 pub returns-clause-rising : goal.returns-clause-rising
-returns-clause-rising c = rw (← c.self.view_is) (list_at-rising (with_first c.self.inside.entries.items) c.self.invariant.rings)
+returns-clause-rising c = rw (← c.self.view_is) (list_at-rising (with_first c.self.inside.entries.items) c.self.invariant.0.rings)

@@ -1,6 +1,8 @@
 -- One entry that links to itself is a list.
-use Rattle.std.proofs.Common.{◌≡◌, List, length, ap, refl, sym, subst, ◌∙◌}
+use Rattle.std.proofs.Common.{◌≡◌, ◌+◌, ◌⊎◌, ℕ, List, length, ap, refl, sym, subst, ◌∙◌}
+use Rattle.aho_lists.specs.Rings.{AreSideBySide}
 use Rattle.aho_lists.specs.Inside.{transition_entries, IsStore}
+use Rattle.aho_lists.proofs.Sides.{side-started}
 use Rattle.aho_lists.specs.declared.transitions.Transition.{Transition}
 use Rattle.aho_base.specs.declared.error.BuildError.{BuildError}
 use Rattle.aho_lists.specs.Refusal.{refusal_at}
@@ -12,10 +14,12 @@ use Rattle.aho_lists.specs.Inside.{with_first}
 use Rattle.aho_lists.proofs.transitions.TransitionLists.start.Goals as goal
 
 pub invariant_of-self : goal.invariant_of-self
-invariant_of-self c = subst (λ (es : List Transition). IsStore (transition_entries es) (length es) c.self.inside.limit) (sym c.in_err-made.ensures.unchanged) c.self.invariant
+invariant_of-self c =
+    subst (λ (es : List Transition). IsStore (transition_entries es) (length es) c.self.inside.limit × AreSideBySide (transition_entries es) (length es) c.self.inside.beside)
+    (sym c.in_err-made.ensures.unchanged) c.self.invariant
 
 pub returns-in_err-made-clause-empty : goal.returns-in_err-made-clause-empty
-returns-in_err-made-clause-empty c = rw (← c.self.view_is) (list_at-zero (transition_entries (with_first c.self.inside.entries.items)) (length (with_first c.self.inside.entries.items)) c.self.invariant.rings.some)
+returns-in_err-made-clause-empty c = rw (← c.self.view_is) (list_at-zero (transition_entries (with_first c.self.inside.entries.items)) (length (with_first c.self.inside.entries.items)) c.self.invariant.0.rings.some)
 
 pub returns-in_err-made-clause-refused : goal.returns-in_err-made-clause-refused
 returns-in_err-made-clause-refused c =
@@ -24,13 +28,18 @@ returns-in_err-made-clause-refused c =
 
 pub invariant_of-self-2 : goal.invariant_of-self-2
 invariant_of-self-2 c =
-    IsStore-started (with_first c.self.inside.entries.items) (with_first c.push_alone.new.entries.items) c.self.inside.limit c.args.byte c.args.next c.self.invariant (ap with_first c.in_ok-made.ensures.pushed ∙ first-push (with_first c.self.inside.entries.items) (record { byte = c.args.byte; next = c.args.next; link = length (with_first c.self.inside.entries.items) })) c.in_ok-made.ensures.within
+    let pushed = (ap with_first c.in_ok-made.ensures.pushed ∙ first-push (with_first c.self.inside.entries.items) (record { byte = c.args.byte; next = c.args.next; link = length (with_first c.self.inside.entries.items) })) in (
+      IsStore-started (with_first c.self.inside.entries.items) (with_first c.push_alone.new.entries.items) c.self.inside.limit c.args.byte c.args.next c.self.invariant.0 pushed c.in_ok-made.ensures.within,
+      side-started (with_first c.self.inside.entries.items) (with_first c.push_alone.new.entries.items) c.self.inside.beside c.self.invariant.0.rings c.self.invariant.1 c.args.byte c.args.next
+          c.beside_alone-self-inside.result pushed
+          (subst (λ (n : ℕ). (c.beside_alone-self-inside.result ≡ c.self.inside.beside) ⊎ ((c.self.inside.beside ≡ n) × (c.beside_alone-self-inside.result ≡ n + 1))) c.in_ok-made.ensures.number c.beside_alone-self-inside.ensures.now),
+    )
 
 pub returns-clause-number : goal.returns-clause-number
 returns-clause-number c = rw (← c.self.view_is, length-lists_of) c.in_ok-made.ensures.number
 
 pub returns-clause-empty : goal.returns-clause-empty
-returns-clause-empty c = rw (← c.self.view_is) (list_at-zero (transition_entries (with_first c.self.inside.entries.items)) (length (with_first c.self.inside.entries.items)) c.self.invariant.rings.some)
+returns-clause-empty c = rw (← c.self.view_is) (list_at-zero (transition_entries (with_first c.self.inside.entries.items)) (length (with_first c.self.inside.entries.items)) c.self.invariant.0.rings.some)
 
 pub returns-clause-within : goal.returns-clause-within
 returns-clause-within c = rw (← c.self.view_is, length-lists_of) c.in_ok-made.ensures.within
@@ -38,4 +47,4 @@ returns-clause-within c = rw (← c.self.view_is, length-lists_of) c.in_ok-made.
 pub returns-clause-started : goal.returns-clause-started
 returns-clause-started c =
     rw (← c.self.view_is)
-    (same_store (lists_in-started (with_first c.self.inside.entries.items) (with_first c.push_alone.new.entries.items) c.self.inside.limit c.args.byte c.args.next c.self.invariant (ap with_first c.in_ok-made.ensures.pushed ∙ first-push (with_first c.self.inside.entries.items) (record { byte = c.args.byte; next = c.args.next; link = length (with_first c.self.inside.entries.items) }))) refl)
+    (same_store (lists_in-started (with_first c.self.inside.entries.items) (with_first c.push_alone.new.entries.items) c.self.inside.limit c.args.byte c.args.next c.self.invariant.0 (ap with_first c.in_ok-made.ensures.pushed ∙ first-push (with_first c.self.inside.entries.items) (record { byte = c.args.byte; next = c.args.next; link = length (with_first c.self.inside.entries.items) }))) refl)

@@ -1,15 +1,18 @@
 -- What each way out tells, and each turn of the loop.
-use Rattle.std.proofs.Common.{◌≡◌, ◌++◌, ◌∙◌, inl, inr, Bool, false, ap, refl, sym, subst, arith, append-nil, List, ℕ, length}
+use Rattle.std.proofs.Common.{◌≡◌, ◌≢◌, ◌++◌, ◌∙◌, inl, inr, Bool, false, ap, refl, sym, subst, arith, append-nil, List, ℕ, length}
 use Rattle.std.specs.Prelude.{Option, Some, None, Ok, Err, IfSome}
 use Rattle.aho_base.specs.Patterns.{Patterns}
+use Rattle.aho_base.specs.declared.search.MatchKind.TheVariants.{Standard}
 use Rattle.aho_devices.specs.Counts.{counted}
-use Rattle.aho_stream.specs.After.{IsAfter}
-use Rattle.aho_stream.specs.Chunks.{Reads, TellsChunk, TellsNone, ends_between}
+use Rattle.aho_stream.specs.After.{IsAfter, is_settled}
+use Rattle.aho_stream.specs.Chunks.{DiesAt, Reads, TellsChunk, TellsNone, ends_between}
 use Rattle.aho_stream.specs.declared.progress.Progress.{Progress}
 use Rattle.aho_stream.specs.declared.progress.StreamPiece.{StreamPiece}
-use Rattle.aho_stream.proofs.Advanced.{IsUntold, advances, advances_from, counted_once, counted_same, end_told, error_told, not_before, read_more, read_none, read_same}
+use Rattle.aho_stream.proofs.Advanced.{IsUntold, advances, advances_from, counted_once, counted_same, end_told, error_told, not_before, of_limit, read_more, read_none, read_same}
 use Rattle.aho_stream.proofs.Afters.{after_refilled, after_told}
+use Rattle.aho_stream.proofs.Deaths.{lives}
 use Rattle.aho_stream.proofs.Reported.{no_chunk_left, told_from}
+use Rattle.aho_stream.proofs.Walks.{unsettled_none}
 use Rattle.aho_stream.proofs.chunks.StreamChunkIter.advance.Given.{Over}
 use Rattle.aho_stream.proofs.chunks.StreamChunkIter.advance.Goals.{After-next_piece, After-refill}
 use Rattle.aho_stream.proofs.chunks.StreamChunkIter.advance.Goals as goal
@@ -26,7 +29,7 @@ returns-then-self-clause-advances g c =
     (read_none (g.A.Automaton.is_of automaton) (AfterOf g automaton) c.args.self.now.walk.work c.args.self.now.walk.work s _ _ (λ p given of a. after_told p _ _ _ _ _ s given a))
     (λ p given of a.
     let stopped = a.stopped c.if-self.true in
-    end_told p _ _ _ _ _ s _ given a stopped.1 stopped.0 (record { told = refl; reported = refl; from = refl }) (inr c.if-self.true))
+    end_told p _ _ _ _ _ s _ given a (λ why. elim why [ inl standard ↦ stopped.2 standard | inr ended ↦ cc ]) stopped.0 (record { told = refl; reported = refl; from = refl }) (inr c.if-self.true))
 
 pub loop-piece-init : goal.loop-piece-init
 loop-piece-init g c =
@@ -73,6 +76,12 @@ returns-in-Some-clause-after_end g c ended all =
     (subst (λ (r : Option StreamPiece). IfSome r (TellsChunk p c.loop-piece.self.progress c.next_piece.new.progress bytes)) c.in-Some.is ((rw inv.same at c.next_piece.ensures.tells) p bytes of (inv.read.is_after p given of a))) in
     absurd (no_chunk_left p (g.A.Automaton.lengths c.args.self.now.walk.automaton.now) laws.lengths_are a.no_empty s c.next_piece.new.progress bytes c.in-Some.piece tells (omega (arith, ap length same, a.count, all)))
 
+-- where there is no chunk all was walked, and no match in hand is settled
+all_walked : (g : Over) (c : After-next_piece g) → c.next_piece.result ≡ None
+    → (is_settled (g.A.Automaton.kind c.args.self.now.walk.automaton.now) (g.A.Automaton.dead c.args.self.now.walk.automaton.now c.next_piece.new.progress.sid) c.next_piece.new.progress.in_hand ≡ false)
+    × (c.next_piece.new.progress.walked ≡ c.next_piece.new.progress.read)
+all_walked g c none = (rw c.loop-piece.invariant.same at c.next_piece.ensures.walked) none
+
 -- nothing was told where there is no chunk
 still_untold : (g : Over) (c : goal.After-next_piece g) → c.next_piece.result ≡ None → IsUntold c.args.self.now.progress c.next_piece.new.progress
 still_untold g c none =
@@ -94,10 +103,10 @@ returns-then-self-2-clause-advances g c =
     let d = (goal.at.returns-then-self-2-clause-advances g c).After-next_piece in
     let none = c.in_default.is in
     let u = still_untold g d none in
-    let walked = c.next_piece.ensures.walked none in
+    let walked = all_walked g d none in
     advances (g.A.Automaton.is_of automaton) (AfterOf g automaton) _ _ s c.next_piece.new.progress _ _ None (looked g d)
-    (λ p given of a. end_told p _ _ _ _ _ s c.next_piece.new.progress given a walked.0 walked.1 (record { told = u.told; reported = u.reported; from = u.from })
-    (inl (c.if-self-2.true, c.next_piece.ensures.end none c.if-self-2.true)))
+    (λ p given of a. let end = c.next_piece.ensures.end none c.if-self-2.true in end_told p _ _ _ _ _ s c.next_piece.new.progress given a (λ why. end.1) walked.1 (record { told = u.told; reported = u.reported; from = u.from })
+    (inl (c.if-self-2.true, end.0)))
 
 -- what was read before and after a refill
 refilled_read : (g : Over) (c : After-refill g)
@@ -106,14 +115,29 @@ refilled_read g c =
     let automaton = c.args.self.now.walk.automaton.now in
     let none = c.in_default.is in
     let u = still_untold g (goal.at.After-refill g c).After-next_piece none in
-    let walked = c.next_piece.ensures.walked none in
+    let walked = all_walked g (goal.at.After-refill g c).After-next_piece none in
     let refills = c.refill.ensures.refills in
     read_more (g.A.Automaton.is_of automaton) (AfterOf g automaton) _ _ _ c.args.self.now.progress c.next_piece.new.progress c.refill.new.self _ _ _ refills.bytes
     (not_before c.args.self.now.progress.ended (λ e. sym c.if-self-2.false ∙ c.next_piece.ensures.ended ∙ c.loop-piece.invariant.stays e))
     refills.given
-    (λ p given of a. after_refilled p _ _ _ _ _ c.next_piece.new.progress c.refill.new.self given _ _ refills a walked.0 walked.1 (u.told ∙ sym u.reported) (c.next_piece.ensures.near none) c.if-self-2.false
-    (λ e. c.refill.ensures.limit (sym c.refill.ensures.refused ∙ e)))
+    (λ p given of a. after_refilled p _ _ _ _ _ c.next_piece.new.progress c.refill.new.self given _ _ refills a
+    (λ standard. unsettled_none _ _ _ walked.0 ((g.met.A.Automaton.laws _ p of).kind_is ∙ standard)) walked.1 (u.told ∙ sym u.reported) (c.next_piece.ensures.near none) c.if-self-2.false
+    (λ e. let limit = sym c.refill.ensures.refused ∙ e in (c.refill.ensures.limit limit, of_limit c.refill.result c.refill.ensures.open limit)))
     (looked g (goal.at.After-refill g c).After-next_piece)
+
+-- at the limit nothing was read, so the state that is held has not died
+lives_refilled : (g : Over) (c : After-refill g) (p : Patterns) (given : List ℕ) → g.A.Automaton.is_of c.args.self.now.walk.automaton.now p → AfterOf g c.args.self.now.walk.automaton.now p c.next_piece.new.walk.work c.refill.new.self given
+    → p.kind ≢ Standard → c.next_piece.new.progress.read ≡ c.next_piece.new.progress.limit → (place : ℕ) → DiesAt p given c.refill.new.self.from place → ⊥
+lives_refilled g c p given of a leftmost limit =
+    let s = c.next_piece.new.progress in
+    let walked = all_walked g (goal.at.After-refill g c).After-next_piece c.in_default.is in
+    let refills = c.refill.ensures.refills in
+    let others = refills.others in
+    let sid : c.refill.new.self.sid ≡ s.sid = ap (λ (t : Progress). t.sid) others in
+    let in_hand : c.refill.new.self.in_hand ≡ s.in_hand = ap (λ (t : Progress). t.in_hand) others in
+    let place : c.refill.new.self.walked ≡ s.walked = ap (λ (t : Progress). t.walked) others in
+    lives (g.met.A.Automaton.laws _ p of) given c.refill.new.self.from c.refill.new.self.walked c.refill.new.self.sid leftmost a.held_is c.refill.new.self.in_hand
+    (rw (sid, in_hand) (walked.0)) a.best_is (omega (arith, a.count, walked.1, place, limit, refills.count, refills.limited))
 
 -- nothing is told by a refill
 refilled_untold : (g : Over) (c : After-refill g) → TellsNone c.args.self.now.progress c.refill.new.self
@@ -139,12 +163,13 @@ returns-in-Err-clause-advances g c =
     let reported : c.refill.new.self.reported ≡ t.reported = ap (λ (t : Progress). t.reported) refills.others in
     let told : c.refill.new.self.told ≡ c.refill.new.self.reported = still.told ∙ sym still.reported in
     advances (g.A.Automaton.is_of automaton) (AfterOf g automaton) _ _ s c.refill.new.self _ _ (Some (Err c.in-Err.error)) (refilled_read g d)
-    (λ p given of a. error_told s c.refill.new.self given c.in-Err.error c.in-Err.ensures.only
+    (λ p given of a. error_told p s c.refill.new.self given c.in-Err.error c.in-Err.ensures.only
     (record {
       still = still;
       near = elim c.in-Err.ensures.faulty [ inl same ↦ omega (arith, a.count, same, near, reported, refills.least) | inr short ↦ omega (arith, a.count, a.kept, short, told) ];
     })
-    (λ e. (omega (arith, a.count, c.in-Err.ensures.limit e, refills.count, refills.limited, u.limit), c.in-Err.ensures.refused ∙ e)) u.unrefused)
+    (λ e. (omega (arith, a.count, c.in-Err.ensures.limit e, refills.count, refills.limited, u.limit), c.in-Err.ensures.refused ∙ e)) u.unrefused
+    (λ e leftmost. lives_refilled g d p given of a leftmost (c.in-Err.ensures.limit e)))
 
 pub loop-piece-preserved : goal.loop-piece-preserved
 loop-piece-preserved g c =

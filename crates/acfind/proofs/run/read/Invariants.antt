@@ -1,6 +1,0 @@
--- What was read so far is the text.
-use Rattle.std.specs.Io.KnownBytes.{Consumes}
-use Rattle.acfind.proofs.run.read.Given as goal
-
-abbrev pub invariant-loop : goal.invariant-loop
-invariant-loop g l = Consumes (g.R.Read.remaining l.initial.input) (g.R.Read.remaining l.input) l.text.items

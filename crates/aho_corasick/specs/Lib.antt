@@ -1,0 +1,2 @@
+-- what is read out of an automaton, state by state
+pub mod ReadOut

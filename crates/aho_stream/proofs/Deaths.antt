@@ -1,0 +1,54 @@
+-- Where the state of the given bytes dies.
+use Rattle.std.proofs.Common.{◌≡◌, ◌≢◌, ℕ, ◌≤◌, Bool, true, false, List, [], ◌∷◌, ◌++◌, length, refl, sym, ◌∙◌, ap, arith}
+use Rattle.std.specs.Prelude.{Option, Some, None, is_none, slice_range}
+use Rattle.aho_base.specs.Bytes.{folded_word}
+use Rattle.aho_base.specs.Held.{held_after}
+use Rattle.aho_base.specs.Laws.{BestAfter, Reads}
+use Rattle.aho_base.specs.Occurrence.{Occurrence}
+use Rattle.aho_base.specs.Patterns.{Patterns}
+use Rattle.aho_base.specs.Step.{follow_along}
+use Rattle.aho_base.specs.declared.search.Anchored.{Anchored}
+use Rattle.aho_base.specs.declared.search.Anchored.TheVariants.{No}
+use Rattle.aho_base.specs.declared.search.MatchKind.{MatchKind}
+use Rattle.aho_base.specs.declared.search.MatchKind.TheVariants.{Standard}
+use Rattle.aho_laws.proofs.LiteralReadings.{held-dead, longest_node, longest_node-is}
+use Rattle.aho_laws.proofs.LookUps.{held_after-along}
+use Rattle.aho_search.proofs.Places.{part_join}
+use Rattle.aho_stream.specs.After.{is_settled}
+use Rattle.aho_stream.specs.Chunks.{DiesAt}
+use Rattle.aho_stream.proofs.Walks.{unsettled_leftmost}
+
+-- no byte leads out of the dead state
+dead_along : (p : Patterns) (word : List ℕ) → follow_along p No None word ≡ None
+dead_along p [] = refl
+dead_along p (x ∷ word) = dead_along p word
+
+dead_more : (p : Patterns) (word more : List ℕ) → held_after p No word ≡ None → held_after p No (word ++ more) ≡ None
+dead_more p word more dead = held_after-along p No word more ∙ ap (λ (s : Option (List ℕ)). follow_along p No s (folded_word p more)) dead ∙ dead_along p (folded_word p more)
+
+none_of : {A : Type 0} (found : Option A) → is_none found ≡ true → found ≡ None
+none_of None e = refl
+none_of (Some x) e = cc
+
+module _ {p : Patterns} {kind : MatchKind} {lengths : List ℕ} {held : Anchored → List ℕ → ℕ → Type 0} {list : ℕ → List ℕ} {dead starts : ℕ → Bool}
+    (laws : Reads p kind lengths held list dead starts) (given : List ℕ) (from walked sid : ℕ) (leftmost : p.kind ≢ Standard) (is_held : held No (slice_range given from walked) sid) where
+  other_kind : kind ≢ Standard
+  other_kind e = leftmost (sym laws.kind_is ∙ e)
+
+  -- the state that was walked to is dead where the definitions' one is
+  pub dies : from ≤ walked → walked ≤ length given → dead sid ≡ true → DiesAt p given from walked
+  dies ordered within died = (ordered, within, none_of (held_after p No (slice_range given from walked)) (sym (laws.dead_is (slice_range given from walked) sid other_kind is_held) ∙ died))
+
+  -- and where the match in hand is not settled, it was dead nowhere before
+  pub lives : (best : Option Occurrence) → is_settled kind (dead sid) best ≡ false → BestAfter p No (slice_range given from walked) best → walked ≡ length given → (place : ℕ) → DiesAt p given from place → ⊥
+  lives best going is_best all place died = alive best going is_best
+      (ap (held_after p No) (part_join given from place walked died.0 (omega (arith, died.1, all))) ∙ dead_more p (slice_range given from place) (slice_range given place walked) died.2)
+    where
+      alive : (best : Option Occurrence) → is_settled kind (dead sid) best ≡ false → BestAfter p No (slice_range given from walked) best → held_after p No (slice_range given from walked) ≡ None → ⊥
+      alive None going none dead_now =
+          let word = slice_range given from walked in
+          let before = ((held-dead p word (longest_node p (folded_word p word)) (longest_node-is p (folded_word p word))).0 dead_now).1 in
+          none before.found before.occurs
+      alive (Some m) going best dead_now =
+          let alive_now = (unsettled_leftmost kind (dead sid) m going).1 in
+          let is = laws.dead_is (slice_range given from walked) sid other_kind is_held ∙ ap is_none dead_now in cc

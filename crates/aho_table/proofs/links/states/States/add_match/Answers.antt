@@ -1,0 +1,67 @@
+-- The state's list is changed, and no other.
+use Rattle.std.proofs.Common.{ℕ, List, [], ◌∷◌, ◌++◌, length, refl, sym, ap, subst, ◌∙◌, inr, arith}
+use Rattle.std.proofs.Math.ListN.{set}
+use Rattle.aho_lists.specs.Lists.{Lists, list_at}
+use Rattle.aho_lists.proofs.Families.{push_in-count}
+use Rattle.aho_table.specs.Table.{State, state_at}
+use Rattle.std.proofs.lemmas.List.{length_push}
+use Rattle.aho_table.specs.Inside.{LimitedStates, states_of, IsConsistent}
+use Rattle.aho_table.specs.declared.links.states.Record.{Record}
+use Rattle.aho_table.proofs.Records.{read_in, read_is, read_here, matches_known, same_table}
+use Rattle.aho_table.proofs.Changes.{IsListChange, states-listed, IsConsistent-listed}
+use Rattle.aho_table.proofs.links.states.States.add_match.Goals as goal
+
+pub record_of-state-requires : goal.record_of-state-requires
+record_of-state-requires c = record { added = read_in c.self.inside.records.items c.self.inside.transitions c.self.inside.matches c.self.inside.limit c.args.sid c.args.self.now c.self.view_is c.requires.added c.deref.result.now c.deref.ensures.value }
+
+pub push-requires : goal.push-requires
+push-requires c = record {
+  known = matches_known c.self.inside.records.items c.self.inside.transitions c.self.inside.matches c.self.inside.limit c.args.sid c.args.self.now c.self.view_is c.requires.added
+      c.deref.result.now c.deref.ensures.value c.record_of-state.result c.record_of-state.ensures.found c.self.invariant.match_lists;
+}
+
+pub replace-requires : goal.replace-requires
+replace-requires c = record { added = read_in c.self.inside.records.items c.self.inside.transitions c.self.inside.matches c.self.inside.limit c.args.sid c.args.self.now c.self.view_is c.requires.added c.self.inside.records.items refl }
+
+the_change : (c : goal.After-replace) → IsListChange c.self.inside.matches.lists c.push.new.self.lists c.record_of-state.result.matches c.in_ok-list.list
+    (list_at c.self.inside.matches.lists c.record_of-state.result.matches ++ c.args.pattern ∷ [])
+the_change c = record {
+  some = c.facts.ensures.some;
+  empty = c.facts.ensures.empty;
+  empty_still = c.facts-2.ensures.empty;
+  others = c.in_ok-list.ensures.others;
+  changed = c.in_ok-list.ensures.changed;
+  known = c.in_ok-list.ensures.known;
+  fresh = inr (omega (arith, c.in_ok-list.ensures.number));
+}
+
+pub invariant_of-self-2 : goal.invariant_of-self-2
+invariant_of-self-2 c =
+    subst (λ (rs : List Record). IsConsistent rs c.self.inside.transitions c.push.new.self c.self.inside.limit) (sym c.replace.ensures.replaced)
+    (IsConsistent-listed c.self.inside.records.items c.args.sid c.record_of-state.result
+    (read_in c.self.inside.records.items c.self.inside.transitions c.self.inside.matches c.self.inside.limit c.args.sid c.args.self.now c.self.view_is c.requires.added c.self.inside.records.items refl)
+    (read_here c.self.inside.records.items c.self.inside.transitions c.self.inside.matches c.self.inside.limit c.args.sid c.args.self.now c.self.view_is c.requires.added c.deref.result.now c.deref.ensures.value c.record_of-state.result c.record_of-state.ensures.found)
+    c.self.inside.transitions c.self.inside.matches c.push.new.self c.self.inside.limit c.in_ok-list.list
+    (list_at c.self.inside.matches.lists c.record_of-state.result.matches ++ c.args.pattern ∷ [])
+    c.self.invariant (the_change c) (ap (λ (s : Lists ℕ). s.limit) c.in_ok-list.ensures.pushed)
+    (omega (
+      arith,
+      ap (λ (s : Lists ℕ). length s.lists) c.in_ok-list.ensures.pushed,
+      push_in-count c.self.inside.matches.lists c.record_of-state.result.matches c.args.pattern,
+      length_push (list_at c.self.inside.matches.lists c.record_of-state.result.matches) c.args.pattern,
+    )))
+
+pub returns-clause-listed : goal.returns-clause-listed
+returns-clause-listed c =
+    let row = read_is c.self.inside.records.items c.self.inside.transitions c.self.inside.matches c.self.inside.limit c.args.sid c.args.self.now c.self.view_is c.requires.added c.deref.result.now c.deref.ensures.value c.record_of-state.result c.record_of-state.ensures.found in
+    same_table
+    (ap (states_of c.self.inside.transitions.lists c.push.new.self.lists) c.replace.ensures.replaced
+    ∙ states-listed c.self.inside.records.items c.args.sid c.record_of-state.result
+    (read_in c.self.inside.records.items c.self.inside.transitions c.self.inside.matches c.self.inside.limit c.args.sid c.args.self.now c.self.view_is c.requires.added c.self.inside.records.items refl)
+    (read_here c.self.inside.records.items c.self.inside.transitions c.self.inside.matches c.self.inside.limit c.args.sid c.args.self.now c.self.view_is c.requires.added c.deref.result.now c.deref.ensures.value c.record_of-state.result c.record_of-state.ensures.found)
+    c.self.inside.matches.lists c.push.new.self.lists c.in_ok-list.list
+    (list_at c.self.inside.matches.lists c.record_of-state.result.matches ++ c.args.pattern ∷ [])
+    c.self.invariant.match_lists (the_change c) c.self.inside.transitions.lists
+    ∙ ap (λ (t : LimitedStates). set t.states c.args.sid (record (state_at t.states c.args.sid) { matches = list_at c.self.inside.matches.lists c.record_of-state.result.matches ++ c.args.pattern ∷ [] })) c.self.view_is
+    ∙ ap (λ (s : State). set c.args.self.now.states c.args.sid (record (state_at c.args.self.now.states c.args.sid) { matches = s.matches ++ c.args.pattern ∷ [] })) (sym row))
+    (ap (λ (t : LimitedStates). t.limit) c.self.view_is)

@@ -1,0 +1,210 @@
+//! What an automaton tells of its states.
+
+ghost use Rattle.std.specs.Prelude.{◌<◌, length};
+ghost use Rattle.aho_corasick.specs.ReadOut.{states_of};
+
+use crate::automata::{listed, nfa_of, nfa_with, state_after};
+use aho_base::search::{Anchored, MatchKind, PatternID, StateID};
+use aho_corasick::links::{DEAD, FAIL};
+use aho_corasick::noncontiguous::NFA;
+use std::alloc::{AllocError, Global};
+use std::process::Abort;
+use std::test::Fail;
+
+/// A state of a worked table of links, by its word: the word of its link, none where that is DEAD, and what it lists.
+struct Link {
+    word: &'static [u8],
+    link: Option<&'static [u8]>,
+    matches: &'static [usize],
+}
+
+const STANDARD: &[Link] = &[
+    Link {
+        word: b"a",
+        link: Some(b""),
+        matches: &[],
+    },
+    Link {
+        word: b"ab",
+        link: Some(b""),
+        matches: &[],
+    },
+    Link {
+        word: b"abc",
+        link: Some(b"c"),
+        matches: &[],
+    },
+    Link {
+        word: b"abcd",
+        link: Some(b""),
+        matches: &[0],
+    },
+    Link {
+        word: b"c",
+        link: Some(b""),
+        matches: &[],
+    },
+    Link {
+        word: b"ce",
+        link: Some(b""),
+        matches: &[],
+    },
+    Link {
+        word: b"cef",
+        link: Some(b""),
+        matches: &[1],
+    },
+];
+
+const LONGEST: &[Link] = &[
+    Link {
+        word: b"a",
+        link: Some(b""),
+        matches: &[],
+    },
+    Link {
+        word: b"ab",
+        link: Some(b"b"),
+        matches: &[1],
+    },
+    Link {
+        word: b"abc",
+        link: Some(b"bc"),
+        matches: &[],
+    },
+    Link {
+        word: b"abcd",
+        link: None,
+        matches: &[0],
+    },
+    Link {
+        word: b"b",
+        link: None,
+        matches: &[1],
+    },
+    Link {
+        word: b"bc",
+        link: None,
+        matches: &[],
+    },
+    Link {
+        word: b"bce",
+        link: None,
+        matches: &[2],
+    },
+];
+
+/// The state of a word, and DEAD for none.
+fn state_of(rt: &impl Abort, nfa: &NFA, word: Option<&[u8]>) -> StateID {
+    match word {
+        Some(word) => state_after(rt, nfa, Anchored::No, word),
+        None => DEAD,
+    }
+}
+
+/// The states tell what a worked table has.
+fn tells(rt: &impl Abort, alloc: Global, nfa: &NFA, table: &[Link]) -> Result<(), Fail> {
+    for row in table {
+        let sid = state_after(rt, nfa, Anchored::No, row.word);
+        assert!(rt; sid.as_usize() < nfa.states_len());
+        assert_eq!(rt; nfa.depth(sid), row.word.len(), "{:?}", row.word);
+        assert_eq!(rt;
+            nfa.fail(sid),
+            state_of(rt, nfa, row.link),
+            "{:?}",
+            row.word
+        );
+        let mut patterns = Vec::new(alloc);
+        for pattern in nfa.matches(sid) {
+            patterns.push(pattern.as_usize())?;
+        }
+        assert_eq!(rt; patterns.as_slice(), row.matches, "{:?}", row.word);
+        assert_eq!(rt;
+            listed(alloc, nfa, sid)?.as_slice(),
+            row.matches,
+            "{:?}",
+            row.word
+        );
+    }
+    Ok(())
+}
+
+#[test]
+fn links_are_those_of_the_worked_tables(rt: HostRuntime) -> Result<(), Fail> {
+    let alloc = rt.alloc();
+    let words: [&[u8]; 2] = [b"abcd", b"cef"];
+    let nfa = nfa_of(&rt, alloc, &words, MatchKind::Standard, false);
+    tells(&rt, alloc, &nfa, STANDARD)?;
+    let words: [&[u8]; 3] = [b"abcd", b"b", b"bce"];
+    let nfa = nfa_of(&rt, alloc, &words, MatchKind::LeftmostLongest, false);
+    tells(&rt, alloc, &nfa, LONGEST)
+}
+
+/// The transitions of a state.
+fn transitions_of(alloc: Global, nfa: &NFA, sid: StateID) -> Result<Vec<(u8, StateID)>, AllocError>
+    requires within { sid < length (states_of nfa.now) }
+{
+    nfa.transitions(sid).collect(alloc)
+}
+
+#[test]
+fn the_states_of_one_pattern_are_told(rt: HostRuntime) -> Result<(), Fail> {
+    let alloc = rt.alloc();
+    let nfa = nfa_with(&rt, alloc, &[b"abc"], MatchKind::Standard, false, false, 3);
+    assert_eq!(&rt; nfa.states_len(), 7);
+    let (root, anchored) = (
+        nfa.special().start_unanchored_id,
+        nfa.special().start_anchored_id,
+    );
+    let mut depths = Vec::new(alloc);
+    for index in 0..nfa.states_len() {
+        let sid = StateID::new_unchecked(index);
+        depths.push(nfa.depth(sid))?;
+        let transitions = transitions_of(alloc, &nfa, sid)?;
+        let count = if sid == DEAD || sid == root || sid == anchored {
+            256
+        } else if sid == FAIL || nfa.depth(sid) == 3 {
+            0
+        } else {
+            1
+        };
+        assert_eq!(&rt; transitions.len(), count, "state {index}");
+        let matches: Vec<PatternID> = nfa.matches(sid).collect(alloc)?;
+        assert_eq!(&rt; matches.len(), if nfa.depth(sid) == 3 { 1 } else { 0 });
+        let dead = sid == DEAD || sid == FAIL || sid == root || sid == anchored;
+        assert_eq!(&rt;
+            nfa.fail(sid),
+            if dead { DEAD } else { root },
+            "state {index}"
+        );
+    }
+    depths.sort()?;
+    assert_eq!(&rt; depths.as_slice(), [0, 0, 0, 0, 1, 2, 3].as_slice());
+    assert_eq!(&rt; nfa.byte_classes().alphabet_len(), 5);
+    assert_eq!(&rt; nfa.pattern_lens().len(), 1);
+    Ok(())
+}
+
+#[test]
+fn full_states_lead_by_every_byte(rt: HostRuntime) -> Result<(), Fail> {
+    let alloc = rt.alloc();
+    let words: [&[u8]; 2] = [b"B", b""];
+    for (kind, back_to_root) in [
+        (MatchKind::Standard, true),
+        (MatchKind::LeftmostFirst, false),
+    ] {
+        let nfa = nfa_of(&rt, alloc, &words, kind, true);
+        let special = *nfa.special();
+        let node = state_after(&rt, &nfa, Anchored::No, b"b");
+        let (root, anchored) = (special.start_unanchored_id, special.start_anchored_id);
+        let back = if back_to_root { root } else { DEAD };
+        for (sid, other) in [(DEAD, DEAD), (root, back), (anchored, FAIL)] {
+            assert!(&rt; sid.as_usize() < nfa.states_len());
+            for (byte, next) in nfa.transitions(sid) {
+                let leads = sid != DEAD && (byte == b'b' || byte == b'B');
+                assert_eq!(&rt; next, if leads { node } else { other }, "{kind:?} {byte}");
+            }
+        }
+    }
+    Ok(())
+}

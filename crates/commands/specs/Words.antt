@@ -1,0 +1,55 @@
+-- What the words after the program's name ask for.
+use Rattle.std.specs.Prelude.{◌≡◌, ℕ, ◌%◌, ◌==◌, ◌||◌, not, true, false, List, [], ◌∷◌, Option, Some, None, codes, length, option_and_then, if◌then◌else◌}
+use Rattle.std.specs.Str.{bytes_eq}
+use Rattle.aho_base.specs.declared.search.MatchKind.{MatchKind}
+use Rattle.aho_base.specs.declared.search.MatchKind.TheVariants.{Standard, LeftmostFirst, LeftmostLongest}
+use Rattle.commands.specs.Asked.{Asked, Replacing, replacing_for}
+use Rattle.commands.specs.declared.command.Task.{Task}
+use Rattle.commands.specs.declared.command.Task.TheVariants.{Find, Overlap}
+
+-- the match kind that a word names
+abbrev pub kind_by : List ℕ → Option MatchKind
+kind_by word =
+    if bytes_eq word (codes "standard") then Some Standard
+    else if bytes_eq word (codes "first") then Some LeftmostFirst
+    else if bytes_eq word (codes "longest") then Some LeftmostLongest
+    else None
+
+-- PATTERN..: at least one
+abbrev pub patterns_by : Task → List (List ℕ) → Option Asked
+patterns_by task [] = None
+patterns_by task (word ∷ words) = Some (record { task = task; words = word ∷ words })
+
+-- [-i] PATTERN..: `-i` sets the case rule in the first place, and is a pattern in any other
+abbrev pub cased_by : MatchKind → List (List ℕ) → Option Asked
+cased_by kind [] = None
+cased_by kind (word ∷ words) =
+    if bytes_eq word (codes "-i") then patterns_by (Find kind true) words else patterns_by (Find kind false) (word ∷ words)
+
+-- KIND [-i] PATTERN..
+abbrev pub find_by : List (List ℕ) → Option Asked
+find_by [] = None
+find_by (word ∷ words) = option_and_then (λ kind. cased_by kind words) (kind_by word)
+
+-- find KIND [-i] PATTERN.., or overlap PATTERN..: the matches that are printed
+abbrev pub asked_by : List (List ℕ) → Option Asked
+asked_by [] = None
+asked_by (word ∷ words) =
+    if bytes_eq word (codes "find") then find_by words
+    else if bytes_eq word (codes "overlap") then patterns_by Overlap words
+    else None
+
+-- P1 R1 P2 R2 ..: at least one pattern, and a piece for each
+abbrev pub pairs_by : List (List ℕ) → Option Replacing
+pairs_by words =
+    if length words == 0 || not (length words % 2 == 0) then None
+    else Some (replacing_for words)
+
+-- replace P1 R1 P2 R2 ..
+abbrev pub replacing_by : List (List ℕ) → Option Replacing
+replacing_by [] = None
+replacing_by (word ∷ words) = if bytes_eq word (codes "replace") then pairs_by words else None
+
+-- the words ask for nothing
+abbrev pub AreWrong : List (List ℕ) → Type 0
+AreWrong words = (asked_by words ≡ None) × (replacing_by words ≡ None)
