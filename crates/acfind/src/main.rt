@@ -6,8 +6,7 @@
 //! or writing fails, and then a line on standard error says why.
 #![tactic(auto)]
 
-ghost use Rattle.std.specs.Prelude.{◌≢◌, ◌≡◌, ◌<◌, ◌≤◌, map, Some, None, IfOk, IfErr, OnErr, false, is_some, string_bytes};
-ghost use Rattle.std.specs.IoError.{error_kind};
+ghost use Rattle.std.specs.Prelude.{◌≡◌, ◌<◌, ◌≤◌, map, Some, None, IfOk, IfErr, OnErr, false, is_some, string_bytes};
 ghost use Rattle.std.specs.Process.{exit_status};
 ghost use Rattle.commands.specs.Answers.{AppendsBeginning, Replaces, Tells};
 ghost use Rattle.commands.specs.Asked.{Asked, Replacing};
@@ -18,11 +17,11 @@ use commands::command::parse_replace;
 use commands::devices::{ReadSource, WriteSink};
 use commands::fault::Fault;
 use commands::run::{report, run};
-use std::alloc::{Alloc, Global};
-use std::env::Env;
-use std::io::{BufWriter, ErrorKind, LineWriter, Read, Write};
+use commands::words::words;
+use std::alloc::Global;
+use std::io;
+use std::io::{BufWriter, LineWriter, Read, Write};
 use std::process::ExitCode;
-use std::{env, io};
 
 /// How many bytes of output are kept before they are written.
 const OUTPUT_CAPACITY: usize = 64 * 1024;
@@ -112,34 +111,6 @@ fn exit_code<R: Read, W: Write, E: Write>(
         Err(fault) => report(&fault, errors),
     };
     ExitCode::from(status)
-}
-
-/// The words after the program's name, in order. `collect` goes on where its first growth is refused, so they are put one
-/// after another.
-fn words<R: Env + Alloc<A = Global>>(rt: &R) -> Result<Vec<String>, Fault> {
-    match env::args(rt) {
-        Ok(given) => {
-            let mut words = Vec::new(rt.alloc());
-            for word in given.skip(1) {
-                if words.push(word).is_err() {
-                    return Err(Fault::OutOfMemory);
-                }
-            }
-            Ok(words)
-        }
-        Err(error) => Err(fault_of_words(&error)),
-    }
-}
-
-/// Why there are no words: memory is wanted, or one of them is not UTF-8, and such words are wrong.
-fn fault_of_words(error: &io::Error) -> Fault
-    ensures memory { error_kind error.now ≡ ErrorKind.OutOfMemory → result ≡ Fault.OutOfMemory }
-    ensures other { error_kind error.now ≢ ErrorKind.OutOfMemory → result ≡ Fault.Usage }
-{
-    match error.kind() {
-        ErrorKind::OutOfMemory => Fault::OutOfMemory,
-        _ => Fault::Usage,
-    }
 }
 
 #[cfg(test)]

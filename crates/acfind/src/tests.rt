@@ -1,7 +1,8 @@
 //! The words and the status that a process ends with. Each message names its case.
 
 use super::*;
-use std::env::FillError;
+use std::alloc::Alloc;
+use std::env::{Env, FillError};
 use std::test::Fail;
 
 /// The words of a call, the program's name first.

@@ -63,8 +63,8 @@ pub fn parse(words: &[String]) -> Option<Request<'_>>
     }
 }
 
-/// KIND [-i] PATTERN..
-fn parse_find(words: &[String]) -> Option<Request<'_>>
+/// KIND [-i] PATTERN..: what is behind `find`, and all the words of `acdraw`.
+pub fn parse_find(words: &[String]) -> Option<Request<'_>>
     ensures asked { option_map asked_for result ≡ find_by (map string_bytes words.now) }
 {
     let (word, rest) = words.split_first()?;

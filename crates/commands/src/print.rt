@@ -90,6 +90,7 @@ pub fn write_whole<W: Write>(output: &mut W, bytes: &[u8]) -> Result<(), Fault>
     ensures whole { OnOk result
         (Appends (W.contents output.old) (W.contents output.new) bytes.now) }
     ensures beginning { AppendsBeginning (W.contents output.old) (W.contents output.new) bytes.now }
+    ensures of_write { IfErr result IsOfWrite }
 {
     write_bytes(output, bytes)?;
     flush(output)

@@ -220,8 +220,8 @@ fn search_input<R: Read, W: Write>(
     print_matches(&automaton, request.task, text.as_slice(), output)
 }
 
-/// The automaton of the patterns.
-fn build(alloc: Global, request: &Request<'_>) -> Result<NFA, Fault>
+/// The automaton of the patterns that a request asks for, or why it is refused.
+pub fn build(alloc: Global, request: &Request<'_>) -> Result<NFA, Fault>
     ensures of { IfOk result (λ automaton.
         ⟦<NFA as Automaton>⟧.is_of automaton (patterns_of (asked_for request.now))) }
     ensures leaves { IfErr result (Leaves ⊤ ⊤ ⊥) }

@@ -1,0 +1,18 @@
+use Rattle.std.proofs.Common.{◌≡◌, ◌≤◌, ◌∙◌, ℕ, List, length, arith}
+use Rattle.std.proofs.lemmas.Iterator.Consumers.{YieldsList-from_first, YieldsList-turn, YieldsList-end}
+use Rattle.std.proofs.lemmas.List.{take_all}
+use Rattle.acdraw.proofs.Fronts.{front_more}
+use Rattle.acdraw.proofs.picture.listed_of.Goals as goal
+
+pub loop-pattern-preserved : goal.loop-pattern-preserved
+loop-pattern-preserved c =
+    let start : c.into_iter-pattern-iterator.result ≡ c.args.matches = c.into_iter-pattern-iterator.ensures.into_iter_gives in
+    let turn = YieldsList-turn (YieldsList-from_first (λ (x : ℕ). x) (λ (rest : List ℕ). rest) {s = c.into_iter-pattern-iterator.result} c.args.matches start) c.loop-pattern.yielded _ c.loop-pattern.yielded_by _ _ c.in-Some.pattern c.in-Some.is c.next.ensures.steps in
+    c.in_ok-push.ensures.items ∙ front_more c.args.matches c.loop-pattern.yielded c.loop-pattern.listed.items c.in-Some.pattern c.loop-pattern.invariant turn.0 turn.1
+
+pub returns : goal.returns
+returns c =
+    let start : c.into_iter-pattern-iterator.result ≡ c.args.matches = c.into_iter-pattern-iterator.ensures.into_iter_gives in
+    let end = YieldsList-end (YieldsList-from_first (λ (x : ℕ). x) (λ (rest : List ℕ). rest) {s = c.into_iter-pattern-iterator.result} c.args.matches start) c.loop-pattern.yielded _ c.loop-pattern.yielded_by _ _ c.in-None.is c.next.ensures.steps in
+    let past : length c.args.matches ≤ length c.loop-pattern.yielded = omega (arith, end.1) in
+    record { same = c.loop-pattern.invariant ∙ take_all (length c.loop-pattern.yielded) c.args.matches past }

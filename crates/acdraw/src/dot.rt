@@ -1,0 +1,115 @@
+//! A picture as text of the dot language.
+//!
+//! A state is a circle with its word. One that lists patterns is a double circle, with their numbers below the word. DEAD and
+//! the two starts are boxes. A solid arrow is a run of bytes that lead to one state, a dashed one a failure link. A byte that
+//! leads to FAIL leads nowhere, and has no arrow.
+
+ghost use Rattle.std.specs.Prelude.{IfOk};
+ghost use Rattle.acdraw.specs.Calls.{IsWhole};
+
+use crate::picture::runs::Run;
+use crate::picture::{Node, Picture};
+use crate::text::Text;
+use aho_base::search::StateID;
+use aho_corasick::links::{DEAD, FAIL};
+use std::alloc::{AllocError, Global};
+
+/// The text of a picture: its states, then their arrows.
+pub fn dot_of(alloc: Global, picture: &Picture) -> Result<Vec<u8>, AllocError>
+    ensures whole { IfOk result (λ text. IsWhole text.items) }
+{
+    let mut text = Text::new(alloc);
+    text.put("digraph automaton {\n    rankdir=LR;\n    node [shape=circle];\n")?;
+    for node in &picture.nodes {
+        put_node(&mut text, picture, node)?;
+    }
+    for node in &picture.nodes {
+        put_arrows(&mut text, node)?;
+    }
+    text.put("}\n")?;
+    Ok(text.into_bytes())
+}
+
+/// A state with its name and the patterns that it lists.
+fn put_node(text: &mut Text, picture: &Picture, node: &Node) -> Result<(), AllocError> {
+    text.put("    ")?;
+    text.put_number(node.sid.as_usize())?;
+    text.put(" [label=\"")?;
+    put_name(text, picture, node)?;
+    put_listed(text, node)?;
+    text.put("\"")?;
+    text.put(shape_of(picture, node))?;
+    text.put("];\n")
+}
+
+/// What a state is called: its word, where it is no start and not DEAD.
+fn put_name(text: &mut Text, picture: &Picture, node: &Node) -> Result<(), AllocError> {
+    if node.sid == DEAD {
+        text.put("DEAD")
+    } else if node.sid == picture.unanchored_start {
+        text.put("start")
+    } else if node.sid == picture.anchored_start {
+        text.put("anchored start")
+    } else {
+        text.put_word(node.word.as_slice())
+    }
+}
+
+/// The patterns that a state lists, on a line of their own.
+fn put_listed(text: &mut Text, node: &Node) -> Result<(), AllocError> {
+    let mut between = "\\n";
+    for pattern in &node.listed {
+        text.put(between)?;
+        text.put_number(pattern.as_usize())?;
+        between = ", ";
+    }
+    Ok(())
+}
+
+/// How a state is drawn.
+fn shape_of(picture: &Picture, node: &Node) -> &'static str {
+    let boxed = node.sid == DEAD
+        || node.sid == picture.unanchored_start
+        || node.sid == picture.anchored_start;
+    match (boxed, node.listed.is_empty()) {
+        (true, true) => ", shape=box",
+        (true, false) => ", shape=box, peripheries=2",
+        (false, true) => "",
+        (false, false) => ", shape=doublecircle",
+    }
+}
+
+/// The arrows from a state: its runs, and its link.
+fn put_arrows(text: &mut Text, node: &Node) -> Result<(), AllocError> {
+    for run in &node.runs {
+        if run.next != FAIL {
+            put_run(text, node.sid, run)?;
+        }
+    }
+    // DEAD leads to itself already.
+    if node.sid == DEAD {
+        return Ok(());
+    }
+    put_arrow(text, node.sid, node.link)?;
+    text.put(" [style=dashed];\n")
+}
+
+/// The arrow of a run of bytes.
+fn put_run(text: &mut Text, sid: StateID, run: &Run) -> Result<(), AllocError> {
+    put_arrow(text, sid, run.next)?;
+    text.put(" [label=\"")?;
+    text.put_byte(run.first)?;
+    if run.more > 0 {
+        text.put("-")?;
+        text.put_byte(run.last())?;
+    }
+    text.put("\"];\n")
+}
+
+/// An arrow from a state to another, without its label.
+fn put_arrow(text: &mut Text, from: StateID, to: StateID) -> Result<(), AllocError> {
+    text.put("    ")?;
+    text.put_number(from.as_usize())?;
+    text.put(" -> ")?;
+    text.put_number(to.as_usize())
+}
