@@ -29,7 +29,9 @@ module _ (transitions yielded : List (ℕ × ℕ)) (byte next sid : ℕ) (below 
   pub last_before : next ≢ sid → (last : Option ℕ) → IsLastTo sid before last → IsLastTo sid after last
   last_before other None none =
       subst (All (λ (transition : ℕ × ℕ). transition.1 ≢ sid)) (sym more) (All-append (λ (transition : ℕ × ℕ). transition.1 ≢ sid) before ((byte, next) ∷ []) none (elsewhere other))
-  last_before other (Some found) last =
-      (last.0, last.1 ++ (byte, next) ∷ [],
-      more ∙ ap (λ (l : List (ℕ × ℕ)). l ++ (byte, next) ∷ []) last.2 ∙ append_assoc last.0 ((found, sid) ∷ last.1) ((byte, next) ∷ []),
-      All-append (λ (transition : ℕ × ℕ). transition.1 ≢ sid) last.1 ((byte, next) ∷ []) last.3 (elsewhere other))
+  last_before other (Some found) last = (
+    last.0,
+    last.1 ++ (byte, next) ∷ [],
+    more ∙ ap (λ (l : List (ℕ × ℕ)). l ++ (byte, next) ∷ []) last.2 ∙ append_assoc last.0 ((found, sid) ∷ last.1) ((byte, next) ∷ []),
+    All-append (λ (transition : ℕ × ℕ). transition.1 ≢ sid) last.1 ((byte, next) ∷ []) last.3 (elsewhere other),
+  )

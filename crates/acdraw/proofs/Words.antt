@@ -164,10 +164,10 @@ module _ (special : Special) (p : Patterns) (names : List (Option (List ℕ))) (
         elim (cases_Bool (is_node p (longer p [] byte))) [
           | inl node ↦
               of_node [] word is named
-                  (λ other lt yes.
-                      ap (name_at names) (next other lt ∙ cond-true {A = ℕ} (is_node p (folded p other ∷ [])) (next_in states root other) fail_id yes)
-                      ∙ node_next root p names states a.nodes root [] other lt a.nodes.root yes)
-                  node
+              (λ other lt yes.
+              ap (name_at names) (next other lt ∙ cond-true {A = ℕ} (is_node p (folded p other ∷ [])) (next_in states root other) fail_id yes)
+              ∙ node_next root p names states a.nodes root [] other lt a.nodes.root yes)
+              node
           | inr other ↦ absurd (deep-ne_fail sid deep (sym leads_to ∙ next byte small ∙ cond-false {A = ℕ} (is_node p (folded p byte ∷ [])) (next_in states root byte) fail_id other))
         ]
 
@@ -235,11 +235,11 @@ module _ (special : Special) (p : Patterns) (names : List (Option (List ℕ))) (
   last_edge sid i v x (y ∷ s) named node folds small target =
       let joined : (v ++ x ∷ []) ++ y ∷ s ≡ v ++ x ∷ y ∷ s = whole i v x (y ∷ s) named node folds small in
       last_edge sid (next_in states i x) (v ++ x ∷ []) y s
-          (first_edge i v x (y ∷ s) named node folds small)
-          (ap (is_node p) joined ∙ node)
-          (folds_on i v x (y ∷ s) named node folds small)
-          (small_on i v x (y ∷ s) named node folds small)
-          (target ∙ ap Some (sym joined))
+      (first_edge i v x (y ∷ s) named node folds small)
+      (ap (is_node p) joined ∙ node)
+      (folds_on i v x (y ∷ s) named node folds small)
+      (small_on i v x (y ∷ s) named node folds small)
+      (target ∙ ap Some (sym joined))
 
   -- the bytes of a node are bytes
   node-small : AreBytes p → (w : List ℕ) → is_node p w ≡ true → All (λ byte. byte < 256) w

@@ -4,7 +4,7 @@ use Rattle.std.specs.List.{All, filter, range_with_len}
 use Rattle.aho_corasick.specs.ReadOut.{states_of, special_of}
 use Rattle.aho_corasick.specs.declared.noncontiguous.NFA.{NFA}
 use Rattle.aho_table.specs.Table.{fail_id, fail_in, matches_in, state_at}
-use Rattle.acdraw.specs.Runs.{all_pairs}
+use Rattle.acdraw.specs.Runs.{AreApart, all_pairs}
 use Rattle.acdraw.specs.Words.{IsWordOf}
 use Rattle.acdraw.specs.declared.picture.Node.{Node}
 use Rattle.acdraw.specs.declared.picture.Picture.{Picture}
@@ -14,8 +14,9 @@ pub record IsDrawn (nfa : NFA) (node : Node) : Type 0 where
   pub word : IsWordOf nfa node.sid node.word.items
   pub listed : node.listed.items ≡ matches_in (states_of nfa) node.sid
   pub link : node.link ≡ fail_in (states_of nfa) node.sid
-  -- its runs, written out byte by byte, are its transitions
+  -- its runs, written out byte by byte, are its transitions, and no two of them could be one
   pub led : all_pairs node.runs.items ≡ (state_at (states_of nfa) node.sid).transitions
+  pub apart : AreApart node.runs.items
 
 -- the numbers of the states that are drawn: all but FAIL
 abbrev pub drawn_of : ℕ → List ℕ

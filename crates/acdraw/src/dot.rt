@@ -19,7 +19,8 @@ pub fn dot_of(alloc: Global, picture: &Picture) -> Result<Vec<u8>, AllocError>
     ensures whole { IfOk result (λ text. IsWhole text.items) }
 {
     let mut text = Text::new(alloc);
-    text.put("digraph automaton {\n    rankdir=LR;\n    node [shape=circle];\n")?;
+    text.put("digraph automaton {\n    rankdir=LR;\n")?;
+    text.put("    node [shape=circle];\n    edge [fontsize=11];\n")?;
     for node in &picture.nodes {
         put_node(&mut text, picture, node)?;
     }

@@ -1,8 +1,8 @@
 //! Runs of bytes that lead to one state.
 
-ghost use Rattle.std.specs.Prelude.{◌≡◌, ◌+◌, ◌++◌, ◌∷◌, [], IsTrue, IfOk};
+ghost use Rattle.std.specs.Prelude.{◌≡◌, ◌+◌, ◌++◌, ◌∷◌, [], IsFalse, IsNone, IsTrue, IfOk};
 ghost use Rattle.std.specs.Option.{option_to_list};
-ghost use Rattle.acdraw.specs.Runs.{all_pairs};
+ghost use Rattle.acdraw.specs.Runs.{AreApart, GoesOn, all_pairs};
 
 use aho_base::search::StateID;
 use aho_corasick::links::Transitions;
@@ -35,6 +35,8 @@ impl Run {
     fn goes_on(&self, byte: u8, next: StateID) -> bool
         ensures place { IsTrue result → self.now.first + self.now.more + 1 ≡ byte }
         ensures next { IsTrue result → self.now.next ≡ next }
+        ensures apart { IsFalse result
+            → GoesOn self.now (record { first = byte; more = 0; next = next }) → ⊥ }
     {
         if self.next != next {
             return false;
@@ -48,9 +50,10 @@ impl Run {
     }
 }
 
-/// The runs of a list of transitions: they say the same, byte for byte.
+/// The runs of a list of transitions: they say the same, byte for byte, and are as long as they can be.
 pub fn runs_of(alloc: Global, transitions: Transitions<'_>) -> Result<Vec<Run>, AllocError>
     ensures same { IfOk result (λ runs. all_pairs runs.items ≡ transitions.entry) }
+    ensures apart { IfOk result (λ runs. AreApart runs.items) }
 {
     let mut runs = Vec::new(alloc);
     let mut last = None;
@@ -71,8 +74,11 @@ fn put_byte(
     byte: u8,
     next: StateID,
 ) -> Result<Run, AllocError>
+    requires begun { IsNone last → runs.old.items ≡ [] }
+    requires apart { AreApart (runs.old.items ++ option_to_list last) }
     ensures put { IfOk result (λ run. all_pairs (runs.new.items ++ run ∷ [])
         ≡ all_pairs (runs.old.items ++ option_to_list last) ++ (byte, next) ∷ []) }
+    ensures apart { IfOk result (λ run. AreApart (runs.new.items ++ run ∷ [])) }
 {
     let Some(run) = last else {
         return Ok(Run::of(byte, next));

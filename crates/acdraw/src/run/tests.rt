@@ -73,6 +73,7 @@ const ROWS: [(&[&str], &[&str]); 5] = [
             "digraph automaton {",
             "    rankdir=LR;",
             "    node [shape=circle];",
+            "    edge [fontsize=11];",
             "    0 [label=\"DEAD\", shape=box];",
             "    2 [label=\"ab\\n0\", shape=doublecircle];",
             "    3 [label=\"start\", shape=box];",
@@ -98,6 +99,7 @@ const ROWS: [(&[&str], &[&str]); 5] = [
             "digraph automaton {",
             "    rankdir=LR;",
             "    node [shape=circle];",
+            "    edge [fontsize=11];",
             "    0 [label=\"DEAD\", shape=box];",
             "    2 [label=\"a\\n0\", shape=doublecircle];",
             "    3 [label=\"start\", shape=box];",
@@ -123,6 +125,7 @@ const ROWS: [(&[&str], &[&str]); 5] = [
             "digraph automaton {",
             "    rankdir=LR;",
             "    node [shape=circle];",
+            "    edge [fontsize=11];",
             "    0 [label=\"DEAD\", shape=box];",
             "    2 [label=\"start\\n0, 1\", shape=box, peripheries=2];",
             "    3 [label=\"anchored start\\n0, 1\", shape=box, peripheries=2];",
@@ -140,6 +143,7 @@ const ROWS: [(&[&str], &[&str]); 5] = [
             "digraph automaton {",
             "    rankdir=LR;",
             "    node [shape=circle];",
+            "    edge [fontsize=11];",
             "    0 [label=\"DEAD\", shape=box];",
             "    2 [label=\"\\\"\\\\\\\\\\\\x0a\\\\xc3\\\\xa9\\n0\", shape=doublecircle];",
             "    3 [label=\"start\", shape=box];",
@@ -174,6 +178,7 @@ const ROWS: [(&[&str], &[&str]); 5] = [
             "digraph automaton {",
             "    rankdir=LR;",
             "    node [shape=circle];",
+            "    edge [fontsize=11];",
             "    0 [label=\"DEAD\", shape=box];",
             "    2 [label=\"a\\n0\", shape=doublecircle];",
             "    3 [label=\"ba\\n1, 0\", shape=doublecircle];",
@@ -217,10 +222,7 @@ fn whole_texts(rt: HostRuntime) -> Result<(), Fail> {
 #[test]
 fn a_device_that_fails_is_told(rt: HostRuntime) -> Result<(), Fail> {
     for room in [0, 1, 100] {
-        for (fails, told) in [
-            (true, "write fault\n"),
-            (false, "write took no bytes\n"),
-        ] {
+        for (fails, told) in [(true, "write fault\n"), (false, "write took no bytes\n")] {
             let words = texts(rt.alloc(), &["first", "ab"])?;
             let mut output = Device {
                 room,
