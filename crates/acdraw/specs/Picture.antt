@@ -1,5 +1,5 @@
 -- What a picture of an automaton is.
-use Rattle.std.specs.Prelude.{◌≡◌, ◌≢◌, ℕ, ◌+◌, ◌<◌, List, length, map, not, nat_eq}
+use Rattle.std.specs.Prelude.{◌≡◌, ℕ, List, length, map, not, nat_eq}
 use Rattle.std.specs.List.{All, filter, range_with_len}
 use Rattle.aho_corasick.specs.ReadOut.{states_of, special_of}
 use Rattle.aho_corasick.specs.declared.noncontiguous.NFA.{NFA}

@@ -15,7 +15,7 @@ struct Device {
 
 impl Write for Device {
     fn write(&mut self, buf: &[u8]) -> io::Result<usize> {
-        let left = self.room - self.taken.len();
+        let left = self.room.saturating_sub(self.taken.len());
         if left == 0 && self.fails {
             return Err(io::Error::from(io::ErrorKind::Other));
         }

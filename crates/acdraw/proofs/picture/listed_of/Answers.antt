@@ -1,4 +1,4 @@
-use Rattle.std.proofs.Common.{◌≡◌, ◌≤◌, ◌∙◌, ℕ, List, length, arith}
+use Rattle.std.proofs.Common.{◌≡◌, ◌≤◌, ◌∙◌, ℕ, List, ◌++◌, [], ◌∷◌, length, arith}
 use Rattle.std.proofs.lemmas.Iterator.Consumers.{YieldsList-from_first, YieldsList-turn, YieldsList-end}
 use Rattle.std.proofs.lemmas.List.{take_all}
 use Rattle.acdraw.proofs.Fronts.{front_more}
@@ -8,7 +8,8 @@ pub loop-pattern-preserved : goal.loop-pattern-preserved
 loop-pattern-preserved c =
     let start : c.into_iter-pattern-iterator.result ≡ c.args.matches = c.into_iter-pattern-iterator.ensures.into_iter_gives in
     let turn = YieldsList-turn (YieldsList-from_first (λ (x : ℕ). x) (λ (rest : List ℕ). rest) {s = c.into_iter-pattern-iterator.result} c.args.matches start) c.loop-pattern.yielded _ c.loop-pattern.yielded_by _ _ c.in-Some.pattern c.in-Some.is c.next.ensures.steps in
-    c.in_ok-push.ensures.items ∙ front_more c.args.matches c.loop-pattern.yielded c.loop-pattern.listed.items c.in-Some.pattern c.loop-pattern.invariant turn.0 turn.1
+    let items : c.push.new.self.items ≡ c.loop-pattern.listed.items ++ c.in-Some.pattern ∷ [] = c.in_ok-push.ensures.items in
+    items ∙ front_more {A = ℕ} c.args.matches c.loop-pattern.yielded c.loop-pattern.listed.items c.in-Some.pattern c.loop-pattern.invariant turn.0 turn.1
 
 pub returns : goal.returns
 returns c =

@@ -1,6 +1,6 @@
 use Rattle.std.proofs.Common.{◌≡◌, ◌∙◌, ℕ, ◌+◌, List, [], ◌∷◌, ◌++◌, refl, sym, ap, subst}
 use Rattle.std.specs.Option.{option_to_list}
-use Rattle.std.specs.Prelude.{Option, Some}
+use Rattle.std.specs.Prelude.{Option}
 use Rattle.acdraw.specs.Runs.{AreApart, GoesOn, all_pairs}
 use Rattle.acdraw.specs.declared.picture.runs.Run.{Run}
 use Rattle.acdraw.proofs.Runs.{apart_longer, apart_more, longer_run}
