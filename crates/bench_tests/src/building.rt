@@ -1,5 +1,6 @@
 //! What a builder builds, and what its limits refuse.
 
+use crate::asserts::{assert_in, assert_same, assert_same_in};
 use crate::automata::builder_of;
 use aho_base::error::BuildError;
 use aho_base::search::{Input, Match, MatchKind, PatternID};
@@ -39,10 +40,11 @@ fn check(
 ) {
     for depth in DEPTHS {
         let refusal = refusal(alloc, depth, patterns, limits);
-        assert_eq!(rt;
-            refusal,
-            want,
-            "{name}, depth {depth}: {patterns:?} {limits:?}"
+        assert_same_in(
+            rt,
+            (&name, "depth", &depth, &patterns, &limits),
+            &refusal,
+            &want,
         );
     }
 }
@@ -191,10 +193,10 @@ fn starts_of_rows_are_limited(rt: HostRuntime) -> Result<(), Fail> {
     ] {
         for depth in [1, 3] {
             let refusal = refusal(alloc, depth, &patterns, by_id(id));
-            assert_eq!(&rt; refusal, want, "depth {depth}, {id}");
+            assert_same_in(&rt, ("depth", &depth, &id), &refusal, &want);
         }
         let refusal = refusal(alloc, 0, &patterns, by_id(id));
-        assert_eq!(&rt; refusal, None, "no rows, {id}");
+        assert_same_in(&rt, ("no rows", &id), refusal, None);
     }
     Ok(())
 }
@@ -289,11 +291,11 @@ fn check_found(
 ) -> Result<(), Fail> {
     let nfa = builder.build(alloc, patterns.iter().copied())?;
     let found = nfa.try_find(&Input::new(haystack))?.map(found_of);
-    assert_eq!(rt;
+    assert_same_in(
+        rt,
+        (&name, &nfa.match_kind(), &patterns, &haystack),
         found,
         want,
-        "{name}: {:?} {patterns:?} {haystack:?}",
-        nfa.match_kind()
     );
     Ok(())
 }
@@ -304,9 +306,10 @@ fn a_builder_that_refused_builds_again(rt: HostRuntime) -> Result<(), Fail> {
     let mut builder = Builder::new();
     builder.limits(by_id(770));
     let patterns: [&[u8]; 1] = [b"abcd"];
-    assert!(rt;
+    assert_in(
+        &rt,
+        ("Standard", &patterns, "with states up to 770"),
         builder.build(alloc, patterns.iter().copied()).is_err(),
-        "Standard {patterns:?} with states up to 770"
     );
     let again = ("built after a refusal", &builder);
     check_found(&rt, alloc, again, &[b"abc"], b"xabc", Some((0, 1, 4)))?;
@@ -333,8 +336,8 @@ fn a_new_builder_is_standard_with_regard_to_case(rt: HostRuntime) -> Result<(), 
         )?;
     }
     let nfa = NFA::new(alloc, patterns.iter().copied())?;
-    assert_eq!(rt; nfa.match_kind(), MatchKind::Standard, "NFA::new");
-    assert_eq!(rt; nfa.patterns_len(), 3, "NFA::new");
+    assert_same_in(&rt, "NFA::new", nfa.match_kind(), MatchKind::Standard);
+    assert_same_in(&rt, "NFA::new", nfa.patterns_len(), 3);
     Ok(())
 }
 
@@ -380,12 +383,12 @@ fn a_clone_is_as_large_and_finds_as_much(rt: HostRuntime) -> Result<(), Fail> {
     let builder = builder_of(MatchKind::LeftmostLongest, true);
     let nfa = builder.build(alloc, patterns.iter().copied())?;
     let clone = nfa.try_clone()?;
-    assert_eq!(rt; clone.memory_usage(), nfa.memory_usage());
+    assert_same(&rt, clone.memory_usage(), nfa.memory_usage());
     let lens = (clone.min_pattern_len(), clone.max_pattern_len());
-    assert_eq!(rt; (lens, clone.patterns_len()), ((2, 4), 3));
+    assert_same(&rt, (lens, clone.patterns_len()), ((2, 4), 3));
     for (haystack, want) in [(b"xABCDx", Some((2, 1, 5))), (b"xAxBxx", None)] {
         let found = clone.try_find(&Input::new(haystack))?.map(found_of);
-        assert_eq!(rt; found, want, "a clone of {patterns:?} in {haystack:?}");
+        assert_same_in(&rt, ("a clone of", &patterns, "in", &haystack), found, want);
     }
     Ok(())
 }

@@ -2,6 +2,7 @@
 
 ghost use Rattle.std.specs.Prelude.{◌+◌, ◌<◌, ◌^◌};
 
+use crate::asserts::{assert_in, assert_same, assert_same_in};
 use crate::automata::{listed, nfa_of, nfa_with, start_of, state_after};
 use aho_base::search::{Anchored, MatchKind, PatternID, StateID, Work};
 use aho_search::automaton::Automaton;
@@ -84,15 +85,16 @@ fn states_list_their_patterns(rt: HostRuntime) -> Result<(), Fail> {
             let sid = state_after(&rt, &nfa, *anchored, word);
             let want = listing.unwrap_or(&[]);
             let case = (states.kind, states.patterns, *anchored, *word);
-            assert_eq!(rt; nfa.is_dead(sid), listing.is_none(), "{case:?}");
-            assert_eq!(rt; nfa.is_match(sid), !want.is_empty(), "{case:?}");
+            assert_same_in(&rt, &case, nfa.is_dead(sid), listing.is_none());
+            assert_same_in(&rt, &case, nfa.is_match(sid), !want.is_empty());
             let skips = nfa.prefilter().is_some() && nfa.is_start(sid);
-            assert_eq!(rt;
+            assert_same_in(
+                &rt,
+                &case,
                 nfa.is_special(sid),
                 listing.is_none() || !want.is_empty() || skips,
-                "{case:?}"
             );
-            assert_eq!(rt; listed(rt.alloc(), &nfa, sid)?.as_slice(), want, "{case:?}");
+            assert_same_in(&rt, &case, listed(rt.alloc(), &nfa, sid)?.as_slice(), want);
         }
     }
     Ok(())
@@ -108,8 +110,8 @@ fn a_failed_word_goes_on_at_its_suffix(rt: HostRuntime) {
         false,
     );
     let by_links = state_after(&rt, &nfa, Anchored::No, b"abce");
-    assert_eq!(rt; by_links, state_after(&rt, &nfa, Anchored::Yes, b"ce"));
-    assert_eq!(rt; by_links, state_after(&rt, &nfa, Anchored::No, b"ce"));
+    assert_same(&rt, by_links, state_after(&rt, &nfa, Anchored::Yes, b"ce"));
+    assert_same(&rt, by_links, state_after(&rt, &nfa, Anchored::No, b"ce"));
 }
 
 #[test]
@@ -117,12 +119,12 @@ fn starts_are_told(rt: HostRuntime) {
     let nfa = nfa_of(&rt, rt.alloc(), &[b"ab"], MatchKind::Standard, false);
     for anchored in [Anchored::No, Anchored::Yes] {
         let start = start_of(&rt, &nfa, anchored);
-        assert!(rt; nfa.is_start(start), "{anchored:?}");
+        assert_in(&rt, &anchored, nfa.is_start(start));
         let after = state_after(&rt, &nfa, anchored, b"a");
-        assert!(rt; !nfa.is_start(after), "{anchored:?} after a");
+        assert_in(&rt, (&anchored, "after a"), !nfa.is_start(after));
     }
     let back = state_after(&rt, &nfa, Anchored::No, b"ax");
-    assert_eq!(rt; back, start_of(&rt, &nfa, Anchored::No));
+    assert_same(&rt, back, start_of(&rt, &nfa, Anchored::No));
     let dead = state_after(&rt, &nfa, Anchored::Yes, b"ax");
     assert!(rt; nfa.is_dead(dead));
     assert!(rt; !nfa.is_start(dead));
@@ -141,13 +143,13 @@ fn starts_are_special_where_a_prefilter_is_held(rt: HostRuntime) {
             prefilter,
             1,
         );
-        assert_eq!(rt; nfa.prefilter().is_some(), prefilter);
+        assert_same(&rt, nfa.prefilter().is_some(), prefilter);
         for anchored in [Anchored::No, Anchored::Yes] {
             let start = start_of(&rt, &nfa, anchored);
-            assert_eq!(rt; nfa.is_special(start), prefilter, "{anchored:?}");
+            assert_same_in(&rt, &anchored, nfa.is_special(start), prefilter);
         }
         let memory = if prefilter { 7166 } else { 7163 };
-        assert_eq!(rt; nfa.memory_usage(), memory);
+        assert_same(&rt, nfa.memory_usage(), memory);
     }
 }
 
@@ -166,7 +168,7 @@ fn assert_steps_agree_from<A: Automaton>(
     for byte in 0..=u8::MAX {
         let next = automaton.next_state(anchored, sid, byte);
         let stepped = automaton.step(anchored, sid, byte, &mut Work::new());
-        assert_eq!(rt; stepped, next, "{kind:?} {anchored:?} {word:?} {byte}");
+        assert_same_in(rt, (&kind, &anchored, &word, &byte), stepped, next);
     }
 }
 
@@ -239,17 +241,18 @@ fn a_loop_over_the_calls_finds(rt: HostRuntime) {
         (MatchKind::LeftmostLongest, (0, 0, 7)),
     ] {
         let nfa = nfa_of(&rt, rt.alloc(), &[b"samwise", b"sam"], kind, false);
-        assert_eq!(rt;
+        assert_same_in(
+            &rt,
+            &kind,
             found_by_calls(&rt, &nfa, b"samwise"),
             Some(want),
-            "{kind:?}"
         );
         let by_reference = found_by_calls(&rt, &&nfa, b"samwise");
-        assert_eq!(rt; by_reference, Some(want), "{kind:?} by a reference");
+        assert_same_in(&rt, (&kind, "by a reference"), by_reference, Some(want));
     }
     let one = OneByte::new(b'w');
-    assert_eq!(rt; found_by_calls(&rt, &one, b"samwise"), Some((0, 3, 4)));
-    assert_eq!(rt; found_by_calls(&rt, &&one, b"sam"), None);
+    assert_same(&rt, found_by_calls(&rt, &one, b"samwise"), Some((0, 3, 4)));
+    assert_same(&rt, found_by_calls(&rt, &&one, b"sam"), None);
 }
 
 /// What an automaton tells of its patterns.
@@ -294,15 +297,15 @@ fn patterns_are_told(rt: HostRuntime) -> Result<(), Fail> {
     for told in TOLD {
         let nfa = nfa_of(&rt, rt.alloc(), told.patterns, told.kind, false);
         let case = (told.kind, told.patterns);
-        assert_eq!(rt; nfa.match_kind(), told.kind, "{case:?}");
-        assert_eq!(rt; nfa.min_pattern_len(), told.shortest, "{case:?}");
-        assert_eq!(rt; nfa.max_pattern_len(), told.longest, "{case:?}");
-        assert_eq!(rt; nfa.memory_usage(), told.memory, "{case:?}");
-        assert_eq!(rt; nfa.patterns_len(), told.lens.len(), "{case:?}");
+        assert_same_in(&rt, &case, nfa.match_kind(), told.kind);
+        assert_same_in(&rt, &case, nfa.min_pattern_len(), told.shortest);
+        assert_same_in(&rt, &case, nfa.max_pattern_len(), told.longest);
+        assert_same_in(&rt, &case, nfa.memory_usage(), told.memory);
+        assert_same_in(&rt, &case, nfa.patterns_len(), told.lens.len());
         for (number, len) in told.lens.iter().enumerate() {
             let pattern = PatternID::new(number)?;
-            assert!(rt; number < nfa.patterns_len(), "{case:?}");
-            assert_eq!(rt; nfa.pattern_len(pattern), *len, "{case:?}");
+            assert!(rt; number < nfa.patterns_len());
+            assert_same_in(&rt, &case, nfa.pattern_len(pattern), *len);
         }
     }
     Ok(())

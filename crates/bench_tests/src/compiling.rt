@@ -1,5 +1,6 @@
 //! How large a build becomes: which patterns share states, which are left out, and which states have dense rows.
 
+use crate::asserts::assert_same_in;
 use aho_base::search::{Input, MatchKind};
 use aho_corasick::noncontiguous::Builder;
 use aho_search::automaton::Automaton;
@@ -13,15 +14,16 @@ fn a_letter_leads_by_both_cases(rt: HostRuntime) -> Result<(), Fail> {
     builder.ascii_case_insensitive(true).dense_depth(0);
     let nfa = builder.build(alloc, patterns.iter().copied())?;
     // Six states, 769 + 2 transitions, 1 + 2 listed patterns and two lengths.
-    assert_eq!(rt;
+    assert_same_in(
+        &rt,
+        (&patterns, "without regard to case"),
         nfa.memory_usage(),
         7095,
-        "{patterns:?} without regard to case"
     );
     for haystack in [b"ab", b"aB", b"Ab", b"AB"] {
         let found = nfa.try_find(&Input::new(haystack))?;
         let place = found.map(|m| (m.pattern().as_usize(), m.start(), m.end()));
-        assert_eq!(rt; place, Some((0, 0, 2)), "{patterns:?} in {haystack:?}");
+        assert_same_in(&rt, (&patterns, "in", &haystack), place, Some((0, 0, 2)));
     }
     Ok(())
 }
@@ -38,8 +40,9 @@ fn a_pattern_behind_a_prefix_adds_no_state(rt: HostRuntime) -> Result<(), Fail> 
         let mut builder = Builder::new();
         builder.match_kind(kind).dense_depth(0);
         let nfa = builder.build(alloc, patterns.iter().copied())?;
-        assert_eq!(rt; nfa.memory_usage(), memory, "{patterns:?} by {kind:?}");
-        assert_eq!(rt; nfa.patterns_len(), 2, "{patterns:?} by {kind:?}");
+        let case = (&patterns, "by", &kind);
+        assert_same_in(&rt, &case, nfa.memory_usage(), memory);
+        assert_same_in(&rt, &case, nfa.patterns_len(), 2);
     }
     Ok(())
 }
@@ -101,8 +104,8 @@ fn rows_take_memory(rt: HostRuntime) -> Result<(), Fail> {
             .dense_depth(sum.dense_depth);
         let nfa = builder.build(rt.alloc(), sum.patterns.iter().copied())?;
         let case = (sum.kind, sum.patterns, sum.dense_depth);
-        assert_eq!(rt; nfa.memory_usage(), sum.memory, "{case:?}");
-        assert_eq!(rt; nfa.try_clone()?.memory_usage(), sum.memory, "{case:?}");
+        assert_same_in(&rt, &case, nfa.memory_usage(), sum.memory);
+        assert_same_in(&rt, &case, nfa.try_clone()?.memory_usage(), sum.memory);
     }
     Ok(())
 }

@@ -3,6 +3,7 @@
 ghost use Rattle.std.specs.Prelude.{◌≤◌};
 ghost use Rattle.aho_base.specs.Numbers.{greatest_index};
 
+use crate::asserts::assert_same;
 use crate::scripted::{ScriptedSink, ScriptedSource, Turn};
 use aho_base::error::{Fault, StreamError};
 use aho_devices::adapters::{FromRead, FromWrite};
@@ -29,16 +30,17 @@ fn a_fill_reads_until_there_is_enough(rt: HostRuntime) -> Result<(), Fail> {
     let mut source = ScriptedSource::new(b"abcdefghij", &turns);
     let mut buffer = Buffer::new(rt.alloc(), 5)?;
     let filled = fill(&rt, &mut buffer, &mut source, 100)?;
-    assert_eq!(rt;
+    assert_same(
+        &rt,
         filled,
         Filled {
             read: 6,
-            ended: false
-        }
+            ended: false,
+        },
     );
-    assert_eq!(rt; buffer.buffer(), b"abcdef".as_slice());
-    assert_eq!(rt; source.reads(), 3);
-    assert_eq!(rt; source.rest(), b"ghij".as_slice());
+    assert_same(&rt, buffer.buffer(), b"abcdef".as_slice());
+    assert_same(&rt, source.reads(), 3);
+    assert_same(&rt, source.rest(), b"ghij".as_slice());
     Ok(())
 }
 
@@ -48,27 +50,29 @@ fn a_fill_keeps_what_came_before_a_fault_and_comes_back(rt: HostRuntime) -> Resu
     let mut source = ScriptedSource::new(b"abcdef", &turns);
     let mut buffer = Buffer::new(rt.alloc(), 4)?;
     let failed = fill(&rt, &mut buffer, &mut source, 100);
-    assert_eq!(rt; failed, Err(StreamError::Read(Fault)));
-    assert_eq!(rt; buffer.buffer(), b"ab".as_slice());
+    assert_same(&rt, failed, Err(StreamError::Read(Fault)));
+    assert_same(&rt, buffer.buffer(), b"ab".as_slice());
     let ended = fill(&rt, &mut buffer, &mut source, 100)?;
-    assert_eq!(rt;
+    assert_same(
+        &rt,
         ended,
         Filled {
             read: 1,
-            ended: true
-        }
+            ended: true,
+        },
     );
-    assert_eq!(rt; buffer.buffer(), b"abc".as_slice());
+    assert_same(&rt, buffer.buffer(), b"abc".as_slice());
     let more = fill(&rt, &mut buffer, &mut source, 100)?;
-    assert_eq!(rt;
+    assert_same(
+        &rt,
         more,
         Filled {
             read: 3,
-            ended: false
-        }
+            ended: false,
+        },
     );
-    assert_eq!(rt; buffer.buffer(), b"abcdef".as_slice());
-    assert_eq!(rt; source.reads(), 5);
+    assert_same(&rt, buffer.buffer(), b"abcdef".as_slice());
+    assert_same(&rt, source.reads(), 5);
     Ok(())
 }
 
@@ -77,18 +81,19 @@ fn a_fill_stops_at_the_limit(rt: HostRuntime) -> Result<(), Fail> {
     let mut source = ScriptedSource::new(b"abcdef", &[]);
     let mut buffer = Buffer::new(rt.alloc(), 4)?;
     let none = fill(&rt, &mut buffer, &mut source, 0);
-    assert_eq!(rt; none, Err(StreamError::PositionLimit));
-    assert_eq!(rt; source.reads(), 0);
+    assert_same(&rt, none, Err(StreamError::PositionLimit));
+    assert_same(&rt, source.reads(), 0);
     let two = fill(&rt, &mut buffer, &mut source, 2)?;
-    assert_eq!(rt;
+    assert_same(
+        &rt,
         two,
         Filled {
             read: 2,
-            ended: false
-        }
+            ended: false,
+        },
     );
-    assert_eq!(rt; buffer.buffer(), b"ab".as_slice());
-    assert_eq!(rt; source.rest(), b"cdef".as_slice());
+    assert_same(&rt, buffer.buffer(), b"ab".as_slice());
+    assert_same(&rt, source.rest(), b"cdef".as_slice());
     Ok(())
 }
 
@@ -99,7 +104,7 @@ fn a_roll_keeps_the_last_bytes(rt: HostRuntime) -> Result<(), Fail> {
     fill(&rt, &mut buffer, &mut source, 100)?;
     assert!(rt; buffer.min_buffer_len() <= buffer.buffer().len());
     buffer.roll();
-    assert_eq!(rt; buffer.buffer(), b"ef".as_slice());
+    assert_same(&rt, buffer.buffer(), b"ef".as_slice());
     Ok(())
 }
 
@@ -122,10 +127,10 @@ fn read_at_once(rt: &impl Abort, alloc: Global, min_buffer_len: usize) -> Result
 
 #[test]
 fn a_buffer_has_its_length(rt: HostRuntime) -> Result<(), Fail> {
-    assert_eq!(rt; read_at_once(&rt, rt.alloc(), 0)?, 65_536);
-    assert_eq!(rt; read_at_once(&rt, rt.alloc(), 8_192)?, 65_536);
-    assert_eq!(rt; read_at_once(&rt, rt.alloc(), 8_193)?, 65_544);
-    assert_eq!(rt; read_at_once(&rt, rt.alloc(), 10_000)?, 80_000);
+    assert_same(&rt, read_at_once(&rt, rt.alloc(), 0)?, 65_536);
+    assert_same(&rt, read_at_once(&rt, rt.alloc(), 8_192)?, 65_536);
+    assert_same(&rt, read_at_once(&rt, rt.alloc(), 8_193)?, 65_544);
+    assert_same(&rt, read_at_once(&rt, rt.alloc(), 10_000)?, 80_000);
     Ok(())
 }
 
@@ -133,10 +138,10 @@ fn a_buffer_has_its_length(rt: HostRuntime) -> Result<(), Fail> {
 fn a_whole_piece_is_written(rt: HostRuntime) -> Result<(), Fail> {
     let mut sink = ScriptedSink::new(rt.alloc(), &[Turn::Move(1), Turn::Move(2)]);
     write_whole(&mut sink, b"abcdef")?;
-    assert_eq!(rt; sink.taken(), b"abcdef".as_slice());
-    assert_eq!(rt; sink.writes(), 3);
+    assert_same(&rt, sink.taken(), b"abcdef".as_slice());
+    assert_same(&rt, sink.writes(), 3);
     write_whole(&mut sink, b"")?;
-    assert_eq!(rt; sink.writes(), 3);
+    assert_same(&rt, sink.writes(), 3);
     Ok(())
 }
 
@@ -149,9 +154,9 @@ fn a_beginning_is_written_before_a_fault(rt: HostRuntime) -> Result<(), Fail> {
     for (turn, want) in cases {
         let turns = [Turn::Move(2), turn];
         let mut sink = ScriptedSink::new(rt.alloc(), &turns);
-        assert_eq!(rt; write_whole(&mut sink, b"abcdef".as_slice()), Err(want));
-        assert_eq!(rt; sink.taken(), b"ab".as_slice());
-        assert_eq!(rt; sink.writes(), 2);
+        assert_same(&rt, write_whole(&mut sink, b"abcdef".as_slice()), Err(want));
+        assert_same(&rt, sink.taken(), b"ab".as_slice());
+        assert_same(&rt, sink.writes(), 2);
     }
     Ok(())
 }
@@ -162,16 +167,17 @@ fn a_reader_and_a_writer_of_std_are_devices(rt: HostRuntime) -> Result<(), Fail>
     let mut source = FromRead::new(text);
     let mut buffer = Buffer::new(rt.alloc(), 100)?;
     let filled = fill(&rt, &mut buffer, &mut source, 4)?;
-    assert_eq!(rt;
+    assert_same(
+        &rt,
         filled,
         Filled {
             read: 4,
-            ended: false
-        }
+            ended: false,
+        },
     );
-    assert_eq!(rt; source.into_inner(), b"ef".as_slice());
+    assert_same(&rt, source.into_inner(), b"ef".as_slice());
     let mut sink = FromWrite::new(Vec::new(rt.alloc()));
     write_whole(&mut sink, buffer.buffer())?;
-    assert_eq!(rt; sink.into_inner().as_slice(), b"abcd".as_slice());
+    assert_same(&rt, sink.into_inner().as_slice(), b"abcd".as_slice());
     Ok(())
 }

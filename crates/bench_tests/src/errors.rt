@@ -1,5 +1,6 @@
 //! What errors write.
 
+use crate::asserts::assert_same;
 use aho_base::error::{BuildError, Fault, MatchError, ReplaceError, StreamError};
 use aho_base::search::{MatchKind, PatternID};
 use std::alloc::AllocError;
@@ -35,7 +36,7 @@ fn build_errors_are_told(rt: HostRuntime) -> Result<(), Fail> {
     ];
     for (error, want) in &cases {
         let text = format!(in alloc; "{}", error)?;
-        assert_eq!(rt; text.as_str(), *want);
+        assert_same(&rt, text.as_str(), *want);
     }
     Ok(())
 }
@@ -71,14 +72,14 @@ fn match_errors_are_told(rt: HostRuntime) -> Result<(), Fail> {
     ];
     for (error, want) in cases {
         let text = format!(in alloc; "{}", error)?;
-        assert_eq!(rt; text.as_str(), want);
+        assert_same(&rt, text.as_str(), want);
     }
     Ok(())
 }
 
 #[test]
 fn the_default_kind_is_standard(rt: HostRuntime) {
-    assert_eq!(rt; MatchKind::default(), MatchKind::Standard);
+    assert_same(&rt, MatchKind::default(), MatchKind::Standard);
 }
 
 #[test]
@@ -93,7 +94,7 @@ fn replace_errors_are_told(rt: HostRuntime) -> Result<(), Fail> {
     ];
     for (error, want) in cases {
         let text = format!(in alloc; "{}", error)?;
-        assert_eq!(rt; text.as_str(), want);
+        assert_same(&rt, text.as_str(), want);
     }
     Ok(())
 }
@@ -114,7 +115,7 @@ fn stream_errors_are_told(rt: HostRuntime) -> Result<(), Fail> {
     ];
     for (error, want) in cases {
         let text = format!(in alloc; "{}", error)?;
-        assert_eq!(rt; text.as_str(), want);
+        assert_same(&rt, text.as_str(), want);
     }
     Ok(())
 }

@@ -4,10 +4,11 @@
 ghost use Rattle.std.specs.Prelude.{◌+◌, ◌<◌, ◌≤◌, length};
 ghost use Rattle.aho_base.specs.Patterns.{Patterns};
 
+use crate::asserts::assert_same_in;
 use crate::automata::{DEPTHS, builder_of, nfa_by, nfa_with};
 use crate::overlaps::{found_by_calls, found_by_iterator};
 use aho_base::search::{Anchored, Input, MatchKind, PatternID, Span};
-use aho_corasick::noncontiguous::{Limits, NFA};
+use aho_corasick::noncontiguous::Limits;
 use aho_search::automaton::Automaton;
 use bench::callers::all_matches;
 use bench::listing::{all, anchored, finds};
@@ -44,17 +45,17 @@ enum Way {
 }
 
 /// Searches this span in each way. A message tells the case by its name.
-fn search_span(
+fn search_span<A: Automaton>(
     rt: &impl Abort,
     alloc: Global,
     way: Way,
     name: &str,
     patterns: &PatternSet<'_>,
-    nfa: &NFA,
+    automaton: &A,
     haystack: &[u8],
     span: Span,
 )
-    requires of { (p : Patterns) × ⟦<NFA as Automaton>⟧.is_of nfa.now p }
+    requires of { (p : Patterns) × A.is_of automaton.now p }
     requires within { span.end ≤ length haystack.now }
     requires ordered { span.start ≤ span.end + 1 }
 {
@@ -67,13 +68,13 @@ fn search_span(
             let case = (name, patterns, haystack, span, anchored, earliest);
             match way {
                 Way::Once => {
-                    let answer = nfa.try_find(&input).expect(rt, "an answer");
-                    assert_eq!(rt; answer, plain(patterns, &input), "{case:?}");
+                    let answer = automaton.try_find(&input).expect(rt, "an answer");
+                    assert_same_in(rt, &case, answer, plain(patterns, &input));
                 }
                 Way::OneAfterAnother => {
                     let wanted = finds(alloc, patterns, copy_of(&input)).expect(rt, "memory");
-                    let found = all_matches(alloc, nfa, input).expect(rt, "memory");
-                    assert_eq!(rt; found, wanted, "{case:?} by iteration");
+                    let found = all_matches(alloc, automaton, input).expect(rt, "memory");
+                    assert_same_in(rt, (&case, "by iteration"), found, wanted);
                 }
             }
         }
@@ -81,16 +82,16 @@ fn search_span(
 }
 
 /// Searches every span of this haystack in each way.
-fn search_spans(
+fn search_spans<A: Automaton>(
     rt: &impl Abort,
     alloc: Global,
     way: Way,
     name: &str,
     patterns: &PatternSet<'_>,
-    nfa: &NFA,
+    automaton: &A,
     haystack: &[u8],
 )
-    requires of { (p : Patterns) × ⟦<NFA as Automaton>⟧.is_of nfa.now p }
+    requires of { (p : Patterns) × A.is_of automaton.now p }
 {
     for end in 0..=haystack.len() {
         for start in 0..=end + 1 {
@@ -100,7 +101,7 @@ fn search_spans(
                 way,
                 name,
                 patterns,
-                nfa,
+                automaton,
                 haystack,
                 Span { start, end },
             );
@@ -109,54 +110,52 @@ fn search_spans(
 }
 
 /// Lists what matches in this span, anchored and not, by the calls and by the iterator.
-fn list_span(
+fn list_span<A: Automaton>(
     rt: &impl Abort,
     alloc: Global,
     name: &str,
     patterns: &PatternSet<'_>,
-    nfa: &NFA,
+    automaton: &A,
     haystack: &[u8],
     span: Span,
 ) -> Result<(), AllocError>
-    requires of { (p : Patterns) × ⟦<NFA as Automaton>⟧.is_of nfa.now p }
+    requires of { (p : Patterns) × A.is_of automaton.now p }
     requires within { span.end ≤ length haystack.now }
     requires ordered { span.start ≤ span.end + 1 }
 {
     let input = Input::new(haystack).span(span);
     let want = all(alloc, patterns, haystack, span)?;
-    let by_calls = found_by_calls(rt, alloc, nfa, &input)?;
-    assert_eq!(rt;
-        by_calls,
-        want,
-        "{name}: {patterns:?} {haystack:?} {span:?}"
-    );
+    let by_calls = found_by_calls(rt, alloc, automaton, &input)?;
+    assert_same_in(rt, (&name, &patterns, &haystack, &span), &by_calls, &want);
     let from_start = input.clone()?.anchored(Anchored::Yes);
-    let by_iterator = found_by_iterator(rt, alloc, nfa, input)?;
-    assert_eq!(rt;
-        by_iterator,
-        want,
-        "{name}: iterator {patterns:?} {haystack:?} {span:?}"
+    let by_iterator = found_by_iterator(rt, alloc, automaton, input)?;
+    assert_same_in(
+        rt,
+        (&name, "iterator", &patterns, &haystack, &span),
+        &by_iterator,
+        &want,
     );
     let want = anchored(alloc, patterns, haystack, span)?;
-    let by_calls = found_by_calls(rt, alloc, nfa, &from_start)?;
-    assert_eq!(rt;
+    let by_calls = found_by_calls(rt, alloc, automaton, &from_start)?;
+    assert_same_in(
+        rt,
+        (&name, "anchored", &patterns, &haystack, &span),
         by_calls,
         want,
-        "{name}: anchored {patterns:?} {haystack:?} {span:?}"
     );
     Ok(())
 }
 
 /// Lists what matches in every span of this haystack.
-fn list_spans(
+fn list_spans<A: Automaton>(
     rt: &impl Abort,
     alloc: Global,
     name: &str,
     patterns: &PatternSet<'_>,
-    nfa: &NFA,
+    automaton: &A,
     haystack: &[u8],
 ) -> Result<(), AllocError>
-    requires of { (p : Patterns) × ⟦<NFA as Automaton>⟧.is_of nfa.now p }
+    requires of { (p : Patterns) × A.is_of automaton.now p }
 {
     for end in 0..=haystack.len() {
         for start in 0..=end + 1 {
@@ -165,7 +164,7 @@ fn list_spans(
                 alloc,
                 name,
                 patterns,
-                nfa,
+                automaton,
                 haystack,
                 Span { start, end },
             )?;
@@ -263,22 +262,30 @@ fn haystack_of(number: usize, letters: [u8; 2]) -> [u8; 6] {
 const SIZES: [(usize, usize); 7] = [(0, 1), (1, 2), (2, 4), (3, 8), (4, 16), (5, 32), (6, 64)];
 
 /// Searches each haystack of these sizes.
-fn search_haystacks(
+fn search_haystacks<A: Automaton>(
     rt: &impl Abort,
     alloc: Global,
     way: Way,
     case: &Case,
     patterns: &PatternSet<'_>,
-    nfa: &NFA,
+    automaton: &A,
     sizes: &[(usize, usize)],
 )
-    requires of { (p : Patterns) × ⟦<NFA as Automaton>⟧.is_of nfa.now p }
+    requires of { (p : Patterns) × A.is_of automaton.now p }
 {
     for (size, count) in sizes {
         for number in 0..*count {
             let haystack = haystack_of(number, case.letters);
             assert!(rt; *size <= haystack.len());
-            search_spans(rt, alloc, way, case.name, patterns, nfa, &haystack[..*size]);
+            search_spans(
+                rt,
+                alloc,
+                way,
+                case.name,
+                patterns,
+                automaton,
+                &haystack[..*size],
+            );
         }
     }
 }
@@ -311,20 +318,20 @@ fn shorter_inputs_are_iterated(rt: HostRuntime) {
 }
 
 /// Lists what matches in each short haystack.
-fn list_haystacks(
+fn list_haystacks<A: Automaton>(
     rt: &impl Abort,
     alloc: Global,
     case: &Case,
     patterns: &PatternSet<'_>,
-    nfa: &NFA,
+    automaton: &A,
 ) -> Result<(), AllocError>
-    requires of { (p : Patterns) × ⟦<NFA as Automaton>⟧.is_of nfa.now p }
+    requires of { (p : Patterns) × A.is_of automaton.now p }
 {
     for (size, count) in SIZES {
         for number in 0..count {
             let haystack = haystack_of(number, case.letters);
             assert!(rt; size <= haystack.len());
-            list_spans(rt, alloc, case.name, patterns, nfa, &haystack[..size])?;
+            list_spans(rt, alloc, case.name, patterns, automaton, &haystack[..size])?;
         }
     }
     Ok(())

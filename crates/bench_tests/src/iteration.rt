@@ -2,6 +2,7 @@
 
 ghost use Rattle.aho_base.specs.Patterns.{Patterns};
 
+use crate::asserts::{assert_same, assert_same_in};
 use crate::automata::nfa_of;
 use aho_base::error::MatchError;
 use aho_base::search::{Anchored, Input, Match, MatchKind, Span};
@@ -9,6 +10,7 @@ use aho_search::automaton::Automaton;
 use bench::callers::{first_matches, match_ends, matches_in};
 use bench::one_byte::OneByte;
 use bench::tally::Tally;
+use std::process::Abort;
 use std::test::Fail;
 
 /// A pattern's number, and where its match starts and ends.
@@ -28,31 +30,34 @@ fn none_comes_again(rt: HostRuntime) {
     gives_two_and_none_again(&rt, &nfa);
 }
 
-// The calls stand in a function of every automaton, whose proof sees no inside of one.
-fn gives_two_and_none_again<A: Automaton>(rt: &HostRuntime, automaton: &A)
+/// Two empty matches are given, and then none, however often it is asked. (Of every automaton, so that the proof sees no
+/// inside of one.)
+fn gives_two_and_none_again<A: Automaton>(rt: &impl Abort, automaton: &A)
     requires of { (p : Patterns) × A.is_of automaton.now p }
 {
     let mut it = automaton
         .try_find_iter(Input::new(b"x"))
         .expect(rt, "an iterator");
-    assert_eq!(rt; it.next().map(found_of), Some((1, 0, 0)));
-    assert_eq!(rt; it.next().map(found_of), Some((1, 1, 1)));
-    assert_eq!(rt; it.next(), None);
-    assert_eq!(rt; it.next(), None);
+    assert_same(rt, it.next().map(found_of), Some((1, 0, 0)));
+    assert_same(rt, it.next().map(found_of), Some((1, 1, 1)));
+    assert_same(rt, it.next(), None);
+    assert_same(rt, it.next(), None);
 }
 
 #[test]
 fn callers_are_given_matches(rt: HostRuntime) -> Result<(), Fail> {
     let alloc = rt.alloc();
     let nfa = nfa_of(&rt, alloc, &[b"ab", b"b"], MatchKind::Standard, false);
-    assert_eq!(rt; matches_in(alloc, &nfa, b"abxb")?.len(), 2);
-    assert_eq!(rt;
+    assert_same(&rt, matches_in(alloc, &nfa, b"abxb")?.len(), 2);
+    assert_same(
+        &rt,
         match_ends(alloc, &nfa, Input::new(b"abxb"))?.as_slice(),
-        [2, 4].as_slice()
+        [2, 4].as_slice(),
     );
-    assert_eq!(rt;
+    assert_same(
+        &rt,
         first_matches(alloc, &nfa, Input::new(b"abxb"), 1)?.len(),
-        1
+        1,
     );
     Ok(())
 }
@@ -61,17 +66,19 @@ fn callers_are_given_matches(rt: HostRuntime) -> Result<(), Fail> {
 fn other_automata_are_iterated(rt: HostRuntime) -> Result<(), Fail> {
     let one = OneByte::new(b'w');
     let input = Input::new(b"wow");
-    assert_eq!(rt;
+    assert_same(
+        &rt,
         match_ends(rt.alloc(), &one, input)?.as_slice(),
-        [1, 3].as_slice()
+        [1, 3].as_slice(),
     );
     let tally = Tally::new(one);
     let input = Input::new(b"wow");
-    assert_eq!(rt;
+    assert_same(
+        &rt,
         match_ends(rt.alloc(), &tally, input)?.as_slice(),
-        [1, 3].as_slice()
+        [1, 3].as_slice(),
     );
-    assert_eq!(rt; tally.steps(), 3);
+    assert_same(&rt, tally.steps(), 3);
     Ok(())
 }
 
@@ -81,10 +88,11 @@ fn a_refusal_comes_before_the_first_match(rt: HostRuntime) {
     for span in [Span { start: 0, end: 3 }, Span { start: 3, end: 2 }] {
         let input = Input::new(b"wow").span(span).anchored(Anchored::Yes);
         let refusal = one.try_find_iter(input).err();
-        assert_eq!(rt;
+        assert_same_in(
+            &rt,
+            &span,
             refusal,
             Some(MatchError::invalid_input_anchored()),
-            "{span:?}"
         );
     }
 }

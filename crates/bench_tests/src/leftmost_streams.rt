@@ -1,12 +1,12 @@
 //! Streams of the leftmost kinds: worked rows, and random streams of the three kinds against plain iteration.
 
+use crate::asserts::{assert_in, assert_same, assert_same_in};
 use crate::automata::{nfa_of, state_after};
 use crate::scripted::{ScriptedSink, ScriptedSource, Turn};
 use crate::stream_finds::{ONE_BYTE, found_of, told_under};
 use crate::streams::{Numbers, behind, replaces};
 use aho_base::error::StreamError;
 use aho_base::search::{Anchored, Input, MatchKind, PatternID};
-use aho_corasick::noncontiguous::NFA;
 use aho_search::automaton::Automaton;
 use bench::listing::finds;
 use bench::pattern_set::PatternSet;
@@ -99,7 +99,7 @@ fn a_leftmost_match_waits_until_it_is_settled(rt: HostRuntime) -> Result<(), Fai
         let mut source = ScriptedSource::new(row.given, row.reads);
         let told = told_under(rt.alloc(), &nfa, &mut source, row.limit)?;
         let items: Vec<Item> = told.items.iter().map(item_of).collect(rt.alloc())?;
-        assert!(&rt; items.as_slice() == row.told, "{:?}", row.given);
+        assert_in(&rt, &row.given, items.as_slice() == row.told);
     }
     Ok(())
 }
@@ -110,7 +110,7 @@ fn the_walk_starts_again_behind_a_match(rt: HostRuntime) -> Result<(), Fail> {
     let nfa = nfa_of(&rt, rt.alloc(), &words, MatchKind::LeftmostLongest, false);
     let mut source = ScriptedSource::new(b"abcx", &[]);
     let told = told_under(rt.alloc(), &nfa, &mut source, 100)?;
-    assert_eq!(&rt; told.position, 7);
+    assert_same(&rt, told.position, 7);
     Ok(())
 }
 
@@ -121,7 +121,7 @@ fn leftmost_matches_are_replaced(rt: HostRuntime) -> Result<(), Fail> {
     let mut source = ScriptedSource::new(b"samwi", ONE_BYTE);
     let mut sink = ScriptedSink::new(alloc, &[]);
     replaces(&rt, alloc, &nfa, &[b"A", b"B"], &mut source, &mut sink)?;
-    assert_eq!(&rt; sink.taken(), b"Bwi".as_slice());
+    assert_same(&rt, sink.taken(), b"Bwi".as_slice());
     let words: [&[u8]; 2] = [b"foobarbaz", b"foo"];
     let nfa = nfa_of(&rt, alloc, &words, MatchKind::LeftmostLongest, false);
     let given = behind(alloc, 65_530, b"foobarqux")?;
@@ -135,18 +135,23 @@ fn leftmost_matches_are_replaced(rt: HostRuntime) -> Result<(), Fail> {
 
 /// The matches that are told of these bytes before more are wanted: under a leftmost kind up to the first at which the walk
 /// over the rest does not die.
-fn settled(
+fn settled<A: Automaton>(
     rt: &impl Abort,
     alloc: Global,
-    nfa: &NFA,
+    automaton: &A,
     patterns: &PatternSet<'_>,
     bytes: &[u8],
 ) -> Result<Vec<(usize, usize, usize)>, Fail> {
     let mut told = Vec::new(alloc);
     let mut from = 0;
     for m in finds(alloc, patterns, Input::new(bytes))? {
-        let sid = state_after(rt, nfa, Anchored::No, bytes.get(from..).unwrap_or(&[]));
-        if nfa.match_kind() != MatchKind::Standard && !nfa.is_dead(sid) {
+        let sid = state_after(
+            rt,
+            automaton,
+            Anchored::No,
+            bytes.get(from..).unwrap_or(&[]),
+        );
+        if automaton.match_kind() != MatchKind::Standard && !automaton.is_dead(sid) {
             return Ok(told);
         }
         told.push(found_of(m))?;
@@ -186,17 +191,12 @@ fn is_searched_as_plainly(
         faults = faults.saturating_add(1);
     }
     let items = told.items.len();
-    assert_eq!(rt;
-        items,
-        wanted.len().saturating_add(faults),
-        "{kind:?}, {given:?}"
-    );
+    let case = (&kind, &given);
+    assert_same_in(rt, &case, items, wanted.len().saturating_add(faults));
     let matches = told.items.iter().filter_map(|item| item.as_ref().ok());
-    assert!(rt; matches.eq(wanted.iter()), "{kind:?}, {given:?}");
-    assert!(rt;
-        told.lookups <= told.position.saturating_mul(2),
-        "{kind:?}, {given:?}"
-    );
+    assert_in(rt, &case, matches.eq(wanted.iter()));
+    let most = told.position.saturating_mul(2);
+    assert_in(rt, &case, told.lookups <= most);
     Ok(())
 }
 
@@ -240,11 +240,12 @@ fn nested_patterns_are_walked_again(rt: HostRuntime) -> Result<(), Fail> {
         let told = told_under(alloc, &nfa, &mut source, 1_000)?;
         let wanted = finds(alloc, &patterns, Input::new(&given))?;
         let matches = told.items.iter().filter_map(|item| item.as_ref().ok());
-        assert!(&rt;
+        assert_in(
+            &rt,
+            &kind,
             matches.copied().eq(wanted.iter().map(|m| found_of(*m))),
-            "{kind:?}"
         );
-        assert!(&rt; told.position <= 65 * 150, "{kind:?}");
+        assert_in(&rt, &kind, told.position <= 65 * 150);
     }
     Ok(())
 }

@@ -3,6 +3,8 @@
 #![tactic(auto)]
 
 #[cfg(test)]
+mod asserts;
+#[cfg(test)]
 mod automata;
 #[cfg(test)]
 mod building;
@@ -32,6 +34,8 @@ mod one_byte;
 mod overlaps;
 #[cfg(test)]
 mod prefilter;
+#[cfg(test)]
+mod program;
 #[cfg(test)]
 mod read_out;
 #[cfg(test)]

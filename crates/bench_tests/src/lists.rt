@@ -3,6 +3,7 @@
 ghost use Rattle.std.specs.Prelude.{◌≡◌};
 ghost use Rattle.aho_lists.specs.Lists.{IsList};
 
+use crate::asserts::assert_same;
 use aho_base::error::BuildError;
 use aho_base::search::{PatternID, StateID};
 use aho_lists::matches::MatchLists;
@@ -35,16 +36,16 @@ fn a_list_rises_by_byte(rt: HostRuntime) {
     let list = store.set(list, b'n', state(&rt, 5)).expect(&rt, "n");
     let list = store.set(list, b'm', state(&rt, 6)).expect(&rt, "m again");
     assert_eq!(rt; store.len(), 5);
-    assert_eq!(rt; store.follow(list, b'a'), state(&rt, 9));
-    assert_eq!(rt; store.follow(list, b'm'), state(&rt, 6));
-    assert_eq!(rt; store.follow(list, b'b'), FAIL);
+    assert_same(&rt, store.follow(list, b'a'), state(&rt, 9));
+    assert_same(&rt, store.follow(list, b'm'), state(&rt, 6));
+    assert_same(&rt, store.follow(list, b'b'), FAIL);
     let mut walk = store.iter(list);
-    assert_eq!(rt; walk.next(), Some((b'a', state(&rt, 9))));
-    assert_eq!(rt; walk.next(), Some((b'm', state(&rt, 6))));
-    assert_eq!(rt; walk.next(), Some((b'n', state(&rt, 5))));
-    assert_eq!(rt; walk.next(), Some((b'z', state(&rt, 8))));
-    assert_eq!(rt; walk.next(), None);
-    assert_eq!(rt; store.set(list, b'b', FAIL), Err(overflow(4)));
+    assert_same(&rt, walk.next(), Some((b'a', state(&rt, 9))));
+    assert_same(&rt, walk.next(), Some((b'm', state(&rt, 6))));
+    assert_same(&rt, walk.next(), Some((b'n', state(&rt, 5))));
+    assert_same(&rt, walk.next(), Some((b'z', state(&rt, 8))));
+    assert_same(&rt, walk.next(), None);
+    assert_same(&rt, store.set(list, b'b', FAIL), Err(overflow(4)));
     assert_eq!(rt; store.len(), 5);
 }
 
@@ -55,13 +56,13 @@ fn a_list_is_read_by_index(rt: HostRuntime) {
         .set(StateID::ZERO, b'd', state(&rt, 7))
         .expect(&rt, "d");
     let list = store.set(list, b'e', state(&rt, 8)).expect(&rt, "e");
-    assert_eq!(rt; store.len_of(list), 2);
-    assert_eq!(rt; store.get(list, 1), (b'e', state(&rt, 8)));
+    assert_same(&rt, store.len_of(list), 2);
+    assert_same(&rt, store.get(list, 1), (b'e', state(&rt, 8)));
     let list = store.set(list, b'a', state(&rt, 9)).expect(&rt, "a");
-    assert_eq!(rt; store.len_of(list), 3);
-    assert_eq!(rt; store.get(list, 0), (b'a', state(&rt, 9)));
-    assert_eq!(rt; store.get(list, 2), (b'e', state(&rt, 8)));
-    assert_eq!(rt; store.len_of(StateID::ZERO), 0);
+    assert_same(&rt, store.len_of(list), 3);
+    assert_same(&rt, store.get(list, 0), (b'a', state(&rt, 9)));
+    assert_same(&rt, store.get(list, 2), (b'e', state(&rt, 8)));
+    assert_same(&rt, store.len_of(StateID::ZERO), 0);
     let clone = store.try_clone(rt.alloc()).expect(&rt, "memory");
     assert_eq!(rt; clone.len(), 4);
 }
@@ -75,14 +76,14 @@ fn patterns_stand_in_their_order(rt: HostRuntime) {
     let list = store.push(list, pattern(&rt, 2)).expect(&rt, "another");
     let list = store.push(list, pattern(&rt, 4)).expect(&rt, "a third");
     assert_eq!(rt; store.len(), 4);
-    assert_eq!(rt; store.len_of(list), 3);
-    assert_eq!(rt; store.get(list, 1), pattern(&rt, 2));
+    assert_same(&rt, store.len_of(list), 3);
+    assert_same(&rt, store.get(list, 1), pattern(&rt, 2));
     let mut walk = store.iter(list);
-    assert_eq!(rt; walk.next(), Some(pattern(&rt, 4)));
-    assert_eq!(rt; walk.next(), Some(pattern(&rt, 2)));
-    assert_eq!(rt; walk.next(), Some(pattern(&rt, 4)));
-    assert_eq!(rt; walk.next(), None);
-    assert_eq!(rt; store.push(list, pattern(&rt, 1)), Err(overflow(3)));
+    assert_same(&rt, walk.next(), Some(pattern(&rt, 4)));
+    assert_same(&rt, walk.next(), Some(pattern(&rt, 2)));
+    assert_same(&rt, walk.next(), Some(pattern(&rt, 4)));
+    assert_same(&rt, walk.next(), None);
+    assert_same(&rt, store.push(list, pattern(&rt, 1)), Err(overflow(3)));
     let clone = store.try_clone(rt.alloc()).expect(&rt, "memory");
     assert_eq!(rt; clone.len(), 4);
 }

@@ -3,6 +3,7 @@
 ghost use Rattle.std.specs.Prelude.{◌+◌, ◌<◌, ◌≤◌, ◌^◌, length};
 ghost use Rattle.aho_base.specs.Patterns.{Patterns};
 
+use crate::asserts::{assert_in, assert_same, assert_same_in};
 use crate::automata::{DEPTHS, nfa_with, relinked_of};
 use crate::reading::Reading;
 use aho_base::error::MatchError;
@@ -131,23 +132,23 @@ fn searches_cost_what_they_should(rt: HostRuntime) -> Result<(), Fail> {
             );
             let (haystack, span) = (row.haystack, row.span);
             let case = (row.kind, row.patterns, haystack, span, row.anchored);
-            assert!(rt; span.end <= haystack.len(), "{case:?}");
-            assert!(rt; span.start <= span.end + 1, "{case:?}");
+            assert!(rt; span.end <= haystack.len());
+            assert!(rt; span.start <= span.end + 1);
             let mut bytes = Bytes::new(haystack);
             let lookups = lookups_over(&nfa, &mut bytes, span, row.anchored)?;
-            assert_eq!(rt; lookups, row.lookups, "{case:?}");
+            assert_same_in(&rt, &case, lookups, row.lookups);
             if !row.prefilter && depth == 0 {
                 let relinked = relinked_of(&rt, rt.alloc(), &nfa);
                 let mut text = Reading::new(haystack);
                 let lookups = lookups_over(&relinked, &mut text, span, row.anchored)?;
-                assert_eq!(rt; lookups, row.lookups, "{case:?}");
-                assert_eq!(rt; text.next_place(), row.reads, "{case:?}");
+                assert_same_in(&rt, &case, lookups, row.lookups);
+                assert_same_in(&rt, &case, text.next_place(), row.reads);
             }
             let mut text = Reading::new(haystack);
             let lookups = lookups_over(&nfa, &mut text, span, row.anchored)?;
-            assert_eq!(rt; lookups, row.lookups, "{case:?}");
-            assert_eq!(rt; text.reads(), row.reads, "{case:?}");
-            assert_eq!(rt; text.next_place(), row.reads, "{case:?}");
+            assert_same_in(&rt, &case, lookups, row.lookups);
+            assert_same_in(&rt, &case, text.reads(), row.reads);
+            assert_same_in(&rt, &case, text.next_place(), row.reads);
         }
     }
     Ok(())
@@ -169,12 +170,12 @@ fn searches_step_once_a_byte(rt: HostRuntime) -> Result<(), Fail> {
             let tally = Tally::new(nfa);
             let (haystack, span) = (row.haystack, row.span);
             let case = (row.kind, row.patterns, haystack, span, row.anchored);
-            assert!(rt; span.end <= haystack.len(), "{case:?}");
-            assert!(rt; span.start <= span.end + 1, "{case:?}");
+            assert!(rt; span.end <= haystack.len());
+            assert!(rt; span.start <= span.end + 1);
             let input = Input::new(haystack).span(span).anchored(row.anchored);
             let _found = tally.try_find(&input)?;
-            assert_eq!(rt; tally.steps(), row.reads as u64, "{case:?}");
-            assert_eq!(rt; tally.next_states(), 0, "{case:?}");
+            assert_same_in(&rt, &case, tally.steps(), row.reads as u64);
+            assert_same_in(&rt, &case, tally.next_states(), 0);
         }
     }
     Ok(())
@@ -186,13 +187,13 @@ fn one_byte_is_looked_up_once_a_byte(rt: HostRuntime) -> Result<(), Fail> {
     let haystack = b"samwise";
     let span = Span { start: 1, end: 7 };
     let mut text = Reading::new(haystack);
-    assert_eq!(rt; lookups_over(&tally, &mut text, span, Anchored::No)?, 3);
-    assert_eq!(rt; text.reads(), 3);
-    assert_eq!(rt; text.next_place(), 4);
-    assert_eq!(rt; tally.steps(), 3);
+    assert_same(&rt, lookups_over(&tally, &mut text, span, Anchored::No)?, 3);
+    assert_same(&rt, text.reads(), 3);
+    assert_same(&rt, text.next_place(), 4);
+    assert_same(&rt, tally.steps(), 3);
     let mut text = Reading::new(haystack);
     assert!(rt; lookups_over(&tally, &mut text, span, Anchored::Yes).is_err());
-    assert_eq!(rt; text.reads(), 0);
-    assert_eq!(rt; tally.steps(), 3);
+    assert_same(&rt, text.reads(), 0);
+    assert_same(&rt, tally.steps(), 3);
     Ok(())
 }

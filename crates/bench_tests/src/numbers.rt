@@ -2,6 +2,7 @@
 
 ghost use Rattle.std.specs.Prelude.{◌≡◌, ◌<◌, length};
 
+use crate::asserts::{assert_same, assert_same_in};
 use crate::automata::{nfa_with, state_after};
 use aho_base::search::{Anchored, MatchKind, SmallIndex, StateID, Work};
 use aho_build::special::Special;
@@ -93,13 +94,14 @@ fn match_states_come_before_the_starts(rt: HostRuntime) {
                 numbers.prefilter,
                 depth,
             );
-            assert_eq!(rt; numbers_of(nfa.special()), numbers.special, "{case:?}");
+            assert_same_in(&rt, &case, numbers_of(nfa.special()), numbers.special);
             for (word, number, is_match, is_special) in numbers.reached {
                 let sid = state_after(&rt, &nfa, Anchored::No, word);
-                assert_eq!(rt;
+                assert_same_in(
+                    &rt,
+                    (&word, &case),
                     (sid.as_usize(), nfa.is_match(sid), nfa.is_special(sid)),
                     (*number, *is_match, *is_special),
-                    "{word:?} {case:?}"
                 );
             }
         }
@@ -151,10 +153,10 @@ fn a_table_is_named_by_places(rt: HostRuntime) {
     move_three(remapper, &mut table);
     assert_eq!(rt; table.len(), 5);
     for place in 0..5 {
-        assert_eq!(rt; table.depth(number(place)), DEPTHS[place]);
+        assert_same(&rt, table.depth(number(place)), DEPTHS[place]);
     }
     let third = number(3);
-    assert_eq!(rt; table.fail(third), third);
-    assert_eq!(rt; table.follow(third, b'x', &mut Work::new()), number(2));
-    assert_eq!(rt; table.fail(DEAD), FAIL);
+    assert_same(&rt, table.fail(third), third);
+    assert_same(&rt, table.follow(third, b'x', &mut Work::new()), number(2));
+    assert_same(&rt, table.fail(DEAD), FAIL);
 }

@@ -4,6 +4,7 @@ ghost use Rattle.std.specs.Prelude.{◌≡◌, ◌≤◌};
 ghost use Rattle.aho_base.specs.Patterns.{Patterns};
 ghost use Rattle.aho_base.specs.Progress.{without_match};
 
+use crate::asserts::{assert_same, assert_same_in};
 use crate::automata::{nfa_of, nfa_with};
 use aho_base::error::MatchError;
 use aho_base::search::{Anchored, Input, Match, MatchKind, PatternID, Span};
@@ -98,10 +99,11 @@ fn around_a_refused_call<A: Automaton, B: Automaton>(
     let mut state = OverlappingState::start();
     standard.try_find_overlapping(input, &mut state)?;
     let first = state.get_match();
-    assert_eq!(rt;
+    assert_same_in(
+        rt,
+        "the leftmost kind",
         refused_call(rt, leftmost, input, &mut state),
         Err(MatchError::unsupported_overlapping(MatchKind::LeftmostFirst)),
-        "the leftmost kind"
     );
     let refused = state.get_match();
     standard.try_find_overlapping(input, &mut state)?;
@@ -114,9 +116,9 @@ fn a_refused_call_leaves_the_search_where_it_was(rt: HostRuntime) -> Result<(), 
     let leftmost = nfa_of(&rt, rt.alloc(), &[b"a"], MatchKind::LeftmostFirst, false);
     let found = around_a_refused_call(&rt, &standard, &leftmost, &Input::new(b"aa"))?;
     let [first, refused, second] = found;
-    assert_eq!(rt; first, match_of(&rt, 0, 0, 1), "the first call");
-    assert_eq!(rt; refused, None, "after the refused call");
-    assert_eq!(rt; second, match_of(&rt, 0, 1, 2), "the second call");
+    assert_same_in(&rt, "the first call", first, match_of(&rt, 0, 0, 1));
+    assert_same_in(&rt, "after the refused call", refused, None);
+    assert_same_in(&rt, "the second call", second, match_of(&rt, 0, 1, 2));
     Ok(())
 }
 
@@ -124,12 +126,13 @@ fn a_refused_call_leaves_the_search_where_it_was(rt: HostRuntime) -> Result<(), 
 fn a_clone_has_its_match(rt: HostRuntime) -> Result<(), Fail> {
     let nfa = nfa_of(&rt, rt.alloc(), &[b"a"], MatchKind::Standard, false);
     let mut state = OverlappingState::start();
-    assert_eq!(rt; state.get_match(), None, "before the first call");
+    assert_same_in(&rt, "before the first call", state.get_match(), None);
     nfa.try_find_overlapping(&Input::new(b"aa"), &mut state)?;
-    assert_eq!(rt;
+    assert_same_in(
+        &rt,
+        "a clone",
         state.clone()?.get_match(),
         match_of(&rt, 0, 0, 1),
-        "a clone"
     );
     Ok(())
 }
@@ -139,21 +142,26 @@ fn a_leftmost_kind_is_refused_first(rt: HostRuntime) {
     let longest = nfa_of(&rt, rt.alloc(), &[b"a"], MatchKind::LeftmostLongest, false);
     let want = MatchError::unsupported_overlapping(MatchKind::LeftmostLongest);
     let mut state = OverlappingState::start();
-    assert_eq!(rt;
+    assert_same_in(
+        &rt,
+        "a done input",
         longest.try_find_overlapping(&done(b"a"), &mut state),
         Err(want),
-        "a done input"
     );
     let refused = longest.try_find_overlapping_iter(anchored(b"a"));
     let want = MatchError::unsupported_overlapping(MatchKind::LeftmostLongest);
-    assert_eq!(rt; refused.err(), Some(want), "an anchored iterator");
+    assert_same_in(&rt, "an anchored iterator", refused.err(), Some(want));
 }
 
 #[test]
 fn anchored_iterators_are_refused(rt: HostRuntime) {
     let nfa = nfa_of(&rt, rt.alloc(), &[b"a"], MatchKind::Standard, false);
     let refused = nfa.try_find_overlapping_iter(anchored(b"a"));
-    assert_eq!(rt; refused.err(), Some(MatchError::invalid_input_anchored()));
+    assert_same(
+        &rt,
+        refused.err(),
+        Some(MatchError::invalid_input_anchored()),
+    );
 }
 
 /// What the first three calls of an iterator give.
@@ -174,9 +182,9 @@ fn three_calls<A: Automaton>(
 fn an_iterator_gives_none_again(rt: HostRuntime) -> Result<(), Fail> {
     let nfa = nfa_of(&rt, rt.alloc(), &[b"a"], MatchKind::Standard, false);
     let (first, end, after) = three_calls(&nfa, Input::new(b"ba"))?;
-    assert_eq!(rt; first, match_of(&rt, 0, 1, 2), "the match");
-    assert_eq!(rt; end, None, "the end");
-    assert_eq!(rt; after, None, "after the end");
+    assert_same_in(&rt, "the match", first, match_of(&rt, 0, 1, 2));
+    assert_same_in(&rt, "the end", end, None);
+    assert_same_in(&rt, "after the end", after, None);
     Ok(())
 }
 
@@ -184,11 +192,11 @@ fn an_iterator_gives_none_again(rt: HostRuntime) -> Result<(), Fail> {
 fn other_automata_are_listed(rt: HostRuntime) -> Result<(), Fail> {
     let one = OneByte::new(b'w');
     let found = found_by_iterator(&rt, rt.alloc(), &one, Input::new(b"wow"))?;
-    assert_eq!(rt; found.len(), 2);
+    assert_same(&rt, found.len(), 2);
     let tally = Tally::new(one);
     let found = found_by_iterator(&rt, rt.alloc(), &tally, Input::new(b"wow"))?;
-    assert_eq!(rt; found.len(), 2);
-    assert_eq!(rt; tally.next_states(), 3, "each byte leads on once");
+    assert_same(&rt, found.len(), 2);
+    assert_same_in(&rt, "each byte leads on once", tally.next_states(), 3);
     Ok(())
 }
 
@@ -209,23 +217,27 @@ fn listed_and_read(
 #[test]
 fn an_overlapping_search_skips(rt: HostRuntime) -> Result<(), Fail> {
     let whole: &[&[u8]] = &[b"aab"];
-    assert_eq!(rt;
+    assert_same(
+        &rt,
         listed_and_read(&rt, rt.alloc(), whole, false, b"xaaab")?,
-        (1, 5)
+        (1, 5),
     );
-    assert_eq!(rt;
+    assert_same(
+        &rt,
         listed_and_read(&rt, rt.alloc(), whole, true, b"xaaab")?,
-        (1, 3)
+        (1, 3),
     );
     let by_byte: &[&[u8]] = &[b"ab", b"ac"];
     let haystack = b"xxabxxxaxxxacxx";
-    assert_eq!(rt;
+    assert_same(
+        &rt,
         listed_and_read(&rt, rt.alloc(), by_byte, false, haystack)?,
-        (2, 15)
+        (2, 15),
     );
-    assert_eq!(rt;
+    assert_same(
+        &rt,
         listed_and_read(&rt, rt.alloc(), by_byte, true, haystack)?,
-        (2, 8)
+        (2, 8),
     );
     Ok(())
 }
@@ -239,8 +251,8 @@ fn candidates_side_by_side_change_no_answer(rt: HostRuntime) -> Result<(), Fail>
     haystack[99] = b'b';
     let (without, _all) = listed_and_read(&rt, rt.alloc(), by_byte, false, &haystack)?;
     let (found, _read) = listed_and_read(&rt, rt.alloc(), by_byte, true, &haystack)?;
-    assert_eq!(rt; found, without);
-    assert_eq!(rt; found, 1);
+    assert_same(&rt, found, without);
+    assert_same(&rt, found, 1);
     Ok(())
 }
 

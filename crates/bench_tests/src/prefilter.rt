@@ -3,6 +3,7 @@
 ghost use Rattle.std.specs.Prelude.{◌+◌, ◌<◌, ◌≤◌, length};
 ghost use Rattle.aho_base.specs.Numbers.{greatest_index};
 
+use crate::asserts::{assert_in, assert_same, assert_same_in};
 use crate::inputs::{KINDS, Random};
 use aho_base::search::{Input, Match, PatternID, Span};
 use aho_prefilter::prefilter::{Candidate, Prefilter, PrefilterBuilder};
@@ -108,16 +109,16 @@ const ROWS: &[Row] = &[
 
 /// That a prefilter holds and answers what the row says.
 fn look_at_row(rt: &impl Abort, prefilter: &Prefilter, row: &Row) {
-    assert_eq!(rt; stops(prefilter), row.stops, "{:?}", row.patterns);
-    assert_eq!(rt; prefilter.memory_usage(), row.memory, "{:?}", row.patterns);
+    assert_same_in(rt, &row.patterns, stops(prefilter), row.stops);
+    assert_same_in(rt, &row.patterns, prefilter.memory_usage(), row.memory);
     let end = row.end;
     assert!(rt; end <= row.haystack.len());
     let candidate = prefilter.find_in(row.haystack, Span { start: 0, end });
     if let Candidate::Match(found) = &candidate {
         let whole = Span { start: 2, end: 5 };
-        assert_eq!(rt; *found, Match::new(PatternID::new_unchecked(0), whole));
+        assert_same(rt, *found, Match::new(PatternID::new_unchecked(0), whole));
     }
-    assert_eq!(rt; candidate.into_option(), row.place, "{:?}", row.patterns);
+    assert_same_in(rt, &row.patterns, candidate.into_option(), row.place);
 }
 
 #[test]
@@ -164,14 +165,14 @@ fn look_at_held(rt: &impl Abort, held: &Option<Prefilter>, patterns: &[&[u8]], i
     let some_empty = patterns.iter().any(|pattern| pattern.is_empty());
     let alone = patterns.len() == 1 && !ignore_case;
     let none = patterns.is_empty() || some_empty || !alone && firsts > 3;
-    assert_eq!(rt; held.is_none(), none, "{patterns:?} {ignore_case}");
+    assert_same_in(rt, (&patterns, &ignore_case), held.is_none(), none);
     if let Some(prefilter) = held {
         let memory = prefilter.memory_usage();
         if alone {
-            assert_eq!(rt; memory, patterns[0].len(), "{patterns:?}");
+            assert_same_in(rt, &patterns, memory, patterns[0].len());
         } else {
-            assert_eq!(rt; memory, 0, "{patterns:?}");
-            assert_eq!(rt; stops(prefilter), firsts, "{patterns:?} {ignore_case}");
+            assert_same_in(rt, &patterns, memory, 0);
+            assert_same_in(rt, (&patterns, &ignore_case), stops(prefilter), firsts);
         }
     }
 }
@@ -196,12 +197,12 @@ fn look_at_span(
         let best = plain(&patterns, &Input::new(haystack).span(span));
         let case = (&patterns, haystack, span, candidate);
         match candidate {
-            Candidate::None => assert_eq!(rt; best, None, "{case:?}"),
-            Candidate::Match(found) => assert_eq!(rt; best, Some(found), "{case:?}"),
+            Candidate::None => assert_same_in(rt, &case, best, None),
+            Candidate::Match(found) => assert_same_in(rt, &case, best, Some(found)),
             Candidate::PossibleStartOfMatch(place) => {
-                assert!(rt; span.start <= place && place < span.end, "{case:?}");
+                assert_in(rt, &case, span.start <= place && place < span.end);
                 let start = best.map_or(place, |found| found.start());
-                assert!(rt; place <= start, "{case:?}");
+                assert_in(rt, &case, place <= start);
             }
         }
     }

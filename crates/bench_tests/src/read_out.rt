@@ -3,6 +3,7 @@
 ghost use Rattle.std.specs.Prelude.{◌<◌, length};
 ghost use Rattle.aho_corasick.specs.ReadOut.{states_of};
 
+use crate::asserts::{assert_same, assert_same_in};
 use crate::automata::{listed, nfa_of, nfa_with, state_after};
 use aho_base::search::{Anchored, MatchKind, PatternID, StateID};
 use aho_corasick::links::{DEAD, FAIL};
@@ -107,23 +108,18 @@ fn tells(rt: &impl Abort, alloc: Global, nfa: &NFA, table: &[Link]) -> Result<()
     for row in table {
         let sid = state_after(rt, nfa, Anchored::No, row.word);
         assert!(rt; sid.as_usize() < nfa.states_len());
-        assert_eq!(rt; nfa.depth(sid), row.word.len(), "{:?}", row.word);
-        assert_eq!(rt;
-            nfa.fail(sid),
-            state_of(rt, nfa, row.link),
-            "{:?}",
-            row.word
-        );
+        assert_same_in(rt, &row.word, nfa.depth(sid), row.word.len());
+        assert_same_in(rt, &row.word, nfa.fail(sid), state_of(rt, nfa, row.link));
         let mut patterns = Vec::new(alloc);
         for pattern in nfa.matches(sid) {
             patterns.push(pattern.as_usize())?;
         }
-        assert_eq!(rt; patterns.as_slice(), row.matches, "{:?}", row.word);
-        assert_eq!(rt;
+        assert_same_in(rt, &row.word, patterns.as_slice(), row.matches);
+        assert_same_in(
+            rt,
+            &row.word,
             listed(alloc, nfa, sid)?.as_slice(),
             row.matches,
-            "{:?}",
-            row.word
         );
     }
     Ok(())
@@ -151,7 +147,7 @@ fn transitions_of(alloc: Global, nfa: &NFA, sid: StateID) -> Result<Vec<(u8, Sta
 fn the_states_of_one_pattern_are_told(rt: HostRuntime) -> Result<(), Fail> {
     let alloc = rt.alloc();
     let nfa = nfa_with(&rt, alloc, &[b"abc"], MatchKind::Standard, false, false, 3);
-    assert_eq!(&rt; nfa.states_len(), 7);
+    assert_same(&rt, nfa.states_len(), 7);
     let (root, anchored) = (
         nfa.special().start_unanchored_id,
         nfa.special().start_anchored_id,
@@ -168,20 +164,21 @@ fn the_states_of_one_pattern_are_told(rt: HostRuntime) -> Result<(), Fail> {
         } else {
             1
         };
-        assert_eq!(&rt; transitions.len(), count, "state {index}");
+        assert_same_in(&rt, ("state", &index), transitions.len(), count);
         let matches: Vec<PatternID> = nfa.matches(sid).collect(alloc)?;
-        assert_eq!(&rt; matches.len(), if nfa.depth(sid) == 3 { 1 } else { 0 });
+        assert_same(&rt, matches.len(), if nfa.depth(sid) == 3 { 1 } else { 0 });
         let dead = sid == DEAD || sid == FAIL || sid == root || sid == anchored;
-        assert_eq!(&rt;
+        assert_same_in(
+            &rt,
+            ("state", &index),
             nfa.fail(sid),
             if dead { DEAD } else { root },
-            "state {index}"
         );
     }
     depths.sort()?;
-    assert_eq!(&rt; depths.as_slice(), [0, 0, 0, 0, 1, 2, 3].as_slice());
-    assert_eq!(&rt; nfa.byte_classes().alphabet_len(), 5);
-    assert_eq!(&rt; nfa.pattern_lens().len(), 1);
+    assert_same(&rt, depths.as_slice(), [0, 0, 0, 0, 1, 2, 3].as_slice());
+    assert_same(&rt, nfa.byte_classes().alphabet_len(), 5);
+    assert_same(&rt, nfa.pattern_lens().len(), 1);
     Ok(())
 }
 
@@ -202,7 +199,7 @@ fn full_states_lead_by_every_byte(rt: HostRuntime) -> Result<(), Fail> {
             assert!(&rt; sid.as_usize() < nfa.states_len());
             for (byte, next) in nfa.transitions(sid) {
                 let leads = sid != DEAD && (byte == b'b' || byte == b'B');
-                assert_eq!(&rt; next, if leads { node } else { other }, "{kind:?} {byte}");
+                assert_same_in(&rt, (&kind, &byte), next, if leads { node } else { other });
             }
         }
     }

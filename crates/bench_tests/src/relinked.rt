@@ -2,6 +2,7 @@
 
 ghost use Rattle.aho_base.specs.Patterns.{Patterns};
 
+use crate::asserts::{assert_same, assert_same_in};
 use crate::automata::{listed, nfa_of, nfa_with, relinked_of, state_after};
 use crate::scripted::{ScriptedSink, ScriptedSource, Turn};
 use crate::stream_finds::told_under;
@@ -19,23 +20,28 @@ fn an_automaton_is_made_from_what_is_told(rt: HostRuntime) -> Result<(), Fail> {
     let alloc = rt.alloc();
     let nfa = nfa_with(&rt, alloc, &[b"abc"], MatchKind::Standard, false, true, 3);
     let relinked = relinked_of(&rt, alloc, &nfa);
-    assert_eq!(&rt; relinked.memory_usage(), 7103);
+    assert_same(&rt, relinked.memory_usage(), 7103);
     assert!(&rt; relinked.prefilter().is_none());
     for anchored in [Anchored::No, Anchored::Yes] {
         let start = state_after(&rt, &relinked, anchored, b"");
-        assert_eq!(&rt; start, state_after(&rt, &nfa, anchored, b""));
+        assert_same(&rt, start, state_after(&rt, &nfa, anchored, b""));
         assert!(&rt; relinked.is_start(start) && !relinked.is_special(start));
         let found = state_after(&rt, &relinked, anchored, b"abc");
-        assert_eq!(&rt; found, state_after(&rt, &nfa, anchored, b"abc"));
+        assert_same(&rt, found, state_after(&rt, &nfa, anchored, b"abc"));
         assert!(&rt; relinked.is_match(found) && relinked.is_special(found));
         assert!(&rt; !relinked.is_dead(found));
-        assert_eq!(&rt; listed(alloc, &relinked, found)?.as_slice(), [0].as_slice());
+        assert_same(
+            &rt,
+            listed(alloc, &relinked, found)?.as_slice(),
+            [0].as_slice(),
+        );
     }
-    assert_eq!(&rt; relinked.match_kind(), MatchKind::Standard);
-    assert_eq!(&rt; relinked.patterns_len(), 1);
-    assert_eq!(&rt;
+    assert_same(&rt, relinked.match_kind(), MatchKind::Standard);
+    assert_same(&rt, relinked.patterns_len(), 1);
+    assert_same(
+        &rt,
         (relinked.min_pattern_len(), relinked.max_pattern_len()),
-        (3, 3)
+        (3, 3),
     );
     Ok(())
 }
@@ -167,10 +173,10 @@ fn does_the_same<A: Automaton, B: Automaton>(
                 let turns = (*reads, *writes);
                 let wanted = replaced(rt, alloc, first, stream, turns, in_brackets)?;
                 let told = replaced(rt, alloc, second, stream, turns, in_brackets)?;
-                assert_eq!(rt; told.answer, wanted.answer, "{:?}", stream.given);
-                assert_eq!(rt; told.written.as_slice(), wanted.written.as_slice());
-                assert_eq!(rt; told.reads, wanted.reads, "{:?}", stream.given);
-                assert_eq!(rt; told.writes, wanted.writes, "{:?}", stream.given);
+                assert_same_in(rt, &stream.given, told.answer, wanted.answer);
+                assert_same(rt, told.written.as_slice(), wanted.written.as_slice());
+                assert_same_in(rt, &stream.given, told.reads, wanted.reads);
+                assert_same_in(rt, &stream.given, told.writes, wanted.writes);
             }
         }
         if first.min_pattern_len() == 0 {
@@ -181,9 +187,9 @@ fn does_the_same<A: Automaton, B: Automaton>(
             let wanted = told_under(alloc, first, &mut source, limit)?;
             let mut source = ScriptedSource::new(stream.given, reads);
             let told = told_under(alloc, second, &mut source, limit)?;
-            assert_eq!(rt; told.items.as_slice(), wanted.items.as_slice(), "{limit}");
-            assert_eq!(rt; told.lookups, wanted.lookups, "{:?}", stream.given);
-            assert_eq!(rt; told.position, wanted.position, "{:?}", stream.given);
+            assert_same_in(rt, &limit, told.items.as_slice(), wanted.items.as_slice());
+            assert_same_in(rt, &stream.given, told.lookups, wanted.lookups);
+            assert_same_in(rt, &stream.given, told.position, wanted.position);
         }
     }
     Ok(())
@@ -206,6 +212,6 @@ fn a_stream_is_walked_at_the_same_cost(rt: HostRuntime) -> Result<(), Fail> {
     let relinked = relinked_of(&rt, rt.alloc(), &nfa);
     let mut source = ScriptedSource::new(stream.given, &[]);
     let told = told_under(rt.alloc(), &relinked, &mut source, 100)?;
-    assert_eq!(rt; (told.lookups, told.position), (13, 8));
+    assert_same(&rt, (told.lookups, told.position), (13, 8));
     Ok(())
 }

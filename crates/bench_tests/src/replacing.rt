@@ -2,10 +2,10 @@
 
 ghost use Rattle.aho_base.specs.Patterns.{Patterns};
 
+use crate::asserts::{assert_same, assert_same_in};
 use crate::automata::{nfa_of, relinked_of};
 use aho_base::error::ReplaceError;
 use aho_base::search::{Input, Match, MatchKind, PatternID};
-use aho_corasick::noncontiguous::NFA;
 use aho_search::automaton::Automaton;
 use bench::listing::finds;
 use bench::one_byte::OneByte;
@@ -104,12 +104,12 @@ fn row_is_replaced<A: Automaton>(
     requires of { (p : Patterns) × A.is_of automaton.now p }
 {
     let pieces = bytes_of(alloc, row.pieces)?;
-    assert_eq!(rt; row.pieces.len(), automaton.patterns_len(), "{}", row.name);
-    assert_eq!(rt; pieces.len(), automaton.patterns_len(), "{}", row.name);
+    assert_eq!(rt; row.pieces.len(), automaton.patterns_len());
+    assert_eq!(rt; pieces.len(), automaton.patterns_len());
     let text = automaton.try_replace_all(alloc, row.haystack, row.pieces)?;
-    assert_eq!(rt; text.as_str(), row.text, "{}", row.name);
+    assert_same_in(rt, &row.name, text.as_str(), row.text);
     let bytes = automaton.try_replace_all_bytes(alloc, row.haystack.as_bytes(), &pieces)?;
-    assert_eq!(rt; bytes.as_slice(), row.bytes, "{}", row.name);
+    assert_same_in(rt, &row.name, bytes.as_slice(), row.bytes);
     Ok(())
 }
 
@@ -138,7 +138,7 @@ fn copies_after_false<A: Automaton>(
         dst.extend_from_slice(b"X")?;
         Ok(false)
     })?;
-    assert_eq!(rt; dst.as_slice(), b"Xba".as_slice());
+    assert_same(rt, dst.as_slice(), b"Xba".as_slice());
     Ok(())
 }
 
@@ -155,8 +155,8 @@ fn keeps_after_want_of_memory<A: Automaton>(
         dst.extend_from_slice(b"X")?;
         Err(AllocError)
     });
-    assert_eq!(rt; answer, Err(ReplaceError::Memory));
-    assert_eq!(rt; dst.as_slice(), b"zbX".as_slice());
+    assert_same(rt, answer, Err(ReplaceError::Memory));
+    assert_same(rt, dst.as_slice(), b"zbX".as_slice());
     Ok(())
 }
 
@@ -170,7 +170,7 @@ fn appends<A: Automaton>(rt: &impl Abort, alloc: Global, automaton: &A) -> Resul
         dst.push_str("X")?;
         Ok(true)
     })?;
-    assert_eq!(rt; dst.as_str(), "zbXc");
+    assert_same(rt, dst.as_str(), "zbXc");
     Ok(())
 }
 
@@ -199,21 +199,21 @@ fn replaces_each_way<A: Automaton>(
 {
     assert_eq!(rt; automaton.patterns_len(), 1);
     let replaced = automaton.try_replace_all(alloc, text, &[piece])?;
-    assert_eq!(rt; replaced.as_str(), wanted);
+    assert_same(rt, replaced.as_str(), wanted);
     let bytes = automaton.try_replace_all_bytes(alloc, text.as_bytes(), &[piece.as_bytes()])?;
-    assert_eq!(rt; bytes.as_slice(), wanted.as_bytes());
+    assert_same(rt, bytes.as_slice(), wanted.as_bytes());
     let mut bytes = Vec::new(alloc);
     automaton.try_replace_all_with_bytes(text.as_bytes(), &mut bytes, |_m, _matched, dst| {
         dst.extend_from_slice(piece.as_bytes())?;
         Ok(true)
     })?;
-    assert_eq!(rt; bytes.as_slice(), wanted.as_bytes(), "by a closure");
+    assert_same_in(rt, "by a closure", bytes.as_slice(), wanted.as_bytes());
     let mut replaced = String::new(alloc);
     automaton.try_replace_all_with(text, &mut replaced, |_m, _matched, dst| {
         dst.push_str(piece)?;
         Ok(true)
     })?;
-    assert_eq!(rt; replaced.as_str(), wanted, "by a closure");
+    assert_same_in(rt, "by a closure", replaced.as_str(), wanted);
     Ok(())
 }
 
@@ -223,7 +223,12 @@ fn other_automata_replace(rt: HostRuntime) -> Result<(), Fail> {
     replaces_each_way(&rt, rt.alloc(), &one, "wow", "é", "éoé")?;
     let tally = Tally::new(one);
     replaces_each_way(&rt, rt.alloc(), &tally, "wow", "é", "éoé")?;
-    assert_eq!(rt; tally.steps(), 12, "each call steps over each byte once");
+    assert_same_in(
+        &rt,
+        "each call steps over each byte once",
+        tally.steps(),
+        12,
+    );
     Ok(())
 }
 
@@ -318,63 +323,67 @@ fn on_boundaries(alloc: Global, text: &str, matches: &[Match]) -> Result<Vec<Mat
 }
 
 /// Each call replaces as the plain replacement does, and a closure that appends what matched changes nothing.
-fn replaces_as_plainly(
+fn replaces_as_plainly<A: Automaton>(
     rt: &impl Abort,
     alloc: Global,
     case: &Case,
     kind: MatchKind,
-    nfa: &NFA,
+    automaton: &A,
     text: &str,
 ) -> Result<(), Fail>
-    requires of { (p : Patterns) × ⟦<NFA as Automaton>⟧.is_of nfa.now p }
+    requires of { (p : Patterns) × A.is_of automaton.now p }
 {
     let (name, texts) = (case.name, case.pieces);
     let pieces = bytes_of(alloc, texts)?;
     assert!(rt; case.patterns.len() <= PatternID::MAX.as_usize());
-    assert_eq!(rt; texts.len(), nfa.patterns_len());
-    assert_eq!(rt; pieces.len(), nfa.patterns_len());
+    assert_eq!(rt; texts.len(), automaton.patterns_len());
+    assert_eq!(rt; pieces.len(), automaton.patterns_len());
     let patterns = PatternSet::new(case.patterns, kind, false);
     let matches = finds(alloc, &patterns, Input::new(text.as_bytes()))?;
     let kept = on_boundaries(alloc, text, &matches)?;
     let bytes_wanted = plainly_replaced(alloc, text.as_bytes(), &matches, &pieces)?;
     let text_wanted = plainly_replaced(alloc, text.as_bytes(), &kept, &pieces)?;
 
-    let bytes = nfa.try_replace_all_bytes(alloc, text.as_bytes(), &pieces)?;
-    assert_eq!(rt;
+    let bytes = automaton.try_replace_all_bytes(alloc, text.as_bytes(), &pieces)?;
+    assert_same_in(
+        rt,
+        (&name, &kind, &text),
         bytes.as_slice(),
         bytes_wanted.as_slice(),
-        "{name}: {kind:?} {text:?}"
     );
-    let replaced = nfa.try_replace_all(alloc, text, texts)?;
-    assert_eq!(rt;
+    let replaced = automaton.try_replace_all(alloc, text, texts)?;
+    assert_same_in(
+        rt,
+        (&name, &kind, &text),
         replaced.as_bytes(),
         text_wanted.as_slice(),
-        "{name}: {kind:?} {text:?}"
     );
 
     let mut bytes = Vec::new(alloc);
-    nfa.try_replace_all_with_bytes(text.as_bytes(), &mut bytes, |m, _matched, dst| {
+    automaton.try_replace_all_with_bytes(text.as_bytes(), &mut bytes, |m, _matched, dst| {
         if let Some(piece) = pieces.get(m.pattern().as_usize()) {
             dst.extend_from_slice(piece)?;
         }
         Ok(true)
     })?;
-    assert_eq!(rt;
+    assert_same_in(
+        rt,
+        (&name, &kind, &text, "by a closure"),
         bytes.as_slice(),
         bytes_wanted.as_slice(),
-        "{name}: {kind:?} {text:?} by a closure"
     );
     let mut replaced = String::new(alloc);
-    nfa.try_replace_all_with(text, &mut replaced, |m, _matched, dst| {
+    automaton.try_replace_all_with(text, &mut replaced, |m, _matched, dst| {
         if let Some(piece) = texts.get(m.pattern().as_usize()) {
             dst.push_str(piece)?;
         }
         Ok(true)
     })?;
-    assert_eq!(rt;
+    assert_same_in(
+        rt,
+        (&name, &kind, &text, "by a closure"),
         replaced.as_bytes(),
         text_wanted.as_slice(),
-        "{name}: {kind:?} {text:?} by a closure"
     );
     Ok(())
 }
@@ -409,18 +418,13 @@ fn what_matched_in_its_place_changes_nothing(rt: HostRuntime) -> Result<(), Fail
                     dst.extend_from_slice(matched)?;
                     Ok(goes_on)
                 })?;
-                assert_eq!(&rt;
-                    bytes.as_slice(),
-                    text.as_bytes(),
-                    "{}: {text:?}",
-                    case.name
-                );
+                assert_same_in(&rt, (&case.name, &text), bytes.as_slice(), text.as_bytes());
                 let mut same = String::new(rt.alloc());
                 nfa.try_replace_all_with(text, &mut same, |_m, matched, dst| {
                     dst.push_str(matched)?;
                     Ok(goes_on)
                 })?;
-                assert_eq!(&rt; same.as_str(), *text, "{}: {text:?}", case.name);
+                assert_same_in(&rt, (&case.name, &text), same.as_str(), *text);
             }
         }
     }

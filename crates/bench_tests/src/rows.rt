@@ -4,6 +4,7 @@
 ghost use Rattle.std.specs.Prelude.{◌+◌, ◌≤◌, length};
 ghost use Rattle.aho_base.specs.Patterns.{Patterns};
 
+use crate::asserts::{assert_in, assert_same_in};
 use crate::automata::{DEPTHS, nfa_of, nfa_with, relinked_of};
 use crate::overlaps::{found_by_calls, found_by_iterator};
 use aho_base::search::{Anchored, Input, Match, MatchKind, PatternID, Span};
@@ -505,10 +506,10 @@ fn is_listed<A: Automaton>(
         return Ok(());
     };
     let by_calls = all_found(alloc, &found_by_calls(rt, alloc, automaton, &input)?)?;
-    assert_eq!(rt; by_calls.as_slice(), want, "{row:?}");
+    assert_same_in(rt, &row, by_calls.as_slice(), want);
     if row.anchored == Anchored::No {
         let by_iterator = all_found(alloc, &found_by_iterator(rt, alloc, automaton, input)?)?;
-        assert_eq!(rt; by_iterator.as_slice(), want, "{row:?}");
+        assert_same_in(rt, &row, by_iterator.as_slice(), want);
     }
     Ok(())
 }
@@ -530,18 +531,20 @@ fn row_is_met<A: Automaton>(
     let patterns = PatternSet::new(row.patterns, kind, row.ignore_case);
     let input = input_of(row, span);
     let answer = plain(&patterns, &input);
-    assert_eq!(rt; automaton.try_find(&input)?, answer, "{kind:?} {row:?}");
+    assert_same_in(rt, (&kind, &row), automaton.try_find(&input)?, answer);
     is_listed(rt, alloc, row, automaton, input.clone()?)?;
     let iterated = iterated(alloc, row, automaton, input_of(row, span))?;
     let listed = listed(alloc, row, &patterns, input)?;
     let found = answer.map(found_of);
-    assert!(rt;
+    assert_in(
+        rt,
+        (&kind, &row, &found, &listed),
         is_wanted(row, found, &listed),
-        "{kind:?} {row:?}: {found:?} {listed:?}"
     );
-    assert!(rt;
+    assert_in(
+        rt,
+        (&kind, &row, &iterated, "by iteration"),
         is_iterated(row, &iterated),
-        "{kind:?} {row:?}: {iterated:?} by iteration"
     );
     Ok(())
 }

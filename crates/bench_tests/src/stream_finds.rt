@@ -2,6 +2,7 @@
 
 ghost use Rattle.aho_base.specs.Patterns.{Patterns};
 
+use crate::asserts::{assert_same, assert_same_in};
 use crate::automata::nfa_of;
 use crate::scripted::{ScriptedSource, Turn};
 use aho_base::error::{Fault, MatchError, StreamError};
@@ -90,7 +91,7 @@ fn a_stream_is_searched_across_its_reads(rt: HostRuntime) -> Result<(), Fail> {
     let nfa = nfa_of(&rt, rt.alloc(), WORDS, MatchKind::Standard, false);
     let mut source = ScriptedSource::new(TEXT, ONE_BYTE);
     let found = items(rt.alloc(), &nfa, &mut source)?;
-    assert_eq!(rt; found.as_slice(), worked_matches().as_slice());
+    assert_same(&rt, found.as_slice(), worked_matches().as_slice());
     Ok(())
 }
 
@@ -102,13 +103,14 @@ fn a_failed_read_is_told_and_nothing_is_lost(rt: HostRuntime) -> Result<(), Fail
         turns[at] = Turn::Fail;
         let mut source = ScriptedSource::new(TEXT, &turns);
         let found = items(rt.alloc(), &nfa, &mut source)?;
-        assert_eq!(rt; found.len(), 4, "read {at}");
+        assert_same_in(&rt, ("read", &at), found.len(), 4);
         let mut matches = found;
         matches.retain(|item| item.is_ok());
-        assert_eq!(rt;
+        assert_same_in(
+            &rt,
+            ("read", &at),
             matches.as_slice(),
             worked_matches().as_slice(),
-            "read {at}"
         );
     }
     Ok(())
@@ -129,7 +131,12 @@ fn a_limit_is_answered_once(rt: HostRuntime) -> Result<(), Fail> {
         if limit < 21 {
             wanted.push(Err(StreamError::PositionLimit))?;
         }
-        assert_eq!(rt; told.items.as_slice(), wanted.as_slice(), "limit {limit}");
+        assert_same_in(
+            &rt,
+            ("limit", &limit),
+            told.items.as_slice(),
+            wanted.as_slice(),
+        );
     }
     Ok(())
 }
@@ -140,11 +147,11 @@ fn each_byte_of_a_stream_is_stepped_once(rt: HostRuntime) -> Result<(), Fail> {
     let tally = Tally::new(nfa);
     let mut source = ScriptedSource::new(b"aaaaaaaa", ONE_BYTE);
     let told = told_under(rt.alloc(), &tally, &mut source, 100)?;
-    assert_eq!(rt; told.items.len(), 0);
-    assert_eq!(rt; told.lookups, 13);
-    assert_eq!(rt; told.position, 8);
-    assert_eq!(rt; tally.steps(), 8);
-    assert_eq!(rt; tally.next_states(), 0);
+    assert_same(&rt, told.items.len(), 0);
+    assert_same(&rt, told.lookups, 13);
+    assert_same(&rt, told.position, 8);
+    assert_same(&rt, tally.steps(), 8);
+    assert_same(&rt, tally.next_states(), 0);
     Ok(())
 }
 
@@ -154,8 +161,8 @@ fn an_empty_read_ends_a_stream(rt: HostRuntime) -> Result<(), Fail> {
     let turns = [Turn::Move(7), Turn::Move(0), Turn::Move(100)];
     let mut source = ScriptedSource::new(TEXT, &turns);
     let found = items(rt.alloc(), &nfa, &mut source)?;
-    assert_eq!(rt; found.len(), 0);
-    assert_eq!(rt; source.rest().len(), TEXT.len() - 7);
+    assert_same(&rt, found.len(), 0);
+    assert_same(&rt, source.rest().len(), TEXT.len() - 7);
     Ok(())
 }
 
@@ -169,11 +176,12 @@ fn what_no_stream_can_be_searched_for_is_refused(rt: HostRuntime) {
         false,
     );
     let mut source = ScriptedSource::new(b"a", &[]);
-    assert_eq!(rt;
+    assert_same(
+        &rt,
         try_stream_find_iter(rt.alloc(), &empty, &mut source).err(),
-        Some(StreamError::Match(MatchError::unsupported_empty()))
+        Some(StreamError::Match(MatchError::unsupported_empty())),
     );
-    assert_eq!(rt; source.reads(), 0);
+    assert_same(&rt, source.reads(), 0);
 }
 
 #[test]
@@ -181,8 +189,12 @@ fn other_automata_search_streams(rt: HostRuntime) -> Result<(), Fail> {
     let tally = Tally::new(OneByte::new(b'w'));
     let mut source = ScriptedSource::new(b"wow", ONE_BYTE);
     let found = items(rt.alloc(), &tally, &mut source)?;
-    assert_eq!(rt; found.as_slice(), [Ok((0, 0, 1)), Ok((0, 2, 3))].as_slice());
-    assert_eq!(rt; tally.steps(), 3);
-    assert_eq!(rt; tally.next_states(), 0);
+    assert_same(
+        &rt,
+        found.as_slice(),
+        [Ok((0, 0, 1)), Ok((0, 2, 3))].as_slice(),
+    );
+    assert_same(&rt, tally.steps(), 3);
+    assert_same(&rt, tally.next_states(), 0);
     Ok(())
 }

@@ -4,11 +4,11 @@
 ghost use Rattle.std.specs.Prelude.{◌≡◌, length};
 ghost use Rattle.aho_base.specs.Patterns.{Patterns};
 
+use crate::asserts::{assert_in, assert_same, assert_same_in};
 use crate::automata::nfa_of;
 use crate::scripted::{ScriptedSink, ScriptedSource, Turn};
 use aho_base::error::{Fault, MatchError, StreamError};
 use aho_base::search::{Input, Match, MatchKind};
-use aho_corasick::noncontiguous::NFA;
 use aho_devices::write::write_whole;
 use aho_search::automaton::Automaton;
 use aho_stream::chunks::{StreamChunk, StreamChunkIter};
@@ -79,31 +79,31 @@ fn turns_of(alloc: Global, turn: Turn, count: usize) -> Result<Vec<Turn>, AllocE
 }
 
 /// What the replacement of a stream answers, and whether it wrote this.
-pub(crate) fn replaces(
+pub(crate) fn replaces<A: Automaton>(
     rt: &impl Abort,
     alloc: Global,
-    nfa: &NFA,
+    automaton: &A,
     pieces: &[&[u8]],
     source: &mut ScriptedSource<'_>,
     sink: &mut ScriptedSink<'_>,
 ) -> Result<(), StreamError>
-    requires of { (p : Patterns) × ⟦<NFA as Automaton>⟧.is_of nfa.now p }
+    requires of { (p : Patterns) × A.is_of automaton.now p }
 {
-    assert_eq!(rt; pieces.len(), nfa.patterns_len());
-    try_stream_replace_all(alloc, nfa, source, sink, pieces)
+    assert_eq!(rt; pieces.len(), automaton.patterns_len());
+    try_stream_replace_all(alloc, automaton, source, sink, pieces)
 }
 
 /// What the replacement of a stream answers, where each match is put in brackets, and the closure answers this.
-fn puts_in_brackets(
+fn puts_in_brackets<A: Automaton>(
     alloc: Global,
-    nfa: &NFA,
+    automaton: &A,
     source: &mut ScriptedSource<'_>,
     sink: &mut ScriptedSink<'_>,
     answer: Result<(), StreamError>,
 ) -> Result<(), StreamError>
-    requires of { (p : Patterns) × ⟦<NFA as Automaton>⟧.is_of nfa.now p }
+    requires of { (p : Patterns) × A.is_of automaton.now p }
 {
-    try_stream_replace_all_with(alloc, nfa, source, sink, |_m, matched, sink| {
+    try_stream_replace_all_with(alloc, automaton, source, sink, |_m, matched, sink| {
         write_whole(sink, b"[")?;
         write_whole(sink, matched)?;
         write_whole(sink, b"]")?;
@@ -112,16 +112,16 @@ fn puts_in_brackets(
 }
 
 /// What the replacement of a stream answers, where "X" is written for each match, and the closure answers this.
-fn puts_an_x(
+fn puts_an_x<A: Automaton>(
     alloc: Global,
-    nfa: &NFA,
+    automaton: &A,
     source: &mut ScriptedSource<'_>,
     sink: &mut ScriptedSink<'_>,
     answer: Result<(), StreamError>,
 ) -> Result<(), StreamError>
-    requires of { (p : Patterns) × ⟦<NFA as Automaton>⟧.is_of nfa.now p }
+    requires of { (p : Patterns) × A.is_of automaton.now p }
 {
-    try_stream_replace_all_with(alloc, nfa, source, sink, |_m, _matched, sink| {
+    try_stream_replace_all_with(alloc, automaton, source, sink, |_m, _matched, sink| {
         write_whole(sink, b"X")?;
         answer
     })
@@ -137,7 +137,7 @@ fn each_row_is_replaced_under_every_cut(rt: HostRuntime) -> Result<(), Fail> {
             let mut source = ScriptedSource::new(row.given, &turns);
             let mut sink = ScriptedSink::new(alloc, &turns);
             replaces(&rt, alloc, &nfa, row.pieces, &mut source, &mut sink)?;
-            assert_eq!(&rt; sink.taken(), row.written, "{count} bytes at once");
+            assert_same_in(&rt, (&count, "bytes at once"), sink.taken(), row.written);
         }
     }
     Ok(())
@@ -151,8 +151,8 @@ fn an_empty_read_ends_the_stream(rt: HostRuntime) -> Result<(), Fail> {
     let mut source = ScriptedSource::new(ANIMALS.given, &turns);
     let mut sink = ScriptedSink::new(alloc, &[]);
     replaces(&rt, alloc, &nfa, ANIMALS.pieces, &mut source, &mut sink)?;
-    assert_eq!(&rt; sink.taken(), b"The qu".as_slice());
-    assert_eq!(&rt; source.rest(), b"ick brown fox.".as_slice());
+    assert_same(&rt, sink.taken(), b"The qu".as_slice());
+    assert_same(&rt, source.rest(), b"ick brown fox.".as_slice());
     Ok(())
 }
 
@@ -164,7 +164,7 @@ fn a_failed_read_leaves_a_beginning(rt: HostRuntime) -> Result<(), Fail> {
     let mut source = ScriptedSource::new(ANIMALS.given, &turns);
     let mut sink = ScriptedSink::new(alloc, &[]);
     let answer = replaces(&rt, alloc, &nfa, ANIMALS.pieces, &mut source, &mut sink);
-    assert_eq!(&rt; answer, Err(StreamError::Read(Fault)));
+    assert_same(&rt, answer, Err(StreamError::Read(Fault)));
     assert!(&rt; b"The ".starts_with(sink.taken()));
     assert!(&rt; sink.taken().starts_with(b"Th"));
     Ok(())
@@ -180,8 +180,8 @@ fn a_failed_write_leaves_a_beginning(rt: HostRuntime) -> Result<(), Fail> {
         let mut source = ScriptedSource::new(ANIMALS.given, &[]);
         let mut sink = ScriptedSink::new(alloc, &turns);
         let answer = replaces(&rt, alloc, &nfa, ANIMALS.pieces, &mut source, &mut sink);
-        assert_eq!(&rt; answer, Err(StreamError::Write(Fault)));
-        assert_eq!(&rt; sink.taken(), &ANIMALS.written[..count]);
+        assert_same(&rt, answer, Err(StreamError::Write(Fault)));
+        assert_same(&rt, sink.taken(), &ANIMALS.written[..count]);
     }
     Ok(())
 }
@@ -194,9 +194,9 @@ fn a_write_of_nothing_is_told(rt: HostRuntime) -> Result<(), Fail> {
     let mut source = ScriptedSource::new(ANIMALS.given, &[]);
     let mut sink = ScriptedSink::new(alloc, &turns);
     let answer = replaces(&rt, alloc, &nfa, ANIMALS.pieces, &mut source, &mut sink);
-    assert_eq!(&rt; answer, Err(StreamError::WriteZero));
-    assert_eq!(&rt; sink.taken(), b"".as_slice());
-    assert_eq!(&rt; sink.writes(), 1);
+    assert_same(&rt, answer, Err(StreamError::WriteZero));
+    assert_same(&rt, sink.taken(), b"".as_slice());
+    assert_same(&rt, sink.writes(), 1);
     Ok(())
 }
 
@@ -266,8 +266,8 @@ fn a_closure_is_called_on_each_match(rt: HostRuntime) -> Result<(), Fail> {
         let mut source = ScriptedSource::new(ANIMALS.given, row.reads);
         let mut sink = ScriptedSink::new(rt.alloc(), row.writes);
         let answer = puts_in_brackets(rt.alloc(), &nfa, &mut source, &mut sink, closure);
-        assert_eq!(&rt; sink.taken(), row.written);
-        assert_eq!(&rt; answer, wanted);
+        assert_same(&rt, sink.taken(), row.written);
+        assert_same(&rt, answer, wanted);
     }
     let nfa = nfa_of(&rt, rt.alloc(), &[b"a"], MatchKind::Standard, false);
     for refuses in [false, true] {
@@ -276,8 +276,8 @@ fn a_closure_is_called_on_each_match(rt: HostRuntime) -> Result<(), Fail> {
         let mut source = ScriptedSource::new(b"bac", &[]);
         let mut sink = ScriptedSink::new(rt.alloc(), &[]);
         let answer = puts_an_x(rt.alloc(), &nfa, &mut source, &mut sink, closure);
-        assert_eq!(&rt; sink.taken(), written);
-        assert_eq!(&rt; answer, closure);
+        assert_same(&rt, sink.taken(), written);
+        assert_same(&rt, answer, closure);
     }
     Ok(())
 }
@@ -292,9 +292,9 @@ fn what_cannot_search_a_stream_reads_nothing(rt: HostRuntime) -> Result<(), Fail
         let mut sink = ScriptedSink::new(alloc, &[]);
         let answer = replaces(&rt, alloc, &nfa, &[b"x", b"y"], &mut source, &mut sink);
         let reason = MatchError::unsupported_empty();
-        assert_eq!(&rt; answer, Err(StreamError::Match(reason)));
-        assert_eq!(&rt; source.reads(), 0);
-        assert_eq!(&rt; sink.writes(), 0);
+        assert_same(&rt, answer, Err(StreamError::Match(reason)));
+        assert_same(&rt, source.reads(), 0);
+        assert_same(&rt, sink.writes(), 0);
     }
     Ok(())
 }
@@ -424,9 +424,9 @@ fn is_replaced_as_plainly(
     let mut source = ScriptedSource::new(&given, &reads);
     let mut sink = ScriptedSink::new(alloc, &writes);
     let answer = replaces(rt, alloc, &nfa, &pieces, &mut source, &mut sink);
-    assert!(rt; wanted.starts_with(sink.taken()), "{given:?}");
+    assert_in(rt, &given, wanted.starts_with(sink.taken()));
     if answer.is_ok() {
-        assert_eq!(rt; sink.taken().len(), wanted.len(), "{given:?}");
+        assert_same_in(rt, &given, sink.taken().len(), wanted.len());
         return Ok(());
     }
     let read_failed = last_failed(&reads, source.reads());
@@ -436,8 +436,8 @@ fn is_replaced_as_plainly(
     } else {
         StreamError::Write(Fault)
     };
-    assert!(rt; read_failed != write_failed, "{given:?}");
-    assert_eq!(rt; answer, Err(told), "{given:?}");
+    assert_in(rt, &given, read_failed != write_failed);
+    assert_same_in(rt, &given, answer, Err(told));
     Ok(())
 }
 
@@ -468,17 +468,17 @@ fn last_failed(turns: &[Turn], calls: usize) -> bool {
 #[test]
 fn a_chunk_is_lent(rt: HostRuntime) -> Result<(), Fail> {
     let nfa = nfa_of(&rt, rt.alloc(), &[b"fox"], MatchKind::Standard, false);
-    lends_a_chunk(&rt, &nfa)
+    lends_a_chunk(&rt, rt.alloc(), &nfa)
 }
 
-// As above, of every automaton, whose proof sees no inside of one.
-fn lends_a_chunk<A: Automaton>(rt: &HostRuntime, automaton: &A) -> Result<(), Fail>
+/// The chunk before a match is lent by the iterator, which nothing is asked of as long as it is looked at.
+fn lends_a_chunk<A: Automaton>(rt: &impl Abort, alloc: Global, automaton: &A) -> Result<(), Fail>
     requires of { (p : Patterns) × A.is_of automaton.now p }
 {
     let mut source = ScriptedSource::new(b"the fox", &[]);
-    let mut chunks = StreamChunkIter::new(rt.alloc(), automaton, &mut source)?;
+    let mut chunks = StreamChunkIter::new(alloc, automaton, &mut source)?;
     match chunks.next() {
-        Some(Ok(StreamChunk::NonMatch { bytes })) => assert_eq!(rt; bytes, b"the ".as_slice()),
+        Some(Ok(StreamChunk::NonMatch { bytes })) => assert_same(rt, bytes, b"the ".as_slice()),
         _ => panic!(rt; "a match, a fault or none"),
     }
     Ok(())

@@ -4,6 +4,7 @@ ghost use Rattle.std.specs.Prelude.{◌≡◌, [], length};
 ghost use Rattle.std.specs.Iterator.{IsFinite};
 ghost use Rattle.aho_table.specs.Table.{fail_id, state_at};
 
+use crate::asserts::assert_same;
 use aho_base::error::BuildError;
 use aho_base::search::{PatternID, SmallIndex, StateID, Work};
 use aho_table::alphabet::ByteClassSet;
@@ -28,8 +29,8 @@ fn two_states(rt: &impl Abort, alloc: Global) -> Table
     assert!(rt; table.is_empty());
     let dead = table.add_state(index(rt, 0)).expect(rt, "a state");
     let fail = table.add_state(index(rt, 3)).expect(rt, "another state");
-    assert_eq!(rt; dead, DEAD);
-    assert_eq!(rt; fail, FAIL);
+    assert_same(rt, dead, DEAD);
+    assert_same(rt, fail, FAIL);
     assert_eq!(rt; table.len(), 2);
     table
 }
@@ -43,27 +44,27 @@ fn lead(rt: &impl Abort, table: &mut Table, byte: u8, next: StateID)
 
 #[test]
 fn states_answer_what_was_listed(rt: HostRuntime) {
-    assert_eq!(rt; DEAD.as_usize(), 0);
-    assert_eq!(rt; FAIL.as_usize(), 1);
+    assert_same(&rt, DEAD.as_usize(), 0);
+    assert_same(&rt, FAIL.as_usize(), 1);
     let mut table = two_states(&rt, rt.alloc());
     assert!(rt; !table.is_empty());
-    assert_eq!(rt; table.fail(FAIL), FAIL);
+    assert_same(&rt, table.fail(FAIL), FAIL);
     table.set_fail(FAIL, DEAD);
-    assert_eq!(rt; table.fail(FAIL), DEAD);
-    assert_eq!(rt; table.depth(FAIL), 3);
+    assert_same(&rt, table.fail(FAIL), DEAD);
+    assert_same(&rt, table.depth(FAIL), 3);
     lead(&rt, &mut table, b'm', FAIL);
     lead(&rt, &mut table, b'z', DEAD);
     lead(&rt, &mut table, b'a', FAIL);
     lead(&rt, &mut table, b'm', DEAD);
     let mut work = Work::new();
-    assert_eq!(rt; table.follow(FAIL, b'a', &mut work), FAIL);
-    assert_eq!(rt; table.follow(FAIL, b'm', &mut work), DEAD);
-    assert_eq!(rt; table.follow(FAIL, b'n', &mut work), FAIL);
-    assert_eq!(rt; table.follow(DEAD, b'z', &mut work), FAIL);
-    assert_eq!(rt; work.count(), 4);
+    assert_same(&rt, table.follow(FAIL, b'a', &mut work), FAIL);
+    assert_same(&rt, table.follow(FAIL, b'm', &mut work), DEAD);
+    assert_same(&rt, table.follow(FAIL, b'n', &mut work), FAIL);
+    assert_same(&rt, table.follow(DEAD, b'z', &mut work), FAIL);
+    assert_same(&rt, work.count(), 4);
     assert_eq!(rt; table.transitions_len(FAIL), 3);
-    assert_eq!(rt; table.transition(FAIL, 1), (b'm', DEAD));
-    assert_eq!(rt; table.transitions_count(), 4);
+    assert_same(&rt, table.transition(FAIL, 1), (b'm', DEAD));
+    assert_same(&rt, table.transitions_count(), 4);
 }
 
 // The pairs that an iterator gives, in its order.
@@ -99,9 +100,9 @@ fn iterators_give_what_was_listed(rt: HostRuntime) {
     assert!(rt; copied.as_slice() == [first, second].as_slice());
     assert!(rt; table.has_matches(DEAD));
     assert!(rt; !table.has_matches(FAIL));
-    assert_eq!(rt; table.match_len(DEAD), 2);
-    assert_eq!(rt; table.match_pattern(DEAD, 1), second);
-    assert_eq!(rt; table.matches_count(), 3);
+    assert_same(&rt, table.match_len(DEAD), 2);
+    assert_same(&rt, table.match_pattern(DEAD, 1), second);
+    assert_same(&rt, table.matches_count(), 3);
     let unlisted: Vec<PatternID> = table
         .matches(FAIL)
         .collect(rt.alloc())
@@ -116,29 +117,30 @@ fn a_row_starts_within_the_limit(rt: HostRuntime) {
     borders.set_range(b'a', b'a');
     borders.set_range(0, 9);
     let classes = borders.byte_classes();
-    assert_eq!(rt; classes.alphabet_len(), 4);
-    assert_eq!(rt;
+    assert_same(&rt, classes.alphabet_len(), 4);
+    assert_same(
+        &rt,
         (
             classes.get(9),
             classes.get(10),
             classes.get(b'a'),
-            classes.get(255)
+            classes.get(255),
         ),
-        (0, 1, 2, 3)
+        (0, 1, 2, 3),
     );
     table.set_byte_classes(classes);
     table.add_row(FAIL).expect(&rt, "the row at 1");
-    assert_eq!(rt; table.dense_len(), 5);
+    assert_same(&rt, table.dense_len(), 5);
     let above = BuildError::StateIDOverflow {
         max: 3,
         requested: 5,
     };
     assert!(rt; table.add_row(FAIL) == Err(above));
     let mut work = Work::new();
-    assert_eq!(rt; table.follow(FAIL, b'a', &mut work), FAIL);
+    assert_same(&rt, table.follow(FAIL, b'a', &mut work), FAIL);
     lead(&rt, &mut table, b'a', DEAD);
-    assert_eq!(rt; table.follow(FAIL, b'a', &mut work), DEAD);
-    assert_eq!(rt; (work.count(), table.dense_len()), (2, 5));
+    assert_same(&rt, table.follow(FAIL, b'a', &mut work), DEAD);
+    assert_same(&rt, (work.count(), table.dense_len()), (2, 5));
 }
 
 // The refusal of the entry past the third.
@@ -155,11 +157,11 @@ fn full_tables_stay_as_they_were(rt: HostRuntime) {
     lead(&rt, &mut table, b'c', DEAD);
     lead(&rt, &mut table, b'a', DEAD);
     lead(&rt, &mut table, b'b', DEAD);
-    assert_eq!(rt; table.set(FAIL, b'd', DEAD), Err(overflow()));
-    assert_eq!(rt; table.transitions_len(FAIL), 3);
+    assert_same(&rt, table.set(FAIL, b'd', DEAD), Err(overflow()));
+    assert_same(&rt, table.transitions_len(FAIL), 3);
     lead(&rt, &mut table, b'b', FAIL);
     assert_eq!(rt; table.transitions_len(FAIL), 3);
-    assert_eq!(rt; table.transition(FAIL, 1), (b'b', FAIL));
+    assert_same(&rt, table.transition(FAIL, 1), (b'b', FAIL));
     for _ in 0..3 {
         assert_eq!(rt; table.len(), 2);
         table
@@ -167,16 +169,16 @@ fn full_tables_stay_as_they_were(rt: HostRuntime) {
             .expect(&rt, "a pattern");
     }
     assert_eq!(rt; table.len(), 2);
-    assert_eq!(rt; table.add_match(FAIL, pattern(&rt, 5)), Err(overflow()));
-    assert_eq!(rt; table.match_len(FAIL), 3);
+    assert_same(&rt, table.add_match(FAIL, pattern(&rt, 5)), Err(overflow()));
+    assert_same(&rt, table.match_len(FAIL), 3);
     table.add_state(index(&rt, 1)).expect(&rt, "a third state");
     table.add_state(index(&rt, 1)).expect(&rt, "a fourth state");
-    assert_eq!(rt; table.add_state(index(&rt, 1)), Err(overflow()));
+    assert_same(&rt, table.add_state(index(&rt, 1)), Err(overflow()));
     assert_eq!(rt; table.len(), 4);
-    assert_eq!(rt; table.match_len(FAIL), 3);
+    assert_same(&rt, table.match_len(FAIL), 3);
     let clone = table.try_clone().expect(&rt, "memory");
     assert_eq!(rt; clone.len(), 4);
-    assert_eq!(rt; clone.transitions_len(FAIL), 3);
-    assert_eq!(rt; clone.transition(FAIL, 1), (b'b', FAIL));
-    assert_eq!(rt; clone.match_len(FAIL), 3);
+    assert_same(&rt, clone.transitions_len(FAIL), 3);
+    assert_same(&rt, clone.transition(FAIL, 1), (b'b', FAIL));
+    assert_same(&rt, clone.match_len(FAIL), 3);
 }

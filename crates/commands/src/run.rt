@@ -327,6 +327,3 @@ fn print_occurrences<A: Automaton, W: Write>(
         automaton.try_find_overlapping_iter(Input::new(text))?,
     )
 }
-
-#[cfg(test)]
-mod tests;

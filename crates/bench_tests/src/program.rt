@@ -1,12 +1,18 @@
-//! Runs over words and bytes in memory, and over devices that fail. Each message names its case.
+//! Runs of the program over words and bytes in memory, and over devices that fail. Each message names its case.
 
-use super::*;
+use crate::asserts::{assert_in, assert_same_in};
 use aho_base::error::{BuildError, MatchError};
 use aho_base::search::{MatchKind, PatternID};
-use std::alloc::AllocError;
+use commands::devices::{ReadSource, WriteSink};
+use commands::fault::Fault;
+use commands::run::{report, run};
+use std::alloc::{AllocError, Global};
 use std::io;
-use std::io::ErrorKind;
+use std::io::{ErrorKind, Read, Write};
 use std::test::Fail;
+
+/// How many bytes the program asks of its input at once.
+const PIECE: usize = 16 * 1024;
 
 const USAGE: &str = "usage: acfind find KIND [-i] PATTERN.. | overlap PATTERN.. | replace P R ..\n";
 
@@ -197,13 +203,10 @@ fn prints_the_finds(rt: HostRuntime) -> Result<(), Fail> {
     for (words, input, status, printed) in rows {
         let mut rest = input;
         let (found, output, errors) = run_on(rt.alloc(), words, &mut rest)?;
-        assert_eq!(rt; found, status, "{words:?} on {input:?}");
-        assert_eq!(rt;
-            output.as_slice(),
-            printed.as_bytes(),
-            "{words:?} on {input:?}"
-        );
-        assert!(rt; errors.is_empty(), "{words:?} on {input:?}");
+        let case = (&words, "on", &input);
+        assert_same_in(&rt, &case, found, status);
+        assert_same_in(&rt, &case, output.as_slice(), printed.as_bytes());
+        assert_in(&rt, &case, errors.is_empty());
     }
     Ok(())
 }
@@ -231,13 +234,10 @@ fn prints_all_that_overlaps(rt: HostRuntime) -> Result<(), Fail> {
     for (words, input, status, printed) in rows {
         let mut rest = input;
         let (found, output, errors) = run_on(rt.alloc(), words, &mut rest)?;
-        assert_eq!(rt; found, status, "{words:?} on {input:?}");
-        assert_eq!(rt;
-            output.as_slice(),
-            printed.as_bytes(),
-            "{words:?} on {input:?}"
-        );
-        assert!(rt; errors.is_empty(), "{words:?} on {input:?}");
+        let case = (&words, "on", &input);
+        assert_same_in(&rt, &case, found, status);
+        assert_same_in(&rt, &case, output.as_slice(), printed.as_bytes());
+        assert_in(&rt, &case, errors.is_empty());
     }
     Ok(())
 }
@@ -260,9 +260,9 @@ fn tells_wrong_words(rt: HostRuntime) -> Result<(), Fail> {
     for words in rows {
         let mut input: &[u8] = b"a";
         let (found, output, errors) = run_on(rt.alloc(), words, &mut input)?;
-        assert_eq!(rt; found, 2, "{words:?}");
-        assert!(rt; output.is_empty(), "{words:?}");
-        assert_eq!(rt; errors.as_slice(), USAGE.as_bytes(), "{words:?}");
+        assert_same_in(&rt, &words, found, 2);
+        assert_in(&rt, &words, output.is_empty());
+        assert_same_in(&rt, &words, errors.as_slice(), USAGE.as_bytes());
     }
     Ok(())
 }
@@ -280,20 +280,18 @@ fn reads_an_input_of_several_pieces(rt: HostRuntime) -> Result<(), Fail> {
         text.extend_from_slice(b"bb")?;
         let mut input = text.as_slice();
         let (found, output, _errors) = run_on(rt.alloc(), &words, &mut input)?;
-        assert_eq!(rt; found, 0, "{length} bytes");
-        assert_eq!(rt; output.as_slice(), printed.as_bytes(), "{length} bytes");
-        assert!(rt; input.is_empty(), "{length} bytes");
+        let case = (&length, "bytes");
+        assert_same_in(&rt, &case, found, 0);
+        assert_same_in(&rt, &case, output.as_slice(), printed.as_bytes());
+        assert_in(&rt, &case, input.is_empty());
         let mut slow = Slow {
             rest: text.as_slice(),
         };
         let (found, output, _errors) = run_on(rt.alloc(), &words, &mut slow)?;
-        assert_eq!(rt; found, 0, "{length} bytes, one by one");
-        assert_eq!(rt;
-            output.as_slice(),
-            printed.as_bytes(),
-            "{length} bytes, one by one"
-        );
-        assert!(rt; slow.rest.is_empty(), "{length} bytes, one by one");
+        let case = (&length, "bytes, one by one");
+        assert_same_in(&rt, &case, found, 0);
+        assert_same_in(&rt, &case, output.as_slice(), printed.as_bytes());
+        assert_in(&rt, &case, slow.rest.is_empty());
     }
     Ok(())
 }
@@ -314,13 +312,10 @@ fn tells_a_reader_that_fails(rt: HostRuntime) -> Result<(), Fail> {
             };
             let words = ["find", "standard", "b"];
             let (found, output, errors) = run_on(rt.alloc(), &words, &mut input)?;
-            assert_eq!(rt; found, 3, "{kind:?} after {first:?}");
-            assert!(rt; output.is_empty(), "{kind:?} after {first:?}");
-            assert_eq!(rt;
-                errors.as_slice(),
-                "read fault\n".as_bytes(),
-                "{kind:?} after {first:?}"
-            );
+            let case = (&kind, "after", &first);
+            assert_same_in(&rt, &case, found, 3);
+            assert_in(&rt, &case, output.is_empty());
+            assert_same_in(&rt, &case, errors.as_slice(), "read fault\n".as_bytes());
         }
     }
     Ok(())
@@ -400,15 +395,12 @@ fn tells_a_writer_that_fails(rt: HostRuntime) -> Result<(), Fail> {
                     Then::Takes => lines.len(),
                     Then::TakesNone | Then::Fails(_) => first,
                 };
-                assert_eq!(rt; found, 3, "{case} after {first}");
+                let case = (&case, "after", &first);
+                assert_same_in(&rt, &case, found, 3);
                 assert!(rt; held <= lines.len());
-                assert_eq!(rt;
-                    output.held.as_slice(),
-                    &lines[..held],
-                    "{case} after {first}"
-                );
-                assert!(rt; output.flushed.is_empty(), "{case} after {first}");
-                assert_eq!(rt; errors.as_slice(), told.as_bytes(), "{case} after {first}");
+                assert_same_in(&rt, &case, output.held.as_slice(), &lines[..held]);
+                assert_in(&rt, &case, output.flushed.is_empty());
+                assert_same_in(&rt, &case, errors.as_slice(), told.as_bytes());
             }
         }
     }
@@ -437,17 +429,15 @@ fn replaces_each_match(rt: HostRuntime) -> Result<(), Fail> {
     for (words, input, written) in rows {
         let mut rest = input;
         let (status, output, errors) = run_on(rt.alloc(), words, &mut rest)?;
-        assert_eq!(rt; status, 0, "{words:?} on {input:?}");
-        assert_eq!(rt; output.as_slice(), written, "{words:?} on {input:?}");
-        assert!(rt; errors.is_empty(), "{words:?} on {input:?}");
+        let case = (&words, "on", &input);
+        assert_same_in(&rt, &case, status, 0);
+        assert_same_in(&rt, &case, output.as_slice(), written);
+        assert_in(&rt, &case, errors.is_empty());
         let mut slow = Slow { rest: input };
         let (status, output, _errors) = run_on(rt.alloc(), words, &mut slow)?;
-        assert_eq!(rt; status, 0, "{words:?} on {input:?}, one by one");
-        assert_eq!(rt;
-            output.as_slice(),
-            written,
-            "{words:?} on {input:?}, one by one"
-        );
+        let case = (&words, "on", &input, "one by one");
+        assert_same_in(&rt, &case, status, 0);
+        assert_same_in(&rt, &case, output.as_slice(), written);
     }
     Ok(())
 }
@@ -458,10 +448,10 @@ fn tells_a_replacement_that_is_refused_or_broken_off(rt: HostRuntime) -> Result<
     let mut input: &[u8] = b"a";
     let words = ["replace", "b", "y", "", "x"];
     let (status, output, errors) = run_on(rt.alloc(), &words, &mut input)?;
-    assert_eq!(rt; status, 2, "refused");
-    assert!(rt; output.is_empty(), "refused");
-    assert_eq!(rt; errors.as_slice(), refused.as_bytes(), "refused");
-    assert_eq!(rt; input.len(), 1, "refused");
+    assert_same_in(&rt, "refused", status, 2);
+    assert_in(&rt, "refused", output.is_empty());
+    assert_same_in(&rt, "refused", errors.as_slice(), refused.as_bytes());
+    assert_same_in(&rt, "refused", input.len(), 1);
 
     let mut broken = Broken {
         first: b"The qui",
@@ -470,10 +460,15 @@ fn tells_a_replacement_that_is_refused_or_broken_off(rt: HostRuntime) -> Result<
     };
     let words = ["replace", "quick", "slow"];
     let (status, output, errors) = run_on(rt.alloc(), &words, &mut broken)?;
-    assert_eq!(rt; status, 3, "broken off");
-    assert!(rt; output.len() >= 2, "broken off");
-    assert!(rt; b"The ".starts_with(output.as_slice()), "broken off");
-    assert_eq!(rt; errors.as_slice(), "read fault\n".as_bytes(), "broken off");
+    assert_same_in(&rt, "broken off", status, 3);
+    assert_in(&rt, "broken off", output.len() >= 2);
+    assert_in(&rt, "broken off", b"The ".starts_with(output.as_slice()));
+    assert_same_in(
+        &rt,
+        "broken off",
+        errors.as_slice(),
+        "read fault\n".as_bytes(),
+    );
     Ok(())
 }
 
@@ -500,9 +495,9 @@ fn keeps_the_status_where_errors_cannot_be_told(rt: HostRuntime) -> Result<(), F
                 &mut WriteSink::new(&mut output),
                 &mut errors,
             );
-            assert_eq!(rt; found, status, "{case}");
-            assert!(rt; output.is_empty(), "{case}");
-            assert_eq!(rt; errors.held.as_slice(), &told.as_bytes()[..4], "{case}");
+            assert_same_in(&rt, &case, found, status);
+            assert_in(&rt, &case, output.is_empty());
+            assert_same_in(&rt, &case, errors.held.as_slice(), &told.as_bytes()[..4]);
         }
     }
     Ok(())
@@ -525,9 +520,9 @@ fn writes_in_pieces_and_flushes(rt: HostRuntime) -> Result<(), Fail> {
             &mut WriteSink::new(&mut output),
             &mut errors,
         );
-        assert_eq!(rt; found, status, "{kind}");
-        assert_eq!(rt; output.flushed.as_slice(), printed.as_bytes(), "{kind}");
-        assert_eq!(rt; errors.flushed.as_slice(), told.as_bytes(), "{kind}");
+        assert_same_in(&rt, &kind, found, status);
+        assert_same_in(&rt, &kind, output.flushed.as_slice(), printed.as_bytes());
+        assert_same_in(&rt, &kind, errors.flushed.as_slice(), told.as_bytes());
     }
     Ok(())
 }
@@ -580,8 +575,8 @@ fn tells_each_fault_in_a_line(rt: HostRuntime) -> Result<(), Fail> {
     for (fault, status, told) in &rows {
         let mut errors = Vec::new(rt.alloc());
         let found = report(fault, &mut errors);
-        assert_eq!(rt; found, *status, "{fault}");
-        assert_eq!(rt; errors.as_slice(), told.as_bytes(), "{fault}");
+        assert_same_in(&rt, told, found, *status);
+        assert_same_in(&rt, told, errors.as_slice(), told.as_bytes());
     }
     Ok(())
 }
