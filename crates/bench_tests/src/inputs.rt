@@ -8,7 +8,7 @@ use crate::asserts::assert_same_in;
 use crate::automata::{DEPTHS, builder_of, nfa_by, nfa_with};
 use crate::overlaps::{found_by_calls, found_by_iterator};
 use aho_base::search::{Anchored, Input, MatchKind, PatternID, Span};
-use aho_corasick::noncontiguous::Limits;
+use aho_corasick::noncontiguous::{Limits, NFA};
 use aho_search::automaton::Automaton;
 use bench::callers::all_matches;
 use bench::listing::{all, anchored, finds};
@@ -45,17 +45,17 @@ enum Way {
 }
 
 /// Searches this span in each way. A message tells the case by its name.
-fn search_span<A: Automaton>(
+fn search_span(
     rt: &impl Abort,
     alloc: Global,
     way: Way,
     name: &str,
     patterns: &PatternSet<'_>,
-    automaton: &A,
+    nfa: &NFA,
     haystack: &[u8],
     span: Span,
 )
-    requires of { (p : Patterns) × A.is_of automaton.now p }
+    requires of { (p : Patterns) × ⟦<NFA as Automaton>⟧.is_of nfa.now p }
     requires within { span.end ≤ length haystack.now }
     requires ordered { span.start ≤ span.end + 1 }
 {
@@ -68,12 +68,12 @@ fn search_span<A: Automaton>(
             let case = (name, patterns, haystack, span, anchored, earliest);
             match way {
                 Way::Once => {
-                    let answer = automaton.try_find(&input).expect(rt, "an answer");
+                    let answer = nfa.try_find(&input).expect(rt, "an answer");
                     assert_same_in(rt, &case, answer, plain(patterns, &input));
                 }
                 Way::OneAfterAnother => {
                     let wanted = finds(alloc, patterns, copy_of(&input)).expect(rt, "memory");
-                    let found = all_matches(alloc, automaton, input).expect(rt, "memory");
+                    let found = all_matches(alloc, nfa, input).expect(rt, "memory");
                     assert_same_in(rt, (&case, "by iteration"), found, wanted);
                 }
             }
@@ -82,16 +82,16 @@ fn search_span<A: Automaton>(
 }
 
 /// Searches every span of this haystack in each way.
-fn search_spans<A: Automaton>(
+fn search_spans(
     rt: &impl Abort,
     alloc: Global,
     way: Way,
     name: &str,
     patterns: &PatternSet<'_>,
-    automaton: &A,
+    nfa: &NFA,
     haystack: &[u8],
 )
-    requires of { (p : Patterns) × A.is_of automaton.now p }
+    requires of { (p : Patterns) × ⟦<NFA as Automaton>⟧.is_of nfa.now p }
 {
     for end in 0..=haystack.len() {
         for start in 0..=end + 1 {
@@ -101,7 +101,7 @@ fn search_spans<A: Automaton>(
                 way,
                 name,
                 patterns,
-                automaton,
+                nfa,
                 haystack,
                 Span { start, end },
             );
@@ -262,30 +262,22 @@ fn haystack_of(number: usize, letters: [u8; 2]) -> [u8; 6] {
 const SIZES: [(usize, usize); 7] = [(0, 1), (1, 2), (2, 4), (3, 8), (4, 16), (5, 32), (6, 64)];
 
 /// Searches each haystack of these sizes.
-fn search_haystacks<A: Automaton>(
+fn search_haystacks(
     rt: &impl Abort,
     alloc: Global,
     way: Way,
     case: &Case,
     patterns: &PatternSet<'_>,
-    automaton: &A,
+    nfa: &NFA,
     sizes: &[(usize, usize)],
 )
-    requires of { (p : Patterns) × A.is_of automaton.now p }
+    requires of { (p : Patterns) × ⟦<NFA as Automaton>⟧.is_of nfa.now p }
 {
     for (size, count) in sizes {
         for number in 0..*count {
             let haystack = haystack_of(number, case.letters);
             assert!(rt; *size <= haystack.len());
-            search_spans(
-                rt,
-                alloc,
-                way,
-                case.name,
-                patterns,
-                automaton,
-                &haystack[..*size],
-            );
+            search_spans(rt, alloc, way, case.name, patterns, nfa, &haystack[..*size]);
         }
     }
 }

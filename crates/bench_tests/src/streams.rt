@@ -267,7 +267,7 @@ fn a_closure_is_called_on_each_match(rt: HostRuntime) -> Result<(), Fail> {
         let mut sink = ScriptedSink::new(rt.alloc(), row.writes);
         let answer = puts_in_brackets(rt.alloc(), &nfa, &mut source, &mut sink, closure);
         assert_same(&rt, sink.taken(), row.written);
-        assert_same(&rt, answer, wanted);
+        assert_same(&rt, &answer, &wanted);
     }
     let nfa = nfa_of(&rt, rt.alloc(), &[b"a"], MatchKind::Standard, false);
     for refuses in [false, true] {
@@ -277,7 +277,7 @@ fn a_closure_is_called_on_each_match(rt: HostRuntime) -> Result<(), Fail> {
         let mut sink = ScriptedSink::new(rt.alloc(), &[]);
         let answer = puts_an_x(rt.alloc(), &nfa, &mut source, &mut sink, closure);
         assert_same(&rt, sink.taken(), written);
-        assert_same(&rt, answer, closure);
+        assert_same(&rt, &answer, &closure);
     }
     Ok(())
 }
