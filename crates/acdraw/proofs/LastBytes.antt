@@ -4,7 +4,7 @@ use Rattle.std.specs.Prelude.{Option, Some, None}
 use Rattle.std.specs.List.{All}
 use Rattle.std.proofs.lemmas.List.{append_assoc}
 use Rattle.std.proofs.lemmas.List.Elements.{All-append}
-use Rattle.acdraw.proofs.Fronts.{front_more}
+use Rattle.aho_table.proofs.Fronts.{front_more}
 use Rattle.acdraw.specs.Words.{IsLastTo}
 
 module _ (transitions yielded : List (ℕ × ℕ)) (byte next sid : ℕ) (below : length yielded < length transitions) (is : (byte, next) ≡ get_or transitions (length yielded) (byte, next)) where

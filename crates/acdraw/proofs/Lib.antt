@@ -2,8 +2,6 @@
 pub mod Runs
 -- the word of a state, by how it is reached
 pub mod Words
--- lists that are gone through
-pub mod Fronts
 -- the last byte that leads to a state
 pub mod LastBytes
 -- the numbers that are drawn

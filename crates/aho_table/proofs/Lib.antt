@@ -1,5 +1,7 @@
 -- borders between bytes, and the classes that they make
 pub mod Classes
+-- fronts of lists that are gone through
+pub mod Fronts
 -- a list of transitions that rises by byte: what it answers, and what one entry more makes of it
 pub mod TransitionLists
 -- a table of states whose states are read, changed and added

@@ -1,5 +1,5 @@
-//! The tests of the libraries: the worked rows, every short input and random ones, refusals and limits, and devices whose
-//! calls go by a list.
+//! The tests of the libraries that build and search: the worked rows, every short input and random ones, refusals and
+//! limits.
 #![tactic(auto)]
 
 #[cfg(test)]
@@ -13,15 +13,11 @@ mod calls;
 #[cfg(test)]
 mod compiling;
 #[cfg(test)]
-mod devices;
-#[cfg(test)]
 mod errors;
 #[cfg(test)]
 mod inputs;
 #[cfg(test)]
 mod iteration;
-#[cfg(test)]
-mod leftmost_streams;
 #[cfg(test)]
 mod lists;
 #[cfg(test)]
@@ -35,8 +31,6 @@ mod overlaps;
 #[cfg(test)]
 mod prefilter;
 #[cfg(test)]
-mod program;
-#[cfg(test)]
 mod read_out;
 #[cfg(test)]
 mod reading;
@@ -46,11 +40,5 @@ mod relinked;
 mod replacing;
 #[cfg(test)]
 mod rows;
-#[cfg(test)]
-mod scripted;
-#[cfg(test)]
-mod stream_finds;
-#[cfg(test)]
-mod streams;
 #[cfg(test)]
 mod tables;

@@ -285,7 +285,11 @@ impl States {
         requires added { sid < length self.now.states }
         ensures listed { IfOk result (λ patterns. patterns.items ≡ matches_in self.now.states sid) }
     {
-        self.matches(sid).collect(self.alloc)
+        let mut patterns = Vec::new(self.alloc);
+        for pattern in self.matches(sid) {
+            patterns.push(pattern)?;
+        }
+        Ok(patterns)
     }
 
     /// The pattern of this place in the state's list.

@@ -1,7 +1,7 @@
 use Rattle.std.proofs.Common.{◌≡◌, ◌≤◌, ◌∙◌, ℕ, List, ◌++◌, [], ◌∷◌, length, arith}
 use Rattle.std.proofs.lemmas.Iterator.Consumers.{YieldsList-from_first, YieldsList-turn, YieldsList-end}
 use Rattle.std.proofs.lemmas.List.{take_all}
-use Rattle.acdraw.proofs.Fronts.{front_more}
+use Rattle.aho_table.proofs.Fronts.{front_more}
 use Rattle.acdraw.proofs.picture.listed_of.Goals as goal
 
 pub loop-pattern-preserved : goal.loop-pattern-preserved

@@ -5,7 +5,7 @@ use Rattle.std.specs.Option.{option_to_list}
 use Rattle.std.specs.Prelude.{Option}
 use Rattle.acdraw.specs.Runs.{AreApart, all_pairs}
 use Rattle.acdraw.specs.declared.picture.runs.Run.{Run}
-use Rattle.acdraw.proofs.Fronts.{front_more}
+use Rattle.aho_table.proofs.Fronts.{front_more}
 use Rattle.acdraw.proofs.picture.runs.runs_of.Goals as goal
 
 pub loop-byte-preserved : goal.loop-byte-preserved

@@ -2,7 +2,7 @@
 use Rattle.std.proofs.Common.{List, ℕ}
 use Rattle.aho_base.specs.Patterns.{Patterns}
 use Rattle.aho_stream.specs.After.{IsAfter}
-use Rattle.bench_tests.proofs.stream_finds.told_under.Given as goal
+use Rattle.stream_tests.proofs.stream_finds.told_under.Given as goal
 
 abbrev pub invariant-loop : goal.invariant-loop
 invariant-loop g l =

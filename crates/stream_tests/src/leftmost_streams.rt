@@ -6,7 +6,7 @@ use crate::scripted::{ScriptedSink, ScriptedSource, Turn};
 use crate::stream_finds::{ONE_BYTE, found_of, told_under};
 use crate::streams::{Numbers, behind, replaces};
 use aho_base::error::StreamError;
-use aho_base::search::{Anchored, Input, MatchKind, PatternID};
+use aho_base::search::{Input, MatchKind, PatternID};
 use aho_search::automaton::Automaton;
 use bench::listing::finds;
 use bench::pattern_set::PatternSet;
@@ -145,12 +145,7 @@ fn settled<A: Automaton>(
     let mut told = Vec::new(alloc);
     let mut from = 0;
     for m in finds(alloc, patterns, Input::new(bytes))? {
-        let sid = state_after(
-            rt,
-            automaton,
-            Anchored::No,
-            bytes.get(from..).unwrap_or(&[]),
-        );
+        let sid = state_after(rt, automaton, bytes.get(from..).unwrap_or(&[]));
         if automaton.match_kind() != MatchKind::Standard && !automaton.is_dead(sid) {
             return Ok(told);
         }

@@ -1,0 +1,22 @@
+//! The tests of streams and of the program: worked rows under every cut, random streams, limits, refusals, and devices
+//! whose calls go by a list.
+#![tactic(auto)]
+
+#[cfg(test)]
+mod asserts;
+#[cfg(test)]
+mod automata;
+#[cfg(test)]
+mod devices;
+#[cfg(test)]
+mod leftmost_streams;
+#[cfg(test)]
+mod program;
+#[cfg(test)]
+mod relinked;
+#[cfg(test)]
+mod scripted;
+#[cfg(test)]
+mod stream_finds;
+#[cfg(test)]
+mod streams;

@@ -1,0 +1,186 @@
+//! Streams over an automaton that is made from what another one tells: with them it does what that one does.
+
+ghost use Rattle.aho_base.specs.Patterns.{Patterns};
+
+use crate::asserts::{assert_same, assert_same_in};
+use crate::automata::{nfa_of, relinked_of};
+use crate::scripted::{ScriptedSink, ScriptedSource, Turn};
+use crate::stream_finds::told_under;
+use aho_base::error::StreamError;
+use aho_base::search::MatchKind;
+use aho_devices::write::write_whole;
+use aho_search::automaton::Automaton;
+use aho_stream::replace::{try_stream_replace_all, try_stream_replace_all_with};
+use std::alloc::Global;
+use std::process::Abort;
+use std::test::Fail;
+
+/// A stream, with the pieces for its patterns.
+struct Stream {
+    patterns: &'static [&'static [u8]],
+    pieces: &'static [&'static [u8]],
+    given: &'static [u8],
+}
+
+const STREAMS: &[Stream] = &[
+    Stream {
+        patterns: &[b"fox", b"brown", b"quick"],
+        pieces: &[b"sloth", b"grey", b"slow"],
+        given: b"The quick brown fox.",
+    },
+    Stream {
+        patterns: &[b"aa"],
+        pieces: &[b"b"],
+        given: b"aaaaa",
+    },
+    Stream {
+        patterns: &[b"a"],
+        pieces: &[b""],
+        given: b"bab",
+    },
+    Stream {
+        patterns: &[],
+        pieces: &[],
+        given: b"abc",
+    },
+    Stream {
+        patterns: &[],
+        pieces: &[],
+        given: b"",
+    },
+    Stream {
+        patterns: &[b"ab"],
+        pieces: &[b"-"],
+        given: b"aab",
+    },
+    Stream {
+        patterns: &[b"a", b""],
+        pieces: &[b"x", b"y"],
+        given: b"ab",
+    },
+    Stream {
+        patterns: &[b"aaab"],
+        pieces: &[b"x"],
+        given: b"aaaaaaaa",
+    },
+    Stream {
+        patterns: &[b"samwise", b"sam", b"wise"],
+        pieces: &[b"A", b"B", b"C"],
+        given: b"xsamwise samX sam",
+    },
+];
+
+/// The turns of a source or a sink.
+const TURNS: &[&[Turn]] = &[
+    &[],
+    &[Turn::Move(1); 64],
+    &[Turn::Move(6), Turn::Move(0)],
+    &[Turn::Move(7), Turn::Fail],
+    &[Turn::Move(1), Turn::Move(2), Turn::Fail],
+];
+
+/// What becomes of a stream: the answer of a replacement, what was written, and how often its devices were called.
+#[derive(Drop)]
+struct Outcome {
+    answer: Result<(), StreamError>,
+    written: Vec<u8>,
+    reads: usize,
+    writes: usize,
+}
+
+/// What becomes of a stream whose matches are replaced by their pieces, or put in brackets by a closure.
+fn replaced<A: Automaton>(
+    rt: &impl Abort,
+    alloc: Global,
+    automaton: &A,
+    stream: &Stream,
+    turns: (&[Turn], &[Turn]),
+    in_brackets: bool,
+) -> Result<Outcome, Fail>
+    requires of { (p : Patterns) × A.is_of automaton.now p }
+{
+    assert_eq!(rt; stream.pieces.len(), automaton.patterns_len());
+    let mut source = ScriptedSource::new(stream.given, turns.0);
+    let mut sink = ScriptedSink::new(alloc, turns.1);
+    let answer = if in_brackets {
+        try_stream_replace_all_with(
+            alloc,
+            automaton,
+            &mut source,
+            &mut sink,
+            |_m, matched, sink| {
+                write_whole(sink, b"[")?;
+                write_whole(sink, matched)?;
+                write_whole(sink, b"]")
+            },
+        )
+    } else {
+        try_stream_replace_all(alloc, automaton, &mut source, &mut sink, stream.pieces)
+    };
+    Ok(Outcome {
+        answer,
+        written: Vec::from_slice(alloc, sink.taken())?,
+        reads: source.reads(),
+        writes: sink.writes(),
+    })
+}
+
+/// One automaton does with a stream what another one does.
+fn does_the_same<A: Automaton, B: Automaton>(
+    rt: &impl Abort,
+    alloc: Global,
+    first: &A,
+    second: &B,
+    stream: &Stream,
+) -> Result<(), Fail>
+    requires first { (p : Patterns) × A.is_of first.now p }
+    requires second { (p : Patterns) × B.is_of second.now p }
+{
+    for reads in TURNS {
+        for writes in TURNS {
+            for in_brackets in [false, true] {
+                let turns = (*reads, *writes);
+                let wanted = replaced(rt, alloc, first, stream, turns, in_brackets)?;
+                let told = replaced(rt, alloc, second, stream, turns, in_brackets)?;
+                assert_same_in(rt, &stream.given, told.answer, wanted.answer);
+                assert_same(rt, told.written.as_slice(), wanted.written.as_slice());
+                assert_same_in(rt, &stream.given, told.reads, wanted.reads);
+                assert_same_in(rt, &stream.given, told.writes, wanted.writes);
+            }
+        }
+        if first.min_pattern_len() == 0 {
+            continue;
+        }
+        for limit in [0, 1, 9, 15, 100] {
+            let mut source = ScriptedSource::new(stream.given, reads);
+            let wanted = told_under(alloc, first, &mut source, limit)?;
+            let mut source = ScriptedSource::new(stream.given, reads);
+            let told = told_under(alloc, second, &mut source, limit)?;
+            assert_same_in(rt, &limit, told.items.as_slice(), wanted.items.as_slice());
+            assert_same_in(rt, &stream.given, told.lookups, wanted.lookups);
+            assert_same_in(rt, &stream.given, told.position, wanted.position);
+        }
+    }
+    Ok(())
+}
+
+#[test]
+fn streams_are_searched_and_replaced_alike(rt: HostRuntime) -> Result<(), Fail> {
+    for stream in STREAMS {
+        let nfa = nfa_of(&rt, rt.alloc(), stream.patterns, MatchKind::Standard, false);
+        let relinked = relinked_of(&rt, rt.alloc(), &nfa);
+        does_the_same(&rt, rt.alloc(), &nfa, &relinked, stream)?;
+    }
+    Ok(())
+}
+
+#[test]
+fn a_stream_is_walked_at_the_same_cost(rt: HostRuntime) -> Result<(), Fail> {
+    let stream = &STREAMS[7];
+    let nfa = nfa_of(&rt, rt.alloc(), stream.patterns, MatchKind::Standard, false);
+    let relinked = relinked_of(&rt, rt.alloc(), &nfa);
+    let mut source = ScriptedSource::new(stream.given, &[]);
+    let told = told_under(rt.alloc(), &relinked, &mut source, 100)?;
+    assert_same(&rt, (told.lookups, told.position), (13, 8));
+    Ok(())
+}
