@@ -325,7 +325,25 @@ fn beginnings<'w>(alloc: Global, word: &'w [u8]) -> Result<Vec<&'w [u8]>, AllocE
     Ok(beginnings)
 }
 
-/// The matches of these words are found in these bytes, though each walk goes over 64 bytes behind a match again.
+/// These matches are told of bytes that come one by one, though each walk goes over the bytes behind a match again.
+fn walks_again<A: Automaton>(
+    rt: &impl Abort,
+    alloc: Global,
+    automaton: &A,
+    kind: MatchKind,
+    given: &[u8],
+    wanted: &[(usize, usize, usize)],
+) -> Result<(), Fail>
+    requires of { (p : Patterns) × A.is_of automaton.now p }
+{
+    let mut source = ScriptedSource::new(given, ONE_BYTE);
+    let told = told_under(alloc, automaton, &mut source, 1_000)?;
+    has_matches(rt, &kind, &told, wanted);
+    assert_in(rt, &kind, told.position <= 65 * 150);
+    Ok(())
+}
+
+/// The matches of these words are told of these bytes.
 fn is_walked_again(
     rt: &impl Abort,
     alloc: Global,
@@ -334,14 +352,10 @@ fn is_walked_again(
     given: &[u8],
 ) -> Result<(), Fail> {
     assert!(rt; words.len() <= PatternID::MAX.as_usize());
-    let nfa = nfa_of(rt, alloc, words, kind, false);
     let patterns = PatternSet::new(words, kind, false);
-    let mut source = ScriptedSource::new(given, ONE_BYTE);
-    let told = told_under(alloc, &nfa, &mut source, 1_000)?;
     let wanted = plainly_found(alloc, &patterns, given)?;
-    has_matches(rt, &kind, &told, &wanted);
-    assert_in(rt, &kind, told.position <= 65 * 150);
-    Ok(())
+    let nfa = nfa_of(rt, alloc, words, kind, false);
+    walks_again(rt, alloc, &nfa, kind, given, &wanted)
 }
 
 #[test]

@@ -157,70 +157,72 @@ fn prints(
     Ok(())
 }
 
+/// Words, an input, the status and what is printed.
+const FINDS: &[(&[&str], &[u8], u8, &str)] = &[
+    (
+        &["find", "standard", "b", "abc", "abcd"],
+        b"abcd",
+        0,
+        "0 1 2\n",
+    ),
+    (&["find", "standard", "b", "abc", "abcd"], b"xyz", 1, ""),
+    (
+        &["find", "first", "samwise", "sam"],
+        b"samwise",
+        0,
+        "0 0 7\n",
+    ),
+    (
+        &["find", "first", "sam", "samwise"],
+        b"samwise",
+        0,
+        "0 0 3\n",
+    ),
+    (
+        &["find", "first", "abcd", "b", "bce", "ce"],
+        b"abce",
+        0,
+        "1 1 2\n3 2 4\n",
+    ),
+    (
+        &["find", "longest", "abcd", "b", "bce"],
+        b"abce",
+        0,
+        "2 1 4\n",
+    ),
+    (
+        &["find", "first", "xyz", ""],
+        b"xy",
+        0,
+        "1 0 0\n1 1 1\n1 2 2\n",
+    ),
+    (&["find", "longest", "", "a"], b"ab", 0, "1 0 1\n0 2 2\n"),
+    (
+        &["find", "standard", "-i", "apple", "maple", "snapple"],
+        b"Nobody likes maple in their apple flavored Snapple.",
+        0,
+        "1 13 18\n0 28 33\n2 43 50\n",
+    ),
+    (&["find", "first", "a", "b"], b"b", 0, "1 0 1\n"),
+    (&["find", "first", "b", "a"], b"b", 0, "0 0 1\n"),
+    (&["find", "standard", "-i", "apple"], b"APPLE", 0, "0 0 5\n"),
+    (
+        &["find", "standard", "apple", "-i"],
+        b"APPLE -i",
+        0,
+        "1 6 8\n",
+    ),
+    (&["find", "standard", "-i", "-i"], b"-I", 0, "0 0 2\n"),
+    (&["find", "first", ""], b"", 0, "0 0 0\n"),
+    (&["find", "standard", "b"], b"\xff\x00b", 0, "0 2 3\n"),
+    (&["find", "standard", "\u{e9}"], b"\xc3\xa9", 0, "0 0 2\n"),
+    (&["find", "standard", "a"], b"", 1, ""),
+];
+
 #[test]
 fn prints_the_finds(rt: HostRuntime) -> Result<(), Fail> {
-    let rows: [(&[&str], &[u8], u8, &str); 18] = [
-        (
-            &["find", "standard", "b", "abc", "abcd"],
-            b"abcd",
-            0,
-            "0 1 2\n",
-        ),
-        (&["find", "standard", "b", "abc", "abcd"], b"xyz", 1, ""),
-        (
-            &["find", "first", "samwise", "sam"],
-            b"samwise",
-            0,
-            "0 0 7\n",
-        ),
-        (
-            &["find", "first", "sam", "samwise"],
-            b"samwise",
-            0,
-            "0 0 3\n",
-        ),
-        (
-            &["find", "first", "abcd", "b", "bce", "ce"],
-            b"abce",
-            0,
-            "1 1 2\n3 2 4\n",
-        ),
-        (
-            &["find", "longest", "abcd", "b", "bce"],
-            b"abce",
-            0,
-            "2 1 4\n",
-        ),
-        (
-            &["find", "first", "xyz", ""],
-            b"xy",
-            0,
-            "1 0 0\n1 1 1\n1 2 2\n",
-        ),
-        (&["find", "longest", "", "a"], b"ab", 0, "1 0 1\n0 2 2\n"),
-        (
-            &["find", "standard", "-i", "apple", "maple", "snapple"],
-            b"Nobody likes maple in their apple flavored Snapple.",
-            0,
-            "1 13 18\n0 28 33\n2 43 50\n",
-        ),
-        (&["find", "first", "a", "b"], b"b", 0, "1 0 1\n"),
-        (&["find", "first", "b", "a"], b"b", 0, "0 0 1\n"),
-        (&["find", "standard", "-i", "apple"], b"APPLE", 0, "0 0 5\n"),
-        (
-            &["find", "standard", "apple", "-i"],
-            b"APPLE -i",
-            0,
-            "1 6 8\n",
-        ),
-        (&["find", "standard", "-i", "-i"], b"-I", 0, "0 0 2\n"),
-        (&["find", "first", ""], b"", 0, "0 0 0\n"),
-        (&["find", "standard", "b"], b"\xff\x00b", 0, "0 2 3\n"),
-        (&["find", "standard", "\u{e9}"], b"\xc3\xa9", 0, "0 0 2\n"),
-        (&["find", "standard", "a"], b"", 1, ""),
-    ];
-    for (words, input, status, printed) in rows {
-        prints(&rt, rt.alloc(), words, input, status, printed)?;
+    for (words, input, status, printed) in FINDS {
+        prints(&rt, rt.alloc(), words, input, *status, printed)?;
     }
     Ok(())
 }
@@ -408,11 +410,11 @@ const WRITER_ROWS: [WriterRow; 8] = [
 /// Two lines that are printed of some matches, or written by a replacement.
 const LINES: &[u8] = b"0 1 2\n0 3 4\n";
 
-/// How many bytes the writer holds in the end, where it takes `first` at least.
-fn held_of(then: Then, first: usize) -> usize {
+/// What the writer holds in the end, where it takes `first` bytes at least.
+fn held_of(then: Then, first: usize) -> &'static [u8] {
     match then {
-        Then::Takes => LINES.len(),
-        Then::TakesNone | Then::Fails(_) => first,
+        Then::Takes => LINES,
+        Then::TakesNone | Then::Fails(_) => LINES.get(..first).unwrap_or(&[]),
     }
 }
 
@@ -449,8 +451,8 @@ fn tells_the_writer(
     let (found, errors) = run_into(alloc, words, text, &mut output)?;
     let case = (&row.case, "after", &first);
     assert_same_in(rt, &case, found, 3);
-    let held = LINES.get(..held_of(row.then, first));
-    assert_same_in(rt, &case, Some(output.held.as_slice()), held);
+    let held = held_of(row.then, first);
+    assert_same_in(rt, &case, output.held.as_slice(), held);
     assert_in(rt, &case, output.flushed.is_empty());
     assert_same_in(rt, &case, errors.as_slice(), row.told.as_bytes());
     Ok(())

@@ -125,6 +125,14 @@ fn replaced<A: Automaton>(
     })
 }
 
+/// The same becomes of a stream as is wanted.
+fn becomes(rt: &impl Abort, stream: &Stream, told: &Outcome, wanted: &Outcome) {
+    assert_same_in(rt, &stream.given, &told.answer, &wanted.answer);
+    assert_same(rt, told.written.as_slice(), wanted.written.as_slice());
+    assert_same_in(rt, &stream.given, told.reads, wanted.reads);
+    assert_same_in(rt, &stream.given, told.writes, wanted.writes);
+}
+
 /// One automaton replaces in a stream what another one does, where the devices go by these turns.
 fn replaces_the_same<A: Automaton, B: Automaton>(
     rt: &impl Abort,
@@ -133,18 +141,14 @@ fn replaces_the_same<A: Automaton, B: Automaton>(
     second: &B,
     stream: &Stream,
     turns: (&[Turn], &[Turn]),
+    in_brackets: bool,
 ) -> Result<(), Fail>
     requires first { (p : Patterns) × A.is_of first.now p }
     requires second { (p : Patterns) × B.is_of second.now p }
 {
-    for in_brackets in [false, true] {
-        let wanted = replaced(rt, alloc, first, stream, turns, in_brackets)?;
-        let told = replaced(rt, alloc, second, stream, turns, in_brackets)?;
-        assert_same_in(rt, &stream.given, told.answer, wanted.answer);
-        assert_same(rt, told.written.as_slice(), wanted.written.as_slice());
-        assert_same_in(rt, &stream.given, told.reads, wanted.reads);
-        assert_same_in(rt, &stream.given, told.writes, wanted.writes);
-    }
+    let wanted = replaced(rt, alloc, first, stream, turns, in_brackets)?;
+    let told = replaced(rt, alloc, second, stream, turns, in_brackets)?;
+    becomes(rt, stream, &told, &wanted);
     Ok(())
 }
 
@@ -185,7 +189,9 @@ fn does_the_same<A: Automaton, B: Automaton>(
 {
     for reads in TURNS {
         for writes in TURNS {
-            replaces_the_same(rt, alloc, first, second, stream, (*reads, *writes))?;
+            let turns = (*reads, *writes);
+            replaces_the_same(rt, alloc, first, second, stream, turns, false)?;
+            replaces_the_same(rt, alloc, first, second, stream, turns, true)?;
         }
         if first.min_pattern_len() > 0 {
             tells_the_same(rt, alloc, first, second, stream, reads)?;

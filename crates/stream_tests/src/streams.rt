@@ -144,19 +144,55 @@ fn puts_an_x<A: Automaton>(
     })
 }
 
+/// The stream of a row is replaced where its devices move so many bytes at once.
+fn is_replaced_under_a_cut<A: Automaton>(
+    rt: &impl Abort,
+    alloc: Global,
+    automaton: &A,
+    row: &Row,
+    count: usize,
+) -> Result<(), Fail>
+    requires of { (p : Patterns) × A.is_of automaton.now p }
+{
+    let turns = turns_of(alloc, Turn::Move(count), row.given.len())?;
+    let mut source = ScriptedSource::new(row.given, &turns);
+    let mut sink = ScriptedSink::new(alloc, &turns);
+    replaces(rt, alloc, automaton, row.pieces, &mut source, &mut sink)?;
+    assert_same_in(rt, (&count, "bytes at once"), sink.taken(), row.written);
+    Ok(())
+}
+
+/// The stream of a row is replaced, whatever its devices move at once.
+fn is_replaced_under_every_cut(rt: &impl Abort, alloc: Global, row: &Row) -> Result<(), Fail> {
+    let nfa = nfa_of(rt, alloc, row.patterns, MatchKind::Standard, false);
+    for count in 1..=row.given.len() + 1 {
+        is_replaced_under_a_cut(rt, alloc, &nfa, row, count)?;
+    }
+    Ok(())
+}
+
 #[test]
 fn each_row_is_replaced_under_every_cut(rt: HostRuntime) -> Result<(), Fail> {
-    let alloc = rt.alloc();
     for row in ROWS {
-        let nfa = nfa_of(&rt, alloc, row.patterns, MatchKind::Standard, false);
-        for count in 1..=row.given.len() + 1 {
-            let turns = turns_of(alloc, Turn::Move(count), row.given.len())?;
-            let mut source = ScriptedSource::new(row.given, &turns);
-            let mut sink = ScriptedSink::new(alloc, &turns);
-            replaces(&rt, alloc, &nfa, row.pieces, &mut source, &mut sink)?;
-            assert_same_in(&rt, (&count, "bytes at once"), sink.taken(), row.written);
-        }
+        is_replaced_under_every_cut(&rt, rt.alloc(), row)?;
     }
+    Ok(())
+}
+
+/// The animals' stream ends at a read that gives nothing, and what is behind is not read.
+fn ends_at_an_empty_read<A: Automaton>(
+    rt: &impl Abort,
+    alloc: Global,
+    automaton: &A,
+) -> Result<(), Fail>
+    requires of { (p : Patterns) × A.is_of automaton.now p }
+{
+    let turns = [Turn::Move(6), Turn::Move(0)];
+    let mut source = ScriptedSource::new(ANIMALS.given, &turns);
+    let mut sink = ScriptedSink::new(alloc, &[]);
+    replaces(rt, alloc, automaton, ANIMALS.pieces, &mut source, &mut sink)?;
+    assert_same(rt, sink.taken(), b"The qu".as_slice());
+    assert_same(rt, source.rest(), b"ick brown fox.".as_slice());
     Ok(())
 }
 
@@ -164,13 +200,7 @@ fn each_row_is_replaced_under_every_cut(rt: HostRuntime) -> Result<(), Fail> {
 fn an_empty_read_ends_the_stream(rt: HostRuntime) -> Result<(), Fail> {
     let alloc = rt.alloc();
     let nfa = nfa_of(&rt, alloc, ANIMALS.patterns, MatchKind::Standard, false);
-    let turns = [Turn::Move(6), Turn::Move(0)];
-    let mut source = ScriptedSource::new(ANIMALS.given, &turns);
-    let mut sink = ScriptedSink::new(alloc, &[]);
-    replaces(&rt, alloc, &nfa, ANIMALS.pieces, &mut source, &mut sink)?;
-    assert_same(&rt, sink.taken(), b"The qu".as_slice());
-    assert_same(&rt, source.rest(), b"ick brown fox.".as_slice());
-    Ok(())
+    ends_at_an_empty_read(&rt, alloc, &nfa)
 }
 
 #[test]
@@ -187,18 +217,31 @@ fn a_failed_read_leaves_a_beginning(rt: HostRuntime) -> Result<(), Fail> {
     Ok(())
 }
 
+/// What is written before a write fails is this beginning, whose bytes are written one by one.
+fn is_left_by_a_failed_write<A: Automaton>(
+    rt: &impl Abort,
+    alloc: Global,
+    automaton: &A,
+    beginning: &[u8],
+) -> Result<(), Fail>
+    requires of { (p : Patterns) × A.is_of automaton.now p }
+{
+    let mut turns = turns_of(alloc, Turn::Move(1), beginning.len())?;
+    turns.push(Turn::Fail)?;
+    let mut source = ScriptedSource::new(ANIMALS.given, &[]);
+    let mut sink = ScriptedSink::new(alloc, &turns);
+    let answer = replaces(rt, alloc, automaton, ANIMALS.pieces, &mut source, &mut sink);
+    assert_same(rt, answer, Err(StreamError::Write(Fault)));
+    assert_same(rt, sink.taken(), beginning);
+    Ok(())
+}
+
 #[test]
 fn a_failed_write_leaves_a_beginning(rt: HostRuntime) -> Result<(), Fail> {
     let alloc = rt.alloc();
     let nfa = nfa_of(&rt, alloc, ANIMALS.patterns, MatchKind::Standard, false);
     for count in 0..ANIMALS.written.len() {
-        let mut turns = turns_of(alloc, Turn::Move(1), count)?;
-        turns.push(Turn::Fail)?;
-        let mut source = ScriptedSource::new(ANIMALS.given, &[]);
-        let mut sink = ScriptedSink::new(alloc, &turns);
-        let answer = replaces(&rt, alloc, &nfa, ANIMALS.pieces, &mut source, &mut sink);
-        assert_same(&rt, answer, Err(StreamError::Write(Fault)));
-        assert_same(&rt, sink.taken(), &ANIMALS.written[..count]);
+        is_left_by_a_failed_write(&rt, alloc, &nfa, &ANIMALS.written[..count])?;
     }
     Ok(())
 }
