@@ -1,16 +1,19 @@
 //! Streams of the leftmost kinds: worked rows, and random streams of the three kinds against plain iteration.
 
+ghost use Rattle.aho_base.specs.Patterns.{Patterns};
+
 use crate::asserts::{assert_in, assert_same, assert_same_in};
 use crate::automata::{nfa_of, state_after};
-use crate::scripted::{ScriptedSink, ScriptedSource, Turn};
-use crate::stream_finds::{ONE_BYTE, found_of, told_under};
-use crate::streams::{Numbers, behind, replaces};
+use crate::scripted::{ScriptedSource, Turn};
+use crate::stream_finds::{ONE_BYTE, Told, found_of, told_under};
+use crate::streams::{Numbers, behind, written};
 use aho_base::error::StreamError;
 use aho_base::search::{Input, MatchKind, PatternID};
 use aho_search::automaton::Automaton;
 use bench::listing::finds;
 use bench::pattern_set::PatternSet;
-use std::alloc::Global;
+use std::alloc::{AllocError, Global};
+use std::fmt::Debug;
 use std::process::Abort;
 use std::test::Fail;
 
@@ -92,14 +95,31 @@ fn item_of(told: &Result<(usize, usize, usize), StreamError>) -> Item {
     }
 }
 
+/// What the stream of a row tells.
+fn items_of<A: Automaton>(alloc: Global, automaton: &A, row: &Row) -> Result<Vec<Item>, Fail>
+    requires of { (p : Patterns) × A.is_of automaton.now p }
+{
+    let mut source = ScriptedSource::new(row.given, row.reads);
+    let told = told_under(alloc, automaton, &mut source, row.limit)?;
+    let mut items = Vec::new(alloc);
+    for item in &told.items {
+        items.push(item_of(item))?;
+    }
+    Ok(items)
+}
+
+/// The stream of a row tells what is wanted.
+fn is_told(rt: &impl Abort, alloc: Global, row: &Row) -> Result<(), Fail> {
+    let nfa = nfa_of(rt, alloc, row.patterns, row.kind, false);
+    let items = items_of(alloc, &nfa, row)?;
+    assert_in(rt, &row.given, items.as_slice() == row.told);
+    Ok(())
+}
+
 #[test]
 fn a_leftmost_match_waits_until_it_is_settled(rt: HostRuntime) -> Result<(), Fail> {
     for row in rows() {
-        let nfa = nfa_of(&rt, rt.alloc(), row.patterns, row.kind, false);
-        let mut source = ScriptedSource::new(row.given, row.reads);
-        let told = told_under(rt.alloc(), &nfa, &mut source, row.limit)?;
-        let items: Vec<Item> = told.items.iter().map(item_of).collect(rt.alloc())?;
-        assert_in(&rt, &row.given, items.as_slice() == row.told);
+        is_told(&rt, rt.alloc(), &row)?;
     }
     Ok(())
 }
@@ -116,20 +136,20 @@ fn the_walk_starts_again_behind_a_match(rt: HostRuntime) -> Result<(), Fail> {
 
 #[test]
 fn leftmost_matches_are_replaced(rt: HostRuntime) -> Result<(), Fail> {
-    let alloc = rt.alloc();
-    let nfa = nfa_of(&rt, alloc, SAM, MatchKind::LeftmostFirst, false);
-    let mut source = ScriptedSource::new(b"samwi", ONE_BYTE);
-    let mut sink = ScriptedSink::new(alloc, &[]);
-    replaces(&rt, alloc, &nfa, &[b"A", b"B"], &mut source, &mut sink)?;
-    assert_same(&rt, sink.taken(), b"Bwi".as_slice());
+    let nfa = nfa_of(&rt, rt.alloc(), SAM, MatchKind::LeftmostFirst, false);
+    let written = written(&rt, rt.alloc(), &nfa, &[b"A", b"B"], b"samwi", ONE_BYTE)?;
+    assert_same(&rt, written.as_slice(), b"Bwi".as_slice());
+    Ok(())
+}
+
+#[test]
+fn a_leftmost_match_behind_a_buffer_is_replaced(rt: HostRuntime) -> Result<(), Fail> {
     let words: [&[u8]; 2] = [b"foobarbaz", b"foo"];
-    let nfa = nfa_of(&rt, alloc, &words, MatchKind::LeftmostLongest, false);
-    let given = behind(alloc, 65_530, b"foobarqux")?;
-    let wanted = behind(alloc, 65_530, b"Bbarqux")?;
-    let mut source = ScriptedSource::new(&given, &[]);
-    let mut sink = ScriptedSink::new(alloc, &[]);
-    replaces(&rt, alloc, &nfa, &[b"A", b"B"], &mut source, &mut sink)?;
-    assert!(&rt; sink.taken() == wanted.as_slice());
+    let nfa = nfa_of(&rt, rt.alloc(), &words, MatchKind::LeftmostLongest, false);
+    let given = behind(rt.alloc(), 65_530, b"foobarqux")?;
+    let wanted = behind(rt.alloc(), 65_530, b"Bbarqux")?;
+    let written = written(&rt, rt.alloc(), &nfa, &[b"A", b"B"], &given, &[])?;
+    assert_in(&rt, "foo", written.as_slice() == wanted.as_slice());
     Ok(())
 }
 
@@ -155,6 +175,87 @@ fn settled<A: Automaton>(
     Ok(told)
 }
 
+/// The matches of plain iteration over these bytes.
+fn plainly_found(
+    alloc: Global,
+    patterns: &PatternSet<'_>,
+    bytes: &[u8],
+) -> Result<Vec<(usize, usize, usize)>, AllocError> {
+    let mut found = Vec::new(alloc);
+    for m in finds(alloc, patterns, Input::new(bytes))? {
+        found.push(found_of(m))?;
+    }
+    Ok(found)
+}
+
+/// The matches that a stream tells, which may give so many bytes: those of plain iteration, and where it would give more
+/// those that are settled.
+fn found_under<A: Automaton>(
+    rt: &impl Abort,
+    alloc: Global,
+    automaton: &A,
+    patterns: &PatternSet<'_>,
+    given: &[u8],
+    limit: usize,
+) -> Result<Vec<(usize, usize, usize)>, Fail> {
+    if let Some(bytes) = given.get(..limit) {
+        return settled(rt, alloc, automaton, patterns, bytes);
+    }
+    Ok(plainly_found(alloc, patterns, given)?)
+}
+
+/// How many of the first so many turns fail.
+fn failed(turns: &[Turn], reads: usize) -> usize {
+    let mut failed = 0usize;
+    for turn in turns.iter().take(reads) {
+        if matches!(turn, Turn::Fail) {
+            failed = failed.saturating_add(1);
+        }
+    }
+    failed
+}
+
+/// The matches that are told are these. A message tells the case.
+fn has_matches<C: Debug + Drop>(
+    rt: &impl Abort,
+    case: C,
+    told: &Told,
+    wanted: &[(usize, usize, usize)],
+) {
+    let matches = told.items.iter().filter_map(|item| item.as_ref().ok());
+    assert_in(rt, case, matches.eq(wanted.iter()));
+}
+
+/// A random stream.
+#[derive(Drop)]
+struct Stream {
+    given: Vec<u8>,
+    reads: Vec<Turn>,
+    limit: usize,
+}
+
+impl Stream {
+    /// The stream that these numbers lead to.
+    fn new(alloc: Global, numbers: &mut Numbers) -> Result<Stream, AllocError> {
+        Ok(Stream {
+            given: numbers.bytes(alloc)?,
+            reads: numbers.turns(alloc, 60, 10)?,
+            limit: numbers.next(70) as usize,
+        })
+    }
+
+    /// What an automaton tells of it, and how many faults are among that: those of its reads, and the limit's.
+    fn told<A: Automaton>(&self, alloc: Global, automaton: &A) -> Result<(Told, usize), Fail>
+        requires of { (p : Patterns) × A.is_of automaton.now p }
+    {
+        let mut source = ScriptedSource::new(&self.given, &self.reads);
+        let told = told_under(alloc, automaton, &mut source, self.limit as u64)?;
+        let failed = failed(&self.reads, source.reads());
+        let met = usize::from(self.limit <= self.given.len());
+        Ok((told, failed.saturating_add(met)))
+    }
+}
+
 /// A random stream tells the matches of plain iteration, however it is cut and whatever fails, and those that are settled
 /// where a limit is met.
 fn is_searched_as_plainly(
@@ -162,85 +263,107 @@ fn is_searched_as_plainly(
     alloc: Global,
     words: &[&[u8]],
     kind: MatchKind,
-    numbers: &mut Numbers,
+    stream: &Stream,
 ) -> Result<(), Fail> {
     assert!(rt; words.len() <= PatternID::MAX.as_usize());
     let nfa = nfa_of(rt, alloc, words, kind, false);
     let patterns = PatternSet::new(words, kind, false);
-    let given = numbers.bytes(alloc)?;
-    let turns = numbers.turns(alloc, 60, 10)?;
-    let limit = numbers.next(70) as usize;
-    let mut source = ScriptedSource::new(&given, &turns);
-    let told = told_under(alloc, &nfa, &mut source, limit as u64)?;
-    let mut wanted = Vec::new(alloc);
-    if let Some(bytes) = given.get(..limit) {
-        wanted = settled(rt, alloc, &nfa, &patterns, bytes)?;
-    } else {
-        for m in finds(alloc, &patterns, Input::new(&given))? {
-            wanted.push(found_of(m))?;
-        }
-    }
-    let made = turns.iter().take(source.reads());
-    let mut faults = made.filter(|turn| matches!(turn, Turn::Fail)).count();
-    if limit <= given.len() {
-        faults = faults.saturating_add(1);
-    }
-    let items = told.items.len();
-    let case = (&kind, &given);
-    assert_same_in(rt, &case, items, wanted.len().saturating_add(faults));
-    let matches = told.items.iter().filter_map(|item| item.as_ref().ok());
-    assert_in(rt, &case, matches.eq(wanted.iter()));
+    let wanted = found_under(rt, alloc, &nfa, &patterns, &stream.given, stream.limit)?;
+    let (told, faults) = stream.told(alloc, &nfa)?;
+    let case = (kind, stream.given.as_slice());
+    let items = wanted.len().saturating_add(faults);
+    assert_same_in(rt, &case, told.items.len(), items);
+    has_matches(rt, &case, &told, &wanted);
     let most = told.position.saturating_mul(2);
     assert_in(rt, &case, told.lookups <= most);
     Ok(())
 }
 
-#[test]
-fn random_streams_of_each_kind_are_searched_as_plainly(rt: HostRuntime) -> Result<(), Fail> {
-    let alloc = rt.alloc();
-    let mut numbers = Numbers::new(16);
-    let sets: [&[&[u8]]; 3] = [
-        &[b"ab", b"bca", b"c", b"abcb"],
-        &[b"abcd", b"ab", b"bcd", b"c", b"dab"],
-        &[b"a", b"aa", b"aaa", b"baa", b"b", b"cab"],
-    ];
-    for kind in [
-        MatchKind::Standard,
-        MatchKind::LeftmostFirst,
-        MatchKind::LeftmostLongest,
-    ] {
-        for words in sets {
-            for _ in 0..40 {
-                is_searched_as_plainly(&rt, alloc, words, kind, &mut numbers)?;
-            }
-        }
+/// The patterns of random streams.
+const SETS: [&[&[u8]]; 3] = [
+    &[b"ab", b"bca", b"c", b"abcb"],
+    &[b"abcd", b"ab", b"bcd", b"c", b"dab"],
+    &[b"a", b"aa", b"aaa", b"baa", b"b", b"cab"],
+];
+
+/// Random streams of these patterns and this kind tell the matches of plain iteration.
+fn are_searched_as_plainly(
+    rt: &impl Abort,
+    alloc: Global,
+    words: &[&[u8]],
+    kind: MatchKind,
+    numbers: &mut Numbers,
+) -> Result<(), Fail> {
+    for _ in 0..40 {
+        let stream = Stream::new(alloc, numbers)?;
+        is_searched_as_plainly(rt, alloc, words, kind, &stream)?;
     }
     Ok(())
 }
 
 #[test]
-fn nested_patterns_are_walked_again(rt: HostRuntime) -> Result<(), Fail> {
-    let alloc = rt.alloc();
-    let letters = [b'a'; 64];
-    let mut words = Vec::new(alloc);
-    for count in 1..=64 {
-        words.push(&letters[..count])?;
+fn random_streams_of_each_kind_are_searched_as_plainly(rt: HostRuntime) -> Result<(), Fail> {
+    let mut numbers = Numbers::new(16);
+    for kind in [
+        MatchKind::Standard,
+        MatchKind::LeftmostFirst,
+        MatchKind::LeftmostLongest,
+    ] {
+        for words in SETS {
+            are_searched_as_plainly(&rt, rt.alloc(), words, kind, &mut numbers)?;
+        }
     }
-    assert!(&rt; words.len() <= PatternID::MAX.as_usize());
+    Ok(())
+}
+
+/// The beginnings of a word, by length.
+fn beginnings<'w>(alloc: Global, word: &'w [u8]) -> Result<Vec<&'w [u8]>, AllocError> {
+    let mut beginnings = Vec::new(alloc);
+    for count in 1..=word.len() {
+        beginnings.push(&word[..count])?;
+    }
+    Ok(beginnings)
+}
+
+/// These matches are told of bytes that come one by one, though each walk goes over the bytes behind a match again.
+fn walks_again<A: Automaton>(
+    rt: &impl Abort,
+    alloc: Global,
+    automaton: &A,
+    kind: MatchKind,
+    given: &[u8],
+    wanted: &[(usize, usize, usize)],
+) -> Result<(), Fail>
+    requires of { (p : Patterns) × A.is_of automaton.now p }
+{
+    let mut source = ScriptedSource::new(given, ONE_BYTE);
+    let told = told_under(alloc, automaton, &mut source, 1_000)?;
+    has_matches(rt, &kind, &told, wanted);
+    assert_in(rt, &kind, told.position <= 65 * 150);
+    Ok(())
+}
+
+/// The matches of these words are told of these bytes.
+fn is_walked_again(
+    rt: &impl Abort,
+    alloc: Global,
+    words: &[&[u8]],
+    kind: MatchKind,
+    given: &[u8],
+) -> Result<(), Fail> {
+    assert!(rt; words.len() <= PatternID::MAX.as_usize());
+    let patterns = PatternSet::new(words, kind, false);
+    let wanted = plainly_found(alloc, &patterns, given)?;
+    let nfa = nfa_of(rt, alloc, words, kind, false);
+    walks_again(rt, alloc, &nfa, kind, given, &wanted)
+}
+
+#[test]
+fn nested_patterns_are_walked_again(rt: HostRuntime) -> Result<(), Fail> {
+    let words = beginnings(rt.alloc(), &[b'a'; 64])?;
+    let given = vec![in rt.alloc(); b'a'; 150]?;
     for kind in [MatchKind::LeftmostFirst, MatchKind::LeftmostLongest] {
-        let nfa = nfa_of(&rt, alloc, &words, kind, false);
-        let patterns = PatternSet::new(&words, kind, false);
-        let given = vec![in alloc; b'a'; 150]?;
-        let mut source = ScriptedSource::new(&given, ONE_BYTE);
-        let told = told_under(alloc, &nfa, &mut source, 1_000)?;
-        let wanted = finds(alloc, &patterns, Input::new(&given))?;
-        let matches = told.items.iter().filter_map(|item| item.as_ref().ok());
-        assert_in(
-            &rt,
-            &kind,
-            matches.copied().eq(wanted.iter().map(|m| found_of(*m))),
-        );
-        assert_in(&rt, &kind, told.position <= 65 * 150);
+        is_walked_again(&rt, rt.alloc(), &words, kind, &given)?;
     }
     Ok(())
 }

@@ -9,6 +9,7 @@ use commands::run::{report, run};
 use std::alloc::{AllocError, Global};
 use std::io;
 use std::io::{ErrorKind, Read, Write};
+use std::process::Abort;
 use std::test::Fail;
 
 /// How many bytes the program asks of its input at once.
@@ -138,75 +139,90 @@ fn run_on<R: Read>(
     Ok((status, output, errors))
 }
 
+/// These words on this input end with this status and print this, and no errors.
+fn prints(
+    rt: &impl Abort,
+    alloc: Global,
+    words: &[&str],
+    input: &[u8],
+    status: u8,
+    printed: &str,
+) -> Result<(), Fail> {
+    let mut rest = input;
+    let (found, output, errors) = run_on(alloc, words, &mut rest)?;
+    let case = (&words, "on", &input);
+    assert_same_in(rt, &case, found, status);
+    assert_same_in(rt, &case, output.as_slice(), printed.as_bytes());
+    assert_in(rt, &case, errors.is_empty());
+    Ok(())
+}
+
+/// Words, an input, the status and what is printed.
+const FINDS: &[(&[&str], &[u8], u8, &str)] = &[
+    (
+        &["find", "standard", "b", "abc", "abcd"],
+        b"abcd",
+        0,
+        "0 1 2\n",
+    ),
+    (&["find", "standard", "b", "abc", "abcd"], b"xyz", 1, ""),
+    (
+        &["find", "first", "samwise", "sam"],
+        b"samwise",
+        0,
+        "0 0 7\n",
+    ),
+    (
+        &["find", "first", "sam", "samwise"],
+        b"samwise",
+        0,
+        "0 0 3\n",
+    ),
+    (
+        &["find", "first", "abcd", "b", "bce", "ce"],
+        b"abce",
+        0,
+        "1 1 2\n3 2 4\n",
+    ),
+    (
+        &["find", "longest", "abcd", "b", "bce"],
+        b"abce",
+        0,
+        "2 1 4\n",
+    ),
+    (
+        &["find", "first", "xyz", ""],
+        b"xy",
+        0,
+        "1 0 0\n1 1 1\n1 2 2\n",
+    ),
+    (&["find", "longest", "", "a"], b"ab", 0, "1 0 1\n0 2 2\n"),
+    (
+        &["find", "standard", "-i", "apple", "maple", "snapple"],
+        b"Nobody likes maple in their apple flavored Snapple.",
+        0,
+        "1 13 18\n0 28 33\n2 43 50\n",
+    ),
+    (&["find", "first", "a", "b"], b"b", 0, "1 0 1\n"),
+    (&["find", "first", "b", "a"], b"b", 0, "0 0 1\n"),
+    (&["find", "standard", "-i", "apple"], b"APPLE", 0, "0 0 5\n"),
+    (
+        &["find", "standard", "apple", "-i"],
+        b"APPLE -i",
+        0,
+        "1 6 8\n",
+    ),
+    (&["find", "standard", "-i", "-i"], b"-I", 0, "0 0 2\n"),
+    (&["find", "first", ""], b"", 0, "0 0 0\n"),
+    (&["find", "standard", "b"], b"\xff\x00b", 0, "0 2 3\n"),
+    (&["find", "standard", "\u{e9}"], b"\xc3\xa9", 0, "0 0 2\n"),
+    (&["find", "standard", "a"], b"", 1, ""),
+];
+
 #[test]
 fn prints_the_finds(rt: HostRuntime) -> Result<(), Fail> {
-    let rows: [(&[&str], &[u8], u8, &str); 18] = [
-        (
-            &["find", "standard", "b", "abc", "abcd"],
-            b"abcd",
-            0,
-            "0 1 2\n",
-        ),
-        (&["find", "standard", "b", "abc", "abcd"], b"xyz", 1, ""),
-        (
-            &["find", "first", "samwise", "sam"],
-            b"samwise",
-            0,
-            "0 0 7\n",
-        ),
-        (
-            &["find", "first", "sam", "samwise"],
-            b"samwise",
-            0,
-            "0 0 3\n",
-        ),
-        (
-            &["find", "first", "abcd", "b", "bce", "ce"],
-            b"abce",
-            0,
-            "1 1 2\n3 2 4\n",
-        ),
-        (
-            &["find", "longest", "abcd", "b", "bce"],
-            b"abce",
-            0,
-            "2 1 4\n",
-        ),
-        (
-            &["find", "first", "xyz", ""],
-            b"xy",
-            0,
-            "1 0 0\n1 1 1\n1 2 2\n",
-        ),
-        (&["find", "longest", "", "a"], b"ab", 0, "1 0 1\n0 2 2\n"),
-        (
-            &["find", "standard", "-i", "apple", "maple", "snapple"],
-            b"Nobody likes maple in their apple flavored Snapple.",
-            0,
-            "1 13 18\n0 28 33\n2 43 50\n",
-        ),
-        (&["find", "first", "a", "b"], b"b", 0, "1 0 1\n"),
-        (&["find", "first", "b", "a"], b"b", 0, "0 0 1\n"),
-        (&["find", "standard", "-i", "apple"], b"APPLE", 0, "0 0 5\n"),
-        (
-            &["find", "standard", "apple", "-i"],
-            b"APPLE -i",
-            0,
-            "1 6 8\n",
-        ),
-        (&["find", "standard", "-i", "-i"], b"-I", 0, "0 0 2\n"),
-        (&["find", "first", ""], b"", 0, "0 0 0\n"),
-        (&["find", "standard", "b"], b"\xff\x00b", 0, "0 2 3\n"),
-        (&["find", "standard", "\u{e9}"], b"\xc3\xa9", 0, "0 0 2\n"),
-        (&["find", "standard", "a"], b"", 1, ""),
-    ];
-    for (words, input, status, printed) in rows {
-        let mut rest = input;
-        let (found, output, errors) = run_on(rt.alloc(), words, &mut rest)?;
-        let case = (&words, "on", &input);
-        assert_same_in(&rt, &case, found, status);
-        assert_same_in(&rt, &case, output.as_slice(), printed.as_bytes());
-        assert_in(&rt, &case, errors.is_empty());
+    for (words, input, status, printed) in FINDS {
+        prints(&rt, rt.alloc(), words, input, *status, printed)?;
     }
     Ok(())
 }
@@ -232,12 +248,7 @@ fn prints_all_that_overlaps(rt: HostRuntime) -> Result<(), Fail> {
         (&["overlap", "a"], b"", 1, ""),
     ];
     for (words, input, status, printed) in rows {
-        let mut rest = input;
-        let (found, output, errors) = run_on(rt.alloc(), words, &mut rest)?;
-        let case = (&words, "on", &input);
-        assert_same_in(&rt, &case, found, status);
-        assert_same_in(&rt, &case, output.as_slice(), printed.as_bytes());
-        assert_in(&rt, &case, errors.is_empty());
+        prints(&rt, rt.alloc(), words, input, status, printed)?;
     }
     Ok(())
 }
@@ -267,31 +278,46 @@ fn tells_wrong_words(rt: HostRuntime) -> Result<(), Fail> {
     Ok(())
 }
 
+/// As many times "a", and "bb".
+fn text_of(alloc: Global, length: usize) -> Result<Vec<u8>, AllocError> {
+    let mut text = Vec::new(alloc);
+    text.resize(length, b'a')?;
+    text.extend_from_slice(b"bb")?;
+    Ok(text)
+}
+
+/// An input that gives all that is asked for is read to its end.
+fn is_read(rt: &impl Abort, alloc: Global, text: &[u8], printed: &str) -> Result<(), Fail> {
+    let mut input = text;
+    let (found, output, _errors) = run_on(alloc, &["find", "standard", "b"], &mut input)?;
+    let case = (&text.len(), "bytes");
+    assert_same_in(rt, &case, found, 0);
+    assert_same_in(rt, &case, output.as_slice(), printed.as_bytes());
+    assert_in(rt, &case, input.is_empty());
+    Ok(())
+}
+
+/// An input that gives a byte at a time is read to its end.
+fn is_read_slowly(rt: &impl Abort, alloc: Global, text: &[u8], printed: &str) -> Result<(), Fail> {
+    let mut slow = Slow { rest: text };
+    let (found, output, _errors) = run_on(alloc, &["find", "standard", "b"], &mut slow)?;
+    let case = (&text.len(), "bytes, one by one");
+    assert_same_in(rt, &case, found, 0);
+    assert_same_in(rt, &case, output.as_slice(), printed.as_bytes());
+    assert_in(rt, &case, slow.rest.is_empty());
+    Ok(())
+}
+
 #[test]
 fn reads_an_input_of_several_pieces(rt: HostRuntime) -> Result<(), Fail> {
-    let words = ["find", "standard", "b"];
     for (length, printed) in [
         (PIECE - 1, "0 16383 16384\n0 16384 16385\n"),
         (PIECE, "0 16384 16385\n0 16385 16386\n"),
         (3 * PIECE, "0 49152 49153\n0 49153 49154\n"),
     ] {
-        let mut text = Vec::new(rt.alloc());
-        text.resize(length, b'a')?;
-        text.extend_from_slice(b"bb")?;
-        let mut input = text.as_slice();
-        let (found, output, _errors) = run_on(rt.alloc(), &words, &mut input)?;
-        let case = (&length, "bytes");
-        assert_same_in(&rt, &case, found, 0);
-        assert_same_in(&rt, &case, output.as_slice(), printed.as_bytes());
-        assert_in(&rt, &case, input.is_empty());
-        let mut slow = Slow {
-            rest: text.as_slice(),
-        };
-        let (found, output, _errors) = run_on(rt.alloc(), &words, &mut slow)?;
-        let case = (&length, "bytes, one by one");
-        assert_same_in(&rt, &case, found, 0);
-        assert_same_in(&rt, &case, output.as_slice(), printed.as_bytes());
-        assert_in(&rt, &case, slow.rest.is_empty());
+        let text = text_of(rt.alloc(), length)?;
+        is_read(&rt, rt.alloc(), &text, printed)?;
+        is_read_slowly(&rt, rt.alloc(), &text, printed)?;
     }
     Ok(())
 }
@@ -321,89 +347,169 @@ fn tells_a_reader_that_fails(rt: HostRuntime) -> Result<(), Fail> {
     Ok(())
 }
 
-#[test]
-fn tells_a_writer_that_fails(rt: HostRuntime) -> Result<(), Fail> {
-    let find: [&str; 3] = ["find", "standard", "b"];
-    let replace: [&str; 5] = ["replace", "b", "0 3", "a", "0 1 2\n"];
-    let calls: [(&[&str], &[u8]); 2] = [(&find, b"abab"), (&replace, b"ab 4\n")];
-    let lines = b"0 1 2\n0 3 4\n";
-    let rows = [
-        (
-            "it is broken",
-            Then::Fails(ErrorKind::BrokenPipe),
-            None,
-            "write fault\n",
-        ),
-        (
-            "it is interrupted",
-            Then::Fails(ErrorKind::Interrupted),
-            None,
-            "write fault\n",
-        ),
-        (
-            "memory is wanted",
-            Then::Fails(ErrorKind::OutOfMemory),
-            None,
-            "write fault\n",
-        ),
-        (
-            "no byte is taken",
-            Then::TakesNone,
-            None,
-            "write took no bytes\n",
-        ),
-        (
-            "a buffer's write took no byte",
-            Then::Fails(ErrorKind::WriteZero),
-            None,
-            "write took no bytes\n",
-        ),
-        (
-            "a flush fails",
-            Then::Takes,
-            Some(ErrorKind::BrokenPipe),
-            "write fault\n",
-        ),
-        (
-            "a flush is interrupted",
-            Then::Takes,
-            Some(ErrorKind::Interrupted),
-            "write fault\n",
-        ),
-        (
-            "a buffer's flush took no byte",
-            Then::Takes,
-            Some(ErrorKind::WriteZero),
-            "write took no bytes\n",
-        ),
-    ];
-    for (case, then, flush, told) in rows {
-        for (words, text) in calls {
-            for first in [0, 1, 5, 6, 7, 11] {
-                let words = texts(rt.alloc(), words)?;
-                let mut output = Device::new(rt.alloc(), first, then, flush);
-                let mut errors = Vec::new(rt.alloc());
-                let mut input = text;
-                let found = run(
-                    rt.alloc(),
-                    words.as_slice(),
-                    &mut ReadSource::new(&mut input),
-                    &mut WriteSink::new(&mut output),
-                    &mut errors,
-                );
-                let held = match then {
-                    Then::Takes => lines.len(),
-                    Then::TakesNone | Then::Fails(_) => first,
-                };
-                let case = (&case, "after", &first);
-                assert_same_in(&rt, &case, found, 3);
-                assert!(rt; held <= lines.len());
-                assert_same_in(&rt, &case, output.held.as_slice(), &lines[..held]);
-                assert_in(&rt, &case, output.flushed.is_empty());
-                assert_same_in(&rt, &case, errors.as_slice(), told.as_bytes());
-            }
+/// What a writer does, and what is told of it.
+#[derive(Clone, Copy)]
+struct WriterRow {
+    case: &'static str,
+    then: Then,
+    flush: Option<ErrorKind>,
+    told: &'static str,
+}
+
+const WRITER_ROWS: [WriterRow; 8] = [
+    WriterRow {
+        case: "it is broken",
+        then: Then::Fails(ErrorKind::BrokenPipe),
+        flush: None,
+        told: "write fault\n",
+    },
+    WriterRow {
+        case: "it is interrupted",
+        then: Then::Fails(ErrorKind::Interrupted),
+        flush: None,
+        told: "write fault\n",
+    },
+    WriterRow {
+        case: "memory is wanted",
+        then: Then::Fails(ErrorKind::OutOfMemory),
+        flush: None,
+        told: "write fault\n",
+    },
+    WriterRow {
+        case: "no byte is taken",
+        then: Then::TakesNone,
+        flush: None,
+        told: "write took no bytes\n",
+    },
+    WriterRow {
+        case: "a buffer's write took no byte",
+        then: Then::Fails(ErrorKind::WriteZero),
+        flush: None,
+        told: "write took no bytes\n",
+    },
+    WriterRow {
+        case: "a flush fails",
+        then: Then::Takes,
+        flush: Some(ErrorKind::BrokenPipe),
+        told: "write fault\n",
+    },
+    WriterRow {
+        case: "a flush is interrupted",
+        then: Then::Takes,
+        flush: Some(ErrorKind::Interrupted),
+        told: "write fault\n",
+    },
+    WriterRow {
+        case: "a buffer's flush took no byte",
+        then: Then::Takes,
+        flush: Some(ErrorKind::WriteZero),
+        told: "write took no bytes\n",
+    },
+];
+
+/// Two lines that are printed of some matches, or written by a replacement.
+const LINES: &[u8] = b"0 1 2\n0 3 4\n";
+
+/// What the writer holds in the end, where it takes `first` bytes at least.
+fn held_of(then: Then, first: usize) -> &'static [u8] {
+    match then {
+        Then::Takes => LINES,
+        Then::TakesNone | Then::Fails(_) => LINES.get(..first).unwrap_or(&[]),
+    }
+}
+
+/// Runs with a device for the output, and answers what was written on errors.
+fn run_into(
+    alloc: Global,
+    words: &[&str],
+    text: &[u8],
+    output: &mut Device,
+) -> Result<(u8, Vec<u8>), AllocError> {
+    let words = texts(alloc, words)?;
+    let mut errors = Vec::new(alloc);
+    let mut input = text;
+    let status = run(
+        alloc,
+        words.as_slice(),
+        &mut ReadSource::new(&mut input),
+        &mut WriteSink::new(output),
+        &mut errors,
+    );
+    Ok((status, errors))
+}
+
+/// The fault of a writer that takes `first` bytes at least is told, where these words print the two lines of this text.
+fn tells_the_writer(
+    rt: &impl Abort,
+    alloc: Global,
+    words: &[&str],
+    text: &[u8],
+    row: &WriterRow,
+    first: usize,
+) -> Result<(), Fail> {
+    let mut output = Device::new(alloc, first, row.then, row.flush);
+    let (found, errors) = run_into(alloc, words, text, &mut output)?;
+    let case = (&row.case, "after", &first);
+    assert_same_in(rt, &case, found, 3);
+    let held = held_of(row.then, first);
+    assert_same_in(rt, &case, output.held.as_slice(), held);
+    assert_in(rt, &case, output.flushed.is_empty());
+    assert_same_in(rt, &case, errors.as_slice(), row.told.as_bytes());
+    Ok(())
+}
+
+/// The fault of each writer is told, however many bytes it takes.
+fn tells_each_writer(
+    rt: &impl Abort,
+    alloc: Global,
+    words: &[&str],
+    text: &[u8],
+) -> Result<(), Fail> {
+    for row in WRITER_ROWS {
+        for first in [0, 1, 5, 6, 7, 11] {
+            tells_the_writer(rt, alloc, words, text, &row, first)?;
         }
     }
+    Ok(())
+}
+
+#[test]
+fn tells_a_writer_that_fails(rt: HostRuntime) -> Result<(), Fail> {
+    let replace = ["replace", "b", "0 3", "a", "0 1 2\n"];
+    tells_each_writer(&rt, rt.alloc(), &["find", "standard", "b"], b"abab")?;
+    tells_each_writer(&rt, rt.alloc(), &replace, b"ab 4\n")
+}
+
+/// These words on this input write this.
+fn replaces(
+    rt: &impl Abort,
+    alloc: Global,
+    words: &[&str],
+    input: &[u8],
+    written: &[u8],
+) -> Result<(), Fail> {
+    let mut rest = input;
+    let (status, output, errors) = run_on(alloc, words, &mut rest)?;
+    let case = (&words, "on", &input);
+    assert_same_in(rt, &case, status, 0);
+    assert_same_in(rt, &case, output.as_slice(), written);
+    assert_in(rt, &case, errors.is_empty());
+    Ok(())
+}
+
+/// These words on this input, which comes a byte at a time, write this.
+fn replaces_slowly(
+    rt: &impl Abort,
+    alloc: Global,
+    words: &[&str],
+    input: &[u8],
+    written: &[u8],
+) -> Result<(), Fail> {
+    let mut slow = Slow { rest: input };
+    let (status, output, _errors) = run_on(alloc, words, &mut slow)?;
+    let case = (&words, "on", &input, "one by one");
+    assert_same_in(rt, &case, status, 0);
+    assert_same_in(rt, &case, output.as_slice(), written);
     Ok(())
 }
 
@@ -427,17 +533,8 @@ fn replaces_each_match(rt: HostRuntime) -> Result<(), Fail> {
         (&["replace", "a", "b"], b"", b""),
     ];
     for (words, input, written) in rows {
-        let mut rest = input;
-        let (status, output, errors) = run_on(rt.alloc(), words, &mut rest)?;
-        let case = (&words, "on", &input);
-        assert_same_in(&rt, &case, status, 0);
-        assert_same_in(&rt, &case, output.as_slice(), written);
-        assert_in(&rt, &case, errors.is_empty());
-        let mut slow = Slow { rest: input };
-        let (status, output, _errors) = run_on(rt.alloc(), words, &mut slow)?;
-        let case = (&words, "on", &input, "one by one");
-        assert_same_in(&rt, &case, status, 0);
-        assert_same_in(&rt, &case, output.as_slice(), written);
+        replaces(&rt, rt.alloc(), words, input, written)?;
+        replaces_slowly(&rt, rt.alloc(), words, input, written)?;
     }
     Ok(())
 }
@@ -472,33 +569,54 @@ fn tells_a_replacement_that_is_refused_or_broken_off(rt: HostRuntime) -> Result<
     Ok(())
 }
 
+/// Runs on a reader that fails at once, with a device for the errors, and answers what was written on output.
+fn run_with_errors(
+    alloc: Global,
+    words: &[&str],
+    errors: &mut Device,
+) -> Result<(u8, Vec<u8>), AllocError> {
+    let words = texts(alloc, words)?;
+    let mut output = Vec::new(alloc);
+    let mut input = Broken {
+        first: b"",
+        kind: Some(ErrorKind::Other),
+        rest: b"",
+    };
+    let status = run(
+        alloc,
+        words.as_slice(),
+        &mut ReadSource::new(&mut input),
+        &mut WriteSink::new(&mut output),
+        errors,
+    );
+    Ok((status, output))
+}
+
+/// The status is kept where only the first four bytes of a message can be told.
+fn keeps_the_status(
+    rt: &impl Abort,
+    alloc: Global,
+    case: &str,
+    words: &[&str],
+    then: Then,
+    status: u8,
+    told: &[u8],
+) -> Result<(), Fail> {
+    let mut errors = Device::new(alloc, 4, then, None);
+    let (found, output) = run_with_errors(alloc, words, &mut errors)?;
+    assert_same_in(rt, &case, found, status);
+    assert_in(rt, &case, output.is_empty());
+    assert_same_in(rt, &case, errors.held.as_slice(), told);
+    Ok(())
+}
+
 #[test]
 fn keeps_the_status_where_errors_cannot_be_told(rt: HostRuntime) -> Result<(), Fail> {
-    let right = texts(rt.alloc(), &["find", "standard", "b"])?;
-    let wrong = texts(rt.alloc(), &["find"])?;
+    let alloc = rt.alloc();
+    let right = ["find", "standard", "b"];
     for then in [Then::TakesNone, Then::Fails(ErrorKind::Interrupted)] {
-        for (case, words, status, told) in [
-            ("wrong words", &wrong, 2, USAGE),
-            ("a reader that fails", &right, 3, "read fault\n"),
-        ] {
-            let mut output = Vec::new(rt.alloc());
-            let mut errors = Device::new(rt.alloc(), 4, then, None);
-            let mut input = Broken {
-                first: b"",
-                kind: Some(ErrorKind::Other),
-                rest: b"",
-            };
-            let found = run(
-                rt.alloc(),
-                words.as_slice(),
-                &mut ReadSource::new(&mut input),
-                &mut WriteSink::new(&mut output),
-                &mut errors,
-            );
-            assert_same_in(&rt, &case, found, status);
-            assert_in(&rt, &case, output.is_empty());
-            assert_same_in(&rt, &case, errors.held.as_slice(), &told.as_bytes()[..4]);
-        }
+        keeps_the_status(&rt, alloc, "wrong words", &["find"], then, 2, b"usag")?;
+        keeps_the_status(&rt, alloc, "a reader that fails", &right, then, 3, b"read")?;
     }
     Ok(())
 }

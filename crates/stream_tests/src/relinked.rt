@@ -125,6 +125,57 @@ fn replaced<A: Automaton>(
     })
 }
 
+/// The same becomes of a stream as is wanted.
+fn becomes(rt: &impl Abort, stream: &Stream, told: &Outcome, wanted: &Outcome) {
+    assert_same_in(rt, &stream.given, &told.answer, &wanted.answer);
+    assert_same(rt, told.written.as_slice(), wanted.written.as_slice());
+    assert_same_in(rt, &stream.given, told.reads, wanted.reads);
+    assert_same_in(rt, &stream.given, told.writes, wanted.writes);
+}
+
+/// One automaton replaces in a stream what another one does, where the devices go by these turns.
+fn replaces_the_same<A: Automaton, B: Automaton>(
+    rt: &impl Abort,
+    alloc: Global,
+    first: &A,
+    second: &B,
+    stream: &Stream,
+    turns: (&[Turn], &[Turn]),
+    in_brackets: bool,
+) -> Result<(), Fail>
+    requires first { (p : Patterns) × A.is_of first.now p }
+    requires second { (p : Patterns) × B.is_of second.now p }
+{
+    let wanted = replaced(rt, alloc, first, stream, turns, in_brackets)?;
+    let told = replaced(rt, alloc, second, stream, turns, in_brackets)?;
+    becomes(rt, stream, &told, &wanted);
+    Ok(())
+}
+
+/// One automaton tells of a stream what another one does, whatever its limit.
+fn tells_the_same<A: Automaton, B: Automaton>(
+    rt: &impl Abort,
+    alloc: Global,
+    first: &A,
+    second: &B,
+    stream: &Stream,
+    reads: &[Turn],
+) -> Result<(), Fail>
+    requires first { (p : Patterns) × A.is_of first.now p }
+    requires second { (p : Patterns) × B.is_of second.now p }
+{
+    for limit in [0, 1, 9, 15, 100] {
+        let mut source = ScriptedSource::new(stream.given, reads);
+        let wanted = told_under(alloc, first, &mut source, limit)?;
+        let mut source = ScriptedSource::new(stream.given, reads);
+        let told = told_under(alloc, second, &mut source, limit)?;
+        assert_same_in(rt, &limit, told.items.as_slice(), wanted.items.as_slice());
+        assert_same_in(rt, &stream.given, told.lookups, wanted.lookups);
+        assert_same_in(rt, &stream.given, told.position, wanted.position);
+    }
+    Ok(())
+}
+
 /// One automaton does with a stream what another one does.
 fn does_the_same<A: Automaton, B: Automaton>(
     rt: &impl Abort,
@@ -138,27 +189,12 @@ fn does_the_same<A: Automaton, B: Automaton>(
 {
     for reads in TURNS {
         for writes in TURNS {
-            for in_brackets in [false, true] {
-                let turns = (*reads, *writes);
-                let wanted = replaced(rt, alloc, first, stream, turns, in_brackets)?;
-                let told = replaced(rt, alloc, second, stream, turns, in_brackets)?;
-                assert_same_in(rt, &stream.given, told.answer, wanted.answer);
-                assert_same(rt, told.written.as_slice(), wanted.written.as_slice());
-                assert_same_in(rt, &stream.given, told.reads, wanted.reads);
-                assert_same_in(rt, &stream.given, told.writes, wanted.writes);
-            }
+            let turns = (*reads, *writes);
+            replaces_the_same(rt, alloc, first, second, stream, turns, false)?;
+            replaces_the_same(rt, alloc, first, second, stream, turns, true)?;
         }
-        if first.min_pattern_len() == 0 {
-            continue;
-        }
-        for limit in [0, 1, 9, 15, 100] {
-            let mut source = ScriptedSource::new(stream.given, reads);
-            let wanted = told_under(alloc, first, &mut source, limit)?;
-            let mut source = ScriptedSource::new(stream.given, reads);
-            let told = told_under(alloc, second, &mut source, limit)?;
-            assert_same_in(rt, &limit, told.items.as_slice(), wanted.items.as_slice());
-            assert_same_in(rt, &stream.given, told.lookups, wanted.lookups);
-            assert_same_in(rt, &stream.given, told.position, wanted.position);
+        if first.min_pattern_len() > 0 {
+            tells_the_same(rt, alloc, first, second, stream, reads)?;
         }
     }
     Ok(())

@@ -12,7 +12,7 @@ use aho_stream::chunks::StreamChunkIter;
 use aho_stream::finds::try_stream_find_iter;
 use bench::one_byte::OneByte;
 use bench::tally::Tally;
-use std::alloc::Global;
+use std::alloc::{AllocError, Global};
 use std::process::Abort;
 use std::test::Fail;
 
@@ -82,8 +82,11 @@ pub(crate) fn told_under<A: Automaton>(
 }
 
 /// The matches of the worked stream.
+const WORKED: [(usize, usize, usize); 3] = [(2, 4, 9), (1, 10, 15), (0, 16, 19)];
+
+/// What a search of the worked stream tells.
 fn worked_matches() -> [Result<(usize, usize, usize), StreamError>; 3] {
-    [Ok((2, 4, 9)), Ok((1, 10, 15)), Ok((0, 16, 19))]
+    [Ok(WORKED[0]), Ok(WORKED[1]), Ok(WORKED[2])]
 }
 
 #[test]
@@ -116,27 +119,49 @@ fn a_failed_read_is_told_and_nothing_is_lost(rt: HostRuntime) -> Result<(), Fail
     Ok(())
 }
 
+/// The first so many of the worked matches, and behind them the limit's fault, where the limit is met.
+fn worked_under(
+    alloc: Global,
+    limit: u64,
+    count: usize,
+) -> Result<Vec<Result<(usize, usize, usize), StreamError>>, AllocError> {
+    let mut items = Vec::new(alloc);
+    for m in WORKED.iter().take(count) {
+        items.push(Ok(*m))?;
+    }
+    if limit < 21 {
+        items.push(Err(StreamError::PositionLimit))?;
+    }
+    Ok(items)
+}
+
+/// The first so many of the worked matches are told under this limit.
+fn is_answered_once<A: Automaton>(
+    rt: &impl Abort,
+    alloc: Global,
+    automaton: &A,
+    limit: u64,
+    count: usize,
+) -> Result<(), Fail>
+    requires of { (p : Patterns) × A.is_of automaton.now p }
+{
+    let mut source = ScriptedSource::new(TEXT, ONE_BYTE);
+    let told = told_under(alloc, automaton, &mut source, limit)?;
+    let wanted = worked_under(alloc, limit, count)?;
+    assert_same_in(
+        rt,
+        ("limit", &limit),
+        told.items.as_slice(),
+        wanted.as_slice(),
+    );
+    Ok(())
+}
+
 #[test]
 fn a_limit_is_answered_once(rt: HostRuntime) -> Result<(), Fail> {
-    let alloc = rt.alloc();
-    let nfa = nfa_of(&rt, alloc, WORDS, MatchKind::Standard, false);
-    let rows = [(0, 0), (1, 0), (8, 0), (9, 1), (15, 2), (20, 3), (21, 3)];
-    for (limit, count) in rows {
-        let mut source = ScriptedSource::new(TEXT, ONE_BYTE);
-        let told = told_under(alloc, &nfa, &mut source, limit)?;
-        let mut wanted = Vec::new(alloc);
-        for item in worked_matches().into_iter().take(count) {
-            wanted.push(item)?;
-        }
-        if limit < 21 {
-            wanted.push(Err(StreamError::PositionLimit))?;
-        }
-        assert_same_in(
-            &rt,
-            ("limit", &limit),
-            told.items.as_slice(),
-            wanted.as_slice(),
-        );
+    let nfa = nfa_of(&rt, rt.alloc(), WORDS, MatchKind::Standard, false);
+    for (limit, count) in [(0, 0), (1, 0), (8, 0), (9, 1), (15, 2), (20, 3), (21, 3)] {
+        is_answered_once(&rt, rt.alloc(), &nfa, limit, count)?;
     }
     Ok(())
 }

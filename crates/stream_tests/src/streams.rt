@@ -93,6 +93,23 @@ pub(crate) fn replaces<A: Automaton>(
     try_stream_replace_all(alloc, automaton, source, sink, pieces)
 }
 
+/// What the replacement of these bytes writes, whose source goes by these turns.
+pub(crate) fn written<A: Automaton>(
+    rt: &impl Abort,
+    alloc: Global,
+    automaton: &A,
+    pieces: &[&[u8]],
+    given: &[u8],
+    reads: &[Turn],
+) -> Result<Vec<u8>, Fail>
+    requires of { (p : Patterns) × A.is_of automaton.now p }
+{
+    let mut source = ScriptedSource::new(given, reads);
+    let mut sink = ScriptedSink::new(alloc, &[]);
+    replaces(rt, alloc, automaton, pieces, &mut source, &mut sink)?;
+    Ok(Vec::from_slice(alloc, sink.taken())?)
+}
+
 /// What the replacement of a stream answers, where each match is put in brackets, and the closure answers this.
 fn puts_in_brackets<A: Automaton>(
     alloc: Global,
@@ -127,19 +144,55 @@ fn puts_an_x<A: Automaton>(
     })
 }
 
+/// The stream of a row is replaced where its devices move so many bytes at once.
+fn is_replaced_under_a_cut<A: Automaton>(
+    rt: &impl Abort,
+    alloc: Global,
+    automaton: &A,
+    row: &Row,
+    count: usize,
+) -> Result<(), Fail>
+    requires of { (p : Patterns) × A.is_of automaton.now p }
+{
+    let turns = turns_of(alloc, Turn::Move(count), row.given.len())?;
+    let mut source = ScriptedSource::new(row.given, &turns);
+    let mut sink = ScriptedSink::new(alloc, &turns);
+    replaces(rt, alloc, automaton, row.pieces, &mut source, &mut sink)?;
+    assert_same_in(rt, (&count, "bytes at once"), sink.taken(), row.written);
+    Ok(())
+}
+
+/// The stream of a row is replaced, whatever its devices move at once.
+fn is_replaced_under_every_cut(rt: &impl Abort, alloc: Global, row: &Row) -> Result<(), Fail> {
+    let nfa = nfa_of(rt, alloc, row.patterns, MatchKind::Standard, false);
+    for count in 1..=row.given.len() + 1 {
+        is_replaced_under_a_cut(rt, alloc, &nfa, row, count)?;
+    }
+    Ok(())
+}
+
 #[test]
 fn each_row_is_replaced_under_every_cut(rt: HostRuntime) -> Result<(), Fail> {
-    let alloc = rt.alloc();
     for row in ROWS {
-        let nfa = nfa_of(&rt, alloc, row.patterns, MatchKind::Standard, false);
-        for count in 1..=row.given.len() + 1 {
-            let turns = turns_of(alloc, Turn::Move(count), row.given.len())?;
-            let mut source = ScriptedSource::new(row.given, &turns);
-            let mut sink = ScriptedSink::new(alloc, &turns);
-            replaces(&rt, alloc, &nfa, row.pieces, &mut source, &mut sink)?;
-            assert_same_in(&rt, (&count, "bytes at once"), sink.taken(), row.written);
-        }
+        is_replaced_under_every_cut(&rt, rt.alloc(), row)?;
     }
+    Ok(())
+}
+
+/// The animals' stream ends at a read that gives nothing, and what is behind is not read.
+fn ends_at_an_empty_read<A: Automaton>(
+    rt: &impl Abort,
+    alloc: Global,
+    automaton: &A,
+) -> Result<(), Fail>
+    requires of { (p : Patterns) × A.is_of automaton.now p }
+{
+    let turns = [Turn::Move(6), Turn::Move(0)];
+    let mut source = ScriptedSource::new(ANIMALS.given, &turns);
+    let mut sink = ScriptedSink::new(alloc, &[]);
+    replaces(rt, alloc, automaton, ANIMALS.pieces, &mut source, &mut sink)?;
+    assert_same(rt, sink.taken(), b"The qu".as_slice());
+    assert_same(rt, source.rest(), b"ick brown fox.".as_slice());
     Ok(())
 }
 
@@ -147,13 +200,7 @@ fn each_row_is_replaced_under_every_cut(rt: HostRuntime) -> Result<(), Fail> {
 fn an_empty_read_ends_the_stream(rt: HostRuntime) -> Result<(), Fail> {
     let alloc = rt.alloc();
     let nfa = nfa_of(&rt, alloc, ANIMALS.patterns, MatchKind::Standard, false);
-    let turns = [Turn::Move(6), Turn::Move(0)];
-    let mut source = ScriptedSource::new(ANIMALS.given, &turns);
-    let mut sink = ScriptedSink::new(alloc, &[]);
-    replaces(&rt, alloc, &nfa, ANIMALS.pieces, &mut source, &mut sink)?;
-    assert_same(&rt, sink.taken(), b"The qu".as_slice());
-    assert_same(&rt, source.rest(), b"ick brown fox.".as_slice());
-    Ok(())
+    ends_at_an_empty_read(&rt, alloc, &nfa)
 }
 
 #[test]
@@ -170,18 +217,31 @@ fn a_failed_read_leaves_a_beginning(rt: HostRuntime) -> Result<(), Fail> {
     Ok(())
 }
 
+/// What is written before a write fails is this beginning, whose bytes are written one by one.
+fn is_left_by_a_failed_write<A: Automaton>(
+    rt: &impl Abort,
+    alloc: Global,
+    automaton: &A,
+    beginning: &[u8],
+) -> Result<(), Fail>
+    requires of { (p : Patterns) × A.is_of automaton.now p }
+{
+    let mut turns = turns_of(alloc, Turn::Move(1), beginning.len())?;
+    turns.push(Turn::Fail)?;
+    let mut source = ScriptedSource::new(ANIMALS.given, &[]);
+    let mut sink = ScriptedSink::new(alloc, &turns);
+    let answer = replaces(rt, alloc, automaton, ANIMALS.pieces, &mut source, &mut sink);
+    assert_same(rt, answer, Err(StreamError::Write(Fault)));
+    assert_same(rt, sink.taken(), beginning);
+    Ok(())
+}
+
 #[test]
 fn a_failed_write_leaves_a_beginning(rt: HostRuntime) -> Result<(), Fail> {
     let alloc = rt.alloc();
     let nfa = nfa_of(&rt, alloc, ANIMALS.patterns, MatchKind::Standard, false);
     for count in 0..ANIMALS.written.len() {
-        let mut turns = turns_of(alloc, Turn::Move(1), count)?;
-        turns.push(Turn::Fail)?;
-        let mut source = ScriptedSource::new(ANIMALS.given, &[]);
-        let mut sink = ScriptedSink::new(alloc, &turns);
-        let answer = replaces(&rt, alloc, &nfa, ANIMALS.pieces, &mut source, &mut sink);
-        assert_same(&rt, answer, Err(StreamError::Write(Fault)));
-        assert_same(&rt, sink.taken(), &ANIMALS.written[..count]);
+        is_left_by_a_failed_write(&rt, alloc, &nfa, &ANIMALS.written[..count])?;
     }
     Ok(())
 }
@@ -243,15 +303,28 @@ const CLOSURE_ROWS: [ClosureRow; 5] = [
     },
 ];
 
+/// A closure that answers this puts brackets around the matches of the animals' stream, as the row says.
+fn is_put_in_brackets<A: Automaton>(
+    rt: &impl Abort,
+    alloc: Global,
+    automaton: &A,
+    row: &ClosureRow,
+    wanted: Result<(), StreamError>,
+)
+    requires of { (p : Patterns) × A.is_of automaton.now p }
+{
+    let closure = if row.refuses { wanted } else { Ok(()) };
+    let mut source = ScriptedSource::new(ANIMALS.given, row.reads);
+    let mut sink = ScriptedSink::new(alloc, row.writes);
+    let answer = puts_in_brackets(alloc, automaton, &mut source, &mut sink, closure);
+    assert_same(rt, sink.taken(), row.written);
+    assert_same(rt, answer, wanted);
+}
+
 #[test]
-fn a_closure_is_called_on_each_match(rt: HostRuntime) -> Result<(), Fail> {
-    let nfa = nfa_of(
-        &rt,
-        rt.alloc(),
-        ANIMALS.patterns,
-        MatchKind::Standard,
-        false,
-    );
+fn a_closure_is_called_on_each_match(rt: HostRuntime) {
+    let alloc = rt.alloc();
+    let nfa = nfa_of(&rt, alloc, ANIMALS.patterns, MatchKind::Standard, false);
     let answers = [
         Ok(()),
         Err(StreamError::PositionLimit),
@@ -260,26 +333,29 @@ fn a_closure_is_called_on_each_match(rt: HostRuntime) -> Result<(), Fail> {
         Err(StreamError::WriteZero),
     ];
     for at in 0..5 {
-        let row = CLOSURE_ROWS[at];
-        let wanted = answers[at];
-        let closure = if row.refuses { wanted } else { Ok(()) };
-        let mut source = ScriptedSource::new(ANIMALS.given, row.reads);
-        let mut sink = ScriptedSink::new(rt.alloc(), row.writes);
-        let answer = puts_in_brackets(rt.alloc(), &nfa, &mut source, &mut sink, closure);
-        assert_same(&rt, sink.taken(), row.written);
-        assert_same(&rt, &answer, &wanted);
+        is_put_in_brackets(&rt, alloc, &nfa, &CLOSURE_ROWS[at], answers[at]);
     }
-    let nfa = nfa_of(&rt, rt.alloc(), &[b"a"], MatchKind::Standard, false);
-    for refuses in [false, true] {
-        let closure = if refuses { answers[1] } else { Ok(()) };
-        let written: &[u8] = if refuses { b"bX" } else { b"bXc" };
-        let mut source = ScriptedSource::new(b"bac", &[]);
-        let mut sink = ScriptedSink::new(rt.alloc(), &[]);
-        let answer = puts_an_x(rt.alloc(), &nfa, &mut source, &mut sink, closure);
-        assert_same(&rt, sink.taken(), written);
-        assert_same(&rt, &answer, &closure);
-    }
-    Ok(())
+}
+
+/// A closure that answers this writes "X" for the first match, and no more where it refuses.
+fn is_called_for_an_x(
+    rt: &impl Abort,
+    alloc: Global,
+    closure: Result<(), StreamError>,
+    written: &[u8],
+) {
+    let nfa = nfa_of(rt, alloc, &[b"a"], MatchKind::Standard, false);
+    let mut source = ScriptedSource::new(b"bac", &[]);
+    let mut sink = ScriptedSink::new(alloc, &[]);
+    let answer = puts_an_x(alloc, &nfa, &mut source, &mut sink, closure);
+    assert_same(rt, sink.taken(), written);
+    assert_same(rt, &answer, &closure);
+}
+
+#[test]
+fn a_closure_that_refuses_ends_the_replacement(rt: HostRuntime) {
+    is_called_for_an_x(&rt, rt.alloc(), Ok(()), b"bXc");
+    is_called_for_an_x(&rt, rt.alloc(), Err(StreamError::PositionLimit), b"bX");
 }
 
 #[test]
@@ -306,6 +382,13 @@ pub(crate) fn behind(alloc: Global, count: usize, last: &[u8]) -> Result<Vec<u8>
     Ok(bytes)
 }
 
+/// Some bytes "x", this word, and a "z".
+fn between(alloc: Global, count: usize, word: &[u8]) -> Result<Vec<u8>, AllocError> {
+    let mut bytes = behind(alloc, count, word)?;
+    bytes.push(b'z')?;
+    Ok(bytes)
+}
+
 /// A match of this word, behind so many bytes, is replaced.
 fn is_replaced_behind(
     rt: &impl Abort,
@@ -313,14 +396,11 @@ fn is_replaced_behind(
     word: &[u8],
     count: usize,
 ) -> Result<(), Fail> {
-    let nfa = nfa_of(rt, alloc, &[word], MatchKind::Standard, false);
-    let mut given = behind(alloc, count, word)?;
-    given.push(b'z')?;
+    let given = between(alloc, count, word)?;
     let wanted = behind(alloc, count, b"!z")?;
-    let mut source = ScriptedSource::new(&given, &[]);
-    let mut sink = ScriptedSink::new(alloc, &[]);
-    replaces(rt, alloc, &nfa, &[b"!"], &mut source, &mut sink)?;
-    assert!(rt; sink.taken() == wanted.as_slice());
+    let nfa = nfa_of(rt, alloc, &[word], MatchKind::Standard, false);
+    let written = written(rt, alloc, &nfa, &[b"!"], &given, &[])?;
+    assert_in(rt, &count, written.as_slice() == wanted.as_slice());
     Ok(())
 }
 
@@ -405,6 +485,59 @@ fn replaced_by(
     Ok(bytes)
 }
 
+/// The patterns of random streams, and their pieces.
+const WORDS: [&[u8]; 4] = [b"ab", b"bca", b"c", b"abcb"];
+
+const PIECES: [&[u8]; 4] = [b"", b"-", b"ab", b"xyz"];
+
+/// What iteration in memory makes of the bytes of a random stream.
+fn plainly_replaced(alloc: Global, kind: MatchKind, given: &[u8]) -> Result<Vec<u8>, AllocError> {
+    let patterns = PatternSet::new(&WORDS, kind, false);
+    let matches = finds(alloc, &patterns, Input::new(given))?;
+    replaced_by(alloc, given, &matches, &PIECES)
+}
+
+/// The one device that failed is told.
+fn is_told(
+    rt: &impl Abort,
+    given: &[u8],
+    read_failed: bool,
+    write_failed: bool,
+    answer: Result<(), StreamError>,
+) {
+    let told = if read_failed {
+        StreamError::Read(Fault)
+    } else {
+        StreamError::Write(Fault)
+    };
+    assert_in(rt, given, read_failed != write_failed);
+    assert_same_in(rt, given, answer, Err(told));
+}
+
+/// A stream whose devices go by these turns becomes this, or where one of them fails a beginning of this.
+fn becomes<A: Automaton>(
+    rt: &impl Abort,
+    alloc: Global,
+    automaton: &A,
+    given: &[u8],
+    turns: (&[Turn], &[Turn]),
+    wanted: &[u8],
+)
+    requires of { (p : Patterns) × A.is_of automaton.now p }
+{
+    let mut source = ScriptedSource::new(given, turns.0);
+    let mut sink = ScriptedSink::new(alloc, turns.1);
+    let answer = replaces(rt, alloc, automaton, &PIECES, &mut source, &mut sink);
+    assert_in(rt, given, wanted.starts_with(sink.taken()));
+    if answer.is_ok() {
+        assert_same_in(rt, given, sink.taken().len(), wanted.len());
+        return;
+    }
+    let read_failed = last_failed(turns.0, source.reads());
+    let write_failed = last_failed(turns.1, sink.writes());
+    is_told(rt, given, read_failed, write_failed, answer);
+}
+
 /// A random stream is replaced as iteration in memory says, or where a device fails a beginning of that is written.
 fn is_replaced_as_plainly(
     rt: &impl Abort,
@@ -412,32 +545,12 @@ fn is_replaced_as_plainly(
     kind: MatchKind,
     numbers: &mut Numbers,
 ) -> Result<(), Fail> {
-    let words: [&[u8]; 4] = [b"ab", b"bca", b"c", b"abcb"];
-    let pieces: [&[u8]; 4] = [b"", b"-", b"ab", b"xyz"];
-    let nfa = nfa_of(rt, alloc, &words, kind, false);
-    let patterns = PatternSet::new(&words, kind, false);
     let given = numbers.bytes(alloc)?;
     let reads = numbers.turns(alloc, 30, 40)?;
     let writes = numbers.turns(alloc, 30, 40)?;
-    let matches = finds(alloc, &patterns, Input::new(&given))?;
-    let wanted = replaced_by(alloc, &given, &matches, &pieces)?;
-    let mut source = ScriptedSource::new(&given, &reads);
-    let mut sink = ScriptedSink::new(alloc, &writes);
-    let answer = replaces(rt, alloc, &nfa, &pieces, &mut source, &mut sink);
-    assert_in(rt, &given, wanted.starts_with(sink.taken()));
-    if answer.is_ok() {
-        assert_same_in(rt, &given, sink.taken().len(), wanted.len());
-        return Ok(());
-    }
-    let read_failed = last_failed(&reads, source.reads());
-    let write_failed = last_failed(&writes, sink.writes());
-    let told = if read_failed {
-        StreamError::Read(Fault)
-    } else {
-        StreamError::Write(Fault)
-    };
-    assert_in(rt, &given, read_failed != write_failed);
-    assert_same_in(rt, &given, answer, Err(told));
+    let wanted = plainly_replaced(alloc, kind, &given)?;
+    let nfa = nfa_of(rt, alloc, &WORDS, kind, false);
+    becomes(rt, alloc, &nfa, &given, (&reads, &writes), &wanted);
     Ok(())
 }
 
