@@ -109,8 +109,8 @@ fn search_spans(
     }
 }
 
-/// Lists what matches in this span, anchored and not, by the calls and by the iterator.
-fn list_span<A: Automaton>(
+/// Lists what matches in this span, by the calls and by the iterator.
+fn list_unanchored<A: Automaton>(
     rt: &impl Abort,
     alloc: Global,
     name: &str,
@@ -127,23 +127,50 @@ fn list_span<A: Automaton>(
     let want = all(alloc, patterns, haystack, span)?;
     let by_calls = found_by_calls(rt, alloc, automaton, &input)?;
     assert_same_in(rt, (&name, &patterns, &haystack, &span), &by_calls, &want);
-    let from_start = input.clone()?.anchored(Anchored::Yes);
     let by_iterator = found_by_iterator(rt, alloc, automaton, input)?;
-    assert_same_in(
-        rt,
-        (&name, "iterator", &patterns, &haystack, &span),
-        &by_iterator,
-        &want,
-    );
-    let want = anchored(alloc, patterns, haystack, span)?;
-    let by_calls = found_by_calls(rt, alloc, automaton, &from_start)?;
-    assert_same_in(
-        rt,
-        (&name, "anchored", &patterns, &haystack, &span),
-        by_calls,
-        want,
-    );
+    let case = (&name, "iterator", &patterns, &haystack, &span);
+    assert_same_in(rt, case, by_iterator, want);
     Ok(())
+}
+
+/// Lists what matches at the start of this span, by the calls.
+fn list_anchored<A: Automaton>(
+    rt: &impl Abort,
+    alloc: Global,
+    name: &str,
+    patterns: &PatternSet<'_>,
+    automaton: &A,
+    haystack: &[u8],
+    span: Span,
+) -> Result<(), AllocError>
+    requires of { (p : Patterns) × A.is_of automaton.now p }
+    requires within { span.end ≤ length haystack.now }
+    requires ordered { span.start ≤ span.end + 1 }
+{
+    let input = Input::new(haystack).span(span).anchored(Anchored::Yes);
+    let want = anchored(alloc, patterns, haystack, span)?;
+    let by_calls = found_by_calls(rt, alloc, automaton, &input)?;
+    let case = (&name, "anchored", &patterns, &haystack, &span);
+    assert_same_in(rt, case, by_calls, want);
+    Ok(())
+}
+
+/// Lists what matches in this span, anchored and not.
+fn list_span<A: Automaton>(
+    rt: &impl Abort,
+    alloc: Global,
+    name: &str,
+    patterns: &PatternSet<'_>,
+    automaton: &A,
+    haystack: &[u8],
+    span: Span,
+) -> Result<(), AllocError>
+    requires of { (p : Patterns) × A.is_of automaton.now p }
+    requires within { span.end ≤ length haystack.now }
+    requires ordered { span.start ≤ span.end + 1 }
+{
+    list_unanchored(rt, alloc, name, patterns, automaton, haystack, span)?;
+    list_anchored(rt, alloc, name, patterns, automaton, haystack, span)
 }
 
 /// Lists what matches in every span of this haystack.
