@@ -45,9 +45,20 @@ pub(crate) fn nfa_with(
 ) -> NFA
     ensures of { (p : Patterns) × ⟦<NFA as Automaton>⟧.is_of result p }
 {
+    let builder = builder_with(kind, ignore_case, prefilter, dense_depth);
+    nfa_by(rt, alloc, &builder, words)
+}
+
+/// A builder of this match kind and case rule, that keeps a prefilter only where this is wanted, and rows up to this depth.
+fn builder_with(
+    kind: MatchKind,
+    ignore_case: bool,
+    prefilter: bool,
+    dense_depth: usize,
+) -> Builder {
     let mut builder = builder_of(kind, ignore_case);
     builder.prefilter(prefilter).dense_depth(dense_depth);
-    nfa_by(rt, alloc, &builder, words)
+    builder
 }
 
 /// The automaton that a builder makes of these patterns.

@@ -1,7 +1,9 @@
 //! What a builder builds, and what its limits refuse.
 
+ghost use Rattle.aho_base.specs.Patterns.{Patterns};
+
 use crate::asserts::{assert_in, assert_same, assert_same_in};
-use crate::automata::builder_of;
+use crate::automata::{builder_of, nfa_by, nfa_of};
 use aho_base::error::BuildError;
 use aho_base::search::{Input, Match, MatchKind, PatternID};
 use aho_corasick::noncontiguous::{Builder, Limits, NFA};
@@ -29,6 +31,20 @@ fn refusal(alloc: Global, depth: usize, patterns: &[&[u8]], limits: Limits) -> O
     }
 }
 
+/// These patterns are refused so under these limits, where states up to this depth have rows.
+fn check_at(
+    rt: &impl Abort,
+    alloc: Global,
+    (name, depth): (&str, usize),
+    patterns: &[&[u8]],
+    limits: Limits,
+    want: &Option<BuildError>,
+) {
+    let refusal = refusal(alloc, depth, patterns, limits);
+    let case = (name, "depth", depth, patterns, limits);
+    assert_same_in(rt, &case, &refusal, want);
+}
+
 /// These patterns are refused so under these limits, whatever states have rows. A message tells the case by its name.
 fn check(
     rt: &impl Abort,
@@ -39,13 +55,7 @@ fn check(
     want: Option<BuildError>,
 ) {
     for depth in DEPTHS {
-        let refusal = refusal(alloc, depth, patterns, limits);
-        assert_same_in(
-            rt,
-            (&name, "depth", &depth, &patterns, &limits),
-            &refusal,
-            &want,
-        );
+        check_at(rt, alloc, (name, depth), patterns, limits, &want);
     }
 }
 
@@ -144,28 +154,25 @@ fn listed_patterns_are_limited(rt: HostRuntime) -> Result<(), Fail> {
     Ok(())
 }
 
+/// The words that this one begins with are refused so, where indexes up to 1000 are allowed.
+fn check_beginnings(
+    rt: &impl Abort,
+    alloc: Global,
+    name: &str,
+    word: &[u8],
+    want: Option<BuildError>,
+) -> Result<(), AllocError> {
+    let patterns = beginnings(alloc, word)?;
+    check(rt, alloc, name, &patterns, by_id(1000), want);
+    Ok(())
+}
+
 #[test]
 fn copied_matches_are_limited(rt: HostRuntime) -> Result<(), Fail> {
-    let alloc = rt.alloc();
-    let limits = by_id(1000);
-    let patterns = beginnings(alloc, &[b'a'; 44])?;
-    check(
-        &rt,
-        alloc,
-        "as many copied matches as fit",
-        &patterns,
-        limits,
-        None,
-    );
-    let patterns = beginnings(alloc, &[b'a'; 45])?;
-    check(
-        &rt,
-        alloc,
-        "a copied match too many",
-        &patterns,
-        limits,
-        is_full(1000),
-    );
+    let (name, word) = ("as many copied matches as fit", [b'a'; 44]);
+    check_beginnings(&rt, rt.alloc(), name, &word, None)?;
+    let (name, word) = ("a copied match too many", [b'a'; 45]);
+    check_beginnings(&rt, rt.alloc(), name, &word, is_full(1000))?;
     Ok(())
 }
 
@@ -280,6 +287,23 @@ fn found_of(m: Match) -> Found {
     (m.pattern().as_usize(), m.start(), m.end())
 }
 
+/// The automaton of these patterns finds this first. A message tells the case.
+fn finds_first<A: Automaton>(
+    rt: &impl Abort,
+    name: &str,
+    patterns: &[&[u8]],
+    automaton: &A,
+    haystack: &[u8],
+    want: Option<Found>,
+)
+    requires of { (p : Patterns) × A.is_of automaton.now p }
+{
+    let answer = automaton.try_find(&Input::new(haystack));
+    let found = answer.expect(rt, "an answer").map(found_of);
+    let case = (name, automaton.match_kind(), patterns, haystack);
+    assert_same_in(rt, &case, found, want);
+}
+
 /// A builder's automaton of these patterns finds this first. A message tells the case by its name.
 fn check_found(
     rt: &impl Abort,
@@ -288,80 +312,82 @@ fn check_found(
     patterns: &[&[u8]],
     haystack: &[u8],
     want: Option<Found>,
-) -> Result<(), Fail> {
-    let nfa = builder.build(alloc, patterns.iter().copied())?;
-    let found = nfa.try_find(&Input::new(haystack))?.map(found_of);
-    assert_same_in(
-        rt,
-        (&name, &nfa.match_kind(), &patterns, &haystack),
-        found,
-        want,
-    );
-    Ok(())
+) {
+    let nfa = nfa_by(rt, alloc, builder, patterns);
+    finds_first(rt, name, patterns, &nfa, haystack, want);
 }
 
-#[test]
-fn a_builder_that_refused_builds_again(rt: HostRuntime) -> Result<(), Fail> {
-    let alloc = rt.alloc();
+/// A builder that refused a pattern, since its states would pass a limit.
+fn refused_builder(rt: &impl Abort, alloc: Global) -> Builder {
     let mut builder = Builder::new();
     builder.limits(by_id(770));
     let patterns: [&[u8]; 1] = [b"abcd"];
-    assert_in(
-        &rt,
-        ("Standard", &patterns, "with states up to 770"),
-        builder.build(alloc, patterns.iter().copied()).is_err(),
-    );
+    let is_refused = builder.build(alloc, patterns.iter().copied()).is_err();
+    let case = ("Standard", &patterns, "with states up to 770");
+    assert_in(rt, case, is_refused);
+    builder
+}
+
+#[test]
+fn a_builder_that_refused_builds_again(rt: HostRuntime) {
+    let alloc = rt.alloc();
+    let builder = refused_builder(&rt, alloc);
     let again = ("built after a refusal", &builder);
-    check_found(&rt, alloc, again, &[b"abc"], b"xabc", Some((0, 1, 4)))?;
-    check_found(&rt, alloc, again, &[b"", b"abc"], b"abc", Some((0, 0, 0)))
+    check_found(&rt, alloc, again, &[b"abc"], b"xabc", Some((0, 1, 4)));
+    check_found(&rt, alloc, again, &[b"", b"abc"], b"abc", Some((0, 0, 0)));
+}
+
+/// Patterns of which the last is found by a new builder's automaton.
+const CASED: &[&[u8]] = &[b"abc", b"AB", b"ab"];
+
+/// A new builder's automaton finds the first match that ends, with regard to case.
+fn is_new(rt: &impl Abort, alloc: Global, name: &str, builder: Builder) {
+    let want = Some((2, 0, 2));
+    check_found(rt, alloc, (name, &builder), CASED, b"abc", want);
+}
+
+/// What a new automaton tells of itself.
+fn tells_as_new<A: Automaton>(rt: &impl Abort, automaton: &A) {
+    assert_same_in(rt, "NFA::new", automaton.match_kind(), MatchKind::Standard);
+    assert_same_in(rt, "NFA::new", automaton.patterns_len(), 3);
 }
 
 #[test]
 fn a_new_builder_is_standard_with_regard_to_case(rt: HostRuntime) -> Result<(), Fail> {
     let alloc = rt.alloc();
-    let patterns: [&[u8]; 3] = [b"abc", b"AB", b"ab"];
-    for (name, builder) in [
-        ("Builder::new", Builder::new()),
-        ("Builder::default", Builder::default()),
-        ("NFA::builder", NFA::builder()),
-        ("a clone", NFA::builder().clone()?),
-    ] {
-        check_found(
-            &rt,
-            alloc,
-            (name, &builder),
-            &patterns,
-            b"abc",
-            Some((2, 0, 2)),
-        )?;
-    }
-    let nfa = NFA::new(alloc, patterns.iter().copied())?;
-    assert_same_in(&rt, "NFA::new", nfa.match_kind(), MatchKind::Standard);
-    assert_same_in(&rt, "NFA::new", nfa.patterns_len(), 3);
+    is_new(&rt, alloc, "Builder::new", Builder::new());
+    is_new(&rt, alloc, "Builder::default", Builder::default());
+    is_new(&rt, alloc, "NFA::builder", NFA::builder());
+    is_new(&rt, alloc, "a clone", NFA::builder().clone()?);
+    tells_as_new(&rt, &NFA::new(alloc, CASED.iter().copied())?);
     Ok(())
 }
 
-#[test]
-fn a_builder_builds_as_it_is_set(rt: HostRuntime) -> Result<(), Fail> {
-    let alloc = rt.alloc();
-    let patterns: [&[u8]; 3] = [b"abc", b"AB", b"abcd"];
+/// The clones of a builder that was set to the least number, and then to the longest.
+fn clones_in_between() -> Result<(Builder, Builder), AllocError> {
     let mut builder = Builder::new();
     builder.match_kind(MatchKind::LeftmostFirst);
     let first = builder.clone()?;
     builder.match_kind(MatchKind::LeftmostLongest);
     let longest = builder.clone()?;
-    for (name, builder, want) in [
-        ("set to the least number", first, (0, 0, 3)),
-        ("set to the longest", longest, (2, 0, 4)),
-        (
-            "set to both cases",
-            builder_of(MatchKind::Standard, true),
-            (1, 0, 2),
-        ),
-        ("set back to one case", set_back(), (0, 0, 3)),
-    ] {
-        check_found(&rt, alloc, (name, &builder), &patterns, b"abcd", Some(want))?;
-    }
+    Ok((first, longest))
+}
+
+/// A builder's automaton finds this first where each of three patterns matches under some settings.
+fn is_set(rt: &impl Abort, alloc: Global, name: &str, builder: Builder, want: Found) {
+    let patterns: [&[u8]; 3] = [b"abc", b"AB", b"abcd"];
+    check_found(rt, alloc, (name, &builder), &patterns, b"abcd", Some(want));
+}
+
+#[test]
+fn a_builder_builds_as_it_is_set(rt: HostRuntime) -> Result<(), Fail> {
+    let alloc = rt.alloc();
+    let (first, longest) = clones_in_between()?;
+    is_set(&rt, alloc, "set to the least number", first, (0, 0, 3));
+    is_set(&rt, alloc, "set to the longest", longest, (2, 0, 4));
+    let both = builder_of(MatchKind::Standard, true);
+    is_set(&rt, alloc, "set to both cases", both, (1, 0, 2));
+    is_set(&rt, alloc, "set back to one case", set_back(), (0, 0, 3));
     Ok(())
 }
 
@@ -376,19 +402,34 @@ fn set_back() -> Builder {
     builder
 }
 
-#[test]
-fn a_clone_is_as_large_and_finds_as_much(rt: HostRuntime) -> Result<(), Fail> {
-    let alloc = rt.alloc();
-    let patterns: [&[u8]; 3] = [b"abc", b"AB", b"abcd"];
-    let builder = builder_of(MatchKind::LeftmostLongest, true);
-    let nfa = builder.build(alloc, patterns.iter().copied())?;
-    let clone = nfa.try_clone()?;
-    assert_same(&rt, clone.memory_usage(), nfa.memory_usage());
+/// The clone is as large as its original, and tells this of its patterns.
+fn is_as_large<A: Automaton>(rt: &impl Abort, clone: &A, original: &A) {
+    assert_same(rt, clone.memory_usage(), original.memory_usage());
     let lens = (clone.min_pattern_len(), clone.max_pattern_len());
-    assert_same(&rt, (lens, clone.patterns_len()), ((2, 4), 3));
-    for (haystack, want) in [(b"xABCDx", Some((2, 1, 5))), (b"xAxBxx", None)] {
-        let found = clone.try_find(&Input::new(haystack))?.map(found_of);
-        assert_same_in(&rt, ("a clone of", &patterns, "in", &haystack), found, want);
-    }
-    Ok(())
+    assert_same(rt, (lens, clone.patterns_len()), ((2, 4), 3));
+}
+
+/// The clone of the automaton of these patterns.
+fn clone_of(rt: &impl Abort, alloc: Global, patterns: &[&[u8]]) -> NFA
+    ensures of { (p : Patterns) × ⟦<NFA as Automaton>⟧.is_of result p }
+{
+    let nfa = nfa_of(rt, alloc, patterns, MatchKind::LeftmostLongest, true);
+    let clone = nfa.try_clone().expect(rt, "memory for a clone");
+    is_as_large(rt, &clone, &nfa);
+    clone
+}
+
+#[test]
+fn a_clone_is_as_large_and_finds_as_much(rt: HostRuntime) {
+    let patterns: [&[u8]; 3] = [b"abc", b"AB", b"abcd"];
+    let clone = clone_of(&rt, rt.alloc(), &patterns);
+    finds_first(
+        &rt,
+        "a clone of",
+        &patterns,
+        &clone,
+        b"xABCDx",
+        Some((2, 1, 5)),
+    );
+    finds_first(&rt, "a clone of", &patterns, &clone, b"xAxBxx", None);
 }

@@ -7,6 +7,7 @@ use crate::automata::{listed, nfa_of, nfa_with, start_of, state_after};
 use aho_base::search::{Anchored, MatchKind, PatternID, StateID, Work};
 use aho_search::automaton::Automaton;
 use bench::one_byte::OneByte;
+use std::alloc::{AllocError, Global};
 use std::process::Abort;
 use std::test::Fail;
 
@@ -77,25 +78,45 @@ const STATES: &[States] = &[
     },
 ];
 
+/// The state that a word leads to is dead, matches, is special and lists as is wanted.
+fn state_answers<A: Automaton>(
+    rt: &impl Abort,
+    alloc: Global,
+    states: &States,
+    automaton: &A,
+    (anchored, word, listing): Reached,
+) -> Result<(), AllocError> {
+    let sid = state_after(rt, automaton, anchored, word);
+    let want = listing.unwrap_or(&[]);
+    let case = (states.kind, states.patterns, anchored, word);
+    assert_same_in(rt, &case, automaton.is_dead(sid), listing.is_none());
+    assert_same_in(rt, &case, automaton.is_match(sid), !want.is_empty());
+    let skips = automaton.prefilter().is_some() && automaton.is_start(sid);
+    let is_special = listing.is_none() || !want.is_empty() || skips;
+    assert_same_in(rt, &case, automaton.is_special(sid), is_special);
+    let listed = listed(alloc, automaton, sid)?;
+    assert_same_in(rt, &case, listed.as_slice(), want);
+    Ok(())
+}
+
+/// Each state of an automaton that a row tells answers as is wanted.
+fn states_answer<A: Automaton>(
+    rt: &impl Abort,
+    alloc: Global,
+    states: &States,
+    automaton: &A,
+) -> Result<(), AllocError> {
+    for reached in states.reached {
+        state_answers(rt, alloc, states, automaton, *reached)?;
+    }
+    Ok(())
+}
+
 #[test]
 fn states_list_their_patterns(rt: HostRuntime) -> Result<(), Fail> {
     for states in STATES {
         let nfa = nfa_of(&rt, rt.alloc(), states.patterns, states.kind, false);
-        for (anchored, word, listing) in states.reached {
-            let sid = state_after(&rt, &nfa, *anchored, word);
-            let want = listing.unwrap_or(&[]);
-            let case = (states.kind, states.patterns, *anchored, *word);
-            assert_same_in(&rt, &case, nfa.is_dead(sid), listing.is_none());
-            assert_same_in(&rt, &case, nfa.is_match(sid), !want.is_empty());
-            let skips = nfa.prefilter().is_some() && nfa.is_start(sid);
-            assert_same_in(
-                &rt,
-                &case,
-                nfa.is_special(sid),
-                listing.is_none() || !want.is_empty() || skips,
-            );
-            assert_same_in(&rt, &case, listed(rt.alloc(), &nfa, sid)?.as_slice(), want);
-        }
+        states_answer(&rt, rt.alloc(), states, &nfa)?;
     }
     Ok(())
 }
@@ -114,20 +135,29 @@ fn a_failed_word_goes_on_at_its_suffix(rt: HostRuntime) {
     assert_same(&rt, by_links, state_after(&rt, &nfa, Anchored::No, b"ce"));
 }
 
+/// A start is told from the state after a letter.
+fn start_is_told<A: Automaton>(rt: &impl Abort, automaton: &A, anchored: Anchored) {
+    let start = start_of(rt, automaton, anchored);
+    assert_in(rt, &anchored, automaton.is_start(start));
+    let after = state_after(rt, automaton, anchored, b"a");
+    assert_in(rt, (&anchored, "after a"), !automaton.is_start(after));
+}
+
+/// A word that fails leads back to the start, and to a dead state where a search is anchored.
+fn failure_is_told<A: Automaton>(rt: &impl Abort, automaton: &A) {
+    let back = state_after(rt, automaton, Anchored::No, b"ax");
+    assert_same(rt, back, start_of(rt, automaton, Anchored::No));
+    let dead = state_after(rt, automaton, Anchored::Yes, b"ax");
+    assert!(rt; automaton.is_dead(dead));
+    assert!(rt; !automaton.is_start(dead));
+}
+
 #[test]
 fn starts_are_told(rt: HostRuntime) {
     let nfa = nfa_of(&rt, rt.alloc(), &[b"ab"], MatchKind::Standard, false);
-    for anchored in [Anchored::No, Anchored::Yes] {
-        let start = start_of(&rt, &nfa, anchored);
-        assert_in(&rt, &anchored, nfa.is_start(start));
-        let after = state_after(&rt, &nfa, anchored, b"a");
-        assert_in(&rt, (&anchored, "after a"), !nfa.is_start(after));
-    }
-    let back = state_after(&rt, &nfa, Anchored::No, b"ax");
-    assert_same(&rt, back, start_of(&rt, &nfa, Anchored::No));
-    let dead = state_after(&rt, &nfa, Anchored::Yes, b"ax");
-    assert!(rt; nfa.is_dead(dead));
-    assert!(rt; !nfa.is_start(dead));
+    start_is_told(&rt, &nfa, Anchored::No);
+    start_is_told(&rt, &nfa, Anchored::Yes);
+    failure_is_told(&rt, &nfa);
 }
 
 #[test]
@@ -188,15 +218,19 @@ fn assert_steps_agree_along<A: Automaton>(
     }
 }
 
+/// The same from each state on the way of the words of a row, anchored and not.
+fn assert_steps_agree_in<A: Automaton>(rt: &impl Abort, automaton: &A, states: &States) {
+    for (_, word, _) in states.reached {
+        assert_steps_agree_along(rt, automaton, Anchored::No, word);
+        assert_steps_agree_along(rt, automaton, Anchored::Yes, word);
+    }
+}
+
 #[test]
 fn a_step_leads_where_next_state_does(rt: HostRuntime) {
     for states in STATES {
         let nfa = nfa_of(&rt, rt.alloc(), states.patterns, states.kind, false);
-        for (_, word, _) in states.reached {
-            for anchored in [Anchored::No, Anchored::Yes] {
-                assert_steps_agree_along(&rt, &nfa, anchored, word);
-            }
-        }
+        assert_steps_agree_in(&rt, &nfa, states);
     }
     let one = OneByte::new(b'w');
     assert_steps_agree_along(&rt, &one, Anchored::No, b"samwise");
@@ -233,6 +267,15 @@ fn found_by_calls<A: Automaton>(
     best
 }
 
+/// The loop finds this in a word, by the automaton and by a reference to it.
+fn loop_finds<A: Automaton>(rt: &impl Abort, automaton: &A, want: (usize, usize, usize)) {
+    let kind = automaton.match_kind();
+    let found = found_by_calls(rt, automaton, b"samwise");
+    assert_same_in(rt, &kind, found, Some(want));
+    let by_reference = found_by_calls(rt, &automaton, b"samwise");
+    assert_same_in(rt, (&kind, "by a reference"), by_reference, Some(want));
+}
+
 #[test]
 fn a_loop_over_the_calls_finds(rt: HostRuntime) {
     for (kind, want) in [
@@ -241,14 +284,7 @@ fn a_loop_over_the_calls_finds(rt: HostRuntime) {
         (MatchKind::LeftmostLongest, (0, 0, 7)),
     ] {
         let nfa = nfa_of(&rt, rt.alloc(), &[b"samwise", b"sam"], kind, false);
-        assert_same_in(
-            &rt,
-            &kind,
-            found_by_calls(&rt, &nfa, b"samwise"),
-            Some(want),
-        );
-        let by_reference = found_by_calls(&rt, &&nfa, b"samwise");
-        assert_same_in(&rt, (&kind, "by a reference"), by_reference, Some(want));
+        loop_finds(&rt, &nfa, want);
     }
     let one = OneByte::new(b'w');
     assert_same(&rt, found_by_calls(&rt, &one, b"samwise"), Some((0, 3, 4)));
@@ -292,21 +328,33 @@ const TOLD: &[Told] = &[
     },
 ];
 
+/// The automaton tells what is wanted of its patterns together.
+fn tells<A: Automaton>(rt: &impl Abort, automaton: &A, told: &Told) {
+    let case = (told.kind, told.patterns);
+    assert_same_in(rt, &case, automaton.match_kind(), told.kind);
+    assert_same_in(rt, &case, automaton.min_pattern_len(), told.shortest);
+    assert_same_in(rt, &case, automaton.max_pattern_len(), told.longest);
+    assert_same_in(rt, &case, automaton.memory_usage(), told.memory);
+    assert_same_in(rt, &case, automaton.patterns_len(), told.lens.len());
+}
+
+/// The automaton tells how long each of its patterns is.
+fn tells_lens<A: Automaton>(rt: &impl Abort, automaton: &A, told: &Told) -> Result<(), Fail> {
+    let case = (told.kind, told.patterns);
+    for (number, len) in told.lens.iter().enumerate() {
+        let pattern = PatternID::new(number)?;
+        assert!(rt; number < automaton.patterns_len());
+        assert_same_in(rt, &case, automaton.pattern_len(pattern), *len);
+    }
+    Ok(())
+}
+
 #[test]
 fn patterns_are_told(rt: HostRuntime) -> Result<(), Fail> {
     for told in TOLD {
         let nfa = nfa_of(&rt, rt.alloc(), told.patterns, told.kind, false);
-        let case = (told.kind, told.patterns);
-        assert_same_in(&rt, &case, nfa.match_kind(), told.kind);
-        assert_same_in(&rt, &case, nfa.min_pattern_len(), told.shortest);
-        assert_same_in(&rt, &case, nfa.max_pattern_len(), told.longest);
-        assert_same_in(&rt, &case, nfa.memory_usage(), told.memory);
-        assert_same_in(&rt, &case, nfa.patterns_len(), told.lens.len());
-        for (number, len) in told.lens.iter().enumerate() {
-            let pattern = PatternID::new(number)?;
-            assert!(rt; number < nfa.patterns_len());
-            assert_same_in(&rt, &case, nfa.pattern_len(pattern), *len);
-        }
+        tells(&rt, &nfa, told);
+        tells_lens(&rt, &nfa, told)?;
     }
     Ok(())
 }

@@ -44,6 +44,54 @@ enum Way {
     OneAfterAnother,
 }
 
+/// Searches once. A message tells the case by its name.
+fn search_once(rt: &impl Abort, name: &str, patterns: &PatternSet<'_>, nfa: &NFA, input: Input<'_>)
+    requires of { (p : Patterns) × ⟦<NFA as Automaton>⟧.is_of nfa.now p }
+{
+    let (anchored, earliest) = (input.get_anchored(), input.get_earliest());
+    let (haystack, span) = (input.haystack(), input.get_span());
+    let case = (name, patterns, haystack, span, anchored, earliest);
+    let answer = nfa.try_find(&input).expect(rt, "an answer");
+    assert_same_in(rt, &case, answer, plain(patterns, &input));
+}
+
+/// Searches for one match after another. A message tells the case by its name.
+fn iterate(
+    rt: &impl Abort,
+    alloc: Global,
+    name: &str,
+    patterns: &PatternSet<'_>,
+    nfa: &NFA,
+    input: Input<'_>,
+)
+    requires of { (p : Patterns) × ⟦<NFA as Automaton>⟧.is_of nfa.now p }
+{
+    let (anchored, earliest) = (input.get_anchored(), input.get_earliest());
+    let (haystack, span) = (input.haystack(), input.get_span());
+    let case = (name, patterns, haystack, span, anchored, earliest);
+    let wanted = finds(alloc, patterns, copy_of(&input)).expect(rt, "memory");
+    let found = all_matches(alloc, nfa, input).expect(rt, "memory");
+    assert_same_in(rt, (&case, "by iteration"), found, wanted);
+}
+
+/// Searches this input in a way. A message tells the case by its name.
+fn search_in(
+    rt: &impl Abort,
+    alloc: Global,
+    way: Way,
+    name: &str,
+    patterns: &PatternSet<'_>,
+    nfa: &NFA,
+    input: Input<'_>,
+)
+    requires of { (p : Patterns) × ⟦<NFA as Automaton>⟧.is_of nfa.now p }
+{
+    match way {
+        Way::Once => search_once(rt, name, patterns, nfa, input),
+        Way::OneAfterAnother => iterate(rt, alloc, name, patterns, nfa, input),
+    }
+}
+
 /// Searches this span in each way. A message tells the case by its name.
 fn search_span(
     rt: &impl Abort,
@@ -65,18 +113,7 @@ fn search_span(
                 .span(span)
                 .anchored(anchored)
                 .earliest(earliest);
-            let case = (name, patterns, haystack, span, anchored, earliest);
-            match way {
-                Way::Once => {
-                    let answer = nfa.try_find(&input).expect(rt, "an answer");
-                    assert_same_in(rt, &case, answer, plain(patterns, &input));
-                }
-                Way::OneAfterAnother => {
-                    let wanted = finds(alloc, patterns, copy_of(&input)).expect(rt, "memory");
-                    let found = all_matches(alloc, nfa, input).expect(rt, "memory");
-                    assert_same_in(rt, (&case, "by iteration"), found, wanted);
-                }
-            }
+            search_in(rt, alloc, way, name, patterns, nfa, input);
         }
     }
 }
@@ -109,8 +146,8 @@ fn search_spans(
     }
 }
 
-/// Lists what matches in this span, anchored and not, by the calls and by the iterator.
-fn list_span<A: Automaton>(
+/// Lists what matches in this span, by the calls and by the iterator.
+fn list_unanchored<A: Automaton>(
     rt: &impl Abort,
     alloc: Global,
     name: &str,
@@ -127,23 +164,50 @@ fn list_span<A: Automaton>(
     let want = all(alloc, patterns, haystack, span)?;
     let by_calls = found_by_calls(rt, alloc, automaton, &input)?;
     assert_same_in(rt, (&name, &patterns, &haystack, &span), &by_calls, &want);
-    let from_start = input.clone()?.anchored(Anchored::Yes);
     let by_iterator = found_by_iterator(rt, alloc, automaton, input)?;
-    assert_same_in(
-        rt,
-        (&name, "iterator", &patterns, &haystack, &span),
-        &by_iterator,
-        &want,
-    );
-    let want = anchored(alloc, patterns, haystack, span)?;
-    let by_calls = found_by_calls(rt, alloc, automaton, &from_start)?;
-    assert_same_in(
-        rt,
-        (&name, "anchored", &patterns, &haystack, &span),
-        by_calls,
-        want,
-    );
+    let case = (&name, "iterator", &patterns, &haystack, &span);
+    assert_same_in(rt, case, by_iterator, want);
     Ok(())
+}
+
+/// Lists what matches at the start of this span, by the calls.
+fn list_anchored<A: Automaton>(
+    rt: &impl Abort,
+    alloc: Global,
+    name: &str,
+    patterns: &PatternSet<'_>,
+    automaton: &A,
+    haystack: &[u8],
+    span: Span,
+) -> Result<(), AllocError>
+    requires of { (p : Patterns) × A.is_of automaton.now p }
+    requires within { span.end ≤ length haystack.now }
+    requires ordered { span.start ≤ span.end + 1 }
+{
+    let input = Input::new(haystack).span(span).anchored(Anchored::Yes);
+    let want = anchored(alloc, patterns, haystack, span)?;
+    let by_calls = found_by_calls(rt, alloc, automaton, &input)?;
+    let case = (&name, "anchored", &patterns, &haystack, &span);
+    assert_same_in(rt, case, by_calls, want);
+    Ok(())
+}
+
+/// Lists what matches in this span, anchored and not.
+fn list_span<A: Automaton>(
+    rt: &impl Abort,
+    alloc: Global,
+    name: &str,
+    patterns: &PatternSet<'_>,
+    automaton: &A,
+    haystack: &[u8],
+    span: Span,
+) -> Result<(), AllocError>
+    requires of { (p : Patterns) × A.is_of automaton.now p }
+    requires within { span.end ≤ length haystack.now }
+    requires ordered { span.start ≤ span.end + 1 }
+{
+    list_unanchored(rt, alloc, name, patterns, automaton, haystack, span)?;
+    list_anchored(rt, alloc, name, patterns, automaton, haystack, span)
 }
 
 /// Lists what matches in every span of this haystack.
@@ -470,6 +534,31 @@ impl Random {
     }
 }
 
+/// Searches two ranges of these bytes for these words, and lists what matches in the first.
+fn search_ranges(
+    rt: &impl Abort,
+    alloc: Global,
+    name: &str,
+    random: &mut Random,
+    bytes: &[u8],
+    words: &[&[u8]],
+    (kind, ignore_case): (MatchKind, bool),
+) -> Result<(), AllocError> {
+    assert!(rt; words.len() <= PatternID::MAX.as_usize());
+    let patterns = PatternSet::new(words, kind, ignore_case);
+    let prefilter = random.below(2) == 0;
+    let depth = DEPTHS[random.below(4)];
+    let nfa = nfa_with(rt, alloc, words, kind, ignore_case, prefilter, depth);
+    let haystack = random.range(bytes, 12);
+    search_spans(rt, alloc, Way::Once, name, &patterns, &nfa, haystack);
+    if kind == MatchKind::Standard {
+        list_spans(rt, alloc, name, &patterns, &nfa, haystack)?;
+    }
+    let (way, haystack) = (Way::OneAfterAnother, random.range(bytes, 8));
+    search_spans(rt, alloc, way, name, &patterns, &nfa, haystack);
+    Ok(())
+}
+
 /// Searches ranges of random bytes of an alphabet for ranges of them, 100 times, and lists what matches there.
 fn search_random(
     rt: &impl Abort,
@@ -484,28 +573,10 @@ fn search_random(
         let mut bytes = [0; 40];
         random.fill(&mut bytes, alphabet);
         let words = random.ranges(alloc, &bytes)?;
-        assert!(rt; words.len() <= PatternID::MAX.as_usize());
         for kind in KINDS {
             for ignore_case in [false, true] {
-                let patterns = PatternSet::new(&words, kind, ignore_case);
-                let prefilter = random.below(2) == 0;
-                let depth = DEPTHS[random.below(4)];
-                let nfa = nfa_with(rt, alloc, &words, kind, ignore_case, prefilter, depth);
-                let haystack = random.range(&bytes, 12);
-                search_spans(rt, alloc, Way::Once, name, &patterns, &nfa, haystack);
-                if kind == MatchKind::Standard {
-                    list_spans(rt, alloc, name, &patterns, &nfa, haystack)?;
-                }
-                let haystack = random.range(&bytes, 8);
-                search_spans(
-                    rt,
-                    alloc,
-                    Way::OneAfterAnother,
-                    name,
-                    &patterns,
-                    &nfa,
-                    haystack,
-                );
+                let settings = (kind, ignore_case);
+                search_ranges(rt, alloc, name, &mut random, &bytes, &words, settings)?;
             }
         }
     }

@@ -6,10 +6,12 @@ use crate::asserts::{assert_same, assert_same_in};
 use crate::automata::nfa_of;
 use aho_base::error::MatchError;
 use aho_base::search::{Anchored, Input, Match, MatchKind, Span};
+use aho_corasick::noncontiguous::NFA;
 use aho_search::automaton::Automaton;
 use bench::callers::{first_matches, match_ends, matches_in};
 use bench::one_byte::OneByte;
 use bench::tally::Tally;
+use std::alloc::{AllocError, Global};
 use std::process::Abort;
 use std::test::Fail;
 
@@ -44,21 +46,36 @@ fn gives_two_and_none_again<A: Automaton>(rt: &impl Abort, automaton: &A)
     assert_same(rt, it.next(), None);
 }
 
+/// How many matches there are in a haystack.
+fn matches_len(alloc: Global, nfa: &NFA) -> Result<usize, AllocError>
+    requires of { (p : Patterns) × ⟦<NFA as Automaton>⟧.is_of nfa.now p }
+{
+    Ok(matches_in(alloc, nfa, b"abxb")?.len())
+}
+
+/// The matches in it end there.
+fn assert_ends(rt: &impl Abort, alloc: Global, nfa: &NFA) -> Result<(), AllocError>
+    requires of { (p : Patterns) × ⟦<NFA as Automaton>⟧.is_of nfa.now p }
+{
+    let ends = match_ends(alloc, nfa, Input::new(b"abxb"))?;
+    assert_same(rt, ends.as_slice(), [2, 4].as_slice());
+    Ok(())
+}
+
+/// How many of its first matches are given where one is asked for.
+fn first_matches_len(alloc: Global, nfa: &NFA) -> Result<usize, AllocError>
+    requires of { (p : Patterns) × ⟦<NFA as Automaton>⟧.is_of nfa.now p }
+{
+    Ok(first_matches(alloc, nfa, Input::new(b"abxb"), 1)?.len())
+}
+
 #[test]
 fn callers_are_given_matches(rt: HostRuntime) -> Result<(), Fail> {
-    let alloc = rt.alloc();
-    let nfa = nfa_of(&rt, alloc, &[b"ab", b"b"], MatchKind::Standard, false);
-    assert_same(&rt, matches_in(alloc, &nfa, b"abxb")?.len(), 2);
-    assert_same(
-        &rt,
-        match_ends(alloc, &nfa, Input::new(b"abxb"))?.as_slice(),
-        [2, 4].as_slice(),
-    );
-    assert_same(
-        &rt,
-        first_matches(alloc, &nfa, Input::new(b"abxb"), 1)?.len(),
-        1,
-    );
+    let (alloc, words): (Global, [&[u8]; 2]) = (rt.alloc(), [b"ab", b"b"]);
+    let nfa = nfa_of(&rt, alloc, &words, MatchKind::Standard, false);
+    assert_same(&rt, matches_len(alloc, &nfa)?, 2);
+    assert_ends(&rt, alloc, &nfa)?;
+    assert_same(&rt, first_matches_len(alloc, &nfa)?, 1);
     Ok(())
 }
 

@@ -8,10 +8,14 @@ use crate::automata::{DEPTHS, nfa_with, relinked_of};
 use crate::reading::Reading;
 use aho_base::error::MatchError;
 use aho_base::search::{Anchored, Input, MatchKind, Span};
+use aho_corasick::noncontiguous::NFA;
 use aho_prefilter::text::{Bytes, Text};
 use aho_search::automaton::{Automaton, Counted, find_in};
 use bench::one_byte::OneByte;
+use bench::relinked::Relinked;
 use bench::tally::Tally;
+use std::alloc::Global;
+use std::process::Abort;
 use std::test::Fail;
 
 /// A search, the look-ups that it makes, and the bytes that it reads outside a prefilter, all from the span's start on.
@@ -117,40 +121,98 @@ fn lookups_over<A: Automaton, T: Text>(
     Ok(walk.lookups())
 }
 
+/// A row's search over a slice makes its look-ups.
+fn row_is_looked_up<A: Automaton>(
+    rt: &impl Abort,
+    row: &Row,
+    automaton: &A,
+) -> Result<(), MatchError>
+    requires of { (p : Patterns) × A.is_of automaton.now p }
+{
+    let (haystack, span) = (row.haystack, row.span);
+    assert!(rt; span.end <= haystack.len());
+    assert!(rt; span.start <= span.end + 1);
+    let mut bytes = Bytes::new(haystack);
+    let lookups = lookups_over(automaton, &mut bytes, span, row.anchored)?;
+    let case = (row.kind, row.patterns, haystack, span, row.anchored);
+    assert_same_in(rt, &case, lookups, row.lookups);
+    Ok(())
+}
+
+/// How many bytes a row's search reads. It makes its look-ups, and ends where it should.
+fn reads_of<A: Automaton>(rt: &impl Abort, row: &Row, automaton: &A) -> Result<usize, MatchError>
+    requires of { (p : Patterns) × A.is_of automaton.now p }
+{
+    let (haystack, span) = (row.haystack, row.span);
+    assert!(rt; span.end <= haystack.len());
+    assert!(rt; span.start <= span.end + 1);
+    let mut text = Reading::new(haystack);
+    let lookups = lookups_over(automaton, &mut text, span, row.anchored)?;
+    let case = (row.kind, row.patterns, haystack, span, row.anchored);
+    assert_same_in(rt, &case, lookups, row.lookups);
+    assert_same_in(rt, &case, text.next_place(), row.reads);
+    Ok(text.reads())
+}
+
+/// A row's search over an automaton makes its look-ups, and reads its bytes.
+fn row_is_read<A: Automaton>(rt: &impl Abort, row: &Row, automaton: &A) -> Result<(), MatchError>
+    requires of { (p : Patterns) × A.is_of automaton.now p }
+{
+    row_is_looked_up(rt, row, automaton)?;
+    let reads = reads_of(rt, row, automaton)?;
+    let case = (row.kind, row.patterns, row.haystack, row.span, row.anchored);
+    assert_same_in(rt, &case, reads, row.reads);
+    Ok(())
+}
+
+/// The automaton of a row with rows up to this depth.
+fn nfa_of_row(rt: &impl Abort, alloc: Global, row: &Row, depth: usize) -> NFA
+    ensures of { (p : Patterns) × ⟦<NFA as Automaton>⟧.is_of result p }
+{
+    let (words, kind) = (row.patterns, row.kind);
+    nfa_with(rt, alloc, words, kind, false, row.prefilter, depth)
+}
+
+/// The automaton that is made of what a row's automaton tells.
+fn relinked_of_row(rt: &impl Abort, alloc: Global, row: &Row) -> Relinked
+    ensures of { (p : Patterns) × ⟦<Relinked as Automaton>⟧.is_of result p }
+{
+    relinked_of(rt, alloc, &nfa_of_row(rt, alloc, row, 0))
+}
+
 #[test]
 fn searches_cost_what_they_should(rt: HostRuntime) -> Result<(), Fail> {
     for row in ROWS {
         for depth in DEPTHS {
-            let nfa = nfa_with(
-                &rt,
-                rt.alloc(),
-                row.patterns,
-                row.kind,
-                false,
-                row.prefilter,
-                depth,
-            );
-            let (haystack, span) = (row.haystack, row.span);
-            let case = (row.kind, row.patterns, haystack, span, row.anchored);
-            assert!(rt; span.end <= haystack.len());
-            assert!(rt; span.start <= span.end + 1);
-            let mut bytes = Bytes::new(haystack);
-            let lookups = lookups_over(&nfa, &mut bytes, span, row.anchored)?;
-            assert_same_in(&rt, &case, lookups, row.lookups);
-            if !row.prefilter && depth == 0 {
-                let relinked = relinked_of(&rt, rt.alloc(), &nfa);
-                let mut text = Reading::new(haystack);
-                let lookups = lookups_over(&relinked, &mut text, span, row.anchored)?;
-                assert_same_in(&rt, &case, lookups, row.lookups);
-                assert_same_in(&rt, &case, text.next_place(), row.reads);
-            }
-            let mut text = Reading::new(haystack);
-            let lookups = lookups_over(&nfa, &mut text, span, row.anchored)?;
-            assert_same_in(&rt, &case, lookups, row.lookups);
-            assert_same_in(&rt, &case, text.reads(), row.reads);
-            assert_same_in(&rt, &case, text.next_place(), row.reads);
+            row_is_read(&rt, row, &nfa_of_row(&rt, rt.alloc(), row, depth))?;
         }
     }
+    Ok(())
+}
+
+#[test]
+fn searches_of_relinked_automata_cost_as_much(rt: HostRuntime) -> Result<(), Fail> {
+    for row in ROWS {
+        if !row.prefilter {
+            let _reads = reads_of(&rt, row, &relinked_of_row(&rt, rt.alloc(), row))?;
+        }
+    }
+    Ok(())
+}
+
+/// A row's search makes as many steps as it reads bytes, and asks for no next state.
+fn row_steps(rt: &impl Abort, row: &Row, nfa: NFA) -> Result<(), MatchError>
+    requires of { (p : Patterns) × ⟦<NFA as Automaton>⟧.is_of nfa p }
+{
+    let tally = Tally::new(nfa);
+    let (haystack, span) = (row.haystack, row.span);
+    let case = (row.kind, row.patterns, haystack, span, row.anchored);
+    assert!(rt; span.end <= haystack.len());
+    assert!(rt; span.start <= span.end + 1);
+    let input = Input::new(haystack).span(span).anchored(row.anchored);
+    let _found = tally.try_find(&input)?;
+    assert_same_in(rt, &case, tally.steps(), row.reads as u64);
+    assert_same_in(rt, &case, tally.next_states(), 0);
     Ok(())
 }
 
@@ -158,24 +220,7 @@ fn searches_cost_what_they_should(rt: HostRuntime) -> Result<(), Fail> {
 fn searches_step_once_a_byte(rt: HostRuntime) -> Result<(), Fail> {
     for row in ROWS {
         for depth in DEPTHS {
-            let nfa = nfa_with(
-                &rt,
-                rt.alloc(),
-                row.patterns,
-                row.kind,
-                false,
-                row.prefilter,
-                depth,
-            );
-            let tally = Tally::new(nfa);
-            let (haystack, span) = (row.haystack, row.span);
-            let case = (row.kind, row.patterns, haystack, span, row.anchored);
-            assert!(rt; span.end <= haystack.len());
-            assert!(rt; span.start <= span.end + 1);
-            let input = Input::new(haystack).span(span).anchored(row.anchored);
-            let _found = tally.try_find(&input)?;
-            assert_same_in(&rt, &case, tally.steps(), row.reads as u64);
-            assert_same_in(&rt, &case, tally.next_states(), 0);
+            row_steps(&rt, row, nfa_of_row(&rt, rt.alloc(), row, depth))?;
         }
     }
     Ok(())

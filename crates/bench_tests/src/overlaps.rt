@@ -110,30 +110,44 @@ fn around_a_refused_call<A: Automaton, B: Automaton>(
     Ok([first, refused, state.get_match()])
 }
 
+/// The same where both automata have the one pattern "a".
+fn around_a_refused_call_of_a(
+    rt: &impl Abort,
+    alloc: Global,
+) -> Result<[Option<Match>; 3], MatchError> {
+    let standard = nfa_of(rt, alloc, &[b"a"], MatchKind::Standard, false);
+    let leftmost = nfa_of(rt, alloc, &[b"a"], MatchKind::LeftmostFirst, false);
+    around_a_refused_call(rt, &standard, &leftmost, &Input::new(b"aa"))
+}
+
 #[test]
 fn a_refused_call_leaves_the_search_where_it_was(rt: HostRuntime) -> Result<(), Fail> {
-    let standard = nfa_of(&rt, rt.alloc(), &[b"a"], MatchKind::Standard, false);
-    let leftmost = nfa_of(&rt, rt.alloc(), &[b"a"], MatchKind::LeftmostFirst, false);
-    let found = around_a_refused_call(&rt, &standard, &leftmost, &Input::new(b"aa"))?;
-    let [first, refused, second] = found;
+    let [first, refused, second] = around_a_refused_call_of_a(&rt, rt.alloc())?;
     assert_same_in(&rt, "the first call", first, match_of(&rt, 0, 0, 1));
     assert_same_in(&rt, "after the refused call", refused, None);
     assert_same_in(&rt, "the second call", second, match_of(&rt, 0, 1, 2));
     Ok(())
 }
 
+/// What a clone of the state has after a first call, in which the new state had no match.
+fn match_of_clone<A: Automaton>(
+    rt: &impl Abort,
+    automaton: &A,
+    input: &Input<'_>,
+) -> Result<Option<Match>, MatchError>
+    requires of { (p : Patterns) × A.is_of automaton.now p }
+{
+    let mut state = OverlappingState::start();
+    assert_same_in(rt, "before the first call", state.get_match(), None);
+    automaton.try_find_overlapping(input, &mut state)?;
+    Ok(state.clone().expect(rt, "a clone").get_match())
+}
+
 #[test]
 fn a_clone_has_its_match(rt: HostRuntime) -> Result<(), Fail> {
     let nfa = nfa_of(&rt, rt.alloc(), &[b"a"], MatchKind::Standard, false);
-    let mut state = OverlappingState::start();
-    assert_same_in(&rt, "before the first call", state.get_match(), None);
-    nfa.try_find_overlapping(&Input::new(b"aa"), &mut state)?;
-    assert_same_in(
-        &rt,
-        "a clone",
-        state.clone()?.get_match(),
-        match_of(&rt, 0, 0, 1),
-    );
+    let found = match_of_clone(&rt, &nfa, &Input::new(b"aa"))?;
+    assert_same_in(&rt, "a clone", found, match_of(&rt, 0, 0, 1));
     Ok(())
 }
 
@@ -178,10 +192,18 @@ fn three_calls<A: Automaton>(
     Ok((first, second, third))
 }
 
+/// The same of the automaton of "a".
+fn three_calls_of_a(
+    rt: &impl Abort,
+    alloc: Global,
+) -> Result<(Option<Match>, Option<Match>, Option<Match>), MatchError> {
+    let nfa = nfa_of(rt, alloc, &[b"a"], MatchKind::Standard, false);
+    three_calls(&nfa, Input::new(b"ba"))
+}
+
 #[test]
 fn an_iterator_gives_none_again(rt: HostRuntime) -> Result<(), Fail> {
-    let nfa = nfa_of(&rt, rt.alloc(), &[b"a"], MatchKind::Standard, false);
-    let (first, end, after) = three_calls(&nfa, Input::new(b"ba"))?;
+    let (first, end, after) = three_calls_of_a(&rt, rt.alloc())?;
     assert_same_in(&rt, "the match", first, match_of(&rt, 0, 1, 2));
     assert_same_in(&rt, "the end", end, None);
     assert_same_in(&rt, "after the end", after, None);

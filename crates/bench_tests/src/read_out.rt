@@ -143,40 +143,65 @@ fn transitions_of(alloc: Global, nfa: &NFA, sid: StateID) -> Result<Vec<(u8, Sta
     nfa.transitions(sid).collect(alloc)
 }
 
+/// A state of the automaton of "abc" tells what it should: how many transitions, its pattern, and its link.
+fn state_is_told(rt: &impl Abort, alloc: Global, nfa: &NFA, sid: StateID) -> Result<(), AllocError>
+    requires within { sid < length (states_of nfa.now) }
+{
+    let special = *nfa.special();
+    let (root, anchored) = (special.start_unanchored_id, special.start_anchored_id);
+    let is_whole = nfa.depth(sid) == 3;
+    let is_full = sid == DEAD || sid == root || sid == anchored;
+    let count = match (is_full, sid == FAIL || is_whole) {
+        (true, _) => 256,
+        (false, true) => 0,
+        (false, false) => 1,
+    };
+    let case = ("state", sid.as_usize());
+    assert_same_in(rt, &case, transitions_of(alloc, nfa, sid)?.len(), count);
+    assert_same(
+        rt,
+        matches_len(alloc, nfa, sid)?,
+        if is_whole { 1 } else { 0 },
+    );
+    let link = if is_full || sid == FAIL { DEAD } else { root };
+    assert_same_in(rt, &case, nfa.fail(sid), link);
+    Ok(())
+}
+
+/// How many patterns a state lists.
+fn matches_len(alloc: Global, nfa: &NFA, sid: StateID) -> Result<usize, AllocError>
+    requires within { sid < length (states_of nfa.now) }
+{
+    let matches: Vec<PatternID> = nfa.matches(sid).collect(alloc)?;
+    Ok(matches.len())
+}
+
+/// The depths of all states, from the least.
+fn depths_of(alloc: Global, nfa: &NFA) -> Result<Vec<usize>, AllocError> {
+    let mut depths = Vec::new(alloc);
+    for index in 0..nfa.states_len() {
+        depths.push(nfa.depth(StateID::new_unchecked(index)))?;
+    }
+    depths.sort()?;
+    Ok(depths)
+}
+
+/// The states of the automaton of "abc" tell what they should.
+fn states_are_told(rt: &impl Abort, alloc: Global, nfa: &NFA) -> Result<(), AllocError> {
+    assert_same(rt, nfa.states_len(), 7);
+    for index in 0..nfa.states_len() {
+        state_is_told(rt, alloc, nfa, StateID::new_unchecked(index))?;
+    }
+    let depths = depths_of(alloc, nfa)?;
+    assert_same(rt, depths.as_slice(), [0, 0, 0, 0, 1, 2, 3].as_slice());
+    Ok(())
+}
+
 #[test]
 fn the_states_of_one_pattern_are_told(rt: HostRuntime) -> Result<(), Fail> {
     let alloc = rt.alloc();
     let nfa = nfa_with(&rt, alloc, &[b"abc"], MatchKind::Standard, false, false, 3);
-    assert_same(&rt, nfa.states_len(), 7);
-    let (root, anchored) = (
-        nfa.special().start_unanchored_id,
-        nfa.special().start_anchored_id,
-    );
-    let mut depths = Vec::new(alloc);
-    for index in 0..nfa.states_len() {
-        let sid = StateID::new_unchecked(index);
-        depths.push(nfa.depth(sid))?;
-        let transitions = transitions_of(alloc, &nfa, sid)?;
-        let count = if sid == DEAD || sid == root || sid == anchored {
-            256
-        } else if sid == FAIL || nfa.depth(sid) == 3 {
-            0
-        } else {
-            1
-        };
-        assert_same_in(&rt, ("state", &index), transitions.len(), count);
-        let matches: Vec<PatternID> = nfa.matches(sid).collect(alloc)?;
-        assert_same(&rt, matches.len(), if nfa.depth(sid) == 3 { 1 } else { 0 });
-        let dead = sid == DEAD || sid == FAIL || sid == root || sid == anchored;
-        assert_same_in(
-            &rt,
-            ("state", &index),
-            nfa.fail(sid),
-            if dead { DEAD } else { root },
-        );
-    }
-    depths.sort()?;
-    assert_same(&rt, depths.as_slice(), [0, 0, 0, 0, 1, 2, 3].as_slice());
+    states_are_told(&rt, alloc, &nfa)?;
     assert_same(&rt, nfa.byte_classes().alphabet_len(), 5);
     assert_same(&rt, nfa.pattern_lens().len(), 1);
     Ok(())

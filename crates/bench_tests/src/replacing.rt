@@ -6,6 +6,7 @@ use crate::asserts::{assert_same, assert_same_in};
 use crate::automata::{nfa_of, relinked_of};
 use aho_base::error::ReplaceError;
 use aho_base::search::{Input, Match, MatchKind, PatternID};
+use aho_corasick::noncontiguous::NFA;
 use aho_search::automaton::Automaton;
 use bench::listing::finds;
 use bench::one_byte::OneByte;
@@ -94,6 +95,37 @@ fn bytes_of<'t>(alloc: Global, texts: &[&'t str]) -> Result<Vec<&'t [u8]>, Alloc
     Ok(all)
 }
 
+/// The automaton replaces what is wanted of a row's text.
+fn text_is_replaced<A: Automaton>(
+    rt: &impl Abort,
+    alloc: Global,
+    row: &Row,
+    automaton: &A,
+) -> Result<(), Fail>
+    requires of { (p : Patterns) × A.is_of automaton.now p }
+{
+    assert_eq!(rt; row.pieces.len(), automaton.patterns_len());
+    let text = automaton.try_replace_all(alloc, row.haystack, row.pieces)?;
+    assert_same_in(rt, &row.name, text.as_str(), row.text);
+    Ok(())
+}
+
+/// The automaton replaces what is wanted of the bytes of a row's text.
+fn bytes_are_replaced<A: Automaton>(
+    rt: &impl Abort,
+    alloc: Global,
+    row: &Row,
+    automaton: &A,
+) -> Result<(), Fail>
+    requires of { (p : Patterns) × A.is_of automaton.now p }
+{
+    let pieces = bytes_of(alloc, row.pieces)?;
+    assert_eq!(rt; pieces.len(), automaton.patterns_len());
+    let bytes = automaton.try_replace_all_bytes(alloc, row.haystack.as_bytes(), &pieces)?;
+    assert_same_in(rt, &row.name, bytes.as_slice(), row.bytes);
+    Ok(())
+}
+
 /// The automaton replaces what is wanted of a row.
 fn row_is_replaced<A: Automaton>(
     rt: &impl Abort,
@@ -103,24 +135,33 @@ fn row_is_replaced<A: Automaton>(
 ) -> Result<(), Fail>
     requires of { (p : Patterns) × A.is_of automaton.now p }
 {
-    let pieces = bytes_of(alloc, row.pieces)?;
-    assert_eq!(rt; row.pieces.len(), automaton.patterns_len());
-    assert_eq!(rt; pieces.len(), automaton.patterns_len());
-    let text = automaton.try_replace_all(alloc, row.haystack, row.pieces)?;
-    assert_same_in(rt, &row.name, text.as_str(), row.text);
-    let bytes = automaton.try_replace_all_bytes(alloc, row.haystack.as_bytes(), &pieces)?;
-    assert_same_in(rt, &row.name, bytes.as_slice(), row.bytes);
-    Ok(())
+    text_is_replaced(rt, alloc, row, automaton)?;
+    bytes_are_replaced(rt, alloc, row, automaton)
+}
+
+/// The automaton that is made of what this one tells replaces what is wanted of a row.
+fn row_is_replaced_relinked(
+    rt: &impl Abort,
+    alloc: Global,
+    row: &Row,
+    nfa: &NFA,
+) -> Result<(), Fail>
+    requires of { (p : Patterns) × ⟦<NFA as Automaton>⟧.is_of nfa.now p }
+{
+    row_is_replaced(rt, alloc, row, &relinked_of(rt, alloc, nfa))
+}
+
+/// Both automata of a row's patterns replace what is wanted of it.
+fn row_is_replaced_by_both(rt: &impl Abort, alloc: Global, row: &Row) -> Result<(), Fail> {
+    let nfa = nfa_of(rt, alloc, row.patterns, row.kind, false);
+    row_is_replaced(rt, alloc, row, &nfa)?;
+    row_is_replaced_relinked(rt, alloc, row, &nfa)
 }
 
 #[test]
 fn rows_are_replaced(rt: HostRuntime) -> Result<(), Fail> {
-    let alloc = rt.alloc();
     for row in ROWS {
-        let nfa = nfa_of(&rt, alloc, row.patterns, row.kind, false);
-        row_is_replaced(&rt, alloc, row, &nfa)?;
-        let relinked = relinked_of(&rt, alloc, &nfa);
-        row_is_replaced(&rt, alloc, row, &relinked)?;
+        row_is_replaced_by_both(&rt, rt.alloc(), row)?;
     }
     Ok(())
 }
@@ -174,20 +215,46 @@ fn appends<A: Automaton>(rt: &impl Abort, alloc: Global, automaton: &A) -> Resul
     Ok(())
 }
 
+/// A replacement does what its closure answers.
+fn obeys<A: Automaton>(rt: &impl Abort, alloc: Global, automaton: &A) -> Result<(), Fail>
+    requires of { (p : Patterns) × A.is_of automaton.now p }
+{
+    copies_after_false(rt, alloc, automaton)?;
+    keeps_after_want_of_memory(rt, alloc, automaton)?;
+    appends(rt, alloc, automaton)
+}
+
+/// So does a replacement by the automaton that is made of what this one tells.
+fn obeys_relinked(rt: &impl Abort, alloc: Global, nfa: &NFA) -> Result<(), Fail>
+    requires of { (p : Patterns) × ⟦<NFA as Automaton>⟧.is_of nfa.now p }
+{
+    obeys(rt, alloc, &relinked_of(rt, alloc, nfa))
+}
+
 #[test]
 fn closures_are_obeyed(rt: HostRuntime) -> Result<(), Fail> {
     let nfa = nfa_of(&rt, rt.alloc(), &[b"a"], MatchKind::Standard, false);
-    copies_after_false(&rt, rt.alloc(), &nfa)?;
-    keeps_after_want_of_memory(&rt, rt.alloc(), &nfa)?;
-    appends(&rt, rt.alloc(), &nfa)?;
-    let relinked = relinked_of(&rt, rt.alloc(), &nfa);
-    copies_after_false(&rt, rt.alloc(), &relinked)?;
-    keeps_after_want_of_memory(&rt, rt.alloc(), &relinked)?;
-    appends(&rt, rt.alloc(), &relinked)
+    obeys(&rt, rt.alloc(), &nfa)?;
+    obeys_relinked(&rt, rt.alloc(), &nfa)
 }
 
 /// Each call replaces the one pattern by this piece.
 fn replaces_each_way<A: Automaton>(
+    rt: &impl Abort,
+    alloc: Global,
+    automaton: &A,
+    text: &str,
+    piece: &str,
+    wanted: &str,
+) -> Result<(), Fail>
+    requires of { (p : Patterns) × A.is_of automaton.now p }
+{
+    replaces_by_piece(rt, alloc, automaton, text, piece, wanted)?;
+    replaces_by_closure(rt, alloc, automaton, text, piece, wanted)
+}
+
+/// The calls that take pieces replace the one pattern by this piece.
+fn replaces_by_piece<A: Automaton>(
     rt: &impl Abort,
     alloc: Global,
     automaton: &A,
@@ -202,6 +269,20 @@ fn replaces_each_way<A: Automaton>(
     assert_same(rt, replaced.as_str(), wanted);
     let bytes = automaton.try_replace_all_bytes(alloc, text.as_bytes(), &[piece.as_bytes()])?;
     assert_same(rt, bytes.as_slice(), wanted.as_bytes());
+    Ok(())
+}
+
+/// The calls that take a closure replace the one pattern by this piece.
+fn replaces_by_closure<A: Automaton>(
+    rt: &impl Abort,
+    alloc: Global,
+    automaton: &A,
+    text: &str,
+    piece: &str,
+    wanted: &str,
+) -> Result<(), Fail>
+    requires of { (p : Patterns) × A.is_of automaton.now p }
+{
     let mut bytes = Vec::new(alloc);
     automaton.try_replace_all_with_bytes(text.as_bytes(), &mut bytes, |_m, _matched, dst| {
         dst.extend_from_slice(piece.as_bytes())?;
@@ -322,8 +403,117 @@ fn on_boundaries(alloc: Global, text: &str, matches: &[Match]) -> Result<Vec<Mat
     Ok(kept)
 }
 
-/// Each call replaces as the plain replacement does, and a closure that appends what matched changes nothing.
-fn replaces_as_plainly<A: Automaton>(
+/// The matches of a case's patterns in a text, as the plain program has them.
+fn plain_matches(
+    rt: &impl Abort,
+    alloc: Global,
+    case: &Case,
+    kind: MatchKind,
+    text: &str,
+) -> Result<Vec<Match>, AllocError> {
+    assert!(rt; case.patterns.len() <= PatternID::MAX.as_usize());
+    let patterns = PatternSet::new(case.patterns, kind, false);
+    finds(alloc, &patterns, Input::new(text.as_bytes()))
+}
+
+/// What the plain replacement makes of the bytes of a text.
+fn bytes_wanted(
+    rt: &impl Abort,
+    alloc: Global,
+    case: &Case,
+    kind: MatchKind,
+    text: &str,
+) -> Result<Vec<u8>, AllocError> {
+    let matches = plain_matches(rt, alloc, case, kind, text)?;
+    let pieces = bytes_of(alloc, case.pieces)?;
+    plainly_replaced(alloc, text.as_bytes(), &matches, &pieces)
+}
+
+/// What it makes of a text, where only the matches count that start and end at character boundaries.
+fn text_wanted(
+    rt: &impl Abort,
+    alloc: Global,
+    case: &Case,
+    kind: MatchKind,
+    text: &str,
+) -> Result<Vec<u8>, AllocError> {
+    let matches = plain_matches(rt, alloc, case, kind, text)?;
+    let kept = on_boundaries(alloc, text, &matches)?;
+    let pieces = bytes_of(alloc, case.pieces)?;
+    plainly_replaced(alloc, text.as_bytes(), &kept, &pieces)
+}
+
+/// What the automaton makes of the bytes of a text by pieces.
+fn bytes_by_pieces<A: Automaton>(
+    rt: &impl Abort,
+    alloc: Global,
+    case: &Case,
+    automaton: &A,
+    text: &str,
+) -> Result<Vec<u8>, ReplaceError>
+    requires of { (p : Patterns) × A.is_of automaton.now p }
+{
+    let pieces = bytes_of(alloc, case.pieces)?;
+    assert_eq!(rt; pieces.len(), automaton.patterns_len());
+    automaton.try_replace_all_bytes(alloc, text.as_bytes(), &pieces)
+}
+
+/// What it makes of a text by pieces.
+fn text_by_pieces<A: Automaton>(
+    rt: &impl Abort,
+    alloc: Global,
+    case: &Case,
+    automaton: &A,
+    text: &str,
+) -> Result<String, ReplaceError>
+    requires of { (p : Patterns) × A.is_of automaton.now p }
+{
+    assert_eq!(rt; case.pieces.len(), automaton.patterns_len());
+    automaton.try_replace_all(alloc, text, case.pieces)
+}
+
+/// What the automaton makes of the bytes of a text by a closure that appends pieces.
+fn bytes_by_closure<A: Automaton>(
+    alloc: Global,
+    case: &Case,
+    automaton: &A,
+    text: &str,
+) -> Result<Vec<u8>, ReplaceError>
+    requires of { (p : Patterns) × A.is_of automaton.now p }
+{
+    let texts = case.pieces;
+    let mut bytes = Vec::new(alloc);
+    automaton.try_replace_all_with_bytes(text.as_bytes(), &mut bytes, |m, _matched, dst| {
+        if let Some(piece) = texts.get(m.pattern().as_usize()) {
+            dst.extend_from_slice(piece.as_bytes())?;
+        }
+        Ok(true)
+    })?;
+    Ok(bytes)
+}
+
+/// What it makes of a text by a closure that appends pieces.
+fn text_by_closure<A: Automaton>(
+    alloc: Global,
+    case: &Case,
+    automaton: &A,
+    text: &str,
+) -> Result<String, ReplaceError>
+    requires of { (p : Patterns) × A.is_of automaton.now p }
+{
+    let texts = case.pieces;
+    let mut replaced = String::new(alloc);
+    automaton.try_replace_all_with(text, &mut replaced, |m, _matched, dst| {
+        if let Some(piece) = texts.get(m.pattern().as_usize()) {
+            dst.push_str(piece)?;
+        }
+        Ok(true)
+    })?;
+    Ok(replaced)
+}
+
+/// The calls that take bytes replace as the plain replacement does.
+fn bytes_as_plainly<A: Automaton>(
     rt: &impl Abort,
     alloc: Global,
     case: &Case,
@@ -333,100 +523,142 @@ fn replaces_as_plainly<A: Automaton>(
 ) -> Result<(), Fail>
     requires of { (p : Patterns) × A.is_of automaton.now p }
 {
-    let (name, texts) = (case.name, case.pieces);
-    let pieces = bytes_of(alloc, texts)?;
-    assert!(rt; case.patterns.len() <= PatternID::MAX.as_usize());
-    assert_eq!(rt; texts.len(), automaton.patterns_len());
-    assert_eq!(rt; pieces.len(), automaton.patterns_len());
-    let patterns = PatternSet::new(case.patterns, kind, false);
-    let matches = finds(alloc, &patterns, Input::new(text.as_bytes()))?;
-    let kept = on_boundaries(alloc, text, &matches)?;
-    let bytes_wanted = plainly_replaced(alloc, text.as_bytes(), &matches, &pieces)?;
-    let text_wanted = plainly_replaced(alloc, text.as_bytes(), &kept, &pieces)?;
-
-    let bytes = automaton.try_replace_all_bytes(alloc, text.as_bytes(), &pieces)?;
-    assert_same_in(
-        rt,
-        (&name, &kind, &text),
-        bytes.as_slice(),
-        bytes_wanted.as_slice(),
-    );
-    let replaced = automaton.try_replace_all(alloc, text, texts)?;
-    assert_same_in(
-        rt,
-        (&name, &kind, &text),
-        replaced.as_bytes(),
-        text_wanted.as_slice(),
-    );
-
-    let mut bytes = Vec::new(alloc);
-    automaton.try_replace_all_with_bytes(text.as_bytes(), &mut bytes, |m, _matched, dst| {
-        if let Some(piece) = pieces.get(m.pattern().as_usize()) {
-            dst.extend_from_slice(piece)?;
-        }
-        Ok(true)
-    })?;
-    assert_same_in(
-        rt,
-        (&name, &kind, &text, "by a closure"),
-        bytes.as_slice(),
-        bytes_wanted.as_slice(),
-    );
-    let mut replaced = String::new(alloc);
-    automaton.try_replace_all_with(text, &mut replaced, |m, _matched, dst| {
-        if let Some(piece) = texts.get(m.pattern().as_usize()) {
-            dst.push_str(piece)?;
-        }
-        Ok(true)
-    })?;
-    assert_same_in(
-        rt,
-        (&name, &kind, &text, "by a closure"),
-        replaced.as_bytes(),
-        text_wanted.as_slice(),
-    );
+    let wanted = bytes_wanted(rt, alloc, case, kind, text)?;
+    let told = (case.name, kind, text);
+    let bytes = bytes_by_pieces(rt, alloc, case, automaton, text)?;
+    assert_same_in(rt, &told, &bytes, &wanted);
+    let bytes = bytes_by_closure(alloc, case, automaton, text)?;
+    assert_same_in(rt, (&told, "by a closure"), &bytes, &wanted);
     Ok(())
+}
+
+/// The calls that take a text replace as the plain replacement does.
+fn text_as_plainly<A: Automaton>(
+    rt: &impl Abort,
+    alloc: Global,
+    case: &Case,
+    kind: MatchKind,
+    automaton: &A,
+    text: &str,
+) -> Result<(), Fail>
+    requires of { (p : Patterns) × A.is_of automaton.now p }
+{
+    let wanted = text_wanted(rt, alloc, case, kind, text)?;
+    let told = (case.name, kind, text);
+    let replaced = text_by_pieces(rt, alloc, case, automaton, text)?;
+    assert_same_in(rt, &told, replaced.as_bytes(), wanted.as_slice());
+    let replaced = text_by_closure(alloc, case, automaton, text)?;
+    let told = (&told, "by a closure");
+    assert_same_in(rt, told, replaced.as_bytes(), wanted.as_slice());
+    Ok(())
+}
+
+/// Each call replaces a case's texts as the plain replacement does.
+fn replaces_as_plainly<A: Automaton>(
+    rt: &impl Abort,
+    alloc: Global,
+    case: &Case,
+    kind: MatchKind,
+    automaton: &A,
+) -> Result<(), Fail>
+    requires of { (p : Patterns) × A.is_of automaton.now p }
+{
+    for text in case.haystacks {
+        bytes_as_plainly(rt, alloc, case, kind, automaton, text)?;
+        text_as_plainly(rt, alloc, case, kind, automaton, text)?;
+    }
+    Ok(())
+}
+
+/// An automaton of this match kind replaces a case's texts as the plain replacement does.
+fn kind_replaces_as_plainly(
+    rt: &impl Abort,
+    alloc: Global,
+    case: &Case,
+    kind: MatchKind,
+) -> Result<(), Fail> {
+    let nfa = nfa_of(rt, alloc, case.patterns, kind, false);
+    replaces_as_plainly(rt, alloc, case, kind, &nfa)
 }
 
 #[test]
 fn short_inputs_are_replaced(rt: HostRuntime) -> Result<(), Fail> {
     for case in CASES {
         for kind in KINDS {
-            let nfa = nfa_of(&rt, rt.alloc(), case.patterns, kind, false);
-            for text in case.haystacks {
-                replaces_as_plainly(&rt, rt.alloc(), case, kind, &nfa, text)?;
-            }
+            kind_replaces_as_plainly(&rt, rt.alloc(), case, kind)?;
         }
     }
     Ok(())
 }
 
+/// A closure that appends what matched, and answers this, leaves the bytes of a text as they are.
+fn bytes_stay<A: Automaton>(
+    rt: &impl Abort,
+    alloc: Global,
+    name: &str,
+    automaton: &A,
+    text: &str,
+    goes_on: bool,
+) -> Result<(), Fail>
+    requires of { (p : Patterns) × A.is_of automaton.now p }
+{
+    let mut bytes = Vec::new(alloc);
+    automaton.try_replace_all_with_bytes(text.as_bytes(), &mut bytes, |_m, matched, dst| {
+        dst.extend_from_slice(matched)?;
+        Ok(goes_on)
+    })?;
+    assert_same_in(rt, (&name, &text), bytes.as_slice(), text.as_bytes());
+    Ok(())
+}
+
+/// A closure that appends what matched, and answers this, leaves a text as it is.
+fn text_stays<A: Automaton>(
+    rt: &impl Abort,
+    alloc: Global,
+    name: &str,
+    automaton: &A,
+    text: &str,
+    goes_on: bool,
+) -> Result<(), Fail>
+    requires of { (p : Patterns) × A.is_of automaton.now p }
+{
+    let mut same = String::new(alloc);
+    automaton.try_replace_all_with(text, &mut same, |_m, matched, dst| {
+        dst.push_str(matched)?;
+        Ok(goes_on)
+    })?;
+    assert_same_in(rt, (&name, &text), same.as_str(), text);
+    Ok(())
+}
+
+/// What matched in its place changes none of a case's texts, where the closure answers this.
+fn texts_stay<A: Automaton>(
+    rt: &impl Abort,
+    alloc: Global,
+    case: &Case,
+    automaton: &A,
+    goes_on: bool,
+) -> Result<(), Fail>
+    requires of { (p : Patterns) × A.is_of automaton.now p }
+{
+    for text in case.haystacks {
+        bytes_stay(rt, alloc, case.name, automaton, text, goes_on)?;
+        text_stays(rt, alloc, case.name, automaton, text, goes_on)?;
+    }
+    Ok(())
+}
+
+/// What matched in its place changes none of a case's texts, whether the closure goes on or not.
+fn case_stays(rt: &impl Abort, alloc: Global, case: &Case) -> Result<(), Fail> {
+    let nfa = nfa_of(rt, alloc, case.patterns, MatchKind::LeftmostFirst, false);
+    texts_stay(rt, alloc, case, &nfa, false)?;
+    texts_stay(rt, alloc, case, &nfa, true)
+}
+
 #[test]
 fn what_matched_in_its_place_changes_nothing(rt: HostRuntime) -> Result<(), Fail> {
     for case in CASES {
-        let nfa = nfa_of(
-            &rt,
-            rt.alloc(),
-            case.patterns,
-            MatchKind::LeftmostFirst,
-            false,
-        );
-        for text in case.haystacks {
-            for goes_on in [false, true] {
-                let mut bytes = Vec::new(rt.alloc());
-                nfa.try_replace_all_with_bytes(text.as_bytes(), &mut bytes, |_m, matched, dst| {
-                    dst.extend_from_slice(matched)?;
-                    Ok(goes_on)
-                })?;
-                assert_same_in(&rt, (&case.name, &text), bytes.as_slice(), text.as_bytes());
-                let mut same = String::new(rt.alloc());
-                nfa.try_replace_all_with(text, &mut same, |_m, matched, dst| {
-                    dst.push_str(matched)?;
-                    Ok(goes_on)
-                })?;
-                assert_same_in(&rt, (&case.name, &text), same.as_str(), *text);
-            }
-        }
+        case_stays(&rt, rt.alloc(), case)?;
     }
     Ok(())
 }

@@ -12,6 +12,7 @@ use aho_search::automaton::Automaton;
 use bench::listing::{all, anchored, finds};
 use bench::pattern_set::PatternSet;
 use bench::plain::plain;
+use bench::relinked::Relinked;
 use std::alloc::{AllocError, Global};
 use std::process::Abort;
 use std::test::Fail;
@@ -514,6 +515,39 @@ fn is_listed<A: Automaton>(
     Ok(())
 }
 
+/// The plain program answers and lists what is wanted of a row.
+fn is_met_plainly(
+    rt: &impl Abort,
+    alloc: Global,
+    row: &Row,
+    patterns: &PatternSet<'_>,
+    kind: MatchKind,
+    input: Input<'_>,
+) -> Result<(), AllocError> {
+    let found = plain(patterns, &input).map(found_of);
+    let listed = listed(alloc, row, patterns, input)?;
+    let is_wanted = is_wanted(row, found, &listed);
+    assert_in(rt, (&kind, &row, &found, &listed), is_wanted);
+    Ok(())
+}
+
+/// Iteration over the automaton gives what is wanted of a row.
+fn is_met_by_iteration<A: Automaton>(
+    rt: &impl Abort,
+    alloc: Global,
+    row: &Row,
+    kind: MatchKind,
+    automaton: &A,
+    input: Input<'_>,
+) -> Result<(), Fail>
+    requires of { (p : Patterns) × A.is_of automaton.now p }
+{
+    let iterated = iterated(alloc, row, automaton, input)?;
+    let is_wanted = is_iterated(row, &iterated);
+    assert_in(rt, (&kind, &row, &iterated, "by iteration"), is_wanted);
+    Ok(())
+}
+
 /// The plain program and the automaton answer what is wanted of a row, at one match kind.
 fn row_is_met<A: Automaton>(
     rt: &impl Abort,
@@ -532,44 +566,52 @@ fn row_is_met<A: Automaton>(
     let input = input_of(row, span);
     let answer = plain(&patterns, &input);
     assert_same_in(rt, (&kind, &row), automaton.try_find(&input)?, answer);
-    is_listed(rt, alloc, row, automaton, input.clone()?)?;
-    let iterated = iterated(alloc, row, automaton, input_of(row, span))?;
-    let listed = listed(alloc, row, &patterns, input)?;
-    let found = answer.map(found_of);
-    assert_in(
-        rt,
-        (&kind, &row, &found, &listed),
-        is_wanted(row, found, &listed),
-    );
-    assert_in(
-        rt,
-        (&kind, &row, &iterated, "by iteration"),
-        is_iterated(row, &iterated),
-    );
-    Ok(())
+    is_met_plainly(rt, alloc, row, &patterns, kind, input)?;
+    is_listed(rt, alloc, row, automaton, input_of(row, span))?;
+    is_met_by_iteration(rt, alloc, row, kind, automaton, input_of(row, span))
+}
+
+/// An automaton with rows up to this depth meets a row.
+fn row_is_met_at(
+    rt: &impl Abort,
+    alloc: Global,
+    row: &Row,
+    kind: MatchKind,
+    (depth, prefilter): (usize, bool),
+) -> Result<(), Fail> {
+    let (words, ignore_case) = (row.patterns, row.ignore_case);
+    let nfa = nfa_with(rt, alloc, words, kind, ignore_case, prefilter, depth);
+    row_is_met(rt, alloc, row, kind, &nfa)
+}
+
+/// The automaton of a row's patterns that is made of what another one tells.
+fn relinked_of_row(rt: &impl Abort, alloc: Global, row: &Row, kind: MatchKind) -> Relinked
+    ensures of { (p : Patterns) × ⟦<Relinked as Automaton>⟧.is_of result p }
+{
+    let nfa = nfa_of(rt, alloc, row.patterns, kind, row.ignore_case);
+    relinked_of(rt, alloc, &nfa)
+}
+
+/// Every automaton of a row's patterns at this match kind meets it.
+fn row_is_met_by_all(
+    rt: &impl Abort,
+    alloc: Global,
+    row: &Row,
+    kind: MatchKind,
+) -> Result<(), Fail> {
+    for depth in DEPTHS {
+        row_is_met_at(rt, alloc, row, kind, (depth, true))?;
+        row_is_met_at(rt, alloc, row, kind, (depth, false))?;
+    }
+    let relinked = relinked_of_row(rt, alloc, row, kind);
+    row_is_met(rt, alloc, row, kind, &relinked)
 }
 
 #[test]
 fn rows_are_met(rt: HostRuntime) -> Result<(), Fail> {
     for row in ROWS {
         for kind in row.kinds {
-            for depth in DEPTHS {
-                for prefilter in [true, false] {
-                    let nfa = nfa_with(
-                        &rt,
-                        rt.alloc(),
-                        row.patterns,
-                        *kind,
-                        row.ignore_case,
-                        prefilter,
-                        depth,
-                    );
-                    row_is_met(&rt, rt.alloc(), row, *kind, &nfa)?;
-                }
-            }
-            let nfa = nfa_of(&rt, rt.alloc(), row.patterns, *kind, row.ignore_case);
-            let relinked = relinked_of(&rt, rt.alloc(), &nfa);
-            row_is_met(&rt, rt.alloc(), row, *kind, &relinked)?;
+            row_is_met_by_all(&rt, rt.alloc(), row, *kind)?;
         }
     }
     Ok(())

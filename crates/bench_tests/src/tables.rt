@@ -1,6 +1,6 @@
 //! What the tables of a few states answer.
 
-ghost use Rattle.std.specs.Prelude.{◌≡◌, [], length};
+ghost use Rattle.std.specs.Prelude.{◌≡◌, ◌<◌, [], length};
 ghost use Rattle.std.specs.Iterator.{IsFinite};
 ghost use Rattle.aho_table.specs.Table.{fail_id, state_at};
 
@@ -78,36 +78,65 @@ fn collected<I: Iterator<Item = (u8, StateID)> + Drop>(
     pairs.collect(alloc)
 }
 
+// The transitions of FAIL are given from the least byte, and DEAD has none.
+fn transitions_are_given(rt: &impl Abort, alloc: Global, table: &mut Table)
+    requires two { length table.old.states ≡ 2 }
+    ensures two { length table.new.states ≡ 2 }
+{
+    lead(rt, table, b'm', FAIL);
+    lead(rt, table, b'z', DEAD);
+    lead(rt, table, b'a', DEAD);
+    let pairs = collected(alloc, table.transitions(FAIL)).expect(rt, "memory");
+    let wanted = [(b'a', DEAD), (b'm', FAIL), (b'z', DEAD)];
+    assert_same(rt, pairs.as_slice(), wanted.as_slice());
+    let none = collected(alloc, table.transitions(DEAD)).expect(rt, "memory");
+    assert!(rt; none.is_empty());
+}
+
+// The patterns that a state lists, as they are iterated.
+fn iterated(rt: &impl Abort, alloc: Global, table: &Table, sid: StateID) -> Vec<PatternID>
+    requires within { sid < length table.now.states }
+{
+    table.matches(sid).collect(alloc).expect(rt, "memory")
+}
+
+// DEAD lists these two patterns, and FAIL none.
+fn patterns_are_given(
+    rt: &impl Abort,
+    alloc: Global,
+    table: &Table,
+    first: PatternID,
+    second: PatternID,
+)
+    requires two { length table.now.states ≡ 2 }
+{
+    let patterns = iterated(rt, alloc, table, DEAD);
+    assert_same(rt, patterns.as_slice(), [first, second].as_slice());
+    let copied = table.patterns(DEAD).expect(rt, "memory");
+    assert_same(rt, copied.as_slice(), [first, second].as_slice());
+    assert!(rt; iterated(rt, alloc, table, FAIL).is_empty());
+}
+
+// The counts of these patterns.
+fn patterns_are_counted(rt: &impl Abort, table: &Table, second: PatternID)
+    requires two { length table.now.states ≡ 2 }
+{
+    assert!(rt; table.has_matches(DEAD));
+    assert!(rt; !table.has_matches(FAIL));
+    assert_eq!(rt; table.match_len(DEAD), 2);
+    assert_same(rt, table.match_pattern(DEAD, 1), second);
+    assert_same(rt, table.matches_count(), 3);
+}
+
 #[test]
 fn iterators_give_what_was_listed(rt: HostRuntime) {
     let mut table = two_states(&rt, rt.alloc());
-    lead(&rt, &mut table, b'm', FAIL);
-    lead(&rt, &mut table, b'z', DEAD);
-    lead(&rt, &mut table, b'a', DEAD);
-    let pairs = collected(rt.alloc(), table.transitions(FAIL)).expect(&rt, "memory");
-    assert!(rt; pairs.as_slice() == [(b'a', DEAD), (b'm', FAIL), (b'z', DEAD)].as_slice());
-    let none = collected(rt.alloc(), table.transitions(DEAD)).expect(&rt, "memory");
-    assert!(rt; none.is_empty());
+    transitions_are_given(&rt, rt.alloc(), &mut table);
     let (first, second) = (pattern(&rt, 7), pattern(&rt, 2));
     table.add_match(DEAD, first).expect(&rt, "a pattern");
     table.add_match(DEAD, second).expect(&rt, "another pattern");
-    let patterns: Vec<PatternID> = table
-        .matches(DEAD)
-        .collect(rt.alloc())
-        .expect(&rt, "memory");
-    assert!(rt; patterns.as_slice() == [first, second].as_slice());
-    let copied = table.patterns(DEAD).expect(&rt, "memory");
-    assert!(rt; copied.as_slice() == [first, second].as_slice());
-    assert!(rt; table.has_matches(DEAD));
-    assert!(rt; !table.has_matches(FAIL));
-    assert_same(&rt, table.match_len(DEAD), 2);
-    assert_same(&rt, table.match_pattern(DEAD, 1), second);
-    assert_same(&rt, table.matches_count(), 3);
-    let unlisted: Vec<PatternID> = table
-        .matches(FAIL)
-        .collect(rt.alloc())
-        .expect(&rt, "memory");
-    assert!(rt; unlisted.is_empty());
+    patterns_are_given(&rt, rt.alloc(), &table, first, second);
+    patterns_are_counted(&rt, &table, second);
 }
 
 #[test]
@@ -151,34 +180,62 @@ fn overflow() -> BuildError {
     }
 }
 
+// A fourth transition is refused, and one in the place of another is not.
+fn transitions_are_full(rt: &impl Abort, table: &mut Table)
+    requires two { length table.old.states ≡ 2 }
+    ensures two { length table.new.states ≡ 2 }
+{
+    lead(rt, table, b'c', DEAD);
+    lead(rt, table, b'a', DEAD);
+    lead(rt, table, b'b', DEAD);
+    assert_same(rt, table.set(FAIL, b'd', DEAD), Err(overflow()));
+    assert_same(rt, table.transitions_len(FAIL), 3);
+    lead(rt, table, b'b', FAIL);
+    assert_eq!(rt; table.transitions_len(FAIL), 3);
+    assert_same(rt, table.transition(FAIL, 1), (b'b', FAIL));
+}
+
+// A fourth pattern is refused.
+fn patterns_are_full(rt: &impl Abort, table: &mut Table)
+    requires two { length table.old.states ≡ 2 }
+    ensures two { length table.new.states ≡ 2 }
+{
+    for _ in 0..3 {
+        assert_eq!(rt; table.len(), 2);
+        let added = table.add_match(FAIL, pattern(rt, 5));
+        added.expect(rt, "a pattern");
+    }
+    assert_eq!(rt; table.len(), 2);
+    assert_same(rt, table.add_match(FAIL, pattern(rt, 5)), Err(overflow()));
+    assert_same(rt, table.match_len(FAIL), 3);
+    assert_eq!(rt; table.len(), 2);
+}
+
+// A fifth state is refused.
+fn states_are_full(rt: &impl Abort, table: &mut Table)
+    ensures four { length table.new.states ≡ 4 }
+{
+    table.add_state(index(rt, 1)).expect(rt, "a third state");
+    table.add_state(index(rt, 1)).expect(rt, "a fourth state");
+    assert_same(rt, table.add_state(index(rt, 1)), Err(overflow()));
+    assert_eq!(rt; table.len(), 4);
+    assert_same(rt, table.match_len(FAIL), 3);
+}
+
+// A clone has what the table has.
+fn clone_is_as_full(rt: &impl Abort, table: &Table) {
+    let clone = table.try_clone().expect(rt, "memory");
+    assert_eq!(rt; clone.len(), 4);
+    assert_eq!(rt; clone.transitions_len(FAIL), 3);
+    assert_same(rt, clone.transition(FAIL, 1), (b'b', FAIL));
+    assert_same(rt, clone.match_len(FAIL), 3);
+}
+
 #[test]
 fn full_tables_stay_as_they_were(rt: HostRuntime) {
     let mut table = two_states(&rt, rt.alloc());
-    lead(&rt, &mut table, b'c', DEAD);
-    lead(&rt, &mut table, b'a', DEAD);
-    lead(&rt, &mut table, b'b', DEAD);
-    assert_same(&rt, table.set(FAIL, b'd', DEAD), Err(overflow()));
-    assert_same(&rt, table.transitions_len(FAIL), 3);
-    lead(&rt, &mut table, b'b', FAIL);
-    assert_eq!(rt; table.transitions_len(FAIL), 3);
-    assert_same(&rt, table.transition(FAIL, 1), (b'b', FAIL));
-    for _ in 0..3 {
-        assert_eq!(rt; table.len(), 2);
-        table
-            .add_match(FAIL, pattern(&rt, 5))
-            .expect(&rt, "a pattern");
-    }
-    assert_eq!(rt; table.len(), 2);
-    assert_same(&rt, table.add_match(FAIL, pattern(&rt, 5)), Err(overflow()));
-    assert_same(&rt, table.match_len(FAIL), 3);
-    table.add_state(index(&rt, 1)).expect(&rt, "a third state");
-    table.add_state(index(&rt, 1)).expect(&rt, "a fourth state");
-    assert_same(&rt, table.add_state(index(&rt, 1)), Err(overflow()));
-    assert_eq!(rt; table.len(), 4);
-    assert_same(&rt, table.match_len(FAIL), 3);
-    let clone = table.try_clone().expect(&rt, "memory");
-    assert_eq!(rt; clone.len(), 4);
-    assert_eq!(rt; clone.transitions_len(FAIL), 3);
-    assert_same(&rt, clone.transition(FAIL, 1), (b'b', FAIL));
-    assert_same(&rt, clone.match_len(FAIL), 3);
+    transitions_are_full(&rt, &mut table);
+    patterns_are_full(&rt, &mut table);
+    states_are_full(&rt, &mut table);
+    clone_is_as_full(&rt, &table);
 }
