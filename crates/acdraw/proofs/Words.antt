@@ -1,10 +1,10 @@
 -- The word of a state, by how it is reached.
 use Rattle.std.proofs.Common.{◌≡◌, ◌≢◌, ◌⊎◌, inl, inr, ℕ, zero, suc, ◌+◌, ◌<◌, true, ◌&&◌, List, [], ◌∷◌, ◌++◌, length, get_or, refl, sym, ◌∙◌, ap, subst, arith}
-use Rattle.std.specs.Prelude.{Option, Some, None, nat_eq, nat_le, if◌then◌else◌}
+use Rattle.std.specs.Prelude.{Option, Some, None, nat_le, if◌then◌else◌}
 use Rattle.std.specs.List.{All}
 use Rattle.std.proofs.Math.ListN.{get_or-append}
 use Rattle.std.proofs.Math.Seq.{get_or-append_seam}
-use Rattle.std.proofs.lemmas.Bool.{cases_Bool, and_parts, cases_eq, cond-true, cond-false, eq-eqb, ne_eqb}
+use Rattle.std.proofs.lemmas.Bool.{cases_Bool, and_parts, cases_eq, cond-true, cond-false}
 use Rattle.std.proofs.lemmas.Bool.Decides.{nat_tests}
 use Rattle.std.proofs.lemmas.List.{append_assoc, append-nil, length-append}
 use Rattle.std.proofs.lemmas.List.Elements.{All-map}
@@ -20,6 +20,8 @@ use Rattle.aho_build.specs.declared.special.Special.{Special}
 use Rattle.aho_build.specs.StateNames.{name_at}
 use Rattle.aho_build.specs.Trie.{longer}
 use Rattle.aho_build.proofs.LinkedNodes.{named-below, named-ne_fail, node_next, other_next}
+use Rattle.aho_build.proofs.OneWordMore.{folded-small}
+use Rattle.aho_corasick.proofs.ReadOut.{word-anchored, word-other}
 use Rattle.aho_corasick.specs.ReadOut.{states_of, word_in}
 use Rattle.aho_corasick.specs.declared.noncontiguous.NFA.{NFA}
 use Rattle.acdraw.specs.Words.{AreBytes, IsAheadOf, IsLastTo, IsReachedBy, IsUnreached, IsWordOf}
@@ -75,9 +77,6 @@ folded-cases p byte =
       | inr other ↦ inl (cond-false {A = ℕ} (p.ignore_case && (nat_le 65 byte && nat_le byte 90)) (byte + 32) byte other)
     ]
 
-folded-small : (p : Patterns) (byte : ℕ) → byte < 256 → folded p byte < 256
-folded-small p byte small = elim (folded-cases p byte) [ inl same ↦ omega arith | inr up ↦ omega arith ]
-
 All-front : (P : ℕ → Type 0) (xs ys : List ℕ) → All P (xs ++ ys) → All P xs
 All-front P xs ys all k d lt = subst P (get_or-append xs ys d k lt) (all k d (omega (arith, length-append xs ys)))
 
@@ -95,18 +94,12 @@ module _ (special : Special) (p : Patterns) (names : List (Option (List ℕ))) (
   abbrev anchored : ℕ
   anchored = special.start_anchored_id
 
-  word-anchored : word_in special names anchored ≡ Some []
-  word-anchored = cond-true {A = Option (List ℕ)} (nat_eq anchored anchored) (Some []) (name_at names anchored) (eq-eqb anchored anchored refl)
-
-  word-other : (sid : ℕ) → sid ≢ anchored → word_in special names sid ≡ name_at names sid
-  word-other sid ne = cond-false {A = Option (List ℕ)} (nat_eq sid anchored) (Some []) (name_at names sid) (ne_eqb sid anchored ne)
-
   -- a state that is not DEAD and not FAIL stands for a word
   pub some_word : (sid : ℕ) → sid < length states → sid ≢ dead_id → sid ≢ fail_id → (word : List ℕ) × (word_in special names sid ≡ Some word)
   some_word sid below alive kept =
       elim (cases_eq sid anchored) [
-        | inl start ↦ ([], ap (word_in special names) start ∙ word-anchored)
-        | inr apart ↦ (let word = a.complete sid below alive kept apart in (word.0, word-other sid apart ∙ word.1))
+        | inl start ↦ ([], ap (word_in special names) start ∙ word-anchored special names)
+        | inr apart ↦ (let word = a.complete sid below alive kept apart in (word.0, word-other special names sid apart ∙ word.1))
       ]
 
   -- DEAD, FAIL and the starts are at depth 0
@@ -183,15 +176,15 @@ module _ (special : Special) (p : Patterns) (names : List (Option (List ℕ))) (
     of_named u from_named apart word named =
         elim (cases_Bool (is_node p (longer p u byte))) [
           | inl node ↦
-              of_node u word (word-other from apart ∙ from_named) named (λ other lt yes. node_next root p names states a.nodes from u other lt from_named yes) node
+              of_node u word (word-other special names from apart ∙ from_named) named (λ other lt yes. node_next root p names states a.nodes from u other lt from_named yes) node
           | inr other ↦ absurd (missing u (sym leads_to ∙ other_next root p names states a.nodes from u byte small from_named other))
         ]
 
     pub one_back : (word : List ℕ) → from < length states → word_in special names sid ≡ Some word → Result word
     one_back word below is =
-        let named : name_at names sid ≡ Some word = sym (word-other sid (deep-ne_anchored sid deep)) ∙ is in
+        let named : name_at names sid ≡ Some word = sym (word-other special names sid (deep-ne_anchored sid deep)) ∙ is in
         elim (cases_eq from anchored) [
-          | inl start ↦ of_root (ap (word_in special names) start ∙ word-anchored) word named start
+          | inl start ↦ of_root (ap (word_in special names) start ∙ word-anchored special names) word named start
           | inr apart ↦
               elim (cases_eq from dead_id) [
                 | inl dead ↦ absurd (deep-ne_dead sid deep (sym leads_to ∙ ap (λ (n : ℕ). next_in states n byte) dead ∙ a.nodes.dead_loop byte small))
@@ -252,8 +245,8 @@ module _ (special : Special) (p : Patterns) (names : List (Option (List ℕ))) (
   pub unreached-word : AreBytes p → (sid : ℕ) (word : List ℕ) → IsUnreached states sid → word_in special names sid ≡ Some word → word ≡ []
   unreached-word bytes sid [] unreached is = refl
   unreached-word bytes sid (x ∷ r) unreached is =
-      let apart : sid ≢ anchored = λ start. (let both : Some (x ∷ r) ≡ Some [] = sym is ∙ ap (word_in special names) start ∙ word-anchored in cc) in
-      let named : name_at names sid ≡ Some (x ∷ r) = sym (word-other sid apart) ∙ is in
+      let apart : sid ≢ anchored = λ start. (let both : Some (x ∷ r) ≡ Some [] = sym is ∙ ap (word_in special names) start ∙ word-anchored special names in cc) in
+      let named : name_at names sid ≡ Some (x ∷ r) = sym (word-other special names sid apart) ∙ is in
       let of = a.nodes.words sid (x ∷ r) named in
       let reached = last_edge sid root [] x r a.nodes.root of.0 of.1 (node-small bytes (x ∷ r) of.0) named in
       absurd (none_to (state_at states reached.0).transitions sid reached.1 (named-ne_fail root p names states a.nodes sid (x ∷ r) named) (unreached reached.0 reached.2 reached.3) reached.4)

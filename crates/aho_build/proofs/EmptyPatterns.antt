@@ -3,12 +3,12 @@ use Rattle.std.proofs.Common.{◌≡◌, ℕ, Bool, true, List, [], ◌∷◌, l
 use Rattle.std.specs.Prelude.{Option}
 use Rattle.std.proofs.lemmas.Bool.{cases_Bool, lt-ltb}
 use Rattle.std.proofs.lemmas.List.Folds.{Any-from_list_any, list_any_at}
-use Rattle.std.proofs.lemmas.List.{length-map}
-use Rattle.aho_base.specs.Bytes.{folded}
+use Rattle.std.proofs.lemmas.List.{nil_from_length}
 use Rattle.aho_base.specs.MatchList.{own_matches}
 use Rattle.aho_base.specs.Patterns.{Patterns, pattern_at}
 use Rattle.aho_base.specs.Trie.{pattern_word}
 use Rattle.aho_laws.proofs.Kept.{own-first, left_out}
+use Rattle.aho_laws.proofs.Stands.{length-pattern_word}
 use Rattle.aho_prefilter.specs.Prefilter.{has_empty, is_empty}
 use Rattle.aho_table.specs.Table.{State, matches_in}
 use Rattle.aho_build.specs.declared.special.Special.{Special}
@@ -16,10 +16,6 @@ use Rattle.aho_build.specs.Automaton.{IsAutomaton}
 use Rattle.aho_build.specs.Shuffled.{IsInOrder, starts_match}
 
 module _ (p : Patterns) where
-  word_length : (k : ℕ) → length (pattern_word p k) ≡ length (pattern_at p k)
-  unfolding pattern_word
-  word_length k = length-map (pattern_at p k) (folded p)
-
   is_empty-none : (word : List ℕ) → length word ≡ 0 → is_empty word ≡ true
   is_empty-none [] e = refl
   is_empty-none (x ∷ word) e = absurd (omega arith)
@@ -28,14 +24,10 @@ module _ (p : Patterns) where
   none-is_empty [] e = refl
   none-is_empty (x ∷ word) e = cc
 
-  none-length : (word : List ℕ) → length word ≡ 0 → word ≡ []
-  none-length [] e = refl
-  none-length (x ∷ word) e = absurd (omega arith)
-
   by_own : (ks : List ℕ) → own_matches p [] ≡ ks → nat_lt 0 (length ks) ≡ has_empty p
   by_own (k ∷ ks) own =
       let t = own-first p [] k ks own in
-      let empty = is_empty-none (pattern_at p k) (sym (word_length k) ∙ ap length t.2) in
+      let empty = is_empty-none (pattern_at p k) (sym (length-pattern_word p k) ∙ ap length t.2) in
       lt-ltb 0 (length (k ∷ ks)) (omega arith) ∙ sym (list_any_at is_empty p.words k [] t.0 empty)
   by_own [] own =
       elim (cases_Bool (has_empty p)) [
@@ -44,7 +36,7 @@ module _ (p : Patterns) where
             let k = found.0 in
             let is = none-is_empty found.1 found.4 in
             let at : pattern_at p k ≡ [] = ap (get_or p.words k) (sym is) ∙ found.3 ∙ is in
-            let whole = none-length (pattern_word p k) (word_length k ∙ ap length at) in
+            let whole = nil_from_length (pattern_word p k) (length-pattern_word p k ∙ ap length at) in
             let earlier = (left_out p [] k own found.2 whole).1 in
             absurd (omega (arith, earlier.3)))
         | inr none ↦ sym none

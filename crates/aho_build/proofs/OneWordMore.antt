@@ -52,7 +52,8 @@ folded-folded p byte = by p.ignore_case byte
     by false x = refl
     by true x = grind (arith, nat_tests)
 
-folded-small : (p : Patterns) (byte : ℕ) → byte < 256 → folded p byte < 256
+-- a folded byte is a byte
+pub folded-small : (p : Patterns) (byte : ℕ) → byte < 256 → folded p byte < 256
 folded-small p byte small = by p.ignore_case byte small
   where
     by : (b : Bool) (x : ℕ) → x < 256 → folded_by b x < 256

@@ -1,4 +1,4 @@
 -- The states of an automaton, by the words that they stand for.
-mod ReadOut
+pub mod ReadOut
 -- For callers: what an automaton is of, from the patterns that were passed.
 pub mod Callers

@@ -33,6 +33,16 @@ entry-listed transitions byte listed = cond-true {A = Option ℕ} (lists_transit
 entry-leads : (transitions : List (ℕ × ℕ)) (byte : ℕ) → transition_at transitions byte ≢ fail_id → entry_at transitions byte ≡ Some (transition_at transitions byte)
 entry-leads transitions byte ne = entry-listed transitions byte (listed-leads transitions byte ne)
 
+-- the anchored start stands for no byte, and every other state for its name
+pub word-anchored : (special : Special) (names : List (Option (List ℕ))) → word_in special names special.start_anchored_id ≡ Some []
+word-anchored special names =
+    let start = special.start_anchored_id in
+    cond-true {A = Option (List ℕ)} (nat_eq start start) (Some []) (name_at names start) (eq-eqb start start refl)
+
+pub word-other : (special : Special) (names : List (Option (List ℕ))) (sid : ℕ) → sid ≢ special.start_anchored_id → word_in special names sid ≡ name_at names sid
+word-other special names sid ne =
+    cond-false {A = Option (List ℕ)} (nat_eq sid special.start_anchored_id) (Some []) (name_at names sid) (ne_eqb sid special.start_anchored_id ne)
+
 module _ (special : Special) (p : Patterns) (names : List (Option (List ℕ))) (states : List State) (a : IsAutomaton special p names states) (l : ListsExactly special states) where
   abbrev root : ℕ
   root = special.start_unanchored_id
@@ -48,20 +58,17 @@ module _ (special : Special) (p : Patterns) (names : List (Option (List ℕ))) (
       ⊎ (((sid ≡ anchored) × (word_in special names sid ≡ Some []))
       ⊎ ((word : List ℕ) × (name_at names sid ≡ Some word) × (word_in special names sid ≡ Some word) × (sid ≢ anchored))))
 
-  word-other : (sid : ℕ) → sid ≢ anchored → word_in special names sid ≡ name_at names sid
-  word-other sid ne = cond-false {A = Option (List ℕ)} (nat_eq sid anchored) (Some []) (name_at names sid) (ne_eqb sid anchored ne)
-
   cases : (sid : ℕ) → sid < length states → Cases sid
   cases sid below =
       elim (cases_eq sid anchored) [
         | inl start ↦ inr (inr (inl (start, cond-true {A = Option (List ℕ)} (nat_eq sid anchored) (Some []) (name_at names sid) (eq-eqb sid anchored start))))
         | inr apart ↦
             elim (cases_eq sid dead_id) [
-              | inl dead ↦ inl (dead, word-other sid apart ∙ ap (name_at names) dead ∙ a.nodes.dead)
+              | inl dead ↦ inl (dead, word-other special names sid apart ∙ ap (name_at names) dead ∙ a.nodes.dead)
               | inr alive ↦
                   elim (cases_eq sid fail_id) [
-                    | inl fail ↦ inr (inl (fail, word-other sid apart ∙ ap (name_at names) fail ∙ a.nodes.fail))
-                    | inr kept ↦ (let word = a.complete sid below alive kept apart in inr (inr (inr (word.0, word.1, word-other sid apart ∙ word.1, apart))))
+                    | inl fail ↦ inr (inl (fail, word-other special names sid apart ∙ ap (name_at names) fail ∙ a.nodes.fail))
+                    | inr kept ↦ (let word = a.complete sid below alive kept apart in inr (inr (inr (word.0, word.1, word-other special names sid apart ∙ word.1, apart))))
                   ]
             ]
       ]

@@ -1,16 +1,12 @@
 -- Runs along the links of a vector of lists.
-use Rattle.std.proofs.Common.{◌≡◌, ℕ, zero, suc, ◌+◌, ◌-◌, ◌<◌, ◌≤◌, ◌≢◌, nat_eq, false, List, [], ◌∷◌, ◌++◌, refl, sym, ap, subst, ◌∙◌, inl, inr, arith}
-use Rattle.std.proofs.lemmas.Bool.{cases_eq, eq-eqb, le-ltb, lt-ltb}
-use Rattle.std.proofs.lemmas.Bool.Decides.{nat_tests}
+use Rattle.std.proofs.Common.{◌≡◌, ℕ, zero, suc, ◌+◌, ◌-◌, ◌<◌, ◌≤◌, ◌≢◌, List, [], ◌∷◌, ◌++◌, refl, sym, ap, subst, ◌∙◌, inl, inr, arith}
+use Rattle.std.proofs.lemmas.Bool.{cases_eq, eq-eqb, le-ltb, lt-ltb, ne_eqb}
 use Rattle.aho_lists.specs.Rings.{Entries, list_along, list_to, list_ending, IsRun, here, on, IsPassed, stop, pass}
 
 -- keys rise up to the last
 pub key-le : {X : Type 0} {entries : Entries X} {last at : ℕ} {xs : List X} → IsRun entries last at xs → entries.key at ≤ entries.key last
 key-le {entries = entries} (here is eq) = omega (arith, ap entries.key is)
 key-le (on ne less run eq) = omega (arith, key-le run)
-
-nat_eq-other : (a b : ℕ) → a ≢ b → nat_eq a b ≡ false
-nat_eq-other a b ne = grind (arith, nat_tests)
 
 list_along-here : {X : Type 0} (entries : Entries X) (steps at last : ℕ) → at ≡ last → list_along entries (suc steps) at last ≡ entries.item last ∷ []
 unfolding list_along
@@ -19,7 +15,7 @@ list_along-here entries steps at last is = rw (eq-eqb at last is) refl
 list_along-on : {X : Type 0} (entries : Entries X) (steps at last : ℕ) → at ≢ last
     → list_along entries (suc steps) at last ≡ entries.item at ∷ list_along entries steps (entries.link at) last
 unfolding list_along
-list_along-on entries steps at last ne = rw (nat_eq-other at last ne) refl
+list_along-on entries steps at last ne = rw (ne_eqb at last ne) refl
 
 -- a run's items are those along the links, where there are steps enough
 list_along-run : {X : Type 0} {entries : Entries X} {last at : ℕ} {xs : List X} → IsRun entries last at xs → (steps : ℕ) → entries.key last ≤ steps + entries.key at
@@ -41,14 +37,14 @@ pub list_ending-ring : {X : Type 0} {entries : Entries X} {last : ℕ} {xs : Lis
     → IsRun entries last (entries.link last) xs → list_ending entries last ≡ xs
 unfolding list_ending
 list_ending-ring {entries = entries} {last = last} some ends run =
-    rw (nat_eq-other last 0 (λ e. omega arith), le-ltb (entries.key last) (entries.key (entries.link last)) ends) (list_to-run run)
+    rw (ne_eqb last 0 (λ e. omega arith), le-ltb (entries.key last) (entries.key (entries.link last)) ends) (list_to-run run)
 
 pub list_ending-none : {X : Type 0} (entries : Entries X) (last : ℕ) → entries.key last < entries.key (entries.link last) → list_ending entries last ≡ []
 unfolding list_ending
 list_ending-none entries last less =
     elim (cases_eq last 0) [
       | inl is ↦ rw (eq-eqb last 0 is) refl
-      | inr ne ↦ rw (nat_eq-other last 0 ne, lt-ltb (entries.key last) (entries.key (entries.link last)) less) refl
+      | inr ne ↦ rw (ne_eqb last 0 ne, lt-ltb (entries.key last) (entries.key (entries.link last)) less) refl
     ]
 
 pub list_ending-zero : {X : Type 0} (entries : Entries X) → list_ending entries 0 ≡ []

@@ -1,8 +1,8 @@
 -- The listing of an overlapping search, place by place.
-use Rattle.std.proofs.Common.{◌≡◌, ◌≢◌, ℕ, zero, suc, ◌+◌, ◌-◌, ◌<◌, ◌≤◌, Bool, true, false, List, [], ◌∷◌, ◌++◌, map, refl, ◌∙◌, ap, arith}
+use Rattle.std.proofs.Common.{◌≡◌, ℕ, zero, suc, ◌+◌, ◌-◌, ◌<◌, ◌≤◌, Bool, true, false, List, [], ◌∷◌, ◌++◌, map, refl, ◌∙◌, ap, arith}
 use Rattle.std.specs.Prelude.{nat_eq, nat_lt, slice_range}
 use Rattle.std.specs.List.{All, filter, flat_map, range_with_len}
-use Rattle.std.proofs.lemmas.Bool.{cond-true, cond-false, eq-eqb, le-ltb, lt-ltb}
+use Rattle.std.proofs.lemmas.Bool.{cond-true, cond-false, eq-eqb, le-ltb, lt-ltb, ne_eqb}
 use Rattle.std.proofs.lemmas.Grind.{flat_map-append}
 use Rattle.std.proofs.lemmas.List.{append-nil}
 use Rattle.std.proofs.lemmas.List.Elements.{All-append, All-cons, All-filter, All-head, All-nil, All-tail, All-weaker, filter-append}
@@ -53,10 +53,6 @@ filter-places_all test f a (suc n) each =
 
 filter-places_none : (test : Occurrence → Bool) (f : ℕ → List Occurrence) (a n : ℕ) → ((k : ℕ) → a ≤ k → k < a + n → filter test (f k) ≡ []) → filter test (flat_map f (range_with_len a n)) ≡ []
 filter-places_none test f a n none = filter-flat_map test f (range_with_len a n) ∙ flat_map-nothing (λ k. filter test (f k)) a n none
-
--- tests of the end
-eq-false : (a b : ℕ) → a ≢ b → nat_eq a b ≡ false
-eq-false a b h = grind (arith, h)
 
 module _ (p : Patterns) (haystack : List ℕ) (start : ℕ) where
   -- what a search lists at a place
@@ -133,11 +129,11 @@ module _ (p : Patterns) (haystack : List ℕ) (start : ℕ) where
         ap (filter test) (listing_parts at end low high)
         ∙ filter-append test (listed start (at - start)) (ending anchored at ++ listed (at + 1) (end - at))
         ∙ ap (λ xs. xs ++ filter test (ending anchored at ++ listed (at + 1) (end - at)))
-        (filter-places_none test (ending anchored) start (at - start) (λ k least most. left_out_by test k (λ m e. eq-false m.end at (λ same. omega arith))))
+        (filter-places_none test (ending anchored) start (at - start) (λ k least most. left_out_by test k (λ m e. ne_eqb m.end at (λ same. omega arith))))
         ∙ filter-append test (ending anchored at) (listed (at + 1) (end - at))
         ∙ ap (λ xs. xs ++ filter test (listed (at + 1) (end - at))) (kept_by test at (λ m e. eq-eqb m.end at e))
         ∙ ap (λ xs. ending anchored at ++ xs)
-        (filter-places_none test (ending anchored) (at + 1) (end - at) (λ k least most. left_out_by test k (λ m e. eq-false m.end at (λ same. omega arith))))
+        (filter-places_none test (ending anchored) (at + 1) (end - at) (λ k least most. left_out_by test k (λ m e. ne_eqb m.end at (λ same. omega arith))))
         ∙ append-nil (ending anchored at)
 
     -- from one place to a later one

@@ -1,6 +1,6 @@
 //! Runs of bytes that lead to one state.
 
-ghost use Rattle.std.specs.Prelude.{◌≡◌, ◌+◌, ◌++◌, ◌∷◌, [], IsFalse, IsNone, IsTrue, IfOk};
+ghost use Rattle.std.specs.Prelude.{◌≡◌, ◌≤◌, ◌+◌, ◌++◌, ◌∷◌, [], IsFalse, IsNone, IsTrue, IfOk};
 ghost use Rattle.std.specs.Option.{option_to_list};
 ghost use Rattle.acdraw.specs.Runs.{AreApart, GoesOn, all_pairs};
 
@@ -45,7 +45,9 @@ impl Run {
     }
 
     /// The last byte of it.
-    pub fn last(&self) -> u8 {
+    pub fn last(&self) -> u8
+        ensures last { self.now.first + self.now.more ≤ 255 → result ≡ self.now.first + self.now.more }
+    {
         self.first.saturating_add(self.more)
     }
 }

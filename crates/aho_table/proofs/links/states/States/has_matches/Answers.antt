@@ -1,6 +1,7 @@
 -- The list of a number that is not 0 has a pattern.
-use Rattle.std.proofs.Common.{◌≡◌, ℕ, List, [], ◌∷◌, length, nat_lt, refl, sym, ap, ◌∙◌, arith}
+use Rattle.std.proofs.Common.{◌≡◌, ℕ, List, length, nat_lt, sym, ap, ◌∙◌, arith}
 use Rattle.std.proofs.lemmas.Bool.Decides.{nat_tests}
+use Rattle.std.proofs.lemmas.List.{nil_from_length}
 use Rattle.aho_lists.specs.Lists.{list_at}
 use Rattle.aho_table.specs.Table.{State, matches_in}
 use Rattle.aho_table.proofs.Records.{read_in, read_is, matches_known}
@@ -8,10 +9,6 @@ use Rattle.aho_table.proofs.links.states.States.has_matches.Goals as goal
 
 both_some : (number : ℕ) (count : ℕ) → (number ≡ 0 → count ≡ 0) → (count ≡ 0 → number ≡ 0) → nat_lt 0 number ≡ nat_lt 0 count
 both_some number count none none' = grind (arith, nat_tests)
-
-empty-length : (xs : List ℕ) → length xs ≡ 0 → xs ≡ []
-empty-length [] none = refl
-empty-length (x ∷ xs) none = absurd (omega arith)
 
 pub record_of-requires : goal.record_of-requires
 record_of-requires c = record { added = read_in c.self.inside.records.items c.self.inside.transitions c.self.inside.matches c.self.inside.limit c.args.sid c.args.self.now c.self.view_is c.requires.added c.deref.result.now c.deref.ensures.value }
@@ -24,5 +21,5 @@ returns c =
     record {
       some = both_some c.as_usize.result (length (matches_in c.args.self.now.states c.args.sid))
           (λ zero. ap (λ (xs : List ℕ). length xs) (listed ∙ ap (list_at c.self.inside.matches.lists) (sym c.as_usize.ensures.value ∙ zero) ∙ c.facts.ensures.empty))
-          (λ none. c.as_usize.ensures.value ∙ known (sym listed ∙ empty-length (matches_in c.args.self.now.states c.args.sid) none));
+          (λ none. c.as_usize.ensures.value ∙ known (sym listed ∙ nil_from_length (matches_in c.args.self.now.states c.args.sid) none));
     }
