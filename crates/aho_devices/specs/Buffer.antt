@@ -8,12 +8,16 @@ pub record Buffered : Type 0 where
   pub bytes : List ℕ
   -- how many of them a roll keeps
   pub least : ℕ
-  -- how many it can hold
+  -- how many it can hold, which is all the memory that it has: the capacity of its `Vec`
   pub size : ℕ
 
--- the length of a buffer, by how many bytes a roll keeps
+-- the least size of a buffer, in bytes
+abbrev pub default_capacity : ℕ
+default_capacity = 65536
+
+-- the size of a buffer, by how many bytes a roll keeps
 abbrev pub capacity_for : ℕ → ℕ
-capacity_for least = max (8 * least) 65536
+capacity_for least = max (8 * least) default_capacity
 
 -- the source gave some bytes, and they are held behind those that were
 pub record Gains (old new : Buffered) (before after : Option (List ℕ)) : Type 0 where

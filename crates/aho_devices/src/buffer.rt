@@ -1,6 +1,6 @@
 //! The buffer of fixed length between a source and a search of its stream.
 
-ghost use Rattle.std.specs.Prelude.{◌≡◌, ◌<◌, ◌≤◌, ◌+◌, ◌-◌, ◌↔◌, ◌⊎◌, max, [], ℕ, length, take, drop, vec_len, IfOk, IfErr, OnErr, MatchResult, IsTrue, is_err, true, false, Err};
+ghost use Rattle.std.specs.Prelude.{◌≡◌, ◌<◌, ◌≤◌, ◌+◌, ◌-◌, ◌↔◌, ◌⊎◌, max, [], ℕ, length, take, drop, vec_len, vec_capacity, IfOk, IfErr, OnErr, MatchResult, IsTrue, is_err, true, false, Err};
 ghost use Rattle.std.specs.Io.KnownBytes.{Consumes, Keeps};
 ghost use Rattle.aho_base.specs.Numbers.{greatest_index};
 ghost use Rattle.aho_devices.specs.Buffer.{Buffered, Gains, capacity_for, rolled, saw_end};
@@ -30,15 +30,16 @@ impl Model for Buffer {
     ghost Value = { Buffered };
 
     ghost view = { λ b.
-        record { bytes = take b.end b.buf.items; least = b.least; size = vec_len b.buf } };
+        record { bytes = take b.end b.buf.items; least = b.least; size = vec_capacity b.buf } };
 
     ghost invariant = { λ b. (b.end ≤ vec_len b.buf) × (1 ≤ b.least)
-        × (vec_len b.buf ≡ capacity_for b.least) };
+        × (vec_len b.buf ≡ vec_capacity b.buf) × (vec_capacity b.buf ≡ capacity_for b.least) };
 }
 
 impl Buffer {
     /// An empty buffer that keeps `min_buffer_len` bytes at a roll, and one where that is 0. Its length is 8 times as
-    /// many bytes, and 65536 at least. It takes all its memory here, and want of it is the only error.
+    /// many bytes, and 65536 at least. It takes all its memory here, that many bytes, and a refused allocation is the
+    /// only error.
     pub fn new(alloc: Global, min_buffer_len: usize) -> Result<Buffer, AllocError>
         requires small { min_buffer_len ≤ greatest_index }
         ensures empty { IfOk result (λ b. b.bytes ≡ []) }
@@ -46,7 +47,13 @@ impl Buffer {
         ensures size { IfOk result (λ b. b.size ≡ capacity_for (max 1 min_buffer_len)) }
     {
         let least = min_buffer_len.max(1);
-        let buf = vec![in alloc; 0; (8 * least).max(DEFAULT_BUFFER_CAPACITY)]?;
+        let size = (8 * least).max(DEFAULT_BUFFER_CAPACITY);
+        let buf = vec![in alloc; 0; size]?;
+
+        // std does not promise a block of just this length, so it is looked at.
+        if buf.capacity() != size {
+            return Err(AllocError);
+        }
         Ok(Buffer { buf, end: 0, least })
     }
 

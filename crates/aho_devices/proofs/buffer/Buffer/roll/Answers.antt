@@ -1,4 +1,4 @@
-use Rattle.std.proofs.Common.{◌≡◌, ℕ, List, ◌≤◌, ◌-◌, length, take, drop, sym, ap, ◌∙◌, arith, vec_len}
+use Rattle.std.proofs.Common.{◌≡◌, ℕ, List, ◌≤◌, ◌-◌, length, take, drop, sym, ap, ◌∙◌, arith, vec_capacity}
 use Rattle.std.proofs.lemmas.List.{length-take-le}
 use Rattle.aho_devices.specs.Buffer.{Buffered, rolled}
 use Rattle.aho_devices.proofs.Gained.{take-copy_within}
@@ -17,7 +17,7 @@ returns-clause-rolled c =
     ap (take b.least) c.copy_within.ensures.items
     ∙ take-copy_within xs (b.end - b.least) b.least b.end (omega arith) fits
     ∙ ap (λ k. drop (k - b.least) (take b.end xs)) (sym len) in
-    let of_bytes : List ℕ → Buffered = λ k. record { bytes = k; least = b.least; size = vec_len new } in
+    let of_bytes : List ℕ → Buffered = λ k. record { bytes = k; least = b.least; size = vec_capacity new } in
     let of_size : ℕ → Buffered =
     λ k. record { bytes = drop (length (take b.end xs) - b.least) (take b.end xs); least = b.least; size = k } in
-    ap of_bytes bytes ∙ ap of_size c.copy_within.ensures.len ∙ ap rolled is
+    ap of_bytes bytes ∙ ap of_size c.copy_within.ensures.capacity ∙ ap rolled is
