@@ -12,15 +12,16 @@ use Rattle.aho_base.specs.declared.search.Anchored.TheVariants.{No}
 use Rattle.aho_base.specs.declared.search.MatchKind.TheVariants.{Standard}
 use Rattle.aho_devices.specs.Counts.{counted}
 use Rattle.aho_devices.specs.Refusals.{IsFillRefusal}
+use Rattle.aho_search.specs.declared.automaton.Automaton.{Ghosts}
 use Rattle.aho_stream.specs.After.{IsAfter, word_of}
-use Rattle.aho_stream.specs.Chunks.{Advances, DiesAt, Reads, Tells, TellsEnd, TellsError, TellsFault, TellsNone, ends_between}
+use Rattle.aho_stream.specs.Chunks.{Advances, DiesAt, ReadsOn, Tells, TellsEnd, TellsError, TellsFault, TellsNone, ends_between}
 use Rattle.aho_stream.specs.Refills.{is_limit}
-use Rattle.aho_stream.specs.declared.progress.Progress.{Progress}
+use Rattle.aho_stream.specs.declared.progress.StreamProgress.{StreamProgress}
 use Rattle.aho_stream.specs.declared.progress.StreamPiece.{StreamPiece}
 use Rattle.aho_stream.proofs.NextMatches.{found_at_end}
 
 -- nothing was told since
-pub record IsUntold (s t : Progress) : Type 0 where
+pub record IsUntold (s t : StreamProgress) : Type 0 where
   pub told : t.told ≡ s.reported
   pub reported : t.reported ≡ s.reported
   pub from : t.from ≡ s.from
@@ -28,10 +29,16 @@ pub record IsUntold (s t : Progress) : Type 0 where
   pub unrefused : s.refused ≡ false
   pub going : t.refused ≡ false
 
-module _ (IsOf : Patterns → Type 0) (After : Patterns → ℕ → Progress → List ℕ → Type 0) where
+module _ {S : Type 0} (A : Ghosts S) (automaton : S) where
+  abbrev IsOf : Patterns → Type 0
+  IsOf = A.is_of automaton
+
+  abbrev After : Patterns → ℕ → StreamProgress → List ℕ → Type 0
+  After = IsAfter A automaton
+
   -- nothing was read
-  pub read_none : (lookups lookups' : ℕ) (s s' : Progress) (before : Option (List ℕ))
-      → ((p : Patterns) (given : List ℕ) → IsOf p → After p lookups s given → After p lookups' s' given) → Reads IsOf After lookups lookups' s s' before before
+  pub read_none : (lookups lookups' : ℕ) (s s' : StreamProgress) (before : Option (List ℕ))
+      → ((p : Patterns) (given : List ℕ) → IsOf p → After p lookups s given → After p lookups' s' given) → ReadsOn A automaton lookups lookups' s s' before before
   read_none lookups lookups' s s' before keeps = record {
     bytes = [];
     read = Consumes-nil before;
@@ -40,8 +47,8 @@ module _ (IsOf : Patterns → Type 0) (After : Patterns → ℕ → Progress →
   }
 
   -- nothing more was read
-  pub read_same : (lookups mid lookups' : ℕ) (s t s' : Progress) (before after : Option (List ℕ))
-      → ((p : Patterns) (given : List ℕ) → IsOf p → After p mid t given → After p lookups' s' given) → Reads IsOf After lookups mid s t before after → Reads IsOf After lookups lookups' s s' before after
+  pub read_same : (lookups mid lookups' : ℕ) (s t s' : StreamProgress) (before after : Option (List ℕ))
+      → ((p : Patterns) (given : List ℕ) → IsOf p → After p mid t given → After p lookups' s' given) → ReadsOn A automaton lookups mid s t before after → ReadsOn A automaton lookups lookups' s s' before after
   read_same lookups mid lookups' s t s' before after keeps r = record {
     bytes = r.bytes;
     read = r.read;
@@ -50,9 +57,9 @@ module _ (IsOf : Patterns → Type 0) (After : Patterns → ℕ → Progress →
   }
 
   -- these bytes were read too
-  pub read_more : (lookups mid lookups' : ℕ) (s t s' : Progress) (before between after : Option (List ℕ)) (bytes : List ℕ)
+  pub read_more : (lookups mid lookups' : ℕ) (s t s' : StreamProgress) (before between after : Option (List ℕ)) (bytes : List ℕ)
       → s.ended ≡ false → Consumes between after bytes
-      → ((p : Patterns) (given : List ℕ) → IsOf p → After p mid t given → After p lookups' s' (given ++ bytes)) → Reads IsOf After lookups mid s t before between → Reads IsOf After lookups lookups' s s' before after
+      → ((p : Patterns) (given : List ℕ) → IsOf p → After p mid t given → After p lookups' s' (given ++ bytes)) → ReadsOn A automaton lookups mid s t before between → ReadsOn A automaton lookups lookups' s s' before after
   read_more lookups mid lookups' s t s' before between after bytes going read keeps r = record {
     bytes = r.bytes ++ bytes;
     read = Consumes-trans before between after r.bytes bytes r.read read;
@@ -61,19 +68,19 @@ module _ (IsOf : Patterns → Type 0) (After : Patterns → ℕ → Progress →
   }
 
   -- with what the answer tells of it
-  pub advances : (lookups lookups' : ℕ) (s s' : Progress) (before after : Option (List ℕ)) (answer : Option (Result StreamPiece StreamError)) → Reads IsOf After lookups lookups' s s' before after
+  pub advances : (lookups lookups' : ℕ) (s s' : StreamProgress) (before after : Option (List ℕ)) (answer : Option (Result StreamPiece StreamError)) → ReadsOn A automaton lookups lookups' s s' before after
       → ((p : Patterns) (given : List ℕ) → IsOf p → After p lookups' s' given → Tells p s s' given answer)
-      → Advances IsOf After lookups lookups' s s' before after answer
+      → Advances A automaton lookups lookups' s s' before after answer
   advances lookups lookups' s s' before after answer r tells = record {
     reads = r;
     tells = λ p given of a. tells p (given ++ r.bytes) of (r.is_after p given of a);
   }
 
   -- by how far it had come before
-  pub advances_from : (lookups mid lookups' : ℕ) (s t s' : Progress) (before after : Option (List ℕ)) (answer : Option (Result StreamPiece StreamError)) → Reads IsOf After lookups mid s t before after
+  pub advances_from : (lookups mid lookups' : ℕ) (s t s' : StreamProgress) (before after : Option (List ℕ)) (answer : Option (Result StreamPiece StreamError)) → ReadsOn A automaton lookups mid s t before after
       → ((p : Patterns) (given : List ℕ) → IsOf p → After p mid t given → After p lookups' s' given)
       → ((p : Patterns) (given : List ℕ) → IsOf p → After p mid t given → Tells p s s' given answer)
-      → Advances IsOf After lookups lookups' s s' before after answer
+      → Advances A automaton lookups lookups' s s' before after answer
   unfolding read_same
   advances_from lookups mid lookups' s t s' before after answer r keeps tells = record {
     reads = read_same lookups mid lookups' s t s' before after keeps r;
@@ -81,17 +88,17 @@ module _ (IsOf : Patterns → Type 0) (After : Patterns → ℕ → Progress →
   }
 
 -- nothing that is still to be told occurs in what was given, and all of it was walked
-pub end_told : (p : Patterns) (lengths : List ℕ) (valid : ℕ → Type 0) (held : Anchored → List ℕ → ℕ → Type 0) (depth : ℕ → ℕ) (lookups : ℕ) (s s' : Progress) (given : List ℕ)
-    → IsAfter p lengths valid held depth lookups s' given → ((p.kind ≡ Standard) ⊎ (s'.ended ≡ true) → s'.in_hand ≡ None) → s'.walked ≡ s'.read → TellsNone s s'
+pub end_told : {S : Type 0} (A : Ghosts S) (automaton : S) (p : Patterns) (lookups : ℕ) (s s' : StreamProgress) (given : List ℕ)
+    → IsAfter A automaton p lookups s' given → ((p.kind ≡ Standard) ⊎ (s'.ended ≡ true) → s'.in_hand ≡ None) → s'.walked ≡ s'.read → TellsNone s s'
     → ((s'.ended ≡ true) × (s'.read ≤ s'.reported)) ⊎ (s.refused ≡ true) → TellsEnd p s s' given
-end_told p lengths valid held depth lookups s s' given a free walked still over = record {
+end_told A automaton p lookups s s' given a free walked still over = record {
   none = λ why. found_at_end p given s'.from s'.walked None (omega (arith, a.from_reported, a.reported_walked)) (walked ∙ a.count) (subst (BestAfter p No (word_of s' given)) (free why) a.best_is);
   over = elim over [ inl (ended, all) ↦ inl (ended, omega (arith, all, a.reported_walked, a.walked_read, a.count)) | inr refused ↦ inr refused ];
   still = still;
 }
 
 -- a refill that was refused tells a fault, and nothing more
-pub error_told : (p : Patterns) (s s' : Progress) (given : List ℕ) (error : StreamError) → IsFillRefusal error → TellsFault s s' given
+pub error_told : (p : Patterns) (s s' : StreamProgress) (given : List ℕ) (error : StreamError) → IsFillRefusal error → TellsFault s s' given
     → (is_limit {A = Unit {0}} (Err error) ≡ true → (length given ≡ s.limit) × (s'.refused ≡ true)) → s.refused ≡ false
     → (is_limit {A = Unit {0}} (Err error) ≡ true → p.kind ≢ Standard → (place : ℕ) → DiesAt p given s'.from place → ⊥) → TellsError p s s' given error
 error_told p s s' given (Refused cause) only fault limit first lives = absurd only

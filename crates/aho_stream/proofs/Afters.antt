@@ -11,11 +11,12 @@ use Rattle.aho_base.specs.declared.search.MatchKind.TheVariants.{Standard}
 use Rattle.aho_devices.specs.Buffer.{Buffered}
 use Rattle.std.proofs.Math.Nat.{le-mul_of_pos_right}
 use Rattle.aho_search.proofs.Places.{length_part, no_part, part_join, part_of_part}
+use Rattle.aho_search.specs.declared.automaton.Automaton.{Ghosts}
 use Rattle.aho_stream.specs.After.{IsAfter, IsInHand, MayFollow, kept_for, search_from, word_of}
 use Rattle.aho_stream.specs.Refills.{Refills}
 use Rattle.aho_stream.specs.Walking.{WalksOn}
-use Rattle.aho_stream.specs.declared.progress.Progress.{Progress}
-use Rattle.aho_stream.specs.declared.walk.Walked.{Walked}
+use Rattle.aho_stream.specs.declared.progress.StreamProgress.{StreamProgress}
+use Rattle.aho_stream.specs.declared.settle.Walked.{Walked}
 use Rattle.aho_stream.proofs.GivenBytes.{part_stays}
 use Rattle.aho_stream.proofs.NextMatches.{none_in_nothing}
 use Rattle.aho_stream.proofs.PatternLengths.{occurs_some}
@@ -24,12 +25,24 @@ use Rattle.aho_stream.proofs.PatternLengths.{occurs_some}
 more_paid : (most from end : ℕ) → 1 ≤ end → most * from + most ≤ most * (from + end)
 more_paid most from end some = omega (arith, le-mul_of_pos_right most some)
 
-module _ (p : Patterns) (lengths : List ℕ) (valid : ℕ → Type 0) (held : Anchored → List ℕ → ℕ → Type 0) (depth : ℕ → ℕ) where
-  abbrev After : ℕ → Progress → List ℕ → Type 0
-  After lookups s given = IsAfter p lengths valid held depth lookups s given
+module _ {S : Type 0} (A : Ghosts S) (automaton : S) (p : Patterns) where
+  abbrev lengths : List ℕ
+  lengths = A.lengths automaton
+
+  abbrev valid : ℕ → Type 0
+  valid = A.valid automaton
+
+  abbrev held : Anchored → List ℕ → ℕ → Type 0
+  held = A.held automaton p
+
+  abbrev depth : ℕ → ℕ
+  depth = A.depth automaton
+
+  abbrev After : ℕ → StreamProgress → List ℕ → Type 0
+  After lookups s given = IsAfter A automaton p lookups s given
 
   -- a match stays in hand where the walk stays
-  in_hand_same : (s t : Progress) → t.from ≡ s.from → t.walked ≡ s.walked → (found : Option Occurrence) → IsInHand p.kind (longest lengths) s found → IsInHand p.kind (longest lengths) t found
+  in_hand_same : (s t : StreamProgress) → t.from ≡ s.from → t.walked ≡ s.walked → (found : Option Occurrence) → IsInHand p.kind (longest lengths) s found → IsInHand p.kind (longest lengths) t found
   in_hand_same s t from walked None i = tt
   in_hand_same s t from walked (Some m) i = (omega (arith, i.0, from, walked), omega (arith, i.1, from, walked), λ standard. omega (arith, i.2 standard, from, walked))
 
@@ -66,7 +79,7 @@ module _ (p : Patterns) (lengths : List ℕ) (valid : ℕ → Type 0) (held : An
   }
 
   -- the last chunk is let go
-  pub after_told : (lookups : ℕ) (s : Progress) (given : List ℕ) → After lookups s given → After lookups (record s { told = s.reported }) given
+  pub after_told : (lookups : ℕ) (s : StreamProgress) (given : List ℕ) → After lookups s given → After lookups (record s { told = s.reported }) given
   after_told lookups s given a = record {
     no_empty = a.no_empty;
     sized = a.sized;
@@ -95,7 +108,7 @@ module _ (p : Patterns) (lengths : List ℕ) (valid : ℕ → Type 0) (held : An
   }
 
   -- what was walked, after some bytes more
-  word_more : (s : Progress) (given : List ℕ) (count : ℕ) → s.from ≤ s.walked → s.walked + count ≤ s.read → s.read ≤ length given
+  word_more : (s : StreamProgress) (given : List ℕ) (count : ℕ) → s.from ≤ s.walked → s.walked + count ≤ s.read → s.read ≤ length given
       → slice_range given s.from (s.walked + count) ≡ word_of s given ++ take count (slice_range given s.walked s.read)
   word_more s given count ordered within all =
       part_join given s.from s.walked (s.walked + count) ordered (omega arith)
@@ -104,7 +117,7 @@ module _ (p : Patterns) (lengths : List ℕ) (valid : ℕ → Type 0) (held : An
       ∙ (let same : count - 0 ≡ count = omega arith in ap (λ (n : ℕ). take n (slice_range given s.walked s.read)) same))
 
   -- the walk went on
-  pub after_walked : (lookups lookups' : ℕ) (s : Progress) (given : List ℕ) (walked : Walked)
+  pub after_walked : (lookups lookups' : ℕ) (s : StreamProgress) (given : List ℕ) (walked : Walked)
       → After lookups s given → s.refused ≡ false
       → s.walked + walked.count ≤ s.read → valid walked.sid → lookups' + depth walked.sid ≤ lookups + depth s.sid + 2 * walked.count
       → WalksOn p lengths held (word_of s given) (slice_range given s.walked s.read) walked
@@ -158,7 +171,7 @@ module _ (p : Patterns) (lengths : List ℕ) (valid : ℕ → Type 0) (held : An
           )
 
   -- bytes were reported, up to a place that no further match starts before
-  pub after_reported : (lookups : ℕ) (s : Progress) (given : List ℕ) (end : ℕ) → After lookups s given → s.reported ≤ end → end ≤ s.walked
+  pub after_reported : (lookups : ℕ) (s : StreamProgress) (given : List ℕ) (end : ℕ) → After lookups s given → s.reported ≤ end → end ≤ s.walked
       → ((more : List ℕ) (m : Occurrence) → MayFollow s.ended more → IsAnswer p (search_from s.from (given ++ more)) (Some m) → end ≤ m.start)
       → After lookups (record s { told = s.reported; reported = end }) given
   after_reported lookups s given end a later within clear = record {
@@ -189,7 +202,7 @@ module _ (p : Patterns) (lengths : List ℕ) (valid : ℕ → Type 0) (held : An
   }
 
   -- the match in hand was given
-  pub after_given : (lookups : ℕ) (s : Progress) (given : List ℕ) (m : Occurrence) → After lookups s given → lengths ≡ map length p.words → s.in_hand ≡ Some m
+  pub after_given : (lookups : ℕ) (s : StreamProgress) (given : List ℕ) (m : Occurrence) → After lookups s given → lengths ≡ map length p.words → s.in_hand ≡ Some m
       → s.reported ≤ s.from + m.start → s.refused ≡ false
       → After lookups (record s { told = s.from + m.start; reported = s.from + m.end; from = s.from + m.end; walked = s.from + m.end; sid = s.start; in_hand = None }) given
   after_given lookups s given m a are in_hand starts unrefused =
@@ -223,12 +236,12 @@ module _ (p : Patterns) (lengths : List ℕ) (valid : ℕ → Type 0) (held : An
       }
 
   -- the buffer was filled again, where no match is in hand and no more is unreported than it keeps
-  pub after_refilled : (lookups : ℕ) (s s' : Progress) (given : List ℕ) (before after : Option (List ℕ)) (refills : Refills s s' before after)
+  pub after_refilled : (lookups : ℕ) (s s' : StreamProgress) (given : List ℕ) (before after : Option (List ℕ)) (refills : Refills s s' before after)
       → After lookups s given → (p.kind ≡ Standard → s.in_hand ≡ None) → s.walked ≡ s.read → s.told ≡ s.reported → s.read ≤ s.reported + s.buffer.least → s.ended ≡ false
       → (s'.refused ≡ true → (s.read ≡ s.limit) × (s'.ended ≡ false))
       → After lookups s' (given ++ refills.bytes)
   after_refilled lookups s s' given before after refills a free walked told near going refused =
-      subst (λ (t : Progress). After lookups t (given ++ refills.bytes)) (sym refills.others)
+      subst (λ (t : StreamProgress). After lookups t (given ++ refills.bytes)) (sym refills.others)
       (record {
         no_empty = a.no_empty;
         sized = a.sized;

@@ -10,17 +10,23 @@ use Rattle.aho_base.specs.declared.error.stream.StreamError.TheVariants.{Match a
 use Rattle.aho_devices.specs.Counts.{counted}
 use Rattle.aho_devices.specs.Refusals.{is_read_fault}
 use Rattle.aho_stream.specs.After.{search_from}
-use Rattle.aho_stream.specs.Chunks.{Advances, DiesAt, Reads, Tells, TellsError, TellsEnd, TellsMatch, TellsPlain, ends_between, match_told}
+use Rattle.aho_stream.specs.Chunks.{Advances, DiesAt, ReadsOn, Tells, TellsError, TellsEnd, TellsMatch, TellsPlain, ends_between, match_told}
 use Rattle.aho_stream.specs.Finds.{Finds, FindsEnd, FindsError, FindsMatch, FindsNext}
-use Rattle.aho_stream.specs.declared.progress.Progress.{Progress}
+use Rattle.aho_stream.specs.declared.progress.StreamProgress.{StreamProgress}
 use Rattle.aho_stream.specs.declared.progress.StreamPiece.{StreamPiece}
 use Rattle.aho_stream.specs.declared.progress.StreamPiece.TheVariants.{NonMatch, Match}
 
-module _ (IsOf : Patterns → Type 0) (After : Patterns → ℕ → Progress → List ℕ → Type 0) where
+module _ {S : Type 0} (A : Ghosts S) (automaton : S) where
+  abbrev IsOf : Patterns → Type 0
+  IsOf = A.is_of automaton
+
+  abbrev After : Patterns → ℕ → StreamProgress → List ℕ → Type 0
+  After = IsAfter A automaton
+
   -- one call more
-  pub read_then : (lookups mid lookups' : ℕ) (s t s' : Progress) (before between after : Option (List ℕ)) (answer : Option (Result StreamPiece StreamError))
-      → (s.ended ≡ true → t.ended ≡ true) → Reads IsOf After lookups mid s t before between → Advances IsOf After mid lookups' t s' between after answer
-      → Reads IsOf After lookups lookups' s s' before after
+  pub read_then : (lookups mid lookups' : ℕ) (s t s' : StreamProgress) (before between after : Option (List ℕ)) (answer : Option (Result StreamPiece StreamError))
+      → (s.ended ≡ true → t.ended ≡ true) → ReadsOn A automaton lookups mid s t before between → Advances A automaton mid lookups' t s' between after answer
+      → ReadsOn A automaton lookups lookups' s s' before after
   read_then lookups mid lookups' s t s' before between after answer stays r a = record {
     bytes = r.bytes ++ a.reads.bytes;
     read = Consumes-trans before between after r.bytes a.reads.bytes r.read a.reads.read;
@@ -29,8 +35,8 @@ module _ (IsOf : Patterns → Type 0) (After : Patterns → ℕ → Progress →
   }
 
   -- with what its answer says of the match
-  pub finds_then : (lookups mid lookups' : ℕ) (s t s' : Progress) (before between after : Option (List ℕ)) (answer : Option (Result StreamPiece StreamError)) (found : Option (Result Occurrence StreamError))
-      → (s.ended ≡ true → t.ended ≡ true) → Reads IsOf After lookups mid s t before between → Advances IsOf After mid lookups' t s' between after answer
+  pub finds_then : (lookups mid lookups' : ℕ) (s t s' : StreamProgress) (before between after : Option (List ℕ)) (answer : Option (Result StreamPiece StreamError)) (found : Option (Result Occurrence StreamError))
+      → (s.ended ≡ true → t.ended ≡ true) → ReadsOn A automaton lookups mid s t before between → Advances A automaton mid lookups' t s' between after answer
       → ((p : Patterns) (given : List ℕ) → Tells p t s' given answer → Finds p s s' given found)
       → FindsNext IsOf After lookups lookups' s s' before after found
   unfolding read_then
@@ -40,7 +46,7 @@ module _ (IsOf : Patterns → Type 0) (After : Patterns → ℕ → Progress →
   }
 
 -- an answer's word on the match, by the end of the last match alone
-pub match_found : (p : Patterns) (s t s' : Progress) (given : List ℕ) (m : Occurrence) → t.from ≡ s.from → TellsMatch p t s' given m → FindsMatch p s s' given m
+pub match_found : (p : Patterns) (s t s' : StreamProgress) (given : List ℕ) (m : Occurrence) → t.from ≡ s.from → TellsMatch p t s' given m → FindsMatch p s s' given m
 match_found p s t s' given m from tells = record {
   answer = λ more follows. subst (λ (x : ℕ). IsAnswer p (search_from x (given ++ more)) (Some m)) from (tells.answer more follows);
   settled = λ goes leftmost. subst (λ (x : ℕ). (place : ℕ) × DiesAt p given x place) from (tells.settled goes leftmost);
@@ -48,23 +54,23 @@ match_found p s t s' given m from tells = record {
   from = tells.from;
 }
 
-pub piece_found : (p : Patterns) (s t s' : Progress) (given : List ℕ) (piece : StreamPiece) (m : Occurrence) → match_told piece ≡ Some m → t.from ≡ s.from → Tells p t s' given (Some (Ok piece)) → Finds p s s' given (Some (Ok m))
+pub piece_found : (p : Patterns) (s t s' : StreamProgress) (given : List ℕ) (piece : StreamPiece) (m : Occurrence) → match_told piece ≡ Some m → t.from ≡ s.from → Tells p t s' given (Some (Ok piece)) → Finds p s s' given (Some (Ok m))
 piece_found p s t s' given NonMatch m e from tells = cc
 piece_found p s t s' given (Match n) m e from tells = let same : n ≡ m = cc in subst (FindsMatch p s s' given) same (match_found p s t s' given n from tells)
 
 -- a piece that tells no match tells bytes outside of every match
-pub plain_told : (p : Patterns) (t s' : Progress) (given : List ℕ) (piece : StreamPiece) → match_told piece ≡ None → Tells p t s' given (Some (Ok piece)) → TellsPlain p t s' given
+pub plain_told : (p : Patterns) (t s' : StreamProgress) (given : List ℕ) (piece : StreamPiece) → match_told piece ≡ None → Tells p t s' given (Some (Ok piece)) → TellsPlain p t s' given
 plain_told p t s' given NonMatch e tells = tells
 plain_told p t s' given (Match m) e tells = cc
 
-pub end_found : (p : Patterns) (s t s' : Progress) (given : List ℕ) → t.from ≡ s.from → t.refused ≡ s.refused → TellsEnd p t s' given → FindsEnd p s s' given
+pub end_found : (p : Patterns) (s t s' : StreamProgress) (given : List ℕ) → t.from ≡ s.from → t.refused ≡ s.refused → TellsEnd p t s' given → FindsEnd p s s' given
 end_found p s t s' given from refused tells = record {
   none = λ why. subst (λ (x : ℕ). IsAnswer p (search_from x given) None) (tells.still.from ∙ from) (tells.none why);
   over = elim tells.over [ inl both ↦ inl both | inr e ↦ inr (sym refused ∙ e) ];
   from = tells.still.from ∙ from;
 }
 
-pub error_found : (p : Patterns) (s t s' : Progress) (given : List ℕ) (error : StreamError) → t.from ≡ s.from → t.refused ≡ s.refused → t.limit ≡ s.limit → TellsError p t s' given error → FindsError p s s' given error
+pub error_found : (p : Patterns) (s t s' : StreamProgress) (given : List ℕ) (error : StreamError) → t.from ≡ s.from → t.refused ≡ s.refused → t.limit ≡ s.limit → TellsError p t s' given error → FindsError p s s' given error
 error_found p s t s' given (Refused cause) from refused limit tells = tells
 error_found p s t s' given (ReadFault reason) from refused limit tells = record { from = tells.still.from ∙ from; near = tells.near }
 error_found p s t s' given (Write reason) from refused limit tells = tells

@@ -9,6 +9,7 @@ mod Reported
 mod Advanced
 mod Found
 mod StreamFinds
+mod Countings
 mod Replacings
 mod StreamRuns
 mod Runnings

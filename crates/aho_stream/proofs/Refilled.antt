@@ -3,11 +3,11 @@ use Rattle.std.proofs.Common.{◌≡◌, ℕ, ◌+◌, ◌-◌, ◌≤◌, ◌�
 use Rattle.aho_devices.specs.Buffer.{Buffered, Gains}
 use Rattle.aho_stream.specs.After.{EndsIn}
 use Rattle.aho_stream.specs.Refills.{Refills}
-use Rattle.aho_stream.specs.declared.progress.Progress.{Progress}
+use Rattle.aho_stream.specs.declared.progress.StreamProgress.{StreamProgress}
 use Rattle.aho_stream.proofs.GivenBytes.{EndsIn-append}
 
 -- room was made in the buffer, and then it gained what was read
-pub refilled : (s : Progress) (roomy filled : Buffered) (read : ℕ) (ended refused : Bool) (before after : Option (List ℕ))
+pub refilled : (s : StreamProgress) (roomy filled : Buffered) (read : ℕ) (ended refused : Bool) (before after : Option (List ℕ))
     → ((given : List ℕ) → EndsIn given s.buffer.bytes → EndsIn given roomy.bytes)
     → (length roomy.bytes ≡ s.buffer.least) ⊎ (length roomy.bytes ≡ length s.buffer.bytes)
     → roomy.least ≡ s.buffer.least → roomy.size ≡ s.buffer.size

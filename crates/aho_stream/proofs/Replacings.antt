@@ -13,11 +13,12 @@ use Rattle.aho_base.specs.Occurrence.{Occurrence}
 use Rattle.aho_base.specs.Patterns.{Patterns}
 use Rattle.aho_base.specs.Search.{plain_search}
 use Rattle.aho_devices.specs.Counts.{AppendsBeginning, counted}
+use Rattle.aho_search.specs.declared.automaton.Automaton.{Ghosts}
 use Rattle.aho_stream.specs.After.{IsAfter, MayFollow, kept_for, search_from}
 use Rattle.aho_stream.specs.Chunks.{Advances, Tells, TellsEnd, TellsError, TellsFault, ends_between}
 use Rattle.aho_stream.specs.Refills.{is_limit}
 use Rattle.aho_stream.specs.Replacing.{Begins, Gives, MayBe, Replaces, ReplacesUpTo, bytes_for, piece_for}
-use Rattle.aho_stream.specs.declared.progress.Progress.{Progress}
+use Rattle.aho_stream.specs.declared.progress.StreamProgress.{StreamProgress}
 use Rattle.aho_stream.specs.declared.progress.StreamPiece.{StreamPiece}
 use Rattle.aho_stream.specs.declared.progress.StreamPiece.TheVariants.{NonMatch, Match}
 use Rattle.aho_stream.proofs.GivenBytes.{part_stays}
@@ -31,7 +32,7 @@ err_given (Ok x) error is = absurd is
 err_given (Err e) error is = ap Err is
 
 -- each error of a call leaves all as it was
-pub fault_told : (p : Patterns) (s s' : Progress) (given : List ℕ) (error : StreamError) → TellsError p s s' given error → TellsFault s s' given
+pub fault_told : (p : Patterns) (s s' : StreamProgress) (given : List ℕ) (error : StreamError) → TellsError p s s' given error → TellsFault s s' given
 fault_told p s s' given (Refused cause) tells = absurd tells
 fault_told p s s' given (Read fault) tells = tells
 fault_told p s s' given (Write fault) tells = absurd tells
@@ -40,7 +41,7 @@ fault_told p s s' given Memory tells = absurd tells
 fault_told p s s' given PositionLimit tells = tells.fault
 
 -- the limit is answered where as many bytes were given
-pub limit_told : (p : Patterns) (s s' : Progress) (given : List ℕ) (error : StreamError) → TellsError p s s' given error → is_limit {A = Unit {0}} (Err error) ≡ true → length given ≡ s.limit
+pub limit_told : (p : Patterns) (s s' : StreamProgress) (given : List ℕ) (error : StreamError) → TellsError p s s' given error → is_limit {A = Unit {0}} (Err error) ≡ true → length given ≡ s.limit
 limit_told p s s' given (Refused cause) tells met = absurd tells
 limit_told p s s' given (Read fault) tells met = cc
 limit_told p s s' given (Write fault) tells met = absurd tells
@@ -49,7 +50,7 @@ limit_told p s s' given Memory tells met = absurd tells
 limit_told p s s' given PositionLimit tells met = tells.reached
 
 -- the end of a stream that was not refused
-pub all_told : (p : Patterns) (s s' : Progress) (given : List ℕ) → s.refused ≡ false → TellsEnd p s s' given → (s'.ended ≡ true) × (s'.reported ≡ length given)
+pub all_told : (p : Patterns) (s s' : StreamProgress) (given : List ℕ) → s.refused ≡ false → TellsEnd p s s' given → (s'.ended ≡ true) × (s'.reported ≡ length given)
 all_told p s s' given below tells = elim tells.over [ inl all ↦ all | inr refused ↦ cc ]
 
 -- a count that rises once, where the end is seen
@@ -82,13 +83,16 @@ might_be given bytes all before after closed stays may = (
 )
 
 -- each chunk leaves less room under the limit
-module _ (p : Patterns) (lengths : List ℕ) (valid : ℕ → Type 0) (held : Anchored → List ℕ → ℕ → Type 0) (depth : ℕ → ℕ) (lookups : ℕ) (s s' : Progress) (given : List ℕ) where
-  some_told : (piece : StreamPiece) → lengths ≡ map length p.words → IsAfter p lengths valid held depth lookups s' given → Tells p s s' given (Some (Ok piece)) → s.reported + 1 ≤ s'.reported
+module _ {A : Type 0} (G : Ghosts A) (automaton : A) (p : Patterns) (lookups : ℕ) (s s' : StreamProgress) (given : List ℕ) where
+  abbrev lengths : List ℕ
+  lengths = G.lengths automaton
+
+  some_told : (piece : StreamPiece) → lengths ≡ map length p.words → IsAfter G automaton p lookups s' given → Tells p s s' given (Some (Ok piece)) → s.reported + 1 ≤ s'.reported
   some_told NonMatch are after tells = tells.some
   some_told (Match m) are after tells =
       omega (arith, occurs_some p lengths are m ((tells.answer [] (MayFollow-nothing s'.ended)).0) after.no_empty, tells.starts, tells.reported)
 
-  pub less_left : (piece : StreamPiece) → lengths ≡ map length p.words → IsAfter p lengths valid held depth lookups s' given → Tells p s s' given (Some (Ok piece))
+  pub less_left : (piece : StreamPiece) → lengths ≡ map length p.words → IsAfter G automaton p lookups s' given → Tells p s s' given (Some (Ok piece))
       → s'.limit ≡ s.limit → s'.limit - s'.reported < s.limit - s.reported
   less_left piece are after tells same = omega (arith, some_told piece are after tells, after.reported_walked, after.walked_read, after.limited, same)
 
@@ -103,14 +107,19 @@ begins_nothing IsOf pieces before reads old = record {
   beginning = λ p bytes ms of may finds. refl;
 }
 
-module _ (IsOf : Patterns → Type 0) (lengths : List ℕ)
-    (valid : ℕ → Type 0) (held : Patterns → Anchored → List ℕ → ℕ → Type 0) (depth : ℕ → ℕ) (pieces : List (List ℕ))
+module _ {A : Type 0} (G : Ghosts A) (automaton : A) (pieces : List (List ℕ))
     (first : Option (List ℕ)) (first_reads : ℕ) (begun : Option (List ℕ)) where
-  abbrev pub After : Patterns → ℕ → Progress → List ℕ → Type 0
-  After p = IsAfter p lengths valid (held p) depth
+  abbrev IsOf : Patterns → Type 0
+  IsOf = G.is_of automaton
+
+  abbrev lengths : List ℕ
+  lengths = G.lengths automaton
+
+  abbrev pub After : Patterns → ℕ → StreamProgress → List ℕ → Type 0
+  After = IsAfter G automaton
 
   -- so much was given and written, and what is left goes on to the whole
-  pub record Going (lookups : ℕ) (s : Progress) (left : Option (List ℕ)) (reads : ℕ) (taken : Option (List ℕ)) : Type 0 where
+  pub record Going (lookups : ℕ) (s : StreamProgress) (left : Option (List ℕ)) (reads : ℕ) (taken : Option (List ℕ)) : Type 0 where
     pub given : List ℕ
     pub written : List ℕ
     pub gives : Gives first left first_reads reads given s.ended
@@ -119,7 +128,7 @@ module _ (IsOf : Patterns → Type 0) (lengths : List ℕ)
     pub rest : (p : Patterns) (bytes : List ℕ) (ms : List Occurrence) → IsOf p → MayBe given s.ended bytes → AreFinds p (plain_search bytes) None ms
         → Left p (piece_for pieces) bytes ms s.from s.reported written
 
-  pub going_first : (lookups : ℕ) (s : Progress) → s.ended ≡ false → s.from ≡ 0 → s.reported ≡ 0
+  pub going_first : (lookups : ℕ) (s : StreamProgress) → s.ended ≡ false → s.from ≡ 0 → s.reported ≡ 0
       → ((p : Patterns) → IsOf p → After p lookups s []) → Going lookups s first first_reads begun
   going_first lookups s not_ended from reported after = record {
     given = [];
@@ -133,8 +142,8 @@ module _ (IsOf : Patterns → Type 0) (lengths : List ℕ)
         (left_first p (piece_for pieces) bytes ms finds));
   }
 
-  module _ (are : (p : Patterns) → IsOf p → lengths ≡ map length p.words) (lookups lookups' : ℕ) (s s' : Progress) (left left' : Option (List ℕ)) (reads reads' : ℕ) (taken : Option (List ℕ)) (answer : Option (Result StreamPiece StreamError))
-      (going : Going lookups s left reads taken) (advance : Advances IsOf After lookups lookups' s s' left left' answer)
+  module _ (are : (p : Patterns) → IsOf p → lengths ≡ map length p.words) (lookups lookups' : ℕ) (s s' : StreamProgress) (left left' : Option (List ℕ)) (reads reads' : ℕ) (taken : Option (List ℕ)) (answer : Option (Result StreamPiece StreamError))
+      (going : Going lookups s left reads taken) (advance : Advances G automaton lookups lookups' s s' left left' answer)
       (counts : reads' ≡ counted (ends_between s.ended s'.ended) reads) (stays : s.ended ≡ true → s'.ended ≡ true) where
     abbrev pub given : List ℕ
     given = going.given ++ advance.reads.bytes

@@ -12,9 +12,10 @@ use Rattle.aho_base.specs.declared.search.Anchored.TheVariants.{No}
 use Rattle.aho_base.specs.declared.search.MatchKind.{MatchKind}
 use Rattle.aho_base.specs.declared.search.MatchKind.TheVariants.{Standard}
 use Rattle.aho_search.proofs.Places.{length_part, moved}
+use Rattle.aho_search.specs.declared.automaton.Automaton.{Ghosts}
 use Rattle.aho_stream.specs.After.{IsAfter, IsInHand, MayFollow, is_settled, search_from, word_of}
 use Rattle.aho_stream.specs.Chunks.{DiesAt, TellsChunk, TellsMatch, TellsPlain}
-use Rattle.aho_stream.specs.declared.progress.Progress.{Progress}
+use Rattle.aho_stream.specs.declared.progress.StreamProgress.{StreamProgress}
 use Rattle.aho_stream.specs.declared.progress.StreamPiece.{StreamPiece}
 use Rattle.aho_stream.specs.declared.progress.StreamPiece.TheVariants.{NonMatch, Match}
 use Rattle.aho_stream.proofs.Afters.{after_given, after_reported}
@@ -23,16 +24,28 @@ use Rattle.aho_stream.proofs.Deaths.{dies}
 use Rattle.aho_stream.proofs.NextMatches.{MayFollow-nothing, answers_together, ends_later, found_at_end, found_dead, found_first, nothing_follows, starts_behind, starts_near, starts_near_found}
 use Rattle.aho_stream.proofs.Walks.{near_unsettled, unsettled_leftmost, why_settled}
 
-module _ (p : Patterns) (lengths : List ℕ) (valid : ℕ → Type 0) (held : Anchored → List ℕ → ℕ → Type 0) (depth : ℕ → ℕ) where
-  abbrev After : ℕ → Progress → List ℕ → Type 0
-  After lookups s given = IsAfter p lengths valid held depth lookups s given
+module _ {S : Type 0} (A : Ghosts S) (automaton : S) (p : Patterns) where
+  abbrev lengths : List ℕ
+  lengths = A.lengths automaton
+
+  abbrev valid : ℕ → Type 0
+  valid = A.valid automaton
+
+  abbrev held : Anchored → List ℕ → ℕ → Type 0
+  held = A.held automaton p
+
+  abbrev depth : ℕ → ℕ
+  depth = A.depth automaton
+
+  abbrev After : ℕ → StreamProgress → List ℕ → Type 0
+  After lookups s given = IsAfter A automaton p lookups s given
 
   -- whatever follows, the next match starts at this place or later
-  abbrev IsClearTo : Progress → List ℕ → ℕ → Type 0
+  abbrev IsClearTo : StreamProgress → List ℕ → ℕ → Type 0
   IsClearTo s given end = (more : List ℕ) (m : Occurrence) → MayFollow s.ended more → IsAnswer p (search_from s.from (given ++ more)) (Some m) → end ≤ m.start
 
   -- bytes were told up to a place, where some were left
-  pub reported : (lookups : ℕ) (s s' : Progress) (given : List ℕ) (end : ℕ) (answer : Option StreamPiece) → After lookups s given → end ≤ s.walked
+  pub reported : (lookups : ℕ) (s s' : StreamProgress) (given : List ℕ) (end : ℕ) (answer : Option StreamPiece) → After lookups s given → end ≤ s.walked
       → IsClearTo s given end
       → (s.reported < end → (answer ≡ Some NonMatch) × (s' ≡ record s { told = s.reported; reported = end }))
       → (end ≤ s.reported → (answer ≡ None) × (s' ≡ s))
@@ -40,21 +53,21 @@ module _ (p : Patterns) (lengths : List ℕ) (valid : ℕ → Type 0) (held : An
   reported lookups s s' given end answer a within clear some none = elim (cases_lt s.reported end) [
     | inl less ↦
         (let told = some less in (
-          subst (λ (t : Progress). After lookups t given) (sym told.1) (after_reported p lengths valid held depth lookups s given end a (omega (arith, less)) within clear),
+          subst (λ (t : StreamProgress). After lookups t given) (sym told.1) (after_reported p lengths valid held depth lookups s given end a (omega (arith, less)) within clear),
           subst (λ (r : Option StreamPiece). IfSome r (TellsChunk p s s' given)) (sym told.0)
-              (subst (λ (t : Progress). TellsPlain p s t given) (sym told.1)
+              (subst (λ (t : StreamProgress). TellsPlain p s t given) (sym told.1)
               (record { some = omega (arith, less); read = omega (arith, within, a.walked_read, a.count); told = refl; from = refl; clear = clear })),
         ))
     | inr ge ↦
         (let told = none ge in (
-          subst (λ (t : Progress). After lookups t given) (sym told.1) a,
+          subst (λ (t : StreamProgress). After lookups t given) (sym told.1) a,
           subst (λ (r : Option StreamPiece). IfSome r (TellsChunk p s s' given)) (sym told.0) tt,
         ))
   ]
 
   -- what is outside of every match where none is given yet
   pub outside_clear : {kind : MatchKind} {list : ℕ → List ℕ} {dead starts : ℕ → Bool} → Reads p kind lengths held list dead starts
-      → (lookups : ℕ) (s : Progress) (given : List ℕ) (end : ℕ) → After lookups s given → is_settled kind (dead s.sid) s.in_hand ≡ false → (s.ended ≡ true → s.in_hand ≡ None) → s.walked ≡ s.read
+      → (lookups : ℕ) (s : StreamProgress) (given : List ℕ) (end : ℕ) → After lookups s given → is_settled kind (dead s.sid) s.in_hand ≡ false → (s.ended ≡ true → s.in_hand ≡ None) → s.walked ≡ s.read
       → (s.ended ≡ true → end ≡ s.read)
       → (s.ended ≡ false → MatchBool (is_none s.in_hand && starts s.sid) (end ≡ s.walked) (end ≡ s.walked - s.buffer.least))
       → (end ≤ s.walked) × IsClearTo s given end
@@ -94,12 +107,12 @@ module _ (p : Patterns) (lengths : List ℕ) (valid : ℕ → Type 0) (held : An
           behind at_end (λ more m answer. starts_near_found p given more s.from s.walked ordered within lengths best m laws.lengths_are (λ e. leftmost (laws.kind_is ∙ e)) is_best (omega (arith, near, size, ordered)) answer)
 
   -- the match in hand is in what was walked
-  pub in_hand_within : (lookups : ℕ) (s : Progress) (given : List ℕ) (m : Occurrence) → After lookups s given → s.in_hand ≡ Some m → (m.start ≤ m.end) × (s.from + m.end ≤ s.walked)
+  pub in_hand_within : (lookups : ℕ) (s : StreamProgress) (given : List ℕ) (m : Occurrence) → After lookups s given → s.in_hand ≡ Some m → (m.start ≤ m.end) × (s.from + m.end ≤ s.walked)
   in_hand_within lookups s given m a in_hand =
       let best = subst (BestAfter p No (word_of s given)) in_hand a.best_is in
       (omega (arith, best.0.sized), (subst (IsInHand p.kind (longest lengths) s) in_hand a.in_hand_is).0)
 
-  module _ {kind : MatchKind} {list : ℕ → List ℕ} {dead starts : ℕ → Bool} (laws : Reads p kind lengths held list dead starts) (lookups : ℕ) (s : Progress) (given : List ℕ) (m : Occurrence) (a : After lookups s given)
+  module _ {kind : MatchKind} {list : ℕ → List ℕ} {dead starts : ℕ → Bool} (laws : Reads p kind lengths held list dead starts) (lookups : ℕ) (s : StreamProgress) (given : List ℕ) (m : Occurrence) (a : After lookups s given)
       (in_hand : s.in_hand ≡ Some m) (due : (s.ended || is_settled kind (dead s.sid) s.in_hand) ≡ true) (walked : is_settled kind (dead s.sid) s.in_hand ≡ false → s.walked ≡ s.read) where
     ordered : s.from ≤ s.walked
     ordered = omega (arith, a.from_reported, a.reported_walked)
@@ -156,13 +169,13 @@ module _ (p : Patterns) (lengths : List ℕ) (valid : ℕ → Type 0) (held : An
     unreported = a.clear [] (moved s.from m) (MayFollow-nothing s.ended) (in_hand_answers [] (MayFollow-nothing s.ended))
 
     -- and it is told
-    pub match_told : (s' : Progress) (told : Occurrence) → s.refused ≡ false → s.from + m.start ≤ s.reported → told ≡ moved s.from m
+    pub match_told : (s' : StreamProgress) (told : Occurrence) → s.refused ≡ false → s.from + m.start ≤ s.reported → told ≡ moved s.from m
         → s' ≡ record s { told = s.from + m.start; reported = s.from + m.end; from = s.from + m.end; walked = s.from + m.end; sid = s.start; in_hand = None }
         → After lookups s' given × TellsMatch p s s' given told
     match_told s' told unrefused reached is moves = (
-      subst (λ (t : Progress). After lookups t given) (sym moves) (after_given p lengths valid held depth lookups s given m a laws.lengths_are in_hand unreported unrefused),
+      subst (λ (t : StreamProgress). After lookups t given) (sym moves) (after_given p lengths valid held depth lookups s given m a laws.lengths_are in_hand unreported unrefused),
       subst (λ (x : Occurrence). TellsMatch p s s' given x) (sym is)
-          (subst (λ (t : Progress). TellsMatch p s t given (moved s.from m)) (sym moves)
+          (subst (λ (t : StreamProgress). TellsMatch p s t given (moved s.from m)) (sym moves)
           (record {
             answer = in_hand_answers;
             settled = in_hand_died;
@@ -175,7 +188,7 @@ module _ (p : Patterns) (lengths : List ℕ) (valid : ℕ → Type 0) (held : An
     )
 
 -- what is told of a match or a gap, by the end of the last match and of the last chunk alone
-pub told_from : (p : Patterns) (s t s' : Progress) (given : List ℕ) (piece : StreamPiece) → t.reported ≡ s.reported → t.from ≡ s.from → TellsChunk p t s' given piece → TellsChunk p s s' given piece
+pub told_from : (p : Patterns) (s t s' : StreamProgress) (given : List ℕ) (piece : StreamPiece) → t.reported ≡ s.reported → t.from ≡ s.from → TellsChunk p t s' given piece → TellsChunk p s s' given piece
 told_from p s t s' given NonMatch reported from tells = record {
   some = omega (arith, tells.some, reported);
   read = tells.read;
@@ -193,12 +206,12 @@ told_from p s t s' given (Match m) reported from tells = record {
   from = tells.from;
 }
 
-pub told_from_option : (p : Patterns) (s t s' : Progress) (given : List ℕ) (answer : Option StreamPiece) → t.reported ≡ s.reported → t.from ≡ s.from → IfSome answer (TellsChunk p t s' given) → IfSome answer (TellsChunk p s s' given)
+pub told_from_option : (p : Patterns) (s t s' : StreamProgress) (given : List ℕ) (answer : Option StreamPiece) → t.reported ≡ s.reported → t.from ≡ s.from → IfSome answer (TellsChunk p t s' given) → IfSome answer (TellsChunk p s s' given)
 told_from_option p s t s' given None reported from tells = tt
 told_from_option p s t s' given (Some piece) reported from tells = told_from p s t s' given piece reported from tells
 
 -- a chunk has a byte, so none is told where all was reported
-pub no_chunk_left : (p : Patterns) (lengths : List ℕ) → lengths ≡ map length p.words → 1 ≤ shortest lengths → (s s' : Progress) (given : List ℕ) (piece : StreamPiece) → TellsChunk p s s' given piece → length given ≤ s.reported → ⊥
+pub no_chunk_left : (p : Patterns) (lengths : List ℕ) → lengths ≡ map length p.words → 1 ≤ shortest lengths → (s s' : StreamProgress) (given : List ℕ) (piece : StreamPiece) → TellsChunk p s s' given piece → length given ≤ s.reported → ⊥
 no_chunk_left p lengths are no_empty s s' given NonMatch tells all = omega (arith, tells.some, tells.read, all)
 no_chunk_left p lengths are no_empty s s' given (Match m) tells all =
     omega (arith, occurs_some p lengths are m (tells.answer [] (MayFollow-nothing s'.ended)).0 no_empty, tells.starts, tells.read, all)

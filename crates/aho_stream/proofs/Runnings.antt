@@ -19,11 +19,12 @@ use Rattle.aho_base.specs.Search.{plain_search}
 use Rattle.aho_devices.specs.Counts.{AppendsBeginning, counted}
 use Rattle.aho_devices.specs.Refusals.{IsFillRefusal, IsWriteRefusal, is_write_fault, is_write_of_nothing}
 use Rattle.aho_search.proofs.Places.{length_part}
+use Rattle.aho_search.specs.declared.automaton.Automaton.{Ghosts}
 use Rattle.aho_stream.specs.After.{IsAfter, MayFollow, greatest_position, kept_for, search_from}
 use Rattle.aho_stream.specs.Chunks.{Advances, Tells, TellsError, TellsFault, TellsMatch, TellsPlain, ends_between, tells_read_fault}
 use Rattle.aho_stream.specs.Replacing.{Gives, MayBe}
 use Rattle.aho_stream.specs.StreamRun.{RunsOver}
-use Rattle.aho_stream.specs.declared.progress.Progress.{Progress}
+use Rattle.aho_stream.specs.declared.progress.StreamProgress.{StreamProgress}
 use Rattle.aho_stream.specs.declared.progress.StreamPiece.{StreamPiece}
 use Rattle.aho_stream.specs.declared.progress.StreamPiece.TheVariants.{NonMatch, Match}
 use Rattle.aho_stream.proofs.Found.{same_fault}
@@ -33,7 +34,7 @@ use Rattle.aho_stream.proofs.Replacings.{all_told, fault_told, gives_on, less_le
 use Rattle.aho_stream.proofs.StreamRuns.{LeftRun, Took, left_run_first, left_run_match, left_run_plain, runs_to_end, runs_to_refusal, runs_to_stop, runs_up_to}
 
 -- an error that is told is one that a fill can give
-fills_told : (p : Patterns) (s s' : Progress) (given : List ℕ) (error : StreamError) → TellsError p s s' given error → IsFillRefusal error
+fills_told : (p : Patterns) (s s' : StreamProgress) (given : List ℕ) (error : StreamError) → TellsError p s s' given error → IsFillRefusal error
 fills_told p s s' given (Refused cause) tells = absurd tells
 fills_told p s s' given (Read fault) tells = tt
 fills_told p s s' given (Write fault) tells = absurd tells
@@ -60,20 +61,26 @@ take_behind bytes from at end count ordered short =
 
 module _ {F S : Type 0} (taken : S → Option (List ℕ)) (failures empty_writes : S → ℕ)
     (calls : Mut F (Bor Occurrence × (Bor (List ℕ) × (MutBor S × Unit {0}))) (Result (Unit {0}) StreamError × (MutBor S × Unit {0})))
-    (IsOf : Patterns → Type 0) (lengths : List ℕ) (valid : ℕ → Type 0) (held : Patterns → Anchored → List ℕ → ℕ → Type 0) (depth : ℕ → ℕ)
+    {A : Type 0} (G : Ghosts A) (automaton : A)
     (first : Option (List ℕ)) (first_reads : ℕ) (closure : F) (begun : S) where
-  abbrev pub After : Patterns → ℕ → Progress → List ℕ → Type 0
-  After p = IsAfter p lengths valid (held p) depth
+  abbrev IsOf : Patterns → Type 0
+  IsOf = G.is_of automaton
+
+  abbrev lengths : List ℕ
+  lengths = G.lengths automaton
+
+  abbrev pub After : Patterns → ℕ → StreamProgress → List ℕ → Type 0
+  After = IsAfter G automaton
 
   -- so much was given, and what is left of the run goes on to the whole
-  pub record Running (lookups : ℕ) (s : Progress) (left : Option (List ℕ)) (reads : ℕ) (now : F) (sink : S) : Type 0 where
+  pub record Running (lookups : ℕ) (s : StreamProgress) (left : Option (List ℕ)) (reads : ℕ) (now : F) (sink : S) : Type 0 where
     pub given : List ℕ
     pub gives : Gives first left first_reads reads given s.ended
     pub after : (p : Patterns) → IsOf p → After p lookups s given
     pub rest : (p : Patterns) (bytes : List ℕ) (ms : List Occurrence) → IsOf p → MayBe given s.ended bytes → AreFinds p (plain_search bytes) None ms
         → LeftRun taken failures empty_writes calls closure begun p bytes ms s.from s.reported now sink
 
-  pub running_first : (lookups : ℕ) (s : Progress) → s.ended ≡ false → s.from ≡ 0 → s.reported ≡ 0
+  pub running_first : (lookups : ℕ) (s : StreamProgress) → s.ended ≡ false → s.from ≡ 0 → s.reported ≡ 0
       → ((p : Patterns) → IsOf p → After p lookups s []) → Running lookups s first first_reads closure begun
   running_first lookups s not_ended from reported after = record {
     given = [];
@@ -85,8 +92,8 @@ module _ {F S : Type 0} (taken : S → Option (List ℕ)) (failures empty_writes
         (left_run_first taken failures empty_writes calls closure begun p bytes ms finds));
   }
 
-  module _ (are : (p : Patterns) → IsOf p → lengths ≡ map length p.words) (lookups lookups' : ℕ) (s s' : Progress) (left left' : Option (List ℕ)) (reads reads' : ℕ) (now : F) (sink : S)
-      (answer : Option (Result StreamPiece StreamError)) (running : Running lookups s left reads now sink) (advance : Advances IsOf After lookups lookups' s s' left left' answer)
+  module _ (are : (p : Patterns) → IsOf p → lengths ≡ map length p.words) (lookups lookups' : ℕ) (s s' : StreamProgress) (left left' : Option (List ℕ)) (reads reads' : ℕ) (now : F) (sink : S)
+      (answer : Option (Result StreamPiece StreamError)) (running : Running lookups s left reads now sink) (advance : Advances G automaton lookups lookups' s s' left left' answer)
       (counts : reads' ≡ counted (ends_between s.ended s'.ended) reads) (stays : s.ended ≡ true → s'.ended ≡ true) where
     abbrev pub given : List ℕ
     given = running.given ++ advance.reads.bytes

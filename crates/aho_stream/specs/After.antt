@@ -1,5 +1,5 @@
 -- How far an iterator over a stream has come, once these bytes were given.
-use Rattle.std.specs.Prelude.{◌≡◌, ℕ, ◌+◌, ◌*◌, ◌^◌, ◌<◌, ◌≤◌, ◌||◌, max, Bool, true, false, List, [], ◌++◌, Option, Some, None, length, slice_range}
+use Rattle.std.specs.Prelude.{◌≡◌, ℕ, ◌+◌, ◌*◌, ◌^◌, ◌<◌, ◌≤◌, ◌||◌, max, min, Bool, true, false, List, [], ◌++◌, Option, Some, None, length, slice_range}
 use Rattle.aho_base.specs.Answer.{IsAnswer}
 use Rattle.aho_base.specs.Laws.{BestAfter, first_is_answer, longest, shortest}
 use Rattle.aho_base.specs.Occurrence.{Occurrence}
@@ -9,7 +9,9 @@ use Rattle.aho_base.specs.declared.search.Anchored.{Anchored}
 use Rattle.aho_base.specs.declared.search.Anchored.TheVariants.{No}
 use Rattle.aho_base.specs.declared.search.MatchKind.{MatchKind}
 use Rattle.aho_base.specs.declared.search.MatchKind.TheVariants.{Standard}
-use Rattle.aho_stream.specs.declared.progress.Progress.{Progress}
+use Rattle.aho_devices.specs.Buffer.{capacity_for}
+use Rattle.aho_search.specs.declared.automaton.Automaton.{Ghosts}
+use Rattle.aho_stream.specs.declared.progress.StreamProgress.{StreamProgress}
 
 -- the search of a stream's bytes from a place on: of all that follows, not anchored, not earliest
 abbrev pub search_from : ℕ → List ℕ → Search
@@ -33,7 +35,7 @@ abbrev pub EndsIn : List ℕ → List ℕ → Type 0
 EndsIn bytes last = (gone : List ℕ) × (bytes ≡ gone ++ last)
 
 -- what was walked since the end of the last match
-abbrev pub word_of : Progress → List ℕ → List ℕ
+abbrev pub word_of : StreamProgress → List ℕ → List ℕ
 word_of s given = slice_range given s.from s.walked
 
 -- whether a match in hand is given: under Standard at once, under the leftmost kinds where the state is dead
@@ -43,25 +45,26 @@ is_settled kind dead (Some m) = first_is_answer kind false || dead
 
 -- a match in hand lies in what was walked. The walk stands at its end under Standard, and else at most one byte farther from
 -- its start than the longest pattern is long
-abbrev pub IsInHand : MatchKind → ℕ → Progress → Option Occurrence → Type 0
+abbrev pub IsInHand : MatchKind → ℕ → StreamProgress → Option Occurrence → Type 0
 IsInHand kind most s None = Unit {0}
 IsInHand kind most s (Some m) = (s.from + m.end ≤ s.walked) × (s.walked ≤ s.from + m.start + most + 1) × (kind ≡ Standard → s.walked ≤ s.from + m.end)
 
--- the iterator has come so far, once these bytes were given and these look-ups were made. Places count from the first byte
--- given, those of a match in hand from the end of the last match. By the lengths of an automaton's patterns, the numbers of its
--- states, what they are held after, and their depth
-pub record IsAfter (p : Patterns) (lengths : List ℕ) (valid : ℕ → Type 0) (held : Anchored → List ℕ → ℕ → Type 0) (depth : ℕ → ℕ) (lookups : ℕ) (s : Progress) (given : List ℕ) : Type 0 where
-  pub no_empty : 1 ≤ shortest lengths
-  pub sized : longest lengths < 2 ^ 64
+-- the search of a stream by this automaton has come so far, once these bytes were given and these look-ups were made. Places
+-- count from the first byte given, those of a match in hand from the end of the last match
+pub record IsAfter {S : Type 0} (A : Ghosts S) (automaton : S) (p : Patterns) (lookups : ℕ) (s : StreamProgress) (given : List ℕ) : Type 0 where
+  pub no_empty : 1 ≤ shortest (A.lengths automaton)
+  pub sized : longest (A.lengths automaton) < 2 ^ 64
   -- the start of a search
-  pub start_is : valid s.start
-  pub start_shallow : depth s.start ≡ 0
-  pub start_held : held No [] s.start
+  pub start_is : A.valid automaton s.start
+  pub start_shallow : A.depth automaton s.start ≡ 0
+  pub start_held : A.held automaton p No [] s.start
   -- what was given; the buffer holds the last of it, among that all that was not reported, and the last chunk
   pub count : s.read ≡ length given
   pub limited : s.read ≤ s.limit
   pub bounded : s.limit < 2 ^ 63
-  pub least : s.buffer.least ≡ kept_for lengths
+  pub least : s.buffer.least ≡ kept_for (A.lengths automaton)
+  pub size : s.buffer.size ≡ capacity_for (kept_for (A.lengths automaton))
+  pub enough : min s.buffer.least s.read ≤ length s.buffer.bytes
   pub last : EndsIn given s.buffer.bytes
   pub kept : s.read ≤ s.told + length s.buffer.bytes
   -- the order of the places
@@ -71,16 +74,25 @@ pub record IsAfter (p : Patterns) (lengths : List ℕ) (valid : ℕ → Type 0) 
   pub walked_read : s.walked ≤ s.read
   -- under Standard each byte was walked once, and else with each match as many again as the longest pattern has, at most; two
   -- look-ups for each pay for all
-  pub position : s.position ≤ s.walked + longest lengths * s.from
+  pub position : s.position ≤ s.walked + longest (A.lengths automaton) * s.from
   pub once : p.kind ≡ Standard → s.position ≡ s.walked
-  pub paid : lookups + depth s.sid ≤ 2 * s.position
+  pub paid : lookups + A.depth automaton s.sid ≤ 2 * s.position
   -- what is held there, and the best of what was walked
-  pub is_state : valid s.sid
-  pub held_is : held No (word_of s given) s.sid
+  pub is_state : A.valid automaton s.sid
+  pub held_is : A.held automaton p No (word_of s given) s.sid
   pub best_is : BestAfter p No (word_of s given) s.in_hand
-  pub in_hand_is : IsInHand p.kind (longest lengths) s s.in_hand
+  pub in_hand_is : IsInHand p.kind (longest (A.lengths automaton)) s s.in_hand
   -- whatever comes, the next match starts at what was reported or later
   pub clear : (more : List ℕ) (m : Occurrence) → MayFollow s.ended more
       → IsAnswer p (search_from s.from (given ++ more)) (Some m) → s.reported ≤ m.start
   -- once the limit was answered, all was walked and the end was not seen
   pub stopped : s.refused ≡ true → (s.walked ≡ s.read) × (s.ended ≡ false) × (p.kind ≡ Standard → s.in_hand ≡ None)
+
+-- so far for some patterns of the automaton, and some bytes given
+abbrev pub IsUnderWay : {S : Type 0} → Ghosts S → S → ℕ → StreamProgress → Type 0
+IsUnderWay A automaton lookups s = (p : Patterns) × (given : List ℕ) × A.is_of automaton p × IsAfter A automaton p lookups s given
+
+-- as far as before, whatever was given: nothing was read in between
+abbrev pub StaysAfter : {S : Type 0} → Ghosts S → S → ℕ → StreamProgress → ℕ → StreamProgress → Type 0
+StaysAfter A automaton lookups s lookups' s' = (p : Patterns) (given : List ℕ) → A.is_of automaton p
+    → IsAfter A automaton p lookups s given → IsAfter A automaton p lookups' s' given

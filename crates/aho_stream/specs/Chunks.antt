@@ -1,5 +1,5 @@
 -- What each call of an iterator over the chunks of a stream answers.
-use Rattle.std.specs.Prelude.{◌≡◌, ◌≢◌, ℕ, ◌+◌, ◌≤◌, ◌⊎◌, ◌&&◌, not, Bool, true, false, List, [], ◌++◌, Option, Some, None, Result, Ok, Err, length, slice_range, ⊤}
+use Rattle.std.specs.Prelude.{◌≡◌, ◌≢◌, ℕ, ◌+◌, ◌≤◌, ◌⊎◌, ◌&&◌, min, not, Bool, true, false, List, [], ◌++◌, Option, Some, None, Result, Ok, Err, IfSome, length, slice_range}
 use Rattle.std.specs.Io.KnownBytes.{Consumes}
 use Rattle.aho_base.specs.declared.error.stream.StreamError.{StreamError}
 use Rattle.aho_base.specs.declared.error.stream.StreamError.TheVariants.{Match as Refused, Read, Write, WriteZero, Memory, PositionLimit}
@@ -10,16 +10,15 @@ use Rattle.aho_base.specs.Patterns.{Patterns}
 use Rattle.aho_base.specs.declared.search.Anchored.TheVariants.{No}
 use Rattle.aho_base.specs.declared.search.MatchKind.TheVariants.{Standard}
 use Rattle.aho_devices.specs.Refusals.{is_read_fault}
-use Rattle.aho_stream.specs.After.{MayFollow, search_from}
+use Rattle.aho_search.specs.declared.automaton.Automaton.{Ghosts}
+use Rattle.aho_stream.specs.After.{IsAfter, MayFollow, search_from}
 use Rattle.aho_stream.specs.Refills.{is_limit}
-use Rattle.aho_stream.specs.declared.chunks.StreamChunk.{StreamChunk}
-use Rattle.aho_stream.specs.declared.chunks.StreamChunk.TheVariants.{NonMatch as Bytes, Match as BytesOf}
-use Rattle.aho_stream.specs.declared.progress.Progress.{Progress}
+use Rattle.aho_stream.specs.declared.progress.StreamProgress.{StreamProgress}
 use Rattle.aho_stream.specs.declared.progress.StreamPiece.{StreamPiece}
 use Rattle.aho_stream.specs.declared.progress.StreamPiece.TheVariants.{NonMatch, Match}
 
 -- bytes outside of every match: one at least, from the last chunk on. Whatever comes, the next match starts behind them
-pub record TellsPlain (p : Patterns) (s s' : Progress) (given : List ℕ) : Type 0 where
+pub record TellsPlain (p : Patterns) (s s' : StreamProgress) (given : List ℕ) : Type 0 where
   pub some : s.reported + 1 ≤ s'.reported
   pub read : s'.reported ≤ length given
   pub told : s'.told ≡ s.reported
@@ -33,7 +32,7 @@ DiesAt p given from place = (from ≤ place) × (place ≤ length given) × (hel
 
 -- the next match, whatever comes: all before it was reported. Before the end was seen a leftmost kind tells it only where the
 -- state has died
-pub record TellsMatch (p : Patterns) (s s' : Progress) (given : List ℕ) (m : Occurrence) : Type 0 where
+pub record TellsMatch (p : Patterns) (s s' : StreamProgress) (given : List ℕ) (m : Occurrence) : Type 0 where
   pub answer : (more : List ℕ) → MayFollow s'.ended more → IsAnswer p (search_from s.from (given ++ more)) (Some m)
   pub settled : s'.ended ≡ false → p.kind ≢ Standard → (place : ℕ) × DiesAt p given s.from place
   pub starts : m.start ≡ s.reported
@@ -43,25 +42,25 @@ pub record TellsMatch (p : Patterns) (s s' : Progress) (given : List ℕ) (m : O
   pub from : s'.from ≡ m.end
 
 -- nothing more was told
-pub record TellsNone (s s' : Progress) : Type 0 where
+pub record TellsNone (s s' : StreamProgress) : Type 0 where
   pub told : s'.told ≡ s.reported
   pub reported : s'.reported ≡ s.reported
   pub from : s'.from ≡ s.from
 
 -- nothing occurs any more in what was given, and all of it was reported, or the limit was answered before; then a leftmost kind
 -- may leave out a match that bytes to come could change
-pub record TellsEnd (p : Patterns) (s s' : Progress) (given : List ℕ) : Type 0 where
+pub record TellsEnd (p : Patterns) (s s' : StreamProgress) (given : List ℕ) : Type 0 where
   pub none : (p.kind ≡ Standard) ⊎ (s'.ended ≡ true) → IsAnswer p (search_from s'.from given) None
   pub over : ((s'.ended ≡ true) × (s'.reported ≡ length given)) ⊎ (s.refused ≡ true)
   pub still : TellsNone s s'
 
 -- nothing was told, and at most as many bytes are unreported as a roll keeps
-pub record TellsFault (s s' : Progress) (given : List ℕ) : Type 0 where
+pub record TellsFault (s s' : StreamProgress) (given : List ℕ) : Type 0 where
   pub still : TellsNone s s'
   pub near : length given ≤ s'.reported + s'.buffer.least
 
 -- the limit is answered once, where as many bytes were given. Under a leftmost kind the state has not died since the last match
-pub record TellsLimit (p : Patterns) (s s' : Progress) (given : List ℕ) : Type 0 where
+pub record TellsLimit (p : Patterns) (s s' : StreamProgress) (given : List ℕ) : Type 0 where
   pub fault : TellsFault s s' given
   pub unsettled : p.kind ≢ Standard → (place : ℕ) → DiesAt p given s'.from place → ⊥
   pub reached : length given ≡ s.limit
@@ -79,12 +78,12 @@ piece_of None = NonMatch
 piece_of (Some m) = Match m
 
 -- what a chunk tells
-abbrev pub TellsChunk : Patterns → Progress → Progress → List ℕ → StreamPiece → Type 0
+abbrev pub TellsChunk : Patterns → StreamProgress → StreamProgress → List ℕ → StreamPiece → Type 0
 TellsChunk p s s' given NonMatch = TellsPlain p s s' given
 TellsChunk p s s' given (Match m) = TellsMatch p s s' given m
 
 -- what an error tells: a failed read, or that no room was left under the limit
-abbrev pub TellsError : Patterns → Progress → Progress → List ℕ → StreamError → Type 0
+abbrev pub TellsError : Patterns → StreamProgress → StreamProgress → List ℕ → StreamError → Type 0
 TellsError p s s' given (Refused cause) = ⊥
 TellsError p s s' given (Read fault) = TellsFault s s' given
 TellsError p s s' given (Write fault) = ⊥
@@ -93,27 +92,10 @@ TellsError p s s' given Memory = ⊥
 TellsError p s s' given PositionLimit = TellsLimit p s s' given
 
 -- what an answer tells of the bytes given, those of this call among them, by what was kept before and after the call
-abbrev pub Tells : Patterns → Progress → Progress → List ℕ → Option (Result StreamPiece StreamError) → Type 0
+abbrev pub Tells : Patterns → StreamProgress → StreamProgress → List ℕ → Option (Result StreamPiece StreamError) → Type 0
 Tells p s s' given None = TellsEnd p s s' given
 Tells p s s' given (Some (Ok piece)) = TellsChunk p s s' given piece
 Tells p s s' given (Some (Err error)) = TellsError p s s' given error
-
--- the match of a chunk, where it has one, and the bytes that it lends
-abbrev pub chunk_told : StreamChunk → Option Occurrence × List ℕ
-chunk_told (Bytes bytes) = (None, bytes.now)
-chunk_told (BytesOf bytes m) = (Some m, bytes.now)
-
--- what an answer tells that lends the bytes of a chunk
-abbrev pub told_by : Option (Result StreamChunk StreamError) → Option (Result StreamPiece StreamError)
-told_by None = None
-told_by (Some (Err error)) = Some (Err error)
-told_by (Some (Ok chunk)) = Some (Ok (piece_of (chunk_told chunk).0))
-
--- the bytes of the chunk, where one is told, are these
-abbrev pub LendsBytes : Option (Result StreamChunk StreamError) → List ℕ → Type 0
-LendsBytes None bytes = ⊤
-LendsBytes (Some (Err error)) bytes = ⊤
-LendsBytes (Some (Ok chunk)) bytes = (chunk_told chunk).1 ≡ bytes
 
 -- whether the answer is a failed read
 abbrev pub tells_read_fault : {A : Type 0} → Option (Result A StreamError) → Bool
@@ -129,27 +111,52 @@ tells_limit (Some told) = is_limit told
 abbrev pub ends_between : Bool → Bool → Bool
 ends_between before after = not before && after
 
--- of an automaton with these patterns, and of what it is to have come so far after some look-ups
-module _ (IsOf : Patterns → Type 0) (After : Patterns → ℕ → Progress → List ℕ → Type 0) (lookups lookups' : ℕ) (s s' : Progress) (before after : Option (List ℕ)) where
-  -- these bytes are read, none once the end was seen; and then the iterator has come so far with them
-  pub record Reads : Type 0 where
+-- whether the answer is an error
+abbrev pub tells_error : {A : Type 0} → Option (Result A StreamError) → Bool
+tells_error None = false
+tells_error (Some (Ok told)) = false
+tells_error (Some (Err error)) = true
+
+-- what was settled by these bytes was told, of a search that has come so far: under Standard no match is left, under a leftmost
+-- kind the state has died nowhere since the last match. All but the last bytes were told, as many as the longest pattern has at
+-- most, and all of them where no match is left and the state that is held is a start
+pub record AllTold {S : Type 0} (A : Ghosts S) (automaton : S) (p : Patterns) (s : StreamProgress) (given : List ℕ) : Type 0 where
+  pub none : p.kind ≡ Standard → IsAnswer p (search_from s.from given) None
+  pub alive : p.kind ≢ Standard → (place : ℕ) → DiesAt p given s.from place → ⊥
+  pub near : length given ≤ s.reported + s.buffer.least
+  pub start : (sid : ℕ) × A.held automaton p No (slice_range given s.from (length given)) sid
+      × (A.starts automaton sid ≡ true → IsAnswer p (search_from s.from given) None → s.reported ≡ length given)
+
+-- the source was asked for more: before the last fill of the buffer all that was settled had been told. The fill gave the late
+-- bytes, and the buffer holds them behind the last ones of those before
+pub record Fills {S : Type 0} (A : Ghosts S) (automaton : S) (lookups : ℕ) (s s' : StreamProgress) (bytes : List ℕ) : Type 0 where
+  pub early : List ℕ
+  pub late : List ℕ
+  pub are_all : bytes ≡ early ++ late
+  pub told : (p : Patterns) (given : List ℕ) → A.is_of automaton p → IsAfter A automaton p lookups s given → AllTold A automaton p s (given ++ early)
+  pub one_fill : length s'.buffer.bytes ≡ min s'.buffer.least (s.read + length early) + length late
+
+-- a call asked the source for nothing: it read no byte, saw no end and answers no error
+abbrev pub FillsNothing : StreamProgress → StreamProgress → List ℕ → Option (Result StreamPiece StreamError) → Type 0
+FillsNothing s s' bytes answer = (bytes ≡ []) × (s'.ended ≡ s.ended) × (tells_error answer ≡ false)
+
+-- a call of a search by this automaton, from some look-ups, progress and bytes that the source has left to later ones
+module _ {S : Type 0} (A : Ghosts S) (automaton : S) (lookups lookups' : ℕ) (s s' : StreamProgress) (before after : Option (List ℕ)) where
+  -- these bytes are read, none once the end was seen; and then the search has come so far with them
+  pub record ReadsOn : Type 0 where
     pub bytes : List ℕ
     pub read : Consumes before after bytes
     pub closed : s.ended ≡ true → bytes ≡ []
-    pub is_after : (p : Patterns) (given : List ℕ) → IsOf p → After p lookups s given → After p lookups' s' (given ++ bytes)
+    pub is_after : (p : Patterns) (given : List ℕ) → A.is_of automaton p → IsAfter A automaton p lookups s given
+        → IsAfter A automaton p lookups' s' (given ++ bytes)
 
-  -- and the answer of the call tells what it should
+  -- and the answer of the call tells what it should, as soon as it is settled
   pub record Advances (answer : Option (Result StreamPiece StreamError)) : Type 0 where
-    pub reads : Reads
-    pub tells : (p : Patterns) (given : List ℕ) → IsOf p → After p lookups s given → Tells p s s' (given ++ reads.bytes) answer
-    -- the answer of a call that lends the bytes of the chunk it tells: some bytes are read, the iterator has come so far then, and the
-    -- answer tells what it should
+    pub reads : ReadsOn
+    pub tells : (p : Patterns) (given : List ℕ) → A.is_of automaton p → IsAfter A automaton p lookups s given → Tells p s s' (given ++ reads.bytes) answer
+    pub prompt : FillsNothing s s' reads.bytes answer ⊎ Fills A automaton lookups s s' reads.bytes
 
-module _ (IsOf : Patterns → Type 0) (After : Patterns → ℕ → Progress → List ℕ → Type 0) (lookups : ℕ) (s : Progress) where
-  pub record Lends (answer : Option (Result StreamChunk StreamError)) : Type 0 where
-    pub after : Progress
-    pub bytes : List ℕ
-    pub closed : s.ended ≡ true → bytes ≡ []
-    pub tells : (p : Patterns) (given : List ℕ) → IsOf p → After p lookups s given → Tells p s after (given ++ bytes) (told_by answer)
-    pub lent : (p : Patterns) (given : List ℕ) → IsOf p → After p lookups s given
-        → LendsBytes answer (slice_range (given ++ bytes) after.told after.reported)
+-- the next chunk of what was given, where there is one, is what it should be
+abbrev pub TellsNext : {S : Type 0} → Ghosts S → S → ℕ → StreamProgress → StreamProgress → Option StreamPiece → Type 0
+TellsNext A automaton lookups s s' piece = (p : Patterns) (given : List ℕ) → A.is_of automaton p
+    → IsAfter A automaton p lookups s given → IfSome piece (TellsChunk p s s' given)

@@ -1,5 +1,5 @@
 -- What each call of an iterator over the matches of a stream answers.
-use Rattle.std.specs.Prelude.{◌≡◌, ◌≢◌, ℕ, ◌+◌, ◌≤◌, ◌⊎◌, true, false, List, ◌++◌, Option, Some, None, Result, Ok, Err, length}
+use Rattle.std.specs.Prelude.{◌≡◌, ◌≢◌, ℕ, ◌+◌, ◌≤◌, ◌⊎◌, ◌||◌, true, false, List, ◌++◌, Option, Some, None, Result, Ok, Err, length}
 use Rattle.aho_base.specs.declared.error.stream.StreamError.{StreamError}
 use Rattle.aho_base.specs.declared.error.stream.StreamError.TheVariants.{Match as Refused, Read, Write, WriteZero, Memory, PositionLimit}
 use Rattle.aho_base.specs.Answer.{IsAnswer}
@@ -7,11 +7,16 @@ use Rattle.aho_base.specs.Occurrence.{Occurrence}
 use Rattle.aho_base.specs.Patterns.{Patterns}
 use Rattle.aho_base.specs.declared.search.MatchKind.TheVariants.{Standard}
 use Rattle.aho_stream.specs.After.{MayFollow, search_from}
-use Rattle.aho_stream.specs.Chunks.{DiesAt, Reads}
-use Rattle.aho_stream.specs.declared.progress.Progress.{Progress}
+use Rattle.aho_devices.specs.Counts.{counted}
+use Rattle.aho_devices.specs.declared.device.Source.{Ghosts as SourceGhosts}
+use Rattle.aho_search.specs.declared.automaton.Automaton.{Ghosts}
+use Rattle.aho_stream.specs.Chunks.{DiesAt, ReadsOn, ends_between, tells_limit, tells_read_fault}
+use Rattle.aho_stream.specs.Iterators.{HasGiven, automaton_of, lookups_of}
+use Rattle.aho_stream.specs.declared.chunks.StreamChunkIter.{StreamChunkIter}
+use Rattle.aho_stream.specs.declared.progress.StreamProgress.{StreamProgress}
 
 -- the next match, whatever comes; before the end was seen a leftmost kind finds it only where the state has died
-pub record FindsMatch (p : Patterns) (s s' : Progress) (given : List ℕ) (m : Occurrence) : Type 0 where
+pub record FindsMatch (p : Patterns) (s s' : StreamProgress) (given : List ℕ) (m : Occurrence) : Type 0 where
   pub answer : (more : List ℕ) → MayFollow s'.ended more → IsAnswer p (search_from s.from (given ++ more)) (Some m)
   pub settled : s'.ended ≡ false → p.kind ≢ Standard → (place : ℕ) × DiesAt p given s.from place
   pub read : m.end ≤ length given
@@ -19,18 +24,18 @@ pub record FindsMatch (p : Patterns) (s s' : Progress) (given : List ℕ) (m : O
 
 -- nothing occurs any more in what was given; all of it was reported, or the limit was answered before, and then a leftmost kind
 -- may leave out a match that bytes to come could change
-pub record FindsEnd (p : Patterns) (s s' : Progress) (given : List ℕ) : Type 0 where
+pub record FindsEnd (p : Patterns) (s s' : StreamProgress) (given : List ℕ) : Type 0 where
   pub none : (p.kind ≡ Standard) ⊎ (s'.ended ≡ true) → IsAnswer p (search_from s.from given) None
   pub over : ((s'.ended ≡ true) × (s'.reported ≡ length given)) ⊎ (s.refused ≡ true)
   pub from : s'.from ≡ s.from
 
 -- nothing was found, and at most as many bytes are unreported as a roll keeps
-pub record FindsFault (s s' : Progress) (given : List ℕ) : Type 0 where
+pub record FindsFault (s s' : StreamProgress) (given : List ℕ) : Type 0 where
   pub from : s'.from ≡ s.from
   pub near : length given ≤ s'.reported + s'.buffer.least
 
 -- the limit is answered once, where as many bytes were given. Under a leftmost kind the state has not died since the last match
-pub record FindsLimit (p : Patterns) (s s' : Progress) (given : List ℕ) : Type 0 where
+pub record FindsLimit (p : Patterns) (s s' : StreamProgress) (given : List ℕ) : Type 0 where
   pub fault : FindsFault s s' given
   pub unsettled : p.kind ≢ Standard → (place : ℕ) → DiesAt p given s.from place → ⊥
   pub reached : length given ≡ s.limit
@@ -38,7 +43,7 @@ pub record FindsLimit (p : Patterns) (s s' : Progress) (given : List ℕ) : Type
   pub refused : s'.refused ≡ true
 
 -- what an error says: a failed read, or that no room was left under the limit
-abbrev pub FindsError : Patterns → Progress → Progress → List ℕ → StreamError → Type 0
+abbrev pub FindsError : Patterns → StreamProgress → StreamProgress → List ℕ → StreamError → Type 0
 FindsError p s s' given (Refused cause) = ⊥
 FindsError p s s' given (Read fault) = FindsFault s s' given
 FindsError p s s' given (Write fault) = ⊥
@@ -47,13 +52,23 @@ FindsError p s s' given Memory = ⊥
 FindsError p s s' given PositionLimit = FindsLimit p s s' given
 
 -- what an answer says of the bytes given, those of this call among them, by what was kept before and after the call
-abbrev pub Finds : Patterns → Progress → Progress → List ℕ → Option (Result Occurrence StreamError) → Type 0
+abbrev pub Finds : Patterns → StreamProgress → StreamProgress → List ℕ → Option (Result Occurrence StreamError) → Type 0
 Finds p s s' given None = FindsEnd p s s' given
 Finds p s s' given (Some (Ok m)) = FindsMatch p s s' given m
 Finds p s s' given (Some (Err error)) = FindsError p s s' given error
 
--- a call reads some bytes, and its answer says what it should
-pub record FindsNext (IsOf : Patterns → Type 0) (After : Patterns → ℕ → Progress → List ℕ → Type 0) (lookups lookups' : ℕ) (s s' : Progress)
-    (before after : Option (List ℕ)) (found : Option (Result Occurrence StreamError)) : Type 0 where
-  pub reads : Reads IsOf After lookups lookups' s s' before after
-  pub finds : (p : Patterns) (given : List ℕ) → IsOf p → After p lookups s given → Finds p s s' (given ++ reads.bytes) found
+-- a call of `next` reads some bytes, and its answer says what it should
+pub record FindsNext {A R : Type 0} (G : Ghosts A) (S : SourceGhosts R) (it it' : StreamChunkIter A R) (found : Option (Result Occurrence StreamError)) : Type 0 where
+  pub reads : ReadsOn G (automaton_of it) (lookups_of it) (lookups_of it') it.progress it'.progress (S.remaining it.source.now) (S.remaining it'.source.now)
+  pub finds : (p : Patterns) (given : List ℕ) → G.is_of (automaton_of it) p → HasGiven G it p given → Finds p it.progress it'.progress (given ++ reads.bytes) found
+  pub same : automaton_of it' ≡ automaton_of it
+  pub same_source : it'.source.ghost_name ≡ it.source.ghost_name
+  pub limit : it'.progress.limit ≡ it.progress.limit
+  -- the end is seen where a read is empty, and stays
+  pub ended : S.empty_reads it'.source.now ≡ counted (ends_between it.progress.ended it'.progress.ended) (S.empty_reads it.source.now)
+  pub stays_ended : it.progress.ended ≡ true → it'.progress.ended ≡ true
+  -- after the end, and after the limit was answered, there is none for good
+  pub after_end : it.progress.ended ≡ true → it.progress.read ≤ it.progress.reported → found ≡ None
+  pub after_limit : it.progress.refused ≡ true → found ≡ None
+  pub refused : it'.progress.refused ≡ (it.progress.refused || tells_limit found)
+  pub read_failed : S.failures it'.source.now ≡ counted (tells_read_fault found) (S.failures it.source.now)

@@ -2,6 +2,8 @@ pub mod Walking
 pub mod After
 pub mod Refills
 pub mod Chunks
+pub mod Iterators
 pub mod Finds
 pub mod Replacing
 pub mod StreamRun
+pub mod Counting

@@ -4,7 +4,7 @@ use Rattle.std.specs.Io.KnownBytes.{Consumes}
 use Rattle.aho_base.specs.declared.error.stream.StreamError.{StreamError}
 use Rattle.aho_base.specs.declared.error.stream.StreamError.TheVariants.{Match, Read, Write, WriteZero, Memory, PositionLimit}
 use Rattle.aho_stream.specs.After.{EndsIn}
-use Rattle.aho_stream.specs.declared.progress.Progress.{Progress}
+use Rattle.aho_stream.specs.declared.progress.StreamProgress.{StreamProgress}
 
 -- whether the answer is that the position limit was met
 abbrev pub is_limit : {A : Type 0} → Result A StreamError → Bool
@@ -17,7 +17,7 @@ is_limit (Err Memory) = false
 is_limit (Err PositionLimit) = true
 
 -- bytes were read behind those that are kept; nothing else moved
-pub record Refills (s s' : Progress) (before after : Option (List ℕ)) : Type 0 where
+pub record Refills (s s' : StreamProgress) (before after : Option (List ℕ)) : Type 0 where
   pub bytes : List ℕ
   pub given : Consumes before after bytes
   pub others : s' ≡ record s { buffer = s'.buffer; read = s'.read; ended = s'.ended; refused = s'.refused }

@@ -5,7 +5,7 @@ use Rattle.aho_base.specs.Patterns.{Patterns}
 use Rattle.aho_base.specs.declared.search.Anchored.{Anchored}
 use Rattle.aho_base.specs.declared.search.Anchored.TheVariants.{No}
 use Rattle.aho_base.specs.declared.search.MatchKind.TheVariants.{Standard}
-use Rattle.aho_stream.specs.declared.walk.Walked.{Walked}
+use Rattle.aho_stream.specs.declared.settle.Walked.{Walked}
 
 -- after the word and the bytes that were walked the state is held, and what was found is the best of them. The walk stands at
 -- its end under Standard, and else at most one byte farther from its start than the longest pattern is long

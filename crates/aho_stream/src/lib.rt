@@ -2,7 +2,10 @@
 #![tactic(auto)]
 
 pub mod chunks;
+pub mod count;
 pub mod finds;
+mod pieces;
 pub mod progress;
 pub mod replace;
-mod walk;
+pub mod start;
+mod settle;

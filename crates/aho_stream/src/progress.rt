@@ -40,7 +40,7 @@ impl StreamPiece {
 
 /// How far a search of a stream has come. Places count from the first byte that the source gave.
 #[derive(Drop)]
-pub struct Progress {
+pub struct StreamProgress {
     /// The last bytes that were given.
     pub(crate) buffer: Buffer,
     /// How many bytes were given.
@@ -69,9 +69,9 @@ pub struct Progress {
     pub(crate) refused: bool,
 }
 
-impl Progress {
+impl StreamProgress {
     /// Nothing was given yet.
-    pub(crate) fn new(buffer: Buffer, start: StateID, limit: u64) -> Progress
+    pub(crate) fn new(buffer: Buffer, start: StateID, limit: u64) -> StreamProgress
         ensures made { result ≡ record {
           buffer = buffer;
           read = 0;
@@ -88,7 +88,7 @@ impl Progress {
           refused = false;
         } }
     {
-        Progress {
+        StreamProgress {
             buffer,
             read: 0,
             limit,

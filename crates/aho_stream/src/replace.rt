@@ -10,19 +10,20 @@ ghost use Rattle.aho_base.specs.declared.error.MatchErrorKind.TheVariants.{Unsup
 ghost use Rattle.aho_base.specs.declared.search.Anchored.TheVariants.{No};
 ghost use Rattle.aho_devices.specs.Counts.{counted};
 ghost use Rattle.aho_devices.specs.Refusals.{IsFillRefusal, is_read_fault, is_write_fault, is_write_of_nothing};
-ghost use Rattle.aho_stream.specs.After.{IsAfter, greatest_position, kept_for};
+ghost use Rattle.aho_stream.specs.After.{greatest_position, kept_for};
+ghost use Rattle.aho_stream.specs.Iterators.{HasNotBegun, automaton_of};
 ghost use Rattle.aho_stream.specs.Refills.{is_limit};
 ghost use Rattle.aho_stream.specs.StreamRun.{RunsOver};
 ghost use Rattle.aho_stream.specs.Replacing.{Begins, IsMakingRefusal, IsStreamFault, Replaces, ReplacesUpTo, bytes_for};
 
-use crate::chunks::{MAX_POSITION, StreamChunkIter, begin};
+use crate::chunks::StreamChunkIter;
 use crate::progress::StreamPiece;
+use crate::start::StreamStart;
 use aho_base::error::StreamError;
 use aho_base::search::Match;
 use aho_devices::device::{Sink, Source};
 use aho_devices::write::write_whole;
 use aho_search::automaton::Automaton;
-use aho_search::walk::{Counted, Walk};
 use std::alloc::Global;
 
 /// What is written for a chunk: its bytes, or the piece of its match.
@@ -44,33 +45,28 @@ fn replace_chunks<'a, 'r, A: Automaton, R: Source, W: Sink>(
     sink: &mut W,
     replace_with: &[&[u8]],
 ) -> Result<(), StreamError>
-    requires some { (p : Patterns) × A.is_of (⟦<Counted<'a, A> as Walk>⟧.of chunks.old.walk) p }
-    requires after { (p : Patterns) → A.is_of (⟦<Counted<'a, A> as Walk>⟧.of chunks.old.walk) p →
-        IsAfter p (A.lengths (⟦<Counted<'a, A> as Walk>⟧.of chunks.old.walk))
-        (A.valid (⟦<Counted<'a, A> as Walk>⟧.of chunks.old.walk))
-        (A.held (⟦<Counted<'a, A> as Walk>⟧.of chunks.old.walk) p)
-        (A.depth (⟦<Counted<'a, A> as Walk>⟧.of chunks.old.walk))
-        (⟦<Counted<'a, A> as Walk>⟧.lookups chunks.old.walk) chunks.old.progress [] }
+    requires some { (p : Patterns) × A.is_of (automaton_of chunks.old) p }
+    requires after { HasNotBegun A.Automaton chunks.old }
     requires open { chunks.old.progress.ended ≡ false }
     requires below { chunks.old.progress.refused ≡ false }
     ensures same_source { chunks.new.source.ghost_name ≡ chunks.old.source.ghost_name }
-    ensures replaced { OnOk result (Replaces (A.is_of (⟦<Counted<'a, A> as Walk>⟧.of chunks.old.walk))
+    ensures replaced { OnOk result (Replaces (A.is_of (automaton_of chunks.old))
         (pieces_of replace_with.now)
         (R.remaining chunks.old.source.now) (R.remaining chunks.new.source.now)
         (R.empty_reads chunks.old.source.now) (R.empty_reads chunks.new.source.now)
         (W.taken sink.old) (W.taken sink.new)) }
-    ensures begun { OnErr result (Begins (A.is_of (⟦<Counted<'a, A> as Walk>⟧.of chunks.old.walk))
+    ensures begun { OnErr result (Begins (A.is_of (automaton_of chunks.old))
         (pieces_of replace_with.now)
         (R.remaining chunks.old.source.now) (R.remaining chunks.new.source.now)
         (R.empty_reads chunks.old.source.now) (R.empty_reads chunks.new.source.now)
         (W.taken sink.old) (W.taken sink.new)) }
     ensures near { IfErr result (λ error. IsFillRefusal error →
-        ReplacesUpTo (A.is_of (⟦<Counted<'a, A> as Walk>⟧.of chunks.old.walk))
+        ReplacesUpTo (A.is_of (automaton_of chunks.old))
         (pieces_of replace_with.now)
         (R.remaining chunks.old.source.now) (R.remaining chunks.new.source.now)
         (R.empty_reads chunks.old.source.now) (R.empty_reads chunks.new.source.now)
         (W.taken sink.old) (W.taken sink.new)
-        (kept_for (A.lengths (⟦<Counted<'a, A> as Walk>⟧.of chunks.old.walk)))) }
+        (kept_for (A.lengths (automaton_of chunks.old)))) }
     ensures limit { is_limit result ≡ true → (given : List ℕ)
         × Consumes (R.remaining chunks.old.source.now) (R.remaining chunks.new.source.now) given
         × (length given ≡ chunks.old.progress.limit) }
@@ -143,8 +139,7 @@ pub fn try_stream_replace_all<A: Automaton, R: Source, W: Sink>(
     ensures suits { (sid : ℕ) (reason : MatchErrorKind) → 1 ≤ shortest (A.lengths automaton.now)
         → A.start automaton.now No ≡ Ok sid → result ≢ Err (StreamError.Match reason) }
 {
-    let progress = begin(alloc, automaton, MAX_POSITION)?;
-    let mut chunks = StreamChunkIter::over(automaton, source, progress);
+    let mut chunks = StreamStart::new(alloc, automaton)?.over(source);
     let replaced = replace_chunks(&mut chunks, sink, replace_with);
     let _source = chunks.into_source();
     replaced
@@ -159,25 +154,20 @@ fn replace_chunks_with<'a, 'r, A: Automaton, R: Source, W: Sink, F>(
 ) -> Result<(), StreamError>
 where
     F: FnMut(&Match, &[u8], &mut W) -> Result<(), StreamError>,
-    requires some { (p : Patterns) × A.is_of (⟦<Counted<'a, A> as Walk>⟧.of chunks.old.walk) p }
-    requires after { (p : Patterns) → A.is_of (⟦<Counted<'a, A> as Walk>⟧.of chunks.old.walk) p →
-        IsAfter p (A.lengths (⟦<Counted<'a, A> as Walk>⟧.of chunks.old.walk))
-        (A.valid (⟦<Counted<'a, A> as Walk>⟧.of chunks.old.walk))
-        (A.held (⟦<Counted<'a, A> as Walk>⟧.of chunks.old.walk) p)
-        (A.depth (⟦<Counted<'a, A> as Walk>⟧.of chunks.old.walk))
-        (⟦<Counted<'a, A> as Walk>⟧.lookups chunks.old.walk) chunks.old.progress [] }
+    requires some { (p : Patterns) × A.is_of (automaton_of chunks.old) p }
+    requires after { HasNotBegun A.Automaton chunks.old }
     requires open { chunks.old.progress.ended ≡ false }
     requires below { chunks.old.progress.refused ≡ false }
     requires limit { chunks.old.progress.limit ≡ greatest_position }
     requires callable { F.IsAlwaysCallable replace_with }
     ensures same_source { chunks.new.source.ghost_name ≡ chunks.old.source.ghost_name }
     ensures runs { RunsOver W.taken W.failures W.empty_writes
-        (A.is_of (⟦<Counted<'a, A> as Walk>⟧.of chunks.old.walk)) F.FnMut
+        (A.is_of (automaton_of chunks.old)) F.FnMut
         (R.remaining chunks.old.source.now) (R.remaining chunks.new.source.now)
         (R.empty_reads chunks.old.source.now) (R.empty_reads chunks.new.source.now)
         (R.failures chunks.old.source.now) (R.failures chunks.new.source.now)
         replace_with sink.old result sink.new
-        (kept_for (A.lengths (⟦<Counted<'a, A> as Walk>⟧.of chunks.old.walk))) }
+        (kept_for (A.lengths (automaton_of chunks.old))) }
 {
     while let Some(answer) = chunks.advance() {
         match answer? {
@@ -229,8 +219,7 @@ where
         → (result ≡ Err (StreamError.Match reason))
         × (source.new ≡ source.old) × (sink.new ≡ sink.old) }
 {
-    let begun = begin(alloc, automaton, MAX_POSITION)?;
-    let mut chunks = StreamChunkIter::over(automaton, source, begun);
+    let mut chunks = StreamStart::new(alloc, automaton)?.over(source);
     let answer = replace_chunks_with(&mut chunks, sink, replace_with);
     let _source = chunks.into_source();
     answer

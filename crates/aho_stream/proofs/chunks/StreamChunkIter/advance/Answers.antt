@@ -6,7 +6,7 @@ use Rattle.aho_base.specs.declared.search.MatchKind.TheVariants.{Standard}
 use Rattle.aho_devices.specs.Counts.{counted}
 use Rattle.aho_stream.specs.After.{IsAfter, is_settled}
 use Rattle.aho_stream.specs.Chunks.{DiesAt, Reads, TellsChunk, TellsNone, ends_between}
-use Rattle.aho_stream.specs.declared.progress.Progress.{Progress}
+use Rattle.aho_stream.specs.declared.progress.StreamProgress.{StreamProgress}
 use Rattle.aho_stream.specs.declared.progress.StreamPiece.{StreamPiece}
 use Rattle.aho_stream.proofs.Advanced.{IsUntold, advances, advances_from, counted_once, counted_same, end_told, error_told, not_before, of_limit, read_more, read_none, read_same}
 use Rattle.aho_stream.proofs.Afters.{after_refilled, after_told}
@@ -18,7 +18,7 @@ use Rattle.aho_stream.proofs.chunks.StreamChunkIter.advance.Goals.{After-next_pi
 use Rattle.aho_stream.proofs.chunks.StreamChunkIter.advance.Goals as goal
 
 -- how far the iterator has come, by its automaton
-abbrev AfterOf : (g : Over) → g.row.A.Denot → Patterns → ℕ → Progress → List ℕ → Type 0
+abbrev AfterOf : (g : Over) → g.row.A.Denot → Patterns → ℕ → StreamProgress → List ℕ → Type 0
 AfterOf g automaton p lookups s given = IsAfter p (g.A.Automaton.lengths automaton) (g.A.Automaton.valid automaton) (g.A.Automaton.held automaton p) (g.A.Automaton.depth automaton) lookups s given
 
 pub returns-then-self-clause-advances : goal.returns-then-self-clause-advances
@@ -88,12 +88,12 @@ still_untold g c none =
     let u = c.loop-piece.invariant.untold in
     let same = c.next_piece.ensures.none none in
     record {
-      told = ap (λ (t : Progress). t.told) same ∙ u.told;
-      reported = ap (λ (t : Progress). t.reported) same ∙ u.reported;
-      from = ap (λ (t : Progress). t.from) same ∙ u.from;
-      limit = ap (λ (t : Progress). t.limit) same ∙ u.limit;
+      told = ap (λ (t : StreamProgress). t.told) same ∙ u.told;
+      reported = ap (λ (t : StreamProgress). t.reported) same ∙ u.reported;
+      from = ap (λ (t : StreamProgress). t.from) same ∙ u.from;
+      limit = ap (λ (t : StreamProgress). t.limit) same ∙ u.limit;
       unrefused = u.unrefused;
-      going = ap (λ (t : Progress). t.refused) same ∙ u.going;
+      going = ap (λ (t : StreamProgress). t.refused) same ∙ u.going;
     }
 
 pub returns-then-self-2-clause-advances : goal.returns-then-self-2-clause-advances
@@ -133,9 +133,9 @@ lives_refilled g c p given of a leftmost limit =
     let walked = all_walked g (goal.at.After-refill g c).After-next_piece c.in_default.is in
     let refills = c.refill.ensures.refills in
     let others = refills.others in
-    let sid : c.refill.new.self.sid ≡ s.sid = ap (λ (t : Progress). t.sid) others in
-    let in_hand : c.refill.new.self.in_hand ≡ s.in_hand = ap (λ (t : Progress). t.in_hand) others in
-    let place : c.refill.new.self.walked ≡ s.walked = ap (λ (t : Progress). t.walked) others in
+    let sid : c.refill.new.self.sid ≡ s.sid = ap (λ (t : StreamProgress). t.sid) others in
+    let in_hand : c.refill.new.self.in_hand ≡ s.in_hand = ap (λ (t : StreamProgress). t.in_hand) others in
+    let place : c.refill.new.self.walked ≡ s.walked = ap (λ (t : StreamProgress). t.walked) others in
     lives (g.met.A.Automaton.laws _ p of) given c.refill.new.self.from c.refill.new.self.walked c.refill.new.self.sid leftmost a.held_is c.refill.new.self.in_hand
     (rw (sid, in_hand) (walked.0)) a.best_is (omega (arith, a.count, walked.1, place, limit, refills.count, refills.limited))
 
@@ -145,9 +145,9 @@ refilled_untold g c =
     let u = still_untold g (goal.at.After-refill g c).After-next_piece c.in_default.is in
     let others = c.refill.ensures.refills.others in
     record {
-      told = ap (λ (t : Progress). t.told) others ∙ u.told;
-      reported = ap (λ (t : Progress). t.reported) others ∙ u.reported;
-      from = ap (λ (t : Progress). t.from) others ∙ u.from;
+      told = ap (λ (t : StreamProgress). t.told) others ∙ u.told;
+      reported = ap (λ (t : StreamProgress). t.reported) others ∙ u.reported;
+      from = ap (λ (t : StreamProgress). t.from) others ∙ u.from;
     }
 
 pub returns-in-Err-clause-advances : goal.returns-in-Err-clause-advances
@@ -160,7 +160,7 @@ returns-in-Err-clause-advances g c =
     let still = refilled_untold g d in
     let refills = c.refill.ensures.refills in
     let near = c.next_piece.ensures.near c.in_default.is in
-    let reported : c.refill.new.self.reported ≡ t.reported = ap (λ (t : Progress). t.reported) refills.others in
+    let reported : c.refill.new.self.reported ≡ t.reported = ap (λ (t : StreamProgress). t.reported) refills.others in
     let told : c.refill.new.self.told ≡ c.refill.new.self.reported = still.told ∙ sym still.reported in
     advances (g.A.Automaton.is_of automaton) (AfterOf g automaton) _ _ s c.refill.new.self _ _ (Some (Err c.in-Err.error)) (refilled_read g d)
     (λ p given of a. error_told p s c.refill.new.self given c.in-Err.error c.in-Err.ensures.only
@@ -183,7 +183,7 @@ loop-piece-preserved g c =
     record {
       source = inv.source;
       same = c.next_piece.ensures.same ∙ inv.same;
-      untold = record { told = still.told; reported = still.reported; from = still.from; limit = ap (λ (t : Progress). t.limit) c.refill.ensures.refills.others ∙ u.limit; unrefused = u.unrefused; going = c.in_default-refill.ensures.refused };
+      untold = record { told = still.told; reported = still.reported; from = still.from; limit = ap (λ (t : StreamProgress). t.limit) c.refill.ensures.refills.others ∙ u.limit; unrefused = u.unrefused; going = c.in_default-refill.ensures.refused };
       read = refilled_read g d;
       ended = c.refill.ensures.ended ∙ counted_once s.ended c.refill.new.self.ended (g.R.Source.empty_reads c.args.self.now.source.now) (g.R.Source.empty_reads c.loop-piece.self.source.now) going
           (inv.ended ∙ ap (λ (b : Bool). counted (ends_between s.ended b) (g.R.Source.empty_reads c.args.self.now.source.now)) (sym c.next_piece.ensures.ended ∙ c.if-self-2.false));

@@ -9,7 +9,7 @@ use Rattle.aho_devices.specs.Counts.{counted}
 use Rattle.aho_stream.specs.After.{IsAfter}
 use Rattle.aho_stream.specs.Chunks.{Advances, Tells, ends_between, tells_limit, tells_read_fault}
 use Rattle.aho_stream.specs.Finds.{Finds, FindsNext}
-use Rattle.aho_stream.specs.declared.progress.Progress.{Progress}
+use Rattle.aho_stream.specs.declared.progress.StreamProgress.{StreamProgress}
 use Rattle.aho_stream.specs.declared.progress.StreamPiece.{StreamPiece}
 use Rattle.aho_stream.proofs.Found.{counted_then, end_found, error_found, finds_then, piece_found, plain_told, read_then, same_fault}
 use Rattle.aho_stream.proofs.finds.StreamFindIterIterator.next.Given.{Over}
@@ -17,7 +17,7 @@ use Rattle.aho_stream.proofs.finds.StreamFindIterIterator.next.Goals.{After-adva
 use Rattle.aho_stream.proofs.finds.StreamFindIterIterator.next.Goals as goal
 
 -- how far the iterator has come, by its automaton
-abbrev AfterOf : (g : Over) → g.row.A.Denot → Patterns → ℕ → Progress → List ℕ → Type 0
+abbrev AfterOf : (g : Over) → g.row.A.Denot → Patterns → ℕ → StreamProgress → List ℕ → Type 0
 AfterOf g automaton p lookups s given = IsAfter p (g.A.Automaton.lengths automaton) (g.A.Automaton.valid automaton) (g.A.Automaton.held automaton p) (g.A.Automaton.depth automaton) lookups s given
 
 -- what the call of `advance` promises, by the automaton of the whole call

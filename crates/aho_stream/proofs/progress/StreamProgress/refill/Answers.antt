@@ -1,6 +1,6 @@
 use Rattle.std.proofs.Common.{ap, arith, length}
 use Rattle.aho_stream.proofs.Refilled.{refilled}
-use Rattle.aho_stream.proofs.progress.Progress.refill.Goals as goal
+use Rattle.aho_stream.proofs.progress.StreamProgress.refill.Goals as goal
 
 pub returns-in-Ok-clause-refills : goal.returns-in-Ok-clause-refills
 returns-in-Ok-clause-refills g c =

@@ -4,7 +4,7 @@ use Rattle.aho_base.specs.Laws.{BestAfter}
 use Rattle.aho_base.specs.Patterns.{Patterns}
 use Rattle.aho_base.specs.declared.search.Anchored.TheVariants.{No}
 use Rattle.aho_stream.specs.After.{is_settled}
-use Rattle.aho_stream.proofs.walk.walk_on.Given as goal
+use Rattle.aho_stream.proofs.settle.walk_on.Given as goal
 
 -- Over the same automaton:
 -- `paid`: two look-ups for each byte that was walked pay for the look-ups so far, and the state's depth is left over;

@@ -5,14 +5,14 @@ use Rattle.aho_base.specs.Patterns.{Patterns}
 use Rattle.aho_stream.specs.After.{IsAfter}
 use Rattle.aho_stream.specs.Chunks.{TellsChunk, TellsMatch}
 use Rattle.aho_search.proofs.Places.{moved}
-use Rattle.aho_stream.specs.declared.progress.Progress.{Progress}
+use Rattle.aho_stream.specs.declared.progress.StreamProgress.{StreamProgress}
 use Rattle.aho_stream.proofs.Reported.{gap_clear, in_hand_within, match_told, outside_clear, reported}
-use Rattle.aho_stream.proofs.chunks.piece.Given.{Over}
-use Rattle.aho_stream.proofs.chunks.piece.Goals.{After-report, After-report-2, After-give}
-use Rattle.aho_stream.proofs.chunks.piece.Goals as goal
+use Rattle.aho_stream.proofs.pieces.piece.Given.{Over}
+use Rattle.aho_stream.proofs.pieces.piece.Goals.{After-report, After-report-2, After-give}
+use Rattle.aho_stream.proofs.pieces.piece.Goals as goal
 
 -- how far the iterator has come, by the automaton of the walk
-abbrev AfterOf : (g : Over) → g.row.W.Denot → Patterns → Progress → List ℕ → Type 0
+abbrev AfterOf : (g : Over) → g.row.W.Denot → Patterns → StreamProgress → List ℕ → Type 0
 AfterOf g walk p s given = IsAfter p (g.W.Of.Automaton.lengths (g.W.Walk.of walk)) (g.W.Of.Automaton.valid (g.W.Walk.of walk)) (g.W.Of.Automaton.held (g.W.Walk.of walk) p) (g.W.Of.Automaton.depth (g.W.Walk.of walk)) (g.W.Walk.lookups walk) s given
 
 plain : (g : Over) (c : After-report g) (p : Patterns) (given : List ℕ) → g.W.Of.Automaton.is_of (g.W.Walk.of c.args.walk.now) p → AfterOf g c.args.walk.now p c.args.progress.now given
@@ -55,7 +55,7 @@ match_given g c p given of a =
     let reached : s.from + c.start.result ≤ s.reported = elim (cases_lt s.reported (s.from + c.start.result)) [ inl less ↦ (let told = (c.report-2.ensures.some less).0 in let none = c.in-None.is in cc) | inr ge ↦ ge ] in
     let same = (c.report-2.ensures.none reached).1 in
     match_told p _ _ _ _ (g.met.W.Of.Automaton.laws _ p of) _ s given m a c.in-Some.ensures.in_hand c.in-Some.ensures.due c.requires.walked c.give.new.self c.give.result c.requires.open (omega (arith, reached, c.start.ensures.start))
-    (c.give.ensures.placed ∙ ap (λ (t : Progress). moved t.from m) same) (c.give.ensures.moved ∙ ap (λ (t : Progress). record t { told = t.from + m.start; reported = t.from + m.end; from = t.from + m.end; walked = t.from + m.end; sid = t.start; in_hand = None }) same)
+    (c.give.ensures.placed ∙ ap (λ (t : StreamProgress). moved t.from m) same) (c.give.ensures.moved ∙ ap (λ (t : StreamProgress). record t { told = t.from + m.start; reported = t.from + m.end; from = t.from + m.end; walked = t.from + m.end; sid = t.start; in_hand = None }) same)
 
 pub returns-in-None-clause-after : goal.returns-in-None-clause-after
 returns-in-None-clause-after g c p given of a = (match_given g c p given of a).0

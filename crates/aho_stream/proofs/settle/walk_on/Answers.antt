@@ -9,9 +9,9 @@ use Rattle.aho_search.proofs.Told.{better-none}
 use Rattle.aho_stream.specs.After.{is_settled}
 use Rattle.aho_stream.specs.Walking.{WalksOn}
 use Rattle.aho_stream.proofs.Walks.{best_of_more, one_more, still_unsettled, walks_all, walks_settled}
-use Rattle.aho_stream.proofs.walk.walk_on.Given.{Over}
-use Rattle.aho_stream.proofs.walk.walk_on.Goals.{After-step-sid, else-is_special, then-is_special+else-is_settled}
-use Rattle.aho_stream.proofs.walk.walk_on.Goals as goal
+use Rattle.aho_stream.proofs.settle.walk_on.Given.{Over}
+use Rattle.aho_stream.proofs.settle.walk_on.Goals.{After-step-sid, else-is_special, then-is_special+else-is_settled}
+use Rattle.aho_stream.proofs.settle.walk_on.Goals as goal
 
 same_walk : (g : Over) (c : After-step-sid g) → g.W.Walk.of c.step-sid.new.self ≡ g.W.Walk.of c.args.walk.now
 same_walk g c = c.step-sid.ensures.same ∙ c.loop-count.invariant.same_walk

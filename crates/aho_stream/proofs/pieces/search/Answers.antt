@@ -4,7 +4,7 @@ use Rattle.aho_search.proofs.Places.{length_part}
 use Rattle.aho_stream.specs.After.{word_of}
 use Rattle.aho_stream.specs.Walking.{WalksOn}
 use Rattle.aho_stream.proofs.Afters.{after_walked}
-use Rattle.aho_stream.proofs.chunks.search.Goals as goal
+use Rattle.aho_stream.proofs.pieces.search.Goals as goal
 
 pub walk_on-walked-requires-clause-held : goal.walk_on-walked-requires-clause-held
 walk_on-walked-requires-clause-held g c =

@@ -1,0 +1,142 @@
+//! The next chunk of what was read: the walk up to where it is settled, and what it tells.
+
+ghost use Rattle.std.specs.Prelude.{◌≡◌, ◌+◌, ◌≤◌, ◌-◌, ◌||◌, ◌&&◌, None, Some, IfSome, MatchBool, is_none, true, false};
+ghost use Rattle.aho_stream.specs.After.{IsUnderWay, StaysAfter, is_settled};
+ghost use Rattle.aho_stream.specs.Chunks.{TellsNext};
+
+use crate::progress::{StreamPiece, StreamProgress};
+use crate::settle::{is_settled, walk_on};
+use aho_base::search::Match;
+use aho_search::walk::Walk;
+
+/// Walks on over what was read and not walked yet, until the match in hand is settled.
+fn search<W: Walk>(walk: &mut W, progress: &mut StreamProgress)
+    requires after { IsUnderWay W.Of.Automaton (W.of walk.old) (W.lookups walk.old) progress.old }
+    requires open { progress.old.refused ≡ false }
+    ensures after { StaysAfter W.Of.Automaton (W.of walk.old)
+        (W.lookups walk.old) progress.old (W.lookups walk.new) progress.new }
+    ensures all { is_settled (W.Of.kind (W.of walk.old)) (W.Of.dead (W.of walk.old) progress.new.sid)
+        progress.new.in_hand ≡ false → progress.new.walked ≡ progress.new.read }
+    ensures same { W.of walk.new ≡ W.of walk.old }
+    ensures others { progress.new ≡ record progress.old {
+      walked = progress.new.walked;
+      position = progress.new.position;
+      sid = progress.new.sid;
+      in_hand = progress.new.in_hand;
+    } }
+{
+    if is_settled(walk, progress.sid, &progress.in_hand) {
+        return;
+    }
+    let at = (progress.walked - progress.from) as usize;
+    let bytes = progress.bytes(progress.walked, progress.read);
+    let walked = walk_on(walk, bytes, at, progress.sid, progress.in_hand);
+    progress.walked += walked.count as u64;
+    progress.position += walked.count as u128;
+    progress.sid = walked.sid;
+    progress.in_hand = walked.found;
+}
+
+/// The place up to which bytes are outside of every match, where all that was read was walked and a match in hand is not
+/// given yet.
+///
+/// A match that ends later is no longer than the longest pattern, and starts behind what the walk read where that ended in
+/// a start state. A match in hand starts no farther back, while the state is not dead.
+fn outside<W: Walk>(walk: &W, progress: &StreamProgress) -> u64
+    requires valid { W.Of.valid (W.of walk.now) progress.now.sid }
+    ensures ended { progress.now.ended ≡ true → result ≡ progress.now.read }
+    ensures open { progress.now.ended ≡ false →
+        MatchBool (is_none progress.now.in_hand && W.Of.starts (W.of walk.now) progress.now.sid)
+        (result ≡ progress.now.walked)
+        (result ≡ progress.now.walked - progress.now.buffer.least) }
+{
+    if progress.ended {
+        return progress.read;
+    }
+    if progress.in_hand.is_none() && walk.is_start(progress.sid) {
+        return progress.walked;
+    }
+    progress
+        .walked
+        .saturating_sub(progress.buffer.min_buffer_len() as u64)
+}
+
+/// The match that is given next: the one in hand, once it is settled or the end of the stream was seen.
+fn next_match<W: Walk>(walk: &W, progress: &StreamProgress) -> Option<Match>
+    requires valid { W.Of.valid (W.of walk.now) progress.now.sid }
+    ensures in_hand { IfSome result (λ m. progress.now.in_hand ≡ Some m) }
+    ensures due { IfSome result (λ m. (progress.now.ended || is_settled (W.Of.kind (W.of walk.now))
+        (W.Of.dead (W.of walk.now) progress.now.sid) progress.now.in_hand) ≡ true) }
+    ensures none { result ≡ None → (is_settled (W.Of.kind (W.of walk.now))
+        (W.Of.dead (W.of walk.now) progress.now.sid) progress.now.in_hand ≡ false)
+        × (progress.now.ended ≡ true → progress.now.in_hand ≡ None) }
+{
+    if progress.ended || is_settled(walk, progress.sid, &progress.in_hand) {
+        return progress.in_hand;
+    }
+    None
+}
+
+/// The next chunk of what was walked: the match that is given next, and before it the bytes that are outside of every match.
+fn piece<W: Walk>(walk: &W, progress: &mut StreamProgress) -> Option<StreamPiece>
+    requires after { IsUnderWay W.Of.Automaton (W.of walk.now) (W.lookups walk.now) progress.old }
+    requires walked { is_settled (W.Of.kind (W.of walk.now)) (W.Of.dead (W.of walk.now) progress.old.sid)
+        progress.old.in_hand ≡ false → progress.old.walked ≡ progress.old.read }
+    requires open { progress.old.refused ≡ false }
+    ensures after { StaysAfter W.Of.Automaton (W.of walk.now)
+        (W.lookups walk.now) progress.old (W.lookups walk.now) progress.new }
+    ensures tells { TellsNext W.Of.Automaton (W.of walk.now)
+        (W.lookups walk.now) progress.old progress.new result }
+    ensures none { result ≡ None → (progress.new ≡ progress.old)
+        × (is_settled (W.Of.kind (W.of walk.now)) (W.Of.dead (W.of walk.now) progress.old.sid)
+        progress.old.in_hand ≡ false) }
+    ensures near { result ≡ None
+        → progress.new.walked ≤ progress.new.reported + progress.new.buffer.least }
+    ensures end { result ≡ None → progress.new.ended ≡ true
+        → (progress.new.read ≤ progress.new.reported) × (progress.new.in_hand ≡ None) }
+    ensures ended { progress.new.ended ≡ progress.old.ended }
+    ensures refused { progress.new.refused ≡ progress.old.refused }
+    ensures limit { progress.new.limit ≡ progress.old.limit }
+{
+    let Some(m) = next_match(walk, progress) else {
+        let end = outside(walk, progress);
+        return progress.report(end);
+    };
+    let start = progress.from + m.start() as u64;
+    match progress.report(start) {
+        Some(piece) => Some(piece),
+        None => Some(StreamPiece::Match {
+            mat: progress.give(m),
+        }),
+    }
+}
+
+/// The next chunk of what was read, by walking on where no match in hand is settled; none where more has to be read first.
+pub(crate) fn next_piece<W: Walk>(walk: &mut W, progress: &mut StreamProgress) -> Option<StreamPiece>
+    requires after { IsUnderWay W.Of.Automaton (W.of walk.old) (W.lookups walk.old) progress.old }
+    requires open { progress.old.refused ≡ false }
+    ensures after { StaysAfter W.Of.Automaton (W.of walk.old)
+        (W.lookups walk.old) progress.old (W.lookups walk.new) progress.new }
+    ensures tells { TellsNext W.Of.Automaton (W.of walk.old)
+        (W.lookups walk.old) progress.old progress.new result }
+    ensures none { result ≡ None → progress.new ≡ record progress.old {
+      walked = progress.new.walked;
+      position = progress.new.position;
+      sid = progress.new.sid;
+      in_hand = progress.new.in_hand;
+    } }
+    ensures walked { result ≡ None → (is_settled (W.Of.kind (W.of walk.old))
+        (W.Of.dead (W.of walk.old) progress.new.sid) progress.new.in_hand ≡ false)
+        × (progress.new.walked ≡ progress.new.read) }
+    ensures near { result ≡ None
+        → progress.new.read ≤ progress.new.reported + progress.new.buffer.least }
+    ensures end { result ≡ None → progress.new.ended ≡ true
+        → (progress.new.read ≤ progress.new.reported) × (progress.new.in_hand ≡ None) }
+    ensures limit { progress.new.limit ≡ progress.old.limit }
+    ensures ended { progress.new.ended ≡ progress.old.ended }
+    ensures refused { progress.new.refused ≡ progress.old.refused }
+    ensures same { W.of walk.new ≡ W.of walk.old }
+{
+    search(walk, progress);
+    piece(walk, progress)
+}
