@@ -93,7 +93,7 @@ fn piece<W: Walk>(walk: &W, progress: &mut StreamProgress) -> Option<StreamPiece
     ensures near { result ≡ None
         → progress.new.walked ≤ progress.new.reported + progress.new.buffer.least }
     ensures start { result ≡ None
-        → is_none progress.new.in_hand && W.Of.starts (W.of walk.now) progress.new.sid ≡ true
+        → (is_none progress.new.in_hand && W.Of.starts (W.of walk.now) progress.new.sid) ≡ true
         → progress.new.read ≤ progress.new.reported }
     ensures buffer { progress.new.buffer ≡ progress.old.buffer }
     ensures end { result ≡ None → progress.new.ended ≡ true
@@ -135,7 +135,7 @@ pub(crate) fn next_piece<W: Walk>(walk: &mut W, progress: &mut StreamProgress) -
     ensures near { result ≡ None
         → progress.new.read ≤ progress.new.reported + progress.new.buffer.least }
     ensures start { result ≡ None
-        → is_none progress.new.in_hand && W.Of.starts (W.of walk.old) progress.new.sid ≡ true
+        → (is_none progress.new.in_hand && W.Of.starts (W.of walk.old) progress.new.sid) ≡ true
         → progress.new.read ≤ progress.new.reported }
     ensures buffer { progress.new.buffer ≡ progress.old.buffer }
     ensures end { result ≡ None → progress.new.ended ≡ true
