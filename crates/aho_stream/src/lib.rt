@@ -4,6 +4,7 @@
 pub mod chunks;
 pub mod count;
 pub mod finds;
+pub mod impls;
 mod pieces;
 pub mod progress;
 pub mod replace;
