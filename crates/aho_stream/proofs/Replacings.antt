@@ -84,15 +84,12 @@ might_be given bytes all before after closed stays may = (
 
 -- each chunk leaves less room under the limit
 module _ {A : Type 0} (G : Ghosts A) (automaton : A) (p : Patterns) (lookups : ℕ) (s s' : StreamProgress) (given : List ℕ) where
-  abbrev lengths : List ℕ
-  lengths = G.lengths automaton
-
-  some_told : (piece : StreamPiece) → lengths ≡ map length p.words → IsAfter G automaton p lookups s' given → Tells p s s' given (Some (Ok piece)) → s.reported + 1 ≤ s'.reported
+  some_told : (piece : StreamPiece) → G.lengths automaton ≡ map length p.words → IsAfter G automaton p lookups s' given → Tells p s s' given (Some (Ok piece)) → s.reported + 1 ≤ s'.reported
   some_told NonMatch are after tells = tells.some
   some_told (Match m) are after tells =
-      omega (arith, occurs_some p lengths are m ((tells.answer [] (MayFollow-nothing s'.ended)).0) after.no_empty, tells.starts, tells.reported)
+      omega (arith, occurs_some p (G.lengths automaton) are m ((tells.answer [] (MayFollow-nothing s'.ended)).0) after.no_empty, tells.starts, tells.reported)
 
-  pub less_left : (piece : StreamPiece) → lengths ≡ map length p.words → IsAfter G automaton p lookups s' given → Tells p s s' given (Some (Ok piece))
+  pub less_left : (piece : StreamPiece) → G.lengths automaton ≡ map length p.words → IsAfter G automaton p lookups s' given → Tells p s s' given (Some (Ok piece))
       → s'.limit ≡ s.limit → s'.limit - s'.reported < s.limit - s.reported
   less_left piece are after tells same = omega (arith, some_told piece are after tells, after.reported_walked, after.walked_read, after.limited, same)
 
@@ -212,7 +209,7 @@ module _ {A : Type 0} (G : Ghosts A) (automaton : A) (pieces : List (List ℕ))
       }
 
       pub less_room : (p : Patterns) → IsOf p → s'.limit ≡ s.limit → s'.limit - s'.reported < s.limit - s.reported
-      less_room p of same = less_left p lengths valid (held p) depth lookups' s s' given piece (are p of) (now_after p of) (tells_piece p of) same
+      less_room p of same = less_left G automaton p lookups' s s' given piece (are p of) (now_after p of) (tells_piece p of) same
 
     -- nothing was told, and nothing was written
     module _ (from_same : s'.from ≡ s.from) (reported_same : s'.reported ≡ s.reported) where

@@ -159,7 +159,7 @@ module _ {F S : Type 0} (taken : S → Option (List ℕ)) (failures empty_writes
     running_match m next sink' is called = record { given = given; gives = now_gives; after = now_after; rest = λ p bytes ms of may finds. after_match p of bytes ms may finds m next sink' is called }
 
     pub less_run : (p : Patterns) → IsOf p → (piece : StreamPiece) → answer ≡ Some (Ok piece) → s'.limit ≡ s.limit → s'.limit - s'.reported < s.limit - s.reported
-    less_run p of piece is same = less_left p lengths valid (held p) depth lookups' s s' given piece (are p of) (now_after p of) (tells_of p of (Some (Ok piece)) is) same
+    less_run p of piece is same = less_left G automaton p lookups' s s' given piece (are p of) (now_after p of) (tells_of p of (Some (Ok piece)) is) same
 
     module _ (failed failed' : ℕ) (fails : failed' ≡ counted (tells_read_fault answer) failed) where
       read_failed_of : (told : Option (Result StreamPiece StreamError)) → answer ≡ told → failed' ≡ counted (tells_read_fault told) failed
