@@ -4,6 +4,7 @@ pub mod Refills
 pub mod Chunks
 pub mod Iterators
 pub mod Finds
+pub mod Starts
 pub mod Replacing
 pub mod StreamRun
 pub mod Counting
