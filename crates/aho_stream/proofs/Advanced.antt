@@ -1,24 +1,29 @@
 -- What a call has read, and what its answer tells.
-use Rattle.std.proofs.Common.{◌≡◌, ◌≢◌, ℕ, ◌≤◌, ◌⊎◌, inl, inr, Bool, true, false, List, [], ◌++◌, length, refl, sym, ◌∙◌, ap, subst, arith, append_assoc, append-nil}
-use Rattle.std.specs.Prelude.{OnErr, Option, None, Result, Ok, Err}
+use Rattle.std.proofs.Common.{◌≡◌, ◌≢◌, ℕ, ◌+◌, ◌≤◌, ◌⊎◌, ◌&&◌, inl, inr, min, Bool, true, false, List, [], ◌++◌, length, refl, sym, ◌∙◌, ap, subst, arith, append_assoc, append-nil, length-append}
+use Rattle.std.specs.Prelude.{OnErr, Option, Some, None, Result, Ok, Err, is_none, slice_range}
 use Rattle.std.specs.Io.KnownBytes.{Consumes}
 use Rattle.std.proofs.KnownBytes.{Consumes-nil, Consumes-trans}
 use Rattle.aho_base.specs.Patterns.{Patterns}
 use Rattle.aho_base.specs.declared.error.stream.StreamError.{StreamError}
 use Rattle.aho_base.specs.declared.error.stream.StreamError.TheVariants.{Match as Refused, Read as ReadFault, Write, WriteZero, Memory, PositionLimit}
-use Rattle.aho_base.specs.Laws.{BestAfter}
-use Rattle.aho_base.specs.declared.search.Anchored.{Anchored}
+use Rattle.aho_base.specs.Answer.{IsAnswer}
+use Rattle.aho_base.specs.Laws.{BestAfter, Reads}
+use Rattle.aho_base.specs.Occurrence.{Occurrence}
 use Rattle.aho_base.specs.declared.search.Anchored.TheVariants.{No}
+use Rattle.aho_base.specs.declared.search.MatchKind.{MatchKind}
 use Rattle.aho_base.specs.declared.search.MatchKind.TheVariants.{Standard}
+use Rattle.aho_devices.specs.Buffer.{Buffered}
 use Rattle.aho_devices.specs.Counts.{counted}
 use Rattle.aho_devices.specs.Refusals.{IsFillRefusal}
 use Rattle.aho_search.specs.declared.automaton.Automaton.{Ghosts}
-use Rattle.aho_stream.specs.After.{IsAfter, word_of}
-use Rattle.aho_stream.specs.Chunks.{Advances, DiesAt, ReadsOn, Tells, TellsEnd, TellsError, TellsFault, TellsNone, ends_between}
-use Rattle.aho_stream.specs.Refills.{is_limit}
+use Rattle.aho_stream.specs.After.{IsAfter, is_settled, search_from, word_of}
+use Rattle.aho_stream.specs.Chunks.{Advances, AllTold, DiesAt, Fills, FillsNothing, ReadsOn, Tells, TellsEnd, TellsError, TellsFault, TellsNone, ends_between, tells_error}
+use Rattle.aho_stream.specs.Refills.{Refills, is_limit}
 use Rattle.aho_stream.specs.declared.progress.StreamProgress.{StreamProgress}
 use Rattle.aho_stream.specs.declared.progress.StreamPiece.{StreamPiece}
+use Rattle.aho_stream.proofs.Deaths.{lives}
 use Rattle.aho_stream.proofs.NextMatches.{found_at_end}
+use Rattle.aho_stream.proofs.Walks.{unsettled_none}
 
 -- nothing was told since
 pub record IsUntold (s t : StreamProgress) : Type 0 where
@@ -36,56 +41,151 @@ module _ {S : Type 0} (A : Ghosts S) (automaton : S) where
   abbrev After : Patterns → ℕ → StreamProgress → List ℕ → Type 0
   After = IsAfter A automaton
 
+  -- what was read so far, and that all that was settled was told before it was asked for
+  pub record ReadsPromptly (lookups lookups' : ℕ) (s s' : StreamProgress) (before after : Option (List ℕ)) : Type 0 where
+    pub reads : ReadsOn A automaton lookups lookups' s s' before after
+    pub prompt : FillsNothing s s' reads.bytes None ⊎ Fills A automaton lookups s s' reads.bytes
+
+  -- the same, where the source was asked
+  pub record ReadsFilling (lookups lookups' : ℕ) (s s' : StreamProgress) (before after : Option (List ℕ)) : Type 0 where
+    pub reads : ReadsOn A automaton lookups lookups' s s' before after
+    pub fills : Fills A automaton lookups s s' reads.bytes
+
   -- nothing was read
-  pub read_none : (lookups lookups' : ℕ) (s s' : StreamProgress) (before : Option (List ℕ))
-      → ((p : Patterns) (given : List ℕ) → IsOf p → After p lookups s given → After p lookups' s' given) → ReadsOn A automaton lookups lookups' s s' before before
-  read_none lookups lookups' s s' before keeps = record {
-    bytes = [];
-    read = Consumes-nil before;
-    closed = λ e. refl;
-    is_after = λ p given of a. subst (After p lookups' s') (sym (append-nil given)) (keeps p given of a);
+  pub read_none : (lookups lookups' : ℕ) (s s' : StreamProgress) (before : Option (List ℕ)) → s'.ended ≡ s.ended
+      → ((p : Patterns) (given : List ℕ) → IsOf p → After p lookups s given → After p lookups' s' given) → ReadsPromptly lookups lookups' s s' before before
+  read_none lookups lookups' s s' before ended keeps = record {
+    reads = record {
+      bytes = [];
+      read = Consumes-nil before;
+      closed = λ e. refl;
+      is_after = λ p given of a. subst (After p lookups' s') (sym (append-nil given)) (keeps p given of a);
+    };
+    prompt = inl (refl, ended, refl);
+  }
+
+  -- a fill stays the last one where the buffer stays
+  fills_same : (lookups : ℕ) (s t s' : StreamProgress) (bytes : List ℕ) → s'.buffer ≡ t.buffer → Fills A automaton lookups s t bytes → Fills A automaton lookups s s' bytes
+  fills_same lookups s t s' bytes buffer f = record {
+    early = f.early;
+    late = f.late;
+    are_all = f.are_all;
+    told = f.told;
+    one_fill = subst (λ (b : Buffered). length b.bytes ≡ min b.least (s.read + length f.early) + length f.late) (sym buffer) f.one_fill;
   }
 
   -- nothing more was read
-  pub read_same : (lookups mid lookups' : ℕ) (s t s' : StreamProgress) (before after : Option (List ℕ))
-      → ((p : Patterns) (given : List ℕ) → IsOf p → After p mid t given → After p lookups' s' given) → ReadsOn A automaton lookups mid s t before after → ReadsOn A automaton lookups lookups' s s' before after
-  read_same lookups mid lookups' s t s' before after keeps r = record {
-    bytes = r.bytes;
-    read = r.read;
-    closed = r.closed;
-    is_after = λ p given of a. keeps p (given ++ r.bytes) of (r.is_after p given of a);
+  pub read_same : (lookups mid lookups' : ℕ) (s t s' : StreamProgress) (before after : Option (List ℕ)) → s'.buffer ≡ t.buffer → s'.ended ≡ t.ended
+      → ((p : Patterns) (given : List ℕ) → IsOf p → After p mid t given → After p lookups' s' given) → ReadsPromptly lookups mid s t before after → ReadsPromptly lookups lookups' s s' before after
+  read_same lookups mid lookups' s t s' before after buffer ended keeps r = record {
+    reads = record {
+      bytes = r.reads.bytes;
+      read = r.reads.read;
+      closed = r.reads.closed;
+      is_after = λ p given of a. keeps p (given ++ r.reads.bytes) of (r.reads.is_after p given of a);
+    };
+    prompt = elim r.prompt [ inl nothing ↦ inl (nothing.0, ended ∙ nothing.1, nothing.2) | inr fills ↦ inr (fills_same lookups s t s' r.reads.bytes buffer fills) ];
   }
 
-  -- these bytes were read too
-  pub read_more : (lookups mid lookups' : ℕ) (s t s' : StreamProgress) (before between after : Option (List ℕ)) (bytes : List ℕ)
-      → s.ended ≡ false → Consumes between after bytes
-      → ((p : Patterns) (given : List ℕ) → IsOf p → After p mid t given → After p lookups' s' (given ++ bytes)) → ReadsOn A automaton lookups mid s t before between → ReadsOn A automaton lookups lookups' s s' before after
-  read_more lookups mid lookups' s t s' before between after bytes going read keeps r = record {
-    bytes = r.bytes ++ bytes;
-    read = Consumes-trans before between after r.bytes bytes r.read read;
-    closed = λ e. cc;
-    is_after = λ p given of a. subst (After p lookups' s') (append_assoc given r.bytes bytes) (keeps p (given ++ r.bytes) of (r.is_after p given of a));
+  -- how many bytes a roll keeps of those that were given
+  kept_of : (p : Patterns) (lookups : ℕ) (s : StreamProgress) (given : List ℕ) → After p lookups s given → min s.buffer.least (length s.buffer.bytes) ≡ min s.buffer.least s.read
+  kept_of p lookups s given a =
+      let (gone, last) = a.last in
+      omega (arith, a.enough, a.count, ap length last, length-append gone s.buffer.bytes)
+
+  -- these bytes were read too, once all was told that was settled by those before
+  pub read_more : (lookups mid lookups' : ℕ) (s t s' : StreamProgress) (before between after : Option (List ℕ)) (refills : Refills t s' between after)
+      → s.ended ≡ false → t.reported ≡ s.reported → t.from ≡ s.from → ((p : Patterns) × (given : List ℕ) × IsOf p × After p lookups s given)
+      → ((p : Patterns) (given : List ℕ) → IsOf p → After p mid t given → AllTold A automaton p t given)
+      → ((p : Patterns) (given : List ℕ) → IsOf p → After p mid t given → After p lookups' s' (given ++ refills.bytes)) → ReadsPromptly lookups mid s t before between → ReadsFilling lookups lookups' s s' before after
+  read_more lookups mid lookups' s t s' before between after refills going reported from some all keeps r = record {
+    reads = record {
+      bytes = r.reads.bytes ++ refills.bytes;
+      read = Consumes-trans before between after r.reads.bytes refills.bytes r.reads.read refills.given;
+      closed = λ e. cc;
+      is_after = λ p given of a. subst (After p lookups' s') (append_assoc given r.reads.bytes refills.bytes) (keeps p (given ++ r.reads.bytes) of (r.reads.is_after p given of a));
+    };
+    fills = record {
+      early = r.reads.bytes;
+      late = refills.bytes;
+      are_all = refl;
+      told = λ p given of a.
+          let now = r.reads.is_after p given of a in
+          let told = all p (given ++ r.reads.bytes) of now in
+          let bytes = given ++ r.reads.bytes in
+          record {
+            none = λ standard. subst (λ (x : ℕ). IsAnswer p (search_from x bytes) None) from (told.none standard);
+            alive = λ leftmost place died. told.alive leftmost place (subst (λ (x : ℕ). DiesAt p bytes x place) (sym from) died);
+            near = omega (arith, told.near, reported, a.least, now.least);
+            start = let (sid, is_held, is_start) = told.start in
+                (sid, subst (λ (x : ℕ). A.held automaton p No (slice_range bytes x (length bytes)) sid) from is_held,
+                λ starts none. sym reported ∙ is_start starts (subst (λ (x : ℕ). IsAnswer p (search_from x bytes) None) (sym from) none));
+          };
+      one_fill =
+          let (p, given, of, a) = some in
+          let now = r.reads.is_after p given of a in
+          omega (arith, refills.kept, kept_of p mid t (given ++ r.reads.bytes) now, refills.least, now.count, a.count, length-append given r.reads.bytes);
+    };
   }
 
   -- with what the answer tells of it
-  pub advances : (lookups lookups' : ℕ) (s s' : StreamProgress) (before after : Option (List ℕ)) (answer : Option (Result StreamPiece StreamError)) → ReadsOn A automaton lookups lookups' s s' before after
+  pub advances : (lookups lookups' : ℕ) (s s' : StreamProgress) (before after : Option (List ℕ)) (answer : Option (Result StreamPiece StreamError)) → tells_error answer ≡ false → (r : ReadsPromptly lookups lookups' s s' before after)
       → ((p : Patterns) (given : List ℕ) → IsOf p → After p lookups' s' given → Tells p s s' given answer)
       → Advances A automaton lookups lookups' s s' before after answer
-  advances lookups lookups' s s' before after answer r tells = record {
-    reads = r;
-    tells = λ p given of a. tells p (given ++ r.bytes) of (r.is_after p given of a);
+  advances lookups lookups' s s' before after answer no_error r tells = record {
+    reads = r.reads;
+    tells = λ p given of a. tells p (given ++ r.reads.bytes) of (r.reads.is_after p given of a);
+    prompt = elim r.prompt [ inl nothing ↦ inl (nothing.0, nothing.1, no_error) | inr fills ↦ inr fills ];
+  }
+
+  pub advances_filling : (lookups lookups' : ℕ) (s s' : StreamProgress) (before after : Option (List ℕ)) (answer : Option (Result StreamPiece StreamError)) → (r : ReadsFilling lookups lookups' s s' before after)
+      → ((p : Patterns) (given : List ℕ) → IsOf p → After p lookups' s' given → Tells p s s' given answer)
+      → Advances A automaton lookups lookups' s s' before after answer
+  advances_filling lookups lookups' s s' before after answer r tells = record {
+    reads = r.reads;
+    tells = λ p given of a. tells p (given ++ r.reads.bytes) of (r.reads.is_after p given of a);
+    prompt = inr r.fills;
   }
 
   -- by how far it had come before
-  pub advances_from : (lookups mid lookups' : ℕ) (s t s' : StreamProgress) (before after : Option (List ℕ)) (answer : Option (Result StreamPiece StreamError)) → ReadsOn A automaton lookups mid s t before after
+  pub advances_from : (lookups mid lookups' : ℕ) (s t s' : StreamProgress) (before after : Option (List ℕ)) (answer : Option (Result StreamPiece StreamError)) → tells_error answer ≡ false → s'.buffer ≡ t.buffer → s'.ended ≡ t.ended
+      → (r : ReadsPromptly lookups mid s t before after)
       → ((p : Patterns) (given : List ℕ) → IsOf p → After p mid t given → After p lookups' s' given)
       → ((p : Patterns) (given : List ℕ) → IsOf p → After p mid t given → Tells p s s' given answer)
       → Advances A automaton lookups lookups' s s' before after answer
   unfolding read_same
-  advances_from lookups mid lookups' s t s' before after answer r keeps tells = record {
-    reads = read_same lookups mid lookups' s t s' before after keeps r;
-    tells = λ p given of a. tells p (given ++ r.bytes) of (r.is_after p given of a);
-  }
+  advances_from lookups mid lookups' s t s' before after answer no_error buffer ended r keeps tells =
+      let same = read_same lookups mid lookups' s t s' before after buffer ended keeps r in
+      record {
+        reads = same.reads;
+        tells = λ p given of a. tells p (given ++ r.reads.bytes) of (r.reads.is_after p given of a);
+        prompt = elim same.prompt [ inl nothing ↦ inl (nothing.0, nothing.1, no_error) | inr fills ↦ inr fills ];
+      }
+
+-- where all was walked and no match in hand is settled, all was told that these bytes settle
+pub all_told : {S : Type 0} (A : Ghosts S) (automaton : S) (p : Patterns) {kind : MatchKind} {lengths : List ℕ} {list : ℕ → List ℕ} {dead : ℕ → Bool} → Reads p kind lengths (A.held automaton p) list dead (A.starts automaton)
+    → (lookups : ℕ) (s : StreamProgress) (given : List ℕ) → IsAfter A automaton p lookups s given → is_settled kind (dead s.sid) s.in_hand ≡ false → s.walked ≡ s.read → s.read ≤ s.reported + s.buffer.least
+    → ((is_none s.in_hand && A.starts automaton s.sid) ≡ true → s.read ≤ s.reported) → AllTold A automaton p s given
+all_told A automaton p {kind} {lengths} {list} {dead} laws lookups s given a going walked near start = record {
+  none = λ standard. answer_none (unsettled_none kind (dead s.sid) s.in_hand going (laws.kind_is ∙ standard));
+  alive = λ leftmost. lives laws given s.from s.walked s.sid leftmost a.held_is s.in_hand going a.best_is all;
+  near = omega (arith, near, a.count);
+  start = (s.sid, subst (λ (end : ℕ). A.held automaton p No (slice_range given s.from end) s.sid) all a.held_is,
+      λ is_start none. omega (arith, start (ap (λ (found : Option Occurrence). is_none found && A.starts automaton s.sid) (no_match s.in_hand a.best_is none) ∙ is_start), a.reported_walked, walked, a.count));
+}
+  where
+    all : s.walked ≡ length given
+    all = walked ∙ a.count
+
+    ordered : s.from ≤ s.walked
+    ordered = omega (arith, a.from_reported, a.reported_walked)
+
+    answer_none : s.in_hand ≡ None → IsAnswer p (search_from s.from given) None
+    answer_none free = found_at_end p given s.from s.walked None ordered all (subst (BestAfter p No (word_of s given)) free a.best_is)
+
+    no_match : (found : Option Occurrence) → BestAfter p No (word_of s given) found → IsAnswer p (search_from s.from given) None → found ≡ None
+    no_match None best none = refl
+    no_match (Some m) best none = let answer = found_at_end p given s.from s.walked (Some m) ordered all best in absurd (none _ answer.0)
 
 -- nothing that is still to be told occurs in what was given, and all of it was walked
 pub end_told : {S : Type 0} (A : Ghosts S) (automaton : S) (p : Patterns) (lookups : ℕ) (s s' : StreamProgress) (given : List ℕ)

@@ -8,7 +8,7 @@ use Rattle.aho_base.specs.Patterns.{Patterns}
 use Rattle.aho_base.specs.declared.search.Anchored.{Anchored}
 use Rattle.aho_base.specs.declared.search.Anchored.TheVariants.{No}
 use Rattle.aho_base.specs.declared.search.MatchKind.TheVariants.{Standard}
-use Rattle.aho_devices.specs.Buffer.{Buffered}
+use Rattle.aho_devices.specs.Buffer.{Buffered, capacity_for}
 use Rattle.std.proofs.Math.Nat.{le-mul_of_pos_right}
 use Rattle.aho_search.proofs.Places.{length_part, no_part, part_join, part_of_part}
 use Rattle.aho_search.specs.declared.automaton.Automaton.{Ghosts}
@@ -49,9 +49,9 @@ module _ {S : Type 0} (A : Ghosts S) (automaton : S) (p : Patterns) where
   -- before the first byte
   pub after_made : (lookups : ℕ) (buffer : Buffered) (start limit : ℕ) → lookups ≡ 0 → lengths ≡ map length p.words
       → 1 ≤ shortest lengths → longest lengths < 2 ^ 64 → valid start → depth start ≡ 0 → held No [] start
-      → limit < 2 ^ 63 → buffer.least ≡ kept_for lengths → buffer.bytes ≡ []
+      → limit < 2 ^ 63 → buffer.least ≡ kept_for lengths → buffer.size ≡ capacity_for (kept_for lengths) → buffer.bytes ≡ []
       → After lookups (record { buffer = buffer; read = 0; limit = limit; from = 0; told = 0; reported = 0; walked = 0; position = 0; sid = start; start = start; in_hand = None; ended = false; refused = false }) []
-  after_made lookups buffer start limit none are no_empty sized is_state shallow is_held bounded least empty = record {
+  after_made lookups buffer start limit none are no_empty sized is_state shallow is_held bounded least size empty = record {
     no_empty = no_empty;
     sized = sized;
     start_is = is_state;
@@ -61,6 +61,8 @@ module _ {S : Type 0} (A : Ghosts S) (automaton : S) (p : Patterns) where
     limited = omega arith;
     bounded = bounded;
     least = least;
+    size = size;
+    enough = omega arith;
     last = ([], sym empty);
     kept = omega arith;
     told_reported = omega arith;
@@ -90,6 +92,8 @@ module _ {S : Type 0} (A : Ghosts S) (automaton : S) (p : Patterns) where
     limited = a.limited;
     bounded = a.bounded;
     least = a.least;
+    size = a.size;
+    enough = a.enough;
     last = a.last;
     kept = omega (arith, a.kept, a.told_reported);
     told_reported = omega arith;
@@ -137,6 +141,8 @@ module _ {S : Type 0} (A : Ghosts S) (automaton : S) (p : Patterns) where
         limited = a.limited;
         bounded = a.bounded;
         least = a.least;
+        size = a.size;
+        enough = a.enough;
         last = a.last;
         kept = a.kept;
         told_reported = a.told_reported;
@@ -184,6 +190,8 @@ module _ {S : Type 0} (A : Ghosts S) (automaton : S) (p : Patterns) where
     limited = a.limited;
     bounded = a.bounded;
     least = a.least;
+    size = a.size;
+    enough = a.enough;
     last = a.last;
     kept = omega (arith, a.kept, a.told_reported);
     told_reported = later;
@@ -218,6 +226,8 @@ module _ {S : Type 0} (A : Ghosts S) (automaton : S) (p : Patterns) where
         limited = a.limited;
         bounded = a.bounded;
         least = a.least;
+        size = a.size;
+        enough = a.enough;
         last = a.last;
         kept = omega (arith, a.kept, a.told_reported, starts);
         told_reported = omega (arith, some);
@@ -252,8 +262,10 @@ module _ {S : Type 0} (A : Ghosts S) (automaton : S) (p : Patterns) where
         limited = refills.limited;
         bounded = a.bounded;
         least = refills.least ∙ a.least;
+        size = refills.size ∙ a.size;
+        enough = omega (arith, refills.kept, refills.least, refills.count, a.enough);
         last = refills.last given a.last;
-        kept = elim refills.kept [ inl e ↦ omega (arith, refills.count) | inr e ↦ omega (arith, refills.count, a.kept) ];
+        kept = omega (arith, refills.kept, refills.count, a.kept, near, told);
         told_reported = a.told_reported;
         from_reported = a.from_reported;
         reported_walked = a.reported_walked;

@@ -1,5 +1,5 @@
 -- What a refill changes, from what its parts promise.
-use Rattle.std.proofs.Common.{◌≡◌, ℕ, ◌+◌, ◌-◌, ◌≤◌, ◌⊎◌, inl, inr, Bool, List, ◌++◌, Option, length, sym, refl, ◌∙◌, ap, subst, arith, length-append}
+use Rattle.std.proofs.Common.{◌≡◌, ℕ, ◌+◌, ◌-◌, ◌≤◌, min, Bool, List, ◌++◌, Option, length, sym, refl, ◌∙◌, ap, subst, arith, length-append}
 use Rattle.aho_devices.specs.Buffer.{Buffered, Gains}
 use Rattle.aho_stream.specs.After.{EndsIn}
 use Rattle.aho_stream.specs.Refills.{Refills}
@@ -9,7 +9,7 @@ use Rattle.aho_stream.proofs.GivenBytes.{EndsIn-append}
 -- room was made in the buffer, and then it gained what was read
 pub refilled : (s : StreamProgress) (roomy filled : Buffered) (read : ℕ) (ended refused : Bool) (before after : Option (List ℕ))
     → ((given : List ℕ) → EndsIn given s.buffer.bytes → EndsIn given roomy.bytes)
-    → (length roomy.bytes ≡ s.buffer.least) ⊎ (length roomy.bytes ≡ length s.buffer.bytes)
+    → length roomy.bytes ≡ min s.buffer.least (length s.buffer.bytes)
     → roomy.least ≡ s.buffer.least → roomy.size ≡ s.buffer.size
     → Gains roomy filled before after
     → read ≡ s.read + (length filled.bytes - length roomy.bytes)
@@ -26,5 +26,5 @@ refilled s roomy filled read ended refused before after last kept least size gai
       least = gained.least ∙ least;
       size = gained.size ∙ size;
       last = λ given e. subst (EndsIn (given ++ gained.bytes)) (sym gained.held) (EndsIn-append given roomy.bytes gained.bytes (last given e));
-      kept = elim kept [ inl e ↦ inl (omega arith) | inr e ↦ inr (omega arith) ];
+      kept = omega (arith, long, kept);
     }

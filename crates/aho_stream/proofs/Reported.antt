@@ -53,7 +53,7 @@ module _ {S : Type 0} (A : Ghosts S) (automaton : S) (p : Patterns) where
   reported lookups s s' given end answer a within clear some none = elim (cases_lt s.reported end) [
     | inl less ↦
         (let told = some less in (
-          subst (λ (t : StreamProgress). After lookups t given) (sym told.1) (after_reported p lengths valid held depth lookups s given end a (omega (arith, less)) within clear),
+          subst (λ (t : StreamProgress). After lookups t given) (sym told.1) (after_reported A automaton p lookups s given end a (omega (arith, less)) within clear),
           subst (λ (r : Option StreamPiece). IfSome r (TellsChunk p s s' given)) (sym told.0)
               (subst (λ (t : StreamProgress). TellsPlain p s t given) (sym told.1)
               (record { some = omega (arith, less); read = omega (arith, within, a.walked_read, a.count); told = refl; from = refl; clear = clear })),
@@ -173,7 +173,7 @@ module _ {S : Type 0} (A : Ghosts S) (automaton : S) (p : Patterns) where
         → s' ≡ record s { told = s.from + m.start; reported = s.from + m.end; from = s.from + m.end; walked = s.from + m.end; sid = s.start; in_hand = None }
         → After lookups s' given × TellsMatch p s s' given told
     match_told s' told unrefused reached is moves = (
-      subst (λ (t : StreamProgress). After lookups t given) (sym moves) (after_given p lengths valid held depth lookups s given m a laws.lengths_are in_hand unreported unrefused),
+      subst (λ (t : StreamProgress). After lookups t given) (sym moves) (after_given A automaton p lookups s given m a laws.lengths_are in_hand unreported unrefused),
       subst (λ (x : Occurrence). TellsMatch p s s' given x) (sym is)
           (subst (λ (t : StreamProgress). TellsMatch p s t given (moved s.from m)) (sym moves)
           (record {

@@ -1,5 +1,5 @@
 -- What a refill of the buffer changes.
-use Rattle.std.specs.Prelude.{◌≡◌, ℕ, ◌+◌, ◌≤◌, ◌⊎◌, Bool, true, false, List, ◌++◌, Option, Result, Ok, Err, length}
+use Rattle.std.specs.Prelude.{◌≡◌, ℕ, ◌+◌, ◌≤◌, min, Bool, true, false, List, ◌++◌, Option, Result, Ok, Err, length}
 use Rattle.std.specs.Io.KnownBytes.{Consumes}
 use Rattle.aho_base.specs.declared.error.stream.StreamError.{StreamError}
 use Rattle.aho_base.specs.declared.error.stream.StreamError.TheVariants.{Match, Read, Write, WriteZero, Memory, PositionLimit}
@@ -26,4 +26,5 @@ pub record Refills (s s' : StreamProgress) (before after : Option (List ℕ)) : 
   pub least : s'.buffer.least ≡ s.buffer.least
   pub size : s'.buffer.size ≡ s.buffer.size
   pub last : (given : List ℕ) → EndsIn given s.buffer.bytes → EndsIn (given ++ bytes) s'.buffer.bytes
-  pub kept : (s.buffer.least + length bytes ≤ length s'.buffer.bytes) ⊎ (length s.buffer.bytes + length bytes ≤ length s'.buffer.bytes)
+  -- the bytes stand behind the last ones that were held, all of them or as many as a roll keeps
+  pub kept : length s'.buffer.bytes ≡ min s.buffer.least (length s.buffer.bytes) + length bytes

@@ -92,6 +92,10 @@ fn piece<W: Walk>(walk: &W, progress: &mut StreamProgress) -> Option<StreamPiece
         progress.old.in_hand ≡ false) }
     ensures near { result ≡ None
         → progress.new.walked ≤ progress.new.reported + progress.new.buffer.least }
+    ensures start { result ≡ None
+        → (is_none progress.new.in_hand && W.Of.starts (W.of walk.now) progress.new.sid) ≡ true
+        → progress.new.read ≤ progress.new.reported }
+    ensures buffer { progress.new.buffer ≡ progress.old.buffer }
     ensures end { result ≡ None → progress.new.ended ≡ true
         → (progress.new.read ≤ progress.new.reported) × (progress.new.in_hand ≡ None) }
     ensures ended { progress.new.ended ≡ progress.old.ended }
@@ -130,6 +134,10 @@ pub(crate) fn next_piece<W: Walk>(walk: &mut W, progress: &mut StreamProgress) -
         × (progress.new.walked ≡ progress.new.read) }
     ensures near { result ≡ None
         → progress.new.read ≤ progress.new.reported + progress.new.buffer.least }
+    ensures start { result ≡ None
+        → (is_none progress.new.in_hand && W.Of.starts (W.of walk.old) progress.new.sid) ≡ true
+        → progress.new.read ≤ progress.new.reported }
+    ensures buffer { progress.new.buffer ≡ progress.old.buffer }
     ensures end { result ≡ None → progress.new.ended ≡ true
         → (progress.new.read ≤ progress.new.reported) × (progress.new.in_hand ≡ None) }
     ensures limit { progress.new.limit ≡ progress.old.limit }

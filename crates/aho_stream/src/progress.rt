@@ -1,6 +1,6 @@
 //! How far a search of a stream has come: numbers, and the bytes that the buffer holds.
 
-ghost use Rattle.std.specs.Prelude.{◌≡◌, ◌+◌, ◌<◌, ◌≤◌, ◌^◌, ◌⊎◌, ℕ, List, Some, None, IfOk, IfErr, OnErr, length, slice_range, is_err, true, false, Err};
+ghost use Rattle.std.specs.Prelude.{◌≡◌, ◌+◌, ◌<◌, ◌≤◌, ◌^◌, ◌⊎◌, min, ℕ, List, Some, None, IfOk, IfErr, OnErr, length, slice_range, is_err, true, false, Err};
 ghost use Rattle.aho_devices.specs.Counts.{counted};
 ghost use Rattle.aho_devices.specs.Buffer.{saw_end};
 ghost use Rattle.aho_devices.specs.Refusals.{is_read_fault, IsFillRefusal};
@@ -212,8 +212,7 @@ fn is_position_limit(error: &StreamError) -> bool
 fn make_room(buffer: &mut Buffer)
     ensures free { length buffer.new.bytes < buffer.new.size }
     ensures last { (given : List ℕ) → EndsIn given buffer.old.bytes → EndsIn given buffer.new.bytes }
-    ensures kept { (length buffer.new.bytes ≡ buffer.old.least)
-        ⊎ (length buffer.new.bytes ≡ length buffer.old.bytes) }
+    ensures kept { length buffer.new.bytes ≡ min buffer.old.least (length buffer.old.bytes) }
     ensures least { buffer.new.least ≡ buffer.old.least }
     ensures size { buffer.new.size ≡ buffer.old.size }
 {

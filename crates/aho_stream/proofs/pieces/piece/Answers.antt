@@ -13,15 +13,15 @@ use Rattle.aho_stream.proofs.pieces.piece.Goals as goal
 
 -- how far the iterator has come, by the automaton of the walk
 abbrev AfterOf : (g : Over) → g.row.W.Denot → Patterns → StreamProgress → List ℕ → Type 0
-AfterOf g walk p s given = IsAfter p (g.W.Of.Automaton.lengths (g.W.Walk.of walk)) (g.W.Of.Automaton.valid (g.W.Walk.of walk)) (g.W.Of.Automaton.held (g.W.Walk.of walk) p) (g.W.Of.Automaton.depth (g.W.Walk.of walk)) (g.W.Walk.lookups walk) s given
+AfterOf g walk p s given = IsAfter g.W.Of.Automaton (g.W.Walk.of walk) p (g.W.Walk.lookups walk) s given
 
 plain : (g : Over) (c : After-report g) (p : Patterns) (given : List ℕ) → g.W.Of.Automaton.is_of (g.W.Walk.of c.args.walk.now) p → AfterOf g c.args.walk.now p c.args.progress.now given
     → AfterOf g c.args.walk.now p c.report.new.self given × IfSome c.report.result (TellsChunk p c.args.progress.now c.report.new.self given)
 plain g c p given of a =
     let s = c.args.progress.now in
     let none = c.next_match.ensures.none c.in_default.is in
-    let clear = outside_clear p _ _ _ _ (g.met.W.Of.Automaton.laws _ p of) _ s given c.outside-end.result a none.0 none.1 (c.requires.walked none.0) c.outside-end.ensures.ended c.outside-end.ensures.open in
-    reported p _ _ _ _ _ s c.report.new.self given c.outside-end.result c.report.result a clear.0 clear.1 c.report.ensures.some c.report.ensures.none
+    let clear = outside_clear _ _ p (g.met.W.Of.Automaton.laws _ p of) _ s given c.outside-end.result a none.0 none.1 (c.requires.walked none.0) c.outside-end.ensures.ended c.outside-end.ensures.open in
+    reported _ _ p _ s c.report.new.self given c.outside-end.result c.report.result a clear.0 clear.1 c.report.ensures.some c.report.ensures.none
 
 pub returns-in_default-clause-after : goal.returns-in_default-clause-after
 returns-in_default-clause-after g c p given of a = (plain g c p given of a).0
@@ -35,9 +35,9 @@ gap g c p given of a =
     let s = c.args.progress.now in
     let m = c.in-Some.m in
     let in_hand : s.in_hand ≡ Some m = c.in-Some.ensures.in_hand in
-    let within = in_hand_within p _ _ _ _ _ s given m a in_hand in
-    reported p _ _ _ _ _ s c.report-2.new.self given (s.from + c.start.result) c.report-2.result a (omega (arith, c.start.ensures.start, within.0, within.1))
-    (λ more n follows answer. omega (arith, c.start.ensures.start, gap_clear p _ _ _ _ (g.met.W.Of.Automaton.laws _ p of) _ s given m a in_hand c.in-Some.ensures.due c.requires.walked more n follows answer)) c.report-2.ensures.some c.report-2.ensures.none
+    let within = in_hand_within _ _ p _ s given m a in_hand in
+    reported _ _ p _ s c.report-2.new.self given (s.from + c.start.result) c.report-2.result a (omega (arith, c.start.ensures.start, within.0, within.1))
+    (λ more n follows answer. omega (arith, c.start.ensures.start, gap_clear _ _ p (g.met.W.Of.Automaton.laws _ p of) _ s given m a in_hand c.in-Some.ensures.due c.requires.walked more n follows answer)) c.report-2.ensures.some c.report-2.ensures.none
 
 pub returns-in-Some-report-clause-after : goal.returns-in-Some-report-clause-after
 returns-in-Some-report-clause-after g c p given of a = (gap g (goal.at.returns-in-Some-report-clause-after g c).After-report-2 p given of a).0
@@ -54,7 +54,7 @@ match_given g c p given of a =
     let m = c.in-Some.m in
     let reached : s.from + c.start.result ≤ s.reported = elim (cases_lt s.reported (s.from + c.start.result)) [ inl less ↦ (let told = (c.report-2.ensures.some less).0 in let none = c.in-None.is in cc) | inr ge ↦ ge ] in
     let same = (c.report-2.ensures.none reached).1 in
-    match_told p _ _ _ _ (g.met.W.Of.Automaton.laws _ p of) _ s given m a c.in-Some.ensures.in_hand c.in-Some.ensures.due c.requires.walked c.give.new.self c.give.result c.requires.open (omega (arith, reached, c.start.ensures.start))
+    match_told _ _ p (g.met.W.Of.Automaton.laws _ p of) _ s given m a c.in-Some.ensures.in_hand c.in-Some.ensures.due c.requires.walked c.give.new.self c.give.result c.requires.open (omega (arith, reached, c.start.ensures.start))
     (c.give.ensures.placed ∙ ap (λ (t : StreamProgress). moved t.from m) same) (c.give.ensures.moved ∙ ap (λ (t : StreamProgress). record t { told = t.from + m.start; reported = t.from + m.end; from = t.from + m.end; walked = t.from + m.end; sid = t.start; in_hand = None }) same)
 
 pub returns-in-None-clause-after : goal.returns-in-None-clause-after

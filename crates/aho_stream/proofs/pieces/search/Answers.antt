@@ -21,5 +21,5 @@ returns-clause-after g c p given of a =
     let word : length (word_of s given) ≡ s.walked - s.from = length_part given s.from s.walked (omega (arith, a.walked_read, a.count)) in
     let walks = subst (λ (bytes : List ℕ). WalksOn p (g.W.Of.Automaton.lengths (g.W.Walk.of c.args.walk.now)) (g.W.Of.Automaton.held (g.W.Walk.of c.args.walk.now) p) (word_of s given) bytes result) rest
     (walked.walks p (word_of s given) of word a.held_is a.best_is) in
-    after_walked p _ _ _ _ _ _ s given result a c.requires.open
+    after_walked _ _ p _ _ s given result a c.requires.open
     (omega (arith, walked.within, ap length rest, long, a.walked_read)) walked.valid walked.cost walks

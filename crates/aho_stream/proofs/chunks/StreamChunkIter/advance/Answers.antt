@@ -5,10 +5,10 @@ use Rattle.aho_base.specs.Patterns.{Patterns}
 use Rattle.aho_base.specs.declared.search.MatchKind.TheVariants.{Standard}
 use Rattle.aho_devices.specs.Counts.{counted}
 use Rattle.aho_stream.specs.After.{IsAfter, is_settled}
-use Rattle.aho_stream.specs.Chunks.{DiesAt, Reads, TellsChunk, TellsNone, ends_between}
+use Rattle.aho_stream.specs.Chunks.{DiesAt, TellsChunk, TellsNone, ends_between}
 use Rattle.aho_stream.specs.declared.progress.StreamProgress.{StreamProgress}
 use Rattle.aho_stream.specs.declared.progress.StreamPiece.{StreamPiece}
-use Rattle.aho_stream.proofs.Advanced.{IsUntold, advances, advances_from, counted_once, counted_same, end_told, error_told, not_before, of_limit, read_more, read_none, read_same}
+use Rattle.aho_stream.proofs.Advanced.{IsUntold, ReadsFilling, ReadsPromptly, advances, advances_filling, advances_from, all_told, counted_once, counted_same, end_told, error_told, not_before, of_limit, read_more, read_none, read_same}
 use Rattle.aho_stream.proofs.Afters.{after_refilled, after_told}
 use Rattle.aho_stream.proofs.Deaths.{lives}
 use Rattle.aho_stream.proofs.Reported.{no_chunk_left, told_from}
@@ -19,17 +19,17 @@ use Rattle.aho_stream.proofs.chunks.StreamChunkIter.advance.Goals as goal
 
 -- how far the iterator has come, by its automaton
 abbrev AfterOf : (g : Over) → g.row.A.Denot → Patterns → ℕ → StreamProgress → List ℕ → Type 0
-AfterOf g automaton p lookups s given = IsAfter p (g.A.Automaton.lengths automaton) (g.A.Automaton.valid automaton) (g.A.Automaton.held automaton p) (g.A.Automaton.depth automaton) lookups s given
+AfterOf g automaton p lookups s given = IsAfter g.A.Automaton automaton p lookups s given
 
 pub returns-then-self-clause-advances : goal.returns-then-self-clause-advances
 returns-then-self-clause-advances g c =
     let automaton = c.args.self.now.walk.automaton.now in
     let s = c.args.self.now.progress in
-    advances (g.A.Automaton.is_of automaton) (AfterOf g automaton) _ _ s _ _ _ None
-    (read_none (g.A.Automaton.is_of automaton) (AfterOf g automaton) c.args.self.now.walk.work c.args.self.now.walk.work s _ _ (λ p given of a. after_told p _ _ _ _ _ s given a))
+    advances g.A.Automaton automaton _ _ s _ _ _ None refl
+    (read_none g.A.Automaton automaton c.args.self.now.walk.work c.args.self.now.walk.work s _ _ refl (λ p given of a. after_told _ _ p _ s given a))
     (λ p given of a.
     let stopped = a.stopped c.if-self.true in
-    end_told p _ _ _ _ _ s _ given a (λ why. elim why [ inl standard ↦ stopped.2 standard | inr ended ↦ cc ]) stopped.0 (record { told = refl; reported = refl; from = refl }) (inr c.if-self.true))
+    end_told _ _ p _ s _ given a (λ why. elim why [ inl standard ↦ stopped.2 standard | inr ended ↦ cc ]) stopped.0 (record { told = refl; reported = refl; from = refl }) (inr c.if-self.true))
 
 pub loop-piece-init : goal.loop-piece-init
 loop-piece-init g c =
@@ -40,7 +40,7 @@ loop-piece-init g c =
       source = refl;
       same = refl;
       untold = record { told = refl; reported = refl; from = refl; limit = refl; unrefused = going; going = going };
-      read = read_none (g.A.Automaton.is_of automaton) (AfterOf g automaton) c.args.self.now.walk.work c.args.self.now.walk.work s _ _ (λ p given of a. after_told p _ _ _ _ _ s given a);
+      read = read_none g.A.Automaton automaton c.args.self.now.walk.work c.args.self.now.walk.work s _ _ refl (λ p given of a. after_told _ _ p _ s given a);
       ended = counted_same s.ended _;
       stays = λ e. e;
       unfailed = refl;
@@ -48,17 +48,17 @@ loop-piece-init g c =
 
 -- what was read before and after the next chunk was looked for
 looked : (g : Over) (c : After-next_piece g)
-    → Reads (g.A.Automaton.is_of c.args.self.now.walk.automaton.now) (AfterOf g c.args.self.now.walk.automaton.now) c.args.self.now.walk.work c.next_piece.new.walk.work c.args.self.now.progress c.next_piece.new.progress (g.R.Source.remaining c.args.self.now.source.now) (g.R.Source.remaining c.loop-piece.self.source.now)
+    → ReadsPromptly g.A.Automaton c.args.self.now.walk.automaton.now c.args.self.now.walk.work c.next_piece.new.walk.work c.args.self.now.progress c.next_piece.new.progress (g.R.Source.remaining c.args.self.now.source.now) (g.R.Source.remaining c.loop-piece.self.source.now)
 looked g c =
     let automaton = c.args.self.now.walk.automaton.now in
-    read_same (g.A.Automaton.is_of automaton) (AfterOf g automaton) _ _ _ _ c.loop-piece.self.progress _ _ _ (λ p given of a. (rw c.loop-piece.invariant.same at c.next_piece.ensures.after) p given of a) c.loop-piece.invariant.read
+    read_same g.A.Automaton automaton _ _ _ _ c.loop-piece.self.progress _ _ _ c.next_piece.ensures.buffer c.next_piece.ensures.ended (λ p given of a. (rw c.loop-piece.invariant.same at c.next_piece.ensures.after) p given of a) c.loop-piece.invariant.read
 
 pub returns-in-Some-clause-advances : goal.returns-in-Some-clause-advances
 returns-in-Some-clause-advances g c =
     let automaton = c.args.self.now.walk.automaton.now in
     let s = c.args.self.now.progress in
     let inv = c.loop-piece.invariant in
-    advances_from (g.A.Automaton.is_of automaton) (AfterOf g automaton) _ _ _ s c.loop-piece.self.progress c.next_piece.new.progress _ _ (Some (Ok c.in-Some.piece)) inv.read
+    advances_from g.A.Automaton automaton _ _ _ s c.loop-piece.self.progress c.next_piece.new.progress _ _ (Some (Ok c.in-Some.piece)) refl c.next_piece.ensures.buffer c.next_piece.ensures.ended inv.read
     (λ p given of a. (rw inv.same at c.next_piece.ensures.after) p given of a)
     (λ p given of a. told_from p s c.loop-piece.self.progress c.next_piece.new.progress given c.in-Some.piece inv.untold.reported inv.untold.from
     (subst (λ (r : Option StreamPiece). IfSome r (TellsChunk p c.loop-piece.self.progress c.next_piece.new.progress given)) c.in-Some.is ((rw inv.same at c.next_piece.ensures.tells) p given of a)))
@@ -70,10 +70,10 @@ returns-in-Some-clause-after_end g c ended all =
     let inv = c.loop-piece.invariant in
     let (p, given, of, a) = c.requires.after in
     let laws = g.met.A.Automaton.laws c.args.self.now.walk.automaton.now p of in
-    let bytes = given ++ inv.read.bytes in
-    let same : bytes ≡ given = ap (λ (xs : List ℕ). given ++ xs) (inv.read.closed ended) ∙ append-nil given in
+    let bytes = given ++ inv.read.reads.bytes in
+    let same : bytes ≡ given = ap (λ (xs : List ℕ). given ++ xs) (inv.read.reads.closed ended) ∙ append-nil given in
     let tells = told_from p s c.loop-piece.self.progress c.next_piece.new.progress bytes c.in-Some.piece inv.untold.reported inv.untold.from
-    (subst (λ (r : Option StreamPiece). IfSome r (TellsChunk p c.loop-piece.self.progress c.next_piece.new.progress bytes)) c.in-Some.is ((rw inv.same at c.next_piece.ensures.tells) p bytes of (inv.read.is_after p given of a))) in
+    (subst (λ (r : Option StreamPiece). IfSome r (TellsChunk p c.loop-piece.self.progress c.next_piece.new.progress bytes)) c.in-Some.is ((rw inv.same at c.next_piece.ensures.tells) p bytes of (inv.read.reads.is_after p given of a))) in
     absurd (no_chunk_left p (g.A.Automaton.lengths c.args.self.now.walk.automaton.now) laws.lengths_are a.no_empty s c.next_piece.new.progress bytes c.in-Some.piece tells (omega (arith, ap length same, a.count, all)))
 
 -- where there is no chunk all was walked, and no match in hand is settled
@@ -104,23 +104,24 @@ returns-then-self-2-clause-advances g c =
     let none = c.in_default.is in
     let u = still_untold g d none in
     let walked = all_walked g d none in
-    advances (g.A.Automaton.is_of automaton) (AfterOf g automaton) _ _ s c.next_piece.new.progress _ _ None (looked g d)
-    (λ p given of a. let end = c.next_piece.ensures.end none c.if-self-2.true in end_told p _ _ _ _ _ s c.next_piece.new.progress given a (λ why. end.1) walked.1 (record { told = u.told; reported = u.reported; from = u.from })
+    advances g.A.Automaton automaton _ _ s c.next_piece.new.progress _ _ None refl (looked g d)
+    (λ p given of a. let end = c.next_piece.ensures.end none c.if-self-2.true in end_told _ _ p _ s c.next_piece.new.progress given a (λ why. end.1) walked.1 (record { told = u.told; reported = u.reported; from = u.from })
     (inl (c.if-self-2.true, end.0)))
 
 -- what was read before and after a refill
 refilled_read : (g : Over) (c : After-refill g)
-    → Reads (g.A.Automaton.is_of c.args.self.now.walk.automaton.now) (AfterOf g c.args.self.now.walk.automaton.now) c.args.self.now.walk.work c.next_piece.new.walk.work c.args.self.now.progress c.refill.new.self (g.R.Source.remaining c.args.self.now.source.now) (g.R.Source.remaining c.refill.new.source)
+    → ReadsFilling g.A.Automaton c.args.self.now.walk.automaton.now c.args.self.now.walk.work c.next_piece.new.walk.work c.args.self.now.progress c.refill.new.self (g.R.Source.remaining c.args.self.now.source.now) (g.R.Source.remaining c.refill.new.source)
 refilled_read g c =
     let automaton = c.args.self.now.walk.automaton.now in
     let none = c.in_default.is in
     let u = still_untold g (goal.at.After-refill g c).After-next_piece none in
     let walked = all_walked g (goal.at.After-refill g c).After-next_piece none in
     let refills = c.refill.ensures.refills in
-    read_more (g.A.Automaton.is_of automaton) (AfterOf g automaton) _ _ _ c.args.self.now.progress c.next_piece.new.progress c.refill.new.self _ _ _ refills.bytes
+    read_more g.A.Automaton automaton _ _ _ c.args.self.now.progress c.next_piece.new.progress c.refill.new.self _ _ _ refills
     (not_before c.args.self.now.progress.ended (λ e. sym c.if-self-2.false ∙ c.next_piece.ensures.ended ∙ c.loop-piece.invariant.stays e))
-    refills.given
-    (λ p given of a. after_refilled p _ _ _ _ _ c.next_piece.new.progress c.refill.new.self given _ _ refills a
+    u.reported u.from c.requires.after
+    (λ p given of a. all_told _ _ p (g.met.A.Automaton.laws _ p of) _ c.next_piece.new.progress given a walked.0 walked.1 (c.next_piece.ensures.near none) ((rw c.loop-piece.invariant.same at c.next_piece.ensures.start) none))
+    (λ p given of a. after_refilled _ _ p _ c.next_piece.new.progress c.refill.new.self given _ _ refills a
     (λ standard. unsettled_none _ _ _ walked.0 ((g.met.A.Automaton.laws _ p of).kind_is ∙ standard)) walked.1 (u.told ∙ sym u.reported) (c.next_piece.ensures.near none) c.if-self-2.false
     (λ e. let limit = sym c.refill.ensures.refused ∙ e in (c.refill.ensures.limit limit, of_limit c.refill.result c.refill.ensures.open limit)))
     (looked g (goal.at.After-refill g c).After-next_piece)
@@ -162,7 +163,7 @@ returns-in-Err-clause-advances g c =
     let near = c.next_piece.ensures.near c.in_default.is in
     let reported : c.refill.new.self.reported ≡ t.reported = ap (λ (t : StreamProgress). t.reported) refills.others in
     let told : c.refill.new.self.told ≡ c.refill.new.self.reported = still.told ∙ sym still.reported in
-    advances (g.A.Automaton.is_of automaton) (AfterOf g automaton) _ _ s c.refill.new.self _ _ (Some (Err c.in-Err.error)) (refilled_read g d)
+    advances_filling g.A.Automaton automaton _ _ s c.refill.new.self _ _ (Some (Err c.in-Err.error)) (refilled_read g d)
     (λ p given of a. error_told p s c.refill.new.self given c.in-Err.error c.in-Err.ensures.only
     (record {
       still = still;
@@ -184,7 +185,7 @@ loop-piece-preserved g c =
       source = inv.source;
       same = c.next_piece.ensures.same ∙ inv.same;
       untold = record { told = still.told; reported = still.reported; from = still.from; limit = ap (λ (t : StreamProgress). t.limit) c.refill.ensures.refills.others ∙ u.limit; unrefused = u.unrefused; going = c.in_default-refill.ensures.refused };
-      read = refilled_read g d;
+      read = let r = refilled_read g d in record { reads = r.reads; prompt = inr r.fills };
       ended = c.refill.ensures.ended ∙ counted_once s.ended c.refill.new.self.ended (g.R.Source.empty_reads c.args.self.now.source.now) (g.R.Source.empty_reads c.loop-piece.self.source.now) going
           (inv.ended ∙ ap (λ (b : Bool). counted (ends_between s.ended b) (g.R.Source.empty_reads c.args.self.now.source.now)) (sym c.next_piece.ensures.ended ∙ c.if-self-2.false));
       stays = λ e. cc;

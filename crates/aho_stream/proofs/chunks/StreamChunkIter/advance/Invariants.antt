@@ -1,14 +1,13 @@
 -- What the loop keeps.
 use Rattle.std.proofs.Common.{◌≡◌, ◌+◌, ◌-◌, true, cond}
 use Rattle.aho_devices.specs.Counts.{counted}
-use Rattle.aho_stream.specs.After.{IsAfter}
-use Rattle.aho_stream.specs.Chunks.{Reads, ends_between}
-use Rattle.aho_stream.proofs.Advanced.{IsUntold}
+use Rattle.aho_stream.specs.Chunks.{ends_between}
+use Rattle.aho_stream.proofs.Advanced.{IsUntold, ReadsPromptly}
 use Rattle.aho_stream.proofs.chunks.StreamChunkIter.advance.Given as goal
 
 -- Over the same automaton and source:
 -- `untold`: nothing was told yet, and the limit was not met;
--- `read`: some bytes were read, and the iterator has come so far with them;
+-- `read`: some bytes were read, once what was settled before had been told, and the iterator has come so far with them;
 -- `ended`, `stays` and `unfailed`: whether the end was seen, and that no read failed.
 abbrev pub invariant-loop-piece : goal.invariant-loop-piece
 invariant-loop-piece g l =
@@ -17,8 +16,7 @@ invariant-loop-piece g l =
       source : l.self.source.ghost_name ≡ l.fn.self.source.ghost_name;
       same : l.self.walk.automaton.now ≡ automaton;
       untold : IsUntold l.fn.self.progress l.self.progress;
-      read : Reads (g.A.Automaton.is_of automaton)
-          (λ p. IsAfter p (g.A.Automaton.lengths automaton) (g.A.Automaton.valid automaton) (g.A.Automaton.held automaton p) (g.A.Automaton.depth automaton))
+      read : ReadsPromptly g.A.Automaton automaton
           l.fn.self.walk.work l.self.walk.work l.fn.self.progress l.self.progress
           (g.R.Source.remaining l.fn.self.source.now) (g.R.Source.remaining l.self.source.now);
       ended : g.R.Source.empty_reads l.self.source.now ≡ counted (ends_between l.fn.self.progress.ended l.self.progress.ended) (g.R.Source.empty_reads l.fn.self.source.now);
