@@ -63,7 +63,7 @@ count_on false true reads stays = refl
 count_on false false reads stays = refl
 
 -- what may follow later may follow now, behind what was given in between
-may_follow : (before after : Bool) (bytes more : List ℕ) → (before ≡ true → bytes ≡ []) → (before ≡ true → after ≡ true) → MayFollow after more → MayFollow before (bytes ++ more)
+pub may_follow : (before after : Bool) (bytes more : List ℕ) → (before ≡ true → bytes ≡ []) → (before ≡ true → after ≡ true) → MayFollow after more → MayFollow before (bytes ++ more)
 may_follow false after bytes more closed stays follows = tt
 may_follow true true bytes more closed stays follows = ap (λ (xs : List ℕ). xs ++ more) (closed refl) ∙ follows
 may_follow true false bytes more closed stays follows = let clash : false ≡ true = stays refl in cc

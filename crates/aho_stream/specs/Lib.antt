@@ -6,5 +6,6 @@ pub mod Iterators
 pub mod Finds
 pub mod Starts
 pub mod Replacing
+pub mod FindRuns
 pub mod StreamRun
 pub mod Counting
