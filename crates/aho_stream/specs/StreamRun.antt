@@ -61,9 +61,9 @@ pub record RunsOver {A R W F : Type 0} (G : Ghosts A) (S : SourceGhosts R) (K : 
       × ((p : Patterns) (bytes : List ℕ) (ms : List Occurrence) → G.is_of automaton p → MayBe given ended bytes → AreFinds p (plain_search bytes) None ms
       → (last : F) × ClosureRun (SinkTakes K stopped) (CallsOn calls) (take place bytes) 0 (starting_before place ms) closure sink (Ok tt) last sink')
 
--- a search of a stream by this automaton begins in this state: it has no empty pattern, and searches that are not anchored
-abbrev pub BeginsAt : {A : Type 0} → Ghosts A → A → ℕ → Type 0
-BeginsAt G automaton sid = (1 ≤ shortest (G.lengths automaton)) × (G.start automaton No ≡ Ok sid)
+-- a stream can be searched by this automaton: it has no empty pattern, and searches that are not anchored
+abbrev pub CanBegin : {A : Type 0} → Ghosts A → A → Type 0
+CanBegin G automaton = (sid : ℕ) × (1 ≤ shortest (G.lengths automaton)) × (G.start automaton No ≡ Ok sid)
 
 -- it is refused for this, and a source and a sink are left as they were
 abbrev pub RefusesUntouched : {R W : Type 0} → Result (Unit {0}) StreamError → StreamError → R → R → W → W → Type 0

@@ -14,7 +14,7 @@ ghost use Rattle.aho_stream.specs.After.{greatest_position, kept_for};
 ghost use Rattle.aho_stream.specs.Iterators.{HasNotBegun, automaton_of};
 ghost use Rattle.aho_stream.specs.Refills.{is_limit};
 ghost use Rattle.aho_stream.specs.Starts.{IsFreshStart};
-ghost use Rattle.aho_stream.specs.StreamRun.{BeginsAt, RefusesUntouched, RunsOver};
+ghost use Rattle.aho_stream.specs.StreamRun.{CanBegin, RefusesUntouched, RunsOver};
 ghost use Rattle.aho_stream.specs.Replacing.{GaveAsMany, IsMakingRefusal, IsStreamFault, WritesBeginning, WritesReplacement, WritesUpTo, chunk_bytes};
 
 use crate::chunks::StreamChunkIter;
@@ -227,7 +227,7 @@ where
     F: FnMut(&Match, &[u8], &mut W) -> Result<(), StreamError>,
     requires of { (p : Patterns) × A.is_of automaton.now p }
     requires callable { F.IsAlwaysCallable replace_with }
-    ensures runs { (sid : ℕ) → BeginsAt A.Automaton automaton.now sid
+    ensures runs { CanBegin A.Automaton automaton.now
         → RefusesUntouched result StreamError.Memory source.old source.new sink.old sink.new
         ⊎ RunsOver A.Automaton R.Source W.Sink automaton.now F.FnMut
         source.old source.new replace_with sink.old result sink.new }
