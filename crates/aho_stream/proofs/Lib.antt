@@ -11,5 +11,6 @@ mod Found
 mod StreamFinds
 mod Countings
 mod Replacings
+pub mod FindRuns
 mod StreamRuns
 mod Runnings
