@@ -1,6 +1,6 @@
 -- Which bytes the first bytes are, and that what is held is a prefilter of the patterns.
-use Rattle.std.proofs.Common.{◌≡◌, ℕ, ◌+◌, ◌<◌, zero, suc, inl, inr, Bool, true, false, cond, List, [], ◌∷◌, ◌++◌, length, refl, sym, subst, ◌∙◌, arith, length-append}
-use Rattle.std.specs.Prelude.{Some, None as Nothing, ◌&&◌, not, nat_eq, nat_le, if◌then◌else◌, slice_index, slice_index_or}
+use Rattle.std.proofs.Common.{◌≡◌, ℕ, ◌<◌, zero, suc, inl, inr, Bool, true, false, cond, List, [], ◌∷◌, ◌++◌, length, refl, sym, subst, ◌∙◌, arith, length-append}
+use Rattle.std.specs.Prelude.{Some, None as Nothing, ◌&&◌, not, nat_eq, if◌then◌else◌, slice_index, slice_index_or}
 use Rattle.std.specs.List.{Contains, flat_map, fold}
 use Rattle.std.proofs.lemmas.Bool.{cases_eq, cases_lt}
 use Rattle.std.proofs.lemmas.Bool.Decides.{nat_tests}

@@ -1,5 +1,5 @@
 -- With which bytes the patterns begin.
-use Rattle.std.specs.Prelude.{ℕ, ◌<◌, Bool, List, [], ◌∷◌, ◌++◌, length, slice_index, nat_eq, if◌then◌else◌}
+use Rattle.std.specs.Prelude.{◌≢◌, ℕ, ◌<◌, Bool, List, [], ◌∷◌, ◌++◌, length, slice_index, nat_eq, if◌then◌else◌}
 use Rattle.std.specs.List.{flat_map, fold, list_any}
 use Rattle.aho_base.specs.Bytes.{IsSameByte, opposite}
 use Rattle.aho_base.specs.Patterns.{Patterns, pattern_at}
@@ -31,3 +31,7 @@ pub record IsFirstOf (p : Patterns) (byte : ℕ) : Type 0 where
   pub numbered : number < length p.words
   pub some : 0 < length (pattern_at p number)
   pub same : IsSameByte p (slice_index (pattern_at p number) 0) byte
+
+-- no byte stands at two places
+abbrev pub IsEachOnce : List ℕ → Type 0
+IsEachOnce bytes = (i j : ℕ) → i < j → j < length bytes → slice_index bytes i ≢ slice_index bytes j
