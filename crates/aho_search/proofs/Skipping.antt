@@ -11,7 +11,7 @@ use Rattle.aho_base.specs.Patterns.{Patterns}
 use Rattle.aho_prefilter.specs.Candidate.{IsCandidate, IsWholeMatch, NoneStartsBefore, NothingOccurs, place_of}
 use Rattle.aho_prefilter.specs.declared.prefilter.Candidate.{Candidate}
 use Rattle.aho_prefilter.proofs.Skips.{IsCandidate-place, IsCandidate-nothing, NoneStartsBefore-nothing, IsWholeMatch-sooner}
-use Rattle.aho_search.specs.Walked.{Carries}
+use Rattle.aho_search.specs.WalkEnds.{Carries}
 use Rattle.aho_search.proofs.Origins.{skipped}
 use Rattle.aho_search.proofs.Walks.{Standing}
 

@@ -1,7 +1,5 @@
 -- What the steps of an overlapping search promise.
-use Rattle.std.specs.Prelude.{◌≡◌, ℕ, ◌+◌, ◌-◌, ◌*◌, ◌<◌, ◌≤◌, min, Bool, false, List, [], ◌∷◌, length, Option, Some, None, Result, Ok, slice_get, slice_index}
-use Rattle.std.specs.Iterator.{YieldsThen}
-use Rattle.std.specs.List.{All}
+use Rattle.std.specs.Prelude.{◌≡◌, ℕ, ◌+◌, ◌-◌, ◌*◌, ◌<◌, ◌≤◌, min, Bool, false, List, [], length, Option, Some, None, Result, Ok, slice_get, slice_index}
 use Rattle.aho_base.specs.declared.error.MatchErrorKind.{MatchErrorKind}
 use Rattle.aho_base.specs.declared.search.Anchored.{Anchored}
 use Rattle.aho_base.specs.declared.search.Anchored.TheVariants.{No, Yes}
@@ -22,9 +20,9 @@ abbrev pub NoneEnds : Patterns → Search → ℕ → ℕ → Type 0
 NoneEnds p search from upto = (end : ℕ) → from < end → end < upto → listed_at p search end ≡ []
 
 -- from a place the search comes to a later one, or to the end of its span, and nothing that is listed ends on the way
-abbrev pub WalksOn : (ℕ → Type 0) → (Anchored → List ℕ → ℕ → Type 0) → Patterns → Search → ℕ → Option (ℕ × ℕ) → Type 0
-WalksOn valid held p search at None = NoneEnds p search at (search.end + 1)
-WalksOn valid held p search at (Some (sid, place)) = (at < place) × StandsAt valid held p search sid place × NoneEnds p search at place
+abbrev pub WalksToPlace : (ℕ → Type 0) → (Anchored → List ℕ → ℕ → Type 0) → Patterns → Search → ℕ → Option (ℕ × ℕ) → Type 0
+WalksToPlace valid held p search at None = NoneEnds p search at (search.end + 1)
+WalksToPlace valid held p search at (Some (sid, place)) = (at < place) × StandsAt valid held p search sid place × NoneEnds p search at place
 
 -- nor on the way to where it skips, with the same state
 abbrev pub SkipsTo : (ℕ → Type 0) → (Anchored → List ℕ → ℕ → Type 0) → Patterns → Search → ℕ → ℕ → Option ℕ → Type 0
@@ -55,17 +53,8 @@ pub record CanGive {A : Type 0} (is_of : A → Patterns → Type 0) (kind : A �
   pub fits : (p : Patterns) × (n : ℕ) × is_of automaton p × FitsSearch (valid automaton) (held automaton p) p search progress n
 
 -- a call of `next`: from a state that fits the search with n found it gives the one numbered n, or none where all were found
-pub record GivesNext {A : Type 0} (is_of : A → Patterns → Type 0) (valid : A → ℕ → Type 0) (held : A → Patterns → Anchored → List ℕ → ℕ → Type 0) (automaton : A) (search : Search) (progress : Progress) (given : Option Occurrence) (automaton' : A) (search' : Search) (progress' : Progress) : Type 0 where
+pub record GivesOverlapping {A : Type 0} (is_of : A → Patterns → Type 0) (valid : A → ℕ → Type 0) (held : A → Patterns → Anchored → List ℕ → ℕ → Type 0) (automaton : A) (search : Search) (progress : Progress) (given : Option Occurrence) (automaton' : A) (search' : Search) (progress' : Progress) : Type 0 where
   pub same_automaton : automaton' ≡ automaton
   pub same_search : search' ≡ search
   pub given_is : (p : Patterns) (n : ℕ) → is_of automaton p → FitsSearch (valid automaton) (held automaton p) p search progress n → given ≡ slice_get (overlapping p search) n
   pub fits : (p : Patterns) (n : ℕ) → is_of automaton p → FitsSearch (valid automaton) (held automaton p) p search progress n → FitsSearch (valid automaton) (held automaton p) p search progress' (min (n + 1) (length (overlapping p search)))
-
--- calls of `next` gave these, one after another
-abbrev pub Gives : {S A : Type 0} → (S → Option A → S → Type 0) → S → List (Option A) → S → Type 0
-Gives steps s [] t = s ≡ t
-Gives {S} steps s (given ∷ rest) t = (after : S) × steps s given after × Gives steps after rest t
-
--- once a call gave none, every later one gives none
-abbrev pub IsFused : {S A : Type 0} → (S → Option A → S → Type 0) → S → Type 0
-IsFused {S} {A} steps s = (ms : List A) (u t : S) (rest : List (Option A)) → YieldsThen steps s ms None u → Gives steps u rest t → All (λ given. given ≡ None) rest

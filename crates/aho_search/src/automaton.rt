@@ -32,7 +32,7 @@ ghost use Rattle.aho_base.specs.Steps.{GoesOn, IsPaid};
 ghost use Rattle.aho_prefilter.specs.Prefilter.{IsPrefilterOf};
 ghost use Rattle.aho_prefilter.specs.declared.prefilter.Searcher.{Searcher};
 ghost use Rattle.aho_search.specs.Finding.{AreFirstFinds};
-ghost use Rattle.aho_search.specs.Overlaps.{IsFused};
+ghost use Rattle.aho_search.specs.Fused.{IsFused};
 
 pub use crate::find::find_in;
 pub use crate::iter::FindIter;
@@ -277,6 +277,7 @@ pub trait Automaton {
         ensures bound { IfOk result (λ it.
             UpTo (⟦<FindIter<'a, 'h, Self> as Iterator>⟧.remaining it)
             (input.entry.end + 1 - input.entry.start)) }
+        ensures fused { IfOk result (IsFused ⟦<FindIter<'a, 'h, Self> as Iterator>⟧.next_gives) }
         ensures error { IfErr result (λ reason. start self.now input.entry.anchored ≡ Err reason) }
         ensures ok { (sid : ℕ) → start self.now input.entry.anchored ≡ Ok sid → IsOk result }
     {

@@ -7,6 +7,7 @@ ghost use Rattle.aho_base.specs.Answer.{IsAnswer};
 ghost use Rattle.aho_base.specs.Iteration.{AreFinds, IsNextFind};
 ghost use Rattle.aho_base.specs.Occurrence.{Occurrence};
 ghost use Rattle.aho_base.specs.Patterns.{Patterns};
+ghost use Rattle.aho_search.specs.Fused.{IsFused};
 ghost use Rattle.aho_search.specs.Finding.{AreFirstFinds, GivesNext, last_after, places_left, search_after};
 
 use crate::automaton::Automaton;
@@ -49,6 +50,7 @@ impl<'a, 'h, A: Automaton> FindIter<'a, 'h, A> {
         ensures bound { IfOk result (λ it.
             UpTo (⟦<FindIter<'a, 'h, A> as Iterator>⟧.remaining it)
             (input.entry.end + 1 - input.entry.start)) }
+        ensures fused { IfOk result (IsFused ⟦<FindIter<'a, 'h, A> as Iterator>⟧.next_gives) }
         ensures error { IfErr result (λ reason.
             A.start automaton.entry.now input.entry.anchored ≡ Err reason) }
         ensures ok { (sid : ℕ) → A.start automaton.entry.now input.entry.anchored ≡ Ok sid →

@@ -29,7 +29,7 @@ ghost use Rattle.aho_base.specs.declared.error.MatchErrorKind.{MatchErrorKind};
 ghost use Rattle.aho_base.specs.declared.error.MatchErrorKind.TheVariants.{UnsupportedOverlapping};
 ghost use Rattle.aho_base.specs.declared.search.Anchored.TheVariants.{No};
 ghost use Rattle.aho_base.specs.declared.search.MatchKind.TheVariants.{Standard};
-ghost use Rattle.aho_search.specs.Overlaps.{CanGive, GivesNext, SkipsTo, WalksOn, ended, ends_at, left, left_at};
+ghost use Rattle.aho_search.specs.Overlaps.{CanGive, GivesOverlapping, SkipsTo, WalksToPlace, ended, ends_at, left, left_at};
 
 use crate::automaton::Automaton;
 use crate::find::{PATIENCE, patience_after};
@@ -136,7 +136,7 @@ fn walk_to<A: Automaton>(
         × StandsAt (A.valid automaton.now) (A.held automaton.now p) p input.now sid at }
     ensures walks { (p : Patterns) → A.is_of automaton.now p
         → StandsAt (A.valid automaton.now) (A.held automaton.now p) p input.now sid at
-        → WalksOn (A.valid automaton.now) (A.held automaton.now p) p input.now at result }
+        → WalksToPlace (A.valid automaton.now) (A.held automaton.now p) p input.now at result }
     ensures lists { may_wait ≡ false
         → IfSome result (λ next. 0 < length (A.list automaton.now next.0)) }
 {
@@ -222,7 +222,7 @@ fn walk_on<A: Automaton>(
         × StandsAt (A.valid automaton.now) (A.held automaton.now p) p input.now sid at }
     ensures walks { (p : Patterns) → A.is_of automaton.now p
         → StandsAt (A.valid automaton.now) (A.held automaton.now p) p input.now sid at
-        → WalksOn (A.valid automaton.now) (A.held automaton.now p) p input.now at result }
+        → WalksToPlace (A.valid automaton.now) (A.held automaton.now p) p input.now at result }
     ensures lists { IfSome result (λ next. 0 < length (A.list automaton.now next.0)) }
 {
     let (mut sid, mut at) = (sid, at);
@@ -392,7 +392,7 @@ impl<'a, 'h, A: Automaton> Iterator for FindOverlappingIter<'a, 'h, A> {
     ghost can_next = { λ it. CanGive A.is_of A.kind A.start A.valid A.held it.automaton.now it.input
         it.state };
 
-    ghost next_gives = { λ it given after. GivesNext A.is_of A.valid A.held it.automaton.now
+    ghost next_gives = { λ it given after. GivesOverlapping A.is_of A.valid A.held it.automaton.now
         it.input it.state given after.automaton.now after.input after.state };
 
     ghost remaining = { λ it.
