@@ -15,10 +15,6 @@ use Rattle.aho_search.specs.WalkEnds.{Carries}
 use Rattle.aho_search.proofs.Origins.{skipped}
 use Rattle.aho_search.proofs.Walks.{Standing}
 
--- at the span's start
-pub Carries-start : (p : Patterns) (haystack : List ℕ) (start end : ℕ) → Carries p haystack start end start
-Carries-start p haystack start end place none = none
-
 -- nothing was found from the origin on, and the state is a start: the part from here on carries
 pub Carries-skipped : (p : Patterns) (haystack : List ℕ) (start end origin at sid : ℕ) (kind : MatchKind) (lengths : List ℕ) (held : Anchored → List ℕ → ℕ → Type 0) (list : ℕ → List ℕ) (dead starts : ℕ → Bool)
     → Reads p kind lengths held list dead starts

@@ -3,4 +3,5 @@ pub mod Clones
 pub mod Finding
 pub mod Fused
 pub mod Overlaps
+pub mod Standing
 pub mod WalkEnds

@@ -46,7 +46,7 @@ ghost use Rattle.aho_base.specs.Search.{search_of};
 ghost use Rattle.aho_base.specs.declared.error.MatchErrorKind.{MatchErrorKind};
 ghost use Rattle.aho_base.specs.declared.search.Anchored.TheVariants.{No, Yes};
 ghost use Rattle.aho_prefilter.specs.Candidate.{IsCandidate};
-ghost use Rattle.aho_search.specs.Reading.{ReadsUpTo};
+ghost use Rattle.aho_search.specs.Reading.{ReadsLongest, ReadsNear, ReadsUpTo};
 ghost use Rattle.aho_search.specs.WalkEnds.{AnswersSearch, WaitsFor, WaitsOnlyIf, WaitsWithin};
 ghost use Rattle.aho_search.specs.declared.find.WalkEnd.TheVariants.{Answer};
 
@@ -157,10 +157,9 @@ fn find_from<W: Walk, T: Text>(
     ensures once { T.reads text.new - T.reads text.old ≤ T.next text.new - span.start }
     ensures read { ReadsUpTo (T.next text.old) (T.next text.new) span.end }
     ensures near { anchored ≡ No → (m : Occurrence) → result ≡ Answer (Some m) →
-        ReadsUpTo (T.next text.old) (T.next text.new)
-        (furthest (W.Of.kind (W.of walk.old)) earliest (W.Of.lengths (W.of walk.old)) m) }
-    ensures anchored_near { anchored ≡ Yes → ReadsUpTo (T.next text.old) (T.next text.new)
-        (span.start + longest (W.Of.lengths (W.of walk.old)) + 1) }
+        ReadsNear W.Of.Automaton (W.of walk.old) T.Text text.old text.new earliest m }
+    ensures anchored_near { anchored ≡ Yes →
+        ReadsLongest W.Of.Automaton (W.of walk.old) T.Text text.old text.new span.start }
 {
     let Span { start, end } = span;
     let stops = stops_at_first(walk, earliest);
@@ -257,8 +256,7 @@ fn find_skipping<W: Walk, T: Text>(
     ensures once { T.reads text.new - T.reads text.old ≤ T.next text.new - span.start }
     ensures read { ReadsUpTo (T.next text.old) (T.next text.new) span.end }
     ensures near { (m : Occurrence) → result ≡ Some m →
-        ReadsUpTo (T.next text.old) (T.next text.new)
-        (furthest (W.Of.kind (W.of walk.old)) earliest (W.Of.lengths (W.of walk.old)) m) }
+        ReadsNear W.Of.Automaton (W.of walk.old) T.Text text.old text.new earliest m }
 {
     let Span { start, end } = span;
     let mut at = start;
@@ -333,10 +331,9 @@ pub fn find_in<W: Walk, T: Text>(
     // pattern.
     ensures read { ReadsUpTo (T.next text.old) (T.next text.new) span.end }
     ensures near { anchored ≡ No → (m : Occurrence) → result ≡ Ok (Some m) →
-        ReadsUpTo (T.next text.old) (T.next text.new)
-        (furthest (W.Of.kind (W.of walk.old)) earliest (W.Of.lengths (W.of walk.old)) m) }
-    ensures anchored_near { anchored ≡ Yes → ReadsUpTo (T.next text.old) (T.next text.new)
-        (span.start + longest (W.Of.lengths (W.of walk.old)) + 1) }
+        ReadsNear W.Of.Automaton (W.of walk.old) T.Text text.old text.new earliest m }
+    ensures anchored_near { anchored ≡ Yes →
+        ReadsLongest W.Of.Automaton (W.of walk.old) T.Text text.old text.new span.start }
 
     // A search that is refused or done reads nothing and looks nothing up.
     ensures refused_unread { IfErr result (λ reason. T.next text.new ≡ T.next text.old) }
