@@ -4,4 +4,5 @@
 
 pub mod error;
 pub mod impls;
+pub mod letters;
 pub mod search;

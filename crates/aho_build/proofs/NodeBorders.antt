@@ -3,7 +3,7 @@ use Rattle.std.proofs.Common.{◌≡◌, ℕ, ◌+◌, ◌<◌, Bool, true, ◌&
 use Rattle.std.proofs.lemmas.Bool.{eqb-true, eq-eqb, or_cases, or_left, or_right, and_from}
 use Rattle.std.proofs.lemmas.List.{get_or-map, get_or_append_left, get_or_push, length-map, length-append, length_push}
 use Rattle.std.proofs.lemmas.List.Folds.{list_any_at}
-use Rattle.aho_base.specs.Bytes.{folded}
+use Rattle.aho_base.specs.Bytes.{folded, folded_by}
 use Rattle.aho_base.specs.Patterns.{Patterns, pattern_at}
 use Rattle.aho_base.specs.Trie.{is_kept, is_node, pattern_word}
 use Rattle.aho_laws.specs.TrieLaws.{BeginsKept}
@@ -11,7 +11,6 @@ use Rattle.aho_laws.proofs.Begins.{any-from}
 use Rattle.aho_laws.proofs.Kept.{is_node-reads}
 use Rattle.aho_table.specs.Alphabet.{HasItsEdges}
 use Rattle.aho_build.specs.Dense.{HasBorders, has_byte, is_parted_by}
-use Rattle.aho_build.specs.TrieGrowth.{folded_by}
 use Rattle.aho_build.specs.Trie.{longer}
 
 word_is : (p : Patterns) (k : ℕ) → pattern_word p k ≡ map (folded p) (pattern_at p k)

@@ -10,7 +10,8 @@ use Rattle.aho_table.specs.Alphabet.{class_count, is_border}
 use Rattle.aho_table.specs.Table.{State}
 use Rattle.aho_build.specs.Sizes.{nodes, states_size, transitions_size, matches_size}
 use Rattle.aho_build.specs.Trie.{HoldsFirst}
-use Rattle.aho_build.specs.TrieGrowth.{folded_by, IsNumbered}
+use Rattle.aho_base.specs.Bytes.{folded_by}
+use Rattle.aho_build.specs.TrieGrowth.{IsNumbered}
 use Rattle.aho_build.specs.declared.settings.Settings.{Settings}
 
 -- whether the word has the byte, by the case rule

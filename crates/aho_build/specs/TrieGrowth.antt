@@ -1,6 +1,7 @@
 -- How the trie grows: by one state, by the bytes of one pattern, by one pattern, and from the four first states.
-use Rattle.std.specs.Prelude.{Bool, List, MatchBool, None, Option, Some, [], false, if◌then◌else◌, length, nat_eq, nat_le, not, sum_by, take, true, ℕ, ◌&&◌, ◌+◌, ◌-◌, ◌<◌, ◌≡◌, ◌≢◌, ◌≤◌, ◌⊎◌}
+use Rattle.std.specs.Prelude.{Bool, List, MatchBool, None, Option, Some, [], false, if◌then◌else◌, length, nat_eq, not, sum_by, take, true, ℕ, ◌&&◌, ◌+◌, ◌<◌, ◌≡◌, ◌≢◌, ◌≤◌, ◌⊎◌}
 use Rattle.std.specs.List.{All}
+use Rattle.aho_base.specs.Bytes.{folded_by, opposite}
 use Rattle.aho_base.specs.Among.{own_among}
 use Rattle.aho_base.specs.Bytes.{folded_word}
 use Rattle.aho_base.specs.Patterns.{Patterns, pattern_at}
@@ -15,17 +16,6 @@ use Rattle.aho_build.specs.Sizes.{kept_before, nodes_before, nodes_with, transit
 use Rattle.aho_build.specs.StateNames.{name_at}
 use Rattle.aho_build.specs.Trie.{HoldsFirst, HoldsWith, names_of}
 use Rattle.aho_build.specs.declared.settings.Settings.{Settings}
-
--- the other case of an ASCII letter, and every other byte itself
-abbrev pub opposite : ℕ → ℕ
-opposite byte =
-    if nat_le 65 byte && nat_le byte 90 then byte + 32
-    else if nat_le 97 byte && nat_le byte 122 then byte - 32
-    else byte
-
--- a byte as it is compared, by the case rule alone
-abbrev pub folded_by : Bool → ℕ → ℕ
-folded_by ignore_case byte = if ignore_case && (nat_le 65 byte && nat_le byte 90) then byte + 32 else byte
 
 -- the change of a table by one more state, to which a state leads by a byte and, under the case rule, by its other case
 pub record Grows (ignore_case : Bool) (parent byte depth : ℕ) (old new : List State) : Type 0 where

@@ -18,12 +18,6 @@ IsBefore-trans Standard x y z p q = grind arith
 IsBefore-trans LeftmostFirst x y z p q = grind arith
 IsBefore-trans LeftmostLongest x y z p q = grind arith
 
--- what is not before another comes at or after it
-pub IsBefore-weak : (kind : MatchKind) (x y z : Occurrence) → (IsBefore kind x y → ⊥) → (IsBefore kind y z → ⊥) → IsBefore kind x z → ⊥
-IsBefore-weak Standard x y z p q h = grind arith
-IsBefore-weak LeftmostFirst x y z p q h = grind arith
-IsBefore-weak LeftmostLongest x y z p q h = grind arith
-
 -- two occurrences of which neither is before the other have one start and one number
 pub IsBefore-tie : (kind : MatchKind) (x y : Occurrence) → (IsBefore kind x y → ⊥) → (IsBefore kind y x → ⊥) → (x.start ≡ y.start) × (x.pattern ≡ y.pattern)
 IsBefore-tie Standard x y p q = (grind arith, grind arith)

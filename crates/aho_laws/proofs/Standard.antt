@@ -22,12 +22,6 @@ use Rattle.aho_base.specs.Order.{IsBefore}
 use Rattle.aho_base.specs.Patterns.{Patterns}
 use Rattle.aho_base.specs.Trie.{is_kept, pattern_word}
 
--- the kind that is not leftmost
-pub standard_kind : (kind : MatchKind) → is_leftmost kind ≡ false → kind ≡ Standard
-standard_kind Standard h = refl
-standard_kind LeftmostFirst h = cc
-standard_kind LeftmostLongest h = cc
-
 -- of two it prefers the one that ends first, and at one end the one that starts first, then the lesser number
 pub before_end : (kind : MatchKind) (m n : Occurrence) → is_leftmost kind ≡ false → m.end < n.end → IsBefore kind m n
 before_end Standard m n h lt = inl lt

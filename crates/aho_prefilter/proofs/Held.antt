@@ -1,14 +1,15 @@
 -- Which bytes the first bytes are, and that what is held is a prefilter of the patterns.
-use Rattle.std.proofs.Common.{◌≡◌, ℕ, ◌+◌, ◌<◌, zero, suc, inl, inr, Bool, true, false, cond, List, [], ◌∷◌, ◌++◌, length, refl, sym, subst, ◌∙◌, arith, length-append}
-use Rattle.std.specs.Prelude.{Some, None as Nothing, ◌&&◌, not, nat_eq, nat_le, if◌then◌else◌, slice_index, slice_index_or}
+use Rattle.std.proofs.Common.{◌≡◌, ℕ, ◌<◌, zero, suc, inl, inr, Bool, true, false, cond, List, [], ◌∷◌, ◌++◌, length, refl, sym, subst, ◌∙◌, arith, length-append}
+use Rattle.std.specs.Prelude.{Some, None as Nothing, ◌&&◌, not, nat_eq, if◌then◌else◌, slice_index, slice_index_or}
 use Rattle.std.specs.List.{Contains, flat_map, fold}
 use Rattle.std.proofs.lemmas.Bool.{cases_eq, cases_lt}
 use Rattle.std.proofs.lemmas.Bool.Decides.{nat_tests}
 use Rattle.std.proofs.lemmas.List.Elements.{Contains-append_left, Contains-append_right, Contains-push}
 use Rattle.std.proofs.lemmas.List.Folds.{list_any_at}
 use Rattle.aho_base.specs.declared.search.MatchKind.{MatchKind}
+use Rattle.aho_base.specs.Bytes.{folded_by, opposite}
 use Rattle.aho_base.specs.Patterns.{Patterns, pattern_at}
-use Rattle.aho_prefilter.specs.FirstBytes.{begins_by, cases_of, first_bytes, has_byte, other_case, with_byte}
+use Rattle.aho_prefilter.specs.FirstBytes.{begins_by, cases_of, first_bytes, has_byte, with_byte}
 use Rattle.aho_prefilter.specs.Inside.{few, few_of, search_for_few, whole_of}
 use Rattle.aho_prefilter.specs.Prefilter.{AllBeginWithin, BeginsWithin, IsOnlyPattern, IsPrefilterOf, has_empty, held_for, is_empty, is_searched_whole, search_for, with_word}
 use Rattle.aho_prefilter.specs.declared.prefilter.Searcher.{Searcher}
@@ -66,20 +67,16 @@ first_bytes-has p k byte below has =
     fold-has (flat_map (begins_by p.ignore_case) p.words) [] byte
     (flat_map-has (begins_by p.ignore_case) p.words k byte below has)
 
--- a byte as it is compared, by the case rule alone
-abbrev pub folded_by : Bool → ℕ → ℕ
-folded_by ignore_case byte = if ignore_case && (nat_le 65 byte && nat_le byte 90) then byte + 32 else byte
-
 -- what is the same as a byte is the byte or its other case
-other_case-same : (x byte : ℕ) → (x ≡ byte → ⊥) → folded_by true x ≡ folded_by true byte → other_case x ≡ byte
-other_case-same x byte other same = grind (arith, nat_tests)
+opposite-same : (x byte : ℕ) → (x ≡ byte → ⊥) → folded_by true x ≡ folded_by true byte → opposite x ≡ byte
+opposite-same x byte other same = grind (arith, nat_tests)
 
 pub cases_of-has : (ignore_case : Bool) (x byte : ℕ) → folded_by ignore_case x ≡ folded_by ignore_case byte → Contains (cases_of ignore_case x) byte
 cases_of-has false x byte same = (0, omega arith, same)
 cases_of-has true x byte same =
     elim (cases_eq x byte) [
       | inl equal ↦ (0, omega arith, equal)
-      | inr other ↦ (1, omega arith, other_case-same x byte other same)
+      | inr other ↦ (1, omega arith, opposite-same x byte other same)
     ]
 
 not_empty : (p : Patterns) (k : ℕ) → has_empty p ≡ false → k < length p.words → is_empty (pattern_at p k) ≡ false

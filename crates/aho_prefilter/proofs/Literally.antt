@@ -7,19 +7,20 @@ use Rattle.std.proofs.lemmas.Bool.Decides.{nat_tests}
 use Rattle.std.proofs.Math.Seq.{get_or-append_seam}
 use Rattle.std.proofs.lemmas.List.{get_or_append_left}
 use Rattle.std.proofs.lemmas.List.Elements.{Contains-append_cases}
+use Rattle.aho_base.specs.Bytes.{folded_by, opposite}
 use Rattle.aho_base.specs.Patterns.{Patterns, pattern_at}
-use Rattle.aho_prefilter.specs.FirstBytes.{IsFirstOf, begins_by, cases_of, first_bytes, has_byte, other_case, with_byte}
-use Rattle.aho_prefilter.proofs.Held.{cases_of-has, first_bytes-has, folded_by}
+use Rattle.aho_prefilter.specs.FirstBytes.{IsFirstOf, begins_by, cases_of, first_bytes, has_byte, with_byte}
+use Rattle.aho_prefilter.proofs.Held.{cases_of-has, first_bytes-has}
 
 -- the byte and its other case are the same
-other_case-folded : (x : ℕ) → folded_by true x ≡ folded_by true (other_case x)
-other_case-folded x = grind (arith, nat_tests)
+opposite-folded : (x : ℕ) → folded_by true x ≡ folded_by true (opposite x)
+opposite-folded x = grind (arith, nat_tests)
 
 cases_of-only : (ignore_case : Bool) (x byte : ℕ) → Contains (cases_of ignore_case x) byte → folded_by ignore_case x ≡ folded_by ignore_case byte
 cases_of-only false x byte (zero, below, e) = e
 cases_of-only false x byte (suc k, below, e) = absurd (omega arith)
 cases_of-only true x byte (zero, below, e) = ap (folded_by true) e
-cases_of-only true x byte (suc zero, below, e) = other_case-folded x ∙ ap (folded_by true) e
+cases_of-only true x byte (suc zero, below, e) = opposite-folded x ∙ ap (folded_by true) e
 cases_of-only true x byte (suc (suc k), below, e) = absurd (omega arith)
 
 -- a byte that was added was there or is the new one

@@ -1,5 +1,5 @@
 -- What a prefilter answers for a span of a haystack. All is said of unanchored searches.
-use Rattle.std.specs.Prelude.{ℕ, ◌<◌, ◌≤◌, List, Option, Some, None as Nothing}
+use Rattle.std.specs.Prelude.{ℕ, ◌+◌, ◌<◌, ◌≤◌, List, Option, Some, None as Nothing}
 use Rattle.aho_base.specs.declared.search.Anchored.TheVariants.{No}
 use Rattle.aho_base.specs.Best.{IsBest}
 use Rattle.aho_base.specs.Occurrence.{Occurrence}
@@ -11,6 +11,14 @@ use Rattle.aho_prefilter.specs.declared.prefilter.Candidate.TheVariants.{None, M
 -- whatever occurs in the span starts at this place or later
 abbrev pub NoneStartsBefore : Patterns → List ℕ → ℕ → ℕ → ℕ → Type 0
 NoneStartsBefore p haystack start end place = (m : Occurrence) → Occurs p No haystack start end m → place ≤ m.start
+
+-- nothing starts in the span, at its end neither
+abbrev pub NoneStarts : Patterns → List ℕ → ℕ → ℕ → Type 0
+NoneStarts p haystack start end = NoneStartsBefore p haystack start end (end + 1)
+
+-- whatever occurs in the span starts at this place of it or later
+abbrev pub AllStartFrom : Patterns → List ℕ → ℕ → ℕ → ℕ → Type 0
+AllStartFrom p haystack start end place = (start ≤ place) × (place ≤ end) × NoneStartsBefore p haystack start end place
 
 -- nothing occurs in the span
 abbrev pub NothingOccurs : Patterns → List ℕ → ℕ → ℕ → Type 0

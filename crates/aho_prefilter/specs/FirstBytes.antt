@@ -1,19 +1,12 @@
 -- With which bytes the patterns begin.
-use Rattle.std.specs.Prelude.{ℕ, ◌+◌, ◌-◌, ◌<◌, ◌&&◌, Bool, List, [], ◌∷◌, ◌++◌, length, slice_index, nat_eq, nat_le, if◌then◌else◌}
+use Rattle.std.specs.Prelude.{◌≢◌, ℕ, ◌<◌, Bool, List, [], ◌∷◌, ◌++◌, length, slice_index, nat_eq, if◌then◌else◌}
 use Rattle.std.specs.List.{flat_map, fold, list_any}
-use Rattle.aho_base.specs.Bytes.{IsSameByte}
+use Rattle.aho_base.specs.Bytes.{IsSameByte, opposite}
 use Rattle.aho_base.specs.Patterns.{Patterns, pattern_at}
-
--- the other case of an ASCII letter, and every other byte itself
-abbrev pub other_case : ℕ → ℕ
-other_case byte =
-    if nat_le 65 byte && nat_le byte 90 then byte + 32
-    else if nat_le 97 byte && nat_le byte 122 then byte - 32
-    else byte
 
 -- the byte and, under the case rule, its other case
 abbrev pub cases_of : Bool → ℕ → List ℕ
-cases_of ignore_case byte = if ignore_case then byte ∷ other_case byte ∷ [] else byte ∷ []
+cases_of ignore_case byte = if ignore_case then byte ∷ opposite byte ∷ [] else byte ∷ []
 
 -- the bytes with which a word begins: none, if it is empty
 abbrev pub begins_by : Bool → List ℕ → List ℕ
@@ -38,3 +31,7 @@ pub record IsFirstOf (p : Patterns) (byte : ℕ) : Type 0 where
   pub numbered : number < length p.words
   pub some : 0 < length (pattern_at p number)
   pub same : IsSameByte p (slice_index (pattern_at p number) 0) byte
+
+-- no byte stands at two places
+abbrev pub IsEachOnce : List ℕ → Type 0
+IsEachOnce bytes = (i j : ℕ) → i < j → j < length bytes → slice_index bytes i ≢ slice_index bytes j

@@ -3,6 +3,7 @@ use Rattle.std.specs.Prelude.{◌≡◌, ℕ, ◌<◌, Bool, true, false, not, �
 use Rattle.std.specs.List.{Contains, list_any}
 use Rattle.aho_base.specs.Bytes.{IsSameByte}
 use Rattle.aho_base.specs.Patterns.{Patterns, pattern_at}
+use Rattle.aho_base.specs.declared.search.MatchKind.{MatchKind}
 use Rattle.aho_prefilter.specs.FirstBytes.{first_bytes}
 use Rattle.aho_prefilter.specs.declared.prefilter.Searcher.{Searcher}
 use Rattle.aho_prefilter.specs.declared.prefilter.Searcher.TheVariants.{Memmem, Memchr, Memchr2, Memchr3}
@@ -79,3 +80,7 @@ held_for p =
 -- the patterns with one more behind them
 abbrev pub with_word : Patterns → List ℕ → Patterns
 with_word p word = record p { words = p.words ++ word ∷ [] }
+
+-- the patterns under another kind
+abbrev pub under : MatchKind → Patterns → Patterns
+under kind p = record p { kind = kind }

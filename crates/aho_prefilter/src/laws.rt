@@ -9,60 +9,58 @@ ghost use Rattle.aho_base.specs.Patterns.{Patterns};
 ghost use Rattle.aho_base.specs.Search.{search_of};
 ghost use Rattle.aho_base.specs.declared.search.Anchored.TheVariants.{No};
 ghost use Rattle.aho_base.specs.declared.search.MatchKind.{MatchKind};
-ghost use Rattle.aho_prefilter.specs.Candidate.{IsCandidate, IsWholeMatch, NoneStartsBefore, NothingOccurs, place_of};
-ghost use Rattle.aho_prefilter.specs.FirstBytes.{IsFirstOf, first_bytes};
-ghost use Rattle.aho_prefilter.specs.Prefilter.{IsPrefilterOf, held_for};
+ghost use Rattle.aho_prefilter.specs.Candidate.{AllStartFrom, IsCandidate, IsWholeMatch, NoneStarts, NoneStartsBefore, NothingOccurs, place_of};
+ghost use Rattle.aho_prefilter.specs.FirstBytes.{IsEachOnce, IsFirstOf, first_bytes};
+ghost use Rattle.aho_prefilter.specs.Prefilter.{IsPrefilterOf, held_for, under};
 ghost use Rattle.aho_prefilter.specs.declared.prefilter.Candidate.{Candidate};
 ghost use Rattle.aho_prefilter.specs.declared.prefilter.Searcher.{Searcher};
 
 /// Whatever a candidate is, each match of the span starts at the place that it tells or later; and where it tells none,
 /// there is no match.
 pub fn candidates_tell_where()
-    ensures place { (p : Patterns) (haystack : List ℕ) (start end place : ℕ) (candidate : Candidate)
-        → IsCandidate p haystack start end candidate → place_of candidate ≡ Some place
-        → (start ≤ place) × (place ≤ end) × NoneStartsBefore p haystack start end place }
-    ensures nothing { (p : Patterns) (haystack : List ℕ) (start end : ℕ) (candidate : Candidate)
-        → IsCandidate p haystack start end candidate → place_of candidate ≡ None
-        → NothingOccurs p haystack start end }
+    ensures place { (p : Patterns) (bytes : List ℕ) (start end place : ℕ) (candidate : Candidate)
+        → IsCandidate p bytes start end candidate → place_of candidate ≡ Some place
+        → AllStartFrom p bytes start end place }
+    ensures nothing { (p : Patterns) (bytes : List ℕ) (start end : ℕ) (candidate : Candidate)
+        → IsCandidate p bytes start end candidate → place_of candidate ≡ None
+        → NothingOccurs p bytes start end }
 {}
 
 /// A candidate that is a match answers an unanchored search that does not ask for the earliest; one that is none answers
 /// each unanchored search.
 pub fn candidates_answer()
-    ensures whole { (p : Patterns) (haystack : List ℕ) (start end : ℕ) (m : Occurrence)
-        → IsWholeMatch p haystack start end m
-        → IsAnswer p (search_of haystack (record { start = start; end = end }) No false) (Some m) }
-    ensures nothing { (p : Patterns) (haystack : List ℕ) (start end : ℕ) (earliest : Bool)
-        → NothingOccurs p haystack start end
-        → IsAnswer p (search_of haystack (record { start = start; end = end }) No earliest) None }
+    ensures whole { (p : Patterns) (bytes : List ℕ) (start end : ℕ) (m : Occurrence)
+        → IsWholeMatch p bytes start end m
+        → IsAnswer p (search_of bytes (record { start = start; end = end }) No false) (Some m) }
+    ensures nothing { (p : Patterns) (bytes : List ℕ) (start end : ℕ) (earliest : Bool)
+        → NothingOccurs p bytes start end
+        → IsAnswer p (search_of bytes (record { start = start; end = end }) No earliest) None }
 {}
 
 /// What a later part of a span tells of the whole span, where no match of the span starts before.
 pub fn candidates_of_a_later_part()
     // A match that is the best of the part is the best of the span.
-    ensures whole { (p : Patterns) (haystack : List ℕ) (start later end : ℕ) (m : Occurrence)
-        → start ≤ later → NoneStartsBefore p haystack start end m.start
-        → IsWholeMatch p haystack later end m → IsWholeMatch p haystack start end m }
+    ensures whole { (p : Patterns) (bytes : List ℕ) (start later end : ℕ) (m : Occurrence)
+        → start ≤ later → NoneStartsBefore p bytes start end m.start
+        → IsWholeMatch p bytes later end m → IsWholeMatch p bytes start end m }
     // Where none starts in the span, there is none.
-    ensures nothing { (p : Patterns) (haystack : List ℕ) (start end : ℕ)
-        → NoneStartsBefore p haystack start end (end + 1) → NothingOccurs p haystack start end }
+    ensures nothing { (p : Patterns) (bytes : List ℕ) (start end : ℕ)
+        → NoneStarts p bytes start end → NothingOccurs p bytes start end }
 {}
 
 /// What is held for some patterns is a prefilter of them, and neither depends on their kind.
 pub fn held_serves_each_kind()
-    ensures of { (p : Patterns) (searcher : Searcher)
-        → held_for p ≡ Some searcher → IsPrefilterOf searcher p }
+    ensures of { (p : Patterns) (search : Searcher)
+        → held_for p ≡ Some search → IsPrefilterOf search p }
     ensures held { (p : Patterns) (kind : MatchKind)
-        → held_for (record p { kind = kind }) ≡ held_for p }
-    ensures served { (p : Patterns) (kind : MatchKind) (searcher : Searcher)
-        → IsPrefilterOf searcher p → IsPrefilterOf searcher (record p { kind = kind }) }
+        → held_for (under kind p) ≡ held_for p }
+    ensures served { (p : Patterns) (kind : MatchKind) (search : Searcher)
+        → IsPrefilterOf search p → IsPrefilterOf search (under kind p) }
 {}
 
 /// The first bytes are those that are the same as the first byte of some pattern, each of them once.
 pub fn first_bytes_read_literally()
     ensures members { (p : Patterns) (byte : ℕ)
         → (Contains (first_bytes p) byte ↔ IsFirstOf p byte) }
-    ensures once { (p : Patterns) (i j : ℕ)
-        → i < j → j < length (first_bytes p)
-        → slice_index (first_bytes p) i ≢ slice_index (first_bytes p) j }
+    ensures once { (p : Patterns) → IsEachOnce (first_bytes p) }
 {}

@@ -1,6 +1,7 @@
 //! Prefilters: quick searches for a place where a match may start.
 #![tactic(auto)]
 
+pub mod impls;
 pub mod laws;
 pub mod prefilter;
 pub mod text;

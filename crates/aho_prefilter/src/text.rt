@@ -17,6 +17,9 @@ pub trait Text {
     /// The first place that may still be read.
     ghost next: { Self → ℕ };
 
+    /// How many bytes it has handed out.
+    ghost reads: { Self → ℕ };
+
     /// How many bytes the text has, those that were read among them.
     fn len(&self) -> usize
         ensures len { result ≡ length (bytes self.now) };
@@ -27,7 +30,8 @@ pub trait Text {
         requires unread { next self.old ≤ at }
         ensures read { result ≡ slice_index (bytes self.old) at }
         ensures same { bytes self.new ≡ bytes self.old }
-        ensures passed { next self.new ≡ at + 1 };
+        ensures passed { next self.new ≡ at + 1 }
+        ensures counted { reads self.new ≡ reads self.old + 1 };
 
     /// What a prefilter answers for a span, whatever of it was read. What the prefilter reads stays unread for `byte`.
     fn candidate(&self, prefilter: &Prefilter, span: Span) -> Candidate
@@ -43,6 +47,8 @@ pub trait Text {
 pub struct Bytes<'h> {
     haystack: &'h [u8],
     next: usize,
+    reads: usize,
+    ghost few: { reads ≤ next },
 }
 
 impl<'h> Bytes<'h> {
@@ -50,8 +56,20 @@ impl<'h> Bytes<'h> {
     pub fn new(haystack: &'h [u8]) -> Bytes<'h>
         ensures bytes { ⟦<Bytes<'h> as Text>⟧.bytes result ≡ haystack.entry.now }
         ensures unread { ⟦<Bytes<'h> as Text>⟧.next result ≡ 0 }
+        ensures none { ⟦<Bytes<'h> as Text>⟧.reads result ≡ 0 }
     {
-        Bytes { haystack, next: 0 }
+        Bytes {
+            haystack,
+            next: 0,
+            reads: 0,
+        }
+    }
+
+    /// How many bytes it has handed out.
+    pub fn reads(&self) -> usize
+        ensures reads { result ≡ ⟦<Bytes<'h> as Text>⟧.reads self.now }
+    {
+        self.reads
     }
 }
 
@@ -60,12 +78,15 @@ impl<'h> Text for Bytes<'h> {
 
     ghost next = { λ t. t.next };
 
+    ghost reads = { λ t. t.reads };
+
     fn len(&self) -> usize {
         self.haystack.len()
     }
 
     fn byte(&mut self, at: usize) -> u8 {
         self.next = at + 1;
+        self.reads += 1;
         self.haystack[at]
     }
 

@@ -13,7 +13,8 @@ use Rattle.aho_base.specs.Overlapping.{overlapping}
 use Rattle.aho_base.specs.Patterns.{Patterns}
 use Rattle.aho_base.specs.Progress.{FitsBy, FitsSearch, Progress, fresh}
 use Rattle.aho_base.specs.Search.{Search}
-use Rattle.aho_search.specs.Overlaps.{Gives, GivesNext}
+use Rattle.aho_search.specs.Fused.{CallsGive}
+use Rattle.aho_search.specs.Overlaps.{GivesOverlapping}
 
 drop-next : {X : Type 0} (xs : List X) (n : ℕ) (x : X) → slice_get xs n ≡ Some x → drop n xs ≡ x ∷ drop (n + 1) xs
 drop-next [] n x is = cc
@@ -54,7 +55,7 @@ module _ {S : Type 0} (steps : S → Option Occurrence → S → Type 0) (Fit : 
       ap (λ (xs : List Occurrence). m ∷ xs) rest ∙ sym (ap (take (suc (length ms))) (drop-next all n m (sym next.0)))
 
   -- and then each call gives none
-  pub rests : (given : List (Option Occurrence)) (s t : S) → Fit s (length all) → Gives steps s given t → All (λ (o : Option Occurrence). o ≡ None) given
+  pub rests : (given : List (Option Occurrence)) (s t : S) → Fit s (length all) → CallsGive steps s given t → All (λ (o : Option Occurrence). o ≡ None) given
   rests [] s t fits calls = All-nil (λ (o : Option Occurrence). o ≡ None)
   rests (o ∷ given) s t fits calls =
       let next = step s calls.0 o (length all) calls.1 fits in
@@ -80,10 +81,10 @@ module _ {A : Type 0} (is_of : A → Patterns → Type 0) (valid : A → ℕ →
       by_kind LeftmostFirst = refl
       by_kind LeftmostLongest = refl
 
-  pub step_over : is_of automaton p → (a a' : A) (s s' : Search) (progress progress' : Progress) (given : Option Occurrence) (n : ℕ) → GivesNext is_of valid held a s progress given a' s' progress' → FitsOver a s progress n
+  pub step_over : is_of automaton p → (a a' : A) (s s' : Search) (progress progress' : Progress) (given : Option Occurrence) (n : ℕ) → GivesOverlapping is_of valid held a s progress given a' s' progress' → FitsOver a s progress n
       → (given ≡ slice_get (overlapping p search) n) × FitsOver a' s' progress' (min (n + 1) (length (overlapping p search)))
   step_over of a a' s s' progress progress' given n gives fits =
-      let here : GivesNext is_of valid held automaton search progress given a' s' progress' =
-      subst (λ (x : Search). GivesNext is_of valid held automaton x progress given a' s' progress') fits.same_search
-      (subst (λ (x : A). GivesNext is_of valid held x s progress given a' s' progress') fits.same_automaton gives) in
+      let here : GivesOverlapping is_of valid held automaton search progress given a' s' progress' =
+      subst (λ (x : Search). GivesOverlapping is_of valid held automaton x progress given a' s' progress') fits.same_search
+      (subst (λ (x : A). GivesOverlapping is_of valid held x s progress given a' s' progress') fits.same_automaton gives) in
       (here.given_is p n of fits.fits, record { same_automaton = here.same_automaton; same_search = here.same_search; fits = here.fits p n of fits.fits })

@@ -1,12 +1,16 @@
 -- One call of `next` after another gives the finds.
-use Rattle.std.proofs.Common.{◌≡◌, List, [], ◌∷◌, Option, None, sym, subst, true}
+use Rattle.std.proofs.Common.{◌≡◌, ◌<◌, List, [], ◌∷◌, Option, None, sym, arith, subst, true}
 use Rattle.std.specs.Iterator.{Yields}
 use Rattle.std.specs.Iterator.Runs.{Run, YieldsRun}
+use Rattle.std.specs.List.{All}
+use Rattle.std.proofs.lemmas.List.Elements.{All-cons, All-nil}
 use Rattle.aho_base.specs.Iteration.{AreFinds, IsNextFind}
 use Rattle.aho_base.specs.Occurrence.{Occurrence}
 use Rattle.aho_base.specs.Patterns.{Patterns}
 use Rattle.aho_search.specs.declared.iter.FindIter.{FindIter}
+use Rattle.aho_base.specs.Search.{Search}
 use Rattle.aho_search.specs.Finding.{AreFirstFinds, GivesNext}
+use Rattle.aho_search.specs.Fused.{CallsGive, IsFused}
 
 -- a call of `next` gives the next find, and leaves the iterator to go on after it
 abbrev find_steps : {A : Type 0} → (A → Patterns → Type 0) → FindIter A → Option Occurrence → FindIter A → Type 0
@@ -36,3 +40,19 @@ module _ {A : Type 0} (is_of : A → Patterns → Type 0) (p : Patterns) where
   pub run-first_finds : (run : Run (find_steps is_of)) → is_of run.from.automaton.now p → AreFirstFinds p run.from.input run.from.last_match_end run.items
   unfolding YieldsRun
   run-first_finds run of = yielded-first_finds run.items run.from run.gave.0.0 of run.gave.0.1
+
+module _ {A : Type 0} (is_of : A → Patterns → Type 0) where
+  -- after a call that gave none the search is done
+  done-after_none : (it rest : FindIter A) → find_steps is_of it None rest → rest.input.end < rest.input.start
+  done-after_none it rest step = subst (λ (s : Search). s.end < s.start) (sym step.1.goes_on) (omega arith)
+
+  -- and of a search that is done each call gives none
+  done-gives_none : (given : List (Option Occurrence)) (it last : FindIter A) → it.input.end < it.input.start → CallsGive (find_steps is_of) it given last → All (λ (o : Option Occurrence). o ≡ None) given
+  done-gives_none [] it last done calls = All-nil (λ (o : Option Occurrence). o ≡ None)
+  done-gives_none (o ∷ given) it last done calls =
+      let none : o ≡ None = calls.1.1.done done in
+      All-cons (λ (x : Option Occurrence). x ≡ None) o given none
+      (done-gives_none given calls.0 last (done-after_none it calls.0 (subst (λ (x : Option Occurrence). find_steps is_of it x calls.0) none calls.1)) calls.2)
+
+  pub finds-fused : (it : FindIter A) → IsFused (find_steps is_of) it
+  finds-fused it ms after last given yielded calls = done-gives_none given after last (done-after_none yielded.0 after yielded.2) calls

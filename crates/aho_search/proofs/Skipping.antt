@@ -11,13 +11,9 @@ use Rattle.aho_base.specs.Patterns.{Patterns}
 use Rattle.aho_prefilter.specs.Candidate.{IsCandidate, IsWholeMatch, NoneStartsBefore, NothingOccurs, place_of}
 use Rattle.aho_prefilter.specs.declared.prefilter.Candidate.{Candidate}
 use Rattle.aho_prefilter.proofs.Skips.{IsCandidate-place, IsCandidate-nothing, NoneStartsBefore-nothing, IsWholeMatch-sooner}
-use Rattle.aho_search.specs.Walked.{Carries}
+use Rattle.aho_search.specs.WalkEnds.{Carries}
 use Rattle.aho_search.proofs.Origins.{skipped}
 use Rattle.aho_search.proofs.Walks.{Standing}
-
--- at the span's start
-pub Carries-start : (p : Patterns) (haystack : List ℕ) (start end : ℕ) → Carries p haystack start end start
-Carries-start p haystack start end place none = none
 
 -- nothing was found from the origin on, and the state is a start: the part from here on carries
 pub Carries-skipped : (p : Patterns) (haystack : List ℕ) (start end origin at sid : ℕ) (kind : MatchKind) (lengths : List ℕ) (held : Anchored → List ℕ → ℕ → Type 0) (list : ℕ → List ℕ) (dead starts : ℕ → Bool)

@@ -1,14 +1,19 @@
 -- What an iterator over matches has before and after it gives the next one.
-use Rattle.std.specs.Prelude.{◌≡◌, ℕ, suc, ◌+◌, ◌-◌, ◌<◌, Bool, false, nat_eq, cond, List, [], ◌∷◌, Option, Some, None}
-use Rattle.aho_base.specs.Iteration.{IsNextFind}
+use Rattle.std.specs.Prelude.{◌≡◌, ℕ, suc, ◌+◌, ◌-◌, ◌<◌, Bool, true, false, nat_eq, cond, List, [], ◌∷◌, Option, Some, None}
+use Rattle.std.specs.Iterator.Runs.{EachRunFrom}
+use Rattle.aho_base.specs.Iteration.{AreFinds, IsNextFind}
 use Rattle.aho_base.specs.Occurrence.{Occurrence}
 use Rattle.aho_base.specs.Patterns.{Patterns}
-use Rattle.aho_base.specs.Search.{Search}
+use Rattle.aho_base.specs.Search.{Search, plain_search}
 
 -- after a match the search goes on where it ended; after none it is done
 abbrev pub search_after : Search → Option Occurrence → Search
 search_after search None = record search { start = suc search.end }
 search_after search (Some m) = record search { start = m.end }
+
+-- the same search from one place further on
+abbrev pub from_next_place : Search → Search
+from_next_place search = record search { start = suc search.start }
 
 -- where the last match ended, once this was given
 abbrev pub last_after : Option ℕ → Option Occurrence → Option ℕ
@@ -36,3 +41,19 @@ pub record GivesNext (IsOf : Patterns → Type 0) (search : Search) (last : Opti
 abbrev pub AreFirstFinds : Patterns → Search → Option ℕ → List Occurrence → Type 0
 AreFirstFinds p search last [] = Unit {0}
 AreFirstFinds p search last (m ∷ ms) = IsNextFind p search last (Some m) × AreFirstFinds p (record search { start = m.end }) (Some m.end) ms
+
+-- an iterator whose calls give these gives all finds of the search, once it has come to its end
+abbrev pub GivesFinds : {S : Type 0} → (S → Option Occurrence → S → Type 0) → Patterns → Search → S → Type 0
+GivesFinds gives p search it = EachRunFrom gives it (λ run. run.whole ≡ true → AreFinds p search None run.items)
+
+-- and at any time the first of them
+abbrev pub GivesFirstFinds : {S : Type 0} → (S → Option Occurrence → S → Type 0) → Patterns → Search → S → Type 0
+GivesFirstFinds gives p search it = EachRunFrom gives it (λ run. AreFirstFinds p search None run.items)
+
+-- the places of a span, its end among them
+abbrev pub places : Search → ℕ
+places search = search.end + 1 - search.start
+
+-- so it is of the finds of a haystack, whatever patterns the automaton is of
+abbrev pub HoldsOfFinds : (Patterns → Type 0) → List ℕ → (List Occurrence → Type 0) → Type 0
+HoldsOfFinds is_of haystack Holds = (p : Patterns) (ms : List Occurrence) → is_of p → AreFinds p (plain_search haystack) None ms → Holds ms

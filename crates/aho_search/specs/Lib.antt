@@ -1,5 +1,7 @@
 pub mod Reading
 pub mod Clones
 pub mod Finding
+pub mod Fused
 pub mod Overlaps
-pub mod Walked
+pub mod Standing
+pub mod WalkEnds

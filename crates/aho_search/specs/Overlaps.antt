@@ -1,16 +1,15 @@
 -- What the steps of an overlapping search promise.
-use Rattle.std.specs.Prelude.{◌≡◌, ℕ, ◌+◌, ◌-◌, ◌*◌, ◌<◌, ◌≤◌, min, Bool, false, List, [], ◌∷◌, length, Option, Some, None, Result, Ok, slice_get, slice_index}
-use Rattle.std.specs.Iterator.{YieldsThen}
-use Rattle.std.specs.List.{All}
+use Rattle.std.specs.Prelude.{◌≡◌, ℕ, ◌+◌, ◌-◌, ◌*◌, ◌<◌, ◌≤◌, min, Bool, true, false, List, [], length, Option, Some, None, Result, Ok, Err, IfOk, take, slice_get, slice_index}
+use Rattle.std.specs.Iterator.Runs.{EachRunFrom}
 use Rattle.aho_base.specs.declared.error.MatchErrorKind.{MatchErrorKind}
 use Rattle.aho_base.specs.declared.search.Anchored.{Anchored}
 use Rattle.aho_base.specs.declared.search.Anchored.TheVariants.{No, Yes}
 use Rattle.aho_base.specs.declared.search.MatchKind.{MatchKind}
 use Rattle.aho_base.specs.declared.search.MatchKind.TheVariants.{Standard}
 use Rattle.aho_base.specs.Occurrence.{Occurrence, occurrence}
-use Rattle.aho_base.specs.Overlapping.{overlapping}
+use Rattle.aho_base.specs.Overlapping.{all_occurrences, overlapping}
 use Rattle.aho_base.specs.Patterns.{Patterns}
-use Rattle.aho_base.specs.Progress.{FitsSearch, Progress, StandsAt, listed_at}
+use Rattle.aho_base.specs.Progress.{FitsSearch, Progress, StandsAt, listed_at, without_match}
 use Rattle.aho_base.specs.Search.{Search}
 
 -- the match of a pattern that ends at a place
@@ -22,9 +21,9 @@ abbrev pub NoneEnds : Patterns → Search → ℕ → ℕ → Type 0
 NoneEnds p search from upto = (end : ℕ) → from < end → end < upto → listed_at p search end ≡ []
 
 -- from a place the search comes to a later one, or to the end of its span, and nothing that is listed ends on the way
-abbrev pub WalksOn : (ℕ → Type 0) → (Anchored → List ℕ → ℕ → Type 0) → Patterns → Search → ℕ → Option (ℕ × ℕ) → Type 0
-WalksOn valid held p search at None = NoneEnds p search at (search.end + 1)
-WalksOn valid held p search at (Some (sid, place)) = (at < place) × StandsAt valid held p search sid place × NoneEnds p search at place
+abbrev pub WalksToPlace : (ℕ → Type 0) → (Anchored → List ℕ → ℕ → Type 0) → Patterns → Search → ℕ → Option (ℕ × ℕ) → Type 0
+WalksToPlace valid held p search at None = NoneEnds p search at (search.end + 1)
+WalksToPlace valid held p search at (Some (sid, place)) = (at < place) × StandsAt valid held p search sid place × NoneEnds p search at place
 
 -- nor on the way to where it skips, with the same state
 abbrev pub SkipsTo : (ℕ → Type 0) → (Anchored → List ℕ → ℕ → Type 0) → Patterns → Search → ℕ → ℕ → Option ℕ → Type 0
@@ -55,17 +54,42 @@ pub record CanGive {A : Type 0} (is_of : A → Patterns → Type 0) (kind : A �
   pub fits : (p : Patterns) × (n : ℕ) × is_of automaton p × FitsSearch (valid automaton) (held automaton p) p search progress n
 
 -- a call of `next`: from a state that fits the search with n found it gives the one numbered n, or none where all were found
-pub record GivesNext {A : Type 0} (is_of : A → Patterns → Type 0) (valid : A → ℕ → Type 0) (held : A → Patterns → Anchored → List ℕ → ℕ → Type 0) (automaton : A) (search : Search) (progress : Progress) (given : Option Occurrence) (automaton' : A) (search' : Search) (progress' : Progress) : Type 0 where
+pub record GivesOverlapping {A : Type 0} (is_of : A → Patterns → Type 0) (valid : A → ℕ → Type 0) (held : A → Patterns → Anchored → List ℕ → ℕ → Type 0) (automaton : A) (search : Search) (progress : Progress) (given : Option Occurrence) (automaton' : A) (search' : Search) (progress' : Progress) : Type 0 where
   pub same_automaton : automaton' ≡ automaton
   pub same_search : search' ≡ search
   pub given_is : (p : Patterns) (n : ℕ) → is_of automaton p → FitsSearch (valid automaton) (held automaton p) p search progress n → given ≡ slice_get (overlapping p search) n
   pub fits : (p : Patterns) (n : ℕ) → is_of automaton p → FitsSearch (valid automaton) (held automaton p) p search progress n → FitsSearch (valid automaton) (held automaton p) p search progress' (min (n + 1) (length (overlapping p search)))
 
--- calls of `next` gave these, one after another
-abbrev pub Gives : {S A : Type 0} → (S → Option A → S → Type 0) → S → List (Option A) → S → Type 0
-Gives steps s [] t = s ≡ t
-Gives {S} steps s (given ∷ rest) t = (after : S) × steps s given after × Gives steps after rest t
+-- an iterator whose calls give these lists all occurrences of the span, once it has come to its end
+abbrev pub ListsAll : {S : Type 0} → (S → Option Occurrence → S → Type 0) → Patterns → Search → S → Type 0
+ListsAll gives p search it =
+    EachRunFrom gives it (λ run. run.whole ≡ true → run.items ≡ all_occurrences p search.haystack search.start search.end)
 
--- once a call gave none, every later one gives none
-abbrev pub IsFused : {S A : Type 0} → (S → Option A → S → Type 0) → S → Type 0
-IsFused {S} {A} steps s = (ms : List A) (u t : S) (rest : List (Option A)) → YieldsThen steps s ms None u → Gives steps u rest t → All (λ given. given ≡ None) rest
+-- and at any time the first of them
+abbrev pub ListsFirst : {S : Type 0} → (S → Option Occurrence → S → Type 0) → Patterns → Search → S → Type 0
+ListsFirst gives p search it =
+    EachRunFrom gives it (λ run. run.items ≡ take run.len (all_occurrences p search.haystack search.start search.end))
+
+-- the state fits the search, whatever was found
+abbrev pub FitsSome : (Patterns → Type 0) → (ℕ → Type 0) → (Patterns → Anchored → List ℕ → ℕ → Type 0) → Search → Progress → Type 0
+FitsSome is_of valid held search progress = (p : Patterns) × (n : ℕ) × is_of p × FitsSearch valid (held p) p search progress n
+
+-- from a state that fits the search with n found a call finds the match numbered n, or none where all were found
+abbrev pub FindsNext : (Patterns → Type 0) → (ℕ → Type 0) → (Patterns → Anchored → List ℕ → ℕ → Type 0) → Search → Progress → Progress → Result (Unit {0}) MatchErrorKind → Type 0
+FindsNext is_of valid held search old new result =
+    (p : Patterns) (n : ℕ) → is_of p → FitsSearch valid (held p) p search old n → IfOk result (λ _. new.mat ≡ slice_get (overlapping p search) n)
+
+-- and then it fits with one more found
+abbrev pub FitsNext : (Patterns → Type 0) → (ℕ → Type 0) → (Patterns → Anchored → List ℕ → ℕ → Type 0) → Search → Progress → Progress → Result (Unit {0}) MatchErrorKind → Type 0
+FitsNext is_of valid held search old new result =
+    (p : Patterns) (n : ℕ) → is_of p → FitsSearch valid (held p) p search old n
+    → IfOk result (λ _. FitsSearch valid (held p) p search new (min (n + 1) (length (overlapping p search))))
+
+-- where no search has begun, a start that is refused refuses a search that is not done
+abbrev pub RefusesFirst : MatchKind → (Anchored → Result ℕ MatchErrorKind) → Search → Progress → Result (Unit {0}) MatchErrorKind → Type 0
+RefusesFirst kind start search old result =
+    (reason : MatchErrorKind) → kind ≡ Standard → old.id ≡ None → search.start ≤ search.end → start search.anchored ≡ Err reason → result ≡ Err reason
+
+-- what is found in a span that starts above its end: nothing, and only the last match is forgotten
+abbrev pub FindsNone : Progress → Progress → Result (Unit {0}) MatchErrorKind → Type 0
+FindsNone old new result = (result ≡ Ok tt) × (new ≡ without_match old)

@@ -31,8 +31,9 @@ ghost use Rattle.aho_base.specs.declared.search.MatchKind.TheVariants.{Standard}
 ghost use Rattle.aho_base.specs.Steps.{GoesOn, IsPaid};
 ghost use Rattle.aho_prefilter.specs.Prefilter.{IsPrefilterOf};
 ghost use Rattle.aho_prefilter.specs.declared.prefilter.Searcher.{Searcher};
-ghost use Rattle.aho_search.specs.Finding.{AreFirstFinds};
-ghost use Rattle.aho_search.specs.Overlaps.{IsFused};
+ghost use Rattle.aho_search.specs.Finding.{GivesFinds, GivesFirstFinds, HoldsOfFinds, places};
+ghost use Rattle.aho_search.specs.Fused.{IsFused};
+ghost use Rattle.aho_search.specs.Overlaps.{FindsNext, FindsNone, FitsNext, FitsSome, ListsAll, ListsFirst, RefusesFirst};
 
 pub use crate::find::find_in;
 pub use crate::iter::FindIter;
@@ -268,15 +269,13 @@ pub trait Automaton {
         requires of { (p : Patterns) × is_of self.now p }
         ensures ready { IfOk result (λ it.
             ⟦<FindIter<'a, 'h, Self> as Iterator>⟧.can_next it) }
-        ensures finds { (p : Patterns) → is_of self.now p → IfOk result (λ it.
-            EachRunFrom ⟦<FindIter<'a, 'h, Self> as Iterator>⟧.next_gives it (λ run.
-            run.whole ≡ true → AreFinds p input.entry None run.items)) }
-        ensures first { (p : Patterns) → is_of self.now p → IfOk result (λ it.
-            EachRunFrom ⟦<FindIter<'a, 'h, Self> as Iterator>⟧.next_gives it (λ run.
-            AreFirstFinds p input.entry None run.items)) }
-        ensures bound { IfOk result (λ it.
-            UpTo (⟦<FindIter<'a, 'h, Self> as Iterator>⟧.remaining it)
-            (input.entry.end + 1 - input.entry.start)) }
+        ensures finds { (p : Patterns) → is_of self.now p → IfOk result
+            (GivesFinds ⟦<FindIter<'a, 'h, Self> as Iterator>⟧.next_gives p input.entry) }
+        ensures first { (p : Patterns) → is_of self.now p → IfOk result
+            (GivesFirstFinds ⟦<FindIter<'a, 'h, Self> as Iterator>⟧.next_gives p input.entry) }
+        ensures bound { IfOk result (λ it. UpTo
+            (⟦<FindIter<'a, 'h, Self> as Iterator>⟧.remaining it) (places input.entry)) }
+        ensures fused { IfOk result (IsFused ⟦<FindIter<'a, 'h, Self> as Iterator>⟧.next_gives) }
         ensures error { IfErr result (λ reason. start self.now input.entry.anchored ≡ Err reason) }
         ensures ok { (sid : ℕ) → start self.now input.entry.anchored ≡ Ok sid → IsOk result }
     {
@@ -304,29 +303,24 @@ pub trait Automaton {
     ) -> Result<(), MatchError>
     where
         Self: Sized,
-        requires fits { (p : Patterns) × (n : ℕ) × is_of self.now p
-            × FitsSearch (valid self.now) (held self.now p) p input.now state.old n }
+        requires fits { FitsSome (is_of self.now) (valid self.now) (held self.now) input.now
+            state.old }
         ensures unsupported { kind self.now ≢ Standard
             → result ≡ Err (UnsupportedOverlapping (kind self.now)) }
         ensures error { kind self.now ≡ Standard
             → IfErr result (λ reason. start self.now input.now.anchored ≡ Err reason) }
         ensures ok { (sid : ℕ) → kind self.now ≡ Standard
             → start self.now input.now.anchored ≡ Ok sid → IsOk result }
-        ensures refused { (reason : MatchErrorKind) → kind self.now ≡ Standard
-            → state.old.id ≡ None → input.now.start ≤ input.now.end
-            → start self.now input.now.anchored ≡ Err reason → result ≡ Err reason }
+        ensures refused { RefusesFirst (kind self.now) (start self.now) input.now state.old result }
         ensures begun { (sid : ℕ) → kind self.now ≡ Standard → state.old.id ≡ Some sid
             → IsOk result }
         ensures cleared { IfErr result (λ _. state.new ≡ without_match state.old) }
         ensures done { kind self.now ≡ Standard → input.now.end < input.now.start
-            → (result ≡ Ok tt) × (state.new ≡ without_match state.old) }
-        ensures found { (p : Patterns) (n : ℕ) → is_of self.now p
-            → FitsSearch (valid self.now) (held self.now p) p input.now state.old n
-            → IfOk result (λ _. state.new.mat ≡ slice_get (overlapping p input.now) n) }
-        ensures fits { (p : Patterns) (n : ℕ) → is_of self.now p
-            → FitsSearch (valid self.now) (held self.now p) p input.now state.old n
-            → IfOk result (λ _. FitsSearch (valid self.now) (held self.now p) p input.now state.new
-            (min (n + 1) (length (overlapping p input.now)))) }
+            → FindsNone state.old state.new result }
+        ensures found { FindsNext (is_of self.now) (valid self.now) (held self.now) input.now
+            state.old state.new result }
+        ensures fits { FitsNext (is_of self.now) (valid self.now) (held self.now) input.now
+            state.old state.new result }
     {
         find_overlapping(self, input, state)
     }
@@ -358,15 +352,11 @@ pub trait Automaton {
             → IfOk result ⟦<FindOverlappingIter<'a, 'h, Self> as Iterator>⟧.can_next }
         ensures bound { IfOk result (λ it.
             UpTo (⟦<FindOverlappingIter<'a, 'h, Self> as Iterator>⟧.remaining it)
-            (length (lengths self.now) * (input.entry.end + 1 - input.entry.start))) }
-        ensures lists { (p : Patterns) → is_of self.now p → IfOk result (λ it.
-            EachRunFrom ⟦<FindOverlappingIter<'a, 'h, Self> as Iterator>⟧.next_gives it (λ run.
-            run.whole ≡ true → run.items
-            ≡ all_occurrences p input.entry.haystack input.entry.start input.entry.end)) }
-        ensures first { (p : Patterns) → is_of self.now p → IfOk result (λ it.
-            EachRunFrom ⟦<FindOverlappingIter<'a, 'h, Self> as Iterator>⟧.next_gives it (λ run.
-            run.items ≡ take run.len
-            (all_occurrences p input.entry.haystack input.entry.start input.entry.end))) }
+            (length (lengths self.now) * places input.entry)) }
+        ensures lists { (p : Patterns) → is_of self.now p → IfOk result
+            (ListsAll ⟦<FindOverlappingIter<'a, 'h, Self> as Iterator>⟧.next_gives p input.entry) }
+        ensures first { (p : Patterns) → is_of self.now p → IfOk result
+            (ListsFirst ⟦<FindOverlappingIter<'a, 'h, Self> as Iterator>⟧.next_gives p input.entry) }
         ensures fused { (p : Patterns) → is_of self.now p
             → IfOk result (IsFused ⟦<FindOverlappingIter<'a, 'h, Self> as Iterator>⟧.next_gives) }
     {
@@ -399,10 +389,9 @@ pub trait Automaton {
         Self: Sized,
         requires of { (p : Patterns) × is_of self.now p }
         requires one_each { length replace_with.now ≡ length (lengths self.now) }
-        ensures replaced { (p : Patterns) (ms : List Occurrence) → is_of self.now p →
-            AreFinds p (plain_search haystack.now) None ms →
+        ensures replaced { HoldsOfFinds (is_of self.now) haystack.now (λ ms.
             IfOk result (λ text. string_bytes text ≡
-            replaced haystack.now (on_boundaries haystack.now ms) (pieces_of replace_with.now)) }
+            replaced haystack.now (on_boundaries haystack.now ms) (pieces_of replace_with.now))) }
         ensures refused { (reason : MatchErrorKind) → start self.now No ≡ Err reason →
             result ≡ Err (ReplaceError.Match reason) }
         ensures error { (reason : MatchErrorKind) → result ≡ Err (ReplaceError.Match reason) →
@@ -432,10 +421,9 @@ pub trait Automaton {
         Self: Sized,
         requires of { (p : Patterns) × is_of self.now p }
         requires one_each { length replace_with.now ≡ length (lengths self.now) }
-        ensures replaced { (p : Patterns) (ms : List Occurrence) → is_of self.now p →
-            AreFinds p (plain_search haystack.now) None ms →
+        ensures replaced { HoldsOfFinds (is_of self.now) haystack.now (λ ms.
             IfOk result (λ bytes. vec_items bytes ≡
-            replaced haystack.now ms (pieces_of replace_with.now)) }
+            replaced haystack.now ms (pieces_of replace_with.now))) }
         ensures refused { (reason : MatchErrorKind) → start self.now No ≡ Err reason →
             result ≡ Err (ReplaceError.Match reason) }
         ensures error { (reason : MatchErrorKind) → result ≡ Err (ReplaceError.Match reason) →
@@ -470,15 +458,13 @@ pub trait Automaton {
         F: FnMut(&Match, &str, &mut String) -> Result<bool, AllocError>,
         requires of { (p : Patterns) × is_of self.now p }
         requires callable { F.IsAlwaysCallable replace_with }
-        ensures run { (p : Patterns) (ms : List Occurrence) → is_of self.now p →
-            AreFinds p (plain_search haystack.now) None ms →
+        ensures run { HoldsOfFinds (is_of self.now) haystack.now (λ ms.
             OnOk result (RunsInMemory F.FnMut string_bytes haystack.now
-            (on_boundaries haystack.now ms) replace_with dst.old (Ok tt) dst.new) }
-        ensures stopped { (p : Patterns) (ms : List Occurrence) → is_of self.now p →
-            AreFinds p (plain_search haystack.now) None ms →
+            (on_boundaries haystack.now ms) replace_with dst.old (Ok tt) dst.new)) }
+        ensures stopped { HoldsOfFinds (is_of self.now) haystack.now (λ ms.
             result ≡ Err ReplaceError.Memory →
             RunsInMemory F.FnMut string_bytes haystack.now
-            (on_boundaries haystack.now ms) replace_with dst.old (Err alloc_error) dst.new }
+            (on_boundaries haystack.now ms) replace_with dst.old (Err alloc_error) dst.new) }
         ensures refused { (reason : MatchErrorKind) → start self.now No ≡ Err reason →
             result ≡ Err (ReplaceError.Match reason) }
         ensures error { (reason : MatchErrorKind) → result ≡ Err (ReplaceError.Match reason) →
@@ -511,15 +497,13 @@ pub trait Automaton {
         F: FnMut(&Match, &[u8], &mut Vec<u8>) -> Result<bool, AllocError>,
         requires of { (p : Patterns) × is_of self.now p }
         requires callable { F.IsAlwaysCallable replace_with }
-        ensures run { (p : Patterns) (ms : List Occurrence) → is_of self.now p →
-            AreFinds p (plain_search haystack.now) None ms →
+        ensures run { HoldsOfFinds (is_of self.now) haystack.now (λ ms.
             OnOk result (RunsInMemory F.FnMut vec_items haystack.now
-            ms replace_with dst.old (Ok tt) dst.new) }
-        ensures stopped { (p : Patterns) (ms : List Occurrence) → is_of self.now p →
-            AreFinds p (plain_search haystack.now) None ms →
+            ms replace_with dst.old (Ok tt) dst.new)) }
+        ensures stopped { HoldsOfFinds (is_of self.now) haystack.now (λ ms.
             result ≡ Err ReplaceError.Memory →
             RunsInMemory F.FnMut vec_items haystack.now
-            ms replace_with dst.old (Err alloc_error) dst.new }
+            ms replace_with dst.old (Err alloc_error) dst.new) }
         ensures refused { (reason : MatchErrorKind) → start self.now No ≡ Err reason →
             result ≡ Err (ReplaceError.Match reason) }
         ensures error { (reason : MatchErrorKind) → result ≡ Err (ReplaceError.Match reason) →

@@ -46,9 +46,9 @@ ghost use Rattle.aho_base.specs.Search.{search_of};
 ghost use Rattle.aho_base.specs.declared.error.MatchErrorKind.{MatchErrorKind};
 ghost use Rattle.aho_base.specs.declared.search.Anchored.TheVariants.{No, Yes};
 ghost use Rattle.aho_prefilter.specs.Candidate.{IsCandidate};
-ghost use Rattle.aho_search.specs.Reading.{ReadsUpTo};
-ghost use Rattle.aho_search.specs.Walked.{AnswersSearch, WaitsFor, WaitsOnlyIf, WaitsWithin};
-ghost use Rattle.aho_search.specs.declared.find.Walked.TheVariants.{Answer};
+ghost use Rattle.aho_search.specs.Reading.{ReadsLongest, ReadsNear, ReadsUpTo};
+ghost use Rattle.aho_search.specs.WalkEnds.{AnswersSearch, WaitsFor, WaitsOnlyIf, WaitsWithin};
+ghost use Rattle.aho_search.specs.declared.find.WalkEnd.TheVariants.{Answer};
 
 use crate::walk::Walk;
 use aho_base::error::MatchError;
@@ -100,7 +100,7 @@ fn stops_at_first<W: Walk>(walk: &W, earliest: bool) -> bool
 
 /// How a walk ends.
 #[derive(Clone, Copy)]
-enum Walked {
+enum WalkEnd {
     /// With the search's answer.
     Answer(Option<Match>),
     /// At this place, where a start is held and nothing was found.
@@ -129,7 +129,7 @@ fn find_from<W: Walk, T: Text>(
     earliest: bool,
     may_wait: bool,
     mut sid: StateID,
-) -> Walked
+) -> WalkEnd
     requires within { span.end ≤ length (T.bytes text.old) }
     requires ordered { span.start ≤ span.end }
     requires unread { T.next text.old ≤ span.start }
@@ -150,38 +150,41 @@ fn find_from<W: Walk, T: Text>(
     ensures same_walk { W.of walk.new ≡ W.of walk.old }
     ensures same_text { T.bytes text.new ≡ T.bytes text.old }
     ensures cost { W.lookups walk.new ≤ W.lookups walk.old + 2 * (T.next text.new - span.start) }
+    ensures two_a_byte { W.lookups walk.new
+        ≤ W.lookups walk.old + 2 * (T.reads text.new - T.reads text.old) }
     ensures grows { W.lookups walk.old ≤ W.lookups walk.new }
+    ensures reads_grow { T.reads text.old ≤ T.reads text.new }
+    ensures once { T.reads text.new - T.reads text.old ≤ T.next text.new - span.start }
     ensures read { ReadsUpTo (T.next text.old) (T.next text.new) span.end }
     ensures near { anchored ≡ No → (m : Occurrence) → result ≡ Answer (Some m) →
-        ReadsUpTo (T.next text.old) (T.next text.new)
-        (furthest (W.Of.kind (W.of walk.old)) earliest (W.Of.lengths (W.of walk.old)) m) }
-    ensures anchored_near { anchored ≡ Yes → ReadsUpTo (T.next text.old) (T.next text.new)
-        (span.start + longest (W.Of.lengths (W.of walk.old)) + 1) }
+        ReadsNear W.Of.Automaton (W.of walk.old) T.Text text.old text.new earliest m }
+    ensures anchored_near { anchored ≡ Yes →
+        ReadsLongest W.Of.Automaton (W.of walk.old) T.Text text.old text.new span.start }
 {
     let Span { start, end } = span;
     let stops = stops_at_first(walk, earliest);
     let mut best = told_at(walk, anchored, sid, start, start);
     if stops && best.is_some() {
-        return Walked::Answer(best);
+        return WalkEnd::Answer(best);
     }
     for at in start..end {
         let byte = text.byte(at);
         sid = walk.step(anchored, sid, byte);
         if walk.is_special(sid) {
             if walk.is_dead(sid) {
-                return Walked::Answer(best);
+                return WalkEnd::Answer(best);
             }
             if let Some(m) = told_at(walk, anchored, sid, start, at + 1) {
                 best = Some(m);
                 if stops {
-                    return Walked::Answer(best);
+                    return WalkEnd::Answer(best);
                 }
             } else if waits_in(walk, may_wait, &best, sid) {
-                return Walked::Waits(at + 1);
+                return WalkEnd::Waits(at + 1);
             }
         }
     }
-    Walked::Answer(best)
+    WalkEnd::Answer(best)
 }
 
 /// Whether a search skips by the automaton's prefilter: no anchored one does.
@@ -242,14 +245,18 @@ fn find_skipping<W: Walk, T: Text>(
         W.Of.held (W.of walk.old) p No [] sid }
     ensures found { (p : Patterns) → W.Of.is_of (W.of walk.old) p →
         IsAnswer p (search_of (T.bytes text.old) span No earliest) result }
+    ensures forward { T.next text.old ≤ T.next text.new }
     ensures same_walk { W.of walk.new ≡ W.of walk.old }
     ensures same_text { T.bytes text.new ≡ T.bytes text.old }
     ensures cost { W.lookups walk.new ≤ W.lookups walk.old + 2 * (T.next text.new - span.start) }
+    ensures two_a_byte { W.lookups walk.new
+        ≤ W.lookups walk.old + 2 * (T.reads text.new - T.reads text.old) }
     ensures grows { W.lookups walk.old ≤ W.lookups walk.new }
+    ensures reads_grow { T.reads text.old ≤ T.reads text.new }
+    ensures once { T.reads text.new - T.reads text.old ≤ T.next text.new - span.start }
     ensures read { ReadsUpTo (T.next text.old) (T.next text.new) span.end }
     ensures near { (m : Occurrence) → result ≡ Some m →
-        ReadsUpTo (T.next text.old) (T.next text.new)
-        (furthest (W.Of.kind (W.of walk.old)) earliest (W.Of.lengths (W.of walk.old)) m) }
+        ReadsNear W.Of.Automaton (W.of walk.old) T.Text text.old text.new earliest m }
 {
     let Span { start, end } = span;
     let mut at = start;
@@ -267,8 +274,8 @@ fn find_skipping<W: Walk, T: Text>(
         patience = patience_after(patience, origin.wrapping_sub(at));
         let (part, may_wait) = (Span { start: origin, end }, patience > 0);
         match find_from(walk, text, part, Anchored::No, earliest, may_wait, sid) {
-            Walked::Answer(found) => return found,
-            Walked::Waits(place) => at = place,
+            WalkEnd::Answer(found) => return found,
+            WalkEnd::Waits(place) => at = place,
         }
     }
 }
@@ -305,21 +312,28 @@ pub fn find_in<W: Walk, T: Text>(
         W.Of.start (W.of walk.old) anchored ≡ Err reason → result ≡ Err reason }
     ensures done { span.end < span.start → result ≡ Ok None }
 
-    // What stays, and what it costs: two look-ups at most for each byte that it passes from the span's start on.
+    // What stays, and what it costs: two look-ups at most for each byte that it reads, and no more reads than it passes
+    // bytes from the span's start on.
     ensures same_walk { W.of walk.new ≡ W.of walk.old }
     ensures same_text { T.bytes text.new ≡ T.bytes text.old }
     ensures cost { W.lookups walk.new ≤ W.lookups walk.old + 2 * (T.next text.new - span.start) }
     ensures cost_of_span { W.lookups walk.new ≤ W.lookups walk.old + 2 * (span.end - span.start) }
+    ensures two_a_byte { W.lookups walk.new
+        ≤ W.lookups walk.old + 2 * (T.reads text.new - T.reads text.old) }
     ensures grows { W.lookups walk.old ≤ W.lookups walk.new }
+    ensures reads_grow { T.reads text.old ≤ T.reads text.new }
+    ensures once { T.reads text.new - T.reads text.old ≤ T.next text.new - span.start }
+
+    // No byte comes again: the place that may be read next never falls.
+    ensures forward { T.next text.old ≤ T.next text.new }
 
     // How far it reads: an unanchored search not far past the match that it finds, an anchored one not far past the longest
     // pattern.
     ensures read { ReadsUpTo (T.next text.old) (T.next text.new) span.end }
     ensures near { anchored ≡ No → (m : Occurrence) → result ≡ Ok (Some m) →
-        ReadsUpTo (T.next text.old) (T.next text.new)
-        (furthest (W.Of.kind (W.of walk.old)) earliest (W.Of.lengths (W.of walk.old)) m) }
-    ensures anchored_near { anchored ≡ Yes → ReadsUpTo (T.next text.old) (T.next text.new)
-        (span.start + longest (W.Of.lengths (W.of walk.old)) + 1) }
+        ReadsNear W.Of.Automaton (W.of walk.old) T.Text text.old text.new earliest m }
+    ensures anchored_near { anchored ≡ Yes →
+        ReadsLongest W.Of.Automaton (W.of walk.old) T.Text text.old text.new span.start }
 
     // A search that is refused or done reads nothing and looks nothing up.
     ensures refused_unread { IfErr result (λ reason. T.next text.new ≡ T.next text.old) }
@@ -335,7 +349,7 @@ pub fn find_in<W: Walk, T: Text>(
         return Ok(find_skipping(walk, text, span, earliest, sid));
     }
     match find_from(walk, text, span, anchored, earliest, false, sid) {
-        Walked::Answer(found) => Ok(found),
-        Walked::Waits(_) => unreachable!(),
+        WalkEnd::Answer(found) => Ok(found),
+        WalkEnd::Waits(_) => unreachable!(),
     }
 }

@@ -7,7 +7,8 @@ ghost use Rattle.aho_base.specs.Answer.{IsAnswer};
 ghost use Rattle.aho_base.specs.Iteration.{AreFinds, IsNextFind};
 ghost use Rattle.aho_base.specs.Occurrence.{Occurrence};
 ghost use Rattle.aho_base.specs.Patterns.{Patterns};
-ghost use Rattle.aho_search.specs.Finding.{AreFirstFinds, GivesNext, last_after, places_left, search_after};
+ghost use Rattle.aho_search.specs.Fused.{IsFused};
+ghost use Rattle.aho_search.specs.Finding.{GivesFinds, GivesFirstFinds, GivesNext, from_next_place, last_after, places, places_left, search_after};
 
 use crate::automaton::Automaton;
 use aho_base::error::MatchError;
@@ -40,15 +41,13 @@ impl<'a, 'h, A: Automaton> FindIter<'a, 'h, A> {
         }) }
         ensures ready { IfOk result (λ it.
             ⟦<FindIter<'a, 'h, A> as Iterator>⟧.can_next it) }
-        ensures finds { (p : Patterns) → A.is_of automaton.entry.now p → IfOk result (λ it.
-            EachRunFrom ⟦<FindIter<'a, 'h, A> as Iterator>⟧.next_gives it (λ run.
-            run.whole ≡ true → AreFinds p input.entry None run.items)) }
-        ensures first { (p : Patterns) → A.is_of automaton.entry.now p → IfOk result (λ it.
-            EachRunFrom ⟦<FindIter<'a, 'h, A> as Iterator>⟧.next_gives it (λ run.
-            AreFirstFinds p input.entry None run.items)) }
-        ensures bound { IfOk result (λ it.
-            UpTo (⟦<FindIter<'a, 'h, A> as Iterator>⟧.remaining it)
-            (input.entry.end + 1 - input.entry.start)) }
+        ensures finds { (p : Patterns) → A.is_of automaton.entry.now p → IfOk result
+            (GivesFinds ⟦<FindIter<'a, 'h, A> as Iterator>⟧.next_gives p input.entry) }
+        ensures first { (p : Patterns) → A.is_of automaton.entry.now p → IfOk result
+            (GivesFirstFinds ⟦<FindIter<'a, 'h, A> as Iterator>⟧.next_gives p input.entry) }
+        ensures bound { IfOk result (λ it. UpTo
+            (⟦<FindIter<'a, 'h, A> as Iterator>⟧.remaining it) (places input.entry)) }
+        ensures fused { IfOk result (IsFused ⟦<FindIter<'a, 'h, A> as Iterator>⟧.next_gives) }
         ensures error { IfErr result (λ reason.
             A.start automaton.entry.now input.entry.anchored ≡ Err reason) }
         ensures ok { (sid : ℕ) → A.start automaton.entry.now input.entry.anchored ≡ Ok sid →
@@ -78,9 +77,9 @@ impl<'a, 'h, A: Automaton> FindIter<'a, 'h, A> {
         requires starts { IsOk (A.start self.old.automaton.now self.old.input.anchored) }
         requires room { self.old.input.start ≤ self.old.input.end }
         ensures found { (p : Patterns) → A.is_of self.old.automaton.now p →
-            IsAnswer p (record self.old.input { start = suc self.old.input.start }) result }
+            IsAnswer p (from_next_place self.old.input) result }
         ensures moved { self.new ≡ record self.old {
-          input = record self.old.input { start = suc self.old.input.start };
+          input = from_next_place self.old.input;
         } }
     {
         let _end = self.input.end();

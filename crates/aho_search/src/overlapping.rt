@@ -29,7 +29,8 @@ ghost use Rattle.aho_base.specs.declared.error.MatchErrorKind.{MatchErrorKind};
 ghost use Rattle.aho_base.specs.declared.error.MatchErrorKind.TheVariants.{UnsupportedOverlapping};
 ghost use Rattle.aho_base.specs.declared.search.Anchored.TheVariants.{No};
 ghost use Rattle.aho_base.specs.declared.search.MatchKind.TheVariants.{Standard};
-ghost use Rattle.aho_search.specs.Overlaps.{CanGive, GivesNext, SkipsTo, WalksOn, ended, ends_at, left, left_at};
+ghost use Rattle.aho_search.specs.Overlaps.{CanGive, FindsNext, FindsNone, FitsNext, FitsSome, GivesOverlapping, RefusesFirst, ended, ends_at, left};
+ghost use Rattle.aho_search.specs.Standing.{FindsFrom, FitsAfter, Skips, Stands, StandsPartWay, Walks, left_from_place, left_of};
 
 use crate::automaton::Automaton;
 use crate::find::{PATIENCE, patience_after};
@@ -132,11 +133,8 @@ fn walk_to<A: Automaton>(
     may_wait: bool,
 ) -> Option<(StateID, usize)>
     requires standard { A.kind automaton.now ≡ Standard }
-    requires stands { (p : Patterns) × A.is_of automaton.now p
-        × StandsAt (A.valid automaton.now) (A.held automaton.now p) p input.now sid at }
-    ensures walks { (p : Patterns) → A.is_of automaton.now p
-        → StandsAt (A.valid automaton.now) (A.held automaton.now p) p input.now sid at
-        → WalksOn (A.valid automaton.now) (A.held automaton.now p) p input.now at result }
+    requires stands { Stands A.Automaton automaton.now input.now sid at }
+    ensures walks { Walks A.Automaton automaton.now input.now sid at result }
     ensures lists { may_wait ≡ false
         → IfSome result (λ next. 0 < length (A.list automaton.now next.0)) }
 {
@@ -187,13 +185,10 @@ fn next_origin<A: Automaton>(
     at: usize,
 ) -> Option<usize>
     requires standard { A.kind automaton.now ≡ Standard }
-    requires stands { (p : Patterns) × A.is_of automaton.now p
-        × StandsAt (A.valid automaton.now) (A.held automaton.now p) p input.now sid at }
+    requires stands { Stands A.Automaton automaton.now input.now sid at }
     requires held { IfSome prefilter (λ held. A.prefilter automaton.now ≡ Some held.now) }
     requires unanchored { IfSome prefilter (λ held. input.now.anchored ≡ No) }
-    ensures skips { (p : Patterns) → A.is_of automaton.now p
-        → StandsAt (A.valid automaton.now) (A.held automaton.now p) p input.now sid at
-        → SkipsTo (A.valid automaton.now) (A.held automaton.now p) p input.now sid at result }
+    ensures skips { Skips A.Automaton automaton.now input.now sid at result }
 {
     let Some(prefilter) = prefilter else {
         return Some(at);
@@ -218,11 +213,8 @@ fn walk_on<A: Automaton>(
 ) -> Option<(StateID, usize)>
     requires standard { A.kind automaton.now ≡ Standard }
     requires within { input.now.end ≤ length input.now.haystack }
-    requires stands { (p : Patterns) × A.is_of automaton.now p
-        × StandsAt (A.valid automaton.now) (A.held automaton.now p) p input.now sid at }
-    ensures walks { (p : Patterns) → A.is_of automaton.now p
-        → StandsAt (A.valid automaton.now) (A.held automaton.now p) p input.now sid at
-        → WalksOn (A.valid automaton.now) (A.held automaton.now p) p input.now at result }
+    requires stands { Stands A.Automaton automaton.now input.now sid at }
+    ensures walks { Walks A.Automaton automaton.now input.now sid at result }
     ensures lists { IfSome result (λ next. 0 < length (A.list automaton.now next.0)) }
 {
     let (mut sid, mut at) = (sid, at);
@@ -276,18 +268,11 @@ fn next_match<A: Automaton>(
 ) -> OverlappingState
     requires standard { A.kind automaton.now ≡ Standard }
     requires within { input.now.end ≤ length input.now.haystack }
-    requires part_way { (p : Patterns) × (n : ℕ) × A.is_of automaton.now p
-        × IsPartWay (A.valid automaton.now) (A.held automaton.now p) p input.now sid at index n }
-    ensures found { (p : Patterns) (n : ℕ) → A.is_of automaton.now p
-        → IsPartWay (A.valid automaton.now) (A.held automaton.now p) p input.now sid at index n
-        → result.mat ≡ slice_get (overlapping p input.now) n }
-    ensures fits { (p : Patterns) (n : ℕ) → A.is_of automaton.now p
-        → IsPartWay (A.valid automaton.now) (A.held automaton.now p) p input.now sid at index n
-        → FitsFrom (A.valid automaton.now) (A.held automaton.now p) p input.now
-        result.id result.at result.next_match_index
-        (min (n + 1) (length (overlapping p input.now))) }
-    ensures fewer { IfSome result.mat (λ _. left (length (A.lengths automaton.now)) input.now result
-        < left_at (length (A.lengths automaton.now)) input.now at index) }
+    requires part_way { StandsPartWay A.Automaton automaton.now input.now sid at index }
+    ensures found { FindsFrom A.Automaton automaton.now input.now sid at index result }
+    ensures fits { FitsAfter A.Automaton automaton.now input.now sid at index result }
+    ensures fewer { IfSome result.mat (λ _. left_of A.Automaton automaton.now input.now result
+        < left_from_place A.Automaton automaton.now input.now at index) }
 {
     if index < automaton.match_len(sid) {
         return give(automaton, sid, at, index);
@@ -309,8 +294,8 @@ pub(crate) fn find_overlapping<A: Automaton>(
     input: &Input<'_>,
     state: &mut OverlappingState,
 ) -> Result<(), MatchError>
-    requires fits { (p : Patterns) × (n : ℕ) × A.is_of automaton.now p
-        × FitsSearch (A.valid automaton.now) (A.held automaton.now p) p input.now state.old n }
+    requires fits { FitsSome (A.is_of automaton.now) (A.valid automaton.now)
+        (A.held automaton.now) input.now state.old }
 
     // When it is refused, and what that leaves.
     ensures unsupported { A.kind automaton.now ≢ Standard
@@ -319,26 +304,22 @@ pub(crate) fn find_overlapping<A: Automaton>(
         → IfErr result (λ reason. A.start automaton.now input.now.anchored ≡ Err reason) }
     ensures ok { (sid : ℕ) → A.kind automaton.now ≡ Standard
         → A.start automaton.now input.now.anchored ≡ Ok sid → IsOk result }
-    ensures refused { (reason : MatchErrorKind) → A.kind automaton.now ≡ Standard
-        → state.old.id ≡ None → input.now.start ≤ input.now.end
-        → A.start automaton.now input.now.anchored ≡ Err reason → result ≡ Err reason }
+    ensures refused { RefusesFirst (A.kind automaton.now) (A.start automaton.now) input.now
+        state.old result }
     ensures begun { (sid : ℕ) → A.kind automaton.now ≡ Standard → state.old.id ≡ Some sid
         → IsOk result }
     ensures cleared { IfErr result (λ _. state.new ≡ without_match state.old) }
 
     // What is found.
     ensures done { A.kind automaton.now ≡ Standard → input.now.end < input.now.start
-        → (result ≡ Ok tt) × (state.new ≡ without_match state.old) }
-    ensures found { (p : Patterns) (n : ℕ) → A.is_of automaton.now p
-        → FitsSearch (A.valid automaton.now) (A.held automaton.now p) p input.now state.old n
-        → IfOk result (λ _. state.new.mat ≡ slice_get (overlapping p input.now) n) }
-    ensures fits { (p : Patterns) (n : ℕ) → A.is_of automaton.now p
-        → FitsSearch (A.valid automaton.now) (A.held automaton.now p) p input.now state.old n
-        → IfOk result (λ _. FitsSearch (A.valid automaton.now) (A.held automaton.now p) p input.now
-        state.new (min (n + 1) (length (overlapping p input.now)))) }
+        → FindsNone state.old state.new result }
+    ensures found { FindsNext (A.is_of automaton.now) (A.valid automaton.now)
+        (A.held automaton.now) input.now state.old state.new result }
+    ensures fits { FitsNext (A.is_of automaton.now) (A.valid automaton.now)
+        (A.held automaton.now) input.now state.old state.new result }
     ensures fewer { IfSome state.new.mat (λ _.
-        left (length (A.lengths automaton.now)) input.now state.new
-        < left (length (A.lengths automaton.now)) input.now state.old) }
+        left_of A.Automaton automaton.now input.now state.new
+        < left_of A.Automaton automaton.now input.now state.old) }
 {
     state.mat = None;
     let kind = automaton.match_kind();
@@ -392,7 +373,7 @@ impl<'a, 'h, A: Automaton> Iterator for FindOverlappingIter<'a, 'h, A> {
     ghost can_next = { λ it. CanGive A.is_of A.kind A.start A.valid A.held it.automaton.now it.input
         it.state };
 
-    ghost next_gives = { λ it given after. GivesNext A.is_of A.valid A.held it.automaton.now
+    ghost next_gives = { λ it given after. GivesOverlapping A.is_of A.valid A.held it.automaton.now
         it.input it.state given after.automaton.now after.input after.state };
 
     ghost remaining = { λ it.

@@ -7,6 +7,7 @@ ghost use Rattle.aho_base.specs.Occurrence.{Occurrence};
 ghost use Rattle.aho_base.specs.Patterns.{Patterns};
 ghost use Rattle.aho_base.specs.Replacement.{is_on_boundaries, on_boundaries, pieces_of};
 ghost use Rattle.aho_base.specs.Search.{plain_search};
+ghost use Rattle.aho_search.specs.Finding.{HoldsOfFinds};
 
 use crate::automaton::Automaton;
 use crate::iter::FindIter;
@@ -29,9 +30,8 @@ where
     requires whole { finds.input ≡ plain_search haystack.now }
     requires first { finds.last_match_end ≡ None }
     requires callable { F.IsAlwaysCallable replace_with }
-    ensures run { (p : Patterns) (ms : List Occurrence) → A.is_of finds.entry.automaton.now p →
-        AreFinds p (plain_search haystack.now) None ms →
-        RunsInMemory F.FnMut vec_items haystack.now ms replace_with dst.old result dst.new }
+    ensures run { HoldsOfFinds (A.is_of finds.entry.automaton.now) haystack.now (λ ms.
+        RunsInMemory F.FnMut vec_items haystack.now ms replace_with dst.old result dst.new) }
 {
     let mut copied = 0;
     for m in finds {
@@ -72,10 +72,9 @@ where
     requires whole { finds.input ≡ plain_search text.now }
     requires first { finds.last_match_end ≡ None }
     requires callable { F.IsAlwaysCallable replace_with }
-    ensures run { (p : Patterns) (ms : List Occurrence) → A.is_of finds.entry.automaton.now p →
-        AreFinds p (plain_search text.now) None ms →
+    ensures run { HoldsOfFinds (A.is_of finds.entry.automaton.now) text.now (λ ms.
         RunsInMemory F.FnMut string_bytes text.now (on_boundaries text.now ms)
-        replace_with dst.old result dst.new }
+        replace_with dst.old result dst.new) }
 {
     let mut copied = 0;
     for m in finds {

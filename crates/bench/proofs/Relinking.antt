@@ -18,15 +18,6 @@ use Rattle.aho_build.specs.Dense.{classes_size, dense_size, is_near}
 use Rattle.aho_build.specs.Sizes.{nodes}
 use Rattle.bench.specs.Relinked.{IsRefused}
 
--- a table with the greatest limit refuses for one of two reasons
-pub IsRefused-at : (limit index : ℕ) (error : BuildError) → limit ≡ greatest_index → error ≡ refusal_at limit index → IsRefused error
-IsRefused-at limit index error greatest is =
-    elim (cases_Bool (nat_lt limit index)) [
-      | inl past ↦
-          inr (is ∙ cond-true {A = BuildError} (nat_lt limit index) (StateIDOverflow limit (limit + 1)) OutOfMemory past ∙ ap (λ (n : ℕ). StateIDOverflow n (n + 1)) greatest)
-      | inr within ↦ inl (is ∙ cond-false {A = BuildError} (nat_lt limit index) (StateIDOverflow limit (limit + 1)) OutOfMemory within)
-    ]
-
 -- a list that rises is made by adding one entry after another
 with_transition-front : (transitions : List (ℕ × ℕ)) (count : ℕ) (d : ℕ × ℕ) → IsRising transitions → count < length transitions
     → with_transition (take count transitions) (get_or transitions count d).0 (get_or transitions count d).1 ≡ take (suc count) transitions

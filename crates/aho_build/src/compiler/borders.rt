@@ -3,22 +3,9 @@
 ghost use Rattle.std.specs.Prelude.{◌≡◌, ℕ, ◌<◌, ◌||◌, [], ◌∷◌};
 ghost use Rattle.aho_table.specs.Alphabet.{is_border};
 ghost use Rattle.aho_build.specs.Dense.{is_parted_by};
-ghost use Rattle.aho_build.specs.TrieGrowth.{opposite};
 
+use aho_base::letters::opposite_ascii_case;
 use aho_table::alphabet::ByteClassSet;
-
-/// The other case of an ASCII letter, and every other byte itself.
-pub(super) fn opposite_ascii_case(byte: u8) -> u8
-    ensures opposite { result ≡ opposite byte }
-{
-    if byte >= 65 && byte <= 90 {
-        byte + 32
-    } else if byte >= 97 && byte <= 122 {
-        byte - 32
-    } else {
-        byte
-    }
-}
 
 /// Sets borders around the byte, and around its other case where case is ignored.
 fn set_byte(borders: &mut ByteClassSet, ignore_case: bool, byte: u8)

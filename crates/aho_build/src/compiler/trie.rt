@@ -16,11 +16,12 @@ ghost use Rattle.aho_build.specs.Dense.{AddsBorders, HasBorders};
 ghost use Rattle.aho_build.specs.Prefilters.{Collects};
 ghost use Rattle.aho_table.specs.Table.{IsWithinLimit, state_at, matches_in, transitions_count};
 
-use crate::compiler::borders::{opposite_ascii_case, set_bytes};
+use crate::compiler::borders::set_bytes;
 use crate::compiler::prefilter::PrefilterPatterns;
 use crate::compiler::starts::unanchored_start;
 use crate::settings::Settings;
 use aho_base::error::BuildError;
+use aho_base::letters::opposite_ascii_case;
 use aho_base::search::{MatchKind, PatternID, SmallIndex, StateID};
 use aho_table::alphabet::ByteClassSet;
 use aho_table::links::{Child, Table};

@@ -1,6 +1,6 @@
 //! Which prefilter there is for some patterns.
 
-ghost use Rattle.std.specs.Prelude.{◌≡◌, ◌<◌, [], length, true, IfOk, IfErr, IfSome, OnOk, OnErr, Ok};
+ghost use Rattle.std.specs.Prelude.{◌≡◌, ◌<◌, [], length, true, IfOk, IfErr, IfSome, OnOk, OnErr, Ok, vec_items};
 ghost use Rattle.std.specs.Option.{option_map};
 ghost use Rattle.aho_base.specs.Patterns.{Patterns};
 ghost use Rattle.aho_prefilter.specs.Prefilter.{held_for, is_searched_whole, with_word, IsPrefilterOf};
@@ -64,7 +64,7 @@ impl PrefilterBuilder {
     /// A copy of this pattern, where it is the first and may be searched for as a whole.
     fn copy_of_first(&self, pattern: &[u8]) -> Result<Option<Vec<u8>>, AllocError>
         ensures copied { (p : Patterns) → HasTaken self.now p → IfOk result
-            (λ copy. option_map (λ v. v.items) copy ≡ whole_of (with_word p pattern.now)) }
+            (λ copy. option_map vec_items copy ≡ whole_of (with_word p pattern.now)) }
         ensures wanted { (p : Patterns) → HasTaken self.now p
             → IfErr result (λ _. is_searched_whole (with_word p pattern.now) ≡ true) }
         ensures some { IfErr result (λ _. 0 < length pattern.now) }

@@ -1,8 +1,10 @@
 //! The bytes with which patterns begin, as long as they are few.
 
 ghost use Rattle.std.specs.Prelude.{◌≡◌};
-ghost use Rattle.aho_prefilter.specs.FirstBytes.{has_byte, other_case};
+ghost use Rattle.aho_prefilter.specs.FirstBytes.{has_byte};
 ghost use Rattle.aho_prefilter.specs.Inside.{bytes_of, few_with, few_with_word};
+
+use aho_base::letters::opposite_ascii_case;
 
 /// The bytes with which patterns begin, each once.
 #[derive(Clone, Copy)]
@@ -57,18 +59,5 @@ impl FirstBytes {
             FirstBytes::Two(x, y) => x == byte || y == byte,
             FirstBytes::Three(x, y, z) => x == byte || y == byte || z == byte,
         }
-    }
-}
-
-/// The other case of an ASCII letter, and every other byte itself.
-fn opposite_ascii_case(byte: u8) -> u8
-    ensures other_case { result ≡ other_case byte }
-{
-    if byte >= 65 && byte <= 90 {
-        byte + 32
-    } else if byte >= 97 && byte <= 122 {
-        byte - 32
-    } else {
-        byte
     }
 }

@@ -11,6 +11,7 @@ use Rattle.aho_search.proofs.find.find_from.Given as goal
 
 -- Over the same automaton and the same text, of which nothing from `at` on was read:
 -- `paid`: two look-ups for each byte that was read pay for the look-ups so far, and the state's depth is left over;
+-- `once`: no more bytes were read than were passed;
 -- `quiet`: a search that stops at its first match has none yet;
 -- `near`: a leftmost search is not far past the start of the match that it holds;
 -- `anchored_near`: an anchored search has not read more than the longest pattern;
@@ -23,7 +24,9 @@ invariant-loop-at g l =
       same_text : g.T.Text.bytes l.text ≡ g.T.Text.bytes l.initial.text;
       unread : g.T.Text.next l.text ≤ l.at;
       forward : g.T.Text.next l.initial.text ≤ g.T.Text.next l.text;
-      paid : g.W.Walk.lookups l.walk + g.W.Of.Automaton.depth automaton l.sid ≤ g.W.Walk.lookups l.initial.walk + 2 * (g.T.Text.next l.text - l.start);
+      paid : g.W.Walk.lookups l.walk + g.W.Of.Automaton.depth automaton l.sid ≤ g.W.Walk.lookups l.initial.walk + 2 * (g.T.Text.reads l.text - g.T.Text.reads l.initial.text);
+      once : g.T.Text.reads l.text - g.T.Text.reads l.initial.text ≤ g.T.Text.next l.text - l.start;
+      reads_grow : g.T.Text.reads l.initial.text ≤ g.T.Text.reads l.text;
       grows : g.W.Walk.lookups l.initial.walk ≤ g.W.Walk.lookups l.walk;
       valid : g.W.Of.Automaton.valid automaton l.sid;
       quiet : first_is_answer (g.W.Of.Automaton.kind automaton) l.earliest ≡ true → l.best ≡ None;

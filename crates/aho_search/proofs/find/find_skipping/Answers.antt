@@ -37,7 +37,9 @@ skips-preserved g c =
       before_end = omega (arith, waits.1);
       unread = omega (arith, waits.2);
       forward = omega (arith, c.find_from.ensures.forward, c.skips.invariant.forward);
-      paid = omega (arith, c.find_from.ensures.cost, c.skips.invariant.paid, c.skips.invariant.unread, c.skips.invariant.after_start, waits.2, waits.0);
+      paid = omega (arith, c.find_from.ensures.two_a_byte, c.skips.invariant.paid, c.skips.invariant.reads_grow, c.find_from.ensures.reads_grow);
+      once = omega (arith, c.find_from.ensures.once, c.skips.invariant.once, c.skips.invariant.unread, c.skips.invariant.after_start, c.find_from.ensures.forward, waits.2, waits.0);
+      reads_grow = omega (arith, c.skips.invariant.reads_grow, c.find_from.ensures.reads_grow);
       grows = omega (arith, c.find_from.ensures.grows, c.skips.invariant.grows);
       carries = λ p of. carried_on p bytes c.args.span.start c.in-Some.origin c.args.span.end c.in-Waits.place (omega (arith, c.skips.invariant.after_start)) (told p of).2 (goes p of);
     }

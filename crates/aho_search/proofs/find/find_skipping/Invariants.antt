@@ -1,7 +1,7 @@
 -- What the loop over candidates keeps.
 use Rattle.std.proofs.Common.{◌≡◌, ◌+◌, ◌-◌, ◌*◌, ◌≤◌}
 use Rattle.aho_base.specs.Patterns.{Patterns}
-use Rattle.aho_search.specs.Walked.{Carries}
+use Rattle.aho_search.specs.WalkEnds.{Carries}
 use Rattle.aho_search.proofs.find.find_skipping.Given as goal
 
 abbrev pub invariant-skips : goal.invariant-skips
@@ -14,7 +14,9 @@ invariant-skips g l =
       before_end : l.at ≤ l.end;
       unread : g.T.Text.next l.text ≤ l.at;
       forward : g.T.Text.next l.initial.text ≤ g.T.Text.next l.text;
-      paid : g.W.Walk.lookups l.walk ≤ g.W.Walk.lookups l.initial.walk + 2 * (g.T.Text.next l.text - l.start);
+      paid : g.W.Walk.lookups l.walk ≤ g.W.Walk.lookups l.initial.walk + 2 * (g.T.Text.reads l.text - g.T.Text.reads l.initial.text);
+      once : g.T.Text.reads l.text - g.T.Text.reads l.initial.text ≤ g.T.Text.next l.text - l.start;
+      reads_grow : g.T.Text.reads l.initial.text ≤ g.T.Text.reads l.text;
       grows : g.W.Walk.lookups l.initial.walk ≤ g.W.Walk.lookups l.walk;
       carries : (p : Patterns) → g.W.Of.Automaton.is_of automaton p → Carries p (g.T.Text.bytes l.initial.text) l.start l.end l.at;
     }

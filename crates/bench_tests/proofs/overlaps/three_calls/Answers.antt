@@ -9,12 +9,12 @@ use Rattle.aho_base.specs.Overlapping.{overlapping}
 use Rattle.aho_base.specs.Patterns.{Patterns}
 use Rattle.aho_base.specs.Progress.{Progress}
 use Rattle.aho_base.specs.Search.{Search}
-use Rattle.aho_search.specs.Overlaps.{CanGive, GivesNext}
+use Rattle.aho_search.specs.Overlaps.{CanGive, GivesOverlapping}
 use Rattle.bench_tests.proofs.overlaps.three_calls.Goals as goal
 
 module _ {A : Type 0} (is_of : A → Patterns → Type 0) (kind : A → MatchKind) (start : A → Anchored → Result ℕ MatchErrorKind) (valid : A → ℕ → Type 0) (held : A → Patterns → Anchored → List ℕ → ℕ → Type 0) where
   may_go_on : (a a' : A) (s s' : Search) (progress progress' : Progress) (given : Option Occurrence) → CanGive is_of kind start valid held a s progress
-      → GivesNext is_of valid held a s progress given a' s' progress' → CanGive is_of kind start valid held a' s' progress'
+      → GivesOverlapping is_of valid held a s progress given a' s' progress' → CanGive is_of kind start valid held a' s' progress'
   may_go_on a a' s s' progress progress' given can steps =
       subst (λ (x : A). CanGive is_of kind start valid held x s' progress') (sym steps.same_automaton)
       (subst (λ (y : Search). CanGive is_of kind start valid held a y progress') (sym steps.same_search)
