@@ -54,5 +54,7 @@ pub mod KeptBorders
 pub mod DenseSizes
 -- The numbers that states keep.
 pub mod ShuffledStates
+-- Rows that move with their states.
+pub mod MovedRows
 pub mod RenumberedAutomata
 pub mod EmptyPatterns

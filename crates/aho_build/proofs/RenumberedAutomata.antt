@@ -9,8 +9,8 @@ use Rattle.aho_base.specs.Bytes.{folded}
 use Rattle.aho_base.specs.Failure.{is_cut, failure_of}
 use Rattle.aho_base.specs.Patterns.{Patterns}
 use Rattle.aho_base.specs.Trie.{is_node}
-use Rattle.aho_table.specs.Table.{State, new_state, state_at, dead_id, fail_id, lists_byte, next_in, fail_in, depth_in, matches_in}
-use Rattle.aho_table.specs.Remapping.{place_of}
+use Rattle.aho_table.specs.Table.{State, Tables, new_state, state_at, dead_id, fail_id, lists_byte, next_in, fail_in, depth_in, matches_in}
+use Rattle.aho_table.specs.Remapping.{place_of_state}
 use Rattle.aho_table.specs.Renaming.{IsLed, IsTransitionLed, IsRenamed}
 use Rattle.aho_table.proofs.RenamedStates.{IsLed-transition, lists_transition-led}
 use Rattle.aho_build.specs.declared.special.Special.{Special}
@@ -24,10 +24,10 @@ use Rattle.aho_build.proofs.Phases.{blank}
 
 module _ (places : List ℕ) (old new : List State) (r : AreRenumbered places old new) where
   abbrev place : ℕ → ℕ
-  place = place_of places
+  place = place_of_state places
 
   abbrev origin : ℕ → ℕ
-  origin = place_of r.origins
+  origin = place_of_state r.origins
 
   -- ---- places and origins, of any number
 
@@ -43,7 +43,7 @@ module _ (places : List ℕ) (old new : List State) (r : AreRenumbered places ol
       let is = get_or_default places n n 0 (omega arith) in
       (is, omega (arith, is, r.inverse.placed n (omega arith)))
 
-  origin_within : (n : ℕ) → n < length old → (origin n ≡ get_or r.origins n 0) × (origin n < length old)
+  pub origin_within : (n : ℕ) → n < length old → (origin n ≡ get_or r.origins n 0) × (origin n < length old)
   origin_within n below =
       let count = r.as_many in
       let same = r.inverse.as_many in
@@ -60,7 +60,7 @@ module _ (places : List ℕ) (old new : List State) (r : AreRenumbered places ol
         | inr past ↦ ap origin (place_past n past) ∙ origin_past n past
       ]
 
-  place-origin : (n : ℕ) → place (origin n) ≡ n
+  pub place-origin : (n : ℕ) → place (origin n) ≡ n
   place-origin n =
       elim (cases_lt n (length old)) [
         | inl below ↦
@@ -71,13 +71,13 @@ module _ (places : List ℕ) (old new : List State) (r : AreRenumbered places ol
       ]
 
   -- a number that is the place of another, by its origin
-  at-place : (i n : ℕ) → origin i ≡ n → i ≡ place n
+  pub at-place : (i n : ℕ) → origin i ≡ n → i ≡ place n
   at-place i n is = sym (place-origin i) ∙ ap place is
 
-  origin_dead : origin dead_id ≡ dead_id
+  pub origin_dead : origin dead_id ≡ dead_id
   origin_dead = ap origin (sym r.dead) ∙ origin-place dead_id
 
-  origin_fail : origin fail_id ≡ fail_id
+  pub origin_fail : origin fail_id ≡ fail_id
   origin_fail = ap origin (sym r.fail) ∙ origin-place fail_id
 
   origin_below : (i : ℕ) → i < length new → origin i < length old
@@ -272,19 +272,19 @@ module _ (places : List ℕ) (old new : List State) (r : AreRenumbered places ol
       }
 
 -- the table of the numbers that states keep is the automaton that it was
-pub IsAutomaton-shuffled : (skips : Bool) (old new : List State) (special : Special) (p : Patterns) (names : List (Option (List ℕ)))
-    → (s : AreShuffled skips old new special) → IsAutomaton (with_first_starts special) p names old
-    → (names' : List (Option (List ℕ))) × IsAutomaton special p names' new
+pub IsAutomaton-shuffled : (skips : Bool) (old new : Tables) (special : Special) (p : Patterns) (names : List (Option (List ℕ)))
+    → (s : AreShuffled skips old new special) → IsAutomaton (with_first_starts special) p names old.states
+    → (names' : List (Option (List ℕ))) × IsAutomaton special p names' new.states
 IsAutomaton-shuffled skips old new special p names s a = (
-  moved_names s.places old new s.renumbered names a.nodes.sized,
-  IsAutomaton-renumbered s.places old new s.renumbered names a.nodes.sized (with_first_starts special) special p a s.unanchored s.anchored,
+  moved_names s.places old.states new.states s.renumbered names a.nodes.sized,
+  IsAutomaton-renumbered s.places old.states new.states s.renumbered names a.nodes.sized (with_first_starts special) special p a s.unanchored s.anchored,
 )
 
-pub ListsExactly-shuffled : (skips : Bool) (old new : List State) (special : Special) → AreShuffled skips old new special
-    → ListsExactly (with_first_starts special) old → ListsExactly special new
-ListsExactly-shuffled skips old new special s lists = ListsExactly-renumbered s.places old new s.renumbered (with_first_starts special) special s.anchored lists
+pub ListsExactly-shuffled : (skips : Bool) (old new : Tables) (special : Special) → AreShuffled skips old new special
+    → ListsExactly (with_first_starts special) old.states → ListsExactly special new.states
+ListsExactly-shuffled skips old new special s lists = ListsExactly-renumbered s.places old.states new.states s.renumbered (with_first_starts special) special s.anchored lists
 
-pub IsSized-shuffled : (skips : Bool) (old new : List State) (special : Special) (p : Patterns) → AreShuffled skips old new special → IsSized p old → IsSized p new
+pub IsSized-shuffled : (skips : Bool) (old new : Tables) (special : Special) (p : Patterns) → AreShuffled skips old new special → IsSized p old.states → IsSized p new.states
 IsSized-shuffled skips old new special p s sized = record {
   state_count = s.renumbered.same_many ∙ sized.state_count;
   transitions = s.renumbered.transitions ∙ sized.transitions;

@@ -6,18 +6,18 @@ use Rattle.std.proofs.lemmas.List.{get_or-map, get_or_past, length-map, nil_from
 use Rattle.std.proofs.lemmas.List.Edits.{length-swap}
 use Rattle.std.proofs.lemmas.List.Elements.{length_all_zip}
 use Rattle.std.proofs.lemmas.List.FromFn.{get_or-range_with_len, length-range_with_len}
-use Rattle.aho_table.specs.Table.{State, new_state, state_at, matches_in}
-use Rattle.aho_table.specs.Remapping.{transposed, place_of, AreInverse}
+use Rattle.aho_table.specs.Table.{State, Tables, new_state, state_at, matches_in}
+use Rattle.aho_table.specs.Remapping.{transposed, place_of_state, AreInverse}
 use Rattle.aho_table.specs.Renaming.{IsRenamed}
 use Rattle.aho_table.proofs.Renumbered.{transposed-first, transposed-second, transposed-other, transposed-twice, swap-at, places-swapped, AreInverse-swapped, AreInverse-range}
 use Rattle.aho_table.proofs.RenamedStates.{renamed_at, transitions_count-renamed, matches_count-renamed}
 use Rattle.aho_table.proofs.SwappedStates.{transitions_count-swapped, matches_count-swapped}
 use Rattle.aho_build.specs.declared.special.Special.{Special}
-use Rattle.aho_build.specs.Shuffled.{AreMoved, AreGathered, AreRenumbered, AreShuffled}
+use Rattle.aho_build.specs.Shuffled.{AreMoved, AreGathered, RowsAreMoved, AreRenumbered, AreShuffled}
 
 -- where nothing has moved
-place_of-range : (len n : ℕ) → place_of (range_with_len 0 len) n ≡ n
-place_of-range len n =
+pub place_of_state-range : (len n : ℕ) → place_of_state (range_with_len 0 len) n ≡ n
+place_of_state-range len n =
     elim (cases_lt n len) [
       | inl below ↦ get_or-range_with_len 0 len n n below ∙ omega arith
       | inr past ↦ get_or_past (range_with_len 0 len) n n (omega (arith, length-range_with_len 0 len))
@@ -34,7 +34,7 @@ module _ (old : List State) where
     inverse = AreInverse-range (length old);
     as_many = length-range_with_len 0 (length old);
     same_many = refl;
-    moved = λ n below. ap (state_at old) (place_of-range (length old) n);
+    moved = λ n below. ap (state_at old) (place_of_state-range (length old) n);
     transitions = refl;
     matches = refl;
   }
@@ -44,7 +44,7 @@ module _ (old : List State) where
     moved = AreMoved-first;
     first = omega arith;
     within = omega arith;
-    stay = λ n below. place_of-range (length old) n;
+    stay = λ n below. place_of_state-range (length old) n;
     listing = λ sid low high. absurd (omega arith);
     others = λ sid low high. absurd (omega arith);
   }
@@ -56,7 +56,7 @@ module _ (old : List State) where
     pub state-swapped : (n : ℕ) → state_at after n ≡ state_at before (transposed a b n)
     state-swapped = swap-at (new_state 0) before after a b of_a of_b is
 
-    place-swapped : (n : ℕ) → n < length places → place_of places' n ≡ transposed a b (place_of places n)
+    place-swapped : (n : ℕ) → n < length places → place_of_state places' n ≡ transposed a b (place_of_state places n)
     place-swapped n below = ap (λ (xs : List ℕ). get_or xs n n) places_are ∙ get_or-map (transposed a b) places n n n below
 
     pub AreMoved-swapped : AreMoved places old before → AreMoved places' old after
@@ -75,8 +75,8 @@ module _ (old : List State) where
           same_many = ap length is ∙ length-swap before a b ∙ moved.same_many;
           moved = λ n below.
               ap (state_at after) (place-swapped n (omega arith))
-              ∙ state-swapped (transposed a b (place_of places n))
-              ∙ ap (state_at before) (transposed-twice a b (place_of places n))
+              ∙ state-swapped (transposed a b (place_of_state places n))
+              ∙ ap (state_at before) (transposed-twice a b (place_of_state places n))
               ∙ moved.moved n below;
           transitions = transitions_count-swapped before after a b of_a of_b is ∙ moved.transitions;
           matches = matches_count-swapped before after a b of_a of_b is ∙ moved.matches;
@@ -138,7 +138,7 @@ module _ (old : List State) where
       (first second : List State) (places' places'' : List ℕ)
       (first_is : first ≡ swap gathered 3 anchored) (places'_are : places' ≡ map (transposed 3 anchored) places)
       (second_is : second ≡ swap first 2 unanchored) (places''_are : places'' ≡ map (transposed 2 unanchored) places')
-      (new : List State) (all : AllZip (IsRenamed (λ named now. now ≡ place_of places'' named)) second new) where
+      (new : List State) (all : AllZip (IsRenamed (λ named now. now ≡ place_of_state places'' named)) second new) where
     bounds : (4 ≤ next) × (next ≤ length gathered)
     bounds = let first = g.first in let within = g.within in let same = g.moved.same_many in (omega arith, omega arith)
 
@@ -164,7 +164,7 @@ module _ (old : List State) where
     moved = AreMoved-swapped places' first second 2 unanchored of_two of_unanchored second_is places'' places''_are moved_once
 
     -- where the first states are
-    place : (n : ℕ) → n < 4 → place_of places'' n ≡ transposed 2 unanchored (transposed 3 anchored n)
+    place : (n : ℕ) → n < 4 → place_of_state places'' n ≡ transposed 2 unanchored (transposed 3 anchored n)
     place n small =
         let b = bounds in
         let count = g.moved.as_many in
@@ -174,21 +174,21 @@ module _ (old : List State) where
         ∙ ap (transposed 2 unanchored)
         (place-swapped places gathered first 3 anchored of_three of_anchored first_is places' places'_are n (omega (arith, b.0, b.1)) ∙ ap (transposed 3 anchored) (g.stay n small))
 
-    stays : (n : ℕ) → n < 2 → place_of places'' n ≡ n
+    stays : (n : ℕ) → n < 2 → place_of_state places'' n ≡ n
     stays n small =
         let b = bounds in
         place n (omega arith)
         ∙ ap (transposed 2 unanchored) (transposed-other 3 anchored n (λ e. omega arith) (λ e. omega (arith, b.0)))
         ∙ transposed-other 2 unanchored n (λ e. omega arith) (λ e. omega (arith, b.0))
 
-    pub place-unanchored : place_of places'' 2 ≡ unanchored
+    pub place-unanchored : place_of_state places'' 2 ≡ unanchored
     place-unanchored =
         let b = bounds in
         place 2 (omega arith)
         ∙ ap (transposed 2 unanchored) (transposed-other 3 anchored 2 (λ e. omega arith) (λ e. omega (arith, b.0)))
         ∙ transposed-first 2 unanchored 2 refl
 
-    pub place-anchored : place_of places'' 3 ≡ anchored
+    pub place-anchored : place_of_state places'' 3 ≡ anchored
     place-anchored =
         let b = bounds in
         place 3 (omega arith)
@@ -200,20 +200,20 @@ module _ (old : List State) where
       origins = moved.origins;
       inverse = moved.inverse;
       as_many = moved.as_many;
-      same_many = sym (length_all_zip (IsRenamed (λ named now. now ≡ place_of places'' named)) second new all) ∙ moved.same_many;
+      same_many = sym (length_all_zip (IsRenamed (λ named now. now ≡ place_of_state places'' named)) second new all) ∙ moved.same_many;
       dead = stays 0 (omega arith);
       fail = stays 1 (omega arith);
       renamed = λ n below.
-          subst (λ (state : State). IsRenamed (λ named now. now ≡ place_of places'' named) state (state_at new (place_of places'' n))) (moved.moved n below)
-          (renamed_at (λ named now. now ≡ place_of places'' named) second new all (place_of places'' n));
-      transitions = transitions_count-renamed (λ named now. now ≡ place_of places'' named) second new all ∙ moved.transitions;
-      matches = matches_count-renamed (λ named now. now ≡ place_of places'' named) second new all ∙ moved.matches;
+          subst (λ (state : State). IsRenamed (λ named now. now ≡ place_of_state places'' named) state (state_at new (place_of_state places'' n))) (moved.moved n below)
+          (renamed_at (λ named now. now ≡ place_of_state places'' named) second new all (place_of_state places'' n));
+      transitions = transitions_count-renamed (λ named now. now ≡ place_of_state places'' named) second new all ∙ moved.transitions;
+      matches = matches_count-renamed (λ named now. now ≡ place_of_state places'' named) second new all ∙ moved.matches;
     }
 
     -- what a state lists, by its number before the starts moved
     listed : (n m : ℕ) → transposed 3 anchored (transposed 2 unanchored n) ≡ m → matches_in new n ≡ matches_in gathered m
     listed n m from =
-        (renamed_at (λ named now. now ≡ place_of places'' named) second new all n).matches
+        (renamed_at (λ named now. now ≡ place_of_state places'' named) second new all n).matches
         ∙ ap (λ (state : State). state.matches)
         (state-swapped places' first second 2 unanchored of_two of_unanchored second_is places'' places''_are n
         ∙ state-swapped places gathered first 3 anchored of_three of_anchored first_is places' places'_are (transposed 2 unanchored n))
@@ -251,15 +251,17 @@ module _ (old : List State) where
           | inr beyond ↦ matches_past gathered sid (let same = g.moved.same_many in omega arith)
         ]
 
-    pub AreShuffled-end : (skips : Bool) (special : Special) → special.start_unanchored_id ≡ unanchored → special.start_anchored_id ≡ anchored
+    pub AreShuffled-end : (before after : Tables) → RowsAreMoved places'' before.rows after.rows
+        → (skips : Bool) (special : Special) → special.start_unanchored_id ≡ unanchored → special.start_anchored_id ≡ anchored
         → special.max_match_id ≡ cond (nat_lt 0 (length (matches_in new anchored))) anchored (unanchored - 1)
         → special.max_special_id ≡ cond skips anchored special.max_match_id
-        → AreShuffled skips old new special
-    AreShuffled-end skips special of_unanchored_id of_anchored_id of_match of_special =
+        → AreShuffled skips (record before { states = old }) (record after { states = new }) special
+    AreShuffled-end before after rows skips special of_unanchored_id of_anchored_id of_match of_special =
         let b = bounds in
         record {
           places = places'';
           renumbered = AreRenumbered-end;
+          rows = rows;
           unanchored = of_unanchored_id ∙ sym place-unanchored;
           anchored = of_anchored_id ∙ sym place-anchored;
           order = record {

@@ -101,10 +101,10 @@ module _ (kind : MatchKind) (queue : List ℕ) (head part : ℕ) (states : List 
           refusal
 
       -- and where it is, nothing else was changed
-      pub visit_copies : (limit : ℕ) (classes : List Bool) (dense_len : ℕ) (new : Tables) → IsLinkingBySome kind queue head part states → new.limit ≡ limit → rows_of new ≡ (classes, dense_len)
-          → new.states ≡ linked_state states child fail → OnlyCopies (record { states = states; limit = limit; classes = classes; dense_len = dense_len }) new
-      visit_copies limit classes dense_len new some same_limit same_rows new_is =
-          let old : Tables = record { states = states; limit = limit; classes = classes; dense_len = dense_len } in
+      pub visit_copies : (limit : ℕ) (classes : List Bool) (dense_len : ℕ) (rows : List Bool) (new : Tables) → IsLinkingBySome kind queue head part states → new.limit ≡ limit → rows_of new ≡ (classes, dense_len, rows)
+          → new.states ≡ linked_state states child fail → OnlyCopies (record { states = states; limit = limit; classes = classes; dense_len = dense_len; rows = rows }) new
+      visit_copies limit classes dense_len rows new some same_limit same_rows new_is =
+          let old : Tables = record { states = states; limit = limit; classes = classes; dense_len = dense_len; rows = rows } in
           let state : State = record (state_at states child) { fail = fail; matches = (state_at states child).matches ++ matches_in states fail } in
           OnlyCopies-state old new child state (visit_child_below some other) other refl same_limit same_rows new_is
 

@@ -7,7 +7,7 @@ use Rattle.aho_base.specs.Trie.{is_kept}
 use Rattle.aho_base.specs.declared.error.BuildError.{BuildError}
 use Rattle.aho_base.specs.declared.error.BuildError.TheVariants.{StateIDOverflow, OutOfMemory}
 use Rattle.aho_table.specs.Alphabet.{class_count, is_border}
-use Rattle.aho_table.specs.Table.{State}
+use Rattle.aho_table.specs.Table.{State, fail_id, state_at, has_row}
 use Rattle.aho_build.specs.Sizes.{nodes, states_size, transitions_size, matches_size}
 use Rattle.aho_build.specs.Trie.{HoldsFirst}
 use Rattle.aho_base.specs.Bytes.{folded_by}
@@ -63,7 +63,16 @@ memory_size depth p =
 abbrev pub is_dense : ℕ → State → Bool
 is_dense depth state = is_near depth state.depth
 
--- how many states of a table have one: DEAD and FAIL, which come first, have none
+-- whether the state of this number is to have one: DEAD and FAIL, which come first, have none
+abbrev pub is_dense_at : ℕ → List State → ℕ → Bool
+is_dense_at depth states sid = nat_lt fail_id sid && is_dense depth (state_at states sid)
+
+-- exactly those states have a row
+pub record AreDense (depth : ℕ) (states : List State) (rows : List Bool) : Type 0 where
+  pub as_many : length rows ≡ length states
+  pub exact : (sid : ℕ) → sid < length states → has_row rows sid ≡ is_dense_at depth states sid
+
+-- how many states of a table have one
 abbrev pub dense_count : ℕ → List State → ℕ
 dense_count depth states = count_by (is_dense depth) (drop 2 states)
 

@@ -29,9 +29,9 @@ linked_state states sid fail = slice_set states sid (record (state_at states sid
 abbrev pub HasSameTransitions : List State → List State → Type 0
 HasSameTransitions old new = (i : ℕ) → (state_at new i).transitions ≡ (state_at old i).transitions
 
--- the classes of bytes, and how many entries the rows by them have
-abbrev pub rows_of : Tables → List Bool × ℕ
-rows_of table = (table.classes, table.dense_len)
+-- the classes of bytes, how many entries the rows by them have, and which states have a row
+abbrev pub rows_of : Tables → List Bool × ℕ × List Bool
+rows_of table = (table.classes, table.dense_len, table.rows)
 
 -- links were set and patterns copied, and all else stays: the limit, the rows, the states, their transitions, and FAIL
 pub record OnlyCopies (old new : Tables) : Type 0 where

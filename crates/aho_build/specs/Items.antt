@@ -52,6 +52,11 @@ IsFailure gives state settings error = (error ≡ OutOfMemory) ⊎ IsRefusal giv
 abbrev pub IsTrieFailure : {S : Type 0} → (S → Option (Bor (List ℕ)) → S → Type 0) → S → Settings → BuildError → Type 0
 IsTrieFailure gives state settings error = (items : List (Bor (List ℕ))) × (HasYielded gives state items × IsStopped settings items error)
 
+-- what is true of the patterns of all items of an iterator
+abbrev pub OfDrained : {S : Type 0} → (S → Option (Bor (List ℕ)) → S → Type 0) → S → Settings → (Patterns → Type 0) → Type 0
+OfDrained gives state settings is_true =
+    (items : List (Bor (List ℕ))) × Drains gives state items × is_true (patterns_of settings items)
+
 -- what is true of the patterns of the items of an automaton
 abbrev pub OfAccepted : {S : Type 0} → (S → Option (Bor (List ℕ)) → S → Type 0) → S → Settings → (Patterns → Type 0) → Type 0
 OfAccepted gives state settings is_true =

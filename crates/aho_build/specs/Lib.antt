@@ -15,3 +15,5 @@ pub mod Walking
 -- the numbers that states keep
 pub mod Shuffled
 pub mod Automaton
+-- what the phases of a build make
+pub mod Made

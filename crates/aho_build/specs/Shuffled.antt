@@ -1,8 +1,8 @@
 -- The numbers that states keep once a build is over, and how the states got there: by swaps, after which each number that stands
 -- in one is exchanged for the place of the state that it named.
 use Rattle.std.specs.Prelude.{◌≡◌, ℕ, ◌+◌, ◌-◌, ◌<◌, ◌≤◌, if◌then◌else◌, Bool, List, [], length, nat_lt}
-use Rattle.aho_table.specs.Table.{State, dead_id, fail_id, state_at, matches_in, transitions_count, matches_count}
-use Rattle.aho_table.specs.Remapping.{place_of, AreInverse}
+use Rattle.aho_table.specs.Table.{State, Tables, dead_id, fail_id, has_row, state_at, matches_in, transitions_count, matches_count}
+use Rattle.aho_table.specs.Remapping.{place_of_state, AreInverse}
 use Rattle.aho_table.specs.Renaming.{IsRenamed}
 use Rattle.aho_build.specs.FirstStates.{root_id, anchored_id}
 use Rattle.aho_build.specs.declared.special.Special.{Special}
@@ -33,16 +33,21 @@ pub record AreMoved (places : List ℕ) (old new : List State) : Type 0 where
   pub inverse : AreInverse places origins
   pub as_many : length places ≡ length old
   pub same_many : length new ≡ length old
-  pub moved : (n : ℕ) → n < length old → state_at new (place_of places n) ≡ state_at old n
+  pub moved : (n : ℕ) → n < length old → state_at new (place_of_state places n) ≡ state_at old n
   pub transitions : transitions_count new ≡ transitions_count old
   pub matches : matches_count new ≡ matches_count old
+
+-- each state has its row, or none, at its place
+pub record RowsAreMoved (places : List ℕ) (old new : List Bool) : Type 0 where
+  pub same_many : length new ≡ length old
+  pub moved : (n : ℕ) → n < length old → has_row new (place_of_state places n) ≡ has_row old n
 
 -- the states below `index` that list a pattern stand behind the first four, up to `next`
 pub record AreGathered (next index : ℕ) (places : List ℕ) (old new : List State) : Type 0 where
   pub moved : AreMoved places old new
   pub first : 4 ≤ next
   pub within : next ≤ index
-  pub stay : (n : ℕ) → n < 4 → place_of places n ≡ n
+  pub stay : (n : ℕ) → n < 4 → place_of_state places n ≡ n
   pub listing : (sid : ℕ) → 4 ≤ sid → sid < next → 0 < length (matches_in new sid)
   pub others : (sid : ℕ) → next ≤ sid → sid < index → matches_in new sid ≡ []
 
@@ -52,16 +57,17 @@ pub record AreRenumbered (places : List ℕ) (old new : List State) : Type 0 whe
   pub inverse : AreInverse places origins
   pub as_many : length places ≡ length old
   pub same_many : length new ≡ length old
-  pub dead : place_of places dead_id ≡ dead_id
-  pub fail : place_of places fail_id ≡ fail_id
-  pub renamed : (n : ℕ) → n < length old → IsRenamed (λ named now. now ≡ place_of places named) (state_at old n) (state_at new (place_of places n))
+  pub dead : place_of_state places dead_id ≡ dead_id
+  pub fail : place_of_state places fail_id ≡ fail_id
+  pub renamed : (n : ℕ) → n < length old → IsRenamed (λ named now. now ≡ place_of_state places named) (state_at old n) (state_at new (place_of_state places n))
   pub transitions : transitions_count new ≡ transitions_count old
   pub matches : matches_count new ≡ matches_count old
 
--- the states have the numbers that they keep
-pub record AreShuffled (skips : Bool) (old new : List State) (special : Special) : Type 0 where
+-- the states of the table have the numbers that they keep, and so have their rows
+pub record AreShuffled (skips : Bool) (old new : Tables) (special : Special) : Type 0 where
   pub places : List ℕ
-  pub renumbered : AreRenumbered places old new
-  pub unanchored : special.start_unanchored_id ≡ place_of places root_id
-  pub anchored : special.start_anchored_id ≡ place_of places anchored_id
-  pub order : IsInOrder (starts_match special new) skips special (matches_in new)
+  pub renumbered : AreRenumbered places old.states new.states
+  pub rows : RowsAreMoved places old.rows new.rows
+  pub unanchored : special.start_unanchored_id ≡ place_of_state places root_id
+  pub anchored : special.start_anchored_id ≡ place_of_state places anchored_id
+  pub order : IsInOrder (starts_match special new.states) skips special (matches_in new.states)

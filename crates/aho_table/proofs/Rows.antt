@@ -1,11 +1,14 @@
 -- Rows: how one is filled from a list, and what a change of the table leaves of them.
-use Rattle.std.proofs.Common.{◌≡◌, ℕ, ◌+◌, ◌-◌, ◌<◌, ◌≤◌, Bool, List, [], ◌∷◌, ◌++◌, length, get_or, drop, take, replicate, refl, sym, ap, subst, ◌∙◌, inl, inr, arith}
+use Rattle.std.proofs.Common.{◌≡◌, ℕ, ◌+◌, ◌-◌, ◌<◌, ◌≤◌, Bool, false, List, [], ◌∷◌, ◌++◌, length, map, get_or, drop, take, replicate, refl, sym, ap, subst, ◌∙◌, inl, inr, arith}
 use Rattle.std.proofs.Math.ListN.{set, length-set}
+use Rattle.std.proofs.Math.Seq.{take-append_seam}
 use Rattle.std.proofs.lemmas.Bool.{cases_eq, cases_lt}
-use Rattle.std.proofs.lemmas.List.{drop_more, drop_all, get_or_default, get_or_past, length_push, get_or-replicate, get_or-set_same, get_or-set_other, get_or_append_left, get_or-append-add, get_or-take, length-append, length-take-le, length-replicate}
+use Rattle.std.proofs.lemmas.List.{drop_more, drop_all, get_or_default, get_or_past, length_push, get_or-replicate, get_or-set_same, get_or-set_other, get_or_append_left, get_or-append-add, get_or-take, length-append, length-take-le, length-replicate, length-map, map-set, take-map, get_or-map}
+use Rattle.std.specs.List.{swap}
+use Rattle.std.proofs.lemmas.List.Edits.{swap_is}
 use Rattle.aho_table.specs.Alphabet.{class_of, class_count}
-use Rattle.aho_table.specs.Table.{State, state_at, transition_at, IsRising, LeadsAlike}
-use Rattle.aho_table.specs.Inside.{IsRowOf, IsRowAdded, IsFilled, start_in, HasRows}
+use Rattle.aho_table.specs.Table.{State, Tables, state_at, transition_at, IsRising, LeadsAlike, no_rows}
+use Rattle.aho_table.specs.Inside.{IsRowOf, IsRowAdded, IsFilled, start_in, is_start, HasRows}
 use Rattle.aho_table.proofs.States.{state_at-set_other, state_at-push_old}
 use Rattle.aho_table.proofs.Classes.{class_of-byte, class_of-count}
 use Rattle.aho_table.proofs.TransitionLists.{transition_at-other, transition_at-at}
@@ -156,3 +159,45 @@ module _ (states : List State) (starts : List ℕ) (classes : List Bool) (entrie
                   absurd (omega arith)
             ];
       }
+
+-- ---- which states have a row, by the starts
+
+-- a table is what its parts are
+pub same_tables : (one two : Tables) → one.states ≡ two.states → one.limit ≡ two.limit → one.classes ≡ two.classes → one.dense_len ≡ two.dense_len → one.rows ≡ two.rows → one ≡ two
+same_tables one two states limit classes len rows =
+    ap (λ (x : List State). record one { states = x }) states
+    ∙ ap (λ (x : ℕ). record one { states = two.states; limit = x }) limit
+    ∙ ap (λ (x : List Bool). record one { states = two.states; limit = two.limit; classes = x }) classes
+    ∙ ap (λ (x : ℕ). record two { dense_len = x; rows = one.rows }) len
+    ∙ ap (λ (x : List Bool). record two { rows = x }) rows
+
+-- one state's start is another
+pub starts-set : (starts : List ℕ) (sid again start : ℕ) (row : Bool) → again ≡ sid → is_start start ≡ row → map is_start (set starts again start) ≡ set (map is_start starts) sid row
+starts-set starts sid again start row same is =
+    map-set is_start starts again start ∙ ap (set (map is_start starts) again) is ∙ ap (λ (n : ℕ). set (map is_start starts) n row) same
+
+starts-zero : (states : List State) → map is_start (replicate (length states) 0) ≡ no_rows states
+starts-zero [] = refl
+starts-zero (state ∷ states) = ap (λ (rows : List Bool). false ∷ rows) (starts-zero states)
+
+-- every start is forgotten
+pub starts-none : (states : List State) (count : ℕ) (filled : List ℕ) → filled ≡ replicate count 0 → count ≡ length states → map is_start filled ≡ no_rows states
+starts-none states count filled is same = ap (map is_start) (is ∙ ap (λ (n : ℕ). replicate n 0) same) ∙ starts-zero states
+
+-- the last start is taken away
+pub starts-popped : (starts fewer : List ℕ) (rows : List Bool) (row : Bool) (count : ℕ) → fewer ≡ take count starts → count + 1 ≡ length starts → map is_start starts ≡ rows ++ row ∷ [] → map is_start fewer ≡ rows
+starts-popped starts fewer rows row count is last before =
+    let size : count ≡ length rows = omega (arith, ap length before, length_push rows row, length-map starts is_start) in
+    ap (map is_start) is ∙ sym (take-map is_start count starts) ∙ ap (take count) before ∙ ap (λ (n : ℕ). take n (rows ++ row ∷ [])) size ∙ take-append_seam rows (row ∷ [])
+
+-- two states change places
+pub starts-swapped : (starts swapped : List ℕ) (a b : ℕ) → a < length starts → b < length starts → swapped ≡ swap starts a b → map is_start swapped ≡ swap (map is_start starts) a b
+starts-swapped starts swapped a b of_a of_b is =
+    let first = get_or-map is_start starts a 0 false of_a in
+    let second = get_or-map is_start starts b 0 false of_b in
+    ap (map is_start) (is ∙ sym (swap_is starts a b 0 of_a of_b))
+    ∙ map-set is_start (set starts a (get_or starts b 0)) b (get_or starts a 0)
+    ∙ ap (λ (rows : List Bool). set rows b (is_start (get_or starts a 0))) (map-set is_start starts a (get_or starts b 0))
+    ∙ ap (λ (row : Bool). set (set (map is_start starts) a (is_start (get_or starts b 0))) b row) (sym first)
+    ∙ ap (λ (row : Bool). set (set (map is_start starts) a row) b (get_or (map is_start starts) a false)) (sym second)
+    ∙ swap_is (map is_start starts) a b false (omega (arith, length-map starts is_start)) (omega (arith, length-map starts is_start))

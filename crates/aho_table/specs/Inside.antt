@@ -95,6 +95,10 @@ pub record IsRowAdded (classes : List Bool) (old : List ℕ) (transitions : List
 abbrev pub start_in : List ℕ → ℕ → ℕ
 start_in starts sid = slice_index_or starts sid 0
 
+-- whether the state has a row, of which this is the start
+abbrev pub is_start : ℕ → Bool
+is_start start = nat_lt 0 start
+
 -- each state has a row that leads as its list does, or none
 pub record HasRows (states : List State) (starts : List ℕ) (classes : List Bool) (entries : List ℕ) (limit : ℕ) : Type 0 where
   pub state_count : length starts ≡ length states

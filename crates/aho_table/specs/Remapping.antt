@@ -6,8 +6,8 @@ abbrev pub transposed : ℕ → ℕ → ℕ → ℕ
 transposed a b n = if nat_eq n a then b else if nat_eq n b then a else n
 
 -- where the state stands whose number was this one at first, by the list of these places; a number of no state stays
-abbrev pub place_of : List ℕ → ℕ → ℕ
-place_of places number = slice_index_or places number number
+abbrev pub place_of_state : List ℕ → ℕ → ℕ
+place_of_state places number = slice_index_or places number number
 
 -- each number that is named has its place among them, and the first number by the place
 pub record AreInverse (places origins : List ℕ) : Type 0 where

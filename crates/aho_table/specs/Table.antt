@@ -1,5 +1,5 @@
 -- What a `Table` is seen as: for each state a list of transitions, a list of patterns, a failure link and a depth.
-use Rattle.std.specs.Prelude.{◌≡◌, ◌≢◌, ℕ, ◌+◌, ◌<◌, ◌≤◌, Bool, List, [], ◌∷◌, ◌++◌, length, sum_by, slice_index_or, slice_set}
+use Rattle.std.specs.Prelude.{◌≡◌, ◌≢◌, ℕ, ◌+◌, ◌<◌, ◌≤◌, Bool, true, false, map, List, [], ◌∷◌, ◌++◌, length, sum_by, slice_index_or, slice_set}
 pub use Rattle.aho_lists.specs.TransitionList.{transition_at, with_transition, IsRising, lists_transition}
 use Rattle.aho_table.specs.Alphabet.{AreOfOneClass}
 use Rattle.aho_table.specs.declared.links.Child.{Child}
@@ -20,13 +20,29 @@ pub record State : Type 0 where
   pub fail : ℕ
   pub depth : ℕ
 
--- the states, the greatest index that a table may use, the borders between the classes of bytes, and how many entries there are
--- for rows of states, the dummy at index 0 among them
+-- the states, the greatest index that a table may use, the borders between the classes of bytes, how many entries there are
+-- for rows of states, the dummy at index 0 among them, and for each state, by its number, whether it has a row
 pub record Tables : Type 0 where
   pub states : List State
   pub limit : ℕ
   pub classes : List Bool
   pub dense_len : ℕ
+  pub rows : List Bool
+
+-- whether the state of this number has a row
+abbrev pub has_row : List Bool → ℕ → Bool
+has_row rows sid = slice_index_or rows sid false
+
+-- the state has one now, and the others as before; or it has none now
+abbrev pub with_row : List Bool → ℕ → List Bool
+with_row rows sid = slice_set rows sid true
+
+abbrev pub without_row : List Bool → ℕ → List Bool
+without_row rows sid = slice_set rows sid false
+
+-- no state has one
+abbrev pub no_rows : List State → List Bool
+no_rows states = map (λ (state : State). false) states
 
 -- bytes of one class lead alike
 abbrev pub LeadsAlike : List Bool → List (ℕ × ℕ) → Type 0
@@ -92,3 +108,9 @@ IsLedTo sid byte depth old new (Added next) =
     (next_in old sid byte ≡ fail_id)
     × (next ≡ length old)
     × (new ≡ set_transition (old ++ new_state depth ∷ []) sid byte next)
+
+-- the rows once the byte was led: a state that was there leaves them as they were, and one that is added has none, and nor has
+-- the state that leads to it
+abbrev pub rows_led : List Bool → ℕ → Child → List Bool
+rows_led rows sid (Found next) = rows
+rows_led rows sid (Added next) = without_row (rows ++ false ∷ []) sid

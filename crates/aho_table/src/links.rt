@@ -1,10 +1,10 @@
 //! The states of an automaton with their transitions, match lists and failure links.
 
-ghost use Rattle.std.specs.Prelude.{◌≡◌, ◌≢◌, ◌+◌, ◌<◌, ◌≤◌, ◌^◌, [], ◌∷◌, ◌++◌, length, true, IsTrue, ◌↔◌, IsOk, IfOk, IfErr, OnOk, OnErr, min, slice_get, nat_lt, ℕ, List};
+ghost use Rattle.std.specs.Prelude.{◌≡◌, ◌≢◌, ◌+◌, ◌<◌, ◌≤◌, ◌^◌, [], ◌∷◌, ◌++◌, length, true, false, Bool, IsTrue, ◌↔◌, IsOk, IfOk, IfErr, OnOk, OnErr, min, slice_get, nat_lt, ℕ, List};
 ghost use Rattle.aho_base.specs.Numbers.{greatest_index};
 ghost use Rattle.aho_table.specs.Refusal.{refusal_at, row_refusal_at, IsLeadRefusal};
 ghost use Rattle.aho_table.specs.Alphabet.{no_borders, class_count};
-ghost use Rattle.aho_table.specs.Table.{State, fail_id, IsRising, new_state, transition_in, next_in, matches_in, fail_in, depth_in, set_transition, push_match, set_fail_of, state_at, lists_byte, transitions_count, matches_count, AllRising, IsWithinLimit, IsLedTo, LeadsAlike};
+ghost use Rattle.aho_table.specs.Table.{State, fail_id, IsRising, new_state, transition_in, next_in, matches_in, fail_in, depth_in, set_transition, push_match, set_fail_of, state_at, lists_byte, transitions_count, matches_count, AllRising, IsWithinLimit, IsLedTo, LeadsAlike, with_row, without_row, no_rows, rows_led};
 
 mod renumber;
 mod rows;
@@ -47,13 +47,19 @@ pub struct Table {
 }
 
 impl Model for Table {
-    ghost use Rattle.std.specs.Prelude.{◌+◌, length};
+    ghost use Rattle.std.specs.Prelude.{◌+◌, length, map};
     ghost use Rattle.aho_table.specs.Table.{Tables};
-    ghost use Rattle.aho_table.specs.Inside.{HasRows};
+    ghost use Rattle.aho_table.specs.Inside.{HasRows, is_start};
 
     ghost Value = { Tables };
 
-    ghost view = { λ t. record { states = t.states.states; limit = t.states.limit; classes = t.rows.classes; dense_len = length t.rows.entries.items + 1 } };
+    ghost view = { λ t. record {
+      states = t.states.states;
+      limit = t.states.limit;
+      classes = t.rows.classes;
+      dense_len = length t.rows.entries.items + 1;
+      rows = map is_start t.starts.items;
+    } };
 
     ghost invariant = { λ t. HasRows t.states.states t.starts.items t.rows.classes t.rows.entries.items t.states.limit };
 }
@@ -72,6 +78,7 @@ impl Table {
               limit = min limit greatest_index;
               classes = no_borders;
               dense_len = 1;
+              rows = [];
             }) }
     {
         Ok(Table {
@@ -94,6 +101,7 @@ impl Table {
     pub fn facts(&self)
         ensures within { IsWithinLimit self.now.limit self.now.states }
         ensures rising { AllRising self.now.states }
+        ensures rows { length self.now.rows ≡ length self.now.states }
     {
         self.states.facts();
     }
@@ -105,8 +113,8 @@ impl Table {
         self.states.len() == 0
     }
 
-    /// One more state, without transitions or patterns, and with FAIL as its link. Answers its number, which is the count
-    /// of states before it.
+    /// One more state, without transitions, patterns or a row, and with FAIL as its link. Answers its number, which is the
+    /// count of states before it.
     ///
     /// # Errors
     ///
@@ -114,7 +122,10 @@ impl Table {
     pub fn add_state(&mut self, depth: SmallIndex) -> Result<StateID, BuildError>
         ensures number { IfOk result (λ sid. sid ≡ length self.old.states) }
         ensures added { OnOk result
-            (self.new ≡ record self.old { states = self.old.states ++ new_state depth ∷ [] }) }
+            (self.new ≡ record self.old {
+              states = self.old.states ++ new_state depth ∷ [];
+              rows = self.old.rows ++ false ∷ [];
+            }) }
         ensures within { OnOk result (length self.old.states ≤ self.old.limit) }
         ensures refused { IfErr result
             (λ error. error ≡ refusal_at self.old.limit (length self.old.states)) }
@@ -138,7 +149,10 @@ impl Table {
     pub fn set(&mut self, sid: StateID, byte: u8, next: StateID) -> Result<(), BuildError>
         requires added { sid < length self.old.states }
         ensures set { OnOk result
-            (self.new ≡ record self.old { states = set_transition self.old.states sid byte next }) }
+            (self.new ≡ record self.old {
+              states = set_transition self.old.states sid byte next;
+              rows = without_row self.old.rows sid;
+            }) }
         ensures there { lists_byte self.old.states sid byte ≡ true → IsOk result }
         ensures kept { lists_byte self.old.states sid byte ≡ true
             → transitions_count self.new.states ≡ transitions_count self.old.states }
@@ -168,7 +182,8 @@ impl Table {
         requires added { sid < length self.old.states }
         ensures led { IfOk result (IsLedTo sid byte depth self.old.states self.new.states) }
         ensures limit { self.new.limit ≡ self.old.limit }
-        ensures rows { self.new ≡ record self.old { states = self.new.states } }
+        ensures kept { self.new ≡ record self.old { states = self.new.states; rows = self.new.rows } }
+        ensures rows { IfOk result (λ child. self.new.rows ≡ rows_led self.old.rows sid child) }
         ensures free { OnErr result (next_in self.old.states sid byte ≡ fail_id) }
         ensures refused { IfErr result (IsLeadRefusal self.old.limit sid byte self.old.states) }
         ensures unchanged { OnErr result (self.new ≡ self.old) }
@@ -192,8 +207,9 @@ impl Table {
     /// The last state is gone again, which lists nothing.
     fn remove_last(&mut self)
         requires last { (states : List State) × (depth : ℕ) × (self.old.states ≡ states ++ new_state depth ∷ []) }
-        ensures removed { (states : List State) (depth : ℕ) → self.old.states ≡ states ++ new_state depth ∷ []
-            → self.new ≡ record self.old { states = states } }
+        ensures removed { (states : List State) (depth : ℕ) (rows : List Bool) (row : Bool)
+            → self.old.states ≡ states ++ new_state depth ∷ [] → self.old.rows ≡ rows ++ row ∷ []
+            → self.new ≡ record self.old { states = states; rows = rows } }
     {
         self.states.remove_last();
         let count = self.states.len();
@@ -220,7 +236,11 @@ impl Table {
 
     /// Goes by these classes of bytes, and forgets every row.
     pub fn set_byte_classes(&mut self, classes: ByteClasses)
-        ensures set { self.new ≡ record self.old { classes = classes; dense_len = 1 } }
+        ensures set { self.new ≡ record self.old {
+          classes = classes;
+          dense_len = 1;
+          rows = no_rows self.old.states;
+        } }
     {
         self.starts.fill(0);
         self.rows.set_classes(classes);
@@ -246,6 +266,7 @@ impl Table {
         ensures added { OnOk result
             (self.new ≡ record self.old {
               dense_len = self.old.dense_len + class_count self.old.classes;
+              rows = with_row self.old.rows sid;
             }) }
         ensures within { OnOk result (self.old.dense_len ≤ self.old.limit) }
         ensures refused { IfErr result

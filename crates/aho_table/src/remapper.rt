@@ -3,7 +3,7 @@
 
 ghost use Rattle.std.specs.Prelude.{◌≡◌, ◌≤◌, ◌<◌, ℕ, List, length, map, slice_index, slice_set, IfOk};
 ghost use Rattle.std.specs.List.{AllZip, range_with_len, swap};
-ghost use Rattle.aho_table.specs.Remapping.{transposed, place_of};
+ghost use Rattle.aho_table.specs.Remapping.{transposed, place_of_state};
 
 use aho_base::search::StateID;
 use std::alloc::{AllocError, Global};
@@ -24,6 +24,12 @@ pub trait Remappable {
     ghost renames_by: { (f g : ℕ → ℕ → Type 0) → ((a b : ℕ) → f a b → g a b) →
         (x y : State) → is_renamed f x y → is_renamed g x y };
 
+    /// What else is known of a state: it moves with the state, and no renumbering changes it.
+    ghost Mark: { Type 0 };
+
+    /// It of each state, by their numbers.
+    ghost marks: { Self → List Mark };
+
     /// What no renumbering changes.
     ghost Kept: { Type 0 };
 
@@ -40,6 +46,7 @@ pub trait Remappable {
         requires a { a < length (states self.old) }
         requires b { b < length (states self.old) }
         ensures swapped { states self.new ≡ swap (states self.old) a b }
+        ensures marks { marks self.new ≡ swap (marks self.old) a b }
         ensures kept { kept self.new ≡ kept self.old };
 
     /// Each number that stands in a state is exchanged for the one that the closure answers for it, which is one and the
@@ -48,6 +55,7 @@ pub trait Remappable {
         requires callable { F.IsAlwaysCallable map }
         requires one { (n a b : ℕ) → F.post map n a → F.post map n b → a ≡ b }
         ensures renamed { AllZip (is_renamed (F.post map)) (states self.old) (states self.new) }
+        ensures marks { marks self.new ≡ marks self.old }
         ensures kept { kept self.new ≡ kept self.old };
 }
 
@@ -94,6 +102,7 @@ impl Remapper {
         requires b { b < length self.old }
         requires as_many { length (R.states r.old) ≡ length self.old }
         ensures swapped { R.states r.new ≡ swap (R.states r.old) a b }
+        ensures marks { R.marks r.new ≡ swap (R.marks r.old) a b }
         ensures kept { R.kept r.new ≡ R.kept r.old }
         ensures moved { self.new ≡ map (transposed a b) self.old }
     {
@@ -109,14 +118,15 @@ impl Remapper {
     /// Each number that stands in a state is exchanged for the place of the state that it named at first. A number of no
     /// state stays.
     pub fn remap<R: Remappable>(self, r: &mut R)
-        ensures renamed { AllZip (R.is_renamed (λ named now. now ≡ place_of self named))
+        ensures renamed { AllZip (R.is_renamed (λ named now. now ≡ place_of_state self named))
             (R.states r.old) (R.states r.new) }
+        ensures marks { R.marks r.new ≡ R.marks r.old }
         ensures kept { R.kept r.new ≡ R.kept r.old }
     {
         let places = self.places.as_slice();
         r.remap(
             |sid: StateID|
-                ensures place { result ≡ place_of places.entry.now sid }
+                ensures place { result ≡ place_of_state places.entry.now sid }
             {
                 match places.get(sid.as_usize()) {
                     Some(place) => *place,

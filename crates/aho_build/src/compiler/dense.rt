@@ -2,7 +2,7 @@
 
 ghost use Rattle.std.specs.Prelude.{◌≡◌, ℕ, ◌<◌, ◌≤◌, length, IfErr, OnOk};
 ghost use Rattle.aho_table.specs.Table.{state_at, LeadsAlike};
-ghost use Rattle.aho_build.specs.Dense.{is_dense, dense_count, row_start, AreWithinLimit, IsRowRefusal};
+ghost use Rattle.aho_build.specs.Dense.{is_dense, AreDense, dense_count, row_start, AreWithinLimit, IsRowRefusal};
 
 use aho_base::error::BuildError;
 use aho_base::search::StateID;
@@ -29,7 +29,9 @@ pub fn densify(table: &mut Table, classes: ByteClasses, depth: usize) -> Result<
     ensures dense { OnOk result (table.new ≡ record table.old {
       classes = classes;
       dense_len = row_start classes (dense_count depth table.old.states);
+      rows = table.new.rows;
     }) }
+    ensures rows { OnOk result (AreDense depth table.old.states table.new.rows) }
     ensures within { OnOk result
         (AreWithinLimit table.old.limit classes (dense_count depth table.old.states)) }
     ensures refused { IfErr result

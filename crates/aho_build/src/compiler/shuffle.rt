@@ -3,7 +3,7 @@
 ghost use Rattle.std.specs.Prelude.{◌≡◌, ◌<◌, ◌≤◌, [], length, IfOk, OnOk, OnErr};
 ghost use Rattle.std.specs.List.{range_with_len};
 ghost use Rattle.aho_build.specs.FirstStates.{anchored_id};
-ghost use Rattle.aho_build.specs.Shuffled.{AreGathered, AreShuffled};
+ghost use Rattle.aho_build.specs.Shuffled.{AreGathered, AreShuffled, RowsAreMoved};
 
 use crate::compiler::starts::{anchored_start, unanchored_start};
 use crate::special::Special;
@@ -22,11 +22,12 @@ use std::alloc::{AllocError, Global};
 /// Want of memory. The table is then unchanged.
 pub fn shuffle(alloc: Global, table: &mut Table, skips: bool) -> Result<Special, AllocError>
     requires starts { anchored_id < length table.old.states }
-    ensures shuffled { IfOk result (AreShuffled skips table.old.states table.new.states) }
-    ensures kept { OnOk result
-        (record table.new { states = [] } ≡ record table.old { states = [] }) }
+    ensures shuffled { IfOk result (AreShuffled skips table.old table.new) }
+    ensures kept { OnOk result (record table.new { states = []; rows = [] }
+        ≡ record table.old { states = []; rows = [] }) }
     ensures unchanged { OnErr result (table.new ≡ table.old) }
 {
+    table.facts();
     let mut remapper = Remapper::new(alloc, &*table)?;
     let next = gather_matches(table, &mut remapper);
     let start_unanchored_id = StateID::new_unchecked(next - 2);
@@ -56,9 +57,12 @@ fn gather_matches(table: &mut Table, remapper: &mut Remapper) -> usize
     requires starts { anchored_id < length table.old.states }
     requires stay { remapper.old ≡ range_with_len 0 (length table.old.states) }
     ensures gathered { AreGathered result (length table.old.states) remapper.new table.old.states table.new.states }
-    ensures kept { record table.new { states = [] } ≡ record table.old { states = [] } }
+    ensures rows { RowsAreMoved remapper.new table.old.rows table.new.rows }
+    ensures kept { record table.new { states = []; rows = [] }
+        ≡ record table.old { states = []; rows = [] } }
     ensures bound { result ≤ 2147483647 }
 {
+    table.facts();
     let mut next = 4;
     for index in 4..table.len() {
         let sid = StateID::new_unchecked(index);

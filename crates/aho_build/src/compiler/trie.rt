@@ -1,18 +1,17 @@
 //! The trie of the patterns: the states of an automaton with their transitions and own patterns, before links are made.
 
-ghost use Rattle.std.specs.Prelude.{◌≡◌, ◌&&◌, ◌+◌, ◌<◌, ◌≤◌, ◌↔◌, ℕ, List, [], length, map, min, nat_lt, IsOk, IfOk, IfErr, OnOk};
-ghost use Rattle.std.specs.Iterator.{Drains, IsFinite};
-ghost use denote.Ref.{Bor};
+ghost use Rattle.std.specs.Prelude.{◌≡◌, ◌&&◌, ◌+◌, ◌<◌, ◌≤◌, ◌↔◌, [], length, min, nat_lt, IsOk, IfOk, IfErr, OnOk};
+ghost use Rattle.std.specs.Iterator.{IsFinite};
 ghost use Rattle.aho_base.specs.Numbers.{greatest_index};
 ghost use Rattle.aho_base.specs.declared.error.BuildError.TheVariants.{PatternIDOverflow, PatternTooLong};
 ghost use Rattle.aho_base.specs.Patterns.{Patterns};
 ghost use Rattle.aho_build.specs.TrieGrowth.{HasChild, IsFilledBelow, is_first, AwaitsWord, AddsWord, AddsPattern, IsChildRefusal, IsWordRefusal, AreWithin};
-ghost use Rattle.aho_build.specs.Trie.{HoldsFirst, HoldsTrie};
+ghost use Rattle.aho_build.specs.Trie.{HoldsFirst};
 ghost use Rattle.aho_table.specs.Refusal.{IsRefusalOf};
 ghost use Rattle.aho_build.specs.Settings.{in_force};
-ghost use Rattle.aho_build.specs.Refusals.{IsAccepted};
-ghost use Rattle.aho_build.specs.Items.{patterns_of, IsTrieFailure};
-ghost use Rattle.aho_build.specs.Dense.{AddsBorders, HasBorders};
+ghost use Rattle.aho_build.specs.Items.{OfDrained, IsTrieFailure};
+ghost use Rattle.aho_build.specs.Made.{IsTrieMade};
+ghost use Rattle.aho_build.specs.Dense.{AddsBorders};
 ghost use Rattle.aho_build.specs.Prefilters.{Collects};
 ghost use Rattle.aho_table.specs.Table.{IsWithinLimit, state_at, matches_in, transitions_count};
 
@@ -218,14 +217,8 @@ pub fn build_trie<'p, I: Iterator<Item = &'p [u8]> + Drop>(
 ) -> Result<Trie, BuildError>
     requires can { I.can_next patterns }
     requires ends { IsFinite (I.remaining patterns) }
-    ensures built { IfOk result (λ trie. (items : List (Bor (List ℕ)))
-        × (Drains I.next_gives patterns items
-        × ((trie.lens.items ≡ map length (patterns_of settings.now items).words)
-        × (HoldsTrie (patterns_of settings.now items) trie.table.states
-        × (AreWithin settings.now (patterns_of settings.now items)
-        × (IsAccepted settings.now (patterns_of settings.now items)
-        × (Collects settings.now (patterns_of settings.now items) trie.prefilter
-        × HasBorders (patterns_of settings.now items) trie.borders))))))) }
+    ensures built { IfOk result (λ trie.
+        OfDrained I.next_gives patterns settings.now (IsTrieMade settings.now trie)) }
     ensures limit { IfOk result (λ trie. trie.table.limit ≡ (in_force settings.now).id) }
     ensures within { IfOk result (λ trie.
         IsWithinLimit (in_force settings.now).id trie.table.states) }

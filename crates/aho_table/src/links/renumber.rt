@@ -7,7 +7,7 @@ use crate::remapper::Remappable;
 use aho_base::search::StateID;
 
 impl Remappable for Table {
-    ghost use Rattle.std.specs.Prelude.{[]};
+    ghost use Rattle.std.specs.Prelude.{[], Bool};
     ghost use Rattle.aho_table.specs.Table.{State as StateValue, Tables};
     ghost use Rattle.aho_table.specs.Renaming.{IsRenamed-weaker};
 
@@ -21,7 +21,11 @@ impl Remappable for Table {
 
     ghost Kept = { Tables };
 
-    ghost kept = { λ t. record t { states = [] } };
+    ghost Mark = { Bool };
+
+    ghost marks = { λ t. t.rows };
+
+    ghost kept = { λ t. record t { states = []; rows = [] } };
 
     fn state_len(&self) -> usize {
         self.states.len()

@@ -2,7 +2,7 @@ use Rattle.std.proofs.Common.{ℕ, ◌≡◌, ◌+◌, ◌≤◌, ◌∙◌, Boo
 use Rattle.aho_build.specs.Settings.{in_force}
 use Rattle.aho_build.specs.Sizes.{matches_size}
 use Rattle.aho_build.specs.Refusals.{own_size, start_size}
-use Rattle.aho_build.specs.Dense.{HasBorders}
+use Rattle.aho_build.specs.Dense.{AreDense, HasBorders}
 use Rattle.aho_build.specs.Starts.{IsLedBelow, looped}
 use Rattle.aho_build.specs.Trie.{names_before}
 use Rattle.aho_build.specs.Items.{patterns_of, IsFailure}
@@ -16,6 +16,7 @@ use Rattle.aho_build.proofs.BuildRefusals.{IsRefusal-stopped, IsRefusal-start, I
 use Rattle.aho_build.proofs.RefusedGrowths.{AreRowsWithin-of, cause-within}
 use Rattle.aho_build.proofs.Phases.{ListsExactly-linked, root_full-led, IsReady-led, fail_matches-led, matches_count-led, matches_count-linked, IsSized-linked}
 use Rattle.aho_build.proofs.StoppedBuilds.{IfErr-given}
+use Rattle.aho_build.proofs.MovedRows.{AreDense-linked, AreDense-shuffled}
 use Rattle.aho_build.proofs.Built.{IsAutomaton-built}
 use Rattle.aho_build.proofs.RenumberedAutomata.{IsAutomaton-shuffled, ListsExactly-shuffled, IsSized-shuffled}
 use Rattle.std.specs.Option.{is_some}
@@ -41,17 +42,17 @@ returns-in_err-set_anchored_start_state-clause-refused g c =
     let built = c.in_ok-trie.ensures.built in
     let p = patterns_of settings built.0 in
     let table = c.in_ok-trie.trie.table in
-    let holds = built.1.1.1.0 in
+    let holds = built.2.holds in
     let room : own_size p ≤ (in_force settings).id + 1 = omega (arith, c.in_ok-trie.ensures.within.matches, holds.counted.matches) in
     IfErr-given (IsFailure gives c.args.patterns settings) c.from_residual-in_err-set_anchored_start_state.result error c.from_residual-in_err-set_anchored_start_state.ensures.1
-    (IsRefusal-start gives c.args.patterns settings built.0 error table.limit c.in_ok-trie.ensures.limit built.1.0 built.1.1.1.1.1.0 room
+    (IsRefusal-start gives c.args.patterns settings built.0 error table.limit c.in_ok-trie.ensures.limit built.1 built.2.accepted room
     (IsRefusalOf-larger table.limit (own_size p + start_size p) table.limit (matches_count table.states + length (matches_in table.states root_id)) error refl
     (omega (arith, holds.counted.matches, root_list-own p table.states holds)) (c.in_err-set_anchored_start_state.ensures.refused holds.listed.anchored_full)))
 
 pub returns-in_err-add_unanchored_start_state_loop-clause-refused : goal.returns-in_err-add_unanchored_start_state_loop-clause-refused
 returns-in_err-add_unanchored_start_state_loop-clause-refused g c =
     let built = c.in_ok-trie.ensures.built in
-    let full = root_full-led (patterns_of c.args.settings.now built.0) c.in_ok-trie.trie.table.states c.set_anchored_start_state.new.table.states built.1.1.1.0 c.in_ok-set_anchored_start_state.ensures.led in
+    let full = root_full-led (patterns_of c.args.settings.now built.0) c.in_ok-trie.trie.table.states c.set_anchored_start_state.new.table.states built.2.holds c.in_ok-set_anchored_start_state.ensures.led in
     let clash = c.in_err-add_unanchored_start_state_loop.ensures.full full in
     cc
 
@@ -60,8 +61,8 @@ densify-requires g c =
     let built = c.in_ok-trie.ensures.built in
     let p = patterns_of c.args.settings.now built.0 in
     let classes = c.byte_classes-classes.result in
-    let has : HasBorders p classes = subst (HasBorders p) (sym c.byte_classes-classes.ensures.borders) built.1.1.1.1.1.1.1 in
-    let ready = IsReady-led p c.in_ok-trie.trie.table.states c.set_anchored_start_state.new.table.states built.1.1.1.0 c.in_ok-set_anchored_start_state.ensures.led
+    let has : HasBorders p classes = subst (HasBorders p) (sym c.byte_classes-classes.ensures.borders) built.2.borders in
+    let ready = IsReady-led p c.in_ok-trie.trie.table.states c.set_anchored_start_state.new.table.states built.2.holds c.in_ok-set_anchored_start_state.ensures.led
     c.add_unanchored_start_state_loop.new.table c.in_ok-add_unanchored_start_state_loop.ensures.looped in
     record {
       alike = leads_alike p (names_before p (length p.words)) c.add_unanchored_start_state_loop.new.table.states classes ready
@@ -75,18 +76,18 @@ returns-in_err-densify-clause-refused g c =
     let error = c.in_err-densify.field-0.0 in
     let built = c.in_ok-trie.ensures.built in
     let p = patterns_of settings built.0 in
-    let holds = built.1.1.1.0 in
+    let holds = built.2.holds in
     let old = c.in_ok-trie.trie.table.states in
     let mid = c.set_anchored_start_state.new.table.states in
     let led = c.in_ok-set_anchored_start_state.ensures.led in
     let table = c.add_unanchored_start_state_loop.new.table in
     let classes = c.byte_classes-classes.result in
-    let has : HasBorders p classes = subst (HasBorders p) (sym c.byte_classes-classes.ensures.borders) built.1.1.1.1.1.1.1 in
+    let has : HasBorders p classes = subst (HasBorders p) (sym c.byte_classes-classes.ensures.borders) built.2.borders in
     let ready = IsReady-led p old mid holds led table c.in_ok-add_unanchored_start_state_loop.ensures.looped in
     let mid_limit = c.in_ok-set_anchored_start_state.ensures.limit ∙ c.in_ok-trie.ensures.limit in
     let few : own_size p + start_size p ≤ (in_force settings).id + 1 = omega (arith, matches_count-led p old mid holds led, c.facts.ensures.within.matches, mid_limit) in
     IfErr-given (IsFailure gives c.args.patterns settings) c.from_residual-in_err-densify.result error c.from_residual-in_err-densify.ensures.1
-    (IsRefusal-row gives c.args.patterns settings built.0 error table.limit (c.in_ok-add_unanchored_start_state_loop.ensures.limit ∙ mid_limit) built.1.0 built.1.1.1.1.1.0 few
+    (IsRefusal-row gives c.args.patterns settings built.0 error table.limit (c.in_ok-add_unanchored_start_state_loop.ensures.limit ∙ mid_limit) built.1 built.2.accepted few
     classes _ (dense_count-of p table.states ready settings.dense_depth) (row_start-of p table.states ready classes c.byte_classes-classes.ensures.sized has)
     c.in_err-densify.ensures.refused)
 
@@ -103,7 +104,7 @@ fill_failure_transitions-requires g c =
         (
           names_before p (length p.words),
           refl,
-          IsReady-led p c.in_ok-trie.trie.table.states mid built.1.1.1.0 c.in_ok-set_anchored_start_state.ensures.led c.densify.new.table closed,
+          IsReady-led p c.in_ok-trie.trie.table.states mid built.2.holds c.in_ok-set_anchored_start_state.ensures.led c.densify.new.table closed,
         ),
       );
     }
@@ -115,7 +116,7 @@ returns-in_err-fill_failure_transitions-clause-refused g c =
     let error = c.in_err-fill_failure_transitions.field-0.0 in
     let built = c.in_ok-trie.ensures.built in
     let p = patterns_of settings built.0 in
-    let holds = built.1.1.1.0 in
+    let holds = built.2.holds in
     let old = c.in_ok-trie.trie.table.states in
     let mid = c.set_anchored_start_state.new.table.states in
     let table = c.add_unanchored_start_state_loop.new.table in
@@ -129,12 +130,12 @@ returns-in_err-fill_failure_transitions-clause-refused g c =
     let few : own_size p + start_size p ≤ (in_force settings).id + 1 = omega (arith, matches_count-led p old mid holds led, c.facts.ensures.within.matches, mid_limit) in
     let before = IsReady-led p old mid holds led table looped_is in
     let classes = c.byte_classes-classes.result in
-    let has : HasBorders p classes = subst (HasBorders p) (sym c.byte_classes-classes.ensures.borders) built.1.1.1.1.1.1.1 in
+    let has : HasBorders p classes = subst (HasBorders p) (sym c.byte_classes-classes.ensures.borders) built.2.borders in
     let counted = dense_count-of p table.states before settings.dense_depth in
     let start = row_start-of p table.states before classes c.byte_classes-classes.ensures.sized has in
     let rows = AreRowsWithin-of settings p table.limit classes _ table_limit counted start c.in_ok-densify.ensures.within in
     IfErr-given (IsFailure gives c.args.patterns settings) c.from_residual-in_err-fill_failure_transitions.result error c.from_residual-in_err-fill_failure_transitions.ensures.1
-    (IsRefusal-copied gives c.args.patterns settings built.0 error ready.limit limit built.1.0 built.1.1.1.1.1.0 few rows
+    (IsRefusal-copied gives c.args.patterns settings built.0 error ready.limit limit built.1 built.2.accepted few rows
     (c.in_err-fill_failure_transitions.ensures.refused p refl (IsReady-led p old mid holds led ready closed)
     (fail_matches-led p old mid holds led ready closed)))
 
@@ -144,7 +145,7 @@ returns-clause-built g c =
     let built = c.in_ok-trie.ensures.built in
     let p = patterns_of settings built.0 in
     let names = names_before p (length p.words) in
-    let holds = built.1.1.1.0 in
+    let holds = built.2.holds in
     let old = c.in_ok-trie.trie.table.states in
     let mid = c.set_anchored_start_state.new.table.states in
     let table = c.add_unanchored_start_state_loop.new.table in
@@ -160,7 +161,7 @@ returns-clause-built g c =
     let limit = copies.limit ∙ ap (λ (t : Tables). t.limit) c.in_ok-densify.ensures.dense ∙ table_limit in
     let before = IsReady-led p old mid holds led table looped_is in
     let classes = c.byte_classes-classes.result in
-    let has : HasBorders p classes = subst (HasBorders p) (sym c.byte_classes-classes.ensures.borders) built.1.1.1.1.1.1.1 in
+    let has : HasBorders p classes = subst (HasBorders p) (sym c.byte_classes-classes.ensures.borders) built.2.borders in
     let counted = dense_count-of p table.states before settings.dense_depth in
     let start = row_start-of p table.states before classes c.byte_classes-classes.ensures.sized has in
     let rows = AreRowsWithin-of settings p table.limit classes _ table_limit counted start c.in_ok-densify.ensures.within in
@@ -170,39 +171,32 @@ returns-clause-built g c =
     let special = c.in-Ok-shuffle.special in
     let shuffled = c.in-Ok-shuffle.ensures.shuffled in
     let kept = ap (λ (t : Tables). t.dense_len) c.in-Ok-shuffle.ensures.kept in
-    let automaton = IsAutomaton-shuffled c.is_some.result new.states c.shuffle.new.table.states special p names shuffled (IsAutomaton-built special p names new.states linked) in
-    let few : matches_size p ≤ (in_force settings).id + 1 = omega (arith, size, c.facts-2.ensures.within.matches, limit) in (
+    let automaton = IsAutomaton-shuffled c.is_some.result new c.shuffle.new.table special p names shuffled (IsAutomaton-built special p names new.states linked) in
+    let few : matches_size p ≤ (in_force settings).id + 1 = omega (arith, size, c.facts-2.ensures.within.matches, limit) in
+    let skips : c.is_some.result ≡ is_some c.in-Ok.prefilter = search rules in
+    let dense : AreDense settings.dense_depth new.states new.rows =
+    subst (AreDense settings.dense_depth new.states) (sym (ap (λ (r : List Bool × ℕ × List Bool). r.2) copies.rows))
+    (AreDense-linked settings.dense_depth p names ready.states new.states (IsReady-led p old mid holds led ready closed) linked ready.rows
+    (subst (λ (ss : List State). AreDense settings.dense_depth ss ready.rows) (sym same_states) c.in_ok-densify.ensures.rows)) in (
       built.0,
-      (built.1.0, cause-within settings p built.1.1.1.1.1.0 own rows few),
-      (
-        record {
+      (built.1, cause-within settings p built.2.accepted own rows few),
+      record {
+        automaton = record {
           kind_is = refl;
-          lengths_are = built.1.1.0;
+          lengths_are = built.2.lengths;
           names = automaton.0;
           automaton = automaton.1;
-          listed = ListsExactly-shuffled c.is_some.result new.states c.shuffle.new.table.states special shuffled
+          listed = ListsExactly-shuffled c.is_some.result new c.shuffle.new.table special shuffled
               (ListsExactly-linked p old mid holds led ready closed new copies linked special (c.in_ok-set_anchored_start_state.ensures.full holds.listed.anchored_full));
-          sized = IsSized-shuffled c.is_some.result new.states c.shuffle.new.table.states special p shuffled (IsSized-linked p old mid holds led ready closed new copies linked
+          sized = IsSized-shuffled c.is_some.result new c.shuffle.new.table special p shuffled (IsSized-linked p old mid holds led ready closed new copies linked
               (c.in_ok-set_anchored_start_state.ensures.transitions holds.listed.anchored_full)
               (ap transitions_count same_states ∙ c.in_ok-add_unanchored_start_state_loop.ensures.transitions (root_full-led p old mid holds led)));
-        },
-        kept ∙ ap (λ (r : List Bool × ℕ). r.1) copies.rows ∙ ap (λ (t : Tables). t.dense_len) c.in_ok-densify.ensures.dense ∙ dense_size-of p table.states before classes c.byte_classes-classes.ensures.sized has settings.dense_depth,
-        (let made = c.in-Ok.ensures.held settings p built.1.1.1.1.1.1.0 in cc),
-        subst (HasBorders p) (sym (ap (λ (t : Tables). t.classes) c.in-Ok-shuffle.ensures.kept ∙ ap (λ (r : List Bool × ℕ). r.0) copies.rows ∙ ap (λ (t : Tables). t.classes) c.in_ok-densify.ensures.dense)) has,
-      ),
-    )
-
-pub returns-clause-numbered : goal.returns-clause-numbered
-returns-clause-numbered g c =
-    let special = c.in-Ok-shuffle.special in
-    let states = c.shuffle.new.table.states in
-    let built = returns-clause-built g c in
-    let p = patterns_of c.args.settings.now built.0 in
-    let skips : c.is_some.result ≡ is_some c.in-Ok.prefilter = search rules in
-    let order = c.in-Ok-shuffle.ensures.shuffled.order in
-    let automaton = built.2.0.automaton in (
-      built.0,
-      built.1,
-      subst (λ (skips : Bool). IsInOrder (has_empty p) skips special (matches_in states)) skips
-          (IsInOrder-empty c.is_some.result special p built.2.0.names states automaton order),
+        };
+        rows = AreDense-shuffled settings.dense_depth c.is_some.result new c.shuffle.new.table special shuffled dense;
+        dense_len = kept ∙ ap (λ (r : List Bool × ℕ × List Bool). r.1) copies.rows ∙ ap (λ (t : Tables). t.dense_len) c.in_ok-densify.ensures.dense ∙ dense_size-of p table.states before classes c.byte_classes-classes.ensures.sized has settings.dense_depth;
+        prefilter = (let made = c.in-Ok.ensures.held settings p built.2.collects in cc);
+        borders = subst (HasBorders p) (sym (ap (λ (t : Tables). t.classes) c.in-Ok-shuffle.ensures.kept ∙ ap (λ (r : List Bool × ℕ × List Bool). r.0) copies.rows ∙ ap (λ (t : Tables). t.classes) c.in_ok-densify.ensures.dense)) has;
+        order = subst (λ (skips : Bool). IsInOrder (has_empty p) skips special (matches_in c.shuffle.new.table.states)) skips
+            (IsInOrder-empty c.is_some.result special p automaton.0 c.shuffle.new.table.states automaton.1 shuffled.order);
+      },
     )

@@ -71,7 +71,7 @@ returns c =
           (omega (arith, c.args.queue.now.ok.0)) (omega arith) c.index-parent.ensures c.transition-byte.ensures.listed c.transition-byte.ensures.leads other free c.child_link-fail.result c.child_link-fail.ensures.links c.enqueue.new.queue.items c.link.new.table.states enqueued linked) c.enqueue.ensures.enqueued;
       copies = on_ok_weaker c.enqueue.result (λ enqueued. visit_copies c.args.kind c.args.queue.now.items c.args.head c.args.index c.args.table.now.states c.index-parent.result.now c.transition-byte.result
           (omega (arith, c.args.queue.now.ok.0)) (omega arith) c.index-parent.ensures c.transition-byte.ensures.listed c.transition-byte.ensures.leads other free c.child_link-fail.result c.child_link-fail.ensures.links
-          c.args.table.now.limit c.args.table.now.classes c.args.table.now.dense_len c.link.new.table c.requires.linking c.in_ok-link.ensures.limit c.in_ok-link.ensures.rows linked) c.enqueue.ensures.enqueued;
+          c.args.table.now.limit c.args.table.now.classes c.args.table.now.dense_len c.args.table.now.rows c.link.new.table c.requires.linking c.in_ok-link.ensures.limit c.in_ok-link.ensures.rows linked) c.enqueue.ensures.enqueued;
       refused = IfErr-weaker c.enqueue.result (λ error. error ≡ OutOfMemory) (IsLinkingRefusal c.args.kind c.args.queue.now.items c.args.head c.args.index c.args.table.now)
           (λ error memory p same so_far none. inl memory) c.enqueue.ensures.refused;
     }

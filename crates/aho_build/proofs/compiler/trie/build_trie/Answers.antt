@@ -71,10 +71,15 @@ returns-clause-built g c =
     let begun = subst (λ (i : _). Yields g.I.Iterator.next_gives i c.loop-pattern.yielded c.loop-pattern.pattern-iterator) c.into_iter-pattern-iterator.ensures.into_iter_gives c.loop-pattern.yielded_by in
     let last = subst (λ (r : _). g.I.Iterator.next_gives c.loop-pattern.pattern-iterator r c.next.new.self) c.in-None.is c.next.ensures.steps in (
       c.loop-pattern.yielded,
-      (
-        (c.next.new.self, (c.loop-pattern.pattern-iterator, begun, last)),
-        (c.loop-pattern.invariant.lens, (c.loop-pattern.invariant.trie, (c.loop-pattern.invariant.within, (c.loop-pattern.invariant.accepted, (c.loop-pattern.invariant.collected, c.loop-pattern.invariant.bordered))))),
-      ),
+      (c.next.new.self, (c.loop-pattern.pattern-iterator, begun, last)),
+      record {
+        lengths = c.loop-pattern.invariant.lens;
+        holds = c.loop-pattern.invariant.trie;
+        within = c.loop-pattern.invariant.within;
+        accepted = c.loop-pattern.invariant.accepted;
+        collects = c.loop-pattern.invariant.collected;
+        borders = c.loop-pattern.invariant.bordered;
+      },
     )
 
 pub returns-in_err-first_states-clause-stopped : goal.returns-in_err-first_states-clause-stopped
