@@ -1,6 +1,10 @@
 //! `acfind find KIND [-i] PATTERN..` prints the matches of some patterns in standard input, one after another, as lines
 //! `PATTERN START END`: the pattern's number, and the match's range in bytes, without its end. `acfind overlap PATTERN..`
-//! prints all that occur, those that overlap too.
+//! prints all that occur, those that overlap too. `acfind replace P R ..` prints the input with R in the place of each
+//! match of P.
+//!
+//! `-i` is the case rule in the place after KIND alone. Anywhere else it is a pattern of two bytes, as any word is that
+//! begins with '-': there is no flag after `overlap` and after `replace`.
 //!
 //! The status is 0 where there is a match and 1 where there is none. It is 2 where nothing is searched and 3 where reading
 //! or writing fails, and then a line on standard error says why.
