@@ -2,7 +2,9 @@
 use Rattle.std.proofs.Common.{ℕ, List, ◌++◌, Option}
 use Rattle.std.proofs.lemmas.Grind.{flat_map-append}
 use Rattle.aho_base.specs.Occurrence.{Occurrence}
-use Rattle.commands.specs.Answers.{AppendsBeginning, Begins, Begun, Tells, line_of, lines_of}
+use Rattle.aho_devices.specs.Counts.{AppendsBeginning}
+use Rattle.commands.specs.Answers.{BeginsMatches, Begun, PrintsMatches, line_of, lines_of}
+use Rattle.commands.specs.Streams.{Contents}
 use Rattle.commands.specs.Asked.{Asked}
 use Rattle.commands.proofs.Beginnings.{beginning-more, beginning-whole}
 
@@ -13,5 +15,9 @@ begun-first AreMeant old new ms more meant begun = record {
   begun = rw (flat_map-append line_of) (beginning-more old new (lines_of ms) (lines_of more) begun);
 }
 
-pub begins-told : {asked : Asked} {input_old input_new output_old output_new : Option (List ℕ)} {status : ℕ} → Tells asked input_old input_new output_old output_new status → Begins asked input_old input_new output_old output_new
-begins-told {output_old = old} {output_new = new} tells = record { matches = tells.matches; found = tells.found; begun = beginning-whole old new (lines_of tells.matches) tells.printed }
+pub begins-told : {asked : Asked} {bytes : Contents} {status : ℕ} → PrintsMatches asked bytes status → BeginsMatches asked bytes
+begins-told {bytes = bytes} prints = record {
+  matches = prints.matches;
+  found = prints.found;
+  begun = beginning-whole bytes.held_before bytes.held_after (lines_of prints.matches) prints.printed;
+}

@@ -1,5 +1,5 @@
--- What the words after the program's name ask for.
-use Rattle.std.specs.Prelude.{◌≡◌, ℕ, ◌%◌, ◌==◌, ◌||◌, not, true, false, List, [], ◌∷◌, Option, Some, None, codes, length, option_and_then, if◌then◌else◌}
+-- What the arguments, those after the program's name, ask for.
+use Rattle.std.specs.Prelude.{◌≡◌, ℕ, ◌%◌, ◌==◌, ◌||◌, not, true, false, List, [], ◌∷◌, Option, Some, None, codes, length, map, String, string_bytes, option_and_then, if◌then◌else◌}
 use Rattle.std.specs.Str.{bytes_eq}
 use Rattle.aho_base.specs.declared.search.MatchKind.{MatchKind}
 use Rattle.aho_base.specs.declared.search.MatchKind.TheVariants.{Standard, LeftmostFirst, LeftmostLongest}
@@ -7,7 +7,7 @@ use Rattle.commands.specs.Asked.{Asked, Replacing, replacing_for}
 use Rattle.commands.specs.declared.command.Task.{Task}
 use Rattle.commands.specs.declared.command.Task.TheVariants.{Find, Overlap}
 
--- the match kind that a word names
+-- the match kind that an argument names
 abbrev pub kind_by : List ℕ → Option MatchKind
 kind_by word =
     if bytes_eq word (codes "standard") then Some Standard
@@ -50,6 +50,15 @@ abbrev pub replacing_by : List (List ℕ) → Option Replacing
 replacing_by [] = None
 replacing_by (word ∷ words) = if bytes_eq word (codes "replace") then pairs_by words else None
 
--- the words ask for nothing
-abbrev pub AreWrong : List (List ℕ) → Type 0
-AreWrong words = (asked_by words ≡ None) × (replacing_by words ≡ None)
+module _ {Z : Type 0} where
+  -- the arguments ask for these matches
+  abbrev pub AskFor : List (String Z) → Asked → Type 0
+  AskFor arguments asked = asked_by (map string_bytes arguments) ≡ Some asked
+
+  -- the arguments ask for this replacement
+  abbrev pub AskToReplace : List (String Z) → Replacing → Type 0
+  AskToReplace arguments asked = replacing_by (map string_bytes arguments) ≡ Some asked
+
+  -- the arguments ask for nothing
+  abbrev pub AreWrong : List (String Z) → Type 0
+  AreWrong arguments = (asked_by (map string_bytes arguments) ≡ None) × (replacing_by (map string_bytes arguments) ≡ None)

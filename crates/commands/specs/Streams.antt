@@ -1,0 +1,31 @@
+-- The bytes that the input and the output of a call tell of.
+use Rattle.std.specs.Prelude.{ℕ, List, Option}
+use Rattle.std.specs.declared.io.traits.Read.{Ghosts as Readers}
+use Rattle.std.specs.declared.io.traits.Write.{Ghosts as Writers}
+use Rattle.aho_devices.specs.declared.adapters.FromRead.{FromRead}
+use Rattle.aho_devices.specs.declared.adapters.FromWrite.{FromWrite}
+
+-- what the input's reader has left and what the output's writer holds, before and after
+pub record Contents : Type 0 where
+  pub left_before : Option (List ℕ)
+  pub left_after : Option (List ℕ)
+  pub held_before : Option (List ℕ)
+  pub held_after : Option (List ℕ)
+
+-- the bytes that a reader has left, where it tells them
+abbrev pub bytes_left : {R : Type 0} {Reads : Readers R} → FromRead R Reads → Option (List ℕ)
+bytes_left {Reads = Reads} input = Reads.remaining input.device.reader
+
+-- the bytes that a writer holds, where it tells them
+abbrev pub bytes_held : {W : Type 0} → Writers W → FromWrite W → Option (List ℕ)
+bytes_held Writes output = Writes.contents output.device.writer
+
+-- those of an input and an output, each before and after
+abbrev pub contents : {R : Type 0} {Reads : Readers R} {W : Type 0}
+    → Writers W → FromRead R Reads → FromRead R Reads → FromWrite W → FromWrite W → Contents
+contents Writes input_old input_new output_old output_new = record {
+  left_before = bytes_left input_old;
+  left_after = bytes_left input_new;
+  held_before = bytes_held Writes output_old;
+  held_after = bytes_held Writes output_new;
+}
