@@ -38,7 +38,7 @@ leaves_stream Memory same some near = same tt
 leaves_stream PositionLimit same some near = (some, near tt)
 
 module _ (IsOf : Patterns → Type 0) (asked : Replacing) (of : IsOf (patterns_to_replace asked)) {before after old new : Option (List ℕ)} (reads' : ℕ) (ends : reads' ≢ 0 → IsAtEnd after) where
-  pub replaces_asked : Replaces IsOf asked.pieces before after 0 reads' old new → WritesReplacement asked (record { left_before = before; left_after = after; held_before = old; held_after = new })
+  pub replaces_asked : Replaces IsOf asked.pieces before after 0 reads' old new → WritesReplacement (record { left_before = before; left_after = after; held_before = old; held_after = new }) asked
   replaces_asked whole =
       let exist = finds-exist (patterns_to_replace asked) (plain_search whole.given) None (le_refl (length whole.given)) in
       record {
@@ -50,7 +50,7 @@ module _ (IsOf : Patterns → Type 0) (asked : Replacing) (of : IsOf (patterns_t
         written = whole.writes (patterns_to_replace asked) exist.0 of exist.1;
       }
 
-  pub begins_asked : Begins IsOf asked.pieces before after 0 reads' old new → BeginsReplacement asked (record { left_before = before; left_after = after; held_before = old; held_after = new })
+  pub begins_asked : Begins IsOf asked.pieces before after 0 reads' old new → BeginsReplacement (record { left_before = before; left_after = after; held_before = old; held_after = new }) asked
   begins_asked begun = record {
     text = begun.given;
     read = begun.gives.bytes;
@@ -63,7 +63,7 @@ module _ (IsOf : Patterns → Type 0) (asked : Replacing) (of : IsOf (patterns_t
 
 -- the replacement up to a place is that of the patterns asked for
 pub most_asked : (IsOf : Patterns → Type 0) (asked : Replacing) → IsOf (patterns_to_replace asked) → {before after old new : Option (List ℕ)} (lengths : List ℕ) (reads' : ℕ) → lengths ≡ map length asked.words
-    → (reads' ≢ 0 → IsAtEnd after) → ReplacesUpTo IsOf asked.pieces before after 0 reads' old new (kept_for lengths) → WritesMost asked (record { left_before = before; left_after = after; held_before = old; held_after = new })
+    → (reads' ≢ 0 → IsAtEnd after) → ReplacesUpTo IsOf asked.pieces before after 0 reads' old new (kept_for lengths) → WritesMost (record { left_before = before; left_after = after; held_before = old; held_after = new }) asked
 most_asked IsOf asked of lengths reads' same ends up = record {
   text = up.given;
   read = up.gives.bytes;
@@ -81,7 +81,7 @@ ok_given (Ok x) given = given
 ok_given (Err error) given = tt
 
 -- a flush keeps what was written
-pub replaces_kept : {asked : Replacing} (bytes : Contents) {kept_after : Option (List ℕ)} → WritesReplacement asked bytes → Keeps bytes.held_after kept_after → WritesReplacement asked (record bytes { held_after = kept_after })
+pub replaces_kept : {asked : Replacing} (bytes : Contents) {kept_after : Option (List ℕ)} → WritesReplacement bytes asked → Keeps bytes.held_after kept_after → WritesReplacement (record bytes { held_after = kept_after }) asked
 replaces_kept bytes {kept_after = new} whole kept = record {
   text = whole.text;
   read = whole.read;
@@ -92,7 +92,7 @@ replaces_kept bytes {kept_after = new} whole kept = record {
 }
 
 -- the whole is a beginning
-pub begins_whole : {asked : Replacing} {bytes : Contents} → WritesReplacement asked bytes → BeginsReplacement asked bytes
+pub begins_whole : {asked : Replacing} {bytes : Contents} → WritesReplacement bytes asked → BeginsReplacement bytes asked
 begins_whole {asked} whole = record {
   text = whole.text;
   read = whole.read;

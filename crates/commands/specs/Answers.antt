@@ -1,5 +1,5 @@
 -- What a run answers.
-use Rattle.std.specs.Prelude.{◌≡◌, ℕ, Bool, true, false, ◌+◌, ◌≤◌, List, [], ◌∷◌, ◌++◌, Option, None, length, map, decimal, codes, if◌then◌else◌}
+use Rattle.std.specs.Prelude.{◌≡◌, ℕ, Bool, true, false, ◌+◌, ◌<◌, ◌≤◌, List, [], ◌∷◌, ◌++◌, Option, None, length, map, decimal, codes, if◌then◌else◌}
 use Rattle.std.specs.Io.{StartsWith}
 use Rattle.std.specs.Io.KnownBytes.{Appends, Consumes, IsAtEnd}
 use Rattle.std.specs.List.{flat_map}
@@ -18,7 +18,7 @@ use Rattle.aho_devices.specs.declared.adapters.FromRead.{FromRead}
 use Rattle.aho_devices.specs.declared.adapters.FromWrite.{FromWrite}
 use Rattle.commands.specs.Asked.{Asked, Replacing, asked_patterns, patterns_to_replace}
 use Rattle.commands.specs.Failures.{status_of_failure, line_of_failure, LeavesPrinting, LeavesReplacing}
-use Rattle.commands.specs.Streams.{Contents, contents}
+use Rattle.commands.specs.Streams.{Contents, contents, WritesBeginning, WritesBytes}
 use Rattle.commands.specs.declared.command.Task.{Task}
 use Rattle.commands.specs.declared.command.Task.TheVariants.{Find, Overlap}
 use Rattle.commands.specs.declared.failure.Failure.{Failure}
@@ -45,48 +45,53 @@ is_any (m ∷ ms) = true
 abbrev pub status_of : Bool → ℕ
 status_of any = if any then 0 else 1
 
--- of the matches that are meant, the line of each is written and nothing else, and this says whether there is one
-pub record Prints (AreMeant : List Occurrence → Type 0) (held_before held_after : Option (List ℕ)) (any : Bool) : Type 0 where
-  pub matches : List Occurrence
-  pub meant : AreMeant matches
-  pub printed : Appends held_before held_after (lines_of matches)
-  pub told : any ≡ is_any matches
+module _ {W : Type 0} (Writes : Writers W) where
+  -- the line of each match is written and nothing else, and this says whether there is one
+  abbrev pub PrintsLines : FromWrite W → FromWrite W → List Occurrence → Bool → Type 0
+  PrintsLines old new ms any = WritesBytes Writes old new (lines_of ms) × (any ≡ is_any ms)
 
--- and a beginning of their lines is written
-pub record Begun (AreMeant : List Occurrence → Type 0) (held_before held_after : Option (List ℕ)) : Type 0 where
-  pub matches : List Occurrence
-  pub meant : AreMeant matches
-  pub begun : AppendsBeginning held_before held_after (lines_of matches)
+  -- that is so of the matches that are meant
+  pub record Prints (AreMeant : List Occurrence → Type 0) (old new : FromWrite W) (any : Bool) : Type 0 where
+    pub matches : List Occurrence
+    pub meant : AreMeant matches
+    pub printed : WritesBytes Writes old new (lines_of matches)
+    pub told : any ≡ is_any matches
+
+  -- a beginning of the lines of the matches that are meant is written
+  pub record Begun (AreMeant : List Occurrence → Type 0) (old new : FromWrite W) : Type 0 where
+    pub matches : List Occurrence
+    pub meant : AreMeant matches
+    pub begun : WritesBeginning Writes old new (lines_of matches)
+
+  -- a beginning of the line of a failure of this status is written, and the failure leaves what it should
+  pub record TellsFailure (old new : FromWrite W) (status : ℕ) (Left : Failure → Type 0) : Type 0 where
+    pub failure : Failure
+    pub told : status ≡ status_of_failure failure
+    pub begun : WritesBeginning Writes old new (line_of_failure failure)
+    pub left : Left failure
 
 -- all of the input was read, and these are the matches that are asked for
-pub record ReadsMatches (asked : Asked) (bytes : Contents) (ms : List Occurrence) : Type 0 where
+pub record ReadsMatches (bytes : Contents) (ms : List Occurrence) (asked : Asked) : Type 0 where
   pub text : List ℕ
   pub read : Consumes bytes.left_before bytes.left_after text
   pub ended : IsAtEnd bytes.left_after
   pub right : AreMatches asked.task (asked_patterns asked) text ms
 
 -- the matches are found, the line of each is written and nothing else, and the status says whether there is one
-pub record PrintsMatches (asked : Asked) (bytes : Contents) (status : ℕ) : Type 0 where
+pub record PrintsMatches (bytes : Contents) (status : ℕ) (asked : Asked) : Type 0 where
   pub matches : List Occurrence
-  pub found : ReadsMatches asked bytes matches
+  pub found : ReadsMatches bytes matches asked
   pub printed : Appends bytes.held_before bytes.held_after (lines_of matches)
   pub told : status ≡ status_of (is_any matches)
 
 -- the matches are found, and a beginning of their lines is written
-pub record BeginsMatches (asked : Asked) (bytes : Contents) : Type 0 where
+pub record BeginsMatches (bytes : Contents) (asked : Asked) : Type 0 where
   pub matches : List Occurrence
-  pub found : ReadsMatches asked bytes matches
+  pub found : ReadsMatches bytes matches asked
   pub begun : AppendsBeginning bytes.held_before bytes.held_after (lines_of matches)
 
--- a beginning of the line of a failure of this status is written, and the failure leaves what it should
-pub record TellsFailure (held_before held_after : Option (List ℕ)) (status : ℕ) (Left : Failure → Type 0) : Type 0 where
-  pub failure : Failure
-  pub told : status ≡ status_of_failure failure
-  pub begun : AppendsBeginning held_before held_after (line_of_failure failure)
-  pub left : Left failure
-
 -- the end of the input was seen, and the replacement of all of it is written and nothing else
-pub record WritesReplacement (asked : Replacing) (bytes : Contents) : Type 0 where
+pub record WritesReplacement (bytes : Contents) (asked : Replacing) : Type 0 where
   pub text : List ℕ
   pub read : Consumes bytes.left_before bytes.left_after text
   pub ended : IsAtEnd bytes.left_after
@@ -95,7 +100,7 @@ pub record WritesReplacement (asked : Replacing) (bytes : Contents) : Type 0 whe
   pub written : Appends bytes.held_before bytes.held_after (replaced text matches asked.pieces)
 
 -- some of the input was read, and what is written begins the replacement, whatever bytes follow: none once its end was seen
-pub record BeginsReplacement (asked : Replacing) (bytes : Contents) : Type 0 where
+pub record BeginsReplacement (bytes : Contents) (asked : Replacing) : Type 0 where
   pub text : List ℕ
   pub read : Consumes bytes.left_before bytes.left_after text
   pub ended : Bool
@@ -106,7 +111,7 @@ pub record BeginsReplacement (asked : Replacing) (bytes : Contents) : Type 0 whe
       → AreFinds (patterns_to_replace asked) (plain_search given) None ms → StartsWith (replaced given ms asked.pieces) written
 
 -- and it is the replacement up to a place, whatever bytes follow: no more than the longest pattern has, and at least one, are left
-pub record WritesMost (asked : Replacing) (bytes : Contents) : Type 0 where
+pub record WritesMost (bytes : Contents) (asked : Replacing) : Type 0 where
   pub text : List ℕ
   pub read : Consumes bytes.left_before bytes.left_after text
   pub ended : Bool
@@ -118,17 +123,25 @@ pub record WritesMost (asked : Replacing) (bytes : Contents) : Type 0 where
       → AreFinds (patterns_to_replace asked) (plain_search given) None ms
       → Appends bytes.held_before bytes.held_after (replaced_up_to given place 0 ms (piece_for asked.pieces))
 
+-- the matches are printed where the status tells of no failure
+abbrev pub PrintsIfDone : Contents → ℕ → Asked → Type 0
+PrintsIfDone bytes status asked = status < 2 → PrintsMatches bytes status asked
+
+-- the replacement is written where the status tells of no failure
+abbrev pub WritesIfDone : Contents → ℕ → Replacing → Type 0
+WritesIfDone bytes status asked = status ≡ 0 → WritesReplacement bytes asked
+
 module _ {R : Type 0} {Reads : Readers R} {W : Type 0} (Writes : Writers W) where
   -- what a failure leaves where matches are asked for
   abbrev pub LeavesMatches : Asked → FromRead R Reads → FromRead R Reads → FromWrite W → FromWrite W → Failure → Type 0
   LeavesMatches asked input_old input_new output_old output_new = LeavesPrinting
       (input_new.device ≡ input_old.device)
       (output_new.device ≡ output_old.device)
-      (BeginsMatches asked (contents Writes input_old input_new output_old output_new))
+      (BeginsMatches (contents Writes input_old input_new output_old output_new) asked)
 
   -- what a failure leaves where a replacement is asked for
   abbrev pub LeavesReplacement : Replacing → FromRead R Reads → FromRead R Reads → FromWrite W → FromWrite W → Failure → Type 0
   LeavesReplacement asked input_old input_new output_old output_new = LeavesReplacing
       ((input_new.device ≡ input_old.device) × (output_new.device ≡ output_old.device))
-      (BeginsReplacement asked (contents Writes input_old input_new output_old output_new))
-      (WritesMost asked (contents Writes input_old input_new output_old output_new))
+      (BeginsReplacement (contents Writes input_old input_new output_old output_new) asked)
+      (WritesMost (contents Writes input_old input_new output_old output_new) asked)

@@ -1,5 +1,5 @@
 -- What the arguments, those after the program's name, ask for.
-use Rattle.std.specs.Prelude.{◌≡◌, ℕ, ◌%◌, ◌==◌, ◌||◌, not, true, false, List, [], ◌∷◌, Option, Some, None, codes, length, map, String, string_bytes, option_and_then, if◌then◌else◌}
+use Rattle.std.specs.Prelude.{◌≡◌, ℕ, ◌%◌, ◌==◌, ◌||◌, not, true, false, List, [], ◌∷◌, Option, Some, None, codes, length, map, String, string_bytes, Vec, Result, IfOk, option_and_then, if◌then◌else◌}
 use Rattle.std.specs.Str.{bytes_eq}
 use Rattle.aho_base.specs.declared.search.MatchKind.{MatchKind}
 use Rattle.aho_base.specs.declared.search.MatchKind.TheVariants.{Standard, LeftmostFirst, LeftmostLongest}
@@ -51,14 +51,26 @@ replacing_by [] = None
 replacing_by (word ∷ words) = if bytes_eq word (codes "replace") then pairs_by words else None
 
 module _ {Z : Type 0} where
-  -- the arguments ask for these matches
-  abbrev pub AskFor : List (String Z) → Asked → Type 0
-  AskFor arguments asked = asked_by (map string_bytes arguments) ≡ Some asked
+  -- what holds of the matches that the arguments ask for, where they ask for some
+  abbrev pub IfAsked : List (String Z) → (Asked → Type 0) → Type 0
+  IfAsked arguments Holds = (asked : Asked) → asked_by (map string_bytes arguments) ≡ Some asked → Holds asked
 
-  -- the arguments ask for this replacement
-  abbrev pub AskToReplace : List (String Z) → Replacing → Type 0
-  AskToReplace arguments asked = replacing_by (map string_bytes arguments) ≡ Some asked
+  -- what holds of the replacement that the arguments ask for, where they ask for one
+  abbrev pub IfReplacing : List (String Z) → (Replacing → Type 0) → Type 0
+  IfReplacing arguments Holds = (asked : Replacing) → replacing_by (map string_bytes arguments) ≡ Some asked → Holds asked
 
   -- the arguments ask for nothing
   abbrev pub AreWrong : List (String Z) → Type 0
   AreWrong arguments = (asked_by (map string_bytes arguments) ≡ None) × (replacing_by (map string_bytes arguments) ≡ None)
+
+  -- the arguments do not ask for matches
+  abbrev pub AskForNone : List (String Z) → Type 0
+  AskForNone arguments = asked_by (map string_bytes arguments) ≡ None
+
+  -- the same where there may be a failure in the place of arguments
+  module _ {A E : Type 0} where
+    abbrev pub IfGivenAsked : Result (Vec (String Z) A) E → (Asked → Type 0) → Type 0
+    IfGivenAsked given Holds = IfOk given (λ arguments. IfAsked arguments.items Holds)
+
+    abbrev pub IfGivenReplacing : Result (Vec (String Z) A) E → (Replacing → Type 0) → Type 0
+    IfGivenReplacing given Holds = IfOk given (λ arguments. IfReplacing arguments.items Holds)

@@ -2,6 +2,8 @@
 use Rattle.std.specs.Prelude.{ℕ, List, Option}
 use Rattle.std.specs.declared.io.traits.Read.{Ghosts as Readers}
 use Rattle.std.specs.declared.io.traits.Write.{Ghosts as Writers}
+use Rattle.std.specs.Io.KnownBytes.{Appends}
+use Rattle.aho_devices.specs.Counts.{AppendsBeginning}
 use Rattle.aho_devices.specs.declared.adapters.FromRead.{FromRead}
 use Rattle.aho_devices.specs.declared.adapters.FromWrite.{FromWrite}
 
@@ -29,3 +31,12 @@ contents Writes input_old input_new output_old output_new = record {
   held_before = bytes_held Writes output_old;
   held_after = bytes_held Writes output_new;
 }
+
+module _ {W : Type 0} (Writes : Writers W) where
+  -- these bytes are written and nothing else
+  abbrev pub WritesBytes : FromWrite W → FromWrite W → List ℕ → Type 0
+  WritesBytes old new bytes = Appends (bytes_held Writes old) (bytes_held Writes new) bytes
+
+  -- a beginning of them is
+  abbrev pub WritesBeginning : FromWrite W → FromWrite W → List ℕ → Type 0
+  WritesBeginning old new bytes = AppendsBeginning (bytes_held Writes old) (bytes_held Writes new) bytes

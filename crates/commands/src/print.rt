@@ -3,11 +3,10 @@
 ghost use Rattle.std.specs.Iterator.{IsFinite};
 ghost use Rattle.std.specs.Iterator.Runs.{SomeRun, WholeRun};
 ghost use Rattle.std.specs.Prelude.{◌≡◌, ◌+◌, ◌≤◌, ◌++◌, ◌∷◌, true, IfOk, IfErr, OnOk, decimal, drop, length};
-ghost use Rattle.std.specs.Io.KnownBytes.{Appends, Keeps};
-ghost use Rattle.aho_devices.specs.Counts.{AppendsBeginning};
-ghost use Rattle.commands.specs.Answers.{is_any, line_of, lines_of};
+ghost use Rattle.std.specs.Io.KnownBytes.{Keeps};
+ghost use Rattle.commands.specs.Answers.{line_of, lines_of, PrintsLines};
 ghost use Rattle.commands.specs.Failures.{IsOfWrite};
-ghost use Rattle.commands.specs.Streams.{bytes_held};
+ghost use Rattle.commands.specs.Streams.{bytes_held, WritesBeginning, WritesBytes};
 
 use crate::failure::Failure;
 use aho_base::search::Match;
@@ -28,11 +27,10 @@ pub fn print<W: Write, I: Iterator<Item = Match> + Drop>(
     requires ready { I.can_next matches }
     requires finite { IsFinite (I.remaining matches) }
     ensures printed { IfOk result (λ any. WholeRun I.next_gives matches (λ run.
-        Appends (bytes_held W.Write output.old) (bytes_held W.Write output.new) (lines_of run.items)
-        × (any ≡ is_any run.items))) }
+        PrintsLines W.Write output.old output.new run.items any)) }
     ensures flushed { OnOk result (output.new.device.flushed ≡ true) }
     ensures begun { SomeRun I.next_gives matches (λ run.
-        AppendsBeginning (bytes_held W.Write output.old) (bytes_held W.Write output.new) (lines_of run.items)) }
+        WritesBeginning W.Write output.old output.new (lines_of run.items)) }
     ensures of_write { IfErr result IsOfWrite }
 {
     let any = print_lines(output, matches)?;
@@ -48,10 +46,9 @@ fn print_lines<W: Write, I: Iterator<Item = Match> + Drop>(
     requires ready { I.can_next matches }
     requires finite { IsFinite (I.remaining matches) }
     ensures printed { IfOk result (λ any. WholeRun I.next_gives matches (λ run.
-        Appends (bytes_held W.Write output.old) (bytes_held W.Write output.new) (lines_of run.items)
-        × (any ≡ is_any run.items))) }
+        PrintsLines W.Write output.old output.new run.items any)) }
     ensures begun { SomeRun I.next_gives matches (λ run.
-        AppendsBeginning (bytes_held W.Write output.old) (bytes_held W.Write output.new) (lines_of run.items)) }
+        WritesBeginning W.Write output.old output.new (lines_of run.items)) }
     ensures of_write { IfErr result IsOfWrite }
 {
     let mut line = [0; LINE_CAPACITY];
@@ -90,9 +87,9 @@ fn put_number(number: usize, after: u8, line: &mut [u8], end: usize) -> usize
 
 /// Writes all of the bytes, and flushes. Where it fails, a beginning of the bytes was written.
 pub fn write_whole<W: Write>(output: &mut FromWrite<W>, bytes: &[u8]) -> Result<(), Failure>
-    ensures whole { OnOk result (Appends (bytes_held W.Write output.old) (bytes_held W.Write output.new) bytes.now) }
+    ensures whole { OnOk result (WritesBytes W.Write output.old output.new bytes.now) }
     ensures flushed { OnOk result (output.new.device.flushed ≡ true) }
-    ensures beginning { AppendsBeginning (bytes_held W.Write output.old) (bytes_held W.Write output.new) bytes.now }
+    ensures beginning { WritesBeginning W.Write output.old output.new bytes.now }
     ensures of_write { IfErr result IsOfWrite }
 {
     write_bytes(output, bytes)?;
@@ -102,8 +99,8 @@ pub fn write_whole<W: Write>(output: &mut FromWrite<W>, bytes: &[u8]) -> Result<
 /// Writes all of the bytes, by as many writes as it needs. A failed write is not tried again, and where it fails, a
 /// beginning of the bytes was written.
 fn write_bytes<W: Write>(output: &mut FromWrite<W>, bytes: &[u8]) -> Result<(), Failure>
-    ensures whole { OnOk result (Appends (bytes_held W.Write output.old) (bytes_held W.Write output.new) bytes.now) }
-    ensures beginning { AppendsBeginning (bytes_held W.Write output.old) (bytes_held W.Write output.new) bytes.now }
+    ensures whole { OnOk result (WritesBytes W.Write output.old output.new bytes.now) }
+    ensures beginning { WritesBeginning W.Write output.old output.new bytes.now }
     ensures of_write { IfErr result IsOfWrite }
 {
     Ok(write::write_whole(output, bytes)?)

@@ -38,8 +38,8 @@ pub fn replace<R: Read, W: Write>(
     ensures built_first { (input.new.device ≡ input.old.device)
         ⊎ BuildsReplacing (replacing_for (map string_bytes arguments.now)) }
     ensures replaces { OnOk result (WritesReplacement
-        (replacing_for (map string_bytes arguments.now))
-        (contents W.Write input.old input.new output.old output.new)) }
+        (contents W.Write input.old input.new output.old output.new)
+        (replacing_for (map string_bytes arguments.now))) }
     ensures flushed { OnOk result (output.new.device.flushed ≡ true) }
     ensures leaves { IfErr result (LeavesReplacement W.Write
         (replacing_for (map string_bytes arguments.now)) input.old input.new output.old output.new) }
@@ -91,7 +91,7 @@ fn replace_all<A: Automaton, R: Read, W: Write>(
     requires of { (p : Patterns) × A.is_of automaton.now p × (length p.words ≡ length pieces.now) }
     ensures replaces { (asked : Replacing) → asked.pieces ≡ pieces_of pieces.now
         → A.is_of automaton.now (patterns_to_replace asked) → OnOk result
-        (WritesReplacement asked (contents W.Write input.old input.new output.old output.new)) }
+        (WritesReplacement (contents W.Write input.old input.new output.old output.new) asked) }
     ensures leaves { (asked : Replacing) → asked.pieces ≡ pieces_of pieces.now
         → A.is_of automaton.now (patterns_to_replace asked)
         → IfErr result (LeavesReplacement W.Write asked input.old input.new output.old output.new) }

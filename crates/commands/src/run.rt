@@ -1,19 +1,18 @@
 //! A call of the program over its arguments and streams.
 
-ghost use Rattle.std.specs.Prelude.{IsOk, true, ◌≡◌, ◌<◌, ◌≤◌, ◌⊎◌, ⊤, map, length, IfOk, IfErr, OnOk, string_bytes};
-ghost use Rattle.std.specs.Io.KnownBytes.{Appends, Consumes, IsAtEnd};
+ghost use Rattle.std.specs.Prelude.{IsOk, true, ◌≡◌, ◌<◌, ◌≤◌, ◌⊎◌, ⊤, IfOk, IfErr, OnOk};
+ghost use Rattle.std.specs.Io.KnownBytes.{Consumes, IsAtEnd};
 ghost use Rattle.aho_base.specs.Iteration.{AreFinds};
-ghost use Rattle.aho_base.specs.Overlapping.{all_occurrences};
 ghost use Rattle.aho_base.specs.Patterns.{Patterns};
 ghost use Rattle.aho_base.specs.Search.{plain_search};
 ghost use Rattle.aho_base.specs.declared.search.Anchored.TheVariants.{No};
 ghost use Rattle.aho_base.specs.declared.search.MatchKind.TheVariants.{Standard};
-ghost use Rattle.aho_devices.specs.Counts.{AppendsBeginning};
-ghost use Rattle.commands.specs.Answers.{AreMatches, BeginsMatches, Begun, LeavesMatches, LeavesReplacement, Prints, PrintsMatches, TellsFailure, WritesReplacement, status_of};
-ghost use Rattle.commands.specs.Arguments.{AreWrong, AskFor, AskToReplace, asked_by};
-ghost use Rattle.commands.specs.Asked.{Asked, Builds, BuildsReplacing, Replacing, asked_for, kind_of, asked_patterns, settings_for};
+ghost use Rattle.commands.specs.Answers.{AreMatches, BeginsMatches, Begun, LeavesMatches, LeavesReplacement, Prints, PrintsIfDone, PrintsMatches, TellsFailure, WritesIfDone, WritesReplacement, status_of};
+ghost use Rattle.commands.specs.Arguments.{AreWrong, AskForNone, IfAsked, IfReplacing};
+ghost use Rattle.commands.specs.Asked.{Builds, BuildsReplacing, asked_for, asked_patterns, kind_of, settings_for};
 ghost use Rattle.commands.specs.Failures.{status_of_failure, line_of_failure, IsOfWrite, LeavesPrinting};
-ghost use Rattle.commands.specs.Streams.{bytes_held, bytes_left, contents};
+ghost use Rattle.commands.specs.Streams.{bytes_left, contents, WritesBeginning, WritesBytes};
+ghost use Rattle.commands.specs.declared.command.Task.TheVariants.{Overlap};
 ghost use Rattle.commands.specs.declared.failure.Failure.TheVariants.{Usage};
 
 use crate::command::{Request, Task, parse, parse_replace};
@@ -50,38 +49,36 @@ pub fn run<R: Read, W: Write, E: Write>(
     ensures unread { AreWrong arguments.now → input.new.device ≡ input.old.device }
     ensures unwritten { AreWrong arguments.now → output.new.device ≡ output.old.device }
     ensures tells_usage { AreWrong arguments.now
-        → AppendsBeginning (bytes_held E.Write errors.old) (bytes_held E.Write errors.new) (line_of_failure Usage) }
+        → WritesBeginning E.Write errors.old errors.new (line_of_failure Usage) }
 
     // For right arguments the automaton is built before anything is read.
-    ensures built_first { (asked : Asked) → AskFor arguments.now asked
-        → (input.new.device ≡ input.old.device) ⊎ Builds asked }
-    ensures built_to_replace { (asked : Replacing) → AskToReplace arguments.now asked
-        → (input.new.device ≡ input.old.device) ⊎ BuildsReplacing asked }
+    ensures built_first { IfAsked arguments.now (λ asked.
+        (input.new.device ≡ input.old.device) ⊎ Builds asked) }
+    ensures built_to_replace { IfReplacing arguments.now (λ asked.
+        (input.new.device ≡ input.old.device) ⊎ BuildsReplacing asked) }
 
     // All matches are printed, and told by the status.
-    ensures prints { (asked : Asked) → AskFor arguments.now asked → result < 2
-        → PrintsMatches asked (contents W.Write input.old input.new output.old output.new) result }
+    ensures prints { IfAsked arguments.now
+        (PrintsIfDone (contents W.Write input.old input.new output.old output.new) result) }
     // Or the input is written with its matches replaced, all of it.
-    ensures replaces { (asked : Replacing) → AskToReplace arguments.now asked → result ≡ 0
-        → WritesReplacement asked (contents W.Write input.old input.new output.old output.new) }
-    ensures no_status_1 { (asked : Replacing) → AskToReplace arguments.now asked
-        → result < 2 → result ≡ 0 }
+    ensures replaces { IfReplacing arguments.now
+        (WritesIfDone (contents W.Write input.old input.new output.old output.new) result) }
+    ensures no_status_1 { IfReplacing arguments.now (λ _. result < 2 → result ≡ 0) }
     ensures flushed { result < 2 → output.new.device.flushed ≡ true }
     ensures quiet { result < 2 → errors.new ≡ errors.old }
 
     // Any other status is that of a failure, which is told.
     ensures bound { result ≤ 3 }
-    ensures refused { (asked : Asked) → AskFor arguments.now asked
-        → result ≡ 2 → output.new.device ≡ output.old.device }
-    ensures tells_failure { (asked : Asked) → AskFor arguments.now asked → 2 ≤ result
-        → TellsFailure (bytes_held E.Write errors.old) (bytes_held E.Write errors.new) result
-        (LeavesMatches W.Write asked input.old input.new output.old output.new) }
-    ensures begins { (asked : Asked) → AskFor arguments.now asked
-        → (output.new.device ≡ output.old.device)
-        ⊎ BeginsMatches asked (contents W.Write input.old input.new output.old output.new) }
-    ensures tells_replace_failure { (asked : Replacing) → AskToReplace arguments.now asked
-        → 2 ≤ result → TellsFailure (bytes_held E.Write errors.old) (bytes_held E.Write errors.new) result
-        (LeavesReplacement W.Write asked input.old input.new output.old output.new) }
+    ensures refused { IfAsked arguments.now (λ _.
+        result ≡ 2 → output.new.device ≡ output.old.device) }
+    ensures tells_failure { 2 ≤ result → IfAsked arguments.now (λ asked.
+        TellsFailure E.Write errors.old errors.new result
+        (LeavesMatches W.Write asked input.old input.new output.old output.new)) }
+    ensures begins { IfAsked arguments.now (λ asked. (output.new.device ≡ output.old.device)
+        ⊎ BeginsMatches (contents W.Write input.old input.new output.old output.new) asked) }
+    ensures tells_replace_failure { 2 ≤ result → IfReplacing arguments.now (λ asked.
+        TellsFailure E.Write errors.old errors.new result
+        (LeavesReplacement W.Write asked input.old input.new output.old output.new)) }
 {
     match answer(alloc, arguments, input, output) {
         Ok(true) => 0,
@@ -93,7 +90,7 @@ pub fn run<R: Read, W: Write, E: Write>(
 /// Writes why a call answers nothing as a line, and answers the exit status, whether that could be written or not.
 pub fn report<E: Write>(failure: &Failure, errors: &mut FromWrite<E>) -> u8
     ensures status { result ≡ status_of_failure failure.now }
-    ensures begun { AppendsBeginning (bytes_held E.Write errors.old) (bytes_held E.Write errors.new)
+    ensures begun { WritesBeginning E.Write errors.old errors.new
         (line_of_failure failure.now) }
 {
     let _ = write_failure(failure, errors);
@@ -103,8 +100,8 @@ pub fn report<E: Write>(failure: &Failure, errors: &mut FromWrite<E>) -> u8
 /// Writes why a call answers nothing as a line.
 fn write_failure<E: Write>(failure: &Failure, errors: &mut FromWrite<E>) -> Result<(), Failure>
     ensures written { OnOk result
-        (Appends (bytes_held E.Write errors.old) (bytes_held E.Write errors.new) (line_of_failure failure.now)) }
-    ensures begun { AppendsBeginning (bytes_held E.Write errors.old) (bytes_held E.Write errors.new)
+        (WritesBytes E.Write errors.old errors.new (line_of_failure failure.now)) }
+    ensures begun { WritesBeginning E.Write errors.old errors.new
         (line_of_failure failure.now) }
 {
     // Each line has room: one that had none would not be written.
@@ -124,21 +121,20 @@ fn answer<R: Read, W: Write>(
     ensures usage { AreWrong arguments.now → result ≡ Err Usage }
     ensures unread { AreWrong arguments.now → input.new.device ≡ input.old.device }
     ensures unwritten { AreWrong arguments.now → output.new.device ≡ output.old.device }
-    ensures built_first { (asked : Asked) → AskFor arguments.now asked
-        → (input.new.device ≡ input.old.device) ⊎ Builds asked }
-    ensures built_to_replace { (asked : Replacing) → AskToReplace arguments.now asked
-        → (input.new.device ≡ input.old.device) ⊎ BuildsReplacing asked }
-    ensures prints { (asked : Asked) → AskFor arguments.now asked → IfOk result (λ any.
-        PrintsMatches asked (contents W.Write input.old input.new output.old output.new) (status_of any)) }
-    ensures replaces { (asked : Replacing) → AskToReplace arguments.now asked → OnOk result
-        (WritesReplacement asked (contents W.Write input.old input.new output.old output.new)) }
-    ensures replaced { (asked : Replacing) → AskToReplace arguments.now asked
-        → IfOk result (λ any. any ≡ true) }
+    ensures built_first { IfAsked arguments.now (λ asked.
+        (input.new.device ≡ input.old.device) ⊎ Builds asked) }
+    ensures built_to_replace { IfReplacing arguments.now (λ asked.
+        (input.new.device ≡ input.old.device) ⊎ BuildsReplacing asked) }
+    ensures prints { IfOk result (λ any. IfAsked arguments.now
+        (PrintsMatches (contents W.Write input.old input.new output.old output.new) (status_of any))) }
+    ensures replaces { OnOk result (IfReplacing arguments.now
+        (WritesReplacement (contents W.Write input.old input.new output.old output.new))) }
+    ensures replaced { IfReplacing arguments.now (λ _. IfOk result (λ any. any ≡ true)) }
     ensures flushed { OnOk result (output.new.device.flushed ≡ true) }
-    ensures leaves { (asked : Asked) → AskFor arguments.now asked
-        → IfErr result (LeavesMatches W.Write asked input.old input.new output.old output.new) }
-    ensures leaves_replacing { (asked : Replacing) → AskToReplace arguments.now asked
-        → IfErr result (LeavesReplacement W.Write asked input.old input.new output.old output.new) }
+    ensures leaves { IfAsked arguments.now (λ asked. IfErr result
+        (LeavesMatches W.Write asked input.old input.new output.old output.new)) }
+    ensures leaves_replacing { IfReplacing arguments.now (λ asked. IfErr result
+        (LeavesReplacement W.Write asked input.old input.new output.old output.new)) }
 {
     match parse_replace(arguments) {
         Some(pairs) => {
@@ -156,18 +152,18 @@ fn answer_matches<R: Read, W: Write>(
     input: &mut FromRead<R>,
     output: &mut FromWrite<W>,
 ) -> Result<bool, Failure>
-    ensures usage { asked_by (map string_bytes arguments.now) ≡ None → result ≡ Err Usage }
-    ensures unread { asked_by (map string_bytes arguments.now) ≡ None
+    ensures usage { AskForNone arguments.now → result ≡ Err Usage }
+    ensures unread { AskForNone arguments.now
         → input.new.device ≡ input.old.device }
-    ensures unwritten { asked_by (map string_bytes arguments.now) ≡ None
+    ensures unwritten { AskForNone arguments.now
         → output.new.device ≡ output.old.device }
-    ensures built_first { (asked : Asked) → AskFor arguments.now asked
-        → (input.new.device ≡ input.old.device) ⊎ Builds asked }
-    ensures prints { (asked : Asked) → AskFor arguments.now asked → IfOk result (λ any.
-        PrintsMatches asked (contents W.Write input.old input.new output.old output.new) (status_of any)) }
+    ensures built_first { IfAsked arguments.now (λ asked.
+        (input.new.device ≡ input.old.device) ⊎ Builds asked) }
+    ensures prints { IfOk result (λ any. IfAsked arguments.now
+        (PrintsMatches (contents W.Write input.old input.new output.old output.new) (status_of any))) }
     ensures flushed { OnOk result (output.new.device.flushed ≡ true) }
-    ensures leaves { (asked : Asked) → AskFor arguments.now asked
-        → IfErr result (LeavesMatches W.Write asked input.old input.new output.old output.new) }
+    ensures leaves { IfAsked arguments.now (λ asked. IfErr result
+        (LeavesMatches W.Write asked input.old input.new output.old output.new)) }
 {
     match parse(arguments) {
         Some(request) => search_input(alloc, &request, input, output),
@@ -183,8 +179,8 @@ fn search_input<R: Read, W: Write>(
     output: &mut FromWrite<W>,
 ) -> Result<bool, Failure>
     ensures built_first { (input.new.device ≡ input.old.device) ⊎ Builds (asked_for request.now) }
-    ensures prints { IfOk result (λ any. PrintsMatches (asked_for request.now)
-        (contents W.Write input.old input.new output.old output.new) (status_of any)) }
+    ensures prints { IfOk result (λ any. PrintsMatches
+        (contents W.Write input.old input.new output.old output.new) (status_of any) (asked_for request.now)) }
     ensures flushed { OnOk result (output.new.device.flushed ≡ true) }
     ensures leaves { IfErr result
         (LeavesMatches W.Write (asked_for request.now) input.old input.new output.old output.new) }
@@ -250,9 +246,9 @@ fn print_matches<A: Automaton, W: Write>(
     requires starts { IsOk (A.start automaton.now No) }
     requires kind { A.kind automaton.now ≡ kind_of task }
     ensures printed { (p : Patterns) → A.is_of automaton.now p → IfOk result
-        (Prints (AreMatches task p text.now) (bytes_held W.Write output.old) (bytes_held W.Write output.new)) }
+        (Prints W.Write (AreMatches task p text.now) output.old output.new) }
     ensures begun { (p : Patterns) → A.is_of automaton.now p →
-        Begun (AreMatches task p text.now) (bytes_held W.Write output.old) (bytes_held W.Write output.new) }
+        Begun W.Write (AreMatches task p text.now) output.old output.new }
     ensures flushed { OnOk result (output.new.device.flushed ≡ true) }
     ensures of_write { IfErr result IsOfWrite }
 {
@@ -270,10 +266,9 @@ fn print_finds<A: Automaton, W: Write>(
 ) -> Result<bool, Failure>
     requires of { (p : Patterns) × A.is_of automaton.now p }
     requires starts { IsOk (A.start automaton.now No) }
-    ensures printed { (p : Patterns) → A.is_of automaton.now p → IfOk result (Prints
-        (AreFinds p (plain_search text.now) None) (bytes_held W.Write output.old) (bytes_held W.Write output.new)) }
-    ensures begun { (p : Patterns) → A.is_of automaton.now p → Begun
-        (AreFinds p (plain_search text.now) None) (bytes_held W.Write output.old) (bytes_held W.Write output.new) }
+    ensures printed { (p : Patterns) → A.is_of automaton.now p → IfOk result (Prints W.Write (AreFinds p (plain_search text.now) None) output.old output.new) }
+    ensures begun { (p : Patterns) → A.is_of automaton.now p → Begun W.Write
+        (AreFinds p (plain_search text.now) None) output.old output.new }
     ensures flushed { OnOk result (output.new.device.flushed ≡ true) }
     ensures of_write { IfErr result IsOfWrite }
 {
@@ -290,11 +285,9 @@ fn print_occurrences<A: Automaton, W: Write>(
     requires starts { IsOk (A.start automaton.now No) }
     requires standard { A.kind automaton.now ≡ Standard }
     ensures printed { (p : Patterns) → A.is_of automaton.now p → IfOk result
-        (Prints (λ ms. ms ≡ all_occurrences p text.now 0 (length text.now))
-        (bytes_held W.Write output.old) (bytes_held W.Write output.new)) }
+        (Prints W.Write (AreMatches Overlap p text.now) output.old output.new) }
     ensures begun { (p : Patterns) → A.is_of automaton.now p →
-        Begun (λ ms. ms ≡ all_occurrences p text.now 0 (length text.now))
-        (bytes_held W.Write output.old) (bytes_held W.Write output.new) }
+        Begun W.Write (AreMatches Overlap p text.now) output.old output.new }
     ensures flushed { OnOk result (output.new.device.flushed ≡ true) }
     ensures of_write { IfErr result IsOfWrite }
 {
