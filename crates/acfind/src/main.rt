@@ -6,12 +6,12 @@
 //! or writing fails, and then a line on standard error says why.
 #![tactic(auto)]
 
-ghost use Rattle.std.specs.Prelude.{◌≡◌, ◌<◌, ◌≤◌, map, IfOk, IfErr, OnErr, true, false, is_some, string_bytes};
+ghost use Rattle.std.specs.Prelude.{◌≡◌, ◌<◌, ◌≤◌, IfOk, IfErr, OnErr, true, false, is_some};
 ghost use Rattle.std.specs.Process.{exit_status};
 ghost use Rattle.commands.specs.Answers.{PrintsIfDone, WritesIfDone};
-ghost use Rattle.commands.specs.Arguments.{AreWrong, IfGivenAsked, IfGivenReplacing, replacing_by};
+ghost use Rattle.commands.specs.Arguments.{AreWrong, IfGivenAsked, IfGivenReplacing, replacing_by, texts};
 ghost use Rattle.commands.specs.Failures.{status_of_failure, line_of_failure};
-ghost use Rattle.commands.specs.Streams.{contents, WritesBeginning};
+ghost use Rattle.commands.specs.Streams.{contents, Unread, Unwritten, WritesBeginning};
 
 use aho_devices::adapters::{FromRead, FromWrite};
 use commands::arguments::arguments;
@@ -66,7 +66,7 @@ fn exit_over<W: Write + Drop>(
 /// Whether each line of the output is to be seen soon, since the input may have no end.
 fn shows_lines(given: &Result<Vec<String>, Failure>) -> bool
     ensures replaces { IfOk given.now (λ arguments.
-        result ≡ is_some (replacing_by (map string_bytes arguments.items))) }
+        result ≡ is_some (replacing_by (texts arguments.items))) }
     ensures faulty { OnErr given.now (result ≡ false) }
 {
     match given {
@@ -87,8 +87,8 @@ fn exit_code<R: Read, W: Write, E: Write>(
     ensures faulty { IfErr given (λ failure. exit_status result ≡ status_of_failure failure) }
     ensures told { IfErr given (λ failure.
         WritesBeginning E.Write errors.old errors.new (line_of_failure failure)) }
-    ensures unread { OnErr given (input.new.device ≡ input.old.device) }
-    ensures unwritten { OnErr given (output.new.device ≡ output.old.device) }
+    ensures unread { OnErr given (Unread input.old input.new) }
+    ensures unwritten { OnErr given (Unwritten output.old output.new) }
 
     // Where there are arguments, the status is that of the run.
     ensures usage { IfOk given (λ arguments.

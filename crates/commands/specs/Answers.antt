@@ -18,14 +18,18 @@ use Rattle.aho_devices.specs.declared.adapters.FromRead.{FromRead}
 use Rattle.aho_devices.specs.declared.adapters.FromWrite.{FromWrite}
 use Rattle.commands.specs.Asked.{Asked, Replacing, asked_patterns, patterns_to_replace}
 use Rattle.commands.specs.Failures.{status_of_failure, line_of_failure, LeavesPrinting, LeavesReplacing}
-use Rattle.commands.specs.Streams.{Contents, contents, WritesBeginning, WritesBytes}
+use Rattle.commands.specs.Streams.{Contents, contents, Unread, Unwritten, WritesBeginning, WritesBytes}
 use Rattle.commands.specs.declared.command.Task.{Task}
 use Rattle.commands.specs.declared.command.Task.TheVariants.{Find, Overlap}
 use Rattle.commands.specs.declared.failure.Failure.{Failure}
 
+-- the matches of a text one after another
+abbrev pub AreFindsIn : Patterns → List ℕ → List Occurrence → Type 0
+AreFindsIn p text = AreFinds p (plain_search text) None
+
 -- the matches of a text that a task prints, in order: those of an iteration, or all occurrences
 abbrev pub AreMatches : Task → Patterns → List ℕ → List Occurrence → Type 0
-AreMatches (Find kind ignore_case) p text ms = AreFinds p (plain_search text) None ms
+AreMatches (Find kind ignore_case) p text ms = AreFindsIn p text ms
 AreMatches Overlap p text ms = ms ≡ all_occurrences p text 0 (length text)
 
 -- what is printed of a match: `PATTERN START END` and a line end
@@ -56,6 +60,10 @@ module _ {W : Type 0} (Writes : Writers W) where
     pub meant : AreMeant matches
     pub printed : WritesBytes Writes old new (lines_of matches)
     pub told : any ≡ is_any matches
+
+  -- that is so of the matches that a task prints
+  abbrev pub PrintsAll : Task → Patterns → List ℕ → FromWrite W → FromWrite W → Bool → Type 0
+  PrintsAll task p text = Prints (AreMatches task p text)
 
   -- a beginning of the lines of the matches that are meant is written
   pub record Begun (AreMeant : List Occurrence → Type 0) (old new : FromWrite W) : Type 0 where
@@ -135,13 +143,13 @@ module _ {R : Type 0} {Reads : Readers R} {W : Type 0} (Writes : Writers W) wher
   -- what a failure leaves where matches are asked for
   abbrev pub LeavesMatches : Asked → FromRead R Reads → FromRead R Reads → FromWrite W → FromWrite W → Failure → Type 0
   LeavesMatches asked input_old input_new output_old output_new = LeavesPrinting
-      (input_new.device ≡ input_old.device)
-      (output_new.device ≡ output_old.device)
+      (Unread input_old input_new)
+      (Unwritten output_old output_new)
       (BeginsMatches (contents Writes input_old input_new output_old output_new) asked)
 
   -- what a failure leaves where a replacement is asked for
   abbrev pub LeavesReplacement : Replacing → FromRead R Reads → FromRead R Reads → FromWrite W → FromWrite W → Failure → Type 0
   LeavesReplacement asked input_old input_new output_old output_new = LeavesReplacing
-      ((input_new.device ≡ input_old.device) × (output_new.device ≡ output_old.device))
+      (Unread input_old input_new × Unwritten output_old output_new)
       (BeginsReplacement (contents Writes input_old input_new output_old output_new) asked)
       (WritesMost (contents Writes input_old input_new output_old output_new) asked)

@@ -51,21 +51,25 @@ replacing_by [] = None
 replacing_by (word ∷ words) = if bytes_eq word (codes "replace") then pairs_by words else None
 
 module _ {Z : Type 0} where
+  -- the bytes of each argument
+  abbrev pub texts : List (String Z) → List (List ℕ)
+  texts arguments = map string_bytes arguments
+
   -- what holds of the matches that the arguments ask for, where they ask for some
   abbrev pub IfAsked : List (String Z) → (Asked → Type 0) → Type 0
-  IfAsked arguments Holds = (asked : Asked) → asked_by (map string_bytes arguments) ≡ Some asked → Holds asked
+  IfAsked arguments Holds = (asked : Asked) → asked_by (texts arguments) ≡ Some asked → Holds asked
 
   -- what holds of the replacement that the arguments ask for, where they ask for one
   abbrev pub IfReplacing : List (String Z) → (Replacing → Type 0) → Type 0
-  IfReplacing arguments Holds = (asked : Replacing) → replacing_by (map string_bytes arguments) ≡ Some asked → Holds asked
+  IfReplacing arguments Holds = (asked : Replacing) → replacing_by (texts arguments) ≡ Some asked → Holds asked
 
   -- the arguments ask for nothing
   abbrev pub AreWrong : List (String Z) → Type 0
-  AreWrong arguments = (asked_by (map string_bytes arguments) ≡ None) × (replacing_by (map string_bytes arguments) ≡ None)
+  AreWrong arguments = (asked_by (texts arguments) ≡ None) × (replacing_by (texts arguments) ≡ None)
 
   -- the arguments do not ask for matches
   abbrev pub AskForNone : List (String Z) → Type 0
-  AskForNone arguments = asked_by (map string_bytes arguments) ≡ None
+  AskForNone arguments = asked_by (texts arguments) ≡ None
 
   -- the same where there may be a failure in the place of arguments
   module _ {A E : Type 0} where

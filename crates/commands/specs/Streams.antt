@@ -1,5 +1,5 @@
 -- The bytes that the input and the output of a call tell of.
-use Rattle.std.specs.Prelude.{ℕ, List, Option}
+use Rattle.std.specs.Prelude.{◌≡◌, ℕ, List, Option}
 use Rattle.std.specs.declared.io.traits.Read.{Ghosts as Readers}
 use Rattle.std.specs.declared.io.traits.Write.{Ghosts as Writers}
 use Rattle.std.specs.Io.KnownBytes.{Appends}
@@ -40,3 +40,11 @@ module _ {W : Type 0} (Writes : Writers W) where
   -- a beginning of them is
   abbrev pub WritesBeginning : FromWrite W → FromWrite W → List ℕ → Type 0
   WritesBeginning old new bytes = AppendsBeginning (bytes_held Writes old) (bytes_held Writes new) bytes
+
+-- the reader was not called
+abbrev pub Unread : {R : Type 0} {Reads : Readers R} → FromRead R Reads → FromRead R Reads → Type 0
+Unread old new = new.device ≡ old.device
+
+-- the writer was not called
+abbrev pub Unwritten : {W : Type 0} → FromWrite W → FromWrite W → Type 0
+Unwritten old new = new.device ≡ old.device

@@ -1,8 +1,8 @@
 //! What the arguments of a call ask for.
 
-ghost use Rattle.std.specs.Prelude.{◌≡◌, ◌%◌, IfSome, length, map, option_map, string_bytes};
+ghost use Rattle.std.specs.Prelude.{◌≡◌, ◌%◌, IfSome, length, option_map};
 ghost use Rattle.commands.specs.Asked.{asked_for, ignores_case, kind_of, replacing_for};
-ghost use Rattle.commands.specs.Arguments.{kind_by, patterns_by, cased_by, find_by, asked_by, replacing_by};
+ghost use Rattle.commands.specs.Arguments.{kind_by, patterns_by, cased_by, find_by, asked_by, replacing_by, texts};
 
 use aho_base::search::MatchKind;
 
@@ -53,7 +53,7 @@ pub struct Request<'w> {
 
 /// Which matches the arguments after the program's name ask to print: none where they ask for something else, or are wrong.
 pub fn parse(arguments: &[String]) -> Option<Request<'_>>
-    ensures asked { option_map asked_for result ≡ asked_by (map string_bytes arguments.now) }
+    ensures asked { option_map asked_for result ≡ asked_by (texts arguments.now) }
 {
     let (command, rest) = arguments.split_first()?;
     match command.as_str() {
@@ -65,7 +65,7 @@ pub fn parse(arguments: &[String]) -> Option<Request<'_>>
 
 /// KIND [-i] PATTERN..: what is behind `find`, and all the arguments of `acdraw`.
 pub fn parse_find(arguments: &[String]) -> Option<Request<'_>>
-    ensures asked { option_map asked_for result ≡ find_by (map string_bytes arguments.now) }
+    ensures asked { option_map asked_for result ≡ find_by (texts arguments.now) }
 {
     let (word, rest) = arguments.split_first()?;
     let kind = parse_kind(word.as_str())?;
@@ -85,7 +85,7 @@ fn parse_kind(word: &str) -> Option<MatchKind>
 
 /// [-i] PATTERN..
 fn parse_cased(kind: MatchKind, arguments: &[String]) -> Option<Request<'_>>
-    ensures asked { option_map asked_for result ≡ cased_by kind (map string_bytes arguments.now) }
+    ensures asked { option_map asked_for result ≡ cased_by kind (texts arguments.now) }
 {
     let (word, rest) = arguments.split_first()?;
     let ignore_case = word.as_str() == "-i";
@@ -96,7 +96,7 @@ fn parse_cased(kind: MatchKind, arguments: &[String]) -> Option<Request<'_>>
 /// PATTERN..
 fn parse_patterns(task: Task, arguments: &[String]) -> Option<Request<'_>>
     ensures asked { option_map asked_for result
-        ≡ patterns_by task (map string_bytes arguments.now) }
+        ≡ patterns_by task (texts arguments.now) }
 {
     if arguments.is_empty() {
         return None;
@@ -110,8 +110,8 @@ fn parse_patterns(task: Task, arguments: &[String]) -> Option<Request<'_>>
 /// The patterns that the arguments after the program's name ask to replace, each followed by what is written in its place: none
 /// where they ask for something else, or are wrong.
 pub fn parse_replace(arguments: &[String]) -> Option<&[String]>
-    ensures asked { option_map (λ pairs. replacing_for (map string_bytes pairs.now)) result
-        ≡ replacing_by (map string_bytes arguments.now) }
+    ensures asked { option_map (λ pairs. replacing_for (texts pairs.now)) result
+        ≡ replacing_by (texts arguments.now) }
     ensures even { IfSome result (λ pairs. length pairs.now % 2 ≡ 0) }
 {
     let (command, pairs) = arguments.split_first()?;

@@ -1,12 +1,13 @@
 //! Replacement from a reader to a writer, through a buffer of fixed length.
 
-ghost use Rattle.std.specs.Prelude.{◌≡◌, ◌%◌, ◌⊎◌, ⊤, true, IfOk, IfErr, OnOk, length, map, string_bytes};
+ghost use Rattle.std.specs.Prelude.{◌≡◌, ◌%◌, ◌⊎◌, ⊤, true, IfOk, IfErr, OnOk, length};
 ghost use Rattle.aho_base.specs.Patterns.{Patterns};
 ghost use Rattle.aho_base.specs.Replacement.{pieces_of};
 ghost use Rattle.commands.specs.Answers.{LeavesReplacement, WritesReplacement};
+ghost use Rattle.commands.specs.Arguments.{texts};
 ghost use Rattle.commands.specs.Asked.{BuildsReplacing, Replacing, at_even, at_odd, patterns_to_replace, replacing_for};
 ghost use Rattle.commands.specs.Failures.{LeavesReplacing};
-ghost use Rattle.commands.specs.Streams.{contents};
+ghost use Rattle.commands.specs.Streams.{contents, Unread};
 
 use crate::failure::Failure;
 use crate::print::flush;
@@ -35,14 +36,14 @@ pub fn replace<R: Read, W: Write>(
     requires even { length arguments.now % 2 ≡ 0 }
 
     // The automaton is built before anything is read.
-    ensures built_first { (input.new.device ≡ input.old.device)
-        ⊎ BuildsReplacing (replacing_for (map string_bytes arguments.now)) }
+    ensures built_first { Unread input.old input.new
+        ⊎ BuildsReplacing (replacing_for (texts arguments.now)) }
     ensures replaces { OnOk result (WritesReplacement
         (contents W.Write input.old input.new output.old output.new)
-        (replacing_for (map string_bytes arguments.now))) }
+        (replacing_for (texts arguments.now))) }
     ensures flushed { OnOk result (output.new.device.flushed ≡ true) }
     ensures leaves { IfErr result (LeavesReplacement W.Write
-        (replacing_for (map string_bytes arguments.now)) input.old input.new output.old output.new) }
+        (replacing_for (texts arguments.now)) input.old input.new output.old output.new) }
 {
     let pairs = split(alloc, arguments)?;
     let automaton = build(alloc, pairs.patterns.as_slice())?;
@@ -54,9 +55,9 @@ pub fn replace<R: Read, W: Write>(
 fn split<'w>(alloc: Global, arguments: &'w [String]) -> Result<Pairs<'w>, AllocError>
     requires even { length arguments.now % 2 ≡ 0 }
     ensures patterns { IfOk result (λ pairs.
-        pieces_of pairs.patterns.items ≡ at_even (map string_bytes arguments.now)) }
+        pieces_of pairs.patterns.items ≡ at_even (texts arguments.now)) }
     ensures pieces { IfOk result (λ pairs.
-        pieces_of pairs.pieces.items ≡ at_odd (map string_bytes arguments.now)) }
+        pieces_of pairs.pieces.items ≡ at_odd (texts arguments.now)) }
 {
     let mut patterns = Vec::new(alloc);
     let mut pieces = Vec::new(alloc);

@@ -2,16 +2,14 @@
 
 ghost use Rattle.std.specs.Prelude.{IsOk, true, ◌≡◌, ◌<◌, ◌≤◌, ◌⊎◌, ⊤, IfOk, IfErr, OnOk};
 ghost use Rattle.std.specs.Io.KnownBytes.{Consumes, IsAtEnd};
-ghost use Rattle.aho_base.specs.Iteration.{AreFinds};
 ghost use Rattle.aho_base.specs.Patterns.{Patterns};
-ghost use Rattle.aho_base.specs.Search.{plain_search};
 ghost use Rattle.aho_base.specs.declared.search.Anchored.TheVariants.{No};
 ghost use Rattle.aho_base.specs.declared.search.MatchKind.TheVariants.{Standard};
-ghost use Rattle.commands.specs.Answers.{AreMatches, BeginsMatches, Begun, LeavesMatches, LeavesReplacement, Prints, PrintsIfDone, PrintsMatches, TellsFailure, WritesIfDone, WritesReplacement, status_of};
+ghost use Rattle.commands.specs.Answers.{AreFindsIn, AreMatches, BeginsMatches, Begun, LeavesMatches, LeavesReplacement, Prints, PrintsAll, PrintsIfDone, PrintsMatches, TellsFailure, WritesIfDone, WritesReplacement, status_of};
 ghost use Rattle.commands.specs.Arguments.{AreWrong, AskForNone, IfAsked, IfReplacing};
 ghost use Rattle.commands.specs.Asked.{Builds, BuildsReplacing, asked_for, asked_patterns, kind_of, settings_for};
 ghost use Rattle.commands.specs.Failures.{status_of_failure, line_of_failure, IsOfWrite, LeavesPrinting};
-ghost use Rattle.commands.specs.Streams.{bytes_left, contents, WritesBeginning, WritesBytes};
+ghost use Rattle.commands.specs.Streams.{bytes_left, contents, Unread, Unwritten, WritesBeginning, WritesBytes};
 ghost use Rattle.commands.specs.declared.command.Task.TheVariants.{Overlap};
 ghost use Rattle.commands.specs.declared.failure.Failure.TheVariants.{Usage};
 
@@ -46,16 +44,16 @@ pub fn run<R: Read, W: Write, E: Write>(
 ) -> u8
     // Wrong arguments are found first, and told.
     ensures usage { AreWrong arguments.now → result ≡ 2 }
-    ensures unread { AreWrong arguments.now → input.new.device ≡ input.old.device }
-    ensures unwritten { AreWrong arguments.now → output.new.device ≡ output.old.device }
+    ensures unread { AreWrong arguments.now → Unread input.old input.new }
+    ensures unwritten { AreWrong arguments.now → Unwritten output.old output.new }
     ensures tells_usage { AreWrong arguments.now
         → WritesBeginning E.Write errors.old errors.new (line_of_failure Usage) }
 
     // For right arguments the automaton is built before anything is read.
     ensures built_first { IfAsked arguments.now (λ asked.
-        (input.new.device ≡ input.old.device) ⊎ Builds asked) }
+        Unread input.old input.new ⊎ Builds asked) }
     ensures built_to_replace { IfReplacing arguments.now (λ asked.
-        (input.new.device ≡ input.old.device) ⊎ BuildsReplacing asked) }
+        Unread input.old input.new ⊎ BuildsReplacing asked) }
 
     // All matches are printed, and told by the status.
     ensures prints { IfAsked arguments.now
@@ -70,11 +68,11 @@ pub fn run<R: Read, W: Write, E: Write>(
     // Any other status is that of a failure, which is told.
     ensures bound { result ≤ 3 }
     ensures refused { IfAsked arguments.now (λ _.
-        result ≡ 2 → output.new.device ≡ output.old.device) }
+        result ≡ 2 → Unwritten output.old output.new) }
     ensures tells_failure { 2 ≤ result → IfAsked arguments.now (λ asked.
         TellsFailure E.Write errors.old errors.new result
         (LeavesMatches W.Write asked input.old input.new output.old output.new)) }
-    ensures begins { IfAsked arguments.now (λ asked. (output.new.device ≡ output.old.device)
+    ensures begins { IfAsked arguments.now (λ asked. Unwritten output.old output.new
         ⊎ BeginsMatches (contents W.Write input.old input.new output.old output.new) asked) }
     ensures tells_replace_failure { 2 ≤ result → IfReplacing arguments.now (λ asked.
         TellsFailure E.Write errors.old errors.new result
@@ -119,12 +117,12 @@ fn answer<R: Read, W: Write>(
     output: &mut FromWrite<W>,
 ) -> Result<bool, Failure>
     ensures usage { AreWrong arguments.now → result ≡ Err Usage }
-    ensures unread { AreWrong arguments.now → input.new.device ≡ input.old.device }
-    ensures unwritten { AreWrong arguments.now → output.new.device ≡ output.old.device }
+    ensures unread { AreWrong arguments.now → Unread input.old input.new }
+    ensures unwritten { AreWrong arguments.now → Unwritten output.old output.new }
     ensures built_first { IfAsked arguments.now (λ asked.
-        (input.new.device ≡ input.old.device) ⊎ Builds asked) }
+        Unread input.old input.new ⊎ Builds asked) }
     ensures built_to_replace { IfReplacing arguments.now (λ asked.
-        (input.new.device ≡ input.old.device) ⊎ BuildsReplacing asked) }
+        Unread input.old input.new ⊎ BuildsReplacing asked) }
     ensures prints { IfOk result (λ any. IfAsked arguments.now
         (PrintsMatches (contents W.Write input.old input.new output.old output.new) (status_of any))) }
     ensures replaces { OnOk result (IfReplacing arguments.now
@@ -154,11 +152,11 @@ fn answer_matches<R: Read, W: Write>(
 ) -> Result<bool, Failure>
     ensures usage { AskForNone arguments.now → result ≡ Err Usage }
     ensures unread { AskForNone arguments.now
-        → input.new.device ≡ input.old.device }
+        → Unread input.old input.new }
     ensures unwritten { AskForNone arguments.now
-        → output.new.device ≡ output.old.device }
+        → Unwritten output.old output.new }
     ensures built_first { IfAsked arguments.now (λ asked.
-        (input.new.device ≡ input.old.device) ⊎ Builds asked) }
+        Unread input.old input.new ⊎ Builds asked) }
     ensures prints { IfOk result (λ any. IfAsked arguments.now
         (PrintsMatches (contents W.Write input.old input.new output.old output.new) (status_of any))) }
     ensures flushed { OnOk result (output.new.device.flushed ≡ true) }
@@ -178,7 +176,7 @@ fn search_input<R: Read, W: Write>(
     input: &mut FromRead<R>,
     output: &mut FromWrite<W>,
 ) -> Result<bool, Failure>
-    ensures built_first { (input.new.device ≡ input.old.device) ⊎ Builds (asked_for request.now) }
+    ensures built_first { Unread input.old input.new ⊎ Builds (asked_for request.now) }
     ensures prints { IfOk result (λ any. PrintsMatches
         (contents W.Write input.old input.new output.old output.new) (status_of any) (asked_for request.now)) }
     ensures flushed { OnOk result (output.new.device.flushed ≡ true) }
@@ -246,7 +244,7 @@ fn print_matches<A: Automaton, W: Write>(
     requires starts { IsOk (A.start automaton.now No) }
     requires kind { A.kind automaton.now ≡ kind_of task }
     ensures printed { (p : Patterns) → A.is_of automaton.now p → IfOk result
-        (Prints W.Write (AreMatches task p text.now) output.old output.new) }
+        (PrintsAll W.Write task p text.now output.old output.new) }
     ensures begun { (p : Patterns) → A.is_of automaton.now p →
         Begun W.Write (AreMatches task p text.now) output.old output.new }
     ensures flushed { OnOk result (output.new.device.flushed ≡ true) }
@@ -266,9 +264,9 @@ fn print_finds<A: Automaton, W: Write>(
 ) -> Result<bool, Failure>
     requires of { (p : Patterns) × A.is_of automaton.now p }
     requires starts { IsOk (A.start automaton.now No) }
-    ensures printed { (p : Patterns) → A.is_of automaton.now p → IfOk result (Prints W.Write (AreFinds p (plain_search text.now) None) output.old output.new) }
+    ensures printed { (p : Patterns) → A.is_of automaton.now p → IfOk result (Prints W.Write (AreFindsIn p text.now) output.old output.new) }
     ensures begun { (p : Patterns) → A.is_of automaton.now p → Begun W.Write
-        (AreFinds p (plain_search text.now) None) output.old output.new }
+        (AreFindsIn p text.now) output.old output.new }
     ensures flushed { OnOk result (output.new.device.flushed ≡ true) }
     ensures of_write { IfErr result IsOfWrite }
 {
@@ -285,7 +283,7 @@ fn print_occurrences<A: Automaton, W: Write>(
     requires starts { IsOk (A.start automaton.now No) }
     requires standard { A.kind automaton.now ≡ Standard }
     ensures printed { (p : Patterns) → A.is_of automaton.now p → IfOk result
-        (Prints W.Write (AreMatches Overlap p text.now) output.old output.new) }
+        (PrintsAll W.Write Overlap p text.now output.old output.new) }
     ensures begun { (p : Patterns) → A.is_of automaton.now p →
         Begun W.Write (AreMatches Overlap p text.now) output.old output.new }
     ensures flushed { OnOk result (output.new.device.flushed ≡ true) }
