@@ -8,10 +8,10 @@
 
 ghost use Rattle.std.specs.Prelude.{◌≡◌, ◌<◌, ◌≤◌, IfOk, IfErr, OnErr, true, false, is_some};
 ghost use Rattle.std.specs.Process.{exit_status};
-ghost use Rattle.commands.specs.Answers.{PrintsIfDone, WritesIfDone};
-ghost use Rattle.commands.specs.Arguments.{AreWrong, IfGivenAsked, IfGivenReplacing, replacing_by, texts};
-ghost use Rattle.commands.specs.Failures.{status_of_failure, line_of_failure};
-ghost use Rattle.commands.specs.Streams.{contents, Unread, Unwritten, WritesBeginning};
+ghost use Rattle.commands.specs.Answers.{BeginsLine, PrintsIfDone, WritesIfDone};
+ghost use Rattle.commands.specs.Arguments.{IfGivenAsked, IfGivenReplacing, IfGivenWrong, replacing_by, texts};
+ghost use Rattle.commands.specs.Failures.{HasStatus};
+ghost use Rattle.commands.specs.Streams.{contents, Unread, Unwritten};
 
 use aho_devices::adapters::{FromRead, FromWrite};
 use commands::arguments::arguments;
@@ -84,15 +84,13 @@ fn exit_code<R: Read, W: Write, E: Write>(
     errors: &mut FromWrite<E>,
 ) -> ExitCode
     // Where there are no arguments, the failure is told and nothing else is done.
-    ensures faulty { IfErr given (λ failure. exit_status result ≡ status_of_failure failure) }
-    ensures told { IfErr given (λ failure.
-        WritesBeginning E.Write errors.old errors.new (line_of_failure failure)) }
+    ensures faulty { IfErr given (HasStatus (exit_status result)) }
+    ensures told { IfErr given (BeginsLine E.Write errors.old errors.new) }
     ensures unread { OnErr given (Unread input.old input.new) }
     ensures unwritten { OnErr given (Unwritten output.old output.new) }
 
     // Where there are arguments, the status is that of the run.
-    ensures usage { IfOk given (λ arguments.
-        AreWrong arguments.items → exit_status result ≡ 2) }
+    ensures usage { IfGivenWrong given (exit_status result ≡ 2) }
     ensures prints { IfGivenAsked given (PrintsIfDone
         (contents W.Write input.old input.new output.old output.new) (exit_status result)) }
     ensures replaces { IfGivenReplacing given (WritesIfDone

@@ -17,7 +17,7 @@ use Rattle.aho_devices.specs.Counts.{AppendsBeginning}
 use Rattle.aho_devices.specs.declared.adapters.FromRead.{FromRead}
 use Rattle.aho_devices.specs.declared.adapters.FromWrite.{FromWrite}
 use Rattle.commands.specs.Asked.{Asked, Replacing, asked_patterns, patterns_to_replace}
-use Rattle.commands.specs.Failures.{status_of_failure, line_of_failure, LeavesPrinting, LeavesReplacing}
+use Rattle.commands.specs.Failures.{HasStatus, line_of_failure, LeavesPrinting, LeavesReplacing}
 use Rattle.commands.specs.Streams.{Contents, contents, Unread, Unwritten, WritesBeginning, WritesBytes}
 use Rattle.commands.specs.declared.command.Task.{Task}
 use Rattle.commands.specs.declared.command.Task.TheVariants.{Find, Overlap}
@@ -71,11 +71,15 @@ module _ {W : Type 0} (Writes : Writers W) where
     pub meant : AreMeant matches
     pub begun : WritesBeginning Writes old new (lines_of matches)
 
-  -- a beginning of the line of a failure of this status is written, and the failure leaves what it should
+  -- a beginning of the line of a failure is written
+  abbrev pub BeginsLine : FromWrite W → FromWrite W → Failure → Type 0
+  BeginsLine old new failure = WritesBeginning Writes old new (line_of_failure failure)
+
+  -- the line of a failure of this status is begun, and the failure leaves what it should
   pub record TellsFailure (old new : FromWrite W) (status : ℕ) (Left : Failure → Type 0) : Type 0 where
     pub failure : Failure
-    pub told : status ≡ status_of_failure failure
-    pub begun : WritesBeginning Writes old new (line_of_failure failure)
+    pub told : HasStatus status failure
+    pub begun : BeginsLine old new failure
     pub left : Left failure
 
 -- all of the input was read, and these are the matches that are asked for

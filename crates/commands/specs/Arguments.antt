@@ -78,3 +78,6 @@ module _ {Z : Type 0} where
 
     abbrev pub IfGivenReplacing : Result (Vec (String Z) A) E → (Replacing → Type 0) → Type 0
     IfGivenReplacing given Holds = IfOk given (λ arguments. IfReplacing arguments.items Holds)
+
+    abbrev pub IfGivenWrong : Result (Vec (String Z) A) E → Type 0 → Type 0
+    IfGivenWrong given Holds = IfOk given (λ arguments. AreWrong arguments.items → Holds)

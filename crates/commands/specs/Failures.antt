@@ -1,5 +1,5 @@
 -- What a failure is told by: its status and its text.
-use Rattle.std.specs.Prelude.{ℕ, List, ◌++◌, codes, ⊤}
+use Rattle.std.specs.Prelude.{◌≡◌, ℕ, List, ◌++◌, codes, ⊤}
 use Rattle.aho_base.specs.declared.error.stream.StreamError.{StreamError}
 use Rattle.aho_base.specs.declared.error.stream.StreamError.TheVariants.{Match as Refused, Read as ReadFailed, Write as WriteFailed, WriteZero as TookNothing, Memory, PositionLimit as LimitMet}
 use Rattle.aho_base.specs.Texts.{build_error_text, match_error_text}
@@ -17,6 +17,10 @@ status_of_failure Read = 3
 status_of_failure Write = 3
 status_of_failure WriteZero = 3
 
+-- this is its status
+abbrev pub HasStatus : ℕ → Failure → Type 0
+HasStatus status failure = status ≡ status_of_failure failure
+
 -- what `{}` writes of a failure
 abbrev pub failure_text : Failure → List ℕ
 failure_text Usage = codes "usage: acfind find KIND [-i] PATTERN.. | overlap PATTERN.. | replace P R .."
@@ -30,7 +34,7 @@ failure_text WriteZero = codes "write took no bytes"
 
 -- the line that tells it
 abbrev pub line_of_failure : Failure → List ℕ
-line_of_failure fault = failure_text fault ++ codes "\n"
+line_of_failure failure = failure_text failure ++ codes "\n"
 
 -- what each failure leaves: none at all where the arguments are wrong
 pub record Left : Type 1 where

@@ -5,11 +5,11 @@ ghost use Rattle.std.specs.Io.KnownBytes.{Consumes, IsAtEnd};
 ghost use Rattle.aho_base.specs.Patterns.{Patterns};
 ghost use Rattle.aho_base.specs.declared.search.Anchored.TheVariants.{No};
 ghost use Rattle.aho_base.specs.declared.search.MatchKind.TheVariants.{Standard};
-ghost use Rattle.commands.specs.Answers.{AreFindsIn, AreMatches, BeginsMatches, Begun, LeavesMatches, LeavesReplacement, Prints, PrintsAll, PrintsIfDone, PrintsMatches, TellsFailure, WritesIfDone, WritesReplacement, status_of};
+ghost use Rattle.commands.specs.Answers.{AreFindsIn, AreMatches, BeginsLine, BeginsMatches, Begun, LeavesMatches, LeavesReplacement, Prints, PrintsAll, PrintsIfDone, PrintsMatches, TellsFailure, WritesIfDone, WritesReplacement, status_of};
 ghost use Rattle.commands.specs.Arguments.{AreWrong, AskForNone, IfAsked, IfReplacing};
 ghost use Rattle.commands.specs.Asked.{Builds, BuildsReplacing, asked_for, asked_patterns, kind_of, settings_for};
 ghost use Rattle.commands.specs.Failures.{status_of_failure, line_of_failure, IsOfWrite, LeavesPrinting};
-ghost use Rattle.commands.specs.Streams.{bytes_left, contents, Unread, Unwritten, WritesBeginning, WritesBytes};
+ghost use Rattle.commands.specs.Streams.{bytes_left, contents, Unread, Unwritten, WritesBytes};
 ghost use Rattle.commands.specs.declared.command.Task.TheVariants.{Overlap};
 ghost use Rattle.commands.specs.declared.failure.Failure.TheVariants.{Usage};
 
@@ -46,8 +46,7 @@ pub fn run<R: Read, W: Write, E: Write>(
     ensures usage { AreWrong arguments.now → result ≡ 2 }
     ensures unread { AreWrong arguments.now → Unread input.old input.new }
     ensures unwritten { AreWrong arguments.now → Unwritten output.old output.new }
-    ensures tells_usage { AreWrong arguments.now
-        → WritesBeginning E.Write errors.old errors.new (line_of_failure Usage) }
+    ensures tells_usage { AreWrong arguments.now → BeginsLine E.Write errors.old errors.new Usage }
 
     // For right arguments the automaton is built before anything is read.
     ensures built_first { IfAsked arguments.now (λ asked.
@@ -88,8 +87,7 @@ pub fn run<R: Read, W: Write, E: Write>(
 /// Writes why a call answers nothing as a line, and answers the exit status, whether that could be written or not.
 pub fn report<E: Write>(failure: &Failure, errors: &mut FromWrite<E>) -> u8
     ensures status { result ≡ status_of_failure failure.now }
-    ensures begun { WritesBeginning E.Write errors.old errors.new
-        (line_of_failure failure.now) }
+    ensures begun { BeginsLine E.Write errors.old errors.new failure.now }
 {
     let _ = write_failure(failure, errors);
     failure.status()
@@ -99,8 +97,7 @@ pub fn report<E: Write>(failure: &Failure, errors: &mut FromWrite<E>) -> u8
 fn write_failure<E: Write>(failure: &Failure, errors: &mut FromWrite<E>) -> Result<(), Failure>
     ensures written { OnOk result
         (WritesBytes E.Write errors.old errors.new (line_of_failure failure.now)) }
-    ensures begun { WritesBeginning E.Write errors.old errors.new
-        (line_of_failure failure.now) }
+    ensures begun { BeginsLine E.Write errors.old errors.new failure.now }
 {
     // Each line has room: one that had none would not be written.
     match failure.line() {
