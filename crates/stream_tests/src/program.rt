@@ -678,7 +678,11 @@ fn tells_each_failure_in_a_line(rt: HostRuntime) -> Result<(), Fail> {
             2,
             "pattern 7 with length 18446744073709551615 exceeds the maximum pattern length of 18446744073709551615\n",
         ),
-        (Failure::Build(BuildError::OutOfMemory), 2, "out of memory\n"),
+        (
+            Failure::Build(BuildError::OutOfMemory),
+            2,
+            "out of memory\n",
+        ),
         (
             Failure::Search(MatchError::unsupported_overlapping(MatchKind::LeftmostLongest)),
             2,
