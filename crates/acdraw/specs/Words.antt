@@ -2,7 +2,7 @@
 use Rattle.std.specs.Prelude.{◌≡◌, ◌≢◌, ℕ, ◌<◌, List, ◌∷◌, ◌++◌, length, Option, Some, None}
 use Rattle.std.specs.List.{All}
 use Rattle.aho_base.specs.Patterns.{Patterns, pattern_at}
-use Rattle.aho_corasick.specs.ReadOut.{IsNaming, word_of}
+use Rattle.aho_corasick.specs.ReadOut.{IsNaming, word_of_state}
 use Rattle.aho_corasick.specs.declared.noncontiguous.NFA.{NFA}
 use Rattle.aho_table.specs.Table.{State, IsRising, dead_id, fail_id, state_at, depth_in}
 use Rattle.acdraw.specs.declared.picture.words.Reached.{Reached}
@@ -38,10 +38,10 @@ IsUnreached states sid = (from : ℕ) → from < length states → Leads states 
 -- folded, and empty for both starts. DEAD and FAIL stand for no word
 abbrev pub IsWordOf : NFA → ℕ → List ℕ → Type 0
 IsWordOf nfa sid word =
-    (p : Patterns) (names : List (Option (List ℕ))) → AreBytes p → IsNaming nfa p names → sid ≢ dead_id → sid ≢ fail_id → word_of nfa names sid ≡ Some word
+    (p : Patterns) (names : List (Option (List ℕ))) → AreBytes p → IsNaming nfa p names → sid ≢ dead_id → sid ≢ fail_id → word_of_state nfa names sid ≡ Some word
 
 -- the word of the state begins with that of another, and goes on with these bytes
 abbrev pub IsAheadOf : NFA → ℕ → ℕ → List ℕ → Type 0
 IsAheadOf nfa sid at behind =
-    (p : Patterns) (names : List (Option (List ℕ))) (word : List ℕ) → IsNaming nfa p names → word_of nfa names sid ≡ Some word
-    → (front : List ℕ) × (word_of nfa names at ≡ Some front) × (word ≡ front ++ behind)
+    (p : Patterns) (names : List (Option (List ℕ))) (word : List ℕ) → IsNaming nfa p names → word_of_state nfa names sid ≡ Some word
+    → (front : List ℕ) × (word_of_state nfa names at ≡ Some front) × (word ≡ front ++ behind)

@@ -6,7 +6,7 @@ use Rattle.std.proofs.lemmas.Bool.Decides.{nat_tests}
 use Rattle.std.proofs.lemmas.List.Folds.{list_any_more}
 use Rattle.aho_table.specs.Alphabet.{is_edge}
 use Rattle.aho_base.specs.Bytes.{folded_by, opposite}
-use Rattle.aho_build.specs.Dense.{has_byte, is_parted_by}
+use Rattle.aho_build.specs.Dense.{has_folded, is_parted_by}
 use Rattle.aho_build.proofs.Child.{same_letter, other_letter}
 
 shuffled : (p q r s : Bool) → ((p || q) || (r || s)) ≡ ((q || s) || (p || r))
@@ -53,22 +53,22 @@ parted-byte x byte at = ap (λ (b : Bool). x || b) (grind (arith, nat_tests))
 -- and under the case rule
 pub parted-letter : (x : Bool) (byte at : ℕ) → ((x || is_edge byte byte at) || is_edge (opposite byte) (opposite byte) at) ≡ (x || is_parted_by true (byte ∷ []) at)
 parted-letter x byte at =
-    let has : (y : ℕ) → has_byte true (byte ∷ []) y ≡ (nat_eq y byte || nat_eq y (opposite byte)) =
+    let has : (y : ℕ) → has_folded true (byte ∷ []) y ≡ (nat_eq y byte || nat_eq y (opposite byte)) =
     λ y. or-false (nat_eq (folded_by true byte) (folded_by true y)) ∙ same_test byte y in
     one_more x (nat_eq (at + 1) byte) (nat_eq at byte) (nat_eq (at + 1) (opposite byte)) (nat_eq at (opposite byte))
     ∙ ap (λ (b : Bool). x || b)
     (shuffled (nat_eq (at + 1) byte) (nat_eq at byte) (nat_eq (at + 1) (opposite byte)) (nat_eq at (opposite byte))
-    ∙ sym (ap (λ (b : Bool). b || has_byte true (byte ∷ []) (at + 1)) (has at) ∙ ap (λ (b : Bool). (nat_eq at byte || nat_eq at (opposite byte)) || b) (has (at + 1))))
+    ∙ sym (ap (λ (b : Bool). b || has_folded true (byte ∷ []) (at + 1)) (has at) ∙ ap (λ (b : Bool). (nat_eq at byte || nat_eq at (opposite byte)) || b) (has (at + 1))))
 
 -- one byte of a word more
 pub parted-more : (ignore_case x : Bool) (word : List ℕ) (place byte at : ℕ) → place < length word → byte ≡ get_or word place byte
     → ((x || is_parted_by ignore_case (take place word) at) || is_parted_by ignore_case (byte ∷ []) at) ≡ (x || is_parted_by ignore_case (take (place + 1) word) at)
 parted-more ignore_case x word place byte at within is =
-    let has : (y : ℕ) → (has_byte ignore_case (take place word) y || has_byte ignore_case (byte ∷ []) y) ≡ has_byte ignore_case (take (place + 1) word) y =
+    let has : (y : ℕ) → (has_folded ignore_case (take place word) y || has_folded ignore_case (byte ∷ []) y) ≡ has_folded ignore_case (take (place + 1) word) y =
     λ y.
-    ap (λ (b : Bool). has_byte ignore_case (take place word) y || b)
+    ap (λ (b : Bool). has_folded ignore_case (take place word) y || b)
     (or-false (nat_eq (folded_by ignore_case byte) (folded_by ignore_case y)) ∙ ap (λ (n : ℕ). nat_eq (folded_by ignore_case n) (folded_by ignore_case y)) is)
     ∙ sym (list_any_more (λ (other : ℕ). nat_eq (folded_by ignore_case other) (folded_by ignore_case y)) word place byte within) in
-    regrouped x (has_byte ignore_case (take place word) at) (has_byte ignore_case (take place word) (at + 1)) (has_byte ignore_case (byte ∷ []) at) (has_byte ignore_case (byte ∷ []) (at + 1))
-    ∙ ap (λ (b : Bool). x || (b || (has_byte ignore_case (take place word) (at + 1) || has_byte ignore_case (byte ∷ []) (at + 1)))) (has at)
-    ∙ ap (λ (b : Bool). x || (has_byte ignore_case (take (place + 1) word) at || b)) (has (at + 1))
+    regrouped x (has_folded ignore_case (take place word) at) (has_folded ignore_case (take place word) (at + 1)) (has_folded ignore_case (byte ∷ []) at) (has_folded ignore_case (byte ∷ []) (at + 1))
+    ∙ ap (λ (b : Bool). x || (b || (has_folded ignore_case (take place word) (at + 1) || has_folded ignore_case (byte ∷ []) (at + 1)))) (has at)
+    ∙ ap (λ (b : Bool). x || (has_folded ignore_case (take (place + 1) word) at || b)) (has (at + 1))

@@ -11,9 +11,9 @@ use Rattle.aho_build.proofs.Child.{MatchBool-from_true}
 use Rattle.aho_build.specs.TrieGrowth.{Grows, HasChild, ListsMore}
 use Rattle.aho_table.specs.Table.{State, next_in}
 use Rattle.aho_build.specs.StateNames.{name_at}
-use Rattle.aho_build.specs.Trie.{longer, missing_at, AreFirst, IsTrie, Lists, IsTrieWith, IsTrieOf}
+use Rattle.aho_build.specs.Trie.{longer, missing_at, AreFirst, IsTrie, ListsByWord, IsTrieWith, IsTrieOf}
 use Rattle.aho_build.proofs.NamesOfTries.{name_at-push_new}
-use Rattle.aho_build.proofs.OneWordMore.{also, also-same, also-other, word_cases, AreFirst-four, AreFirst-grows, IsTrie-grows, Lists-grows, folded_word-longer}
+use Rattle.aho_build.proofs.OneWordMore.{also, also-same, also-other, word_cases, AreFirst-four, AreFirst-grows, IsTrie-grows, ListsByWord-grows, folded_word-longer}
 use Rattle.aho_build.proofs.Nodes.{begins-more, is_node_among-start, own_among-absent}
 
 -- only the words matter that the case rule leaves as they are
@@ -105,7 +105,7 @@ module _ (p : Patterns) (number : ℕ) where
               record {
                 trie = subst (λ (t : List State). IsTrie p (words_with (longer p more byte)) 1 names t) (sym was.1)
                     (IsTrie-same p (words_with more) (words_with (longer p more byte)) 1 names old same trie);
-                lists = subst (λ (t : List State). Lists names (own_among p number) t) (sym was.1) with_more.lists;
+                lists = subst (λ (t : List State). ListsByWord names (own_among p number) t) (sym was.1) with_more.lists;
                 first = subst (AreFirst names) (sym was.1) with_more.first;
               },
               ap (name_at names) was.0 ∙ leads,
@@ -124,7 +124,7 @@ module _ (p : Patterns) (number : ℕ) where
                 trie = IsTrie-same p (also (words_with more) (longer p more byte)) (words_with (longer p more byte)) 1 (names ++ Some (longer p more byte) ∷ []) new
                     (λ word plain. words_with-more more word byte)
                     (IsTrie-grows p (words_with more) 1 names old new state byte more trie at absent was.1 small four);
-                lists = Lists-grows p (words_with more) 1 names old new state byte more trie at absent was.1 small four (own_among p number) with_more.lists none;
+                lists = ListsByWord-grows p (words_with more) 1 names old new state byte more trie at absent was.1 small four (own_among p number) with_more.lists none;
                 first = AreFirst-grows p (words_with more) 1 names old new state byte more trie at absent was.1 small four with_more.first;
               },
               ap (name_at (names ++ Some (longer p more byte) ∷ [])) (was.0 ∙ sym trie.sized) ∙ name_at-push_new names (Some (longer p more byte)),

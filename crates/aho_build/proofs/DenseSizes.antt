@@ -8,7 +8,7 @@ use Rattle.aho_table.specs.Alphabet.{class_count, is_border}
 use Rattle.aho_table.specs.Table.{State, Tables, new_state, depth_in, transitions_count, matches_count}
 use Rattle.aho_prefilter.specs.Prefilter.{prefilter_bytes}
 use Rattle.aho_prefilter.specs.declared.prefilter.Searcher.{Searcher}
-use Rattle.aho_build.specs.Automaton.{bytes_for, memory_of}
+use Rattle.aho_build.specs.Automaton.{memory_for, memory_of}
 use Rattle.aho_build.specs.Dense.{HasBorders, is_parted_among, classes_size, is_near, is_dense, rows_size, dense_count, dense_size, memory_size, row_start}
 use Rattle.aho_build.specs.FirstStates.{root_id}
 use Rattle.aho_build.specs.Prefilters.{held_by}
@@ -86,9 +86,9 @@ memory_of-sized depth p table lengths sized dense same =
     ∙ ap (λ (n : ℕ). 20 * states_size p + 9 * transitions_size p + 8 * matches_size p + 4 * dense_size depth p + 4 * n) same
 
 -- and of that automaton as a whole
-pub bytes_for-sized : (settings : Settings) (p : Patterns) (table : Tables) (lengths : List ℕ) (held : Option Searcher) → IsSized p table.states
-    → table.dense_len ≡ dense_size settings.dense_depth p → lengths ≡ map length p.words → held ≡ held_by settings p → memory_of table lengths + prefilter_bytes held ≡ bytes_for settings p
-unfolding bytes_for
-bytes_for-sized settings p table lengths held sized dense same held_is =
+pub memory_for-sized : (settings : Settings) (p : Patterns) (table : Tables) (lengths : List ℕ) (held : Option Searcher) → IsSized p table.states
+    → table.dense_len ≡ dense_size settings.dense_depth p → lengths ≡ map length p.words → held ≡ held_by settings p → memory_of table lengths + prefilter_bytes held ≡ memory_for settings p
+unfolding memory_for
+memory_for-sized settings p table lengths held sized dense same held_is =
     ap (λ (n : ℕ). n + prefilter_bytes held) (memory_of-sized settings.dense_depth p table lengths sized dense (ap length same ∙ length-map p.words length))
     ∙ ap (λ (searcher : Option Searcher). memory_size settings.dense_depth p + prefilter_bytes searcher) held_is

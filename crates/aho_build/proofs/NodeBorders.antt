@@ -10,7 +10,7 @@ use Rattle.aho_laws.specs.TrieLaws.{BeginsKept}
 use Rattle.aho_laws.proofs.Begins.{any-from}
 use Rattle.aho_laws.proofs.Kept.{is_node-reads}
 use Rattle.aho_table.specs.Alphabet.{HasItsEdges}
-use Rattle.aho_build.specs.Dense.{HasBorders, has_byte, is_parted_by}
+use Rattle.aho_build.specs.Dense.{HasBorders, has_folded, is_parted_by}
 use Rattle.aho_build.specs.Trie.{longer}
 
 word_is : (p : Patterns) (k : ℕ) → pattern_word p k ≡ map (folded p) (pattern_at p k)
@@ -19,8 +19,8 @@ word_is p k = refl
 
 module _ (p : Patterns) (word : List ℕ) (byte : ℕ) where
   -- a pattern that begins with a word and a byte has that byte
-  has_byte-begun : (k : ℕ) (rest : List ℕ) → longer p word byte ++ rest ≡ pattern_word p k → has_byte p.ignore_case (pattern_at p k) byte ≡ true
-  has_byte-begun k rest whole =
+  has_folded-begun : (k : ℕ) (rest : List ℕ) → longer p word byte ++ rest ≡ pattern_word p k → has_folded p.ignore_case (pattern_at p k) byte ≡ true
+  has_folded-begun k rest whole =
       let letters = pattern_at p k in
       let is : longer p word byte ++ rest ≡ map (folded p) letters = whole ∙ word_is p k in
       let short : length (longer p word byte) ≡ length word + 1 = length_push word (folded p byte) in
@@ -34,14 +34,14 @@ module _ (p : Patterns) (word : List ℕ) (byte : ℕ) where
 
   edges-kept : (borders : List Bool) → HasBorders p borders → BeginsKept p (longer p word byte) → HasItsEdges borders byte
   edges-kept borders has begins at within edge =
-      let here = has_byte-begun begins.number begins.rest begins.whole in
+      let here = has_folded-begun begins.number begins.rest begins.whole in
       let letters = pattern_at p begins.number in
       let parted : is_parted_by p.ignore_case letters at ≡ true =
       elim (or_cases (nat_eq (at + 1) byte) (nat_eq at byte) edge) [
-        | inl below ↦ or_right (has_byte p.ignore_case letters at) (has_byte p.ignore_case letters (at + 1))
-            (ap (has_byte p.ignore_case letters) (eqb-true (at + 1) byte below) ∙ here)
-        | inr above ↦ or_left (has_byte p.ignore_case letters at) (has_byte p.ignore_case letters (at + 1))
-            (ap (has_byte p.ignore_case letters) (eqb-true at byte above) ∙ here)
+        | inl below ↦ or_right (has_folded p.ignore_case letters at) (has_folded p.ignore_case letters (at + 1))
+            (ap (has_folded p.ignore_case letters) (eqb-true (at + 1) byte below) ∙ here)
+        | inr above ↦ or_left (has_folded p.ignore_case letters at) (has_folded p.ignore_case letters (at + 1))
+            (ap (has_folded p.ignore_case letters) (eqb-true at byte above) ∙ here)
       ] in
       has at within
       ∙ any-from (λ (k : ℕ). is_kept p k && is_parted_by p.ignore_case (pattern_at p k) at) 0 (length p.words) begins.number (omega arith) (omega (arith, begins.numbered))

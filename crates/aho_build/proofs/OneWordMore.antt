@@ -10,7 +10,7 @@ use Rattle.aho_table.specs.Table.{State, new_state, next_in, fail_in, depth_in, 
 use Rattle.aho_base.specs.Patterns.{Patterns}
 use Rattle.aho_build.specs.TrieGrowth.{Grows}
 use Rattle.aho_build.specs.StateNames.{name_at}
-use Rattle.aho_build.specs.Trie.{longer, missing_at, IsTrie, Lists, AreFirst}
+use Rattle.aho_build.specs.Trie.{longer, missing_at, IsTrie, ListsByWord, AreFirst}
 use Rattle.aho_build.proofs.NamesOfTries.{name_at-push_old, name_at-push_new, name_at-of_push, name_at-below}
 
 -- one more word
@@ -242,8 +242,8 @@ module _ (p : Patterns) (is_word : List ℕ → Bool) (at_root : ℕ) (names : L
     reached = grown_reached;
   }
 
-  pub Lists-grows : (list_of : List ℕ → List ℕ) → Lists names list_of old → list_of the_new ≡ [] → Lists the_names list_of new
-  Lists-grows list_of lists none i u e =
+  pub ListsByWord-grows : (list_of : List ℕ → List ℕ) → ListsByWord names list_of old → list_of the_new ≡ [] → ListsByWord the_names list_of new
+  ListsByWord-grows list_of lists none i u e =
       elim (name_at-of_push names the_new i u e) [
         | inl a ↦ grows.matches_old i (omega (arith, a.0, trie.sized)) ∙ lists i u a.1
         | inr a ↦ ap (matches_in new) (a.0 ∙ trie.sized) ∙ grows.matches_new ∙ sym none ∙ ap list_of (sym a.1)

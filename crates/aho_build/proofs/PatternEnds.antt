@@ -11,7 +11,7 @@ use Rattle.aho_base.specs.Patterns.{Patterns}
 use Rattle.aho_base.specs.Trie.{is_kept, pattern_word}
 use Rattle.aho_laws.proofs.Inserted.{left_out-walk, walk-left_out}
 use Rattle.aho_build.specs.declared.settings.Settings.{Settings}
-use Rattle.aho_build.specs.TrieGrowth.{is_first, IsNumbered, EndsAt, HasChild, HasWalked}
+use Rattle.aho_build.specs.TrieGrowth.{leaves_out, IsNumbered, EndsAt, HasChild, HasWalked}
 use Rattle.aho_build.specs.Trie.{HoldsFirst, HoldsWith, IsTrieWith, names_of}
 use Rattle.aho_build.specs.StateNames.{name_at}
 use Rattle.aho_table.specs.Table.{State, matches_in}
@@ -25,12 +25,12 @@ pattern_word-numbered : (p : Patterns) (number : ℕ) (settings : Settings) (wor
 unfolding pattern_word
 pattern_word-numbered p number settings word numbered = ap (folded_word p) numbered.pattern_is
 
-first_kind : (kind : MatchKind) → is_first kind ≡ true → kind ≡ LeftmostFirst
+first_kind : (kind : MatchKind) → leaves_out kind ≡ true → kind ≡ LeftmostFirst
 first_kind Standard e = cc
 first_kind LeftmostFirst e = refl
 first_kind LeftmostLongest e = cc
 
-pub kind_first : (kind : MatchKind) → kind ≡ LeftmostFirst → is_first kind ≡ true
+pub kind_first : (kind : MatchKind) → kind ≡ LeftmostFirst → leaves_out kind ≡ true
 kind_first Standard e = cc
 kind_first LeftmostFirst e = refl
 kind_first LeftmostLongest e = cc
@@ -54,7 +54,7 @@ module _ (p : Patterns) (number : ℕ) (settings : Settings) (word : List ℕ) (
       ∙ take-append-drop k (folded_word p word) ∙ sym (pattern_word-numbered p number settings word numbered)
 
   -- no pattern ends at a state that is passed
-  pub passed_none : (sid k : ℕ) (names : List (Option (List ℕ))) (states : List State) → (is_first settings.kind && nat_lt 0 (length (matches_in states sid))) ≡ false → is_first settings.kind ≡ true
+  pub passed_none : (sid k : ℕ) (names : List (Option (List ℕ))) (states : List State) → (leaves_out settings.kind && nat_lt 0 (length (matches_in states sid))) ≡ false → leaves_out settings.kind ≡ true
       → IsTrieWith p number (front_of k) names states → name_at names sid ≡ Some (front_of k) → own_among p number (front_of k) ≡ []
   passed_none sid k names states none first with_more at =
       empty_from (own_among p number (front_of k))
@@ -77,11 +77,11 @@ module _ (p : Patterns) (number : ℕ) (settings : Settings) (word : List ℕ) (
       sym (take-append_seam u walk.1.1) ∙ ap (take (length u)) (walk.1.2 ∙ sym whole) ∙ take-map (folded p) (length u) word in
       (length u, omega (arith, walk.1.3, ap length whole, length-map word (folded p)), λ none. walk.1.4 (ap (own_among p number) is_front ∙ none))
 
-  EndsAt-none : (sid k : ℕ) (states : List State) → k < length word → (is_first settings.kind && nat_lt 0 (length (matches_in states sid))) ≡ true
+  EndsAt-none : (sid k : ℕ) (states : List State) → k < length word → (leaves_out settings.kind && nat_lt 0 (length (matches_in states sid))) ≡ true
       → HoldsWith p number (front_of k) states → name_at (names_at k) sid ≡ Some (front_of k) → EndsAt p number states None
   EndsAt-none sid k states inside seen holds at =
       let with_more = holds.trie in
-      let both = both_hold (is_first settings.kind) (nat_lt 0 (length (matches_in states sid))) seen in
+      let both = both_hold (leaves_out settings.kind) (nat_lt 0 (length (matches_in states sid))) seen in
       let own : List ℕ = own_among p number (front_of k) in
       let some : 0 < length own = omega (arith, ltb-true 0 (length (matches_in states sid)) both.1, ap length (with_more.lists sid (front_of k) at)) in
       let node : is_node_among p number (front_of k) ≡ true =
@@ -95,7 +95,7 @@ module _ (p : Patterns) (number : ℕ) (settings : Settings) (word : List ℕ) (
         HoldsWith-back p number (front_of k) states node holds,
       )
 
-  EndsAt-some : (sid : ℕ) (states : List State) → ((k : ℕ) → k < length word → is_first settings.kind ≡ true → own_among p number (front_of k) ≡ [])
+  EndsAt-some : (sid : ℕ) (states : List State) → ((k : ℕ) → k < length word → leaves_out settings.kind ≡ true → own_among p number (front_of k) ≡ [])
       → HoldsWith p number (folded_word p word) states → name_at (names_of (nodes_with p number (folded_word p word))) sid ≡ Some (folded_word p word) → EndsAt p number states (Some sid)
   EndsAt-some sid states passed with_all at =
       let whole = sym (pattern_word-numbered p number settings word numbered) in
@@ -124,7 +124,7 @@ module _ (p : Patterns) (number : ℕ) (settings : Settings) (word : List ℕ) (
 
   -- one byte more
   pub HasWalked-more : (count sid next : ℕ) (old new : List State) → count < length word → get_or word count 0 < 256
-      → (is_first settings.kind && nat_lt 0 (length (matches_in old sid))) ≡ false → HasChild settings.ignore_case sid (get_or word count 0) (count + 1) old new next
+      → (leaves_out settings.kind && nat_lt 0 (length (matches_in old sid))) ≡ false → HasChild settings.ignore_case sid (get_or word count 0) (count + 1) old new next
       → HasWalked p number word count sid old → HasWalked p number word (count + 1) next new
   HasWalked-more count sid next old new below small none child walked =
       let has : HasChild p.ignore_case sid (get_or word count 0) (count + 1) old new next =
@@ -135,7 +135,7 @@ module _ (p : Patterns) (number : ℕ) (settings : Settings) (word : List ℕ) (
             elim (cases_eq k count) [
               | inl here ↦
                   ap (λ (n : ℕ). own_among p number (front_of n)) here
-                  ∙ passed_none sid count (names_at count) old none (ap is_first (sym numbered.kind_is) ∙ first) walked.with_front.trie walked.held
+                  ∙ passed_none sid count (names_at count) old none (ap leaves_out (sym numbered.kind_is) ∙ first) walked.with_front.trie walked.held
               | inr earlier ↦ walked.passed k (omega arith) first
             ];
         with_front = grown.0;
@@ -143,7 +143,7 @@ module _ (p : Patterns) (number : ℕ) (settings : Settings) (word : List ℕ) (
       }
 
   -- the walk ends before the word, or with it
-  pub HasWalked-met : (count sid : ℕ) (states : List State) → count < length word → (is_first settings.kind && nat_lt 0 (length (matches_in states sid))) ≡ true
+  pub HasWalked-met : (count sid : ℕ) (states : List State) → count < length word → (leaves_out settings.kind && nat_lt 0 (length (matches_in states sid))) ≡ true
       → HasWalked p number word count sid states → EndsAt p number states None
   HasWalked-met count sid states inside seen walked = EndsAt-none sid count states inside seen walked.with_front walked.held
 
@@ -151,6 +151,6 @@ module _ (p : Patterns) (number : ℕ) (settings : Settings) (word : List ℕ) (
   HasWalked-all count sid states past walked =
       let whole : front_of count ≡ folded_word p word = ap (folded_word p) (take_all count word past) in
       EndsAt-some sid states
-      (λ k less first. walked.passed k (omega (arith, less, past)) (ap is_first numbered.kind_is ∙ first))
+      (λ k less first. walked.passed k (omega (arith, less, past)) (ap leaves_out numbered.kind_is ∙ first))
       (subst (λ (w : List ℕ). HoldsWith p number w states) whole walked.with_front)
       (subst (λ (w : List ℕ). name_at (names_of (nodes_with p number w)) sid ≡ Some w) whole walked.held)

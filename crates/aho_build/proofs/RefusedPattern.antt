@@ -12,7 +12,7 @@ use Rattle.aho_base.specs.Trie.{begins, is_kept, pattern_word}
 use Rattle.aho_laws.proofs.Begins.{begins-from}
 use Rattle.aho_laws.proofs.Inserted.{left_out-walk}
 use Rattle.aho_build.specs.declared.settings.Settings.{Settings}
-use Rattle.aho_build.specs.TrieGrowth.{is_first, IsNumbered, HasWalked, EndsAt, IsChildRefusal, IsPatternRefusal, missing_both}
+use Rattle.aho_build.specs.TrieGrowth.{leaves_out, IsNumbered, HasWalked, EndsAt, IsChildRefusal, IsPatternRefusal, missing_both}
 use Rattle.aho_build.specs.StateNames.{name_at}
 use Rattle.aho_build.specs.Trie.{longer, missing_at, names_of}
 use Rattle.aho_table.specs.Refusal.{refusal_at}
@@ -33,7 +33,7 @@ begins-take j k word le =
 
 module _ (p : Patterns) (number : ℕ) (settings : Settings) (word : List ℕ) (numbered : IsNumbered p number settings word)
     (count sid : ℕ) (states : List State) (inside : count < length word) (small : get_or word count 0 < 256)
-    (unmatched : (is_first settings.kind && nat_lt 0 (length (matches_in states sid))) ≡ false) (walked : HasWalked p number word count sid states) where
+    (unmatched : (leaves_out settings.kind && nat_lt 0 (length (matches_in states sid))) ≡ false) (walked : HasWalked p number word count sid states) where
   abbrev byte : ℕ
   byte = get_or word count 0
 
@@ -71,7 +71,7 @@ module _ (p : Patterns) (number : ℕ) (settings : Settings) (word : List ℕ) (
         | inr left ↦
             (let met = left_out-front p number settings word numbered left in
             let k = met.0 in
-            let first : is_first p.kind ≡ true = kind_first p.kind (left_out-walk p number left).0 in
+            let first : leaves_out p.kind ≡ true = kind_first p.kind (left_out-walk p number left).0 in
             elim (cases_lt k count) [
               | inl earlier ↦ absurd (met.2 (walked.passed k earlier first))
               | inr late ↦
@@ -80,7 +80,7 @@ module _ (p : Patterns) (number : ℕ) (settings : Settings) (word : List ℕ) (
                         absurd
                         (met.2
                         (ap (λ (n : ℕ). own_among p number (folded_word p (take n word))) here
-                        ∙ passed_none p number settings word numbered sid count (names_of (nodes_with p number more)) states unmatched (ap is_first (sym numbered.kind_is) ∙ first) walked.with_front.trie walked.held))
+                        ∙ passed_none p number settings word numbered sid count (names_of (nodes_with p number more)) states unmatched (ap leaves_out (sym numbered.kind_is) ∙ first) walked.with_front.trie walked.held))
                     | inr later ↦
                         elim (cases_Bool (is_node_among p number (folded_word p (take k word)))) [
                           | inr none ↦ absurd (met.2 (own_among-absent p number (folded_word p (take k word)) none))

@@ -21,7 +21,7 @@ use Rattle.aho_build.specs.StateNames.{name_at, IsStateOf}
 use Rattle.aho_build.specs.Trie.{longer}
 use Rattle.aho_build.specs.Starts.{IsDead, ListsAllBytes}
 use Rattle.aho_build.specs.FailureLinks.{IsLinked}
-use Rattle.aho_build.specs.Sizes.{IsSized}
+use Rattle.aho_build.specs.Sizes.{IsSized, tables_bytes}
 
 -- where a byte leads that leads to no node: from the root back to it, or to DEAD where the root is cut (a leftmost kind with
 -- an empty pattern); from another node nowhere
@@ -129,9 +129,8 @@ is_special_in skips special states sid = nat_eq sid dead_id || (nat_lt 0 (length
 
 -- the bytes of all tables: stated sizes for each state, transition, listed pattern, dense entry and pattern length
 abbrev pub memory_of : Tables → List ℕ → ℕ
-memory_of table lengths =
-    20 * length table.states + 9 * transitions_count table.states + 8 * matches_count table.states + 4 * table.dense_len + 4 * length lengths
+memory_of table lengths = tables_bytes (length table.states) (transitions_count table.states) (matches_count table.states) table.dense_len (length lengths)
 
 -- the bytes of the automaton that these settings make of the patterns: those of its tables, and what its prefilter holds
-unfoldable pub bytes_for : Settings → Patterns → ℕ
-bytes_for settings p = memory_size settings.dense_depth p + prefilter_bytes (held_by settings p)
+unfoldable pub memory_for : Settings → Patterns → ℕ
+memory_for settings p = memory_size settings.dense_depth p + prefilter_bytes (held_by settings p)

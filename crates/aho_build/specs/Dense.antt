@@ -8,19 +8,19 @@ use Rattle.aho_base.specs.declared.error.BuildError.{BuildError}
 use Rattle.aho_base.specs.declared.error.BuildError.TheVariants.{StateIDOverflow, OutOfMemory}
 use Rattle.aho_table.specs.Alphabet.{class_count, is_border}
 use Rattle.aho_table.specs.Table.{State, fail_id, state_at, has_row}
-use Rattle.aho_build.specs.Sizes.{nodes, states_size, transitions_size, matches_size}
+use Rattle.aho_build.specs.Sizes.{tables_bytes, nodes, states_size, transitions_size, matches_size}
 use Rattle.aho_build.specs.Trie.{HoldsFirst}
 use Rattle.aho_base.specs.Bytes.{folded_by}
 use Rattle.aho_build.specs.TrieGrowth.{IsNumbered}
 use Rattle.aho_build.specs.declared.settings.Settings.{Settings}
 
 -- whether the word has the byte, by the case rule
-abbrev pub has_byte : Bool → List ℕ → ℕ → Bool
-has_byte ignore_case word byte = list_any (λ other. nat_eq (folded_by ignore_case other) (folded_by ignore_case byte)) word
+abbrev pub has_folded : Bool → List ℕ → ℕ → Bool
+has_folded ignore_case word byte = list_any (λ other. nat_eq (folded_by ignore_case other) (folded_by ignore_case byte)) word
 
 -- whether a border is to stand between this byte and the next one: the word has one of them
 abbrev pub is_parted_by : Bool → List ℕ → ℕ → Bool
-is_parted_by ignore_case word at = has_byte ignore_case word at || has_byte ignore_case word (at + 1)
+is_parted_by ignore_case word at = has_folded ignore_case word at || has_folded ignore_case word (at + 1)
 
 -- the same of the kept patterns below this number
 abbrev pub is_parted_among : Patterns → ℕ → ℕ → Bool
@@ -56,8 +56,7 @@ dense_size depth p = rows_size depth p * classes_size p + 1
 
 -- the bytes of all tables together, where states up to this depth have rows
 abbrev pub memory_size : ℕ → Patterns → ℕ
-memory_size depth p =
-    20 * states_size p + 9 * transitions_size p + 8 * matches_size p + 4 * dense_size depth p + 4 * length p.words
+memory_size depth p = tables_bytes (states_size p) (transitions_size p) (matches_size p) (dense_size depth p) (length p.words)
 
 -- whether a state is to have a row
 abbrev pub is_dense : ℕ → State → Bool

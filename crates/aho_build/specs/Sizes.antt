@@ -71,3 +71,24 @@ pub record IsSized (p : Patterns) (states : List State) : Type 0 where
   pub state_count : length states ≡ states_size p
   pub transitions : transitions_count states ≡ transitions_size p
   pub matches : matches_count states ≡ matches_size p
+
+-- the stated bytes of one state, transition, listed pattern, entry of a dense row and length of a pattern, whatever a vector takes
+abbrev pub state_bytes : ℕ
+state_bytes = 20
+
+abbrev pub transition_bytes : ℕ
+transition_bytes = 9
+
+abbrev pub match_bytes : ℕ
+match_bytes = 8
+
+abbrev pub entry_bytes : ℕ
+entry_bytes = 4
+
+abbrev pub length_bytes : ℕ
+length_bytes = 4
+
+-- the bytes of tables with so many of each
+abbrev pub tables_bytes : ℕ → ℕ → ℕ → ℕ → ℕ → ℕ
+tables_bytes states transitions matches entries lengths =
+    state_bytes * states + transition_bytes * transitions + match_bytes * matches + entry_bytes * entries + length_bytes * lengths

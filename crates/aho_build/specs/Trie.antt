@@ -40,8 +40,8 @@ pub record IsTrie (p : Patterns) (is_word : List ℕ → Bool) (at_root : ℕ) (
       → (parent : ℕ) × (name_at names parent ≡ Some word) × (byte < 256) × (folded p byte ≡ byte) × (next_in states parent byte ≡ i)
 
 -- each state lists what its word does
-abbrev pub Lists : List (Option (List ℕ)) → (List ℕ → List ℕ) → List State → Type 0
-Lists names list_of states = (i : ℕ) (word : List ℕ) → name_at names i ≡ Some word → matches_in states i ≡ list_of word
+abbrev pub ListsByWord : List (Option (List ℕ)) → (List ℕ → List ℕ) → List State → Type 0
+ListsByWord names list_of states = (i : ℕ) (word : List ℕ) → name_at names i ≡ Some word → matches_in states i ≡ list_of word
 
 -- the four first states while the trie grows: DEAD, FAIL and the anchored start have no patterns, their links and depth 0,
 -- the anchored start leads nowhere, and no named state is linked yet (its link is FAIL)
@@ -61,13 +61,13 @@ pub record AreFirst (names : List (Option (List ℕ))) (states : List State) : T
 -- the table is the trie of the patterns before this number
 pub record IsTrieOf (p : Patterns) (number : ℕ) (names : List (Option (List ℕ))) (states : List State) : Type 0 where
   pub trie : IsTrie p (is_node_among p number) fail_id names states
-  pub lists : Lists names (own_among p number) states
+  pub lists : ListsByWord names (own_among p number) states
   pub first : AreFirst names states
 
 -- the table is the trie of the patterns before this number and of the first bytes of one more word
 pub record IsTrieWith (p : Patterns) (number : ℕ) (more : List ℕ) (names : List (Option (List ℕ))) (states : List State) : Type 0 where
   pub trie : IsTrie p (λ word. is_node_among p number word || begins word more) fail_id names states
-  pub lists : Lists names (own_among p number) states
+  pub lists : ListsByWord names (own_among p number) states
   pub first : AreFirst names states
 
 -- the names of the states that have these nodes, in their order

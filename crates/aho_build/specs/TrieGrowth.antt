@@ -75,10 +75,10 @@ pub record IsFilledBelow (sid next count : ℕ) (old new : List State) : Type 0 
   pub matches_same : matches_count new ≡ matches_count old
 
 -- whether the kind leaves patterns out
-abbrev pub is_first : MatchKind → Bool
-is_first Standard = false
-is_first LeftmostFirst = true
-is_first LeftmostLongest = false
+abbrev pub leaves_out : MatchKind → Bool
+leaves_out Standard = false
+leaves_out LeftmostFirst = true
+leaves_out LeftmostLongest = false
 
 -- the pattern of this number is the word, and kind and case rule are those of the settings
 pub record IsNumbered (p : Patterns) (number : ℕ) (settings : Settings) (word : List ℕ) : Type 0 where
@@ -94,7 +94,7 @@ AwaitsWord settings word states =
 -- the walk along a pattern's word has taken its first bytes: they have their states, the last of which is held, and a kind
 -- that leaves patterns out has met no pattern before the last
 pub record HasWalked (p : Patterns) (number : ℕ) (word : List ℕ) (count sid : ℕ) (states : List State) : Type 0 where
-  pub passed : (k : ℕ) → k < count → is_first p.kind ≡ true → own_among p number (folded_word p (take k word)) ≡ []
+  pub passed : (k : ℕ) → k < count → leaves_out p.kind ≡ true → own_among p number (folded_word p (take k word)) ≡ []
   pub with_front : HoldsWith p number (folded_word p (take count word)) states
   pub held : name_at (names_of (nodes_with p number (folded_word p (take count word)))) sid ≡ Some (folded_word p (take count word))
 

@@ -1,5 +1,6 @@
 -- What a step needs of a table, whatever it was built from: numbers alone.
 use Rattle.std.specs.Prelude.{◌≡◌, ◌≢◌, ℕ, zero, suc, ◌+◌, ◌<◌, ◌≤◌, List, nat_eq, if◌then◌else◌, length}
+use Rattle.aho_base.specs.Numbers.{greatest_index}
 use Rattle.aho_base.specs.declared.search.Anchored.{Anchored}
 use Rattle.aho_base.specs.declared.search.Anchored.TheVariants.{No, Yes}
 use Rattle.aho_table.specs.Table.{State, dead_id, fail_id, next_in, fail_in, depth_in}
@@ -23,7 +24,7 @@ pub record IsSound (states : List State) : Type 0 where
   pub fail_state : (sid byte : ℕ) → IsState states sid → byte < 256 → next_in states sid byte ≡ fail_id → IsState states (fail_in states sid)
   pub fail_nearer : (sid byte : ℕ) → IsState states sid → byte < 256 → next_in states sid byte ≡ fail_id
       → links_left states (fail_in states sid) < links_left states sid
-  pub shallow : (sid : ℕ) → IsState states sid → depth_in states sid ≤ 2147483646
+  pub shallow : (sid : ℕ) → IsState states sid → depth_in states sid ≤ greatest_index
   pub dead_next : (byte : ℕ) → byte < 256 → next_in states dead_id byte ≡ dead_id
   pub dead_depth : depth_in states dead_id ≡ 0
 

@@ -6,4 +6,4 @@ pub mod impls;
 pub mod settings;
 pub mod sizes;
 pub mod special;
-pub mod walk;
+pub mod steps;

@@ -1,2 +1,4 @@
 -- what is read out of an automaton, state by state
 pub mod ReadOut
+-- when one automaton is a clone of another
+pub mod Clones

@@ -1,5 +1,5 @@
 -- What is read out of an automaton, state by state, and what it means in the words of the patterns.
-use Rattle.std.specs.Prelude.{◌≡◌, ℕ, ◌<◌, List, [], ◌∷◌, true, false, nat_eq, Option, Some, None, if◌then◌else◌}
+use Rattle.std.specs.Prelude.{◌≡◌, ℕ, ◌<◌, Bool, List, [], ◌∷◌, true, false, nat_eq, Option, Some, None, if◌then◌else◌}
 use Rattle.aho_base.specs.Failure.{failure_of}
 use Rattle.aho_base.specs.Patterns.{Patterns}
 use Rattle.aho_base.specs.Trie.{is_node}
@@ -18,6 +18,14 @@ states_of nfa = nfa.table.states
 abbrev pub special_of : NFA → Special
 special_of nfa = nfa.special
 
+-- the borders between the classes of bytes
+abbrev pub classes_of : NFA → List Bool
+classes_of nfa = nfa.table.classes
+
+-- for each state, by its number, whether it has a dense row, by which a step from it is one look
+abbrev pub dense_rows_of : NFA → List Bool
+dense_rows_of nfa = nfa.table.rows
+
 -- it is the automaton of the patterns, and these are the words of its states
 abbrev pub IsNaming : NFA → Patterns → List (Option (List ℕ)) → Type 0
 IsNaming nfa p names = IsOf p nfa.match_kind nfa.pattern_lens.items nfa.special nfa.table.states × IsAutomaton nfa.special p names nfa.table.states
@@ -27,8 +35,8 @@ IsNaming nfa p names = IsOf p nfa.match_kind nfa.pattern_lens.items nfa.special 
 abbrev pub word_in : Special → List (Option (List ℕ)) → ℕ → Option (List ℕ)
 word_in special names sid = if nat_eq sid special.start_anchored_id then Some [] else name_at names sid
 
-abbrev pub word_of : NFA → List (Option (List ℕ)) → ℕ → Option (List ℕ)
-word_of nfa names sid = word_in nfa.special names sid
+abbrev pub word_of_state : NFA → List (Option (List ℕ)) → ℕ → Option (List ℕ)
+word_of_state nfa names sid = word_in nfa.special names sid
 
 -- where a word leads on failure, and none where there is no word or it is empty
 abbrev pub link_of : Patterns → Option (List ℕ) → Option (List ℕ)

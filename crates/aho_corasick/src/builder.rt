@@ -42,8 +42,10 @@ impl Builder {
     ghost use Rattle.std.specs.Prelude.{IfOk, IfErr};
     ghost use Rattle.std.specs.Iterator.{IsFinite};
     ghost use Rattle.aho_build.specs.Items.{IsFailure, OfAccepted};
-    ghost use Rattle.aho_build.specs.Automaton.{bytes_for};
+    ghost use Rattle.aho_build.specs.Automaton.{memory_for};
+    ghost use Rattle.aho_build.specs.Dense.{AreDense};
     ghost use Rattle.aho_build.specs.Prefilters.{held_by};
+    ghost use Rattle.aho_corasick.specs.ReadOut.{states_of, dense_rows_of};
 
     /// Standard, with regard to case, dense rows up to depth 3, a prefilter where one can be held, and the greatest limits.
     pub fn new() -> Builder
@@ -74,7 +76,9 @@ impl Builder {
         ensures held { IfOk result (λ nfa. OfAccepted I.next_gives patterns self.now
             (λ p. ⟦<NFA as Automaton>⟧.prefilter nfa ≡ held_by self.now p)) }
         ensures sized { IfOk result (λ nfa. OfAccepted I.next_gives patterns self.now
-            (λ p. ⟦<NFA as Automaton>⟧.memory nfa ≡ bytes_for self.now p)) }
+            (λ p. ⟦<NFA as Automaton>⟧.memory nfa ≡ memory_for self.now p)) }
+        ensures dense { IfOk result (λ nfa.
+            AreDense self.now.dense_depth (states_of nfa) (dense_rows_of nfa)) }
         ensures refused { IfErr result (IsFailure I.next_gives patterns self.now) }
     {
         let compiled = compiler::compile(alloc, &self.settings, patterns)?;

@@ -1,7 +1,7 @@
 //! The noncontiguous automaton: its states are the nodes of the trie of the patterns, and a byte that leads to no node is
 //! looked for further down the failure links.
 
-ghost use Rattle.std.specs.Prelude.{◌≡◌, ◌<◌, ◌≤◌, ◌^◌, ℕ, length, IfOk, is_some};
+ghost use Rattle.std.specs.Prelude.{◌≡◌, ◌+◌, ◌<◌, ◌≤◌, ◌^◌, ℕ, length, IfOk, is_some};
 ghost use Rattle.aho_base.specs.Laws.{shortest, longest};
 ghost use Rattle.aho_base.specs.Numbers.{greatest_index};
 ghost use Rattle.aho_build.specs.Shuffled.{AreNumbered};
@@ -15,7 +15,8 @@ use aho_base::error::{BuildError, MatchError};
 use aho_base::search::{Anchored, MatchKind, PatternID, SmallIndex, StateID, Work};
 use aho_build::compiler::Compiled;
 pub use aho_build::special::Special;
-use aho_build::walk;
+use aho_build::sizes::tables_bytes;
+use aho_build::steps;
 use aho_prefilter::prefilter::Prefilter;
 use aho_search::automaton::Automaton;
 use aho_table::links::{DEAD, Table};
@@ -46,8 +47,8 @@ pub struct NFA {
     ghost numbered: { AreNumbered (is_some prefilter) special table.states },
     ghost shortest: { min_pattern_len ≡ shortest pattern_lens.items },
     ghost longest: { max_pattern_len ≡ longest pattern_lens.items },
-    ghost counted: { length pattern_lens.items ≤ 2147483647 },
-    ghost bounded: { max_pattern_len ≤ 2147483646 },
+    ghost counted: { length pattern_lens.items ≤ greatest_index + 1 },
+    ghost bounded: { max_pattern_len ≤ greatest_index },
 }
 
 impl NFA {
@@ -55,14 +56,15 @@ impl NFA {
     ghost use Rattle.std.specs.Iterator.{IsFinite};
     ghost use Rattle.aho_base.specs.declared.search.Anchored.{Anchored};
     ghost use Rattle.aho_base.specs.Patterns.{Patterns};
-    ghost use Rattle.aho_build.specs.Automaton.{IsOf, bytes_for, memory_of};
-    ghost use Rattle.aho_build.specs.Dense.{HasBorders};
+    ghost use Rattle.aho_build.specs.Automaton.{IsOf, memory_for, memory_of};
+    ghost use Rattle.aho_build.specs.Dense.{AreDense, HasBorders};
     ghost use Rattle.aho_build.specs.Items.{IsFailure, OfAccepted};
     ghost use Rattle.aho_build.specs.Prefilters.{held_by};
     ghost use Rattle.aho_build.specs.Settings.{default_settings};
     ghost use Rattle.aho_build.specs.Shuffled.{IsInOrder};
     ghost use Rattle.aho_prefilter.specs.Prefilter.{IsPrefilterOf, has_empty};
-    ghost use Rattle.aho_search.specs.Clones.{IsCloneOf};
+    ghost use Rattle.aho_corasick.specs.ReadOut.{states_of, dense_rows_of};
+    ghost use Rattle.aho_corasick.specs.Clones.{IsCloneOf, HasReadOutOf};
 
     /// The automaton of these patterns, as a new `Builder` builds it.
     ///
@@ -81,7 +83,9 @@ impl NFA {
         ensures held { IfOk result (λ nfa. OfAccepted I.next_gives patterns default_settings
             (λ p. ⟦<NFA as Automaton>⟧.prefilter nfa ≡ held_by default_settings p)) }
         ensures sized { IfOk result (λ nfa. OfAccepted I.next_gives patterns default_settings
-            (λ p. ⟦<NFA as Automaton>⟧.memory nfa ≡ bytes_for default_settings p)) }
+            (λ p. ⟦<NFA as Automaton>⟧.memory nfa ≡ memory_for default_settings p)) }
+        ensures dense { IfOk result (λ nfa.
+            AreDense default_settings.dense_depth (states_of nfa) (dense_rows_of nfa)) }
         ensures refused { IfErr result (IsFailure I.next_gives patterns default_settings) }
     {
         Builder::new().build(alloc, patterns)
@@ -97,6 +101,8 @@ impl NFA {
             → HasBorders p compiled.table.classes
             → ⟦<NFA as Automaton>⟧.is_of result p }
         ensures held { ⟦<NFA as Automaton>⟧.prefilter result ≡ compiled.prefilter }
+        ensures states { states_of result ≡ compiled.table.states }
+        ensures dense { dense_rows_of result ≡ compiled.table.rows }
         ensures memory { ⟦<NFA as Automaton>⟧.memory result
             ≡ memory_of compiled.table compiled.pattern_lens.items + prefilter_bytes compiled.prefilter }
     {
@@ -123,13 +129,8 @@ impl NFA {
     ///
     /// Want of memory.
     pub fn try_clone(&self) -> Result<NFA, AllocError>
-        ensures same { IfOk result (λ nfa. IsCloneOf
-            ⟦<NFA as Automaton>⟧.is_of ⟦<NFA as Automaton>⟧.held ⟦<NFA as Automaton>⟧.valid
-            ⟦<NFA as Automaton>⟧.kind ⟦<NFA as Automaton>⟧.lengths ⟦<NFA as Automaton>⟧.list
-            ⟦<NFA as Automaton>⟧.dead ⟦<NFA as Automaton>⟧.special ⟦<NFA as Automaton>⟧.starts
-            ⟦<NFA as Automaton>⟧.depth ⟦<NFA as Automaton>⟧.next ⟦<NFA as Automaton>⟧.lookups
-            ⟦<NFA as Automaton>⟧.start ⟦<NFA as Automaton>⟧.memory
-            ⟦<NFA as Automaton>⟧.prefilter nfa self.now) }
+        ensures same { IfOk result (λ nfa. IsCloneOf ⟦<NFA as Automaton>⟧ nfa self.now) }
+        ensures read_out { IfOk result (λ nfa. HasReadOutOf nfa self.now) }
     {
         Ok(NFA {
             match_kind: self.match_kind,
@@ -205,15 +206,14 @@ impl Automaton for NFA {
 
     fn next_state(&self, anchored: Anchored, sid: StateID, byte: u8) -> StateID {
         let mut work = Work::new();
-        walk::step(&self.table, anchored, sid, byte, &mut work)
+        steps::step(&self.table, anchored, sid, byte, &mut work)
     }
 
     /// The look-ups that are added are exactly those of the step of the word that was read.
     fn step(&self, anchored: Anchored, sid: StateID, byte: u8, work: &mut Work) -> StateID {
-        walk::step(&self.table, anchored, sid, byte, work)
+        steps::step(&self.table, anchored, sid, byte, work)
     }
 
-    /// Where a prefilter is held, each start is special too.
     /// Where a prefilter is held, each start is special too.
     fn is_special(&self, sid: StateID) -> bool {
         sid <= self.special.max_special_id
@@ -268,12 +268,7 @@ impl Automaton for NFA {
     fn memory_usage(&self) -> usize
         ensures memory { result ≡ ⟦<NFA as Automaton>⟧.memory self.now }
     {
-        20 * self.table.len()
-            + 9 * self.table.transitions_count()
-            + 8 * self.table.matches_count()
-            + 4 * self.table.dense_len()
-            + 4 * self.pattern_lens.len()
-            + bytes_of(&self.prefilter)
+        tables_bytes(&self.table, &self.pattern_lens) + bytes_of(&self.prefilter)
     }
 
     ghost laws = { λ n p of. reads_of p n.match_kind n.pattern_lens.items n.special n.table.states of.0 };

@@ -4,4 +4,4 @@
 pub mod matches;
 pub mod renumber;
 pub mod transitions;
-mod walk;
+mod places;

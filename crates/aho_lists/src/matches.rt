@@ -11,7 +11,7 @@ ghost use Rattle.aho_lists.specs.Rings.{AreRings, lists_of};
 ghost use Rattle.aho_lists.specs.Lists.{list_at, IsList, push_in};
 ghost use Rattle.aho_lists.specs.Inside.{with_first_match, AreCounted, match_of, match_entries, relinked_match, matched_behind};
 
-use crate::walk::{overflow, place_after};
+use crate::places::{overflow, place_after};
 use aho_base::error::BuildError;
 use aho_base::search::{PatternID, SmallIndex, StateID};
 use std::alloc::{AllocError, Global};
@@ -20,7 +20,7 @@ use std::marker::Model;
 
 /// An entry: the pattern, and the next entry of the list.
 #[derive(Clone, Copy)]
-struct Match {
+struct MatchEntry {
     pattern: PatternID,
     link: StateID,
     /// How many entries of the list stand before it.
@@ -33,7 +33,7 @@ struct Match {
 #[derive(Drop)]
 pub struct MatchLists {
     /// None, or those of the lists behind the one at index 0.
-    entries: Vec<Match>,
+    entries: Vec<MatchEntry>,
     limit: usize,
 }
 
@@ -69,7 +69,7 @@ impl MatchLists {
     /// How many entries the lists have together, and one: the entry at index 0.
     pub fn len(&self) -> usize
         ensures len { result ≡ length self.now.lists }
-        ensures bound { result ≤ 2147483647 }
+        ensures bound { result ≤ greatest_index + 1 }
     {
         self.entries.len().max(1)
     }
@@ -188,7 +188,7 @@ impl MatchLists {
 /// It is seen as the list of those that are left.
 #[derive(Drop)]
 pub struct Matches<'t> {
-    entries: &'t [Match],
+    entries: &'t [MatchEntry],
     at: Option<StateID>,
     last: StateID,
 }
@@ -226,7 +226,7 @@ impl<'t> Iterator for Matches<'t> {
 impl<'t> FusedIterator for Matches<'t> {}
 
 /// The entry at this place.
-fn entry(entries: &[Match], place: StateID) -> Match
+fn entry(entries: &[MatchEntry], place: StateID) -> MatchEntry
     requires within { place < length entries.now }
     ensures entry { result ≡ match_of entries.now place }
 {
@@ -234,7 +234,7 @@ fn entry(entries: &[Match], place: StateID) -> Match
 }
 
 /// The pattern of this place in the list that ends at `last`.
-fn read(entries: &[Match], last: StateID, index: usize) -> PatternID
+fn read(entries: &[MatchEntry], last: StateID, index: usize) -> PatternID
     requires counted { AreCounted entries.now }
     requires rings { AreRings (match_entries entries.now) (length entries.now) }
     requires some { 0 < last }
@@ -262,7 +262,7 @@ fn read(entries: &[Match], last: StateID, index: usize) -> PatternID
 
 /// One entry more, which links to `link`, or to itself where there is none.
 fn push(
-    entries: &mut Vec<Match>,
+    entries: &mut Vec<MatchEntry>,
     limit: usize,
     pattern: PatternID,
     link: Option<StateID>,
@@ -283,7 +283,7 @@ fn push(
     let made = StateID::new_unchecked(index);
     let link = link.unwrap_or(made);
     if entries
-        .push(Match {
+        .push(MatchEntry {
             pattern,
             link,
             before,
@@ -296,12 +296,12 @@ fn push(
 }
 
 /// The entry at index 0 stands there.
-fn add_dummy(entries: &mut Vec<Match>) -> Result<(), AllocError>
+fn add_dummy(entries: &mut Vec<MatchEntry>) -> Result<(), AllocError>
     ensures there { OnOk result (entries.new.items ≡ with_first_match entries.old.items) }
     ensures unchanged { OnErr result (entries.new.items ≡ entries.old.items) }
 {
     if entries.is_empty() {
-        let dummy = Match {
+        let dummy = MatchEntry {
             pattern: PatternID::new_unchecked(0),
             link: StateID::ZERO,
             before: 0,
@@ -313,7 +313,7 @@ fn add_dummy(entries: &mut Vec<Match>) -> Result<(), AllocError>
 
 /// One entry more, which links to itself.
 fn push_alone(
-    entries: &mut Vec<Match>,
+    entries: &mut Vec<MatchEntry>,
     limit: usize,
     pattern: PatternID,
 ) -> Result<StateID, BuildError>
@@ -337,7 +337,7 @@ fn push_alone(
 }
 
 /// The entry at this place links to another.
-fn relink(entries: &mut Vec<Match>, place: StateID, link: StateID)
+fn relink(entries: &mut Vec<MatchEntry>, place: StateID, link: StateID)
     requires place { place < length entries.old.items }
     ensures relinked { entries.new.items ≡ relinked_match entries.old.items place link }
     ensures count { length entries.new.items ≡ length entries.old.items }
@@ -348,14 +348,14 @@ fn relink(entries: &mut Vec<Match>, place: StateID, link: StateID)
 
 /// One entry more behind the last one of a list, which links to the first as that one did.
 fn push_behind(
-    entries: &mut Vec<Match>,
+    entries: &mut Vec<MatchEntry>,
     limit: usize,
     last: StateID,
     pattern: PatternID,
 ) -> Result<StateID, BuildError>
     requires small { limit ≤ greatest_index }
     requires place { last < length entries.old.items }
-    requires few { (match_of entries.old.items last).before < 2147483647 }
+    requires few { (match_of entries.old.items last).before ≤ greatest_index }
     ensures number { IfOk result (λ made. made ≡ length entries.old.items) }
     ensures pushed { OnOk result
         (entries.new.items ≡ matched_behind entries.old.items last pattern) }

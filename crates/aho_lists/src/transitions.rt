@@ -16,7 +16,7 @@ ghost use Rattle.aho_lists.specs.Renaming.{IsTransitionLed};
 ghost use Rattle.std.specs.List.{AllZip};
 
 use crate::renumber::renamed;
-use crate::walk::{are_beside, beside_alone, beside_behind, overflow, place_after};
+use crate::places::{are_beside, beside_alone, beside_behind, overflow, place_after};
 use aho_base::error::BuildError;
 use aho_base::search::{SmallIndex, StateID};
 use std::alloc::{AllocError, Global};
@@ -79,7 +79,7 @@ impl TransitionLists {
     /// How many entries the lists have together, and one: the entry at index 0.
     pub fn len(&self) -> usize
         ensures len { result ≡ length self.now.lists }
-        ensures bound { result ≤ 2147483647 }
+        ensures bound { result ≤ greatest_index + 1 }
     {
         self.entries.len().max(1)
     }

@@ -1,5 +1,4 @@
 pub mod Reading
-pub mod Clones
 pub mod Finding
 pub mod Fused
 pub mod Overlaps

@@ -6,10 +6,10 @@ use Rattle.std.proofs.lemmas.List.Sums.{sum_by-append}
 use Rattle.std.proofs.Math.Seq.{take-append_seam}
 use Rattle.aho_lists.specs.Lists.{Lists, list_at, IsList}
 use Rattle.aho_table.specs.Table.{State, new_state, state_at, transitions_count, matches_count}
-use Rattle.aho_table.specs.Inside.{record_at, state_of, states_of, transition_numbers, match_numbers, AreNumbers, IsConsistent}
+use Rattle.aho_table.specs.Inside.{record_at, recorded_state, recorded_states, transition_numbers, match_numbers, AreNumbers, IsConsistent}
 use Rattle.aho_table.specs.declared.links.states.Record.{Record}
 use Rattle.aho_table.proofs.Numbers.{same_list, AreNumbers-set, AreNumbers-push, AreNumbers-take}
-use Rattle.aho_table.proofs.Records.{length-states_of, state_at-states_of, states_of-none, states_of-append, take-states_of, states_of-changed, transition_number, match_number}
+use Rattle.aho_table.proofs.Records.{length-recorded_states, state_at-recorded_states, recorded_states-none, recorded_states-append, take-recorded_states, recorded_states-changed, transition_number, match_number}
 use Rattle.aho_table.proofs.States.{transitions_count-set, matches_count-set}
 
 -- the list of one number has these items now, under this number
@@ -38,11 +38,11 @@ module _ (records : List Record) (sid : ℕ) (state : Record) (below : sid < len
       ∙ ap (set (match_numbers records) sid) (same ∙ ap (λ (r : Record). r.matches) read ∙ sym (match_number records sid below))
       ∙ set-get_or (match_numbers records) sid 0
 
-  the_state : (transitions : List (List (ℕ × ℕ))) (matches : List (List ℕ)) → state_at (states_of transitions matches records) sid ≡ state_of transitions matches state
-  the_state transitions matches = state_at-states_of transitions matches records sid below ∙ ap (state_of transitions matches) (sym read)
+  the_state : (transitions : List (List (ℕ × ℕ))) (matches : List (List ℕ)) → state_at (recorded_states transitions matches records) sid ≡ recorded_state transitions matches state
+  the_state transitions matches = state_at-recorded_states transitions matches records sid below ∙ ap (recorded_state transitions matches) (sym read)
 
-  count : (transitions : List (List (ℕ × ℕ))) (matches : List (List ℕ)) → sid < length (states_of transitions matches records)
-  count transitions matches = omega (arith, below, length-states_of transitions matches records)
+  count : (transitions : List (List (ℕ × ℕ))) (matches : List (List ℕ)) → sid < length (recorded_states transitions matches records)
+  count transitions matches = omega (arith, below, length-recorded_states transitions matches records)
 
   -- ---- a list of transitions
 
@@ -66,13 +66,13 @@ module _ (records : List Record) (sid : ℕ) (state : Record) (below : sid < len
         subst (λ (ns : List ℕ). AreNumbers ns new) (sym (map-set (λ (r : Record). r.transitions) records sid (record state { transitions = made })))
         (AreNumbers-set (transition_numbers records) old new sid made are change.some same (numbers_in (λ (r : Record). r.transitions)) change.known (subst (λ (n : ℕ). (made ≡ n) ⊎ (length old ≤ made)) (sym number) change.fresh))
 
-    pub states-led : (matches : List (List ℕ)) → states_of new matches (set records sid (record state { transitions = made }))
-        ≡ set (states_of old matches records) sid (record (state_at (states_of old matches records) sid) { transitions = items })
+    pub states-led : (matches : List (List ℕ)) → recorded_states new matches (set records sid (record state { transitions = made }))
+        ≡ set (recorded_states old matches records) sid (record (state_at (recorded_states old matches records) sid) { transitions = items })
     states-led matches =
-        states_of-changed old new matches matches records sid (record state { transitions = made }) below
-        (λ i inside ne. ap (λ (xs : List (ℕ × ℕ)). record (state_of old matches (record_at records i)) { transitions = xs }) (same_transitions i inside ne))
-        ∙ ap (set (states_of old matches records) sid)
-        (ap (λ (xs : List (ℕ × ℕ)). record (state_of old matches state) { transitions = xs }) change.changed
+        recorded_states-changed old new matches matches records sid (record state { transitions = made }) below
+        (λ i inside ne. ap (λ (xs : List (ℕ × ℕ)). record (recorded_state old matches (record_at records i)) { transitions = xs }) (same_transitions i inside ne))
+        ∙ ap (set (recorded_states old matches records) sid)
+        (ap (λ (xs : List (ℕ × ℕ)). record (recorded_state old matches state) { transitions = xs }) change.changed
         ∙ sym (ap (λ (s : State). record s { transitions = items }) (the_state old matches)))
 
   pub IsConsistent-led : (transitions new : Lists (ℕ × ℕ)) (matches : Lists ℕ) (limit made : ℕ) (items : List (ℕ × ℕ)) → IsConsistent records transitions matches limit
@@ -80,7 +80,7 @@ module _ (records : List Record) (sid : ℕ) (state : Record) (below : sid < len
       → length new.lists + length (list_at transitions.lists state.transitions) ≡ length transitions.lists + length items
       → IsConsistent (set records sid (record state { transitions = made })) new matches limit
   IsConsistent-led transitions new matches limit made items consistent change same counted =
-      let states : List State = states_of transitions.lists matches.lists records in
+      let states : List State = recorded_states transitions.lists matches.lists records in
       let led = states-led transitions.lists new.lists made items consistent.transition_lists change matches.lists in
       let row : State = record (state_at states sid) { transitions = items } in
       let inside = count transitions.lists matches.lists in
@@ -130,13 +130,13 @@ module _ (records : List Record) (sid : ℕ) (state : Record) (below : sid < len
         subst (λ (ns : List ℕ). AreNumbers ns new) (sym (map-set (λ (r : Record). r.matches) records sid (record state { matches = made })))
         (AreNumbers-set (match_numbers records) old new sid made are change.some same_list_at (numbers_in (λ (r : Record). r.matches)) change.known (subst (λ (n : ℕ). (made ≡ n) ⊎ (length old ≤ made)) (sym match_number_is) change.fresh))
 
-    pub states-listed : (transitions : List (List (ℕ × ℕ))) → states_of transitions new (set records sid (record state { matches = made }))
-        ≡ set (states_of transitions old records) sid (record (state_at (states_of transitions old records) sid) { matches = items })
+    pub states-listed : (transitions : List (List (ℕ × ℕ))) → recorded_states transitions new (set records sid (record state { matches = made }))
+        ≡ set (recorded_states transitions old records) sid (record (state_at (recorded_states transitions old records) sid) { matches = items })
     states-listed transitions =
-        states_of-changed transitions transitions old new records sid (record state { matches = made }) below
-        (λ i inside ne. ap (λ (xs : List ℕ). record (state_of transitions old (record_at records i)) { matches = xs }) (same_matches i inside ne))
-        ∙ ap (set (states_of transitions old records) sid)
-        (ap (λ (xs : List ℕ). record (state_of transitions old state) { matches = xs }) change.changed
+        recorded_states-changed transitions transitions old new records sid (record state { matches = made }) below
+        (λ i inside ne. ap (λ (xs : List ℕ). record (recorded_state transitions old (record_at records i)) { matches = xs }) (same_matches i inside ne))
+        ∙ ap (set (recorded_states transitions old records) sid)
+        (ap (λ (xs : List ℕ). record (recorded_state transitions old state) { matches = xs }) change.changed
         ∙ sym (ap (λ (s : State). record s { matches = items }) (the_state transitions old)))
 
   pub IsConsistent-listed : (transitions : Lists (ℕ × ℕ)) (matches new : Lists ℕ) (limit made : ℕ) (items : List ℕ) → IsConsistent records transitions matches limit
@@ -144,7 +144,7 @@ module _ (records : List Record) (sid : ℕ) (state : Record) (below : sid < len
       → length new.lists + length (list_at matches.lists state.matches) ≡ length matches.lists + length items
       → IsConsistent (set records sid (record state { matches = made })) transitions new limit
   IsConsistent-listed transitions matches new limit made items consistent change same counted =
-      let states : List State = states_of transitions.lists matches.lists records in
+      let states : List State = recorded_states transitions.lists matches.lists records in
       let listed = states-listed matches.lists new.lists made items consistent.match_lists change transitions.lists in
       let row : State = record (state_at states sid) { matches = items } in
       let inside = count transitions.lists matches.lists in
@@ -174,16 +174,16 @@ module _ (records : List Record) (sid : ℕ) (state : Record) (below : sid < len
 
   -- ---- a link
 
-  pub states-linked : (transitions : List (List (ℕ × ℕ))) (matches : List (List ℕ)) (fail : ℕ) → states_of transitions matches (set records sid (record state { fail = fail }))
-      ≡ set (states_of transitions matches records) sid (record (state_at (states_of transitions matches records) sid) { fail = fail })
+  pub states-linked : (transitions : List (List (ℕ × ℕ))) (matches : List (List ℕ)) (fail : ℕ) → recorded_states transitions matches (set records sid (record state { fail = fail }))
+      ≡ set (recorded_states transitions matches records) sid (record (state_at (recorded_states transitions matches records) sid) { fail = fail })
   states-linked transitions matches fail =
-      states_of-changed transitions transitions matches matches records sid (record state { fail = fail }) below (λ i inside ne. refl)
-      ∙ ap (set (states_of transitions matches records) sid) (sym (ap (λ (s : State). record s { fail = fail }) (the_state transitions matches)))
+      recorded_states-changed transitions transitions matches matches records sid (record state { fail = fail }) below (λ i inside ne. refl)
+      ∙ ap (set (recorded_states transitions matches records) sid) (sym (ap (λ (s : State). record s { fail = fail }) (the_state transitions matches)))
 
   pub IsConsistent-linked : (transitions : Lists (ℕ × ℕ)) (matches : Lists ℕ) (limit fail : ℕ) → IsConsistent records transitions matches limit
       → IsConsistent (set records sid (record state { fail = fail })) transitions matches limit
   IsConsistent-linked transitions matches limit fail consistent =
-      let states : List State = states_of transitions.lists matches.lists records in
+      let states : List State = recorded_states transitions.lists matches.lists records in
       let linked = states-linked transitions.lists matches.lists fail in
       let row : State = record (state_at states sid) { fail = fail } in
       let inside = count transitions.lists matches.lists in
@@ -220,14 +220,14 @@ IsConsistent-none transitions matches limit small is is' = record {
   matches_limit = ap (λ (s : Lists ℕ). s.limit) is';
   transition_lists = record { known = λ i below. absurd (omega arith); apart = λ i j below below' ne same. absurd (omega arith) };
   match_lists = record { known = λ i below. absurd (omega arith); apart = λ i j below below' ne same. absurd (omega arith) };
-  transitions_are = omega (arith, ap (λ (s : Lists (ℕ × ℕ)). length s.lists) is, ap (λ (ss : List State). transitions_count ss) (states_of-none transitions.lists matches.lists));
-  matches_are = omega (arith, ap (λ (s : Lists ℕ). length s.lists) is', ap (λ (ss : List State). matches_count ss) (states_of-none transitions.lists matches.lists));
+  transitions_are = omega (arith, ap (λ (s : Lists (ℕ × ℕ)). length s.lists) is, ap (λ (ss : List State). transitions_count ss) (recorded_states-none transitions.lists matches.lists));
+  matches_are = omega (arith, ap (λ (s : Lists ℕ). length s.lists) is', ap (λ (ss : List State). matches_count ss) (recorded_states-none transitions.lists matches.lists));
 }
 
 pub IsConsistent-push : (records : List Record) (transitions : Lists (ℕ × ℕ)) (matches : Lists ℕ) (limit : ℕ) (last : Record) → IsConsistent records transitions matches limit
     → length records ≤ limit → last.transitions ≡ 0 → last.matches ≡ 0 → list_at transitions.lists 0 ≡ [] → list_at matches.lists 0 ≡ [] → IsConsistent (records ++ last ∷ []) transitions matches limit
 IsConsistent-push records transitions matches limit last consistent room none none' empty empty' =
-    let more = states_of-append transitions.lists matches.lists records last in
+    let more = recorded_states-append transitions.lists matches.lists records last in
     record {
       small = consistent.small;
       states_within = omega (arith, length_push records last);
@@ -243,29 +243,29 @@ IsConsistent-push records transitions matches limit last consistent room none no
         arith,
         consistent.transitions_are,
         ap (λ (ss : List State). transitions_count ss) more,
-        sum_by-append (λ (s : State). length s.transitions) (states_of transitions.lists matches.lists records) (state_of transitions.lists matches.lists last ∷ []),
+        sum_by-append (λ (s : State). length s.transitions) (recorded_states transitions.lists matches.lists records) (recorded_state transitions.lists matches.lists last ∷ []),
         ap (λ (xs : List (ℕ × ℕ)). length xs) (ap (list_at transitions.lists) none ∙ empty),
       );
       matches_are = omega (
         arith,
         consistent.matches_are,
         ap (λ (ss : List State). matches_count ss) more,
-        sum_by-append (λ (s : State). length s.matches) (states_of transitions.lists matches.lists records) (state_of transitions.lists matches.lists last ∷ []),
+        sum_by-append (λ (s : State). length s.matches) (recorded_states transitions.lists matches.lists records) (recorded_state transitions.lists matches.lists last ∷ []),
         ap (λ (xs : List ℕ). length xs) (ap (list_at matches.lists) none' ∙ empty'),
       );
     }
 
 -- the first states, where the last one lists nothing
-pub states_of-first : (records : List Record) (transitions : List (List (ℕ × ℕ))) (matches : List (List ℕ)) (states : List State) (depth count : ℕ)
-    → states_of transitions matches records ≡ states ++ new_state depth ∷ [] → count + 1 ≡ length records → states_of transitions matches (take count records) ≡ states
-states_of-first records transitions matches states depth count are is =
-    let same : length states ≡ count = omega (arith, ap (λ (ss : List State). length ss) are, length-states_of transitions matches records, length_push states (new_state depth)) in
-    sym (take-states_of transitions matches records count) ∙ ap (take count) are ∙ ap (λ (n : ℕ). take n (states ++ new_state depth ∷ [])) (sym same) ∙ take-append_seam states (new_state depth ∷ [])
+pub recorded_states-first : (records : List Record) (transitions : List (List (ℕ × ℕ))) (matches : List (List ℕ)) (states : List State) (depth count : ℕ)
+    → recorded_states transitions matches records ≡ states ++ new_state depth ∷ [] → count + 1 ≡ length records → recorded_states transitions matches (take count records) ≡ states
+recorded_states-first records transitions matches states depth count are is =
+    let same : length states ≡ count = omega (arith, ap (λ (ss : List State). length ss) are, length-recorded_states transitions matches records, length_push states (new_state depth)) in
+    sym (take-recorded_states transitions matches records count) ∙ ap (take count) are ∙ ap (λ (n : ℕ). take n (states ++ new_state depth ∷ [])) (sym same) ∙ take-append_seam states (new_state depth ∷ [])
 
 pub IsConsistent-first : (records : List Record) (transitions : Lists (ℕ × ℕ)) (matches : Lists ℕ) (limit : ℕ) (states : List State) (depth count : ℕ) → IsConsistent records transitions matches limit
-    → states_of transitions.lists matches.lists records ≡ states ++ new_state depth ∷ [] → count + 1 ≡ length records → IsConsistent (take count records) transitions matches limit
+    → recorded_states transitions.lists matches.lists records ≡ states ++ new_state depth ∷ [] → count + 1 ≡ length records → IsConsistent (take count records) transitions matches limit
 IsConsistent-first records transitions matches limit states depth count consistent are is =
-    let first = states_of-first records transitions.lists matches.lists states depth count are is in
+    let first = recorded_states-first records transitions.lists matches.lists states depth count are is in
     record {
       small = consistent.small;
       states_within = omega (arith, length-take count records, consistent.states_within);

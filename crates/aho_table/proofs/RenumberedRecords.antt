@@ -7,11 +7,11 @@ use Rattle.std.proofs.lemmas.List.Elements.{length_all_zip}
 use Rattle.aho_lists.specs.Lists.{Lists, list_at}
 use Rattle.aho_lists.specs.Renaming.{IsTransitionLed}
 use Rattle.aho_table.specs.Table.{State, new_state}
-use Rattle.aho_table.specs.Inside.{record_at, state_of, states_of, transition_numbers, AreNumbers, IsConsistent, IsLinkLed}
+use Rattle.aho_table.specs.Inside.{record_at, recorded_state, recorded_states, transition_numbers, AreNumbers, IsConsistent, IsLinkLed}
 use Rattle.aho_table.specs.Remapping.{transposed}
 use Rattle.aho_table.specs.Renaming.{IsRenamed}
 use Rattle.aho_table.specs.declared.links.states.Record.{Record}
-use Rattle.aho_table.proofs.Records.{length-states_of, state_at-states_of, transition_number, match_number}
+use Rattle.aho_table.proofs.Records.{length-recorded_states, state_at-recorded_states, transition_number, match_number}
 use Rattle.aho_table.proofs.Renumbered.{swap-at, transposed-below, transposed-twice}
 use Rattle.aho_table.proofs.SwappedStates.{transitions_count-swapped, matches_count-swapped}
 use Rattle.aho_table.proofs.RenamedStates.{transitions_count-renamed, matches_count-renamed}
@@ -50,26 +50,26 @@ module _ (records swapped : List Record) (a b : ℕ) (of_a : a < length records)
       at : (i : ℕ) → i < length records → get_or (map number swapped) i 0 ≡ get_or (map number records) (transposed a b i) 0
       at i inside = read swapped i (omega (arith, same_length)) ∙ ap number (moved i) ∙ sym (read records (transposed a b i) (place i inside))
 
-  pub states_of-swapped : (transitions : List (List (ℕ × ℕ))) (matches : List (List ℕ)) → states_of transitions matches swapped ≡ swap (states_of transitions matches records) a b
-  states_of-swapped transitions matches =
-      let count = length-states_of transitions matches records in
-      let count' = length-states_of transitions matches swapped in
-      let states : List State = states_of transitions matches records in
-      ext_get_or (new_state 0) (states_of transitions matches swapped) (swap states a b)
+  pub recorded_states-swapped : (transitions : List (List (ℕ × ℕ))) (matches : List (List ℕ)) → recorded_states transitions matches swapped ≡ swap (recorded_states transitions matches records) a b
+  recorded_states-swapped transitions matches =
+      let count = length-recorded_states transitions matches records in
+      let count' = length-recorded_states transitions matches swapped in
+      let states : List State = recorded_states transitions matches records in
+      ext_get_or (new_state 0) (recorded_states transitions matches swapped) (swap states a b)
       (omega (arith, same_length, length-swap states a b))
       (λ i inside.
       let below : i < length records = omega (arith, same_length) in
       let place = transposed-below a b i (length records) of_a of_b below in
-      state_at-states_of transitions matches swapped i (omega (arith, same_length))
-      ∙ ap (state_of transitions matches) (moved i)
-      ∙ sym (state_at-states_of transitions matches records (transposed a b i) place)
+      state_at-recorded_states transitions matches swapped i (omega (arith, same_length))
+      ∙ ap (recorded_state transitions matches) (moved i)
+      ∙ sym (state_at-recorded_states transitions matches records (transposed a b i) place)
       ∙ sym (swap-at (new_state 0) states (swap states a b) a b (omega arith) (omega arith) refl i))
 
   pub IsConsistent-swapped : (transitions : Lists (ℕ × ℕ)) (matches : Lists ℕ) (limit : ℕ) → IsConsistent records transitions matches limit → IsConsistent swapped transitions matches limit
   IsConsistent-swapped transitions matches limit old =
-      let states : List State = states_of transitions.lists matches.lists records in
-      let now : List State = states_of transitions.lists matches.lists swapped in
-      let count = length-states_of transitions.lists matches.lists records in
+      let states : List State = recorded_states transitions.lists matches.lists records in
+      let now : List State = recorded_states transitions.lists matches.lists swapped in
+      let count = length-recorded_states transitions.lists matches.lists records in
       record {
         small = old.small;
         states_within = omega (arith, same_length, old.states_within);
@@ -77,8 +77,8 @@ module _ (records swapped : List Record) (a b : ℕ) (of_a : a < length records)
         matches_limit = old.matches_limit;
         transition_lists = AreNumbers-swapped (λ (r : Record). r.transitions) transitions.lists transition_number old.transition_lists;
         match_lists = AreNumbers-swapped (λ (r : Record). r.matches) matches.lists match_number old.match_lists;
-        transitions_are = old.transitions_are ∙ sym (transitions_count-swapped states now a b (omega arith) (omega arith) (states_of-swapped transitions.lists matches.lists));
-        matches_are = old.matches_are ∙ sym (matches_count-swapped states now a b (omega arith) (omega arith) (states_of-swapped transitions.lists matches.lists));
+        transitions_are = old.transitions_are ∙ sym (transitions_count-swapped states now a b (omega arith) (omega arith) (recorded_states-swapped transitions.lists matches.lists));
+        matches_are = old.matches_are ∙ sym (matches_count-swapped states now a b (omega arith) (omega arith) (recorded_states-swapped transitions.lists matches.lists));
       }
 
 -- ---- numbers are exchanged
@@ -96,27 +96,27 @@ same_numbers leads number same (x ∷ xs) (y ∷ ys) all =
 
 module _ (leads : ℕ → ℕ → Type 0) (before after : Lists (ℕ × ℕ)) (matches : Lists ℕ)
     (lists : (list : ℕ) → AllZip (IsTransitionLed leads) (list_at before.lists list) (list_at after.lists list)) where
-  pub states_of-renamed : (old new : List Record) → AllZip (IsLinkLed leads) old new → AllZip (IsRenamed leads) (states_of before.lists matches.lists old) (states_of after.lists matches.lists new)
-  unfolding states_of
-  states_of-renamed [] [] all = tt
-  states_of-renamed [] (y ∷ ys) all = absurd all
-  states_of-renamed (x ∷ xs) [] all = absurd all
-  states_of-renamed (x ∷ xs) (y ∷ ys) all = (
+  pub recorded_states-renamed : (old new : List Record) → AllZip (IsLinkLed leads) old new → AllZip (IsRenamed leads) (recorded_states before.lists matches.lists old) (recorded_states after.lists matches.lists new)
+  unfolding recorded_states
+  recorded_states-renamed [] [] all = tt
+  recorded_states-renamed [] (y ∷ ys) all = absurd all
+  recorded_states-renamed (x ∷ xs) [] all = absurd all
+  recorded_states-renamed (x ∷ xs) (y ∷ ys) all = (
     record {
       transitions = subst (λ (n : ℕ). AllZip (IsTransitionLed leads) (list_at before.lists x.transitions) (list_at after.lists n)) (sym all.0.transitions) (lists x.transitions);
       matches = ap (list_at matches.lists) all.0.matches;
       fail = all.0.fail;
       depth = all.0.depth;
     },
-    states_of-renamed xs ys all.1,
+    recorded_states-renamed xs ys all.1,
   )
 
   pub IsConsistent-renamed : (old new : List Record) (limit : ℕ) → AllZip (IsLinkLed leads) old new → length after.lists ≡ length before.lists → after.limit ≡ before.limit
       → IsConsistent old before matches limit → IsConsistent new after matches limit
   IsConsistent-renamed old new limit all count same was =
-      let renamed = states_of-renamed old new all in
-      let states : List State = states_of before.lists matches.lists old in
-      let now : List State = states_of after.lists matches.lists new in
+      let renamed = recorded_states-renamed old new all in
+      let states : List State = recorded_states before.lists matches.lists old in
+      let now : List State = recorded_states after.lists matches.lists new in
       record {
         small = was.small;
         states_within = omega (arith, length_all_zip (IsLinkLed leads) old new all, was.states_within);

@@ -24,13 +24,13 @@ module _ (states swapped : List State) (a b : ℕ) (of_a : a < length states) (o
       let same_len : length swapped ≡ length states = ap length is ∙ length-swap states a b in
       let starts_len : length starts' ≡ length starts = ap length starts_are ∙ length-swap starts a b in
       let state_count = has.state_count in
-      let state_of : (n : ℕ) → state_at swapped n ≡ state_at states (transposed a b n) = swap-at (new_state 0) states swapped a b of_a of_b is in
+      let recorded_state : (n : ℕ) → state_at swapped n ≡ state_at states (transposed a b n) = swap-at (new_state 0) states swapped a b of_a of_b is in
       let start_of : (n : ℕ) → start_in starts' n ≡ start_in starts (transposed a b n) = swap-at 0 starts starts' a b (omega arith) (omega arith) starts_are in
       record {
         state_count = starts_len ∙ state_count ∙ sym same_len;
         bounded = has.bounded;
         rows = λ n some.
             subst (λ (start : ℕ). IsRowOf classes entries (state_at swapped n).transitions start) (sym (start_of n))
-            (subst (λ (state : State). IsRowOf classes entries state.transitions (start_in starts (transposed a b n))) (sym (state_of n))
+            (subst (λ (state : State). IsRowOf classes entries state.transitions (start_in starts (transposed a b n))) (sym (recorded_state n))
             (has.rows (transposed a b n) (subst (λ (start : ℕ). 0 < start) (start_of n) some)));
       }

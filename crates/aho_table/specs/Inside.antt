@@ -1,5 +1,6 @@
 -- The inside of a table: what its records and its stores of lists make of its states, the classes of bytes, and the rows by them.
 use Rattle.std.specs.Prelude.{◌≡◌, ◌≢◌, ℕ, ◌+◌, ◌-◌, ◌<◌, ◌≤◌, ◌⊎◌, Bool, nat_lt, List, [], ◌∷◌, map, length, slice_index, slice_index_or}
+use Rattle.aho_base.specs.Numbers.{greatest_index}
 use Rattle.aho_lists.specs.Lists.{Lists, list_at, IsList}
 use Rattle.aho_lists.specs.Renaming.{IsLed}
 use Rattle.aho_table.specs.Alphabet.{class_of, class_count}
@@ -16,16 +17,16 @@ abbrev pub record_at : List Record → ℕ → Record
 record_at records sid = slice_index_or records sid (record { transitions = 0; matches = 0; fail = 1; depth = 0 })
 
 -- the state of a record, where these are the lists
-abbrev pub state_of : List (List (ℕ × ℕ)) → List (List ℕ) → Record → State
-state_of transitions matches state = record {
+abbrev pub recorded_state : List (List (ℕ × ℕ)) → List (List ℕ) → Record → State
+recorded_state transitions matches state = record {
   transitions = list_at transitions state.transitions;
   matches = list_at matches state.matches;
   fail = state.fail;
   depth = state.depth;
 }
 
-unfoldable pub states_of : List (List (ℕ × ℕ)) → List (List ℕ) → List Record → List State
-states_of transitions matches records = map (state_of transitions matches) records
+unfoldable pub recorded_states : List (List (ℕ × ℕ)) → List (List ℕ) → List Record → List State
+recorded_states transitions matches records = map (recorded_state transitions matches) records
 
 -- the record's link is led to another, and all else stays
 pub record IsLinkLed (leads : ℕ → ℕ → Type 0) (old new : Record) : Type 0 where
@@ -48,14 +49,14 @@ pub record AreNumbers {X : Type 0} (numbers : List ℕ) (lists : List (List X)) 
 
 -- each state has lists of its own, and no store has others; no index is above the limit
 pub record IsConsistent (records : List Record) (transitions : Lists (ℕ × ℕ)) (matches : Lists ℕ) (limit : ℕ) : Type 0 where
-  pub small : limit ≤ 2147483646
+  pub small : limit ≤ greatest_index
   pub states_within : length records ≤ limit + 1
   pub transitions_limit : transitions.limit ≡ limit
   pub matches_limit : matches.limit ≡ limit
   pub transition_lists : AreNumbers (transition_numbers records) transitions.lists
   pub match_lists : AreNumbers (match_numbers records) matches.lists
-  pub transitions_are : length transitions.lists ≡ transitions_count (states_of transitions.lists matches.lists records)
-  pub matches_are : length matches.lists ≡ matches_count (states_of transitions.lists matches.lists records)
+  pub transitions_are : length transitions.lists ≡ transitions_count (recorded_states transitions.lists matches.lists records)
+  pub matches_are : length matches.lists ≡ matches_count (recorded_states transitions.lists matches.lists records)
 
 -- ---- the rows
 

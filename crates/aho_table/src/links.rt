@@ -92,7 +92,7 @@ impl Table {
     /// How many states there are.
     pub fn len(&self) -> usize
         ensures len { result ≡ length self.now.states }
-        ensures bound { result ≤ 2147483647 }
+        ensures bound { result ≤ greatest_index + 1 }
     {
         self.states.len()
     }
@@ -291,7 +291,7 @@ impl Table {
     /// How many entries the rows have together, and one for index 0.
     pub fn dense_len(&self) -> usize
         ensures len { result ≡ self.now.dense_len }
-        ensures bound { result ≤ 2147483902 }
+        ensures bound { result ≤ greatest_index + 256 }
     {
         let _limit = self.states.limit();
         self.rows.len()
@@ -412,7 +412,7 @@ impl Table {
     /// How many entries the table of transitions has: one for each that a state lists, and the one at index 0.
     pub fn transitions_count(&self) -> usize
         ensures count { result ≡ transitions_count self.now.states }
-        ensures bound { result ≤ 2147483647 }
+        ensures bound { result ≤ greatest_index + 1 }
     {
         self.states.transitions_count()
     }
@@ -420,7 +420,7 @@ impl Table {
     /// How many entries the table of patterns has: one for each that a state lists, and the one at index 0.
     pub fn matches_count(&self) -> usize
         ensures count { result ≡ matches_count self.now.states }
-        ensures bound { result ≤ 2147483647 }
+        ensures bound { result ≤ greatest_index + 1 }
         ensures within { result ≤ self.now.limit + 1 }
     {
         self.states.matches_count()

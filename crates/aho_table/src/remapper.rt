@@ -1,7 +1,8 @@
 //! Renumbering of states: two by two they change places, and at last each number that stands in one is exchanged for the
 //! number that the state has now.
 
-ghost use Rattle.std.specs.Prelude.{◌≡◌, ◌≤◌, ◌<◌, ℕ, List, length, map, slice_index, slice_set, IfOk};
+ghost use Rattle.std.specs.Prelude.{◌≡◌, ◌+◌, ◌≤◌, ◌<◌, ℕ, List, length, map, slice_index, slice_set, IfOk};
+ghost use Rattle.aho_base.specs.Numbers.{greatest_index};
 ghost use Rattle.std.specs.List.{AllZip, range_with_len, swap};
 ghost use Rattle.aho_table.specs.Remapping.{transposed, place_of_state};
 
@@ -39,7 +40,7 @@ pub trait Remappable {
     /// How many states there are.
     fn state_len(&self) -> usize
         ensures len { result ≡ length (states self.now) }
-        ensures bound { result ≤ 2147483647 };
+        ensures bound { result ≤ greatest_index + 1 };
 
     /// Two states change places, and no number that stands in a state changes.
     fn swap_states(&mut self, a: StateID, b: StateID)
@@ -155,7 +156,7 @@ fn put(numbers: &mut Vec<StateID>, place: StateID, number: StateID)
 
 /// The numbers below this one, in order.
 fn numbers(alloc: Global, len: usize) -> Result<Vec<StateID>, AllocError>
-    requires small { len ≤ 2147483647 }
+    requires small { len ≤ greatest_index + 1 }
     ensures numbers { IfOk result (λ numbers. numbers.items ≡ range_with_len 0 len) }
 {
     let mut numbers = Vec::with_capacity(alloc, len)?;

@@ -11,7 +11,8 @@ ghost use Rattle.bench.specs.Relinked.{IsRefused};
 use aho_base::error::{BuildError, MatchError};
 use aho_base::search::{Anchored, MatchKind, PatternID, SmallIndex, StateID, Work};
 use aho_build::special::Special;
-use aho_build::walk;
+use aho_build::sizes::tables_bytes;
+use aho_build::steps;
 use aho_corasick::noncontiguous::NFA;
 use aho_prefilter::prefilter::Prefilter;
 use aho_search::automaton::Automaton;
@@ -187,11 +188,11 @@ impl Automaton for Relinked {
 
     fn next_state(&self, anchored: Anchored, sid: StateID, byte: u8) -> StateID {
         let mut work = Work::new();
-        walk::step(&self.table, anchored, sid, byte, &mut work)
+        steps::step(&self.table, anchored, sid, byte, &mut work)
     }
 
     fn step(&self, anchored: Anchored, sid: StateID, byte: u8, work: &mut Work) -> StateID {
-        walk::step(&self.table, anchored, sid, byte, work)
+        steps::step(&self.table, anchored, sid, byte, work)
     }
 
     fn is_special(&self, sid: StateID) -> bool {
@@ -243,11 +244,7 @@ impl Automaton for Relinked {
     }
 
     fn memory_usage(&self) -> usize {
-        20 * self.table.len()
-            + 9 * self.table.transitions_count()
-            + 8 * self.table.matches_count()
-            + 4 * self.table.dense_len()
-            + 4 * self.pattern_lens.len()
+        tables_bytes(&self.table, &self.pattern_lens)
     }
 
     ghost laws = { λ r p of. reads_of p r.match_kind r.pattern_lens.items r.special r.table.states of };

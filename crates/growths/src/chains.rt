@@ -1,6 +1,6 @@
 //! Renumbering.
 
-ghost use Rattle.std.specs.Prelude.{◌≡◌, ◌<◌, ℕ, length, ⊤};
+ghost use Rattle.std.specs.Prelude.{◌≡◌, ◌<◌, ℕ, [], length, ⊤};
 
 use crate::wants::{Want, Wrong};
 use aho_base::search::StateID;
@@ -21,6 +21,10 @@ impl Remappable for Chain {
     ghost is_renamed = { λ leads old new. leads old new };
 
     ghost renames_by = { λ f g fewer x y renamed. fewer x y renamed };
+
+    ghost Mark = { ⊤ };
+
+    ghost marks = { λ chain. [] };
 
     ghost Kept = { ⊤ };
 

@@ -1,6 +1,7 @@
 //! The last phase of a build: the states get the numbers that they keep.
 
-ghost use Rattle.std.specs.Prelude.{◌≡◌, ◌<◌, ◌≤◌, [], length, IfOk, OnOk, OnErr};
+ghost use Rattle.std.specs.Prelude.{◌≡◌, ◌+◌, ◌<◌, ◌≤◌, [], length, IfOk, OnOk, OnErr};
+ghost use Rattle.aho_base.specs.Numbers.{greatest_index};
 ghost use Rattle.std.specs.List.{range_with_len};
 ghost use Rattle.aho_build.specs.FirstStates.{anchored_id};
 ghost use Rattle.aho_build.specs.Shuffled.{AreGathered, AreShuffled, RowsAreMoved};
@@ -60,7 +61,7 @@ fn gather_matches(table: &mut Table, remapper: &mut Remapper) -> usize
     ensures rows { RowsAreMoved remapper.new table.old.rows table.new.rows }
     ensures kept { record table.new { states = []; rows = [] }
         ≡ record table.old { states = []; rows = [] } }
-    ensures bound { result ≤ 2147483647 }
+    ensures bound { result ≤ greatest_index + 1 }
 {
     table.facts();
     let mut next = 4;

@@ -5,7 +5,7 @@ ghost use Rattle.std.specs.Iterator.{IsFinite};
 ghost use Rattle.aho_base.specs.Numbers.{greatest_index};
 ghost use Rattle.aho_base.specs.declared.error.BuildError.TheVariants.{PatternIDOverflow, PatternTooLong};
 ghost use Rattle.aho_base.specs.Patterns.{Patterns};
-ghost use Rattle.aho_build.specs.TrieGrowth.{HasChild, IsFilledBelow, is_first, AwaitsWord, AddsWord, AddsPattern, IsChildRefusal, IsWordRefusal, AreWithin};
+ghost use Rattle.aho_build.specs.TrieGrowth.{HasChild, IsFilledBelow, leaves_out, AwaitsWord, AddsWord, AddsPattern, IsChildRefusal, IsWordRefusal, AreWithin};
 ghost use Rattle.aho_build.specs.Trie.{HoldsFirst};
 ghost use Rattle.aho_table.specs.Refusal.{IsRefusalOf};
 ghost use Rattle.aho_build.specs.Settings.{in_force};
@@ -68,7 +68,7 @@ fn child(
 fn passes_match(table: &Table, kind: MatchKind, state: StateID) -> bool
     requires added { state < length table.now.states }
     ensures passes { result ≡
-        (is_first kind && nat_lt 0 (length (matches_in table.now.states state))) }
+        (leaves_out kind && nat_lt 0 (length (matches_in table.now.states state))) }
 {
     match kind {
         MatchKind::LeftmostFirst => table.has_matches(state),

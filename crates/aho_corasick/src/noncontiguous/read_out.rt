@@ -1,6 +1,6 @@
 //! What an automaton tells of its states, for whoever makes another one from it.
 
-ghost use Rattle.std.specs.Prelude.{◌≡◌, ℕ, ◌<◌, ◌≤◌, List, length, map, Ok, Option, is_some};
+ghost use Rattle.std.specs.Prelude.{◌≡◌, ◌+◌, ℕ, ◌<◌, ◌≤◌, List, length, map, Ok, Option, is_some};
 ghost use Rattle.aho_base.specs.MatchList.{matches_of};
 ghost use Rattle.aho_base.specs.Numbers.{greatest_index};
 ghost use Rattle.aho_base.specs.Patterns.{Patterns};
@@ -12,7 +12,7 @@ ghost use Rattle.aho_build.specs.Sizes.{states_size};
 ghost use Rattle.aho_build.specs.StateNames.{IsStateOf};
 ghost use Rattle.aho_build.specs.Walking.{IsSound, AreStarts};
 ghost use Rattle.aho_prefilter.specs.Prefilter.{has_empty};
-ghost use Rattle.aho_corasick.specs.ReadOut.{states_of, special_of, IsNaming, word_of, link_of, LeadsAsWord};
+ghost use Rattle.aho_corasick.specs.ReadOut.{states_of, special_of, classes_of, IsNaming, word_of_state, link_of, LeadsAsWord};
 ghost use Rattle.aho_table.specs.Table.{IsRising, state_at, fail_in, depth_in, matches_in};
 
 use super::NFA;
@@ -31,7 +31,7 @@ impl NFA {
     /// How many states there are: DEAD, FAIL, the two starts, and one for each nonempty word that begins a kept pattern.
     pub fn states_len(&self) -> usize
         ensures len { result ≡ length (states_of self.now) }
-        ensures bound { result ≤ 2147483647 }
+        ensures bound { result ≤ greatest_index + 1 }
         ensures size { (p : Patterns) → ⟦<NFA as Automaton>⟧.is_of self.now p
             → result ≡ states_size p }
         ensures named { (p : Patterns) → ⟦<NFA as Automaton>⟧.is_of self.now p
@@ -47,7 +47,7 @@ impl NFA {
         ensures depth { result ≡ depth_in (states_of self.now) sid }
         ensures bound { result ≤ greatest_index }
         ensures of_word { (p : Patterns) (names : List (Option (List ℕ)))
-            → IsNaming self.now p names → result ≡ depth_of (word_of self.now names sid) }
+            → IsNaming self.now p names → result ≡ depth_of (word_of_state self.now names sid) }
     {
         self.table.depth(sid)
     }
@@ -59,7 +59,7 @@ impl NFA {
         ensures fail { result ≡ fail_in (states_of self.now) sid }
         ensures of_word { (p : Patterns) (names : List (Option (List ℕ)))
             → IsNaming self.now p names
-            → IsStateOf names (link_of p (word_of self.now names sid)) result }
+            → IsStateOf names (link_of p (word_of_state self.now names sid)) result }
     {
         self.table.fail(sid)
     }
@@ -82,7 +82,7 @@ impl NFA {
         requires within { sid < length (states_of self.now) }
         ensures listed { result ≡ matches_in (states_of self.now) sid }
         ensures of_word { (p : Patterns) (names : List (Option (List ℕ)))
-            → IsNaming self.now p names → result ≡ matches_of p (word_of self.now names sid) }
+            → IsNaming self.now p names → result ≡ matches_of p (word_of_state self.now names sid) }
     {
         self.table.matches(sid)
     }
@@ -90,6 +90,7 @@ impl NFA {
     /// The classes of bytes: each byte of a kept pattern, and under the case rule its other case, is one by itself, and so is
     /// each unbroken run of the other bytes.
     pub fn byte_classes(&self) -> &ByteClasses
+        ensures classes { result.now ≡ classes_of self.now }
         ensures borders { (p : Patterns) → ⟦<NFA as Automaton>⟧.is_of self.now p
             → HasBorders p result.now }
     {
@@ -99,7 +100,7 @@ impl NFA {
     /// The lengths of the patterns in bytes, by number; of those that are not kept as well.
     pub fn pattern_lens(&self) -> &[SmallIndex]
         ensures lens { result.now ≡ ⟦<NFA as Automaton>⟧.lengths self.now }
-        ensures bound { length result.now ≤ 2147483647 }
+        ensures bound { length result.now ≤ greatest_index + 1 }
         ensures of_patterns { (p : Patterns) → ⟦<NFA as Automaton>⟧.is_of self.now p
             → result.now ≡ map length p.words }
     {

@@ -1,6 +1,6 @@
 //! Rows of states in one vector: an entry for each class of bytes, so that a step is one look.
 
-ghost use Rattle.std.specs.Prelude.{◌≡◌, ℕ, ◌+◌, ◌<◌, ◌≤◌, [], length, slice_index_or, IfOk, OnOk, OnErr};
+ghost use Rattle.std.specs.Prelude.{◌≡◌, ℕ, ◌+◌, ◌<◌, ◌≤◌, ◌^◌, [], length, slice_index_or, IfOk, OnOk, OnErr};
 ghost use Rattle.aho_table.specs.Alphabet.{no_borders, class_of};
 ghost use Rattle.aho_table.specs.Table.{IsRising, transition_at, LeadsAlike};
 ghost use Rattle.std.specs.List.{AllZip};
@@ -51,7 +51,7 @@ impl Rows {
 
     /// How many entries there are, the one at index 0 among them: the start of the row that is added next.
     pub(super) fn len(&self) -> usize
-        requires small { length self.now.entries.items < 4294967295 }
+        requires small { length self.now.entries.items + 1 < 2 ^ 32 }
         ensures len { result ≡ length self.now.entries.items + 1 }
     {
         self.entries.len() + 1

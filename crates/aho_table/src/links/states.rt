@@ -40,12 +40,12 @@ pub struct States {
 
 impl Model for States {
     ghost use Rattle.aho_table.specs.Inside.{LimitedStates};
-    ghost use Rattle.aho_table.specs.Inside.{IsConsistent, states_of};
+    ghost use Rattle.aho_table.specs.Inside.{IsConsistent, recorded_states};
 
     ghost Value = { LimitedStates };
 
     ghost view = { λ t. record {
-      states = states_of t.transitions.lists t.matches.lists t.records.items;
+      states = recorded_states t.transitions.lists t.matches.lists t.records.items;
       limit = t.limit;
     } };
 
@@ -87,7 +87,7 @@ impl States {
     /// How many states there are.
     pub(super) fn len(&self) -> usize
         ensures len { result ≡ length self.now.states }
-        ensures bound { result ≤ 2147483647 }
+        ensures bound { result ≤ greatest_index + 1 }
     {
         self.records.len()
     }
@@ -323,7 +323,7 @@ impl States {
     /// How many entries the table of transitions has: one for each that a state lists, and the one at index 0.
     pub(super) fn transitions_count(&self) -> usize
         ensures count { result ≡ transitions_count self.now.states }
-        ensures bound { result ≤ 2147483647 }
+        ensures bound { result ≤ greatest_index + 1 }
     {
         self.transitions.len()
     }
@@ -331,7 +331,7 @@ impl States {
     /// How many entries the table of patterns has: one for each that a state lists, and the one at index 0.
     pub(super) fn matches_count(&self) -> usize
         ensures count { result ≡ matches_count self.now.states }
-        ensures bound { result ≤ 2147483647 }
+        ensures bound { result ≤ greatest_index + 1 }
         ensures within { result ≤ self.now.limit + 1 }
     {
         self.matches.facts();

@@ -4,7 +4,7 @@ use Rattle.std.proofs.lemmas.Option.{slice_get-get_or}
 use Rattle.aho_lists.specs.Rings.{lists_of, IsRun}
 use Rattle.aho_lists.specs.Lists.{list_at}
 use Rattle.aho_lists.specs.Inside.{match_of, match_entries}
-use Rattle.aho_lists.specs.declared.matches.Match.{Match}
+use Rattle.aho_lists.specs.declared.matches.MatchEntry.{MatchEntry}
 use Rattle.aho_lists.proofs.Runs.{key-le, run-next}
 use Rattle.aho_lists.proofs.Stores.{is_last, ring_at}
 use Rattle.aho_lists.proofs.Counted.{run-dense, run-first, run-inner}
@@ -16,7 +16,7 @@ entry-end-requires c = record { within = (is_last (match_entries c.args.entries.
 pub walk-init : goal.walk-init
 walk-init c =
     let inside = (is_last (match_entries c.args.entries.now) (length c.args.entries.now) c.args.last c.requires.known c.requires.some).0 in
-    let link : c.entry-end.result.link ≡ (match_of c.args.entries.now c.args.last).link = ap (λ (m : Match). m.link) c.entry-end.ensures.entry in
+    let link : c.entry-end.result.link ≡ (match_of c.args.entries.now c.args.last).link = ap (λ (m : MatchEntry). m.link) c.entry-end.ensures.entry in
     let counted = c.requires.counted c.args.last (λ none. absurd (omega (arith, c.requires.known none, c.requires.some))) in
     record {
       at_in = rw link (c.requires.rings.within c.args.last inside);
@@ -24,7 +24,7 @@ walk-init c =
         list_at (lists_of (match_entries c.args.entries.now) (length c.args.entries.now)) c.args.last,
         subst (λ (n : ℕ). IsRun (match_entries c.args.entries.now) c.args.last n (list_at (lists_of (match_entries c.args.entries.now) (length c.args.entries.now)) c.args.last)) (sym link)
             (ring_at (match_entries c.args.entries.now) (length c.args.entries.now) c.args.last c.requires.rings c.requires.known c.requires.some),
-        omega (arith, counted, ap (λ (m : Match). m.before) c.entry-end.ensures.entry),
+        omega (arith, counted, ap (λ (m : MatchEntry). m.before) c.entry-end.ensures.entry),
         c.requires.inside,
         refl,
       );
@@ -44,7 +44,7 @@ returns-then-as_usize-behind c =
     let place : c.walk.at + c.walk.steps ≡ c.new_unchecked.result = omega arith in
     record {
       listed = slice_get-get_or (list_at (lists_of (match_entries c.args.entries.now) (length c.args.entries.now)) c.args.last) c.args.index 0 c.requires.inside
-          ∙ ap Some (c.walk.invariant.rest.4 ∙ run-dense c.args.entries.now c.walk.invariant.rest.1 dense 0 c.walk.steps c.walk.invariant.rest.3 ∙ ap (λ (n : ℕ). (match_of c.args.entries.now n).pattern) place ∙ sym (ap (λ (m : Match). m.pattern) c.entry.ensures.entry));
+          ∙ ap Some (c.walk.invariant.rest.4 ∙ run-dense c.args.entries.now c.walk.invariant.rest.1 dense 0 c.walk.steps c.walk.invariant.rest.3 ∙ ap (λ (n : ℕ). (match_of c.args.entries.now n).pattern) place ∙ sym (ap (λ (m : MatchEntry). m.pattern) c.entry.ensures.entry));
     }
 
 pub returns-then-steps-eq0 : goal.returns-then-steps-eq0
@@ -52,14 +52,14 @@ returns-then-steps-eq0 c =
     let none : c.walk.steps ≡ 0 = omega arith in
     record {
       listed = slice_get-get_or (list_at (lists_of (match_entries c.args.entries.now) (length c.args.entries.now)) c.args.last) c.args.index 0 c.requires.inside
-          ∙ ap Some (c.walk.invariant.rest.4 ∙ ap (λ (n : ℕ). get_or c.walk.invariant.rest.0 n 0) none ∙ run-first c.args.entries.now c.walk.invariant.rest.1 0 ∙ sym (ap (λ (m : Match). m.pattern) c.entry-listed.ensures.entry));
+          ∙ ap Some (c.walk.invariant.rest.4 ∙ ap (λ (n : ℕ). get_or c.walk.invariant.rest.0 n 0) none ∙ run-first c.args.entries.now c.walk.invariant.rest.1 0 ∙ sym (ap (λ (m : MatchEntry). m.pattern) c.entry-listed.ensures.entry));
     }
 
 pub walk-preserved : goal.walk-preserved
 walk-preserved c =
     let more : 1 < length c.walk.invariant.rest.0 = omega (arith, c.walk.invariant.rest.3) in
     let next = run-next c.walk.invariant.rest.1 (run-inner c.args.entries.now c.walk.invariant.rest.1 more) in
-    let link : c.entry-listed.result.link ≡ (match_of c.args.entries.now c.walk.at).link = ap (λ (m : Match). m.link) c.entry-listed.ensures.entry in
+    let link : c.entry-listed.result.link ≡ (match_of c.args.entries.now c.walk.at).link = ap (λ (m : MatchEntry). m.link) c.entry-listed.ensures.entry in
     let one : c.walk.steps ≡ suc (c.walk.steps - 1) = omega arith in
     record {
       at_in = rw link (c.requires.rings.within c.walk.at c.walk.invariant.at_in);

@@ -1,5 +1,5 @@
 -- The clone has an equal table, equal lengths and an equal prefilter.
-use Rattle.std.proofs.Common.{◌≡◌, ℕ, List, Option, ◌+◌, rules, sym, ap, subst, ◌∙◌}
+use Rattle.std.proofs.Common.{◌≡◌, ℕ, List, Option, ◌+◌, rules, refl, sym, ap, subst, ◌∙◌}
 use Rattle.std.specs.List.{each_same}
 use Rattle.std.specs.Prelude.{IfSome}
 use Rattle.aho_prefilter.specs.Prefilter.{IsPrefilterOf, prefilter_bytes}
@@ -47,5 +47,11 @@ returns c =
             ∙ ap (λ (ls : List ℕ). memory_of c.args.self.now.table ls + prefilter_bytes c.in_ok-clone_of.field-0) lens
             ∙ ap (λ (searcher : Option Searcher). memory_of c.args.self.now.table c.args.self.now.pattern_lens.items + prefilter_bytes searcher) held;
         same_prefilter = held;
+      };
+      read_out = record {
+        same_states = ap (λ (t : Tables). t.states) table;
+        same_special = refl;
+        same_classes = ap (λ (t : Tables). t.classes) table;
+        same_rows = ap (λ (t : Tables). t.rows) table;
       };
     }

@@ -3,7 +3,7 @@ use Rattle.std.proofs.Common.{◌≡◌, ◌<◌, ℕ, List, length, sym, subst,
 use Rattle.aho_lists.specs.Rings.{IsRun}
 use Rattle.aho_lists.specs.Lists.{list_at, IsList}
 use Rattle.aho_lists.specs.Inside.{match_of, match_entries}
-use Rattle.aho_lists.specs.declared.matches.Match.{Match}
+use Rattle.aho_lists.specs.declared.matches.MatchEntry.{MatchEntry}
 use Rattle.aho_lists.proofs.Results.{is_zero, is_some}
 use Rattle.aho_lists.proofs.Stores.{list_at-zero}
 use Rattle.aho_lists.proofs.Walks.{rest_from-some, rest_from-none}
@@ -28,11 +28,11 @@ entry-requires c =
     record { within = rw (c.as_slice-entries.ensures.value ∙ sym real) (match_list_in (with_first_match c.self.inside.entries.items) c.self.inside.limit c.args.list c.self.invariant.0 known some) }
 
 -- the run from the first entry, in the entries as the walk sees them
-first_run : (entries seen : List Match) (list : ℕ) (read : Match) (xs : List (ℕ)) → seen ≡ entries → read ≡ match_of seen list
+first_run : (entries seen : List MatchEntry) (list : ℕ) (read : MatchEntry) (xs : List (ℕ)) → seen ≡ entries → read ≡ match_of seen list
     → IsRun (match_entries entries) list (match_of entries list).link xs → IsRun (match_entries seen) list read.link xs
 first_run entries seen list read xs same is run =
-    subst (λ (m : Match). IsRun (match_entries seen) list m.link xs) (sym is)
-    (subst (λ (es : List Match). IsRun (match_entries es) list (match_of es list).link xs) (sym same) run)
+    subst (λ (m : MatchEntry). IsRun (match_entries seen) list m.link xs) (sym is)
+    (subst (λ (es : List MatchEntry). IsRun (match_entries es) list (match_of es list).link xs) (sym same) run)
 
 pub invariant_of-result-2 : goal.invariant_of-result-2
 invariant_of-result-2 c =

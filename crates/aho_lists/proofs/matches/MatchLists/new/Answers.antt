@@ -5,7 +5,7 @@ use Rattle.std.proofs.lemmas.List.{get_or_past}
 use Rattle.aho_lists.specs.Lists.{list_at}
 use Rattle.aho_lists.specs.Rings.{lists_of}
 use Rattle.aho_lists.specs.Inside.{match_of, match_entries, with_first_match, IsStore, AreCounted}
-use Rattle.aho_lists.specs.declared.matches.Match.{Match}
+use Rattle.aho_lists.specs.declared.matches.MatchEntry.{MatchEntry}
 use Rattle.aho_lists.proofs.Stores.{lists_of-one, same_store}
 use Rattle.aho_lists.proofs.matches.MatchLists.new.Goals as goal
 
@@ -18,7 +18,7 @@ counted number some =
 
 pub invariant_of-result : goal.invariant_of-result
 invariant_of-result c =
-    subst (λ (es : List Match). IsStore (match_entries (with_first_match es)) (length (with_first_match es)) c.min.result × AreCounted (with_first_match es)) (sym c.new.ensures.items) (
+    subst (λ (es : List MatchEntry). IsStore (match_entries (with_first_match es)) (length (with_first_match es)) c.min.result × AreCounted (with_first_match es)) (sym c.new.ensures.items) (
       record {
         small = omega (arith, c.min.ensures, c.as_usize.ensures.value);
         count_within = omega arith;
@@ -34,6 +34,6 @@ invariant_of-result c =
 pub returns : goal.returns
 returns c = record {
   empty = same_store
-      (ap (λ (es : List Match). lists_of (match_entries (with_first_match es)) (length (with_first_match es))) c.new.ensures.items ∙ lists_of-one (match_entries (with_first_match [])))
+      (ap (λ (es : List MatchEntry). lists_of (match_entries (with_first_match es)) (length (with_first_match es))) c.new.ensures.items ∙ lists_of-one (match_entries (with_first_match [])))
       (c.min.ensures ∙ ap (min c.args.limit) c.as_usize.ensures.value);
 }

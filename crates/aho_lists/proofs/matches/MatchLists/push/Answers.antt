@@ -11,7 +11,7 @@ use Rattle.aho_lists.proofs.SideBySide.{run-length}
 use Rattle.aho_lists.proofs.MatchChanges.{match_list_run, match_lists, match_list_in, IsStore-more, match_lists-more}
 use Rattle.aho_lists.proofs.Firsts.{length-with_first_match, real_matches, first_match-made}
 use Rattle.aho_lists.specs.Inside.{match_of, with_first_match, matched_behind}
-use Rattle.aho_lists.specs.declared.matches.Match.{Match}
+use Rattle.aho_lists.specs.declared.matches.MatchEntry.{MatchEntry}
 use Rattle.aho_lists.proofs.matches.MatchLists.push.Goals as goal
 
 pub returns-then-eq-clause-pushed : goal.returns-then-eq-clause-pushed
@@ -26,7 +26,7 @@ push_behind-requires-clause-place c =
     let some = is_some c.args.list c.eq.result c.eq.ensures c.if-eq.false in
     let known : IsList (match_lists (with_first_match c.self.inside.entries.items)) c.args.list = rw (← c.self.view_is) at c.requires.known in
     let real = real_matches c.self.inside.entries.items c.args.list some (match_list_in (with_first_match c.self.inside.entries.items) c.self.inside.limit c.args.list c.self.invariant.0 known some) in
-    omega (arith, match_list_in (with_first_match c.self.inside.entries.items) c.self.inside.limit c.args.list c.self.invariant.0 known some, ap (λ (es : List Match). length es) real)
+    omega (arith, match_list_in (with_first_match c.self.inside.entries.items) c.self.inside.limit c.args.list c.self.invariant.0 known some, ap (λ (es : List MatchEntry). length es) real)
 
 pub push_behind-requires-clause-few : goal.push_behind-requires-clause-few
 push_behind-requires-clause-few c =
@@ -38,15 +38,15 @@ push_behind-requires-clause-few c =
     let counted = c.self.invariant.1 c.args.list (λ none. absurd (omega (arith, known none))) in
     let small = c.self.invariant.0.small in
     let count = c.self.invariant.0.count_within in
-    omega (arith, most, counted, inside, ap (λ (es : List Match). (match_of es c.args.list).before) real)
+    omega (arith, most, counted, inside, ap (λ (es : List MatchEntry). (match_of es c.args.list).before) real)
 
 pub invariant_of-self-2 : goal.invariant_of-self-2
 invariant_of-self-2 c =
     let some = is_some c.args.list c.eq.result c.eq.ensures c.if-eq.false in
     let known : IsList (match_lists (with_first_match c.self.inside.entries.items)) c.args.list = rw (← c.self.view_is) at c.requires.known in
     let real = real_matches c.self.inside.entries.items c.args.list some (match_list_in (with_first_match c.self.inside.entries.items) c.self.inside.limit c.args.list c.self.invariant.0 known some) in
-    let pushed = (first_match-made (λ (es : List Match). matched_behind es c.args.list c.args.pattern) c.self.inside.entries.items c.push_behind.new.entries.items real (omega (arith, c.in_ok-made.ensures.count)) c.in_ok-made.ensures.pushed) in (
-      IsStore-more (with_first_match c.self.inside.entries.items) c.self.inside.limit c.args.list c.self.invariant.0 known some (with_first_match c.push_behind.new.entries.items) c.args.pattern pushed (omega (arith, c.in_ok-made.ensures.within, ap (λ (es : List Match). length es) real)),
+    let pushed = (first_match-made (λ (es : List MatchEntry). matched_behind es c.args.list c.args.pattern) c.self.inside.entries.items c.push_behind.new.entries.items real (omega (arith, c.in_ok-made.ensures.count)) c.in_ok-made.ensures.pushed) in (
+      IsStore-more (with_first_match c.self.inside.entries.items) c.self.inside.limit c.args.list c.self.invariant.0 known some (with_first_match c.push_behind.new.entries.items) c.args.pattern pushed (omega (arith, c.in_ok-made.ensures.within, ap (λ (es : List MatchEntry). length es) real)),
       AreCounted-more (with_first_match c.self.inside.entries.items) (with_first_match c.push_behind.new.entries.items) c.self.inside.limit c.args.pattern c.self.invariant.0 c.self.invariant.1 c.args.list known some pushed,
     )
 
@@ -56,7 +56,7 @@ returns-clause-pushed c =
     let known : IsList (match_lists (with_first_match c.self.inside.entries.items)) c.args.list = rw (← c.self.view_is) at c.requires.known in
     let real = real_matches c.self.inside.entries.items c.args.list some (match_list_in (with_first_match c.self.inside.entries.items) c.self.inside.limit c.args.list c.self.invariant.0 known some) in
     rw (← c.self.view_is)
-    (same_store (match_lists-more (with_first_match c.self.inside.entries.items) c.self.inside.limit c.args.list c.self.invariant.0 known some (with_first_match c.push_behind.new.entries.items) c.args.pattern (first_match-made (λ (es : List Match). matched_behind es c.args.list c.args.pattern) c.self.inside.entries.items c.push_behind.new.entries.items real (omega (arith, c.in_ok-made.ensures.count)) c.in_ok-made.ensures.pushed)) refl)
+    (same_store (match_lists-more (with_first_match c.self.inside.entries.items) c.self.inside.limit c.args.list c.self.invariant.0 known some (with_first_match c.push_behind.new.entries.items) c.args.pattern (first_match-made (λ (es : List MatchEntry). matched_behind es c.args.list c.args.pattern) c.self.inside.entries.items c.push_behind.new.entries.items real (omega (arith, c.in_ok-made.ensures.count)) c.in_ok-made.ensures.pushed)) refl)
 
 pub returns-in_err-made-clause-refused : goal.returns-in_err-made-clause-refused
 returns-in_err-made-clause-refused c =
@@ -64,14 +64,14 @@ returns-in_err-made-clause-refused c =
     let known : IsList (match_lists (with_first_match c.self.inside.entries.items)) c.args.list = rw (← c.self.view_is) at c.requires.known in
     let real = real_matches c.self.inside.entries.items c.args.list some (match_list_in (with_first_match c.self.inside.entries.items) c.self.inside.limit c.args.list c.self.invariant.0 known some) in
     rw (← c.self.view_is, length-lists_of)
-    (IfErr-given (λ (error : BuildError). error ≡ refusal_at c.self.inside.limit (length (with_first_match c.self.inside.entries.items))) c.from_residual.result c.in_err-made.field-0.0 c.from_residual.ensures.1 (c.in_err-made.ensures.refused ∙ ap (λ (es : List Match). refusal_at c.self.inside.limit (length es)) (sym real)))
+    (IfErr-given (λ (error : BuildError). error ≡ refusal_at c.self.inside.limit (length (with_first_match c.self.inside.entries.items))) c.from_residual.result c.in_err-made.field-0.0 c.from_residual.ensures.1 (c.in_err-made.ensures.refused ∙ ap (λ (es : List MatchEntry). refusal_at c.self.inside.limit (length es)) (sym real)))
 
 pub returns-clause-number : goal.returns-clause-number
 returns-clause-number c =
     let some = is_some c.args.list c.eq.result c.eq.ensures c.if-eq.false in
     let known : IsList (match_lists (with_first_match c.self.inside.entries.items)) c.args.list = rw (← c.self.view_is) at c.requires.known in
     let real = real_matches c.self.inside.entries.items c.args.list some (match_list_in (with_first_match c.self.inside.entries.items) c.self.inside.limit c.args.list c.self.invariant.0 known some) in
-    rw (← c.self.view_is, length-lists_of) (c.in_ok-made.ensures.number ∙ ap (λ (es : List Match). length es) (sym real))
+    rw (← c.self.view_is, length-lists_of) (c.in_ok-made.ensures.number ∙ ap (λ (es : List MatchEntry). length es) (sym real))
 
 pub returns-clause-within : goal.returns-clause-within
 returns-clause-within c = rw (← c.self.view_is, length-lists_of) (omega (arith, length-with_first_match c.push_behind.new.entries.items, c.in_ok-made.ensures.count, c.in_ok-made.ensures.within))

@@ -3,7 +3,7 @@ use Rattle.std.proofs.Common.{◌≡◌, List, length, ap, refl, sym, subst, ◌
 use Rattle.std.proofs.lemmas.List.{length_push}
 use Rattle.aho_lists.specs.Inside.{match_entries, IsStore, AreCounted}
 use Rattle.aho_lists.proofs.Counted.{AreCounted-one}
-use Rattle.aho_lists.specs.declared.matches.Match.{Match}
+use Rattle.aho_lists.specs.declared.matches.MatchEntry.{MatchEntry}
 use Rattle.aho_base.specs.declared.error.BuildError.{BuildError}
 use Rattle.aho_lists.specs.Refusal.{refusal_at}
 use Rattle.aho_lists.proofs.Results.{IfErr-given}
@@ -15,7 +15,7 @@ use Rattle.aho_lists.proofs.matches.MatchLists.start.Goals as goal
 
 pub invariant_of-self : goal.invariant_of-self
 invariant_of-self c =
-    subst (λ (es : List Match). IsStore (match_entries es) (length es) c.self.inside.limit × AreCounted es)
+    subst (λ (es : List MatchEntry). IsStore (match_entries es) (length es) c.self.inside.limit × AreCounted es)
     (sym c.in_err-made.ensures.unchanged) c.self.invariant
 
 pub returns-in_err-made-clause-empty : goal.returns-in_err-made-clause-empty
@@ -40,7 +40,7 @@ pub returns-clause-empty : goal.returns-clause-empty
 returns-clause-empty c = rw (← c.self.view_is) (list_at-zero (match_entries (with_first_match c.self.inside.entries.items)) (length (with_first_match c.self.inside.entries.items)) c.self.invariant.0.rings.some)
 
 pub returns-clause-within : goal.returns-clause-within
-returns-clause-within c = rw (← c.self.view_is, length-lists_of) (omega (arith, c.in_ok-made.ensures.within, ap (λ (es : List Match). length es) (ap with_first_match c.in_ok-made.ensures.pushed ∙ first_match-push (with_first_match c.self.inside.entries.items) (record { pattern = c.args.pattern; link = length (with_first_match c.self.inside.entries.items); before = 0 })), length_push (with_first_match c.self.inside.entries.items) (record { pattern = c.args.pattern; link = length (with_first_match c.self.inside.entries.items); before = 0 })))
+returns-clause-within c = rw (← c.self.view_is, length-lists_of) (omega (arith, c.in_ok-made.ensures.within, ap (λ (es : List MatchEntry). length es) (ap with_first_match c.in_ok-made.ensures.pushed ∙ first_match-push (with_first_match c.self.inside.entries.items) (record { pattern = c.args.pattern; link = length (with_first_match c.self.inside.entries.items); before = 0 })), length_push (with_first_match c.self.inside.entries.items) (record { pattern = c.args.pattern; link = length (with_first_match c.self.inside.entries.items); before = 0 })))
 
 pub returns-clause-started : goal.returns-clause-started
 returns-clause-started c =

@@ -2,7 +2,7 @@
 use Rattle.std.proofs.Common.{◌≡◌, ℕ, Option, Some, List, ◌∷◌, length, ap, sym, subst, arith, ◌∙◌}
 use Rattle.aho_lists.specs.Rings.{rest_from, place_after, IsWalk}
 use Rattle.aho_lists.specs.Inside.{match_of, match_entries}
-use Rattle.aho_lists.specs.declared.matches.Match.{Match}
+use Rattle.aho_lists.specs.declared.matches.MatchEntry.{MatchEntry}
 use Rattle.aho_lists.proofs.Walks.{rest_from-none, rest_from-next, IsWalk-next}
 use Rattle.aho_lists.proofs.matches.MatchesIterator.next.Goals as goal
 
@@ -13,18 +13,18 @@ returns-in_default-clause-steps c =
     (none, none)
 
 -- what is left at an entry, where its link is what was read
-rest : (entries : List Match) (last at count : ℕ) (read : Match) (after : Option ℕ) → IsWalk (match_entries entries) count (Some at) last → read ≡ match_of entries at
+rest : (entries : List MatchEntry) (last at count : ℕ) (read : MatchEntry) (after : Option ℕ) → IsWalk (match_entries entries) count (Some at) last → read ≡ match_of entries at
     → after ≡ place_after read.link at last → rest_from (match_entries entries) (Some at) last ≡ read.pattern ∷ rest_from (match_entries entries) after last
 rest entries last at count read after walk is next =
     rest_from-next walk.on_list.2
-    ∙ ap (λ (m : Match). m.pattern ∷ rest_from (match_entries entries) (place_after m.link at last) last) (sym is)
+    ∙ ap (λ (m : MatchEntry). m.pattern ∷ rest_from (match_entries entries) (place_after m.link at last) last) (sym is)
     ∙ ap (λ (o : Option ℕ). read.pattern ∷ rest_from (match_entries entries) o last) (sym next)
 
 pub invariant_of-self : goal.invariant_of-self
 invariant_of-self c =
     let walk : IsWalk (match_entries c.self.inside.entries.now) (length c.self.inside.entries.now) (Some c.in-Some.at) c.self.inside.last =
     subst (λ (o : Option ℕ). IsWalk (match_entries c.self.inside.entries.now) (length c.self.inside.entries.now) o c.self.inside.last) c.in-Some.is c.self.invariant in
-    let link = ap (λ (m : Match). m.link) c.entry-listed.ensures.entry in
+    let link = ap (λ (m : MatchEntry). m.link) c.entry-listed.ensures.entry in
     subst (λ (o : Option ℕ). IsWalk (match_entries c.self.inside.entries.now) (length c.self.inside.entries.now) o c.self.inside.last)
     (sym (c.place_after-self-inside.ensures.place ∙ ap (λ (n : ℕ). place_after n c.in-Some.at c.self.inside.last) link))
     (IsWalk-next walk.within walk.on_list.0 walk.on_list.2)

@@ -3,9 +3,9 @@ use Rattle.std.proofs.Common.{ℕ, List, [], ◌∷◌, ◌++◌, length, refl, 
 use Rattle.aho_lists.specs.Lists.{list_at}
 use Rattle.aho_lists.proofs.Results.{overflow_at, out_of_memory_at}
 use Rattle.aho_table.specs.Table.{new_state}
-use Rattle.aho_table.specs.Inside.{LimitedStates, states_of, IsConsistent}
+use Rattle.aho_table.specs.Inside.{LimitedStates, recorded_states, IsConsistent}
 use Rattle.aho_table.specs.declared.links.states.Record.{Record}
-use Rattle.aho_table.proofs.Records.{count_is, states_of-append, same_table}
+use Rattle.aho_table.proofs.Records.{count_is, recorded_states-append, same_table}
 use Rattle.aho_table.proofs.Changes.{IsConsistent-push}
 use Rattle.aho_table.proofs.links.states.States.add_state.Goals as goal
 
@@ -32,11 +32,11 @@ returns-clause-number c = omega (arith, c.new_unchecked.ensures.value, count_is 
 pub returns-clause-added : goal.returns-clause-added
 returns-clause-added c =
     same_table
-    (ap (states_of c.self.inside.transitions.lists c.self.inside.matches.lists) c.in-Ok.ensures.items
-    ∙ states_of-append c.self.inside.transitions.lists c.self.inside.matches.lists c.self.inside.records.items (record { transitions = 0; matches = 0; fail = 1; depth = c.args.depth })
-    ∙ ap (λ (xs : List (ℕ × ℕ)). states_of c.self.inside.transitions.lists c.self.inside.matches.lists c.self.inside.records.items
+    (ap (recorded_states c.self.inside.transitions.lists c.self.inside.matches.lists) c.in-Ok.ensures.items
+    ∙ recorded_states-append c.self.inside.transitions.lists c.self.inside.matches.lists c.self.inside.records.items (record { transitions = 0; matches = 0; fail = 1; depth = c.args.depth })
+    ∙ ap (λ (xs : List (ℕ × ℕ)). recorded_states c.self.inside.transitions.lists c.self.inside.matches.lists c.self.inside.records.items
     ++ record { transitions = xs; matches = list_at c.self.inside.matches.lists 0; fail = 1; depth = c.args.depth } ∷ []) c.facts.ensures.empty
-    ∙ ap (λ (xs : List ℕ). states_of c.self.inside.transitions.lists c.self.inside.matches.lists c.self.inside.records.items
+    ∙ ap (λ (xs : List ℕ). recorded_states c.self.inside.transitions.lists c.self.inside.matches.lists c.self.inside.records.items
     ++ record { transitions = []; matches = xs; fail = 1; depth = c.args.depth } ∷ []) c.facts-2.ensures.empty
     ∙ ap (λ (t : LimitedStates). t.states ++ new_state c.args.depth ∷ []) c.self.view_is)
     (ap (λ (t : LimitedStates). t.limit) c.self.view_is)

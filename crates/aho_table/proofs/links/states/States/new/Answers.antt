@@ -1,9 +1,9 @@
 -- No states, and stores without lists.
 use Rattle.std.proofs.Common.{◌≡◌, ℕ, List, [], ◌∷◌, min, sym, ap, subst, ◌∙◌, arith}
 use Rattle.aho_lists.specs.Lists.{Lists}
-use Rattle.aho_table.specs.Inside.{states_of, IsConsistent}
+use Rattle.aho_table.specs.Inside.{recorded_states, IsConsistent}
 use Rattle.aho_table.specs.declared.links.states.Record.{Record}
-use Rattle.aho_table.proofs.Records.{states_of-none, same_table}
+use Rattle.aho_table.proofs.Records.{recorded_states-none, same_table}
 use Rattle.aho_table.proofs.Changes.{IsConsistent-none}
 use Rattle.aho_table.proofs.links.states.States.new.Goals as goal
 
@@ -21,6 +21,6 @@ invariant_of-result c =
 pub returns : goal.returns
 returns c = record {
   empty = same_table
-      (ap (states_of c.new-2.result.lists c.new-3.result.lists) c.new.ensures.items ∙ states_of-none c.new-2.result.lists c.new-3.result.lists)
+      (ap (recorded_states c.new-2.result.lists c.new-3.result.lists) c.new.ensures.items ∙ recorded_states-none c.new-2.result.lists c.new-3.result.lists)
       (limit_is c.args.limit c.as_usize.result c.min.result c.min.ensures c.as_usize.ensures.value);
 }

@@ -2,10 +2,10 @@
 use Rattle.std.proofs.Common.{◌-◌, List, length, sym, ap, subst, ◌∙◌, arith}
 use Rattle.std.proofs.lemmas.List.{length_push}
 use Rattle.aho_table.specs.Table.{State, new_state}
-use Rattle.aho_table.specs.Inside.{LimitedStates, states_of, IsConsistent}
+use Rattle.aho_table.specs.Inside.{LimitedStates, recorded_states, IsConsistent}
 use Rattle.aho_table.specs.declared.links.states.Record.{Record}
 use Rattle.aho_table.proofs.Records.{count_is, same_table}
-use Rattle.aho_table.proofs.Changes.{states_of-first, IsConsistent-first}
+use Rattle.aho_table.proofs.Changes.{recorded_states-first, IsConsistent-first}
 use Rattle.aho_table.proofs.links.states.States.remove_last.Goals as goal
 
 pub overflow_sub-count : goal.overflow_sub-count
@@ -35,8 +35,8 @@ pub returns : goal.returns
 returns c = record {
   removed = λ states depth are.
       same_table
-      (ap (states_of c.self.inside.transitions.lists c.self.inside.matches.lists) c.truncate.ensures.items
-      ∙ states_of-first c.self.inside.records.items c.self.inside.transitions.lists c.self.inside.matches.lists states depth (c.len-count.result - 1)
+      (ap (recorded_states c.self.inside.transitions.lists c.self.inside.matches.lists) c.truncate.ensures.items
+      ∙ recorded_states-first c.self.inside.records.items c.self.inside.transitions.lists c.self.inside.matches.lists states depth (c.len-count.result - 1)
       (ap (λ (t : LimitedStates). t.states) c.self.view_is ∙ are)
       (omega (
         arith,

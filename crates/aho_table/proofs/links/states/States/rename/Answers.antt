@@ -3,8 +3,8 @@ use Rattle.std.proofs.Common.{List, ap, subst}
 use Rattle.std.specs.List.{AllZip}
 use Rattle.aho_table.specs.Table.{State}
 use Rattle.aho_table.specs.Renaming.{IsRenamed}
-use Rattle.aho_table.specs.Inside.{LimitedStates, states_of}
-use Rattle.aho_table.proofs.RenumberedRecords.{states_of-renamed, IsConsistent-renamed}
+use Rattle.aho_table.specs.Inside.{LimitedStates, recorded_states}
+use Rattle.aho_table.proofs.RenumberedRecords.{recorded_states-renamed, IsConsistent-renamed}
 use Rattle.aho_table.proofs.links.states.States.rename.Goals as goal
 
 pub invariant_of-self : goal.invariant_of-self
@@ -14,6 +14,6 @@ invariant_of-self g c =
 
 pub returns-clause-renamed : goal.returns-clause-renamed
 returns-clause-renamed g c =
-    subst (λ (ss : List State). AllZip (IsRenamed (goal.F-post g c.args.map.now)) ss (states_of c.rename.new.self.lists c.self.inside.matches.lists c.rename_links.new.records.items)) (ap (λ (t : LimitedStates). t.states) c.self.view_is)
-    (states_of-renamed (goal.F-post g c.args.map.now) c.self.inside.transitions c.rename.new.self c.self.inside.matches c.rename.ensures.renamed c.self.inside.records.items c.rename_links.new.records.items
+    subst (λ (ss : List State). AllZip (IsRenamed (goal.F-post g c.args.map.now)) ss (recorded_states c.rename.new.self.lists c.self.inside.matches.lists c.rename_links.new.records.items)) (ap (λ (t : LimitedStates). t.states) c.self.view_is)
+    (recorded_states-renamed (goal.F-post g c.args.map.now) c.self.inside.transitions c.rename.new.self c.self.inside.matches c.rename.ensures.renamed c.self.inside.records.items c.rename_links.new.records.items
     c.rename_links.ensures.renamed)

@@ -5,7 +5,7 @@ use Rattle.aho_lists.specs.Lists.{Lists, list_at}
 use Rattle.aho_lists.specs.TransitionList.{with_transition, lists_transition}
 use Rattle.aho_lists.proofs.Families.{set_transition_in-count, number_after-fresh}
 use Rattle.aho_table.specs.Table.{State, state_at, transitions_count}
-use Rattle.aho_table.specs.Inside.{LimitedStates, states_of, IsConsistent}
+use Rattle.aho_table.specs.Inside.{LimitedStates, recorded_states, IsConsistent}
 use Rattle.aho_table.specs.declared.links.states.Record.{Record}
 use Rattle.aho_table.proofs.TransitionLists.{length-with_transition}
 use Rattle.aho_table.proofs.Records.{read_in, read_is, read_here, transitions_known, same_table}
@@ -61,7 +61,7 @@ pub returns-clause-set : goal.returns-clause-set
 returns-clause-set c =
     let row = read_is c.self.inside.records.items c.self.inside.transitions c.self.inside.matches c.self.inside.limit c.args.sid c.args.self.now c.self.view_is c.requires.added c.deref.result.now c.deref.ensures.value c.record_of-state.result c.record_of-state.ensures.found in
     same_table
-    (ap (states_of c.set.new.self.lists c.self.inside.matches.lists) c.replace.ensures.replaced
+    (ap (recorded_states c.set.new.self.lists c.self.inside.matches.lists) c.replace.ensures.replaced
     ∙ states-led c.self.inside.records.items c.args.sid c.record_of-state.result
     (read_in c.self.inside.records.items c.self.inside.transitions c.self.inside.matches c.self.inside.limit c.args.sid c.args.self.now c.self.view_is c.requires.added c.self.inside.records.items refl)
     (read_here c.self.inside.records.items c.self.inside.transitions c.self.inside.matches c.self.inside.limit c.args.sid c.args.self.now c.self.view_is c.requires.added c.deref.result.now c.deref.ensures.value c.record_of-state.result c.record_of-state.ensures.found)

@@ -2,7 +2,7 @@
 use Rattle.std.proofs.Common.{List, refl, sym, ap, subst, ◌∙◌}
 use Rattle.std.proofs.Math.ListN.{set}
 use Rattle.aho_table.specs.Table.{state_at}
-use Rattle.aho_table.specs.Inside.{LimitedStates, states_of, IsConsistent}
+use Rattle.aho_table.specs.Inside.{LimitedStates, recorded_states, IsConsistent}
 use Rattle.aho_table.specs.declared.links.states.Record.{Record}
 use Rattle.aho_table.proofs.Records.{read_in, read_here, same_table}
 use Rattle.aho_table.proofs.Changes.{states-linked, IsConsistent-linked}
@@ -25,7 +25,7 @@ invariant_of-self c =
 pub returns : goal.returns
 returns c = record {
   set = same_table
-      (ap (states_of c.self.inside.transitions.lists c.self.inside.matches.lists) c.replace.ensures.replaced
+      (ap (recorded_states c.self.inside.transitions.lists c.self.inside.matches.lists) c.replace.ensures.replaced
       ∙ states-linked c.self.inside.records.items c.args.sid c.record_of-state.result
       (read_in c.self.inside.records.items c.self.inside.transitions c.self.inside.matches c.self.inside.limit c.args.sid c.args.self.now c.self.view_is c.requires.added c.self.inside.records.items refl)
       (read_here c.self.inside.records.items c.self.inside.transitions c.self.inside.matches c.self.inside.limit c.args.sid c.args.self.now c.self.view_is c.requires.added c.deref.result.now c.deref.ensures.value c.record_of-state.result c.record_of-state.ensures.found)

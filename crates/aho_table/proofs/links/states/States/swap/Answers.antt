@@ -3,7 +3,7 @@ use Rattle.std.proofs.Common.{◌<◌, ℕ, length, ap, ◌∙◌, arith}
 use Rattle.std.specs.List.{swap}
 use Rattle.aho_table.specs.Inside.{LimitedStates}
 use Rattle.aho_table.proofs.Records.{count_is, same_table}
-use Rattle.aho_table.proofs.RenumberedRecords.{states_of-swapped, IsConsistent-swapped}
+use Rattle.aho_table.proofs.RenumberedRecords.{recorded_states-swapped, IsConsistent-swapped}
 use Rattle.aho_table.proofs.links.states.States.swap.Goals as goal
 
 pub swap-requires-clause-i_in_bounds : goal.swap-requires-clause-i_in_bounds
@@ -27,7 +27,7 @@ returns c =
     let of_b : c.as_usize-2.result < length c.self.inside.records.items = omega (arith, c.requires.b) in
     record {
       swapped = same_table
-          (states_of-swapped c.self.inside.records.items c.swap.new.self.items c.as_usize.result c.as_usize-2.result of_a of_b c.swap.ensures.items c.self.inside.transitions.lists c.self.inside.matches.lists
+          (recorded_states-swapped c.self.inside.records.items c.swap.new.self.items c.as_usize.result c.as_usize-2.result of_a of_b c.swap.ensures.items c.self.inside.transitions.lists c.self.inside.matches.lists
           ∙ ap (λ (t : LimitedStates). swap t.states c.as_usize.result c.as_usize-2.result) c.self.view_is
           ∙ ap (λ (n : ℕ). swap c.args.self.now.states n c.as_usize-2.result) c.as_usize.ensures.value
           ∙ ap (λ (n : ℕ). swap c.args.self.now.states c.args.a n) c.as_usize-2.ensures.value)

@@ -7,7 +7,7 @@ use Rattle.aho_base.specs.Step.{follow, lookups}
 use Rattle.aho_build.specs.Automaton.{IsAutomaton, IsHeldAs}
 use Rattle.aho_build.specs.declared.special.Special.{Special}
 use Rattle.aho_build.specs.Walking.{IsState, links_left, step_along, step_in}
-use Rattle.aho_build.proofs.walk.step.Given as goal
+use Rattle.aho_build.proofs.steps.step.Given as goal
 
 abbrev pub invariant-links : goal.invariant-links
 invariant-links l = record {

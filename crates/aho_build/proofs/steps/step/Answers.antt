@@ -7,7 +7,7 @@ use Rattle.aho_build.specs.Walking.{links_left, step_along}
 use Rattle.aho_build.proofs.AutomatonStates.{held-taken, held-ended, held-failed}
 use Rattle.aho_build.proofs.NumberTests.{differ-true, differ-false}
 use Rattle.aho_build.proofs.StepResults.{along-taken, along-ended, along-linked}
-use Rattle.aho_build.proofs.walk.step.Goals as goal
+use Rattle.aho_build.proofs.steps.step.Goals as goal
 
 pub returns-then-ne-clause-next : goal.returns-then-ne-clause-next
 returns-then-ne-clause-next c =
