@@ -3,8 +3,10 @@
 ghost use Rattle.std.specs.Io.KnownBytes.{Appends, Consumes};
 ghost use Rattle.std.specs.Prelude.{◌≡◌, ◌+◌, ◌*◌, ◌-◌, ◌<◌, ◌≤◌, ◌^◌, ℕ, List, IfOk, IfSome, false, true, length, IsOk, None, map};
 ghost use Rattle.aho_base.specs.Answer.{IsAnswer};
+ghost use Rattle.aho_base.specs.Best.{IsBestOrNone};
 ghost use Rattle.aho_base.specs.Iteration.{AreFinds};
 ghost use Rattle.aho_base.specs.Occurrence.{Occurrence};
+ghost use Rattle.aho_base.specs.Occurs.{Occurs};
 ghost use Rattle.aho_base.specs.Overlapping.{all_occurrences};
 ghost use Rattle.aho_base.specs.Patterns.{Patterns};
 ghost use Rattle.aho_base.specs.Replacement.{pieces_of, replaced};
@@ -15,12 +17,12 @@ ghost use Rattle.aho_build.specs.Items.{patterns_of};
 ghost use Rattle.aho_build.specs.Settings.{default_settings};
 ghost use Rattle.aho_prefilter.specs.Candidate.{NoneStartsBefore, NothingOccurs};
 ghost use Rattle.aho_prefilter.specs.Prefilter.{IsPrefilterOf};
-ghost use Rattle.aho_search.specs.Finding.{AreFirstFinds};
-ghost use Rattle.bench.specs.Callers.{both_cases};
+ghost use Rattle.aho_search.specs.Finding.{AreFirstFinds, places};
+ghost use Rattle.bench.specs.Callers.{both_cases, without_help};
 
 use aho_base::error::{BuildError, ReplaceError, StreamError};
 use aho_base::search::{Anchored, Input, Match, MatchKind, Span};
-use aho_corasick::answers::answer_of;
+use aho_corasick::answers::{answer_of, best_occurrence};
 use aho_corasick::noncontiguous::{Builder, NFA};
 use aho_devices::buffer::Buffer;
 use aho_devices::device::{Sink, Source};
@@ -37,6 +39,23 @@ pub fn standard_automaton(alloc: Global, patterns: &[&[u8]]) -> Result<NFA, Buil
         ⟦<NFA as Automaton>⟧.is_of nfa (patterns_of default_settings patterns.now)) }
 {
     NFA::new(alloc, patterns.iter().copied())
+}
+
+/// Settings under which no state has a dense row, and no prefilter is held.
+fn without_help() -> Builder
+    ensures settings { result ≡ without_help }
+{
+    let mut builder = NFA::builder();
+    builder.dense_depth(0).prefilter(false);
+    builder
+}
+
+/// The automaton of these patterns under those settings.
+pub fn helpless_automaton(alloc: Global, patterns: &[&[u8]]) -> Result<NFA, BuildError>
+    ensures of { IfOk result (λ nfa.
+        ⟦<NFA as Automaton>⟧.is_of nfa (patterns_of default_settings patterns.now)) }
+{
+    without_help().build(alloc, patterns.iter().copied())
 }
 
 /// Settings under which the pattern of least number is found first, in both cases.
@@ -81,6 +100,53 @@ pub fn find_at(nfa: &NFA, haystack: &[u8], span: Span) -> Option<Match>
 {
     let input = Input::new(haystack).span(span).anchored(Anchored::Yes);
     answer_of(nfa, &input)
+}
+
+/// The match that the search of an input finds, if it goes no further than this place.
+pub fn find_before(nfa: &NFA, input: Input<'_>, end: usize) -> Option<Match>
+    requires of { (p : Patterns) × ⟦<NFA as Automaton>⟧.is_of nfa.now p }
+    requires within { end ≤ length input.haystack }
+    requires ordered { input.start ≤ end + 1 }
+    ensures found { (p : Patterns) → ⟦<NFA as Automaton>⟧.is_of nfa.now p
+        → IsAnswer p (record input.entry { end = end }) result }
+{
+    let mut front = input;
+    front.set_end(end);
+    answer_of(nfa, &front)
+}
+
+/// At how many places of an input's span a match may end: at none where the input is done.
+pub fn places_in(input: &Input) -> usize
+    ensures places { result ≡ places input.now }
+{
+    if input.is_done() {
+        return 0;
+    }
+    input.end() + 1 - input.start()
+}
+
+/// The best match of a haystack.
+pub fn best_in(nfa: &NFA, haystack: &[u8]) -> Option<Match>
+    requires of { (p : Patterns) × ⟦<NFA as Automaton>⟧.is_of nfa.now p }
+    ensures best { (p : Patterns) → ⟦<NFA as Automaton>⟧.is_of nfa.now p
+        → IsBestOrNone p.kind (Occurs p No haystack.now 0 (length haystack.now)) result }
+{
+    let end = haystack.len();
+    let mut bytes = Bytes::new(haystack);
+    let (found, _lookups) = best_occurrence(nfa, &mut bytes, Span { start: 0, end }, Anchored::No);
+    found
+}
+
+/// How many bytes the search of a haystack reads, and how many transitions it looks up.
+pub fn cost_of(nfa: &NFA, haystack: &[u8]) -> (usize, u128)
+    requires of { (p : Patterns) × ⟦<NFA as Automaton>⟧.is_of nfa.now p }
+    ensures reads { result.0 ≤ length haystack.now }
+    ensures lookups { result.1 ≤ 2 * result.0 }
+{
+    let end = haystack.len();
+    let mut bytes = Bytes::new(haystack);
+    let (_found, lookups) = best_occurrence(nfa, &mut bytes, Span { start: 0, end }, Anchored::No);
+    (bytes.reads(), lookups)
 }
 
 /// How many transitions the search of a haystack looks up.

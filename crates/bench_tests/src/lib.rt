@@ -41,4 +41,6 @@ mod replacing;
 #[cfg(test)]
 mod rows;
 #[cfg(test)]
+mod settings;
+#[cfg(test)]
 mod tables;

@@ -8,6 +8,7 @@ use crate::automata::{DEPTHS, nfa_with, relinked_of};
 use crate::reading::Reading;
 use aho_base::error::MatchError;
 use aho_base::search::{Anchored, Input, MatchKind, Span};
+use aho_corasick::answers::best_occurrence;
 use aho_corasick::noncontiguous::NFA;
 use aho_prefilter::text::{Bytes, Text};
 use aho_search::automaton::{Automaton, Counted, find_in};
@@ -154,6 +155,20 @@ fn reads_of<A: Automaton>(rt: &impl Abort, row: &Row, automaton: &A) -> Result<u
     Ok(text.reads())
 }
 
+/// The best occurrence of a row's span is found at the row's cost.
+fn best_costs_as_much(rt: &impl Abort, row: &Row, nfa: &NFA)
+    requires of { (p : Patterns) × ⟦<NFA as Automaton>⟧.is_of nfa.now p }
+{
+    let (haystack, span) = (row.haystack, row.span);
+    assert!(rt; span.end <= haystack.len());
+    assert!(rt; span.start <= span.end + 1);
+    let mut text = Bytes::new(haystack);
+    let (_found, lookups) = best_occurrence(nfa, &mut text, span, row.anchored);
+    let case = (row.kind, row.patterns, haystack, span, row.anchored);
+    assert_same_in(rt, &case, lookups, row.lookups);
+    assert_same_in(rt, &case, text.reads(), row.reads);
+}
+
 /// A row's search over an automaton makes its look-ups, and reads its bytes.
 fn row_is_read<A: Automaton>(rt: &impl Abort, row: &Row, automaton: &A) -> Result<(), MatchError>
     requires of { (p : Patterns) × A.is_of automaton.now p }
@@ -188,6 +203,15 @@ fn searches_cost_what_they_should(rt: HostRuntime) -> Result<(), Fail> {
         }
     }
     Ok(())
+}
+
+#[test]
+fn the_best_occurrence_costs_what_it_should(rt: HostRuntime) {
+    for row in ROWS {
+        for depth in DEPTHS {
+            best_costs_as_much(&rt, row, &nfa_of_row(&rt, rt.alloc(), row, depth));
+        }
+    }
 }
 
 #[test]

@@ -1,6 +1,6 @@
 //! A text that tells how far it was read, and how often.
 
-ghost use Rattle.std.specs.Prelude.{◌≡◌};
+ghost use Rattle.std.specs.Prelude.{◌≡◌, ◌≤◌};
 
 use aho_base::search::Span;
 use aho_prefilter::prefilter::{Candidate, Prefilter};
@@ -12,6 +12,7 @@ pub(crate) struct Reading<'h> {
     haystack: &'h [u8],
     next: usize,
     reads: usize,
+    ghost few: { reads ≤ next },
 }
 
 impl<'h> Reading<'h> {
@@ -43,13 +44,15 @@ impl<'h> Text for Reading<'h> {
 
     ghost next = { λ t. t.next };
 
+    ghost reads = { λ t. t.reads };
+
     fn len(&self) -> usize {
         self.haystack.len()
     }
 
     fn byte(&mut self, at: usize) -> u8 {
         self.next = at + 1;
-        self.reads = self.reads.saturating_add(1);
+        self.reads += 1;
         self.haystack[at]
     }
 
