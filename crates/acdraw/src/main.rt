@@ -1,5 +1,5 @@
-//! `acdraw KIND [-i] PATTERN..` writes the automaton of some patterns in the dot language: its states by their words, and how
-//! they lead to each other.
+//! `acdraw [-u] KIND [-i] PATTERN..` writes the automaton of some patterns in the dot language: its states by their words, and
+//! how they lead to each other. `-u` leaves the anchored start out, which only anchored searches use.
 //!
 //! The status is 0 where it was written. It is 2 where the words are wrong, the automaton is refused or memory is wanted, and
 //! 3 where writing fails, and then a line on standard error says why.
@@ -13,8 +13,7 @@ mod text;
 ghost use Rattle.std.specs.Prelude.{◌≡◌, ◌≤◌, map, None, IfOk, IfErr, OnErr, string_bytes};
 ghost use Rattle.std.specs.Process.{exit_status};
 ghost use Rattle.commands.specs.Faults.{status_of_fault};
-ghost use Rattle.commands.specs.Words.{find_by};
-ghost use Rattle.acdraw.specs.Calls.{Draws};
+ghost use Rattle.acdraw.specs.Calls.{Draws, drawing_by};
 
 use commands::fault::Fault;
 use commands::words::words;
@@ -38,7 +37,7 @@ fn exit_code<W: Write, E: Write>(
     ensures faulty { IfErr words (λ fault. exit_status result ≡ status_of_fault fault) }
     ensures unwritten { OnErr words (output.new ≡ output.old) }
     ensures usage { IfOk words (λ words.
-        find_by (map string_bytes words.items) ≡ None → exit_status result ≡ 2) }
+        drawing_by (map string_bytes words.items) ≡ None → exit_status result ≡ 2) }
     ensures draws { IfOk words (λ words.
         exit_status result ≡ 0 → Draws (W.contents output.old) (W.contents output.new)) }
     ensures bound { exit_status result ≤ 3 }
