@@ -6,3 +6,5 @@ pub mod Words
 pub mod LastBytes
 -- the numbers that are drawn
 pub mod Drawn
+-- arrows that are added
+pub mod Arrows

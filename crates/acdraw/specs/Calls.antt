@@ -1,11 +1,24 @@
--- What a call of the program writes.
-use Rattle.std.specs.Prelude.{◌≡◌, ℕ, ◌++◌, List, codes, Option}
+-- What a call of the program asks for, and what it writes.
+use Rattle.std.specs.Prelude.{◌≡◌, ℕ, ◌++◌, Bool, true, not, List, [], ◌∷◌, codes, Option, None, if◌then◌else◌}
 use Rattle.std.specs.Io.KnownBytes.{Appends}
 use Rattle.aho_devices.specs.Counts.{AppendsBeginning}
+use Rattle.std.specs.Str.{bytes_eq}
+use Rattle.commands.specs.Asked.{Asked}
+use Rattle.commands.specs.Arguments.{find_by}
+
+-- [-u] KIND [-i] PATTERN..: the automaton that is drawn
+abbrev pub drawing_by : List (List ℕ) → Option Asked
+drawing_by [] = None
+drawing_by (word ∷ words) = if bytes_eq word (codes "-u") then find_by words else find_by (word ∷ words)
+
+-- its anchored start is drawn, where the first argument is not `-u`
+abbrev pub draws_anchored : List (List ℕ) → Bool
+draws_anchored [] = true
+draws_anchored (word ∷ words) = not (bytes_eq word (codes "-u"))
 
 -- the line that tells of wrong arguments
 abbrev pub usage_line : List ℕ
-usage_line = codes "usage: acdraw KIND [-i] PATTERN..\n"
+usage_line = codes "usage: acdraw [-u] KIND [-i] PATTERN..\n"
 
 -- a text of the dot language that was not cut off: it ends with its last brace
 abbrev pub IsWhole : List ℕ → Type 0

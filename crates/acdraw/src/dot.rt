@@ -1,17 +1,18 @@
 //! A picture as text of the dot language.
 //!
 //! A state is a circle with its word. One that lists patterns is a double circle, with their numbers below the word. DEAD and
-//! the two starts are boxes. A solid arrow is a run of bytes that lead to one state, a dashed one a failure link. A byte that
-//! leads to FAIL leads nowhere, and has no arrow.
+//! the two starts are boxes. A solid arrow has the bytes that lead from one state to another: each run of them is a line of its
+//! label. A gray dashed one is a failure link. A byte that leads to FAIL leads nowhere, and has no arrow.
 
 ghost use Rattle.std.specs.Prelude.{IfOk};
 ghost use Rattle.acdraw.specs.Calls.{IsWhole};
 
+use crate::picture::arrows::Arrow;
 use crate::picture::runs::Run;
 use crate::picture::{Node, Picture};
 use crate::text::Text;
 use aho_base::search::StateID;
-use aho_corasick::links::{DEAD, FAIL};
+use aho_corasick::links::DEAD;
 use std::alloc::{AllocError, Global};
 
 /// The text of a picture: its states, then their arrows.
@@ -80,31 +81,40 @@ fn shape_of(picture: &Picture, node: &Node) -> &'static str {
     }
 }
 
-/// The arrows from a state: its runs, and its link.
+/// The arrows from a state, its link among them.
 fn put_arrows(text: &mut Text, node: &Node) -> Result<(), AllocError> {
-    for run in &node.runs {
-        if run.next != FAIL {
-            put_run(text, node.sid, run)?;
-        }
+    for arrow in &node.arrows {
+        put_labelled(text, node.sid, arrow)?;
     }
     // DEAD leads to itself already.
     if node.sid == DEAD {
         return Ok(());
     }
     put_arrow(text, node.sid, node.link)?;
-    text.put(" [style=dashed];\n")
+    text.put(" [style=dashed, color=gray];\n")
 }
 
-/// The arrow of a run of bytes.
-fn put_run(text: &mut Text, sid: StateID, run: &Run) -> Result<(), AllocError> {
-    put_arrow(text, sid, run.next)?;
+/// An arrow with its runs of bytes, each on a line of its own.
+fn put_labelled(text: &mut Text, sid: StateID, arrow: &Arrow) -> Result<(), AllocError> {
+    put_arrow(text, sid, arrow.next)?;
     text.put(" [label=\"")?;
+    let mut between = "";
+    for run in &arrow.runs {
+        text.put(between)?;
+        put_run(text, run)?;
+        between = "\\n";
+    }
+    text.put("\"];\n")
+}
+
+/// A run of bytes: its byte, or its first and its last.
+fn put_run(text: &mut Text, run: &Run) -> Result<(), AllocError> {
     text.put_byte(run.first)?;
     if run.more > 0 {
         text.put("-")?;
         text.put_byte(run.last())?;
     }
-    text.put("\"];\n")
+    Ok(())
 }
 
 /// An arrow from a state to another, without its label.

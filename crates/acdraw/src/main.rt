@@ -1,5 +1,5 @@
-//! `acdraw KIND [-i] PATTERN..` writes the automaton of some patterns in the dot language: its states by their words, and how
-//! they lead to each other.
+//! `acdraw [-u] KIND [-i] PATTERN..` writes the automaton of some patterns in the dot language: its states by their words, and
+//! how they lead to each other. `-u` leaves the anchored start out, which only anchored searches use.
 //!
 //! The status is 0 where it was written. It is 2 where the arguments are wrong, the automaton is refused or memory runs out, and
 //! 3 where writing fails, and then a line on standard error says why.
@@ -12,10 +12,10 @@ mod text;
 
 ghost use Rattle.std.specs.Prelude.{◌≡◌, ◌≤◌, None, IfOk, IfErr, OnErr};
 ghost use Rattle.std.specs.Process.{exit_status};
+ghost use Rattle.commands.specs.Arguments.{texts};
 ghost use Rattle.commands.specs.Failures.{status_of_failure};
-ghost use Rattle.commands.specs.Arguments.{find_by, texts};
 ghost use Rattle.commands.specs.Streams.{bytes_held};
-ghost use Rattle.acdraw.specs.Calls.{Draws};
+ghost use Rattle.acdraw.specs.Calls.{Draws, drawing_by};
 
 use aho_devices::adapters::FromWrite;
 use commands::arguments::arguments;
@@ -44,7 +44,7 @@ fn exit_code<W: Write, E: Write>(
     ensures faulty { IfErr given (λ failure. exit_status result ≡ status_of_failure failure) }
     ensures unwritten { OnErr given (output.new ≡ output.old) }
     ensures usage { IfOk given (λ arguments.
-        find_by (texts arguments.items) ≡ None → exit_status result ≡ 2) }
+        drawing_by (texts arguments.items) ≡ None → exit_status result ≡ 2) }
     ensures draws { IfOk given (λ arguments.
         exit_status result ≡ 0 → Draws (bytes_held W.Write output.old) (bytes_held W.Write output.new)) }
     ensures bound { exit_status result ≤ 3 }

@@ -3,19 +3,19 @@
 ghost use Rattle.std.specs.Prelude.{◌≡◌, ◌<◌, length, map, IfOk};
 ghost use Rattle.std.specs.List.{All};
 ghost use Rattle.aho_corasick.specs.ReadOut.{states_of};
-ghost use Rattle.acdraw.specs.Picture.{IsDrawn, IsPicture, drawn_of};
+ghost use Rattle.acdraw.specs.Picture.{IsDrawn, IsPicture, drawn_of, is_drawn};
 
 use aho_base::search::{PatternID, StateID};
 use aho_corasick::links::{FAIL, Matches};
 use aho_corasick::noncontiguous::NFA;
-use runs::{Run, runs_of};
+use arrows::{Arrow, arrows_of};
 use std::alloc::{AllocError, Global};
 use words::word_of;
 
 /// What is drawn of an automaton.
 #[derive(Drop)]
 pub struct Picture {
-    /// Its states by number, all but FAIL.
+    /// Its states by number, all but FAIL, and without the anchored start where that is left out.
     pub nodes: Vec<Node>,
     /// The start of searches that are not anchored.
     pub unanchored_start: StateID,
@@ -34,15 +34,15 @@ pub struct Node {
     pub listed: Vec<PatternID>,
     /// Where it leads on failure.
     pub link: StateID,
-    /// Where bytes lead, as runs of bytes that lead to one state; to FAIL as well, where they lead nowhere.
-    pub runs: Vec<Run>,
+    /// Where bytes lead: an arrow for each state that they lead to. Bytes that lead to FAIL lead nowhere.
+    pub arrows: Vec<Arrow>,
 }
 
-/// The picture of an automaton. The only error is want of memory.
-pub fn picture_of(alloc: Global, nfa: &NFA) -> Result<Picture, AllocError>
-    ensures picture { IfOk result (IsPicture nfa.now) }
+/// The picture of an automaton, with its anchored start or without it. The only error is that memory runs out.
+pub fn picture_of(alloc: Global, nfa: &NFA, anchored: bool) -> Result<Picture, AllocError>
+    ensures picture { IfOk result (IsPicture nfa.now anchored) }
 {
-    let nodes = nodes_of(alloc, nfa)?;
+    let nodes = nodes_of(alloc, nfa, anchored)?;
     let special = nfa.special();
     Ok(Picture {
         nodes,
@@ -52,20 +52,27 @@ pub fn picture_of(alloc: Global, nfa: &NFA) -> Result<Picture, AllocError>
 }
 
 /// The states that are drawn.
-fn nodes_of(alloc: Global, nfa: &NFA) -> Result<Vec<Node>, AllocError>
-    ensures states { IfOk result (λ nodes.
-        map (λ (node : Node). node.sid) nodes.items ≡ drawn_of (length (states_of nfa.now))) }
+fn nodes_of(alloc: Global, nfa: &NFA, anchored: bool) -> Result<Vec<Node>, AllocError>
+    ensures states { IfOk result (λ nodes. map (λ (node : Node). node.sid) nodes.items
+        ≡ drawn_of nfa.now anchored (length (states_of nfa.now))) }
     ensures drawn { IfOk result (λ nodes. All (IsDrawn nfa.now) nodes.items) }
 {
     let mut nodes = Vec::new(alloc);
     for index in 0..nfa.states_len() {
         let sid = StateID::new_unchecked(index);
-        if sid == FAIL {
+        if !is_drawn(nfa, anchored, sid) {
             continue;
         }
         nodes.push(node_of(alloc, nfa, sid)?)?;
     }
     Ok(nodes)
+}
+
+/// Whether a state is drawn: any but FAIL, and but the anchored start where that is left out.
+fn is_drawn(nfa: &NFA, anchored: bool, sid: StateID) -> bool
+    ensures drawn { result ≡ is_drawn nfa.now anchored sid }
+{
+    sid != FAIL && (anchored || sid != nfa.special().start_anchored_id)
 }
 
 /// What is drawn of this state.
@@ -79,7 +86,7 @@ fn node_of(alloc: Global, nfa: &NFA, sid: StateID) -> Result<Node, AllocError>
         word: word_of(alloc, nfa, sid)?,
         listed: listed_of(alloc, nfa.matches(sid))?,
         link: nfa.fail(sid),
-        runs: runs_of(alloc, nfa.transitions(sid))?,
+        arrows: arrows_of(alloc, nfa.transitions(sid))?,
     })
 }
 
@@ -94,5 +101,6 @@ fn listed_of(alloc: Global, matches: Matches<'_>) -> Result<Vec<PatternID>, Allo
     Ok(listed)
 }
 
+pub mod arrows;
 pub mod runs;
 mod words;

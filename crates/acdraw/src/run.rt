@@ -1,13 +1,13 @@
 //! A call of the program over its arguments and streams.
 
-ghost use Rattle.std.specs.Prelude.{◌≡◌, ◌≢◌, ◌≤◌, ◌⊎◌, ⊤, true, None, Some, IfOk, IfErr, OnOk};
+ghost use Rattle.std.specs.Prelude.{◌≡◌, ◌≢◌, ◌≤◌, ◌⊎◌, ⊤, true, None, Some, IfOk, IfErr, IfSome, OnOk, option_map};
 ghost use Rattle.commands.specs.Answers.{TellsFailure};
-ghost use Rattle.commands.specs.Arguments.{find_by, texts};
+ghost use Rattle.commands.specs.Arguments.{texts};
 ghost use Rattle.commands.specs.Asked.{Asked, Builds, asked_for};
 ghost use Rattle.commands.specs.Failures.{LeavesPrinting, line_of_failure, status_of_failure};
 ghost use Rattle.commands.specs.Streams.{WritesBeginning, bytes_held};
 ghost use Rattle.commands.specs.declared.failure.Failure.TheVariants.{Usage};
-ghost use Rattle.acdraw.specs.Calls.{BeginsDrawing, Draws, usage_line};
+ghost use Rattle.acdraw.specs.Calls.{BeginsDrawing, Draws, drawing_by, draws_anchored, usage_line};
 
 use crate::dot::dot_of;
 use crate::picture::picture_of;
@@ -20,7 +20,7 @@ use std::alloc::Global;
 use std::io::Write;
 
 /// What is told where the arguments are wrong.
-const USAGE: &[u8] = b"usage: acdraw KIND [-i] PATTERN..\n";
+const USAGE: &[u8] = b"usage: acdraw [-u] KIND [-i] PATTERN..\n";
 
 /// Writes the automaton that the arguments after the program's name ask for, and answers the exit status: 0 where it was
 /// written, 2 where the arguments are wrong, the automaton is refused or memory runs out, and 3 where a write fails.
@@ -34,13 +34,13 @@ pub fn run<W: Write, E: Write>(
     errors: &mut FromWrite<E>,
 ) -> u8
     // Wrong arguments are told by the usage.
-    ensures usage { find_by (texts arguments.now) ≡ None → result ≡ 2 }
-    ensures tells_usage { find_by (texts arguments.now) ≡ None
+    ensures usage { drawing_by (texts arguments.now) ≡ None → result ≡ 2 }
+    ensures tells_usage { drawing_by (texts arguments.now) ≡ None
         → WritesBeginning E.Write errors.old errors.new usage_line }
 
     // Of right arguments that a build accepts a whole text is written.
     ensures asked { result ≡ 0 → (asked : Asked)
-        × (find_by (texts arguments.now) ≡ Some asked) × Builds asked }
+        × (drawing_by (texts arguments.now) ≡ Some asked) × Builds asked }
     ensures draws { result ≡ 0 → Draws (bytes_held W.Write output.old) (bytes_held W.Write output.new) }
     ensures quiet { result ≡ 0 → errors.new ≡ errors.old }
 
@@ -48,7 +48,7 @@ pub fn run<W: Write, E: Write>(
     ensures statuses { (result ≡ 0) ⊎ (2 ≤ result) }
     ensures bound { result ≤ 3 }
     ensures unwritten { result ≡ 2 → output.new ≡ output.old }
-    ensures tells_failure { (asked : Asked) → find_by (texts arguments.now) ≡ Some asked
+    ensures tells_failure { (asked : Asked) → drawing_by (texts arguments.now) ≡ Some asked
         → 2 ≤ result → TellsFailure E.Write errors.old errors.new result
         (LeavesPrinting ⊤ (output.new ≡ output.old)
         (BeginsDrawing (bytes_held W.Write output.old) (bytes_held W.Write output.new))) }
@@ -78,30 +78,55 @@ pub fn tell<E: Write>(failure: &Failure, errors: &mut FromWrite<E>) -> u8
 
 /// Writes the automaton that the arguments ask for.
 fn answer<W: Write>(alloc: Global, arguments: &[String], output: &mut FromWrite<W>) -> Result<(), Failure>
-    ensures usage { find_by (texts arguments.now) ≡ None → result ≡ Err Usage }
-    ensures unwritten { find_by (texts arguments.now) ≡ None → output.new ≡ output.old }
+    ensures usage { drawing_by (texts arguments.now) ≡ None → result ≡ Err Usage }
+    ensures unwritten { drawing_by (texts arguments.now) ≡ None → output.new ≡ output.old }
     ensures asked { OnOk result ((asked : Asked)
-        × (find_by (texts arguments.now) ≡ Some asked) × Builds asked) }
+        × (drawing_by (texts arguments.now) ≡ Some asked) × Builds asked) }
     ensures draws { OnOk result (Draws (bytes_held W.Write output.old) (bytes_held W.Write output.new)) }
-    ensures leaves { (asked : Asked) → find_by (texts arguments.now) ≡ Some asked
+    ensures leaves { (asked : Asked) → drawing_by (texts arguments.now) ≡ Some asked
         → IfErr result (LeavesPrinting ⊤ (output.new ≡ output.old)
         (BeginsDrawing (bytes_held W.Write output.old) (bytes_held W.Write output.new))) }
 {
-    match parse_find(arguments) {
-        Some(request) => draw(alloc, &request, output),
+    match parse(arguments) {
+        Some(drawing) => draw(alloc, &drawing, output),
         None => Err(Failure::Usage),
     }
 }
 
-/// Writes the automaton that a request asks for.
-fn draw<W: Write>(alloc: Global, request: &Request<'_>, output: &mut FromWrite<W>) -> Result<(), Failure>
-    ensures builds { OnOk result (Builds (asked_for request.now)) }
+/// What is asked for.
+#[derive(Clone, Copy)]
+struct Drawing<'w> {
+    /// Whether the anchored start is drawn.
+    anchored: bool,
+    /// The automaton.
+    request: Request<'w>,
+}
+
+/// [-u] KIND [-i] PATTERN..
+fn parse(arguments: &[String]) -> Option<Drawing<'_>>
+    ensures asked { option_map (λ drawing. asked_for drawing.request) result
+        ≡ drawing_by (texts arguments.now) }
+    ensures anchored { IfSome result (λ drawing.
+        drawing.anchored ≡ draws_anchored (texts arguments.now)) }
+{
+    let (first, rest) = arguments.split_first()?;
+    let unanchored = first.as_str() == "-u";
+    let request = parse_find(if unanchored { rest } else { arguments })?;
+    Some(Drawing {
+        anchored: !unanchored,
+        request,
+    })
+}
+
+/// Writes what is asked for.
+fn draw<W: Write>(alloc: Global, drawing: &Drawing<'_>, output: &mut FromWrite<W>) -> Result<(), Failure>
+    ensures builds { OnOk result (Builds (asked_for drawing.now.request)) }
     ensures draws { OnOk result (Draws (bytes_held W.Write output.old) (bytes_held W.Write output.new)) }
     ensures leaves { IfErr result (LeavesPrinting ⊤ (output.new ≡ output.old)
         (BeginsDrawing (bytes_held W.Write output.old) (bytes_held W.Write output.new))) }
 {
-    let nfa = build(alloc, request)?;
-    let picture = picture_of(alloc, &nfa)?;
+    let nfa = build(alloc, &drawing.request)?;
+    let picture = picture_of(alloc, &nfa, drawing.anchored)?;
     let text = dot_of(alloc, &picture)?;
     write_whole(output, text.as_slice())
 }

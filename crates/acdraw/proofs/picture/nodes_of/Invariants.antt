@@ -7,6 +7,6 @@ use Rattle.acdraw.proofs.picture.nodes_of.Given as goal
 
 abbrev pub invariant-loop-index : goal.invariant-loop-index
 invariant-loop-index l = record {
-  states : map (λ (node : Node). node.sid) l.nodes.items ≡ drawn_of l.index;
+  states : map (λ (node : Node). node.sid) l.nodes.items ≡ drawn_of l.nfa l.anchored l.index;
   drawn : All (IsDrawn l.nfa) l.nodes.items;
 }
