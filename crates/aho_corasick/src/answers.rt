@@ -13,6 +13,7 @@ ghost use Rattle.aho_base.specs.Replacement.{on_boundaries, pieces_of, replaced}
 ghost use Rattle.aho_base.specs.Search.{plain_search};
 ghost use Rattle.aho_base.specs.declared.search.Anchored.TheVariants.{No};
 ghost use Rattle.aho_base.specs.declared.search.MatchKind.TheVariants.{Standard};
+ghost use Rattle.aho_search.specs.Finding.{HoldsOfFinds};
 ghost use Rattle.aho_search.specs.Reading.{ReadsEachOnce, bytes_read};
 
 use crate::noncontiguous::NFA;
@@ -175,9 +176,9 @@ fn replaced_text_of<A: Automaton>(
     requires of { (p : Patterns) × A.is_of automaton.now p }
     requires one_each { length replace_with.now ≡ length (A.lengths automaton.now) }
     requires starts { IsOk (A.start automaton.now No) }
-    ensures replaced { (p : Patterns) (ms : List Occurrence) → A.is_of automaton.now p →
-        AreFinds p (plain_search haystack.now) None ms → IfOk result (λ text. string_bytes text ≡
-        replaced haystack.now (on_boundaries haystack.now ms) (pieces_of replace_with.now)) }
+    ensures replaced { HoldsOfFinds (A.is_of automaton.now) haystack.now (λ ms.
+        IfOk result (λ text. string_bytes text ≡
+        replaced haystack.now (on_boundaries haystack.now ms) (pieces_of replace_with.now))) }
 {
     match automaton.try_replace_all(alloc, haystack, replace_with) {
         Ok(text) => Ok(text),
@@ -224,9 +225,8 @@ fn replaced_bytes_of<A: Automaton>(
     requires of { (p : Patterns) × A.is_of automaton.now p }
     requires one_each { length replace_with.now ≡ length (A.lengths automaton.now) }
     requires starts { IsOk (A.start automaton.now No) }
-    ensures replaced { (p : Patterns) (ms : List Occurrence) → A.is_of automaton.now p →
-        AreFinds p (plain_search haystack.now) None ms → IfOk result (λ bytes. vec_items bytes ≡
-        replaced haystack.now ms (pieces_of replace_with.now)) }
+    ensures replaced { HoldsOfFinds (A.is_of automaton.now) haystack.now (λ ms. IfOk result
+        (λ bytes. vec_items bytes ≡ replaced haystack.now ms (pieces_of replace_with.now))) }
 {
     match automaton.try_replace_all_bytes(alloc, haystack, replace_with) {
         Ok(bytes) => Ok(bytes),

@@ -3,7 +3,7 @@ use Rattle.std.specs.Prelude.{ℕ, Bool, not, ◌&&◌, List, [], ◌∷◌, Opt
 use Rattle.std.specs.List.{fold}
 use Rattle.aho_base.specs.Patterns.{Patterns, pattern_at}
 use Rattle.aho_prefilter.specs.FirstBytes.{cases_of, first_bytes, has_byte}
-use Rattle.aho_prefilter.specs.Prefilter.{has_empty, is_searched_whole}
+use Rattle.aho_prefilter.specs.Prefilter.{has_empty, is_searched_whole, with_word}
 use Rattle.aho_prefilter.specs.declared.prefilter.Searcher.{Searcher}
 use Rattle.aho_prefilter.specs.declared.prefilter.Searcher.TheVariants.{Memchr, Memchr2, Memchr3}
 use Rattle.aho_prefilter.specs.declared.prefilter.first_bytes.FirstBytes.{FirstBytes}
@@ -56,3 +56,7 @@ search_for_few Any = Nothing
 -- the only pattern, where it is searched for as a whole and is not empty
 abbrev pub whole_of : Patterns → Option (List ℕ)
 whole_of p = if is_searched_whole p && not (has_empty p) then Some (pattern_at p 0) else Nothing
+
+-- the same with one more pattern
+abbrev pub whole_with : Patterns → List ℕ → Option (List ℕ)
+whole_with p word = whole_of (with_word p word)

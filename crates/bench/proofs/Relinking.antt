@@ -1,22 +1,16 @@
 -- A table that is filled with what is read out, one entry after another.
-use Rattle.std.proofs.Common.{◌≡◌, ℕ, zero, suc, ◌+◌, ◌<◌, ◌≤◌, ◌*◌, cond, inl, inr, List, [], ◌∷◌, ◌++◌, length, get_or, take, refl, sym, ap, ◌∙◌, arith}
-use Rattle.std.specs.Prelude.{nat_lt, slice_set}
+use Rattle.std.proofs.Common.{◌≡◌, ℕ, zero, suc, ◌+◌, ◌<◌, ◌≤◌, ◌*◌, cond, List, [], ◌∷◌, ◌++◌, length, get_or, take, refl, sym, ap, ◌∙◌, arith}
+use Rattle.std.specs.Prelude.{slice_set}
 use Rattle.std.proofs.Math.Seq.{set-append_seam}
-use Rattle.std.proofs.lemmas.Bool.{cases_Bool, cond-true, cond-false}
 use Rattle.std.proofs.lemmas.List.{set-set, set-get_or, take_more, take_all}
 use Rattle.std.specs.List.{count_by}
 use Rattle.std.proofs.lemmas.List.Sums.{sum_by-cons}
-use Rattle.aho_base.specs.Numbers.{greatest_index}
 use Rattle.aho_base.specs.Patterns.{Patterns}
-use Rattle.aho_base.specs.declared.error.BuildError.{BuildError}
-use Rattle.aho_base.specs.declared.error.BuildError.TheVariants.{StateIDOverflow, OutOfMemory}
-use Rattle.aho_table.specs.Refusal.{refusal_at}
 use Rattle.aho_table.specs.Table.{State, Tables, IsRising, new_state, state_at, with_transition, set_transition, push_match, set_fail_of}
 use Rattle.aho_table.proofs.States.{state_at-set_same, state_at-push_new}
 use Rattle.aho_table.proofs.TransitionLists.{with_transition-more}
 use Rattle.aho_build.specs.Dense.{classes_size, dense_size, is_near}
 use Rattle.aho_build.specs.Sizes.{nodes}
-use Rattle.bench.specs.Relinked.{IsRefused}
 
 -- a list that rises is made by adding one entry after another
 with_transition-front : (transitions : List (ℕ × ℕ)) (count : ℕ) (d : ℕ × ℕ) → IsRising transitions → count < length transitions
@@ -108,14 +102,6 @@ four_changes old one two three new first second third fourth states one_is two_i
     new_is
     ∙ ap (λ (t : Tables). record t { states = fourth }) (three_is ∙ ap (λ (t : Tables). record t { states = third }) (two_is ∙ ap (λ (t : Tables). record t { states = second }) one_is))
     ∙ ap (λ (l : List State). record old { states = l }) last
-
--- the states so far, and one more
-pub states_more : (states old new : List State) (count : ℕ) → count < length states → old ≡ take count states → new ≡ old ++ state_at states count ∷ [] → new ≡ take (count + 1) states
-states_more states old new count below old_is new_is =
-    new_is ∙ ap (λ (l : List State). l ++ state_at states count ∷ []) old_is ∙ sym (take_more states count (new_state 0) below)
-
-pub states_all : (states new : List State) (count : ℕ) → length states ≤ count → new ≡ take count states → new ≡ states
-states_all states new count past is = is ∙ take_all count states past
 
 -- at depth 0 no state has a row
 no_rows : (words : List (List ℕ)) → count_by (λ word. is_near 0 (length word)) words ≡ 0

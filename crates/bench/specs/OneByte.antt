@@ -20,9 +20,9 @@ abbrev pub one_pattern : ℕ → Patterns
 one_pattern byte = record { words = (byte ∷ []) ∷ []; kind = Standard; ignore_case = false }
 
 -- the word that a state stands for
-abbrev pub word_of : ℕ → ℕ → Option (List ℕ)
-word_of byte zero = Some []
-word_of byte (suc n) = Some (byte ∷ [])
+abbrev pub word_held : ℕ → ℕ → Option (List ℕ)
+word_held byte zero = Some []
+word_held byte (suc n) = Some (byte ∷ [])
 
 -- the patterns that a state lists
 abbrev pub list_of : ℕ → List ℕ
@@ -40,15 +40,15 @@ IsHeldState Yes sid = ⊥
 
 -- the state stands for the word of the state that is held
 abbrev pub IsHeldByOne : ℕ → Patterns → Anchored → List ℕ → ℕ → Type 0
-IsHeldByOne byte p anchored word sid = HeldBy p IsHeldState (word_of byte) anchored word sid
+IsHeldByOne byte p anchored word sid = HeldBy p IsHeldState (word_held byte) anchored word sid
 
 -- the state after a byte
 abbrev pub next_of : ℕ → ℕ → ℕ
 next_of byte x = if nat_eq x byte then 1 else 0
 
 -- whether a state is the start
-abbrev pub is_first : ℕ → Bool
-is_first sid = nat_eq sid 0
+abbrev pub is_start_of_one : ℕ → Bool
+is_start_of_one sid = nat_eq sid 0
 
 -- a byte is equal to itself
 nat_eq-same : (byte : ℕ) → nat_eq byte byte ≡ true
@@ -64,7 +64,7 @@ unfolding own_matches is_kept pattern_word
 own-byte byte = rw (nat_eq-same byte) refl
 
 -- where a byte leads from the root
-state_after-byte : (byte x : ℕ) (t : Bool) → nat_eq x byte ≡ t → state_after (one_pattern byte) (x ∷ []) ≡ word_of byte (if t then 1 else 0)
+state_after-byte : (byte x : ℕ) (t : Bool) → nat_eq x byte ≡ t → state_after (one_pattern byte) (x ∷ []) ≡ word_held byte (if t then 1 else 0)
 unfolding is_node is_kept pattern_word is_cut
 state_after-byte byte x true e =
     subst (λ (n : ℕ). state_after (one_pattern byte) (n ∷ []) ≡ Some (byte ∷ [])) (sym (eqb-true x byte e)) (rw (nat_eq-same byte) refl)
@@ -76,40 +76,40 @@ unfolding is_node is_kept pattern_word is_cut
 state_after-longer byte x = rw (nat_eq-same byte) refl
 
 -- and from each state
-follow-word : (byte sid x : ℕ) → follow (one_pattern byte) No (word_of byte sid) x ≡ word_of byte (next_of byte x)
+follow-word : (byte sid x : ℕ) → follow (one_pattern byte) No (word_held byte sid) x ≡ word_held byte (next_of byte x)
 follow-word byte zero x = state_after-byte byte x (nat_eq x byte) refl
 follow-word byte (suc n) x = state_after-longer byte x ∙ state_after-byte byte x (nat_eq x byte) refl
 
 -- a state lists what its word does
-lists-word : (byte sid : ℕ) → list_of sid ≡ matches_of (one_pattern byte) (word_of byte sid)
+lists-word : (byte sid : ℕ) → list_of sid ≡ matches_of (one_pattern byte) (word_held byte sid)
 lists-word byte zero = sym (own-root byte)
 lists-word byte (suc n) = sym (ap (λ (xs : List ℕ). xs ++ own_matches (one_pattern byte) []) (own-byte byte) ∙ ap (λ (xs : List ℕ). 0 ∷ xs) (own-root byte))
 
 -- the laws at the byte's own pattern
-reads_byte : (byte : ℕ) → Reads (one_pattern byte) Standard (1 ∷ []) (IsHeldByOne byte (one_pattern byte)) list_of (λ sid. false) is_first
+reads_byte : (byte : ℕ) → Reads (one_pattern byte) Standard (1 ∷ []) (IsHeldByOne byte (one_pattern byte)) list_of (λ sid. false) is_start_of_one
 reads_byte byte =
-    reads_by_names (one_pattern byte) IsHeldState (word_of byte) Standard (1 ∷ []) list_of (λ sid. false) is_first refl refl
+    reads_by_names (one_pattern byte) IsHeldState (word_held byte) Standard (1 ∷ []) list_of (λ sid. false) is_start_of_one refl refl
     (λ anchored sid held. lists-word byte sid)
     (λ anchored sid held. alive byte sid)
     (λ sid dead. cc)
     (λ sid held first. root byte sid first)
   where
-    alive : (byte sid : ℕ) → false ≡ is_none (word_of byte sid)
+    alive : (byte sid : ℕ) → false ≡ is_none (word_held byte sid)
     alive byte zero = refl
     alive byte (suc n) = refl
 
-    root : (byte sid : ℕ) → is_first sid ≡ true → word_of byte sid ≡ Some []
-    root byte sid first = ap (word_of byte) (eqb-true sid 0 first)
+    root : (byte sid : ℕ) → is_start_of_one sid ≡ true → word_held byte sid ≡ Some []
+    root byte sid first = ap (word_held byte) (eqb-true sid 0 first)
 
 -- the laws, whatever the patterns are called
-pub reads_one : (byte : ℕ) (p : Patterns) → p ≡ one_pattern byte → Reads p Standard (1 ∷ []) (IsHeldByOne byte p) list_of (λ sid. false) is_first
-reads_one byte p of = subst (λ (q : Patterns). Reads q Standard (1 ∷ []) (IsHeldByOne byte q) list_of (λ sid. false) is_first) (sym of) (reads_byte byte)
+pub reads_one : (byte : ℕ) (p : Patterns) → p ≡ one_pattern byte → Reads p Standard (1 ∷ []) (IsHeldByOne byte p) list_of (λ sid. false) is_start_of_one
+reads_one byte p of = subst (λ (q : Patterns). Reads q Standard (1 ∷ []) (IsHeldByOne byte q) list_of (λ sid. false) is_start_of_one) (sym of) (reads_byte byte)
 
 -- a state that follows is held after one more byte
 pub held-next : (byte : ℕ) (p : Patterns) (anchored : Anchored) (word : List ℕ) (x sid next : ℕ) → p ≡ one_pattern byte → next ≡ next_of byte x → IsHeldByOne byte p anchored word sid → IsHeldByOne byte p anchored (word ++ x ∷ []) next
 held-next byte p No word x sid next of is held =
-    held_by_step p IsHeldState (word_of byte) No word x sid next held (small (nat_eq x byte) next is)
-    (ap (word_of byte) is ∙ sym (subst (λ (q : Patterns). follow q No (word_of byte sid) (folded q x) ≡ word_of byte (next_of byte x)) (sym of) (follow-word byte sid x)))
+    held_by_step p IsHeldState (word_held byte) No word x sid next held (small (nat_eq x byte) next is)
+    (ap (word_held byte) is ∙ sym (subst (λ (q : Patterns). follow q No (word_held byte sid) (folded q x) ≡ word_held byte (next_of byte x)) (sym of) (follow-word byte sid x)))
   where
     small : (t : Bool) (next : ℕ) → next ≡ (if t then 1 else 0) → next < 2
     small true next e = omega arith

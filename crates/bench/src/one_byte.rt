@@ -35,7 +35,7 @@ impl OneByte {
 impl Automaton for OneByte {
     ghost use Rattle.std.specs.Prelude.{◌≡◌, ℕ, [], ◌∷◌, ◌<◌, true, false, refl, None};
     ghost use Rattle.aho_base.specs.declared.search.MatchKind.TheVariants.{Standard};
-    ghost use Rattle.bench.specs.OneByte.{IsHeldByOne, all_special, is_first, list_of, next_of, one_pattern, reads_one, start_of_one};
+    ghost use Rattle.bench.specs.OneByte.{IsHeldByOne, all_special, is_start_of_one, list_of, next_of, one_pattern, reads_one, start_of_one};
 
     ghost is_of = { λ one p. p ≡ one_pattern one };
 
@@ -53,7 +53,7 @@ impl Automaton for OneByte {
 
     ghost special = { λ one sid. true };
 
-    ghost starts = { λ one sid. is_first sid };
+    ghost starts = { λ one sid. is_start_of_one sid };
 
     ghost depth = { λ one sid. 0 };
 

@@ -26,7 +26,7 @@ pub struct PrefilterBuilder {
 }
 
 impl PrefilterBuilder {
-    ghost use Rattle.aho_prefilter.specs.Inside.{whole_of};
+    ghost use Rattle.aho_prefilter.specs.Inside.{whole_with};
     ghost use Rattle.aho_prefilter.specs.Taken.{HasTaken};
 
     /// A builder to which no pattern was added. `ignore_case` makes an ASCII letter the same in both cases.
@@ -64,7 +64,7 @@ impl PrefilterBuilder {
     /// A copy of this pattern, where it is the first and may be searched for as a whole.
     fn copy_of_first(&self, pattern: &[u8]) -> Result<Option<Vec<u8>>, AllocError>
         ensures copied { (p : Patterns) → HasTaken self.now p → IfOk result
-            (λ copy. option_map vec_items copy ≡ whole_of (with_word p pattern.now)) }
+            (λ copy. option_map vec_items copy ≡ whole_with p pattern.now) }
         ensures wanted { (p : Patterns) → HasTaken self.now p
             → IfErr result (λ _. is_searched_whole (with_word p pattern.now) ≡ true) }
         ensures some { IfErr result (λ _. 0 < length pattern.now) }
