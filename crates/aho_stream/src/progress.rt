@@ -1,6 +1,6 @@
 //! How far a search of a stream has come: numbers, and the bytes that the buffer holds.
 
-ghost use Rattle.std.specs.Prelude.{◌≡◌, ◌+◌, ◌<◌, ◌≤◌, ◌^◌, ◌⊎◌, min, ℕ, List, Some, None, IfOk, IfErr, OnErr, length, slice_range, is_err, true, false, Err};
+ghost use Rattle.std.specs.Prelude.{◌≡◌, ◌+◌, ◌<◌, ◌≤◌, ◌^◌, ◌⊎◌, ◌||◌, min, ℕ, List, Some, None, IfOk, IfErr, OnErr, length, slice_range, is_err, true, false, Err};
 ghost use Rattle.aho_devices.specs.Counts.{counted};
 ghost use Rattle.aho_devices.specs.Buffer.{saw_end};
 ghost use Rattle.aho_devices.specs.Refusals.{is_read_fault, IsFillRefusal};
@@ -173,9 +173,10 @@ impl StreamProgress {
         requires below { self.old.refused ≡ false }
         ensures refills { Refills self.old self.new (R.remaining source.old) (R.remaining source.new) }
         ensures more { result ≡ Ok tt → (self.old.read < self.new.read) ⊎ (self.new.ended ≡ true) }
-        ensures faulty { OnErr result ((self.new.read ≡ self.old.read)
-            ⊎ (length self.new.buffer.bytes < self.new.buffer.least)) }
         ensures open { OnErr result (self.new.ended ≡ false) }
+        ensures enough { (self.new.ended || is_err result) ≡ true →
+            (self.new.read ≡ self.old.read)
+            ⊎ (length self.new.buffer.bytes < self.new.buffer.least) }
         ensures ended { R.empty_reads source.new
             ≡ counted self.new.ended (R.empty_reads source.old) }
         ensures read_failed { R.failures source.new

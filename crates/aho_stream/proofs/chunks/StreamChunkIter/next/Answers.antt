@@ -1,5 +1,5 @@
 -- What each way out lends.
-use Rattle.std.proofs.Common.{◌≡◌, ◌++◌, ◌∙◌, ◌||◌, inl, inr, true, List, ℕ, ◌≤◌, Option, Result, Some, None, Ok, Err, Bor, refl, sym, ap, subst}
+use Rattle.std.proofs.Common.{◌≡◌, ◌++◌, ◌∙◌, ◌||◌, ◌⊎◌, true, List, ℕ, ◌≤◌, Option, Result, Some, None, Ok, Err, Bor, refl, sym, ap, subst}
 use Rattle.std.specs.Prelude.{slice_range}
 use Rattle.aho_base.specs.declared.error.stream.StreamError.{StreamError}
 use Rattle.aho_base.specs.Occurrence.{Occurrence}
@@ -7,8 +7,8 @@ use Rattle.aho_base.specs.Patterns.{Patterns}
 use Rattle.aho_devices.specs.Counts.{counted}
 use Rattle.aho_devices.specs.declared.device.Source.{Ghosts as SourceGhosts}
 use Rattle.aho_search.specs.declared.automaton.Automaton.{Ghosts}
-use Rattle.aho_stream.specs.Chunks.{Tells, ends_between, match_told, piece_of, tells_error, tells_limit, tells_read_fault}
-use Rattle.aho_stream.specs.Iterators.{Advanced, HasGiven, Lends, LendsThese, automaton_of, chunk_lent, told_lent}
+use Rattle.aho_stream.specs.Chunks.{Fills, FillsNothing, Tells, ends_between, match_told, piece_of, tells_error, tells_limit, tells_read_fault}
+use Rattle.aho_stream.specs.Iterators.{Advanced, HasGiven, Lends, LendsThese, automaton_of, chunk_lent, lookups_of, told_lent}
 use Rattle.aho_stream.specs.declared.chunks.StreamChunk.{StreamChunk}
 use Rattle.aho_stream.specs.declared.chunks.StreamChunkIter.{StreamChunkIter}
 use Rattle.aho_stream.specs.declared.progress.StreamPiece.{StreamPiece}
@@ -35,7 +35,8 @@ says G S it it' told answer none is advances lent same source limit ended stays 
   advances = record {
     reads = advances.reads;
     tells = λ p given of a. subst (Tells p it.progress it'.progress (given ++ advances.reads.bytes)) is (advances.tells p given of a);
-    prompt = elim advances.prompt [ inl nothing ↦ inl (nothing.0, nothing.1, sym (ap (λ (r : Option (Result StreamPiece StreamError)). tells_error r) is) ∙ nothing.2) | inr fills ↦ inr fills ];
+    prompt = subst (λ (r : Option (Result StreamPiece StreamError)). FillsNothing it.progress it'.progress advances.reads.bytes (tells_error r)
+        ⊎ Fills G (automaton_of it) (lookups_of it) it.progress it'.progress advances.reads.bytes (tells_error r)) is advances.prompt;
   };
   lent = lent;
   same = same;
