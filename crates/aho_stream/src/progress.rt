@@ -4,7 +4,7 @@ ghost use Rattle.std.specs.Prelude.{◌≡◌, ◌+◌, ◌<◌, ◌≤◌, ◌^
 ghost use Rattle.aho_devices.specs.Counts.{counted};
 ghost use Rattle.aho_devices.specs.Buffer.{saw_end};
 ghost use Rattle.aho_devices.specs.Refusals.{is_read_fault, IsFillRefusal};
-ghost use Rattle.aho_stream.specs.After.{EndsIn};
+ghost use Rattle.aho_stream.specs.After.{EndsIn, fresh, given_on, reported_to};
 ghost use Rattle.aho_stream.specs.Chunks.{match_told};
 ghost use Rattle.aho_stream.specs.Refills.{Refills, is_limit};
 ghost use Rattle.aho_stream.specs.declared.progress.StreamPiece.TheVariants.{NonMatch};
@@ -72,21 +72,7 @@ pub struct StreamProgress {
 impl StreamProgress {
     /// Nothing was given yet.
     pub(crate) fn new(buffer: Buffer, start: StateID, limit: u64) -> StreamProgress
-        ensures made { result ≡ record {
-          buffer = buffer;
-          read = 0;
-          limit = limit;
-          from = 0;
-          told = 0;
-          reported = 0;
-          walked = 0;
-          position = 0;
-          sid = start;
-          start = start;
-          in_hand = None;
-          ended = false;
-          refused = false;
-        } }
+        ensures made { result ≡ fresh buffer start limit }
     {
         StreamProgress {
             buffer,
@@ -122,7 +108,7 @@ impl StreamProgress {
     /// Tells the bytes up to a place, where any are left before it.
     pub(crate) fn report(&mut self, end: u64) -> Option<StreamPiece>
         ensures some { self.old.reported < end → (result ≡ Some NonMatch)
-            × (self.new ≡ record self.old { told = self.old.reported; reported = end }) }
+            × (self.new ≡ reported_to self.old end) }
         ensures none { end ≤ self.old.reported → (result ≡ None) × (self.new ≡ self.old) }
     {
         if end <= self.reported {
@@ -142,14 +128,7 @@ impl StreamProgress {
           start = self.old.from + m.start;
           end = self.old.from + m.end;
         } }
-        ensures moved { self.new ≡ record self.old {
-          told = self.old.from + m.start;
-          reported = self.old.from + m.end;
-          from = self.old.from + m.end;
-          walked = self.old.from + m.end;
-          sid = self.old.start;
-          in_hand = None;
-        } }
+        ensures moved { self.new ≡ given_on self.old m }
     {
         let start = self.from + m.start() as u64;
         let end = self.from + m.end() as u64;

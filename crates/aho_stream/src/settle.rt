@@ -4,7 +4,7 @@ ghost use Rattle.std.specs.Prelude.{◌≡◌, ◌+◌, ◌*◌, ◌<◌, ◌≤
 ghost use Rattle.aho_base.specs.Laws.{Fits, better, told};
 ghost use Rattle.aho_base.specs.declared.search.Anchored.TheVariants.{No};
 ghost use Rattle.aho_base.specs.declared.search.MatchKind.TheVariants.{Standard};
-ghost use Rattle.aho_stream.specs.After.{is_settled};
+ghost use Rattle.aho_stream.specs.After.{settles};
 ghost use Rattle.aho_stream.specs.Walking.{IsHeldAt, WalksFrom};
 
 use aho_base::search::{Anchored, Match, MatchKind, StateID};
@@ -26,8 +26,7 @@ pub struct Walked {
 /// state is dead.
 pub fn is_settled<W: Walk>(walk: &W, sid: StateID, in_hand: &Option<Match>) -> bool
     requires valid { W.Of.valid (W.of walk.now) sid }
-    ensures settled { result ≡ is_settled (W.Of.kind (W.of walk.now))
-        (W.Of.dead (W.of walk.now) sid) in_hand.now }
+    ensures settled { result ≡ settles W.Of.Automaton (W.of walk.now) sid in_hand.now }
 {
     if in_hand.is_none() {
         return false;
@@ -62,8 +61,7 @@ pub fn walk_on<W: Walk>(
     sid: StateID,
     in_hand: Option<Match>,
 ) -> Walked
-    requires unsettled { is_settled (W.Of.kind (W.of walk.old))
-        (W.Of.dead (W.of walk.old) sid) in_hand ≡ false }
+    requires unsettled { settles W.Of.Automaton (W.of walk.old) sid in_hand ≡ false }
     requires valid { W.Of.valid (W.of walk.old) sid }
     requires held { IsHeldAt W.Of.Automaton (W.of walk.old) at sid }
     requires places { at + length bytes.now < 2 ^ 64 }
@@ -72,8 +70,8 @@ pub fn walk_on<W: Walk>(
     ensures walks { WalksFrom W.Of.Automaton (W.of walk.old) at sid in_hand bytes.now result }
     ensures valid { W.Of.valid (W.of walk.old) result.sid }
     ensures within { result.count ≤ length bytes.now }
-    ensures all { is_settled (W.Of.kind (W.of walk.old)) (W.Of.dead (W.of walk.old) result.sid)
-        result.found ≡ false → result.count ≡ length bytes.now }
+    ensures all { settles W.Of.Automaton (W.of walk.old) result.sid result.found ≡ false
+        → result.count ≡ length bytes.now }
     ensures same { W.of walk.new ≡ W.of walk.old }
     ensures cost { W.lookups walk.new + W.Of.depth (W.of walk.old) result.sid
         ≤ W.lookups walk.old + W.Of.depth (W.of walk.old) sid + 2 * result.count }
