@@ -125,9 +125,11 @@ module _ {S : Type 0} (A : Ghosts S) (automaton : S) where
             none = λ standard. subst (λ (x : ℕ). IsAnswer p (search_from x bytes) None) from (told.none standard);
             alive = λ leftmost place died. told.alive leftmost place (subst (λ (x : ℕ). DiesAt p bytes x place) (sym from) died);
             near = omega (arith, told.near, reported, a.least, now.least);
-            start = let (sid, is_held, is_start) = told.start in
-                (sid, subst (λ (x : ℕ). A.held automaton p No (slice_range bytes x (length bytes)) sid) from is_held,
-                λ starts none. sym reported ∙ is_start starts (subst (λ (x : ℕ). IsAnswer p (search_from x bytes) None) (sym from) none));
+            start = let (sid, is_held, is_start) = told.start in (
+              sid,
+              subst (λ (x : ℕ). A.held automaton p No (slice_range bytes x (length bytes)) sid) from is_held,
+              λ starts none. sym reported ∙ is_start starts (subst (λ (x : ℕ). IsAnswer p (search_from x bytes) None) (sym from) none),
+            );
           };
       one_fill =
           let (p, given, of, a) = some in
@@ -179,8 +181,11 @@ all_told A automaton p {kind} {lengths} {list} {dead} laws lookups s given a goi
   none = λ standard. answer_none (unsettled_none kind (dead s.sid) s.in_hand going (laws.kind_is ∙ standard));
   alive = λ leftmost. lives laws given s.from s.walked s.sid leftmost a.held_is s.in_hand going a.best_is all;
   near = omega (arith, near, a.count);
-  start = (s.sid, subst (λ (end : ℕ). A.held automaton p No (slice_range given s.from end) s.sid) all a.held_is,
-      λ is_start none. omega (arith, start (ap (λ (found : Option Occurrence). is_none found && A.starts automaton s.sid) (no_match s.in_hand a.best_is none) ∙ is_start), a.reported_walked, walked, a.count));
+  start = (
+    s.sid,
+    subst (λ (end : ℕ). A.held automaton p No (slice_range given s.from end) s.sid) all a.held_is,
+    λ is_start none. omega (arith, start (ap (λ (found : Option Occurrence). is_none found && A.starts automaton s.sid) (no_match s.in_hand a.best_is none) ∙ is_start), a.reported_walked, walked, a.count),
+  );
 }
   where
     all : s.walked ≡ length given

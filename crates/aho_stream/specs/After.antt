@@ -1,5 +1,5 @@
 -- How far an iterator over a stream has come, once these bytes were given.
-use Rattle.std.specs.Prelude.{◌≡◌, ℕ, ◌+◌, ◌*◌, ◌^◌, ◌<◌, ◌≤◌, ◌||◌, ◌&&◌, max, min, is_none, Bool, true, false, List, [], ◌++◌, Option, Some, None, length, slice_range}
+use Rattle.std.specs.Prelude.{◌≡◌, ℕ, ◌+◌, ◌-◌, ◌*◌, ◌^◌, ◌<◌, ◌≤◌, ◌||◌, ◌&&◌, max, min, is_none, MatchBool, Bool, true, false, List, [], ◌++◌, Option, Some, None, length, slice_range}
 use Rattle.aho_base.specs.Answer.{IsAnswer}
 use Rattle.aho_base.specs.Laws.{BestAfter, first_is_answer, longest, shortest}
 use Rattle.aho_base.specs.Occurrence.{Occurrence}
@@ -59,11 +59,26 @@ IsDue A automaton s = (s.ended || settles A automaton s.sid s.in_hand) ≡ true
 abbrev pub starts_over : {S : Type 0} → Ghosts S → S → StreamProgress → Bool
 starts_over A automaton s = is_none s.in_hand && A.starts automaton s.sid
 
+-- the place up to which what was walked is outside of every match: all of it, or all but as many bytes as a roll keeps
+abbrev pub IsOutside : {S : Type 0} → Ghosts S → S → StreamProgress → ℕ → Type 0
+IsOutside A automaton s end = MatchBool (starts_over A automaton s) (end ≡ s.walked) (end ≡ s.walked - s.buffer.least)
+
 -- before the first byte
 abbrev pub fresh : Buffered → ℕ → ℕ → StreamProgress
 fresh buffer start limit = record {
-  buffer = buffer; read = 0; limit = limit; from = 0; told = 0; reported = 0; walked = 0; position = 0;
-  sid = start; start = start; in_hand = None; ended = false; refused = false;
+  buffer = buffer;
+  read = 0;
+  limit = limit;
+  from = 0;
+  told = 0;
+  reported = 0;
+  walked = 0;
+  position = 0;
+  sid = start;
+  start = start;
+  in_hand = None;
+  ended = false;
+  refused = false;
 }
 
 -- bytes were reported up to a place
@@ -73,8 +88,12 @@ reported_to s end = record s { told = s.reported; reported = end }
 -- a match was given, by its places from the end of the last one: the next search begins at its end
 abbrev pub given_on : StreamProgress → Occurrence → StreamProgress
 given_on s m = record s {
-  told = s.from + m.start; reported = s.from + m.end; from = s.from + m.end; walked = s.from + m.end;
-  sid = s.start; in_hand = None;
+  told = s.from + m.start;
+  reported = s.from + m.end;
+  from = s.from + m.end;
+  walked = s.from + m.end;
+  sid = s.start;
+  in_hand = None;
 }
 
 -- the walk alone went on

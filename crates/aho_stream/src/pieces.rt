@@ -1,7 +1,7 @@
 //! The next chunk of what was read: the walk up to where it is settled, and what it tells.
 
-ghost use Rattle.std.specs.Prelude.{◌≡◌, ◌+◌, ◌≤◌, ◌-◌, None, Some, IfSome, MatchBool, true, false};
-ghost use Rattle.aho_stream.specs.After.{IsDue, IsUnderWay, IsUnsettled, OnlyWalks, StaysAfter, starts_over};
+ghost use Rattle.std.specs.Prelude.{◌≡◌, ◌+◌, ◌≤◌, None, Some, IfSome, true, false};
+ghost use Rattle.aho_stream.specs.After.{IsDue, IsOutside, IsUnderWay, IsUnsettled, OnlyWalks, StaysAfter, starts_over};
 ghost use Rattle.aho_stream.specs.Chunks.{TellsNext};
 
 use crate::progress::{StreamPiece, StreamProgress};
@@ -40,10 +40,8 @@ fn search<W: Walk>(walk: &mut W, progress: &mut StreamProgress)
 fn outside<W: Walk>(walk: &W, progress: &StreamProgress) -> u64
     requires valid { W.Of.valid (W.of walk.now) progress.now.sid }
     ensures ended { progress.now.ended ≡ true → result ≡ progress.now.read }
-    ensures open { progress.now.ended ≡ false →
-        MatchBool (starts_over W.Of.Automaton (W.of walk.now) progress.now)
-        (result ≡ progress.now.walked)
-        (result ≡ progress.now.walked - progress.now.buffer.least) }
+    ensures open { progress.now.ended ≡ false
+        → IsOutside W.Of.Automaton (W.of walk.now) progress.now result }
 {
     if progress.ended {
         return progress.read;
@@ -80,8 +78,8 @@ fn piece<W: Walk>(walk: &W, progress: &mut StreamProgress) -> Option<StreamPiece
         (W.lookups walk.now) progress.old (W.lookups walk.now) progress.new }
     ensures tells { TellsNext W.Of.Automaton (W.of walk.now)
         (W.lookups walk.now) progress.old progress.new result }
-    ensures none { result ≡ None → (progress.new ≡ progress.old)
-        × IsUnsettled W.Of.Automaton (W.of walk.now) progress.old }
+    ensures none { result ≡ None → progress.new ≡ progress.old }
+    ensures unsettled { result ≡ None → IsUnsettled W.Of.Automaton (W.of walk.now) progress.old }
     ensures near { result ≡ None
         → progress.new.walked ≤ progress.new.reported + progress.new.buffer.least }
     ensures start { result ≡ None
@@ -108,7 +106,10 @@ fn piece<W: Walk>(walk: &W, progress: &mut StreamProgress) -> Option<StreamPiece
 }
 
 /// The next chunk of what was read, by walking on where no match in hand is settled; none where more has to be read first.
-pub(crate) fn next_piece<W: Walk>(walk: &mut W, progress: &mut StreamProgress) -> Option<StreamPiece>
+pub(crate) fn next_piece<W: Walk>(
+    walk: &mut W,
+    progress: &mut StreamProgress,
+) -> Option<StreamPiece>
     requires after { IsUnderWay W.Of.Automaton (W.of walk.old) (W.lookups walk.old) progress.old }
     requires open { progress.old.refused ≡ false }
     ensures after { StaysAfter W.Of.Automaton (W.of walk.old)

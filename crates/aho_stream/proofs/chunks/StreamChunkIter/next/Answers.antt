@@ -52,16 +52,28 @@ says G S it it' told answer none is advances lent same source limit ended stays 
 
 pub returns-in-None : goal.returns-in-None
 returns-in-None g c =
-    let e = c.advance.ensures in
-    ((refl, λ x. tt, says _ _ _ _ c.advance.result None (λ n. refl) c.in-None.is e.advances (λ p given of a. tt) e.same e.same_source
-        e.limit e.ended e.stays_ended e.after_end e.after_limit e.refused e.read_failed), record { lends = tt })
+    let e = c.advance.ensures in (
+      (
+        refl,
+        λ x. tt,
+        says _ _ _ _ c.advance.result None (λ n. refl) c.in-None.is e.advances (λ p given of a. tt) e.same e.same_source
+            e.limit e.ended e.stays_ended e.after_end e.after_limit e.refused e.read_failed,
+      ),
+      record { lends = tt },
+    )
 
 pub returns-in-Some-Err : goal.returns-in-Some-Err
 returns-in-Some-Err g c =
     let e = c.advance.ensures in
-    let is : c.advance.result ≡ Some (Err c.in-Some-Err.error) = c.in-Some-Err.is ∙ ap (λ (r : Result StreamPiece StreamError). Some r) c.in-Some-Err.field-0-is in
-    ((refl, λ x. tt, says _ _ _ _ c.advance.result _ (λ n. cc) is e.advances (λ p given of a. tt) e.same e.same_source
-        e.limit e.ended e.stays_ended e.after_end e.after_limit e.refused e.read_failed), record { lends = tt })
+    let is : c.advance.result ≡ Some (Err c.in-Some-Err.error) = c.in-Some-Err.is ∙ ap (λ (r : Result StreamPiece StreamError). Some r) c.in-Some-Err.field-0-is in (
+      (
+        refl,
+        λ x. tt,
+        says _ _ _ _ c.advance.result _ (λ n. cc) is e.advances (λ p given of a. tt) e.same e.same_source
+            e.limit e.ended e.stays_ended e.after_end e.after_limit e.refused e.read_failed,
+      ),
+      record { lends = tt },
+    )
 
 pub returns-in-Some-Ok : goal.returns-in-Some-Ok
 returns-in-Some-Ok g c =
@@ -74,6 +86,12 @@ returns-in-Some-Ok g c =
     ∙ ap (λ (m : Option Occurrence). (m, slice_range (given ++ e.advances.reads.bytes) s'.told s'.reported)) c.found-self.ensures.found in
     let (p, given, of, a) = c.requires.some in
     let told : c.advance.result ≡ told_lent (Some (Ok c.lent.result)) =
-    is ∙ ap (λ (chunk : StreamPiece). Some (Ok chunk)) (sym (ap (λ (told : Option Occurrence × List ℕ). piece_of told.0) (lent p given of a) ∙ piece_of-told piece)) in
-    ((refl, λ x. tt, says _ _ _ _ c.advance.result _ (λ n. cc) told e.advances (λ p given of a. ap (λ (told : Option Occurrence × List ℕ). told.1) (lent p given of a)) e.same e.same_source
-        e.limit e.ended e.stays_ended e.after_end e.after_limit e.refused e.read_failed), record { lends = tt })
+    is ∙ ap (λ (chunk : StreamPiece). Some (Ok chunk)) (sym (ap (λ (told : Option Occurrence × List ℕ). piece_of told.0) (lent p given of a) ∙ piece_of-told piece)) in (
+      (
+        refl,
+        λ x. tt,
+        says _ _ _ _ c.advance.result _ (λ n. cc) told e.advances (λ p given of a. ap (λ (told : Option Occurrence × List ℕ). told.1) (lent p given of a)) e.same e.same_source
+            e.limit e.ended e.stays_ended e.after_end e.after_limit e.refused e.read_failed,
+      ),
+      record { lends = tt },
+    )
