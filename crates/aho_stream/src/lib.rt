@@ -8,5 +8,5 @@ pub mod impls;
 mod pieces;
 pub mod progress;
 pub mod replace;
-pub mod start;
 mod settle;
+pub mod start;
