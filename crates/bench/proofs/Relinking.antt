@@ -1,6 +1,6 @@
 -- A table that is filled with what is read out, one entry after another.
-use Rattle.std.proofs.Common.{◌≡◌, ℕ, zero, suc, ◌+◌, ◌<◌, ◌≤◌, ◌*◌, cond, List, [], ◌∷◌, ◌++◌, length, get_or, take, refl, sym, ap, ◌∙◌, arith}
-use Rattle.std.specs.Prelude.{slice_set}
+use Rattle.std.proofs.Common.{◌≡◌, ℕ, zero, suc, ◌+◌, ◌<◌, ◌≤◌, ◌*◌, cond, inl, inr, Bool, List, [], ◌∷◌, ◌++◌, length, get_or, take, refl, sym, ap, ◌∙◌, arith}
+use Rattle.std.specs.Prelude.{nat_lt, slice_set}
 use Rattle.std.proofs.Math.Seq.{set-append_seam}
 use Rattle.std.proofs.lemmas.List.{set-set, set-get_or, take_more, take_all}
 use Rattle.std.specs.List.{count_by}
@@ -95,13 +95,17 @@ state_added old one two three new sid depth fail transitions matches state place
     ∙ last-changed old second (λ r. record r { fail = fail })
     ∙ ap (λ (r : State). old ++ r ∷ []) (sym state_is)
 
--- four changes of the states are one
-pub four_changes : (old one two three new : Tables) (first second third fourth states : List State) → one ≡ record old { states = first } → two ≡ record one { states = second }
-    → three ≡ record two { states = third } → new ≡ record three { states = fourth } → fourth ≡ states → new ≡ record old { states = states }
-four_changes old one two three new first second third fourth states one_is two_is three_is new_is last =
+-- four changes of the states are one, whatever rows the first two leave
+pub four_changes : (old one two three new : Tables) (first second third fourth states : List State) (rows left : List Bool) → one ≡ record old { states = first; rows = rows }
+    → two ≡ record one { states = second; rows = left } → three ≡ record two { states = third } → new ≡ record three { states = fourth } → fourth ≡ states
+    → new ≡ record old { states = states; rows = new.rows }
+four_changes old one two three new first second third fourth states rows left one_is two_is three_is new_is last =
+    let all : new ≡ record old { states = fourth; rows = left } =
     new_is
-    ∙ ap (λ (t : Tables). record t { states = fourth }) (three_is ∙ ap (λ (t : Tables). record t { states = third }) (two_is ∙ ap (λ (t : Tables). record t { states = second }) one_is))
-    ∙ ap (λ (l : List State). record old { states = l }) last
+    ∙ ap (λ (t : Tables). record t { states = fourth }) (three_is ∙ ap (λ (t : Tables). record t { states = third }) (two_is ∙ ap (λ (t : Tables). record t { states = second; rows = left }) one_is)) in
+    all
+    ∙ ap (λ (l : List State). record old { states = l; rows = left }) last
+    ∙ ap (λ (l : List Bool). record old { states = states; rows = l }) (sym (ap (λ (t : Tables). t.rows) all))
 
 -- at depth 0 no state has a row
 no_rows : (words : List (List ℕ)) → count_by (λ word. is_near 0 (length word)) words ≡ 0

@@ -88,6 +88,7 @@ fn add_state(table: &mut Table, nfa: &NFA, sid: StateID) -> Result<(), BuildErro
     requires limit { table.old.limit ≡ greatest_index }
     ensures added { OnOk result (table.new ≡ record table.old {
       states = table.old.states ++ state_at (states_of nfa.now) sid ∷ [];
+      rows = table.new.rows;
     }) }
     ensures refused { IfErr result IsRefused }
 {
@@ -111,6 +112,7 @@ fn add_transitions(
     ensures set { OnOk result (table.new ≡ record table.old {
       states = slice_set table.old.states sid
           (record (state_at table.old.states sid) { transitions = transitions.entry });
+      rows = table.new.rows;
     }) }
     ensures refused { IfErr result IsRefused }
 {

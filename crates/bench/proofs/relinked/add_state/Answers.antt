@@ -20,5 +20,5 @@ returns-clause-added c =
     c.in_ok-added.added c.new_unchecked.result c.fail.result c.transitions.result c.matches.result state
     c.in_ok-added.ensures.number (ap (λ (t : Tables). t.states) added) (ap (λ (t : Tables). t.states) listed) (ap (λ (t : Tables). t.states) told)
     (ap (λ (t : Tables). t.states) c.set_fail.ensures.set) read in
-    four_changes c.args.table.now c.add_state.new.self c.add_transitions.new.table c.add_matches.new.table c.set_fail.new.self _ _ _ _ _ added listed told c.set_fail.ensures.set
+    four_changes c.args.table.now c.add_state.new.self c.add_transitions.new.table c.add_matches.new.table c.set_fail.new.self _ _ _ _ _ _ _ added listed told c.set_fail.ensures.set
     (sym (ap (λ (t : Tables). t.states) c.set_fail.ensures.set) ∙ states)
