@@ -11,6 +11,7 @@ mod Found
 mod StreamFinds
 mod Countings
 mod Replacings
-pub mod FindRuns
+mod FindRuns
+pub mod Collected
 mod StreamRuns
 mod Runnings
