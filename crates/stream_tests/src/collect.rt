@@ -1,10 +1,12 @@
 //! A caller of the search of a stream, with what it may promise in turn: it collects all matches.
 
-ghost use Rattle.std.specs.Iterator.{YieldsThen};
-ghost use Rattle.std.specs.Prelude.{◌≡◌, IfOk, ℕ, List, Ok, None, map, true};
+ghost use Rattle.std.specs.Prelude.{◌≡◌, IfOk, ℕ, List, None, true};
 ghost use Rattle.aho_base.specs.Iteration.{AreFinds};
 ghost use Rattle.aho_base.specs.Patterns.{Patterns};
 ghost use Rattle.aho_base.specs.Search.{plain_search};
+ghost use Rattle.aho_stream.specs.FindRuns.{FindsAlong};
+ghost use Rattle.aho_stream.specs.Finds.{FindsNext};
+ghost use Rattle.aho_stream.specs.Iterators.{automaton_of};
 ghost use Rattle.aho_stream.specs.Replacing.{SourceGave};
 
 use aho_base::error::StreamError;
@@ -42,14 +44,34 @@ fn collect_matches<'a, 'r, A: Automaton, R: Source>(
     found: &mut StreamFindIter<'a, 'r, A, R>,
 ) -> Result<Vec<Match>, StreamError>
     requires ready { ⟦<StreamFindIter<'a, 'r, A, R> as Iterator>⟧.can_next found.old }
+    requires along { (p : Patterns) → A.is_of (automaton_of found.old.chunks) p → FindsAlong R.Source
+        ⟦<StreamFindIter<'a, 'r, A, R> as Iterator>⟧.next_gives p found.old }
     ensures same_source { found.new.chunks.source.ghost_name ≡ found.old.chunks.source.ghost_name }
-    ensures drained { IfOk result (λ matches.
-        YieldsThen ⟦<StreamFindIter<'a, 'r, A, R> as Iterator>⟧.next_gives
-        found.old (map Ok matches.items) None found.new) }
+    ensures all { (p : Patterns) → A.is_of (automaton_of found.old.chunks) p → IfOk result (λ matches.
+        (given : List ℕ)
+        × SourceGave R.Source found.old.chunks.source.now found.new.chunks.source.now given true
+        × AreFinds p (plain_search given) None matches.items) }
 {
     let mut matches = Vec::new(alloc);
-    while let Some(answer) = found.next() {
-        matches.push(answer?)?;
+    loop {
+        match next_of(found) {
+            None => return Ok(matches),
+            Some(Err(error)) => return Err(error),
+            Some(Ok(m)) => {
+                let Ok(()) = matches.push(m) else {
+                    return Err(StreamError::Memory);
+                };
+            }
+        }
     }
-    Ok(matches)
+}
+
+/// The next item of the iterator.
+fn next_of<'a, 'r, A: Automaton, R: Source>(
+    found: &mut StreamFindIter<'a, 'r, A, R>,
+) -> Option<Result<Match, StreamError>>
+    requires ready { ⟦<StreamFindIter<'a, 'r, A, R> as Iterator>⟧.can_next found.old }
+    ensures gives { FindsNext A.Automaton R.Source found.old.chunks found.new.chunks result }
+{
+    found.next()
 }
