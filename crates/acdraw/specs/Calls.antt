@@ -1,9 +1,9 @@
 -- What a call of the program writes.
 use Rattle.std.specs.Prelude.{◌≡◌, ℕ, ◌++◌, List, codes, Option}
 use Rattle.std.specs.Io.KnownBytes.{Appends}
-use Rattle.commands.specs.Answers.{AppendsBeginning}
+use Rattle.aho_devices.specs.Counts.{AppendsBeginning}
 
--- the line that tells of wrong words
+-- the line that tells of wrong arguments
 abbrev pub usage_line : List ℕ
 usage_line = codes "usage: acdraw KIND [-i] PATTERN..\n"
 

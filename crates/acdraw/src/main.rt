@@ -1,7 +1,7 @@
 //! `acdraw KIND [-i] PATTERN..` writes the automaton of some patterns in the dot language: its states by their words, and how
 //! they lead to each other.
 //!
-//! The status is 0 where it was written. It is 2 where the words are wrong, the automaton is refused or memory is wanted, and
+//! The status is 0 where it was written. It is 2 where the arguments are wrong, the automaton is refused or memory runs out, and
 //! 3 where writing fails, and then a line on standard error says why.
 #![tactic(auto)]
 
@@ -10,42 +10,48 @@ mod picture;
 mod run;
 mod text;
 
-ghost use Rattle.std.specs.Prelude.{◌≡◌, ◌≤◌, map, None, IfOk, IfErr, OnErr, string_bytes};
+ghost use Rattle.std.specs.Prelude.{◌≡◌, ◌≤◌, None, IfOk, IfErr, OnErr};
 ghost use Rattle.std.specs.Process.{exit_status};
-ghost use Rattle.commands.specs.Faults.{status_of_fault};
-ghost use Rattle.commands.specs.Words.{find_by};
+ghost use Rattle.commands.specs.Failures.{status_of_failure};
+ghost use Rattle.commands.specs.Arguments.{find_by, texts};
+ghost use Rattle.commands.specs.Streams.{bytes_held};
 ghost use Rattle.acdraw.specs.Calls.{Draws};
 
-use commands::fault::Fault;
-use commands::words::words;
+use aho_devices::adapters::FromWrite;
+use commands::arguments::arguments;
+use commands::failure::Failure;
 use run::{run, tell};
 use std::alloc::Global;
 use std::io::Write;
 use std::process::ExitCode;
 
 fn main(rt: HostRuntime) -> ExitCode {
-    let words = words(&rt);
-    exit_code(rt.alloc(), words, &mut rt.stdout(), &mut rt.stderr())
+    exit_code(
+        rt.alloc(),
+        arguments(&rt),
+        &mut FromWrite::new(rt.stdout()),
+        &mut FromWrite::new(rt.stderr()),
+    )
 }
 
-/// Draws what the words ask for, or tells why there are none, and ends with the status.
+/// Draws what the arguments ask for, or tells why there are none, and ends with the status.
 fn exit_code<W: Write, E: Write>(
     alloc: Global,
-    words: Result<Vec<String>, Fault>,
-    output: &mut W,
-    errors: &mut E,
+    given: Result<Vec<String>, Failure>,
+    output: &mut FromWrite<W>,
+    errors: &mut FromWrite<E>,
 ) -> ExitCode
-    ensures faulty { IfErr words (λ fault. exit_status result ≡ status_of_fault fault) }
-    ensures unwritten { OnErr words (output.new ≡ output.old) }
-    ensures usage { IfOk words (λ words.
-        find_by (map string_bytes words.items) ≡ None → exit_status result ≡ 2) }
-    ensures draws { IfOk words (λ words.
-        exit_status result ≡ 0 → Draws (W.contents output.old) (W.contents output.new)) }
+    ensures faulty { IfErr given (λ failure. exit_status result ≡ status_of_failure failure) }
+    ensures unwritten { OnErr given (output.new ≡ output.old) }
+    ensures usage { IfOk given (λ arguments.
+        find_by (texts arguments.items) ≡ None → exit_status result ≡ 2) }
+    ensures draws { IfOk given (λ arguments.
+        exit_status result ≡ 0 → Draws (bytes_held W.Write output.old) (bytes_held W.Write output.new)) }
     ensures bound { exit_status result ≤ 3 }
 {
-    let status = match words {
-        Ok(words) => run(alloc, words.as_slice(), output, errors),
-        Err(fault) => tell(&fault, errors),
+    let status = match given {
+        Ok(arguments) => run(alloc, arguments.as_slice(), output, errors),
+        Err(failure) => tell(&failure, errors),
     };
     ExitCode::from(status)
 }

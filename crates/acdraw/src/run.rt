@@ -1,102 +1,104 @@
-//! A call of the program over its words and streams.
+//! A call of the program over its arguments and streams.
 
-ghost use Rattle.std.specs.Prelude.{◌≡◌, ◌≢◌, ◌≤◌, ◌⊎◌, ⊤, map, None, Some, IfOk, IfErr, OnOk, string_bytes};
-ghost use Rattle.commands.specs.Answers.{AppendsBeginning, TellsFault};
+ghost use Rattle.std.specs.Prelude.{◌≡◌, ◌≢◌, ◌≤◌, ◌⊎◌, ⊤, true, None, Some, IfOk, IfErr, OnOk};
+ghost use Rattle.commands.specs.Answers.{TellsFailure};
+ghost use Rattle.commands.specs.Arguments.{find_by, texts};
 ghost use Rattle.commands.specs.Asked.{Asked, Builds, asked_for};
-ghost use Rattle.commands.specs.Faults.{Leaves, line_of_fault, status_of_fault};
-ghost use Rattle.commands.specs.Words.{find_by};
-ghost use Rattle.commands.specs.declared.fault.Fault.TheVariants.{Usage};
+ghost use Rattle.commands.specs.Failures.{LeavesPrinting, line_of_failure, status_of_failure};
+ghost use Rattle.commands.specs.Streams.{WritesBeginning, bytes_held};
+ghost use Rattle.commands.specs.declared.failure.Failure.TheVariants.{Usage};
 ghost use Rattle.acdraw.specs.Calls.{BeginsDrawing, Draws, usage_line};
 
 use crate::dot::dot_of;
 use crate::picture::picture_of;
+use aho_devices::adapters::FromWrite;
 use commands::command::{Request, parse_find};
-use commands::fault::Fault;
+use commands::failure::Failure;
 use commands::print::write_whole;
 use commands::run::{build, report};
 use std::alloc::Global;
 use std::io::Write;
 
-/// What is told where the words are wrong.
+/// What is told where the arguments are wrong.
 const USAGE: &[u8] = b"usage: acdraw KIND [-i] PATTERN..\n";
 
-/// Writes the automaton that the words after the program's name ask for, and answers the exit status: 0 where it was
-/// written, 2 where the words are wrong, the automaton is refused or memory is wanted, and 3 where a write fails.
+/// Writes the automaton that the arguments after the program's name ask for, and answers the exit status: 0 where it was
+/// written, 2 where the arguments are wrong, the automaton is refused or memory runs out, and 3 where a write fails.
 ///
 /// Nothing is written before the whole text is made. Where the status is not 0, `errors` gets a line that says why; where
 /// that line cannot be written, the status is the same.
 pub fn run<W: Write, E: Write>(
     alloc: Global,
-    words: &[String],
-    output: &mut W,
-    errors: &mut E,
+    arguments: &[String],
+    output: &mut FromWrite<W>,
+    errors: &mut FromWrite<E>,
 ) -> u8
-    // Wrong words are told by the usage.
-    ensures usage { find_by (map string_bytes words.now) ≡ None → result ≡ 2 }
-    ensures tells_usage { find_by (map string_bytes words.now) ≡ None
-        → AppendsBeginning (E.contents errors.old) (E.contents errors.new) usage_line }
+    // Wrong arguments are told by the usage.
+    ensures usage { find_by (texts arguments.now) ≡ None → result ≡ 2 }
+    ensures tells_usage { find_by (texts arguments.now) ≡ None
+        → WritesBeginning E.Write errors.old errors.new usage_line }
 
-    // Of right words that a build accepts a whole text is written.
+    // Of right arguments that a build accepts a whole text is written.
     ensures asked { result ≡ 0 → (asked : Asked)
-        × (find_by (map string_bytes words.now) ≡ Some asked) × Builds asked }
-    ensures draws { result ≡ 0 → Draws (W.contents output.old) (W.contents output.new) }
+        × (find_by (texts arguments.now) ≡ Some asked) × Builds asked }
+    ensures draws { result ≡ 0 → Draws (bytes_held W.Write output.old) (bytes_held W.Write output.new) }
     ensures quiet { result ≡ 0 → errors.new ≡ errors.old }
 
-    // Any other status is that of a fault, which is told.
+    // Any other status is that of a failure, which is told.
     ensures statuses { (result ≡ 0) ⊎ (2 ≤ result) }
     ensures bound { result ≤ 3 }
     ensures unwritten { result ≡ 2 → output.new ≡ output.old }
-    ensures tells_fault { (asked : Asked) → find_by (map string_bytes words.now) ≡ Some asked
-        → 2 ≤ result → TellsFault (E.contents errors.old) (E.contents errors.new) result
-        (Leaves ⊤ (output.new ≡ output.old)
-        (BeginsDrawing (W.contents output.old) (W.contents output.new))) }
+    ensures tells_failure { (asked : Asked) → find_by (texts arguments.now) ≡ Some asked
+        → 2 ≤ result → TellsFailure E.Write errors.old errors.new result
+        (LeavesPrinting ⊤ (output.new ≡ output.old)
+        (BeginsDrawing (bytes_held W.Write output.old) (bytes_held W.Write output.new))) }
 {
-    match answer(alloc, words, output) {
+    match answer(alloc, arguments, output) {
         Ok(()) => 0,
-        Err(fault) => tell(&fault, errors),
+        Err(failure) => tell(&failure, errors),
     }
 }
 
 /// Writes why nothing was drawn as a line, and answers the exit status, whether that could be written or not.
-pub fn tell<E: Write>(fault: &Fault, errors: &mut E) -> u8
-    ensures status { result ≡ status_of_fault fault.now }
-    ensures usage { fault.now ≡ Usage
-        → AppendsBeginning (E.contents errors.old) (E.contents errors.new) usage_line }
-    ensures other { fault.now ≢ Usage
-        → AppendsBeginning (E.contents errors.old) (E.contents errors.new) (line_of_fault fault.now) }
+pub fn tell<E: Write>(failure: &Failure, errors: &mut FromWrite<E>) -> u8
+    ensures status { result ≡ status_of_failure failure.now }
+    ensures usage { failure.now ≡ Usage
+        → WritesBeginning E.Write errors.old errors.new usage_line }
+    ensures other { failure.now ≢ Usage
+        → WritesBeginning E.Write errors.old errors.new (line_of_failure failure.now) }
 {
-    match fault {
-        Fault::Usage => {
+    match failure {
+        Failure::Usage => {
             let _ = write_whole(errors, USAGE);
-            fault.status()
+            failure.status()
         }
-        _ => report(fault, errors),
+        _ => report(failure, errors),
     }
 }
 
-/// Writes the automaton that the words ask for.
-fn answer<W: Write>(alloc: Global, words: &[String], output: &mut W) -> Result<(), Fault>
-    ensures usage { find_by (map string_bytes words.now) ≡ None → result ≡ Err Usage }
-    ensures unwritten { find_by (map string_bytes words.now) ≡ None → output.new ≡ output.old }
+/// Writes the automaton that the arguments ask for.
+fn answer<W: Write>(alloc: Global, arguments: &[String], output: &mut FromWrite<W>) -> Result<(), Failure>
+    ensures usage { find_by (texts arguments.now) ≡ None → result ≡ Err Usage }
+    ensures unwritten { find_by (texts arguments.now) ≡ None → output.new ≡ output.old }
     ensures asked { OnOk result ((asked : Asked)
-        × (find_by (map string_bytes words.now) ≡ Some asked) × Builds asked) }
-    ensures draws { OnOk result (Draws (W.contents output.old) (W.contents output.new)) }
-    ensures leaves { (asked : Asked) → find_by (map string_bytes words.now) ≡ Some asked
-        → IfErr result (Leaves ⊤ (output.new ≡ output.old)
-        (BeginsDrawing (W.contents output.old) (W.contents output.new))) }
+        × (find_by (texts arguments.now) ≡ Some asked) × Builds asked) }
+    ensures draws { OnOk result (Draws (bytes_held W.Write output.old) (bytes_held W.Write output.new)) }
+    ensures leaves { (asked : Asked) → find_by (texts arguments.now) ≡ Some asked
+        → IfErr result (LeavesPrinting ⊤ (output.new ≡ output.old)
+        (BeginsDrawing (bytes_held W.Write output.old) (bytes_held W.Write output.new))) }
 {
-    match parse_find(words) {
+    match parse_find(arguments) {
         Some(request) => draw(alloc, &request, output),
-        None => Err(Fault::Usage),
+        None => Err(Failure::Usage),
     }
 }
 
 /// Writes the automaton that a request asks for.
-fn draw<W: Write>(alloc: Global, request: &Request<'_>, output: &mut W) -> Result<(), Fault>
+fn draw<W: Write>(alloc: Global, request: &Request<'_>, output: &mut FromWrite<W>) -> Result<(), Failure>
     ensures builds { OnOk result (Builds (asked_for request.now)) }
-    ensures draws { OnOk result (Draws (W.contents output.old) (W.contents output.new)) }
-    ensures leaves { IfErr result (Leaves ⊤ (output.new ≡ output.old)
-        (BeginsDrawing (W.contents output.old) (W.contents output.new))) }
+    ensures draws { OnOk result (Draws (bytes_held W.Write output.old) (bytes_held W.Write output.new)) }
+    ensures leaves { IfErr result (LeavesPrinting ⊤ (output.new ≡ output.old)
+        (BeginsDrawing (bytes_held W.Write output.old) (bytes_held W.Write output.new))) }
 {
     let nfa = build(alloc, request)?;
     let picture = picture_of(alloc, &nfa)?;

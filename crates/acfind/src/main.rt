@@ -6,18 +6,18 @@
 //! or writing fails, and then a line on standard error says why.
 #![tactic(auto)]
 
-ghost use Rattle.std.specs.Prelude.{◌≡◌, ◌<◌, ◌≤◌, map, Some, None, IfOk, IfErr, OnErr, false, is_some, string_bytes};
+ghost use Rattle.std.specs.Prelude.{◌≡◌, ◌<◌, ◌≤◌, IfOk, IfErr, OnErr, true, false, is_some};
 ghost use Rattle.std.specs.Process.{exit_status};
-ghost use Rattle.commands.specs.Answers.{AppendsBeginning, Replaces, Tells};
-ghost use Rattle.commands.specs.Asked.{Asked, Replacing};
-ghost use Rattle.commands.specs.Faults.{status_of_fault, line_of_fault};
-ghost use Rattle.commands.specs.Words.{AreWrong, asked_by, replacing_by};
+ghost use Rattle.commands.specs.Answers.{BeginsLine, PrintsIfDone, WritesIfDone};
+ghost use Rattle.commands.specs.Arguments.{IfGivenAsked, IfGivenReplacing, IfGivenWrong, replacing_by, texts};
+ghost use Rattle.commands.specs.Failures.{HasStatus};
+ghost use Rattle.commands.specs.Streams.{contents, Unread, Unwritten};
 
+use aho_devices::adapters::{FromRead, FromWrite};
+use commands::arguments::arguments;
 use commands::command::parse_replace;
-use commands::devices::{ReadSource, WriteSink};
-use commands::fault::Fault;
+use commands::failure::Failure;
 use commands::run::{report, run};
-use commands::words::words;
 use std::alloc::Global;
 use std::io;
 use std::io::{BufWriter, LineWriter, Read, Write};
@@ -27,88 +27,82 @@ use std::process::ExitCode;
 const OUTPUT_CAPACITY: usize = 64 * 1024;
 
 fn main(rt: HostRuntime) -> ExitCode {
-    let words = words(&rt);
+    let given = arguments(&rt);
     let (alloc, output) = (rt.alloc(), rt.stdout());
-    if shows_lines(&words) {
+    if shows_lines(&given) {
         exit_over(
             &rt,
-            words,
+            given,
             LineWriter::with_capacity(alloc, OUTPUT_CAPACITY, output),
         )
     } else {
         exit_over(
             &rt,
-            words,
+            given,
             BufWriter::with_capacity(alloc, OUTPUT_CAPACITY, output),
         )
     }
 }
 
-/// Runs on the words over the process's own streams, where there is memory for what keeps its output.
+/// Runs on the arguments over the process's own streams, where there is memory for what keeps its output.
 fn exit_over<W: Write + Drop>(
     rt: &HostRuntime,
-    words: Result<Vec<String>, Fault>,
+    given: Result<Vec<String>, Failure>,
     output: io::Result<W>,
 ) -> ExitCode {
-    let mut errors = rt.stderr();
+    let mut errors = FromWrite::new(rt.stderr());
     match output {
         Ok(output) => exit_code(
             rt.alloc(),
-            words,
-            &mut ReadSource::new(rt.stdin()),
-            &mut WriteSink::new(output),
+            given,
+            &mut FromRead::new(rt.stdin()),
+            &mut FromWrite::new(output),
             &mut errors,
         ),
-        Err(_) => ExitCode::from(report(&Fault::OutOfMemory, &mut errors)),
+        Err(_) => ExitCode::from(report(&Failure::OutOfMemory, &mut errors)),
     }
 }
 
 /// Whether each line of the output is to be seen soon, since the input may have no end.
-fn shows_lines(words: &Result<Vec<String>, Fault>) -> bool
-    ensures replaces { IfOk words.now (λ words.
-        result ≡ is_some (replacing_by (map string_bytes words.items))) }
-    ensures faulty { OnErr words.now (result ≡ false) }
+fn shows_lines(given: &Result<Vec<String>, Failure>) -> bool
+    ensures replaces { IfOk given.now (λ arguments.
+        result ≡ is_some (replacing_by (texts arguments.items))) }
+    ensures faulty { OnErr given.now (result ≡ false) }
 {
-    match words {
-        Ok(words) => parse_replace(words.as_slice()).is_some(),
+    match given {
+        Ok(arguments) => parse_replace(arguments.as_slice()).is_some(),
         Err(_) => false,
     }
 }
 
-/// Runs on the words, or tells why there are none, and ends with the status.
+/// Runs on the arguments, or tells why there are none, and ends with the status.
 fn exit_code<R: Read, W: Write, E: Write>(
     alloc: Global,
-    words: Result<Vec<String>, Fault>,
-    input: &mut ReadSource<R>,
-    output: &mut WriteSink<W>,
-    errors: &mut E,
+    given: Result<Vec<String>, Failure>,
+    input: &mut FromRead<R>,
+    output: &mut FromWrite<W>,
+    errors: &mut FromWrite<E>,
 ) -> ExitCode
-    // Where there are no words, the fault is told and nothing else is done.
-    ensures faulty { IfErr words (λ fault. exit_status result ≡ status_of_fault fault) }
-    ensures told { IfErr words (λ fault.
-        AppendsBeginning (E.contents errors.old) (E.contents errors.new) (line_of_fault fault)) }
-    ensures unread { OnErr words (input.new.reader ≡ input.old.reader) }
-    ensures unwritten { OnErr words (output.new.writer ≡ output.old.writer) }
+    // Where there are no arguments, the failure is told and nothing else is done.
+    ensures faulty { IfErr given (HasStatus (exit_status result)) }
+    ensures told { IfErr given (BeginsLine E.Write errors.old errors.new) }
+    ensures unread { OnErr given (Unread input.old input.new) }
+    ensures unwritten { OnErr given (Unwritten output.old output.new) }
 
-    // Where there are words, the status is that of the run.
-    ensures usage { IfOk words (λ words.
-        AreWrong (map string_bytes words.items) → exit_status result ≡ 2) }
-    ensures tells { IfOk words (λ words. (asked : Asked)
-        → asked_by (map string_bytes words.items) ≡ Some asked → exit_status result < 2
-        → Tells asked (R.remaining input.old.reader) (R.remaining input.new.reader)
-        (W.contents output.old.writer) (W.contents output.new.writer) (exit_status result)) }
-    ensures replaces { IfOk words (λ words. (asked : Replacing)
-        → replacing_by (map string_bytes words.items) ≡ Some asked → exit_status result ≡ 0
-        → Replaces asked (R.remaining input.old.reader) (R.remaining input.new.reader)
-        (W.contents output.old.writer) (W.contents output.new.writer)) }
-    ensures no_status_1 { IfOk words (λ words. (asked : Replacing)
-        → replacing_by (map string_bytes words.items) ≡ Some asked → exit_status result < 2
-        → exit_status result ≡ 0) }
+    // Where there are arguments, the status is that of the run.
+    ensures usage { IfGivenWrong given (exit_status result ≡ 2) }
+    ensures prints { IfGivenAsked given (PrintsIfDone
+        (contents W.Write input.old input.new output.old output.new) (exit_status result)) }
+    ensures replaces { IfGivenReplacing given (WritesIfDone
+        (contents W.Write input.old input.new output.old output.new) (exit_status result)) }
+    ensures no_status_1 { IfGivenReplacing given (λ _.
+        exit_status result < 2 → exit_status result ≡ 0) }
+    ensures flushed { exit_status result < 2 → output.new.device.flushed ≡ true }
     ensures bound { exit_status result ≤ 3 }
 {
-    let status = match words {
-        Ok(words) => run(alloc, words.as_slice(), input, output, errors),
-        Err(fault) => report(&fault, errors),
+    let status = match given {
+        Ok(arguments) => run(alloc, arguments.as_slice(), input, output, errors),
+        Err(failure) => report(&failure, errors),
     };
     ExitCode::from(status)
 }

@@ -1,15 +1,15 @@
-//! The words and the status that a process ends with. Each message names its case.
+//! The arguments and the status that a process ends with. Each message names its case.
 
 use super::*;
 use std::alloc::Alloc;
 use std::env::{Env, FillError};
 use std::test::Fail;
 
-/// The words of a call, the program's name first.
+/// The arguments of a call, the program's name first.
 #[derive(Drop)]
 struct Call<'c, 'w> {
     alloc: Global,
-    words: &'c [&'w [u8]],
+    arguments: &'c [&'w [u8]],
 }
 
 impl Alloc for Call<'_, '_> {
@@ -22,15 +22,15 @@ impl Alloc for Call<'_, '_> {
 
 impl Env for Call<'_, '_> {
     fn arg(&self, i: usize, buf: &mut [u8]) -> Result<usize, FillError> {
-        if i >= self.words.len() {
+        if i >= self.arguments.len() {
             return Err(FillError::NotPresent);
         }
-        let word = self.words[i];
-        if buf.len() < word.len() {
+        let argument = self.arguments[i];
+        if buf.len() < argument.len() {
             return Err(FillError::TooLong);
         }
-        buf[..word.len()].copy_from_slice(word);
-        Ok(word.len())
+        buf[..argument.len()].copy_from_slice(argument);
+        Ok(argument.len())
     }
 
     fn var(&self, _name: &str, _buf: &mut [u8]) -> Result<usize, FillError> {
@@ -43,7 +43,7 @@ impl Env for Call<'_, '_> {
 }
 
 #[test]
-fn ends_with_the_status_of_the_words(rt: HostRuntime) -> Result<(), Fail> {
+fn ends_with_the_status_of_the_arguments(rt: HostRuntime) -> Result<(), Fail> {
     let usage = "usage: acfind find KIND [-i] PATTERN.. | overlap PATTERN.. | replace P R ..\n";
     let rows: [(&[&[u8]], u8, &str, &str); 7] = [
         (
@@ -67,17 +67,17 @@ fn ends_with_the_status_of_the_words(rt: HostRuntime) -> Result<(), Fail> {
     for (given, status, printed, told) in rows {
         let call = Call {
             alloc: rt.alloc(),
-            words: given,
+            arguments: given,
         };
         let mut input: &[u8] = b"b";
         let mut output = Vec::new(rt.alloc());
         let mut errors = Vec::new(rt.alloc());
         let code = exit_code(
             rt.alloc(),
-            words(&call),
-            &mut ReadSource::new(&mut input),
-            &mut WriteSink::new(&mut output),
-            &mut errors,
+            arguments(&call),
+            &mut FromRead::new(&mut input),
+            &mut FromWrite::new(&mut output),
+            &mut FromWrite::new(&mut errors),
         );
         assert_eq!(rt; code, ExitCode::from(status), "{given:?}");
         assert_eq!(rt; output.as_slice(), printed.as_bytes(), "{given:?}");

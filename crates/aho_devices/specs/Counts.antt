@@ -1,5 +1,5 @@
 -- How a device counts its calls, and what a call moves.
-use Rattle.std.specs.Prelude.{ℕ, ◌+◌, ◌%◌, ◌^◌, ◌≤◌, ◌&&◌, ◌==◌, Bool, false, not, List, Option, Result, Ok, Err, length, take, if◌then◌else◌}
+use Rattle.std.specs.Prelude.{ℕ, ◌+◌, ◌%◌, ◌^◌, ◌≤◌, ◌<◌, ◌≡◌, ◌&&◌, ◌==◌, Bool, false, not, List, Option, Result, Ok, Err, length, take, if◌then◌else◌}
 use Rattle.std.specs.Io.KnownBytes.{Appends}
 
 -- a count that wraps at 2^64, after a call that raises it or not
@@ -24,3 +24,7 @@ is_empty_write (Err fault) piece = false
 -- a beginning of the piece was taken after what was taken before
 abbrev pub AppendsBeginning : Option (List ℕ) → Option (List ℕ) → List ℕ → Type 0
 AppendsBeginning old new piece = (count : ℕ) × (count ≤ length piece) × Appends old new (take count piece)
+
+-- a source asks its reader: no read before gave nothing, and there is room
+abbrev pub Asks : ℕ → List ℕ → Type 0
+Asks empty_reads buf = (empty_reads ≡ 0) × (0 < length buf)

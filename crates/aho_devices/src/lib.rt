@@ -3,5 +3,7 @@
 
 pub mod adapters;
 pub mod buffer;
+pub mod calls;
 pub mod device;
+pub mod impls;
 pub mod write;

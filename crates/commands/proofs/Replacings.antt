@@ -8,19 +8,20 @@ use Rattle.std.proofs.Math.Seq.{take-length}
 use Rattle.aho_base.specs.Iteration.{AreFinds}
 use Rattle.aho_base.specs.Patterns.{Patterns}
 use Rattle.aho_base.specs.Replacement.{replaced}
-use Rattle.aho_stream.specs.Replacing.{Begins as StreamBegins, Replaces as StreamReplaces, ReplacesUpTo}
-use Rattle.commands.specs.Answers.{BeginsReplacing, Replaces, ReplacesMost}
+use Rattle.aho_stream.specs.Replacing.{Begins, Replaces, ReplacesUpTo}
+use Rattle.commands.specs.Answers.{BeginsReplacement, WritesMost, WritesReplacement}
+use Rattle.commands.specs.Streams.{Contents}
 use Rattle.aho_base.specs.declared.error.stream.StreamError.{StreamError}
 use Rattle.aho_base.specs.declared.error.stream.StreamError.TheVariants.{Match, Read, Write, WriteZero, Memory, PositionLimit}
 use Rattle.aho_base.specs.Search.{plain_search}
 use Rattle.aho_laws.proofs.Iterations.{finds-exist, finds-unique}
-use Rattle.aho_devices.specs.Refusals.{IsFillRefusal}
+use Rattle.aho_devices.specs.Refusals.{IsFillRefusal, IsWriteRefusal}
 use Rattle.aho_stream.specs.After.{kept_for}
 use Rattle.aho_stream.specs.Replacing.{IsMakingRefusal}
-use Rattle.commands.specs.Asked.{Replacing, patterns_of_replacing}
-use Rattle.commands.specs.Faults.{IsOfWrite, LeavesReplacing, fault_of_stream}
-use Rattle.commands.specs.declared.fault.Fault.{Fault}
-use Rattle.commands.specs.declared.fault.Fault.TheVariants.{Usage, Build, Search, OutOfMemory, PositionLimit as LimitMet, Read as ReadFailed, Write as WriteFailed, WriteZero as TookNothing}
+use Rattle.commands.specs.Asked.{Replacing, patterns_to_replace}
+use Rattle.commands.specs.Failures.{IsOfWrite, LeavesReplacing, failure_of_stream}
+use Rattle.commands.specs.declared.failure.Failure.{Failure}
+use Rattle.commands.specs.declared.failure.Failure.TheVariants.{Usage, Build, Search, OutOfMemory, PositionLimit as LimitMet, Read as ReadFailed, Write as WriteFailed, WriteZero as TookNothing}
 
 -- known bytes are at their end where they can only be none
 pub at_end : (known : Option (List ℕ)) → ((bytes : List ℕ) → known ≡ Some bytes → bytes ≡ []) → IsAtEnd known
@@ -28,7 +29,7 @@ at_end None none = tt
 at_end (Some bytes) none = none bytes refl
 
 -- what was refused before the stream was begun leaves all untouched
-pub leaves_stream : {untouched begun most : Type 0} (error : StreamError) → (IsMakingRefusal error → untouched) → begun → (IsFillRefusal error → most) → LeavesReplacing untouched begun most (fault_of_stream error)
+pub leaves_stream : {untouched begun most : Type 0} (error : StreamError) → (IsMakingRefusal error → untouched) → begun → (IsFillRefusal error → most) → LeavesReplacing untouched begun most (failure_of_stream error)
 leaves_stream (Match cause) same some near = same tt
 leaves_stream (Read fault) same some near = (some, near tt)
 leaves_stream (Write fault) same some near = some
@@ -36,20 +37,20 @@ leaves_stream WriteZero same some near = some
 leaves_stream Memory same some near = same tt
 leaves_stream PositionLimit same some near = (some, near tt)
 
-module _ (IsOf : Patterns → Type 0) (asked : Replacing) (of : IsOf (patterns_of_replacing asked)) {before after old new : Option (List ℕ)} (reads' : ℕ) (ends : reads' ≢ 0 → IsAtEnd after) where
-  pub replaces_asked : StreamReplaces IsOf asked.pieces before after 0 reads' old new → Replaces asked before after old new
+module _ (IsOf : Patterns → Type 0) (asked : Replacing) (of : IsOf (patterns_to_replace asked)) {before after old new : Option (List ℕ)} (reads' : ℕ) (ends : reads' ≢ 0 → IsAtEnd after) where
+  pub replaces_asked : Replaces IsOf asked.pieces before after 0 reads' old new → WritesReplacement (record { left_before = before; left_after = after; held_before = old; held_after = new }) asked
   replaces_asked whole =
-      let exist = finds-exist (patterns_of_replacing asked) (plain_search whole.given) None (le_refl (length whole.given)) in
+      let exist = finds-exist (patterns_to_replace asked) (plain_search whole.given) None (le_refl (length whole.given)) in
       record {
         text = whole.given;
         read = whole.gives.bytes;
         ended = ends (λ none. cc);
         matches = exist.0;
         found = exist.1;
-        written = whole.writes (patterns_of_replacing asked) exist.0 of exist.1;
+        written = whole.writes (patterns_to_replace asked) exist.0 of exist.1;
       }
 
-  pub begins_asked : StreamBegins IsOf asked.pieces before after 0 reads' old new → BeginsReplacing asked before after old new
+  pub begins_asked : Begins IsOf asked.pieces before after 0 reads' old new → BeginsReplacement (record { left_before = before; left_after = after; held_before = old; held_after = new }) asked
   begins_asked begun = record {
     text = begun.given;
     read = begun.gives.bytes;
@@ -57,12 +58,12 @@ module _ (IsOf : Patterns → Type 0) (asked : Replacing) (of : IsOf (patterns_o
     at_end = λ is. ends (λ none. cc);
     written = begun.written;
     grown = begun.writes;
-    beginning = λ bytes ms may finds. begun.beginning (patterns_of_replacing asked) bytes ms of may finds;
+    beginning = λ bytes ms may finds. begun.beginning (patterns_to_replace asked) bytes ms of may finds;
   }
 
 -- the replacement up to a place is that of the patterns asked for
-pub most_asked : (IsOf : Patterns → Type 0) (asked : Replacing) → IsOf (patterns_of_replacing asked) → {before after old new : Option (List ℕ)} (lengths : List ℕ) (reads' : ℕ) → lengths ≡ map length asked.words
-    → (reads' ≢ 0 → IsAtEnd after) → ReplacesUpTo IsOf asked.pieces before after 0 reads' old new (kept_for lengths) → ReplacesMost asked before after old new
+pub most_asked : (IsOf : Patterns → Type 0) (asked : Replacing) → IsOf (patterns_to_replace asked) → {before after old new : Option (List ℕ)} (lengths : List ℕ) (reads' : ℕ) → lengths ≡ map length asked.words
+    → (reads' ≢ 0 → IsAtEnd after) → ReplacesUpTo IsOf asked.pieces before after 0 reads' old new (kept_for lengths) → WritesMost (record { left_before = before; left_after = after; held_before = old; held_after = new }) asked
 most_asked IsOf asked of lengths reads' same ends up = record {
   text = up.given;
   read = up.gives.bytes;
@@ -71,7 +72,7 @@ most_asked IsOf asked of lengths reads' same ends up = record {
   place = up.place;
   within = up.within;
   near = subst (λ l. length up.given ≤ up.place + kept_for l) same up.near;
-  written = λ bytes ms may finds. up.writes (patterns_of_replacing asked) bytes ms of may finds;
+  written = λ bytes ms may finds. up.writes (patterns_to_replace asked) bytes ms of may finds;
 }
 
 -- what holds anyway holds at Ok
@@ -80,18 +81,18 @@ ok_given (Ok x) given = given
 ok_given (Err error) given = tt
 
 -- a flush keeps what was written
-pub replaces_kept : {asked : Replacing} {before after old mid new : Option (List ℕ)} → Replaces asked before after old mid → Keeps mid new → Replaces asked before after old new
-replaces_kept {old = old} {mid = mid} {new = new} whole kept = record {
+pub replaces_kept : {asked : Replacing} (bytes : Contents) {kept_after : Option (List ℕ)} → WritesReplacement bytes asked → Keeps bytes.held_after kept_after → WritesReplacement (record bytes { held_after = kept_after }) asked
+replaces_kept bytes {kept_after = new} whole kept = record {
   text = whole.text;
   read = whole.read;
   ended = whole.ended;
   matches = whole.matches;
   found = whole.found;
-  written = Appends-kept old mid new _ whole.written kept;
+  written = Appends-kept bytes.held_before bytes.held_after new _ whole.written kept;
 }
 
 -- the whole is a beginning
-pub begins_whole : {asked : Replacing} {before after old new : Option (List ℕ)} → Replaces asked before after old new → BeginsReplacing asked before after old new
+pub begins_whole : {asked : Replacing} {bytes : Contents} → WritesReplacement bytes asked → BeginsReplacement bytes asked
 begins_whole {asked} whole = record {
   text = whole.text;
   read = whole.read;
@@ -101,14 +102,23 @@ begins_whole {asked} whole = record {
   grown = whole.written;
   beginning = λ bytes ms may finds.
       let same : bytes ≡ whole.text = may.1 ∙ ap (λ more. whole.text ++ more) may.2 ∙ append-nil whole.text in
-      let found : AreFinds (patterns_of_replacing asked) (plain_search whole.text) None ms = subst (λ given. AreFinds (patterns_of_replacing asked) (plain_search given) None ms) same finds in
+      let found : AreFinds (patterns_to_replace asked) (plain_search whole.text) None ms = subst (λ given. AreFinds (patterns_to_replace asked) (plain_search given) None ms) same finds in
       let equal : replaced whole.text whole.matches asked.pieces ≡ replaced bytes ms asked.pieces =
       ap (λ l. replaced whole.text l asked.pieces) (finds-unique _ _ _ _ _ whole.found found) ∙ ap (λ given. replaced given ms asked.pieces) (sym same) in
       subst (StartsWith (replaced bytes ms asked.pieces)) (sym equal) (take-length (replaced bytes ms asked.pieces));
 }
 
--- a write's fault leaves what was begun
-pub leaves_write : (untouched most : Type 0) {begun : Type 0} (fault : Fault) → IsOfWrite fault → begun → LeavesReplacing untouched begun most fault
+-- the failure of a sink's error is that of a write
+pub of_sink : (error : StreamError) → IsWriteRefusal error → IsOfWrite (failure_of_stream error)
+of_sink (Match cause) of = absurd of
+of_sink (Read fault) of = absurd of
+of_sink (Write fault) of = tt
+of_sink WriteZero of = tt
+of_sink Memory of = absurd of
+of_sink PositionLimit of = absurd of
+
+-- a write's failure leaves what was begun
+pub leaves_write : (untouched most : Type 0) {begun : Type 0} (failure : Failure) → IsOfWrite failure → begun → LeavesReplacing untouched begun most failure
 leaves_write untouched most Usage of some = absurd of
 leaves_write untouched most (Build error) of some = absurd of.0
 leaves_write untouched most (Search error) of some = absurd of

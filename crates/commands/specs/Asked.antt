@@ -15,7 +15,7 @@ pub record Asked : Type 0 where
   pub task : Task
   pub words : List (List ℕ)
 
--- each word's bytes are a pattern
+-- each argument's bytes are a pattern
 abbrev pub asked_for : Request → Asked
 asked_for request = record { task = request.task; words = map string_bytes request.patterns.now }
 
@@ -28,8 +28,8 @@ abbrev pub ignores_case : Task → Bool
 ignores_case (Find kind ignore_case) = ignore_case
 ignores_case Overlap = false
 
-abbrev pub patterns_of : Asked → Patterns
-patterns_of asked = record { words = asked.words; kind = kind_of asked.task; ignore_case = ignores_case asked.task }
+abbrev pub asked_patterns : Asked → Patterns
+asked_patterns asked = record { words = asked.words; kind = kind_of asked.task; ignore_case = ignores_case asked.task }
 
 -- their kind and case rule; all else is as a new builder has it
 abbrev pub settings_for : Task → Settings
@@ -37,14 +37,14 @@ settings_for task = record default_settings { kind = kind_of task; ignore_case =
 
 -- nothing that is asked for is refused by the build
 abbrev pub Builds : Asked → Type 0
-Builds asked = cause (settings_for asked.task) (patterns_of asked) ≡ None
+Builds asked = cause (settings_for asked.task) (asked_patterns asked) ≡ None
 
 -- patterns, and for each the piece that is written in the place of its matches
 pub record Replacing : Type 0 where
   pub words : List (List ℕ)
   pub pieces : List (List ℕ)
 
--- the words at even places, the first of which is 0, and those at odd places
+-- the arguments at even places, the first of which is 0, and those at odd places
 abbrev pub at_even : List (List ℕ) → List (List ℕ)
 at_even [] = []
 at_even (word ∷ []) = word ∷ []
@@ -60,9 +60,9 @@ abbrev pub replacing_for : List (List ℕ) → Replacing
 replacing_for words = record { words = at_even words; pieces = at_odd words }
 
 -- replacement is that of the kind `Standard`, and of letters as they are
-abbrev pub patterns_of_replacing : Replacing → Patterns
-patterns_of_replacing asked = record { words = asked.words; kind = Standard; ignore_case = false }
+abbrev pub patterns_to_replace : Replacing → Patterns
+patterns_to_replace asked = record { words = asked.words; kind = Standard; ignore_case = false }
 
 -- no pattern is refused by the build
 abbrev pub BuildsReplacing : Replacing → Type 0
-BuildsReplacing asked = cause default_settings (patterns_of_replacing asked) ≡ None
+BuildsReplacing asked = cause default_settings (patterns_to_replace asked) ≡ None

@@ -1,4 +1,5 @@
 pub mod Asked
-pub mod Faults
+pub mod Failures
+pub mod Streams
 pub mod Answers
-pub mod Words
+pub mod Arguments

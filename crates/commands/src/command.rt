@@ -1,8 +1,8 @@
-//! What the words of a call ask for.
+//! What the arguments of a call ask for.
 
-ghost use Rattle.std.specs.Prelude.{◌≡◌, ◌%◌, IfSome, length, map, option_map, string_bytes};
+ghost use Rattle.std.specs.Prelude.{◌≡◌, ◌%◌, IfSome, length, option_map};
 ghost use Rattle.commands.specs.Asked.{asked_for, ignores_case, kind_of, replacing_for};
-ghost use Rattle.commands.specs.Words.{kind_by, patterns_by, cased_by, find_by, asked_by, replacing_by};
+ghost use Rattle.commands.specs.Arguments.{kind_by, patterns_by, cased_by, find_by, asked_by, replacing_by, texts};
 
 use aho_base::search::MatchKind;
 
@@ -51,11 +51,11 @@ pub struct Request<'w> {
     pub patterns: &'w [String],
 }
 
-/// Which matches the words after the program's name ask to print: none where they ask for something else, or are wrong.
-pub fn parse(words: &[String]) -> Option<Request<'_>>
-    ensures asked { option_map asked_for result ≡ asked_by (map string_bytes words.now) }
+/// Which matches the arguments after the program's name ask to print: none where they ask for something else, or are wrong.
+pub fn parse(arguments: &[String]) -> Option<Request<'_>>
+    ensures asked { option_map asked_for result ≡ asked_by (texts arguments.now) }
 {
-    let (command, rest) = words.split_first()?;
+    let (command, rest) = arguments.split_first()?;
     match command.as_str() {
         "find" => parse_find(rest),
         "overlap" => parse_patterns(Task::Overlap, rest),
@@ -63,11 +63,11 @@ pub fn parse(words: &[String]) -> Option<Request<'_>>
     }
 }
 
-/// KIND [-i] PATTERN..: what is behind `find`, and all the words of `acdraw`.
-pub fn parse_find(words: &[String]) -> Option<Request<'_>>
-    ensures asked { option_map asked_for result ≡ find_by (map string_bytes words.now) }
+/// KIND [-i] PATTERN..: what is behind `find`, and all the arguments of `acdraw`.
+pub fn parse_find(arguments: &[String]) -> Option<Request<'_>>
+    ensures asked { option_map asked_for result ≡ find_by (texts arguments.now) }
 {
-    let (word, rest) = words.split_first()?;
+    let (word, rest) = arguments.split_first()?;
     let kind = parse_kind(word.as_str())?;
     parse_cased(kind, rest)
 }
@@ -84,37 +84,37 @@ fn parse_kind(word: &str) -> Option<MatchKind>
 }
 
 /// [-i] PATTERN..
-fn parse_cased(kind: MatchKind, words: &[String]) -> Option<Request<'_>>
-    ensures asked { option_map asked_for result ≡ cased_by kind (map string_bytes words.now) }
+fn parse_cased(kind: MatchKind, arguments: &[String]) -> Option<Request<'_>>
+    ensures asked { option_map asked_for result ≡ cased_by kind (texts arguments.now) }
 {
-    let (word, rest) = words.split_first()?;
+    let (word, rest) = arguments.split_first()?;
     let ignore_case = word.as_str() == "-i";
     let task = Task::Find { kind, ignore_case };
-    parse_patterns(task, if ignore_case { rest } else { words })
+    parse_patterns(task, if ignore_case { rest } else { arguments })
 }
 
 /// PATTERN..
-fn parse_patterns(task: Task, words: &[String]) -> Option<Request<'_>>
+fn parse_patterns(task: Task, arguments: &[String]) -> Option<Request<'_>>
     ensures asked { option_map asked_for result
-        ≡ patterns_by task (map string_bytes words.now) }
+        ≡ patterns_by task (texts arguments.now) }
 {
-    if words.is_empty() {
+    if arguments.is_empty() {
         return None;
     }
     Some(Request {
         task,
-        patterns: words,
+        patterns: arguments,
     })
 }
 
-/// The patterns that the words after the program's name ask to replace, each followed by what is written in its place: none
+/// The patterns that the arguments after the program's name ask to replace, each followed by what is written in its place: none
 /// where they ask for something else, or are wrong.
-pub fn parse_replace(words: &[String]) -> Option<&[String]>
-    ensures asked { option_map (λ pairs. replacing_for (map string_bytes pairs.now)) result
-        ≡ replacing_by (map string_bytes words.now) }
+pub fn parse_replace(arguments: &[String]) -> Option<&[String]>
+    ensures asked { option_map (λ pairs. replacing_for (texts pairs.now)) result
+        ≡ replacing_by (texts arguments.now) }
     ensures even { IfSome result (λ pairs. length pairs.now % 2 ≡ 0) }
 {
-    let (command, pairs) = words.split_first()?;
+    let (command, pairs) = arguments.split_first()?;
     if command.as_str() != "replace" || pairs.is_empty() || pairs.len() % 2 != 0 {
         return None;
     }

@@ -2,17 +2,18 @@
 
 ghost use Rattle.std.specs.Iterator.{IsFinite};
 ghost use Rattle.std.specs.Iterator.Runs.{SomeRun, WholeRun};
-ghost use Rattle.std.specs.Prelude.{◌≢◌, ◌≡◌, ◌+◌, ◌≤◌, ◌++◌, ◌∷◌, IfOk, IfErr, OnOk, decimal, drop, length};
-ghost use Rattle.std.specs.IoError.{error_kind};
-ghost use Rattle.std.specs.Io.KnownBytes.{Appends, Keeps};
-ghost use Rattle.commands.specs.Answers.{is_any, line_of, lines_of, AppendsBeginning};
-ghost use Rattle.commands.specs.Faults.{IsOfWrite};
+ghost use Rattle.std.specs.Prelude.{◌≡◌, ◌+◌, ◌≤◌, ◌++◌, ◌∷◌, true, IfOk, IfErr, OnOk, decimal, drop, length};
+ghost use Rattle.std.specs.Io.KnownBytes.{Keeps};
+ghost use Rattle.commands.specs.Answers.{line_of, lines_of, PrintsLines};
+ghost use Rattle.commands.specs.Failures.{IsOfWrite};
+ghost use Rattle.commands.specs.Streams.{bytes_held, WritesBeginning, WritesBytes};
 
-use crate::fault::Fault;
+use crate::failure::Failure;
 use aho_base::search::Match;
+use aho_devices::adapters::FromWrite;
+use aho_devices::write;
 use itoa::write_digits;
-use std::io;
-use std::io::{ErrorKind, Write};
+use std::io::Write;
 
 /// The room for a match's line: three numbers of twenty digits at most, and a byte after each.
 const LINE_CAPACITY: usize = 63;
@@ -20,16 +21,16 @@ const LINE_CAPACITY: usize = 63;
 /// Prints a line for each match as it comes, flushes when all are printed, and answers whether there was one. It takes no
 /// memory. Where it fails, a beginning of the lines may have been written.
 pub fn print<W: Write, I: Iterator<Item = Match> + Drop>(
-    output: &mut W,
+    output: &mut FromWrite<W>,
     matches: I,
-) -> Result<bool, Fault>
+) -> Result<bool, Failure>
     requires ready { I.can_next matches }
     requires finite { IsFinite (I.remaining matches) }
     ensures printed { IfOk result (λ any. WholeRun I.next_gives matches (λ run.
-        Appends (W.contents output.old) (W.contents output.new) (lines_of run.items)
-        × (any ≡ is_any run.items))) }
+        PrintsLines W.Write output.old output.new run.items any)) }
+    ensures flushed { OnOk result (output.new.device.flushed ≡ true) }
     ensures begun { SomeRun I.next_gives matches (λ run.
-        AppendsBeginning (W.contents output.old) (W.contents output.new) (lines_of run.items)) }
+        WritesBeginning W.Write output.old output.new (lines_of run.items)) }
     ensures of_write { IfErr result IsOfWrite }
 {
     let any = print_lines(output, matches)?;
@@ -39,16 +40,15 @@ pub fn print<W: Write, I: Iterator<Item = Match> + Drop>(
 
 /// Prints a line for each match as it comes, and answers whether there was one.
 fn print_lines<W: Write, I: Iterator<Item = Match> + Drop>(
-    output: &mut W,
+    output: &mut FromWrite<W>,
     matches: I,
-) -> Result<bool, Fault>
+) -> Result<bool, Failure>
     requires ready { I.can_next matches }
     requires finite { IsFinite (I.remaining matches) }
     ensures printed { IfOk result (λ any. WholeRun I.next_gives matches (λ run.
-        Appends (W.contents output.old) (W.contents output.new) (lines_of run.items)
-        × (any ≡ is_any run.items))) }
+        PrintsLines W.Write output.old output.new run.items any)) }
     ensures begun { SomeRun I.next_gives matches (λ run.
-        AppendsBeginning (W.contents output.old) (W.contents output.new) (lines_of run.items)) }
+        WritesBeginning W.Write output.old output.new (lines_of run.items)) }
     ensures of_write { IfErr result IsOfWrite }
 {
     let mut line = [0; LINE_CAPACITY];
@@ -86,10 +86,10 @@ fn put_number(number: usize, after: u8, line: &mut [u8], end: usize) -> usize
 }
 
 /// Writes all of the bytes, and flushes. Where it fails, a beginning of the bytes was written.
-pub fn write_whole<W: Write>(output: &mut W, bytes: &[u8]) -> Result<(), Fault>
-    ensures whole { OnOk result
-        (Appends (W.contents output.old) (W.contents output.new) bytes.now) }
-    ensures beginning { AppendsBeginning (W.contents output.old) (W.contents output.new) bytes.now }
+pub fn write_whole<W: Write>(output: &mut FromWrite<W>, bytes: &[u8]) -> Result<(), Failure>
+    ensures whole { OnOk result (WritesBytes W.Write output.old output.new bytes.now) }
+    ensures flushed { OnOk result (output.new.device.flushed ≡ true) }
+    ensures beginning { WritesBeginning W.Write output.old output.new bytes.now }
     ensures of_write { IfErr result IsOfWrite }
 {
     write_bytes(output, bytes)?;
@@ -98,41 +98,19 @@ pub fn write_whole<W: Write>(output: &mut W, bytes: &[u8]) -> Result<(), Fault>
 
 /// Writes all of the bytes, by as many writes as it needs. A failed write is not tried again, and where it fails, a
 /// beginning of the bytes was written.
-fn write_bytes<W: Write>(output: &mut W, bytes: &[u8]) -> Result<(), Fault>
-    ensures whole { OnOk result
-        (Appends (W.contents output.old) (W.contents output.new) bytes.now) }
-    ensures beginning { AppendsBeginning (W.contents output.old) (W.contents output.new) bytes.now }
+fn write_bytes<W: Write>(output: &mut FromWrite<W>, bytes: &[u8]) -> Result<(), Failure>
+    ensures whole { OnOk result (WritesBytes W.Write output.old output.new bytes.now) }
+    ensures beginning { WritesBeginning W.Write output.old output.new bytes.now }
     ensures of_write { IfErr result IsOfWrite }
 {
-    let mut rest = bytes;
-    while !rest.is_empty() {
-        match output.write(rest) {
-            Ok(0) => return Err(Fault::WriteZero),
-            Ok(n) => rest = &rest[n..],
-            Err(error) => return Err(fault_of_write(&error)),
-        }
-    }
-    Ok(())
+    Ok(write::write_whole(output, bytes)?)
 }
 
 /// Hands on what a buffer keeps. A failed flush is not tried again.
-pub fn flush<W: Write>(output: &mut W) -> Result<(), Fault>
-    ensures kept { Keeps (W.contents output.old) (W.contents output.new) }
+pub fn flush<W: Write>(output: &mut FromWrite<W>) -> Result<(), Failure>
+    ensures kept { Keeps (bytes_held W.Write output.old) (bytes_held W.Write output.new) }
+    ensures flushed { OnOk result (output.new.device.flushed ≡ true) }
     ensures of_write { IfErr result IsOfWrite }
 {
-    match output.flush() {
-        Ok(()) => Ok(()),
-        Err(error) => Err(fault_of_write(&error)),
-    }
-}
-
-/// The fault of a write or a flush that failed. A buffer tells by its error's kind that a write behind it took no bytes.
-fn fault_of_write(error: &io::Error) -> Fault
-    ensures zero { error_kind error.now ≡ ErrorKind.WriteZero → result ≡ Fault.WriteZero }
-    ensures other { error_kind error.now ≢ ErrorKind.WriteZero → result ≡ Fault.Write }
-{
-    match error.kind() {
-        ErrorKind::WriteZero => Fault::WriteZero,
-        _ => Fault::Write,
-    }
+    Ok(output.flush()?)
 }

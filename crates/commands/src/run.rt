@@ -1,26 +1,26 @@
-//! A call of the program over its words and streams.
+//! A call of the program over its arguments and streams.
 
-ghost use Rattle.std.specs.Prelude.{IsOk, true, ◌≡◌, ◌<◌, ◌≤◌, ◌⊎◌, ⊤, map, length, IfOk, IfErr, OnOk, string_bytes};
-ghost use Rattle.std.specs.Io.KnownBytes.{Appends, Consumes, IsAtEnd};
-ghost use Rattle.aho_base.specs.Iteration.{AreFinds};
-ghost use Rattle.aho_base.specs.Overlapping.{all_occurrences};
+ghost use Rattle.std.specs.Prelude.{IsOk, true, ◌≡◌, ◌<◌, ◌≤◌, ◌⊎◌, ⊤, IfOk, IfErr, OnOk};
+ghost use Rattle.std.specs.Io.KnownBytes.{Consumes, IsAtEnd};
 ghost use Rattle.aho_base.specs.Patterns.{Patterns};
-ghost use Rattle.aho_base.specs.Search.{plain_search};
 ghost use Rattle.aho_base.specs.declared.search.Anchored.TheVariants.{No};
 ghost use Rattle.aho_base.specs.declared.search.MatchKind.TheVariants.{Standard};
-ghost use Rattle.commands.specs.Answers.{AreMatches, AppendsBeginning, Begins, BeginsReplacing, Begun, Prints, Replaces, ReplacesMost, Tells, TellsFault, status_of};
-ghost use Rattle.commands.specs.Asked.{Asked, Builds, BuildsReplacing, Replacing, asked_for, kind_of, patterns_of, settings_for};
-ghost use Rattle.commands.specs.Faults.{status_of_fault, line_of_fault, IsOfWrite, Leaves, LeavesReplacing};
-ghost use Rattle.commands.specs.Words.{AreWrong, asked_by, replacing_by};
-ghost use Rattle.commands.specs.declared.fault.Fault.TheVariants.{Usage};
+ghost use Rattle.commands.specs.Answers.{AreFindsIn, AreMatches, BeginsLine, BeginsMatches, Begun, LeavesMatches, LeavesReplacement, Prints, PrintsAll, PrintsIfDone, PrintsMatches, TellsFailure, WritesIfDone, WritesReplacement, status_of};
+ghost use Rattle.commands.specs.Arguments.{AreWrong, AskForNone, IfAsked, IfReplacing};
+ghost use Rattle.commands.specs.Asked.{Builds, BuildsReplacing, asked_for, asked_patterns, kind_of, settings_for};
+ghost use Rattle.commands.specs.Failures.{status_of_failure, line_of_failure, IsOfWrite, LeavesPrinting};
+ghost use Rattle.commands.specs.Streams.{bytes_left, contents, Unread, Unwritten, WritesBytes};
+ghost use Rattle.commands.specs.declared.command.Task.TheVariants.{Overlap};
+ghost use Rattle.commands.specs.declared.failure.Failure.TheVariants.{Usage};
 
 use crate::command::{Request, Task, parse, parse_replace};
-use crate::devices::{ReadSource, WriteSink};
-use crate::fault::Fault;
+use crate::failure::Failure;
 use crate::print::{print, write_whole};
 use crate::replace::replace;
 use aho_base::search::Input;
 use aho_corasick::noncontiguous::{Builder, NFA};
+use aho_devices::adapters::{FromRead, FromWrite};
+use aho_devices::device::Source;
 use aho_search::automaton::Automaton;
 use std::alloc::Global;
 use std::io::{Read, Write};
@@ -28,175 +28,141 @@ use std::io::{Read, Write};
 /// How many bytes are asked of the input at once.
 const PIECE: usize = 16 * 1024;
 
-/// Does what the words after the program's name ask for, and answers the exit status: 0 where matches were printed or the
-/// input was replaced to its end, 1 where there is no match to print, 2 where the words are wrong, the automaton, the search
-/// or the replacement is refused or memory is wanted, and 3 where a device fails.
+/// Does what the arguments after the program's name ask for, and answers the exit status: 0 where matches were printed or
+/// the input was replaced to its end, 1 where there is no match to print, 2 where the arguments are wrong, the automaton,
+/// the search or the replacement is refused or memory runs out, and 3 where a device fails.
 ///
 /// The automaton is built before the input is read. The input is read whole before a match is printed; a replacement is
-/// written while it is read, in memory that does not grow with it. Where the status is 2 or 3, `errors` gets a line that says
-/// why; where that line cannot be written, the status is the same.
+/// written while it is read, in memory that does not grow with it. Where the status is 0 or 1, all output was flushed.
+/// Where it is 2 or 3, `errors` gets a line that says why; where that line cannot be written, the status is the same.
 pub fn run<R: Read, W: Write, E: Write>(
     alloc: Global,
-    words: &[String],
-    input: &mut ReadSource<R>,
-    output: &mut WriteSink<W>,
-    errors: &mut E,
+    arguments: &[String],
+    input: &mut FromRead<R>,
+    output: &mut FromWrite<W>,
+    errors: &mut FromWrite<E>,
 ) -> u8
-    // Wrong words are found first, and told.
-    ensures usage { AreWrong (map string_bytes words.now) → result ≡ 2 }
-    ensures unread { AreWrong (map string_bytes words.now) → input.new.reader ≡ input.old.reader }
-    ensures unwritten { AreWrong (map string_bytes words.now)
-        → output.new.writer ≡ output.old.writer }
-    ensures tells_usage { AreWrong (map string_bytes words.now)
-        → AppendsBeginning (E.contents errors.old) (E.contents errors.new) (line_of_fault Usage) }
+    // Wrong arguments are found first, and told.
+    ensures usage { AreWrong arguments.now → result ≡ 2 }
+    ensures unread { AreWrong arguments.now → Unread input.old input.new }
+    ensures unwritten { AreWrong arguments.now → Unwritten output.old output.new }
+    ensures tells_usage { AreWrong arguments.now → BeginsLine E.Write errors.old errors.new Usage }
 
-    // For right words the automaton is built before anything is read.
-    ensures built_first { (asked : Asked) → asked_by (map string_bytes words.now) ≡ Some asked
-        → (input.new.reader ≡ input.old.reader) ⊎ Builds asked }
-    ensures built_to_replace { (asked : Replacing)
-        → replacing_by (map string_bytes words.now) ≡ Some asked
-        → (input.new.reader ≡ input.old.reader) ⊎ BuildsReplacing asked }
+    // For right arguments the automaton is built before anything is read.
+    ensures built_first { IfAsked arguments.now (λ asked.
+        Unread input.old input.new ⊎ Builds asked) }
+    ensures built_to_replace { IfReplacing arguments.now (λ asked.
+        Unread input.old input.new ⊎ BuildsReplacing asked) }
 
     // All matches are printed, and told by the status.
-    ensures tells { (asked : Asked) → asked_by (map string_bytes words.now) ≡ Some asked → result < 2
-        → Tells asked (R.remaining input.old.reader) (R.remaining input.new.reader)
-        (W.contents output.old.writer) (W.contents output.new.writer) result }
+    ensures prints { IfAsked arguments.now
+        (PrintsIfDone (contents W.Write input.old input.new output.old output.new) result) }
     // Or the input is written with its matches replaced, all of it.
-    ensures replaces { (asked : Replacing) → replacing_by (map string_bytes words.now) ≡ Some asked
-        → result ≡ 0 → Replaces asked (R.remaining input.old.reader) (R.remaining input.new.reader)
-        (W.contents output.old.writer) (W.contents output.new.writer) }
-    ensures no_status_1 { (asked : Replacing)
-        → replacing_by (map string_bytes words.now) ≡ Some asked → result < 2 → result ≡ 0 }
+    ensures replaces { IfReplacing arguments.now
+        (WritesIfDone (contents W.Write input.old input.new output.old output.new) result) }
+    ensures no_status_1 { IfReplacing arguments.now (λ _. result < 2 → result ≡ 0) }
+    ensures flushed { result < 2 → output.new.device.flushed ≡ true }
     ensures quiet { result < 2 → errors.new ≡ errors.old }
 
-    // Any other status is that of a fault, which is told.
+    // Any other status is that of a failure, which is told.
     ensures bound { result ≤ 3 }
-    ensures refused { (asked : Asked) → asked_by (map string_bytes words.now) ≡ Some asked
-        → result ≡ 2 → output.new.writer ≡ output.old.writer }
-    ensures tells_fault { (asked : Asked) → asked_by (map string_bytes words.now) ≡ Some asked
-        → 2 ≤ result → TellsFault (E.contents errors.old) (E.contents errors.new) result
-        (Leaves (input.new.reader ≡ input.old.reader) (output.new.writer ≡ output.old.writer)
-        (Begins asked (R.remaining input.old.reader) (R.remaining input.new.reader)
-        (W.contents output.old.writer) (W.contents output.new.writer))) }
-    ensures begins { (asked : Asked) → asked_by (map string_bytes words.now) ≡ Some asked
-        → (output.new.writer ≡ output.old.writer)
-        ⊎ Begins asked (R.remaining input.old.reader) (R.remaining input.new.reader)
-        (W.contents output.old.writer) (W.contents output.new.writer) }
-    ensures tells_replace_fault { (asked : Replacing)
-        → replacing_by (map string_bytes words.now) ≡ Some asked
-        → 2 ≤ result → TellsFault (E.contents errors.old) (E.contents errors.new) result
-        (LeavesReplacing
-        ((input.new.reader ≡ input.old.reader) × (output.new.writer ≡ output.old.writer))
-        (BeginsReplacing asked (R.remaining input.old.reader) (R.remaining input.new.reader)
-        (W.contents output.old.writer) (W.contents output.new.writer))
-        (ReplacesMost asked (R.remaining input.old.reader) (R.remaining input.new.reader)
-        (W.contents output.old.writer) (W.contents output.new.writer))) }
+    ensures refused { IfAsked arguments.now (λ _.
+        result ≡ 2 → Unwritten output.old output.new) }
+    ensures tells_failure { 2 ≤ result → IfAsked arguments.now (λ asked.
+        TellsFailure E.Write errors.old errors.new result
+        (LeavesMatches W.Write asked input.old input.new output.old output.new)) }
+    ensures begins { IfAsked arguments.now (λ asked. Unwritten output.old output.new
+        ⊎ BeginsMatches (contents W.Write input.old input.new output.old output.new) asked) }
+    ensures tells_replace_failure { 2 ≤ result → IfReplacing arguments.now (λ asked.
+        TellsFailure E.Write errors.old errors.new result
+        (LeavesReplacement W.Write asked input.old input.new output.old output.new)) }
 {
-    match answer(alloc, words, input, output) {
+    match answer(alloc, arguments, input, output) {
         Ok(true) => 0,
         Ok(false) => 1,
-        Err(fault) => report(&fault, errors),
+        Err(failure) => report(&failure, errors),
     }
 }
 
 /// Writes why a call answers nothing as a line, and answers the exit status, whether that could be written or not.
-pub fn report<E: Write>(fault: &Fault, errors: &mut E) -> u8
-    ensures status { result ≡ status_of_fault fault.now }
-    ensures begun { AppendsBeginning (E.contents errors.old) (E.contents errors.new)
-        (line_of_fault fault.now) }
+pub fn report<E: Write>(failure: &Failure, errors: &mut FromWrite<E>) -> u8
+    ensures status { result ≡ status_of_failure failure.now }
+    ensures begun { BeginsLine E.Write errors.old errors.new failure.now }
 {
-    let _ = write_fault(fault, errors);
-    fault.status()
+    let _ = write_failure(failure, errors);
+    failure.status()
 }
 
 /// Writes why a call answers nothing as a line.
-fn write_fault<E: Write>(fault: &Fault, errors: &mut E) -> Result<(), Fault>
+fn write_failure<E: Write>(failure: &Failure, errors: &mut FromWrite<E>) -> Result<(), Failure>
     ensures written { OnOk result
-        (Appends (E.contents errors.old) (E.contents errors.new) (line_of_fault fault.now)) }
-    ensures begun { AppendsBeginning (E.contents errors.old) (E.contents errors.new)
-        (line_of_fault fault.now) }
+        (WritesBytes E.Write errors.old errors.new (line_of_failure failure.now)) }
+    ensures begun { BeginsLine E.Write errors.old errors.new failure.now }
 {
     // Each line has room: one that had none would not be written.
-    match fault.line() {
+    match failure.line() {
         Ok(line) => write_whole(errors, line.as_str().as_bytes()),
-        Err(_) => Err(Fault::Write),
+        Err(_) => Err(Failure::Write),
     }
 }
 
-/// Does what the words ask for. Where they ask for matches, it answers whether there was one.
+/// Does what the arguments ask for. Where they ask for matches, it answers whether there was one.
 fn answer<R: Read, W: Write>(
     alloc: Global,
-    words: &[String],
-    input: &mut ReadSource<R>,
-    output: &mut WriteSink<W>,
-) -> Result<bool, Fault>
-    ensures usage { AreWrong (map string_bytes words.now) → result ≡ Err Usage }
-    ensures unread { AreWrong (map string_bytes words.now) → input.new.reader ≡ input.old.reader }
-    ensures unwritten { AreWrong (map string_bytes words.now)
-        → output.new.writer ≡ output.old.writer }
-    ensures built_first { (asked : Asked) → asked_by (map string_bytes words.now) ≡ Some asked
-        → (input.new.reader ≡ input.old.reader) ⊎ Builds asked }
-    ensures built_to_replace { (asked : Replacing)
-        → replacing_by (map string_bytes words.now) ≡ Some asked
-        → (input.new.reader ≡ input.old.reader) ⊎ BuildsReplacing asked }
-    ensures tells { (asked : Asked) → asked_by (map string_bytes words.now) ≡ Some asked
-        → IfOk result (λ any. Tells asked
-        (R.remaining input.old.reader) (R.remaining input.new.reader)
-        (W.contents output.old.writer) (W.contents output.new.writer) (status_of any)) }
-    ensures replaces { (asked : Replacing) → replacing_by (map string_bytes words.now) ≡ Some asked
-        → OnOk result (Replaces asked (R.remaining input.old.reader) (R.remaining input.new.reader)
-        (W.contents output.old.writer) (W.contents output.new.writer)) }
-    ensures replaced { (asked : Replacing) → replacing_by (map string_bytes words.now) ≡ Some asked
-        → IfOk result (λ any. any ≡ true) }
-    ensures leaves { (asked : Asked) → asked_by (map string_bytes words.now) ≡ Some asked
-        → IfErr result (Leaves
-        (input.new.reader ≡ input.old.reader) (output.new.writer ≡ output.old.writer)
-        (Begins asked (R.remaining input.old.reader) (R.remaining input.new.reader)
-        (W.contents output.old.writer) (W.contents output.new.writer))) }
-    ensures leaves_replacing { (asked : Replacing)
-        → replacing_by (map string_bytes words.now) ≡ Some asked
-        → IfErr result (LeavesReplacing
-        ((input.new.reader ≡ input.old.reader) × (output.new.writer ≡ output.old.writer))
-        (BeginsReplacing asked (R.remaining input.old.reader) (R.remaining input.new.reader)
-        (W.contents output.old.writer) (W.contents output.new.writer))
-        (ReplacesMost asked (R.remaining input.old.reader) (R.remaining input.new.reader)
-        (W.contents output.old.writer) (W.contents output.new.writer))) }
+    arguments: &[String],
+    input: &mut FromRead<R>,
+    output: &mut FromWrite<W>,
+) -> Result<bool, Failure>
+    ensures usage { AreWrong arguments.now → result ≡ Err Usage }
+    ensures unread { AreWrong arguments.now → Unread input.old input.new }
+    ensures unwritten { AreWrong arguments.now → Unwritten output.old output.new }
+    ensures built_first { IfAsked arguments.now (λ asked.
+        Unread input.old input.new ⊎ Builds asked) }
+    ensures built_to_replace { IfReplacing arguments.now (λ asked.
+        Unread input.old input.new ⊎ BuildsReplacing asked) }
+    ensures prints { IfOk result (λ any. IfAsked arguments.now
+        (PrintsMatches (contents W.Write input.old input.new output.old output.new) (status_of any))) }
+    ensures replaces { OnOk result (IfReplacing arguments.now
+        (WritesReplacement (contents W.Write input.old input.new output.old output.new))) }
+    ensures replaced { IfReplacing arguments.now (λ _. IfOk result (λ any. any ≡ true)) }
+    ensures flushed { OnOk result (output.new.device.flushed ≡ true) }
+    ensures leaves { IfAsked arguments.now (λ asked. IfErr result
+        (LeavesMatches W.Write asked input.old input.new output.old output.new)) }
+    ensures leaves_replacing { IfReplacing arguments.now (λ asked. IfErr result
+        (LeavesReplacement W.Write asked input.old input.new output.old output.new)) }
 {
-    match parse_replace(words) {
+    match parse_replace(arguments) {
         Some(pairs) => {
             replace(alloc, pairs, input, output)?;
             Ok(true)
         }
-        None => {
-            input.restart();
-            answer_matches(alloc, words, &mut input.reader, &mut output.writer)
-        }
+        None => answer_matches(alloc, arguments, input, output),
     }
 }
 
-/// Prints the matches in the input that the words ask for, and answers whether there was one.
+/// Prints the matches in the input that the arguments ask for, and answers whether there was one.
 fn answer_matches<R: Read, W: Write>(
     alloc: Global,
-    words: &[String],
-    input: &mut R,
-    output: &mut W,
-) -> Result<bool, Fault>
-    ensures usage { asked_by (map string_bytes words.now) ≡ None → result ≡ Err Usage }
-    ensures unread { asked_by (map string_bytes words.now) ≡ None → input.new ≡ input.old }
-    ensures unwritten { asked_by (map string_bytes words.now) ≡ None → output.new ≡ output.old }
-    ensures built_first { (asked : Asked) → asked_by (map string_bytes words.now) ≡ Some asked
-        → (input.new ≡ input.old) ⊎ Builds asked }
-    ensures tells { (asked : Asked) → asked_by (map string_bytes words.now) ≡ Some asked
-        → IfOk result (λ any. Tells asked (R.remaining input.old) (R.remaining input.new)
-        (W.contents output.old) (W.contents output.new) (status_of any)) }
-    ensures leaves { (asked : Asked) → asked_by (map string_bytes words.now) ≡ Some asked
-        → IfErr result (Leaves (input.new ≡ input.old) (output.new ≡ output.old)
-        (Begins asked (R.remaining input.old) (R.remaining input.new)
-        (W.contents output.old) (W.contents output.new))) }
+    arguments: &[String],
+    input: &mut FromRead<R>,
+    output: &mut FromWrite<W>,
+) -> Result<bool, Failure>
+    ensures usage { AskForNone arguments.now → result ≡ Err Usage }
+    ensures unread { AskForNone arguments.now
+        → Unread input.old input.new }
+    ensures unwritten { AskForNone arguments.now
+        → Unwritten output.old output.new }
+    ensures built_first { IfAsked arguments.now (λ asked.
+        Unread input.old input.new ⊎ Builds asked) }
+    ensures prints { IfOk result (λ any. IfAsked arguments.now
+        (PrintsMatches (contents W.Write input.old input.new output.old output.new) (status_of any))) }
+    ensures flushed { OnOk result (output.new.device.flushed ≡ true) }
+    ensures leaves { IfAsked arguments.now (λ asked. IfErr result
+        (LeavesMatches W.Write asked input.old input.new output.old output.new)) }
 {
-    match parse(words) {
+    match parse(arguments) {
         Some(request) => search_input(alloc, &request, input, output),
-        None => Err(Fault::Usage),
+        None => Err(Failure::Usage),
     }
 }
 
@@ -204,16 +170,15 @@ fn answer_matches<R: Read, W: Write>(
 fn search_input<R: Read, W: Write>(
     alloc: Global,
     request: &Request<'_>,
-    input: &mut R,
-    output: &mut W,
-) -> Result<bool, Fault>
-    ensures built_first { (input.new ≡ input.old) ⊎ Builds (asked_for request.now) }
-    ensures tells { IfOk result (λ any. Tells (asked_for request.now)
-        (R.remaining input.old) (R.remaining input.new)
-        (W.contents output.old) (W.contents output.new) (status_of any)) }
-    ensures leaves { IfErr result (Leaves (input.new ≡ input.old) (output.new ≡ output.old)
-        (Begins (asked_for request.now) (R.remaining input.old) (R.remaining input.new)
-        (W.contents output.old) (W.contents output.new))) }
+    input: &mut FromRead<R>,
+    output: &mut FromWrite<W>,
+) -> Result<bool, Failure>
+    ensures built_first { Unread input.old input.new ⊎ Builds (asked_for request.now) }
+    ensures prints { IfOk result (λ any. PrintsMatches
+        (contents W.Write input.old input.new output.old output.new) (status_of any) (asked_for request.now)) }
+    ensures flushed { OnOk result (output.new.device.flushed ≡ true) }
+    ensures leaves { IfErr result
+        (LeavesMatches W.Write (asked_for request.now) input.old input.new output.old output.new) }
 {
     let automaton = build(alloc, request)?;
     let text = read(alloc, input)?;
@@ -221,10 +186,10 @@ fn search_input<R: Read, W: Write>(
 }
 
 /// The automaton of the patterns that a request asks for, or why it is refused.
-pub fn build(alloc: Global, request: &Request<'_>) -> Result<NFA, Fault>
+pub fn build(alloc: Global, request: &Request<'_>) -> Result<NFA, Failure>
     ensures of { IfOk result (λ automaton.
-        ⟦<NFA as Automaton>⟧.is_of automaton (patterns_of (asked_for request.now))) }
-    ensures leaves { IfErr result (Leaves ⊤ ⊤ ⊥) }
+        ⟦<NFA as Automaton>⟧.is_of automaton (asked_patterns (asked_for request.now))) }
+    ensures leaves { IfErr result (LeavesPrinting ⊤ ⊤ ⊥) }
     ensures accepted { OnOk result (Builds (asked_for request.now)) }
 {
     let patterns = request.patterns.iter().map(|pattern| pattern.as_bytes());
@@ -243,23 +208,24 @@ fn builder(task: Task) -> Builder
 }
 
 /// All of the input. A failed read is not tried again.
-fn read<R: Read>(alloc: Global, input: &mut R) -> Result<Vec<u8>, Fault>
+fn read<R: Read>(alloc: Global, input: &mut FromRead<R>) -> Result<Vec<u8>, Failure>
     ensures read { IfOk result (λ text.
-        Consumes (R.remaining input.old) (R.remaining input.new) text.items) }
-    ensures ended { OnOk result (IsAtEnd (R.remaining input.new)) }
-    ensures leaves { IfErr result (Leaves ⊥ ⊤ ⊥) }
+        Consumes (bytes_left input.old) (bytes_left input.new) text.items) }
+    ensures ended { OnOk result (IsAtEnd (bytes_left input.new)) }
+    ensures leaves { IfErr result (LeavesPrinting ⊥ ⊤ ⊥) }
 {
+    input.restart();
     let mut text = Vec::new(alloc);
     let mut piece = [0; PIECE];
     // Nothing says that an input ends, so the turns are counted.
     for _ in 0..u64::MAX {
         match input.read(&mut piece) {
             Ok(0) => return Ok(text),
-            Ok(n) => text.extend_from_slice(&piece[..n])?,
-            Err(_) => return Err(Fault::Read),
+            Ok(count) => text.extend_from_slice(&piece[..count])?,
+            Err(_) => return Err(Failure::Read),
         }
     }
-    Err(Fault::Read)
+    Err(Failure::Read)
 }
 
 /// Prints the matches of a text that a task asks for, and answers whether there was one.
@@ -269,15 +235,16 @@ fn print_matches<A: Automaton, W: Write>(
     automaton: &A,
     task: Task,
     text: &[u8],
-    output: &mut W,
-) -> Result<bool, Fault>
+    output: &mut FromWrite<W>,
+) -> Result<bool, Failure>
     requires of { (p : Patterns) × A.is_of automaton.now p }
     requires starts { IsOk (A.start automaton.now No) }
     requires kind { A.kind automaton.now ≡ kind_of task }
     ensures printed { (p : Patterns) → A.is_of automaton.now p → IfOk result
-        (Prints (AreMatches task p text.now) (W.contents output.old) (W.contents output.new)) }
+        (PrintsAll W.Write task p text.now output.old output.new) }
     ensures begun { (p : Patterns) → A.is_of automaton.now p →
-        Begun (AreMatches task p text.now) (W.contents output.old) (W.contents output.new) }
+        Begun W.Write (AreMatches task p text.now) output.old output.new }
+    ensures flushed { OnOk result (output.new.device.flushed ≡ true) }
     ensures of_write { IfErr result IsOfWrite }
 {
     match task {
@@ -290,16 +257,14 @@ fn print_matches<A: Automaton, W: Write>(
 fn print_finds<A: Automaton, W: Write>(
     automaton: &A,
     text: &[u8],
-    output: &mut W,
-) -> Result<bool, Fault>
+    output: &mut FromWrite<W>,
+) -> Result<bool, Failure>
     requires of { (p : Patterns) × A.is_of automaton.now p }
     requires starts { IsOk (A.start automaton.now No) }
-    ensures printed { (p : Patterns) → A.is_of automaton.now p → IfOk result
-        (Prints (AreFinds p (plain_search text.now) None)
-        (W.contents output.old) (W.contents output.new)) }
-    ensures begun { (p : Patterns) → A.is_of automaton.now p →
-        Begun (AreFinds p (plain_search text.now) None)
-        (W.contents output.old) (W.contents output.new) }
+    ensures printed { (p : Patterns) → A.is_of automaton.now p → IfOk result (Prints W.Write (AreFindsIn p text.now) output.old output.new) }
+    ensures begun { (p : Patterns) → A.is_of automaton.now p → Begun W.Write
+        (AreFindsIn p text.now) output.old output.new }
+    ensures flushed { OnOk result (output.new.device.flushed ≡ true) }
     ensures of_write { IfErr result IsOfWrite }
 {
     print(output, automaton.try_find_iter(Input::new(text))?)
@@ -309,17 +274,16 @@ fn print_finds<A: Automaton, W: Write>(
 fn print_occurrences<A: Automaton, W: Write>(
     automaton: &A,
     text: &[u8],
-    output: &mut W,
-) -> Result<bool, Fault>
+    output: &mut FromWrite<W>,
+) -> Result<bool, Failure>
     requires of { (p : Patterns) × A.is_of automaton.now p }
     requires starts { IsOk (A.start automaton.now No) }
     requires standard { A.kind automaton.now ≡ Standard }
     ensures printed { (p : Patterns) → A.is_of automaton.now p → IfOk result
-        (Prints (λ ms. ms ≡ all_occurrences p text.now 0 (length text.now))
-        (W.contents output.old) (W.contents output.new)) }
+        (PrintsAll W.Write Overlap p text.now output.old output.new) }
     ensures begun { (p : Patterns) → A.is_of automaton.now p →
-        Begun (λ ms. ms ≡ all_occurrences p text.now 0 (length text.now))
-        (W.contents output.old) (W.contents output.new) }
+        Begun W.Write (AreMatches Overlap p text.now) output.old output.new }
+    ensures flushed { OnOk result (output.new.device.flushed ≡ true) }
     ensures of_write { IfErr result IsOfWrite }
 {
     print(

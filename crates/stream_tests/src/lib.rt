@@ -3,6 +3,8 @@
 #![tactic(auto)]
 
 #[cfg(test)]
+mod adapters;
+#[cfg(test)]
 mod asserts;
 #[cfg(test)]
 mod automata;

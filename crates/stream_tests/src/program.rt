@@ -1,10 +1,10 @@
-//! Runs of the program over words and bytes in memory, and over devices that fail. Each message names its case.
+//! Runs of the program over arguments and bytes in memory, and over devices that fail. Each message names its case.
 
 use crate::asserts::{assert_in, assert_same_in};
 use aho_base::error::{BuildError, MatchError};
 use aho_base::search::{MatchKind, PatternID};
-use commands::devices::{ReadSource, WriteSink};
-use commands::fault::Fault;
+use aho_devices::adapters::{FromRead, FromWrite};
+use commands::failure::Failure;
 use commands::run::{report, run};
 use std::alloc::{AllocError, Global};
 use std::io;
@@ -112,10 +112,10 @@ impl Write for Device {
     }
 }
 
-fn texts(alloc: Global, words: &[&str]) -> Result<Vec<String>, AllocError> {
+fn texts(alloc: Global, arguments: &[&str]) -> Result<Vec<String>, AllocError> {
     let mut texts = Vec::new(alloc);
-    for word in words {
-        texts.push(String::from_str(alloc, word)?)?;
+    for argument in arguments {
+        texts.push(String::from_str(alloc, argument)?)?;
     }
     Ok(texts)
 }
@@ -123,41 +123,41 @@ fn texts(alloc: Global, words: &[&str]) -> Result<Vec<String>, AllocError> {
 /// Runs on an input, and answers what was written on output and errors.
 fn run_on<R: Read>(
     alloc: Global,
-    words: &[&str],
+    arguments: &[&str],
     input: &mut R,
 ) -> Result<(u8, Vec<u8>, Vec<u8>), AllocError> {
-    let words = texts(alloc, words)?;
+    let arguments = texts(alloc, arguments)?;
     let mut output = Vec::new(alloc);
     let mut errors = Vec::new(alloc);
     let status = run(
         alloc,
-        words.as_slice(),
-        &mut ReadSource::new(input),
-        &mut WriteSink::new(&mut output),
-        &mut errors,
+        arguments.as_slice(),
+        &mut FromRead::new(input),
+        &mut FromWrite::new(&mut output),
+        &mut FromWrite::new(&mut errors),
     );
     Ok((status, output, errors))
 }
 
-/// These words on this input end with this status and print this, and no errors.
+/// These arguments on this input end with this status and print this, and no errors.
 fn prints(
     rt: &impl Abort,
     alloc: Global,
-    words: &[&str],
+    arguments: &[&str],
     input: &[u8],
     status: u8,
     printed: &str,
 ) -> Result<(), Fail> {
     let mut rest = input;
-    let (found, output, errors) = run_on(alloc, words, &mut rest)?;
-    let case = (&words, "on", &input);
+    let (found, output, errors) = run_on(alloc, arguments, &mut rest)?;
+    let case = (&arguments, "on", &input);
     assert_same_in(rt, &case, found, status);
     assert_same_in(rt, &case, output.as_slice(), printed.as_bytes());
     assert_in(rt, &case, errors.is_empty());
     Ok(())
 }
 
-/// Words, an input, the status and what is printed.
+/// Arguments, an input, the status and what is printed.
 const FINDS: &[(&[&str], &[u8], u8, &str)] = &[
     (
         &["find", "standard", "b", "abc", "abcd"],
@@ -221,8 +221,8 @@ const FINDS: &[(&[&str], &[u8], u8, &str)] = &[
 
 #[test]
 fn prints_the_finds(rt: HostRuntime) -> Result<(), Fail> {
-    for (words, input, status, printed) in FINDS {
-        prints(&rt, rt.alloc(), words, input, *status, printed)?;
+    for (arguments, input, status, printed) in FINDS {
+        prints(&rt, rt.alloc(), arguments, input, *status, printed)?;
     }
     Ok(())
 }
@@ -247,14 +247,14 @@ fn prints_all_that_overlaps(rt: HostRuntime) -> Result<(), Fail> {
         (&["overlap", "standard"], b"a", 1, ""),
         (&["overlap", "a"], b"", 1, ""),
     ];
-    for (words, input, status, printed) in rows {
-        prints(&rt, rt.alloc(), words, input, status, printed)?;
+    for (arguments, input, status, printed) in rows {
+        prints(&rt, rt.alloc(), arguments, input, status, printed)?;
     }
     Ok(())
 }
 
 #[test]
-fn tells_wrong_words(rt: HostRuntime) -> Result<(), Fail> {
+fn tells_wrong_arguments(rt: HostRuntime) -> Result<(), Fail> {
     let rows: [&[&str]; 11] = [
         &[],
         &[""],
@@ -268,12 +268,12 @@ fn tells_wrong_words(rt: HostRuntime) -> Result<(), Fail> {
         &["replace", "a"],
         &["replace", "a", "b", "c"],
     ];
-    for words in rows {
+    for arguments in rows {
         let mut input: &[u8] = b"a";
-        let (found, output, errors) = run_on(rt.alloc(), words, &mut input)?;
-        assert_same_in(&rt, &words, found, 2);
-        assert_in(&rt, &words, output.is_empty());
-        assert_same_in(&rt, &words, errors.as_slice(), USAGE.as_bytes());
+        let (found, output, errors) = run_on(rt.alloc(), arguments, &mut input)?;
+        assert_same_in(&rt, &arguments, found, 2);
+        assert_in(&rt, &arguments, output.is_empty());
+        assert_same_in(&rt, &arguments, errors.as_slice(), USAGE.as_bytes());
     }
     Ok(())
 }
@@ -336,8 +336,8 @@ fn tells_a_reader_that_fails(rt: HostRuntime) -> Result<(), Fail> {
                 kind: Some(kind),
                 rest: b"b",
             };
-            let words = ["find", "standard", "b"];
-            let (found, output, errors) = run_on(rt.alloc(), &words, &mut input)?;
+            let arguments = ["find", "standard", "b"];
+            let (found, output, errors) = run_on(rt.alloc(), &arguments, &mut input)?;
             let case = (&kind, "after", &first);
             assert_same_in(&rt, &case, found, 3);
             assert_in(&rt, &case, output.is_empty());
@@ -370,7 +370,7 @@ const WRITER_ROWS: [WriterRow; 8] = [
         told: "write fault\n",
     },
     WriterRow {
-        case: "memory is wanted",
+        case: "memory runs out",
         then: Then::Fails(ErrorKind::OutOfMemory),
         flush: None,
         told: "write fault\n",
@@ -421,34 +421,34 @@ fn held_of(then: Then, first: usize) -> &'static [u8] {
 /// Runs with a device for the output, and answers what was written on errors.
 fn run_into(
     alloc: Global,
-    words: &[&str],
+    arguments: &[&str],
     text: &[u8],
     output: &mut Device,
 ) -> Result<(u8, Vec<u8>), AllocError> {
-    let words = texts(alloc, words)?;
+    let arguments = texts(alloc, arguments)?;
     let mut errors = Vec::new(alloc);
     let mut input = text;
     let status = run(
         alloc,
-        words.as_slice(),
-        &mut ReadSource::new(&mut input),
-        &mut WriteSink::new(output),
-        &mut errors,
+        arguments.as_slice(),
+        &mut FromRead::new(&mut input),
+        &mut FromWrite::new(output),
+        &mut FromWrite::new(&mut errors),
     );
     Ok((status, errors))
 }
 
-/// The fault of a writer that takes `first` bytes at least is told, where these words print the two lines of this text.
+/// The fault of a writer that takes `first` bytes at least is told, where these arguments print the two lines of this text.
 fn tells_the_writer(
     rt: &impl Abort,
     alloc: Global,
-    words: &[&str],
+    arguments: &[&str],
     text: &[u8],
     row: &WriterRow,
     first: usize,
 ) -> Result<(), Fail> {
     let mut output = Device::new(alloc, first, row.then, row.flush);
-    let (found, errors) = run_into(alloc, words, text, &mut output)?;
+    let (found, errors) = run_into(alloc, arguments, text, &mut output)?;
     let case = (&row.case, "after", &first);
     assert_same_in(rt, &case, found, 3);
     let held = held_of(row.then, first);
@@ -462,12 +462,12 @@ fn tells_the_writer(
 fn tells_each_writer(
     rt: &impl Abort,
     alloc: Global,
-    words: &[&str],
+    arguments: &[&str],
     text: &[u8],
 ) -> Result<(), Fail> {
     for row in WRITER_ROWS {
         for first in [0, 1, 5, 6, 7, 11] {
-            tells_the_writer(rt, alloc, words, text, &row, first)?;
+            tells_the_writer(rt, alloc, arguments, text, &row, first)?;
         }
     }
     Ok(())
@@ -480,34 +480,34 @@ fn tells_a_writer_that_fails(rt: HostRuntime) -> Result<(), Fail> {
     tells_each_writer(&rt, rt.alloc(), &replace, b"ab 4\n")
 }
 
-/// These words on this input write this.
+/// These arguments on this input write this.
 fn replaces(
     rt: &impl Abort,
     alloc: Global,
-    words: &[&str],
+    arguments: &[&str],
     input: &[u8],
     written: &[u8],
 ) -> Result<(), Fail> {
     let mut rest = input;
-    let (status, output, errors) = run_on(alloc, words, &mut rest)?;
-    let case = (&words, "on", &input);
+    let (status, output, errors) = run_on(alloc, arguments, &mut rest)?;
+    let case = (&arguments, "on", &input);
     assert_same_in(rt, &case, status, 0);
     assert_same_in(rt, &case, output.as_slice(), written);
     assert_in(rt, &case, errors.is_empty());
     Ok(())
 }
 
-/// These words on this input, which comes a byte at a time, write this.
+/// These arguments on this input, which comes a byte at a time, write this.
 fn replaces_slowly(
     rt: &impl Abort,
     alloc: Global,
-    words: &[&str],
+    arguments: &[&str],
     input: &[u8],
     written: &[u8],
 ) -> Result<(), Fail> {
     let mut slow = Slow { rest: input };
-    let (status, output, _errors) = run_on(alloc, words, &mut slow)?;
-    let case = (&words, "on", &input, "one by one");
+    let (status, output, _errors) = run_on(alloc, arguments, &mut slow)?;
+    let case = (&arguments, "on", &input, "one by one");
     assert_same_in(rt, &case, status, 0);
     assert_same_in(rt, &case, output.as_slice(), written);
     Ok(())
@@ -532,9 +532,9 @@ fn replaces_each_match(rt: HostRuntime) -> Result<(), Fail> {
         (&["replace", "a", "b"], b"cd\n", b"cd\n"),
         (&["replace", "a", "b"], b"", b""),
     ];
-    for (words, input, written) in rows {
-        replaces(&rt, rt.alloc(), words, input, written)?;
-        replaces_slowly(&rt, rt.alloc(), words, input, written)?;
+    for (arguments, input, written) in rows {
+        replaces(&rt, rt.alloc(), arguments, input, written)?;
+        replaces_slowly(&rt, rt.alloc(), arguments, input, written)?;
     }
     Ok(())
 }
@@ -543,8 +543,8 @@ fn replaces_each_match(rt: HostRuntime) -> Result<(), Fail> {
 fn tells_a_replacement_that_is_refused_or_broken_off(rt: HostRuntime) -> Result<(), Fail> {
     let refused = "matching with an empty pattern string is not supported for this operation\n";
     let mut input: &[u8] = b"a";
-    let words = ["replace", "b", "y", "", "x"];
-    let (status, output, errors) = run_on(rt.alloc(), &words, &mut input)?;
+    let arguments = ["replace", "b", "y", "", "x"];
+    let (status, output, errors) = run_on(rt.alloc(), &arguments, &mut input)?;
     assert_same_in(&rt, "refused", status, 2);
     assert_in(&rt, "refused", output.is_empty());
     assert_same_in(&rt, "refused", errors.as_slice(), refused.as_bytes());
@@ -555,8 +555,8 @@ fn tells_a_replacement_that_is_refused_or_broken_off(rt: HostRuntime) -> Result<
         kind: Some(ErrorKind::Interrupted),
         rest: b"ck fox",
     };
-    let words = ["replace", "quick", "slow"];
-    let (status, output, errors) = run_on(rt.alloc(), &words, &mut broken)?;
+    let arguments = ["replace", "quick", "slow"];
+    let (status, output, errors) = run_on(rt.alloc(), &arguments, &mut broken)?;
     assert_same_in(&rt, "broken off", status, 3);
     assert_in(&rt, "broken off", output.len() >= 2);
     assert_in(&rt, "broken off", b"The ".starts_with(output.as_slice()));
@@ -572,10 +572,10 @@ fn tells_a_replacement_that_is_refused_or_broken_off(rt: HostRuntime) -> Result<
 /// Runs on a reader that fails at once, with a device for the errors, and answers what was written on output.
 fn run_with_errors(
     alloc: Global,
-    words: &[&str],
+    arguments: &[&str],
     errors: &mut Device,
 ) -> Result<(u8, Vec<u8>), AllocError> {
-    let words = texts(alloc, words)?;
+    let arguments = texts(alloc, arguments)?;
     let mut output = Vec::new(alloc);
     let mut input = Broken {
         first: b"",
@@ -584,10 +584,10 @@ fn run_with_errors(
     };
     let status = run(
         alloc,
-        words.as_slice(),
-        &mut ReadSource::new(&mut input),
-        &mut WriteSink::new(&mut output),
-        errors,
+        arguments.as_slice(),
+        &mut FromRead::new(&mut input),
+        &mut FromWrite::new(&mut output),
+        &mut FromWrite::new(errors),
     );
     Ok((status, output))
 }
@@ -597,13 +597,13 @@ fn keeps_the_status(
     rt: &impl Abort,
     alloc: Global,
     case: &str,
-    words: &[&str],
+    arguments: &[&str],
     then: Then,
     status: u8,
     told: &[u8],
 ) -> Result<(), Fail> {
     let mut errors = Device::new(alloc, 4, then, None);
-    let (found, output) = run_with_errors(alloc, words, &mut errors)?;
+    let (found, output) = run_with_errors(alloc, arguments, &mut errors)?;
     assert_same_in(rt, &case, found, status);
     assert_in(rt, &case, output.is_empty());
     assert_same_in(rt, &case, errors.held.as_slice(), told);
@@ -615,7 +615,7 @@ fn keeps_the_status_where_errors_cannot_be_told(rt: HostRuntime) -> Result<(), F
     let alloc = rt.alloc();
     let right = ["find", "standard", "b"];
     for then in [Then::TakesNone, Then::Fails(ErrorKind::Interrupted)] {
-        keeps_the_status(&rt, alloc, "wrong words", &["find"], then, 2, b"usag")?;
+        keeps_the_status(&rt, alloc, "wrong arguments", &["find"], then, 2, b"usag")?;
         keeps_the_status(&rt, alloc, "a reader that fails", &right, then, 3, b"read")?;
     }
     Ok(())
@@ -627,16 +627,16 @@ fn writes_in_pieces_and_flushes(rt: HostRuntime) -> Result<(), Fail> {
         ("standard", 0, "0 1 2\n0 3 4\n", ""),
         ("none", 2, "", USAGE),
     ] {
-        let words = texts(rt.alloc(), &["find", kind, "b"])?;
+        let arguments = texts(rt.alloc(), &["find", kind, "b"])?;
         let mut output = Device::new(rt.alloc(), 0, Then::Takes, None);
         let mut errors = Device::new(rt.alloc(), 0, Then::Takes, None);
         let mut input: &[u8] = b"abab";
         let found = run(
             rt.alloc(),
-            words.as_slice(),
-            &mut ReadSource::new(&mut input),
-            &mut WriteSink::new(&mut output),
-            &mut errors,
+            arguments.as_slice(),
+            &mut FromRead::new(&mut input),
+            &mut FromWrite::new(&mut output),
+            &mut FromWrite::new(&mut errors),
         );
         assert_same_in(&rt, &kind, found, status);
         assert_same_in(&rt, &kind, output.flushed.as_slice(), printed.as_bytes());
@@ -647,12 +647,12 @@ fn writes_in_pieces_and_flushes(rt: HostRuntime) -> Result<(), Fail> {
 
 /// The longest line has room.
 #[test]
-fn tells_each_fault_in_a_line(rt: HostRuntime) -> Result<(), Fail> {
+fn tells_each_failure_in_a_line(rt: HostRuntime) -> Result<(), Fail> {
     let max = u64::MAX;
     let rows = [
-        (Fault::Usage, 2, USAGE),
+        (Failure::Usage, 2, USAGE),
         (
-            Fault::Build(BuildError::StateIDOverflow {
+            Failure::Build(BuildError::StateIDOverflow {
                 max,
                 requested: max,
             }),
@@ -661,7 +661,7 @@ fn tells_each_fault_in_a_line(rt: HostRuntime) -> Result<(), Fail> {
              18446744073709551615\n",
         ),
         (
-            Fault::Build(BuildError::PatternIDOverflow {
+            Failure::Build(BuildError::PatternIDOverflow {
                 max,
                 requested: max,
             }),
@@ -670,7 +670,7 @@ fn tells_each_fault_in_a_line(rt: HostRuntime) -> Result<(), Fail> {
              18446744073709551615\n",
         ),
         (
-            Fault::Build(BuildError::PatternTooLong {
+            Failure::Build(BuildError::PatternTooLong {
                 pattern: PatternID::new(7)?,
                 len: usize::MAX,
                 max: usize::MAX,
@@ -678,21 +678,25 @@ fn tells_each_fault_in_a_line(rt: HostRuntime) -> Result<(), Fail> {
             2,
             "pattern 7 with length 18446744073709551615 exceeds the maximum pattern length of 18446744073709551615\n",
         ),
-        (Fault::Build(BuildError::OutOfMemory), 2, "out of memory\n"),
         (
-            Fault::Search(MatchError::unsupported_overlapping(MatchKind::LeftmostLongest)),
+            Failure::Build(BuildError::OutOfMemory),
+            2,
+            "out of memory\n",
+        ),
+        (
+            Failure::Search(MatchError::unsupported_overlapping(MatchKind::LeftmostLongest)),
             2,
             "match kind LeftmostLongest does not support overlapping searches\n",
         ),
-        (Fault::OutOfMemory, 2, "out of memory\n"),
-        (Fault::PositionLimit, 2, "position limit reached\n"),
-        (Fault::Read, 3, "read fault\n"),
-        (Fault::Write, 3, "write fault\n"),
-        (Fault::WriteZero, 3, "write took no bytes\n"),
+        (Failure::OutOfMemory, 2, "out of memory\n"),
+        (Failure::PositionLimit, 2, "position limit reached\n"),
+        (Failure::Read, 3, "read fault\n"),
+        (Failure::Write, 3, "write fault\n"),
+        (Failure::WriteZero, 3, "write took no bytes\n"),
     ];
-    for (fault, status, told) in &rows {
+    for (failure, status, told) in &rows {
         let mut errors = Vec::new(rt.alloc());
-        let found = report(fault, &mut errors);
+        let found = report(failure, &mut FromWrite::new(&mut errors));
         assert_same_in(&rt, told, found, *status);
         assert_same_in(&rt, told, errors.as_slice(), told.as_bytes());
     }

@@ -1,4 +1,4 @@
-//! What is written for some words, on both streams, and the status.
+//! What is written for some arguments, on both streams, and the status.
 
 use super::*;
 use std::alloc::AllocError;
@@ -29,25 +29,30 @@ impl Write for Device {
     }
 }
 
-/// The words of a call.
+/// The arguments of a call.
 fn texts(alloc: Global, given: &[&str]) -> Result<Vec<String>, AllocError> {
-    let mut words = Vec::new(alloc);
-    for word in given {
-        words.push(String::from_str(alloc, word)?)?;
+    let mut arguments = Vec::new(alloc);
+    for argument in given {
+        arguments.push(String::from_str(alloc, argument)?)?;
     }
-    Ok(words)
+    Ok(arguments)
 }
 
 /// The status of a call, and what was written on output and errors.
 fn run_on(alloc: Global, given: &[&str]) -> Result<(u8, Vec<u8>, Vec<u8>), AllocError> {
-    let words = texts(alloc, given)?;
+    let arguments = texts(alloc, given)?;
     let (mut output, mut errors) = (Vec::new(alloc), Vec::new(alloc));
-    let status = run(alloc, words.as_slice(), &mut output, &mut errors);
+    let status = run(
+        alloc,
+        arguments.as_slice(),
+        &mut FromWrite::new(&mut output),
+        &mut FromWrite::new(&mut errors),
+    );
     Ok((status, output, errors))
 }
 
 #[test]
-fn wrong_words_are_told(rt: HostRuntime) -> Result<(), Fail> {
+fn wrong_arguments_are_told(rt: HostRuntime) -> Result<(), Fail> {
     let rows: [&[&str]; 5] = [
         &[],
         &["standard"],
@@ -64,7 +69,7 @@ fn wrong_words_are_told(rt: HostRuntime) -> Result<(), Fail> {
     Ok(())
 }
 
-/// The whole text of some words, line by line.
+/// The whole text of some arguments, line by line.
 const ROWS: [(&[&str], &[&str]); 5] = [
     // Each state has its word, a link leads back, and a start leads to itself by a run of bytes.
     (
@@ -223,14 +228,19 @@ fn whole_texts(rt: HostRuntime) -> Result<(), Fail> {
 fn a_device_that_fails_is_told(rt: HostRuntime) -> Result<(), Fail> {
     for room in [0, 1, 100] {
         for (fails, told) in [(true, "write fault\n"), (false, "write took no bytes\n")] {
-            let words = texts(rt.alloc(), &["first", "ab"])?;
+            let arguments = texts(rt.alloc(), &["first", "ab"])?;
             let mut output = Device {
                 room,
                 fails,
                 taken: Vec::new(rt.alloc()),
             };
             let mut errors = Vec::new(rt.alloc());
-            let status = run(rt.alloc(), words.as_slice(), &mut output, &mut errors);
+            let status = run(
+                rt.alloc(),
+                arguments.as_slice(),
+                &mut FromWrite::new(&mut output),
+                &mut FromWrite::new(&mut errors),
+            );
             assert_eq!(rt; status, 3, "room for {room}");
             assert_eq!(rt; output.taken.len(), room, "room for {room}");
             assert_eq!(rt; errors.as_slice(), told.as_bytes(), "room for {room}");

@@ -2,12 +2,13 @@
 use Rattle.std.proofs.Common.{◌≡◌}
 use Rattle.std.specs.Io.KnownBytes.{Appends}
 use Rattle.commands.specs.Answers.{is_any, lines_of}
+use Rattle.commands.specs.Streams.{bytes_held}
 use Rattle.commands.proofs.print.print_lines.Given as goal
 
 abbrev pub invariant-loop-found : goal.invariant-loop-found
 invariant-loop-found g l = record {
   can_next : (goal.iterator-loop-found g).can_next l.found-iterator;
   is_finite : (goal.iterator-loop-found g).is_finite l.found-iterator;
-  written : Appends (g.W.Write.contents l.initial.output) (g.W.Write.contents l.output) (lines_of l.yielded);
+  written : Appends (bytes_held g.W.Write l.initial.output) (bytes_held g.W.Write l.output) (lines_of l.yielded);
   told : l.any ≡ is_any l.yielded;
 }

@@ -9,7 +9,7 @@ use Rattle.aho_base.specs.Replacement.{pieces_of}
 use Rattle.aho_build.specs.Refusals.{cause}
 use Rattle.aho_build.specs.Settings.{default_settings}
 use Rattle.aho_corasick.specs.contracts.noncontiguous.NFAAutomaton.TheImpl.{ghosts}
-use Rattle.commands.specs.Asked.{patterns_of_replacing}
+use Rattle.commands.specs.Asked.{patterns_to_replace}
 use Rattle.commands.proofs.replace.build.Goals as goal
 
 pub returns : goal.returns
@@ -18,7 +18,7 @@ returns c =
     let drained = built.1.0 in
     let words : pieces_of built.0 ≡ pieces_of c.args.patterns.now =
     ap pieces_of (sym (map-id built.0) ∙ items_from_drains built.0 (drained.1.0, drained.1.1, λ _. (drained.0, drained.1.2)) (YieldsList-from_copied (YieldsList-from_slice c.args.patterns.now (cc)))) in
-    let made : List (List ℕ) → Patterns = λ ws. patterns_of_replacing (record { words = ws; pieces = ws }) in
+    let made : List (List ℕ) → Patterns = λ ws. patterns_to_replace (record { words = ws; pieces = ws }) in
     record {
       of = λ asked same. subst (λ ws. ghosts.is_of c.in_ok-new.field-0 (made ws)) (words ∙ sym same) built.2;
       leaves = tt;

@@ -6,8 +6,8 @@ use Rattle.commands.proofs.replace.split.Given as goal
 
 abbrev pub invariant-loop-rest : goal.invariant-loop-rest
 invariant-loop-rest l =
-    (pieces_of l.patterns.items ++ at_even (map string_bytes l.rest) ≡ at_even (map string_bytes l.fn.words))
-    × (pieces_of l.pieces.items ++ at_odd (map string_bytes l.rest) ≡ at_odd (map string_bytes l.fn.words))
+    (pieces_of l.patterns.items ++ at_even (map string_bytes l.rest) ≡ at_even (map string_bytes l.fn.arguments))
+    × (pieces_of l.pieces.items ++ at_odd (map string_bytes l.rest) ≡ at_odd (map string_bytes l.fn.arguments))
     × (length l.rest % 2 ≡ 0)
 
 abbrev pub decreases-loop-rest : goal.decreases-loop-rest

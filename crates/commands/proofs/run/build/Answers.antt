@@ -6,7 +6,7 @@ use Rattle.aho_base.specs.Patterns.{Patterns}
 use Rattle.aho_build.specs.Refusals.{cause}
 use Rattle.aho_build.specs.declared.settings.Settings.{Settings}
 use Rattle.aho_corasick.specs.contracts.noncontiguous.NFAAutomaton.TheImpl.{ghosts}
-use Rattle.commands.specs.Asked.{asked_for, patterns_of, settings_for}
+use Rattle.commands.specs.Asked.{asked_for, asked_patterns, settings_for}
 use Rattle.commands.proofs.run.build.Goals as goal
 
 pub returns : goal.returns
@@ -14,7 +14,7 @@ returns c =
     let nfa = c.in_ok-build.field-0 in
     let built = c.in_ok-build.ensures.built in
     let drained = built.1.0 in
-    let asked = patterns_of (asked_for c.args.request.now) in
+    let asked = asked_patterns (asked_for c.args.request.now) in
     let words : map (λ (item : Bor (List ℕ)). item.now) built.0 ≡ asked.words =
     items_from_drains built.0 (drained.1.0, drained.1.1, λ _. (drained.0, drained.1.2))
     (YieldsList-from_map_by _ (λ (r : Bor (List ℕ)). r.now) string_bytes (YieldsList-from_slice c.args.request.now.patterns.now (cc)) (cc) (λ x r q k. search rules)) in

@@ -12,4 +12,4 @@ returns-clause-begun g c p of =
     let ran = c.print.ensures.begun in
     let first : AreFirstFinds p (plain_search c.args.text.now) None ran.0.items = search rules in
     let all = finds-begun p ran.0.items (plain_search c.args.text.now) None (omega arith) first in
-    begun-first (AreFinds p (plain_search c.args.text.now) None) _ _ ran.0.items all.0 all.1 ran.2
+    begun-first g.W.Write (AreFinds p (plain_search c.args.text.now) None) _ _ ran.0.items all.0 all.1 ran.2

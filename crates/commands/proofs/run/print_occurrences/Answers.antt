@@ -11,4 +11,4 @@ returns-clause-begun g c p of =
     let ran = c.print.ensures.begun in
     let all : List Occurrence = all_occurrences p c.args.text.now 0 (length c.args.text.now) in
     let first : ran.0.items ≡ take ran.0.len all = search rules in
-    begun-first (λ ms. ms ≡ all) _ _ ran.0.items (drop ran.0.len all) (ap (λ ms. ms ++ drop ran.0.len all) first ∙ take-append-drop ran.0.len all) ran.2
+    begun-first g.W.Write (λ ms. ms ≡ all) _ _ ran.0.items (drop ran.0.len all) (ap (λ ms. ms ++ drop ran.0.len all) first ∙ take-append-drop ran.0.len all) ran.2

@@ -1,6 +1,7 @@
 -- What was read so far is the text.
 use Rattle.std.specs.Io.KnownBytes.{Consumes}
+use Rattle.commands.specs.Streams.{bytes_left}
 use Rattle.commands.proofs.run.read.Given as goal
 
 abbrev pub invariant-loop : goal.invariant-loop
-invariant-loop g l = Consumes (g.R.Read.remaining l.initial.input) (g.R.Read.remaining l.input) l.text.items
+invariant-loop g l = Consumes (bytes_left l.initial.input) (bytes_left l.input) l.text.items

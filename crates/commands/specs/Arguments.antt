@@ -1,5 +1,5 @@
--- What the words after the program's name ask for.
-use Rattle.std.specs.Prelude.{◌≡◌, ℕ, ◌%◌, ◌==◌, ◌||◌, not, true, false, List, [], ◌∷◌, Option, Some, None, codes, length, option_and_then, if◌then◌else◌}
+-- What the arguments, those after the program's name, ask for.
+use Rattle.std.specs.Prelude.{◌≡◌, ℕ, ◌%◌, ◌==◌, ◌||◌, not, true, false, List, [], ◌∷◌, Option, Some, None, codes, length, map, String, string_bytes, Vec, Result, IfOk, option_and_then, if◌then◌else◌}
 use Rattle.std.specs.Str.{bytes_eq}
 use Rattle.aho_base.specs.declared.search.MatchKind.{MatchKind}
 use Rattle.aho_base.specs.declared.search.MatchKind.TheVariants.{Standard, LeftmostFirst, LeftmostLongest}
@@ -7,7 +7,7 @@ use Rattle.commands.specs.Asked.{Asked, Replacing, replacing_for}
 use Rattle.commands.specs.declared.command.Task.{Task}
 use Rattle.commands.specs.declared.command.Task.TheVariants.{Find, Overlap}
 
--- the match kind that a word names
+-- the match kind that an argument names
 abbrev pub kind_by : List ℕ → Option MatchKind
 kind_by word =
     if bytes_eq word (codes "standard") then Some Standard
@@ -50,6 +50,34 @@ abbrev pub replacing_by : List (List ℕ) → Option Replacing
 replacing_by [] = None
 replacing_by (word ∷ words) = if bytes_eq word (codes "replace") then pairs_by words else None
 
--- the words ask for nothing
-abbrev pub AreWrong : List (List ℕ) → Type 0
-AreWrong words = (asked_by words ≡ None) × (replacing_by words ≡ None)
+module _ {Z : Type 0} where
+  -- the bytes of each argument
+  abbrev pub texts : List (String Z) → List (List ℕ)
+  texts arguments = map string_bytes arguments
+
+  -- what holds of the matches that the arguments ask for, where they ask for some
+  abbrev pub IfAsked : List (String Z) → (Asked → Type 0) → Type 0
+  IfAsked arguments Holds = (asked : Asked) → asked_by (texts arguments) ≡ Some asked → Holds asked
+
+  -- what holds of the replacement that the arguments ask for, where they ask for one
+  abbrev pub IfReplacing : List (String Z) → (Replacing → Type 0) → Type 0
+  IfReplacing arguments Holds = (asked : Replacing) → replacing_by (texts arguments) ≡ Some asked → Holds asked
+
+  -- the arguments ask for nothing
+  abbrev pub AreWrong : List (String Z) → Type 0
+  AreWrong arguments = (asked_by (texts arguments) ≡ None) × (replacing_by (texts arguments) ≡ None)
+
+  -- the arguments do not ask for matches
+  abbrev pub AskForNone : List (String Z) → Type 0
+  AskForNone arguments = asked_by (texts arguments) ≡ None
+
+  -- the same where there may be a failure in the place of arguments
+  module _ {A E : Type 0} where
+    abbrev pub IfGivenAsked : Result (Vec (String Z) A) E → (Asked → Type 0) → Type 0
+    IfGivenAsked given Holds = IfOk given (λ arguments. IfAsked arguments.items Holds)
+
+    abbrev pub IfGivenReplacing : Result (Vec (String Z) A) E → (Replacing → Type 0) → Type 0
+    IfGivenReplacing given Holds = IfOk given (λ arguments. IfReplacing arguments.items Holds)
+
+    abbrev pub IfGivenWrong : Result (Vec (String Z) A) E → Type 0 → Type 0
+    IfGivenWrong given Holds = IfOk given (λ arguments. AreWrong arguments.items → Holds)

@@ -1,0 +1,50 @@
+-- The bytes that the input and the output of a call tell of.
+use Rattle.std.specs.Prelude.{◌≡◌, ℕ, List, Option}
+use Rattle.std.specs.declared.io.traits.Read.{Ghosts as Readers}
+use Rattle.std.specs.declared.io.traits.Write.{Ghosts as Writers}
+use Rattle.std.specs.Io.KnownBytes.{Appends}
+use Rattle.aho_devices.specs.Counts.{AppendsBeginning}
+use Rattle.aho_devices.specs.declared.adapters.FromRead.{FromRead}
+use Rattle.aho_devices.specs.declared.adapters.FromWrite.{FromWrite}
+
+-- what the input's reader has left and what the output's writer holds, before and after
+pub record Contents : Type 0 where
+  pub left_before : Option (List ℕ)
+  pub left_after : Option (List ℕ)
+  pub held_before : Option (List ℕ)
+  pub held_after : Option (List ℕ)
+
+-- the bytes that a reader has left, where it tells them
+abbrev pub bytes_left : {R : Type 0} {Reads : Readers R} → FromRead R Reads → Option (List ℕ)
+bytes_left {Reads = Reads} input = Reads.remaining input.device.reader
+
+-- the bytes that a writer holds, where it tells them
+abbrev pub bytes_held : {W : Type 0} → Writers W → FromWrite W → Option (List ℕ)
+bytes_held Writes output = Writes.contents output.device.writer
+
+-- those of an input and an output, each before and after
+abbrev pub contents : {R : Type 0} {Reads : Readers R} {W : Type 0}
+    → Writers W → FromRead R Reads → FromRead R Reads → FromWrite W → FromWrite W → Contents
+contents Writes input_old input_new output_old output_new = record {
+  left_before = bytes_left input_old;
+  left_after = bytes_left input_new;
+  held_before = bytes_held Writes output_old;
+  held_after = bytes_held Writes output_new;
+}
+
+module _ {W : Type 0} (Writes : Writers W) where
+  -- these bytes are written and nothing else
+  abbrev pub WritesBytes : FromWrite W → FromWrite W → List ℕ → Type 0
+  WritesBytes old new bytes = Appends (bytes_held Writes old) (bytes_held Writes new) bytes
+
+  -- a beginning of them is
+  abbrev pub WritesBeginning : FromWrite W → FromWrite W → List ℕ → Type 0
+  WritesBeginning old new bytes = AppendsBeginning (bytes_held Writes old) (bytes_held Writes new) bytes
+
+-- the reader was not called
+abbrev pub Unread : {R : Type 0} {Reads : Readers R} → FromRead R Reads → FromRead R Reads → Type 0
+Unread old new = new.device ≡ old.device
+
+-- the writer was not called
+abbrev pub Unwritten : {W : Type 0} → FromWrite W → FromWrite W → Type 0
+Unwritten old new = new.device ≡ old.device
