@@ -66,11 +66,11 @@ module _ (p : Patterns) (lengths : List ℕ) (are : lengths ≡ map length p.wor
   answer_on s t given bytes more (Err error) items follows are_these says then last =
       subst (λ (k : ℕ). P (search_from k bytes) last (matches_among items)) (error_from p s t given error says) (then last)
 
-module _ {A R : Type 0} (G : Ghosts A) (S : SourceGhosts R) (are : (automaton : A) (p : Patterns) → G.is_of automaton p → G.lengths automaton ≡ map length p.words) (p : Patterns) where
-  -- a call of `next`
-  abbrev pub find_steps : StreamFindIter A R → Option (Result Occurrence StreamError) → StreamFindIter A R → Type 0
-  find_steps it found rest = FindsNext G S it.chunks rest.chunks found
+-- a call of `next`
+abbrev pub find_steps : {A R : Type 0} → Ghosts A → SourceGhosts R → StreamFindIter A R → Option (Result Occurrence StreamError) → StreamFindIter A R → Type 0
+find_steps G S it found rest = FindsNext G S it.chunks rest.chunks found
 
+module _ {A R : Type 0} (G : Ghosts A) (S : SourceGhosts R) (are : (automaton : A) (p : Patterns) → G.is_of automaton p → G.lengths automaton ≡ map length p.words) (p : Patterns) where
   -- calls led from one iterator, once these bytes were given, to another, and answered so
   pub record Led (it rest : StreamChunkIter A R) (given : List ℕ) (items : List (Result Occurrence StreamError)) : Type 0 where
     pub bytes : List ℕ
@@ -143,7 +143,7 @@ module _ {A R : Type 0} (G : Ghosts A) (S : SourceGhosts R) (are : (automaton : 
     }
 
   pub led : (items : List (Result Occurrence StreamError)) (it rest : StreamFindIter A R) (given : List ℕ) → G.is_of (automaton_of it.chunks) p → HasGiven G it.chunks p given
-      → Yields find_steps it items rest → Led it.chunks rest.chunks given items
+      → Yields (find_steps G S) it items rest → Led it.chunks rest.chunks given items
   led [] it rest given of a same = subst (λ (x : StreamFindIter A R). Led it.chunks x.chunks given []) same (led_nowhere it.chunks given of a)
   led (item ∷ items) it rest given of a yields =
       let step = yields.1 in
@@ -158,7 +158,7 @@ module _ {A R : Type 0} (G : Ghosts A) (S : SourceGhosts R) (are : (automaton : 
     begins_at : it.chunks.progress.from ≡ 0
     begins_at = omega (arith, a.from_reported, a.reported_walked, a.walked_read, a.count)
 
-    pub finds_so_far : Yields find_steps it items rest → FindsSoFar S p it.chunks.source.now rest.chunks.source.now items
+    pub finds_so_far : Yields (find_steps G S) it items rest → FindsSoFar S p it.chunks.source.now rest.chunks.source.now items
     finds_so_far yields =
         let l = led items it rest [] of a yields in
         record {
@@ -168,7 +168,7 @@ module _ {A R : Type 0} (G : Ghosts A) (S : SourceGhosts R) (are : (automaton : 
           first = λ more follows. subst (λ (k : ℕ). AreFirstFinds p (search_from k (l.bytes ++ more)) None (matches_among items)) begins_at (l.first more follows None);
         }
 
-    pub finds_all : YieldsThen find_steps it items None rest → it.chunks.progress.refused ≡ false → is_limit_among items ≡ false → FindsAll S p it.chunks.source.now rest.chunks.source.now items
+    pub finds_all : YieldsThen (find_steps G S) it items None rest → it.chunks.progress.refused ≡ false → is_limit_among items ≡ false → FindsAll S p it.chunks.source.now rest.chunks.source.now items
     finds_all (mid, yields, step) below unlimited =
         let l = led items it mid [] of a yields in
         let says = step.finds p l.bytes l.of l.after in
@@ -190,22 +190,22 @@ module _ {A R : Type 0} (G : Ghosts A) (S : SourceGhosts R) (are : (automaton : 
 
   module _ (it : StreamFindIter A R) (of : G.is_of (automaton_of it.chunks) p) (a : HasGiven G it.chunks p [])
       (unended : it.chunks.progress.ended ≡ false) (below : it.chunks.progress.refused ≡ false) where
-    pub finds_along : FindsAlong S find_steps p it
+    pub finds_along : FindsAlong S (find_steps G S) p it
     finds_along = record {
       so_far = λ items rest yields. finds_so_far it rest items of a unended yields;
       all = λ items rest yields unlimited. finds_all it rest items of a unended yields below unlimited;
     }
 
     -- and each run
-    pub run_so_far : (run : Run find_steps) → run.from ≡ it → (left : R) × FindsSoFar S p it.chunks.source.now left run.items
+    pub run_so_far : (run : Run (find_steps G S)) → run.from ≡ it → (left : R) × FindsSoFar S p it.chunks.source.now left run.items
     unfolding YieldsRun
     run_so_far run from =
-        (run.gave.0.0.chunks.source.now, finds_along.so_far run.items run.gave.0.0 (subst (λ (x : StreamFindIter A R). Yields find_steps x run.items run.gave.0.0) from run.gave.0.1))
+        (run.gave.0.0.chunks.source.now, finds_along.so_far run.items run.gave.0.0 (subst (λ (x : StreamFindIter A R). Yields (find_steps G S) x run.items run.gave.0.0) from run.gave.0.1))
 
-    pub run_all : (run : Run find_steps) → run.from ≡ it → run.whole ≡ true → is_limit_among run.items ≡ false → (left : R) × FindsAll S p it.chunks.source.now left run.items
+    pub run_all : (run : Run (find_steps G S)) → run.from ≡ it → run.whole ≡ true → is_limit_among run.items ≡ false → (left : R) × FindsAll S p it.chunks.source.now left run.items
     unfolding YieldsRun
     run_all run from whole unlimited =
         let then = run.gave.0.2 whole in (
           then.0.chunks.source.now,
-          finds_along.all run.items then.0 (run.gave.0.0, subst (λ (x : StreamFindIter A R). Yields find_steps x run.items run.gave.0.0) from run.gave.0.1, then.1) unlimited,
+          finds_along.all run.items then.0 (run.gave.0.0, subst (λ (x : StreamFindIter A R). Yields (find_steps G S) x run.items run.gave.0.0) from run.gave.0.1, then.1) unlimited,
         )

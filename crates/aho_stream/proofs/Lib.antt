@@ -12,5 +12,6 @@ mod StreamFinds
 mod Countings
 mod Replacings
 pub mod FindRuns
+pub mod Collected
 mod StreamRuns
 mod Runnings

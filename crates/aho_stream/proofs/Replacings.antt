@@ -19,7 +19,7 @@ use Rattle.aho_search.specs.declared.automaton.Automaton.{Ghosts}
 use Rattle.aho_stream.specs.After.{IsAfter, MayFollow, kept_for, search_from}
 use Rattle.aho_stream.specs.Chunks.{Advances, Tells, TellsEnd, TellsError, TellsFault, ends_between}
 use Rattle.aho_stream.specs.Refills.{is_limit}
-use Rattle.aho_stream.specs.Replacing.{GaveAsMany, MayBe, SourceGave, WritesBeginning, WritesReplacement, WritesUpTo, chunk_bytes, piece_for}
+use Rattle.aho_stream.specs.Replacing.{GaveAsMany, MayBe, SourceGave, BeginsStream, ReplacesStream, ReplacesStreamUpTo, chunk_bytes, piece_for}
 use Rattle.aho_stream.specs.declared.progress.StreamProgress.{StreamProgress}
 use Rattle.aho_stream.specs.declared.progress.StreamPiece.{StreamPiece}
 use Rattle.aho_stream.specs.declared.progress.StreamPiece.TheVariants.{NonMatch, Match}
@@ -102,7 +102,7 @@ module _ {A : Type 0} (G : Ghosts A) (automaton : A) (p : Patterns) (lookups : �
 
 -- nothing was given and nothing was written
 pub begins_nothing : {A R W : Type 0} (G : Ghosts A) (S : SourceGhosts R) (K : SinkGhosts W) (automaton : A) (pieces : List (List ℕ)) (source : R) (sink : W)
-    → WritesBeginning G S K automaton pieces source source sink sink
+    → BeginsStream G S K automaton pieces source source sink sink
 begins_nothing G S K automaton pieces source sink = record {
   given = [];
   ended = false;
@@ -201,7 +201,7 @@ module _ {A R W : Type 0} (G : Ghosts A) (S : SourceGhosts R) (K : SinkGhosts W)
       }
 
       -- or a beginning of it
-      pub begins_chunk : (sink' : W) → AppendsBeginning (K.taken sink) (K.taken sink') chunk → WritesBeginning G S K automaton pieces first source' begun sink'
+      pub begins_chunk : (sink' : W) → AppendsBeginning (K.taken sink) (K.taken sink') chunk → BeginsStream G S K automaton pieces first source' begun sink'
       begins_chunk sink' (count, within, wrote) = record {
         given = given;
         ended = s'.ended;
@@ -239,7 +239,7 @@ module _ {A R W : Type 0} (G : Ghosts A) (S : SourceGhosts R) (K : SinkGhosts W)
       error_left = still_left fault.still.from fault.still.reported
 
       -- a beginning was written
-      pub begins_still : WritesBeginning G S K automaton pieces first source' begun sink
+      pub begins_still : BeginsStream G S K automaton pieces first source' begun sink
       begins_still = record {
         given = given;
         ended = s'.ended;
@@ -252,7 +252,7 @@ module _ {A R W : Type 0} (G : Ghosts A) (S : SourceGhosts R) (K : SinkGhosts W)
       }
 
       -- up to what was reported
-      pub up_to_still : WritesUpTo G S K automaton pieces first source' begun sink
+      pub up_to_still : ReplacesStreamUpTo G S K automaton pieces first source' begun sink
       up_to_still =
           let now = now_after p₀ of₀ in
           record {
@@ -280,7 +280,7 @@ module _ {A R W : Type 0} (G : Ghosts A) (S : SourceGhosts R) (K : SinkGhosts W)
       tells_end p of = subst (Tells p s s' given) is (advance.tells p going.given of (going.after p of))
 
       -- the whole was written
-      pub replaces_all : WritesReplacement G S K automaton pieces first source' begun sink
+      pub replaces_all : ReplacesStream G S K automaton pieces first source' begun sink
       replaces_all =
           let tells = tells_end p₀ of₀ in
           let over = all_told p₀ s s' given below tells in

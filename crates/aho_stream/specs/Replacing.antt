@@ -78,14 +78,14 @@ IsStreamFault PositionLimit = Unit {0}
 -- by this automaton, and with one piece for each of its patterns: from a source and a sink before a call to those after it
 module _ {A R W : Type 0} (G : Ghosts A) (S : SourceGhosts R) (K : SinkGhosts W) (automaton : A) (pieces : List (List ℕ)) (source source' : R) (sink sink' : W) where
   -- the stream has ended, and its replacement was written
-  pub record WritesReplacement : Type 0 where
+  pub record ReplacesStream : Type 0 where
     pub given : List ℕ
     pub gives : SourceGave S source source' given true
     pub writes : (p : Patterns) (ms : List Occurrence) → G.is_of automaton p → AreFinds p (plain_search given) None ms
         → Appends (K.taken sink) (K.taken sink') (replaced given ms pieces)
 
   -- a beginning of the replacement was written, whatever bytes may follow
-  pub record WritesBeginning : Type 0 where
+  pub record BeginsStream : Type 0 where
     pub given : List ℕ
     pub ended : Bool
     pub gives : SourceGave S source source' given ended
@@ -96,7 +96,7 @@ module _ {A R W : Type 0} (G : Ghosts A) (S : SourceGhosts R) (K : SinkGhosts W)
 
   -- the replacement was written up to a place, whatever bytes may follow: at most as many bytes were left out as the longest
   -- pattern has
-  pub record WritesUpTo : Type 0 where
+  pub record ReplacesStreamUpTo : Type 0 where
     pub given : List ℕ
     pub ended : Bool
     pub gives : SourceGave S source source' given ended

@@ -15,7 +15,7 @@ ghost use Rattle.aho_stream.specs.Iterators.{HasNotBegun, automaton_of};
 ghost use Rattle.aho_stream.specs.Refills.{is_limit};
 ghost use Rattle.aho_stream.specs.Starts.{IsFreshStart};
 ghost use Rattle.aho_stream.specs.StreamRun.{CanBegin, RefusesUntouched, RunsOver};
-ghost use Rattle.aho_stream.specs.Replacing.{GaveAsMany, IsMakingRefusal, IsStreamFault, WritesBeginning, WritesReplacement, WritesUpTo, chunk_bytes};
+ghost use Rattle.aho_stream.specs.Replacing.{GaveAsMany, IsMakingRefusal, IsStreamFault, BeginsStream, ReplacesStream, ReplacesStreamUpTo, chunk_bytes};
 
 use crate::chunks::StreamChunkIter;
 use crate::progress::StreamPiece;
@@ -51,14 +51,14 @@ fn replace_chunks<'a, 'r, A: Automaton, R: Source, W: Sink>(
     requires open { chunks.old.progress.ended ≡ false }
     requires below { chunks.old.progress.refused ≡ false }
     ensures same_source { chunks.new.source.ghost_name ≡ chunks.old.source.ghost_name }
-    ensures replaced { OnOk result (WritesReplacement A.Automaton R.Source W.Sink
+    ensures replaced { OnOk result (ReplacesStream A.Automaton R.Source W.Sink
         (automaton_of chunks.old) (pieces_of replace_with.now)
         chunks.old.source.now chunks.new.source.now sink.old sink.new) }
-    ensures begun { OnErr result (WritesBeginning A.Automaton R.Source W.Sink
+    ensures begun { OnErr result (BeginsStream A.Automaton R.Source W.Sink
         (automaton_of chunks.old) (pieces_of replace_with.now)
         chunks.old.source.now chunks.new.source.now sink.old sink.new) }
     ensures near { IfErr result (λ error. IsFillRefusal error →
-        WritesUpTo A.Automaton R.Source W.Sink
+        ReplacesStreamUpTo A.Automaton R.Source W.Sink
         (automaton_of chunks.old) (pieces_of replace_with.now)
         chunks.old.source.now chunks.new.source.now sink.old sink.new) }
     ensures limit { is_limit result ≡ true →
@@ -103,14 +103,14 @@ pub fn replace_stream<'a, A: Automaton, R: Source, W: Sink>(
     requires open { start.progress.ended ≡ false }
     requires below { start.progress.refused ≡ false }
     requires one_each { length replace_with.now ≡ length (A.lengths start.automaton.now) }
-    ensures replaced { OnOk result (WritesReplacement A.Automaton R.Source W.Sink
+    ensures replaced { OnOk result (ReplacesStream A.Automaton R.Source W.Sink
         start.entry.automaton.now (pieces_of replace_with.now)
         source.old source.new sink.old sink.new) }
-    ensures begun { OnErr result (WritesBeginning A.Automaton R.Source W.Sink
+    ensures begun { OnErr result (BeginsStream A.Automaton R.Source W.Sink
         start.entry.automaton.now (pieces_of replace_with.now)
         source.old source.new sink.old sink.new) }
     ensures near { IfErr result (λ error. IsFillRefusal error →
-        WritesUpTo A.Automaton R.Source W.Sink
+        ReplacesStreamUpTo A.Automaton R.Source W.Sink
         start.entry.automaton.now (pieces_of replace_with.now)
         source.old source.new sink.old sink.new) }
     ensures limit { is_limit result ≡ true →
@@ -146,12 +146,12 @@ pub fn try_stream_replace_all<A: Automaton, R: Source, W: Sink>(
 ) -> Result<(), StreamError>
     requires of { (p : Patterns) × A.is_of automaton.now p }
     requires one_each { length replace_with.now ≡ length (A.lengths automaton.now) }
-    ensures replaced { OnOk result (WritesReplacement A.Automaton R.Source W.Sink
+    ensures replaced { OnOk result (ReplacesStream A.Automaton R.Source W.Sink
         automaton.now (pieces_of replace_with.now) source.old source.new sink.old sink.new) }
-    ensures begun { OnErr result (WritesBeginning A.Automaton R.Source W.Sink
+    ensures begun { OnErr result (BeginsStream A.Automaton R.Source W.Sink
         automaton.now (pieces_of replace_with.now) source.old source.new sink.old sink.new) }
     ensures near { IfErr result (λ error. IsFillRefusal error →
-        WritesUpTo A.Automaton R.Source W.Sink
+        ReplacesStreamUpTo A.Automaton R.Source W.Sink
         automaton.now (pieces_of replace_with.now) source.old source.new sink.old sink.new) }
     ensures limit { is_limit result ≡ true →
         GaveAsMany R.Source source.old source.new greatest_position }
