@@ -34,7 +34,7 @@ fn main(rt: HostRuntime) -> Result<()> {
     let times = times.parse::<u32>().context("reading TIMES")?;
     let patterns = fs::read(&rt, patterns.as_str()).context("reading PATTERNS")?;
     let text = fs::read(&rt, text.as_str()).context("reading TEXT")?;
-    let measured = measure(&rt, rt.alloc(), &builder, &patterns, &text, times)?;
+    let measured = measured(&rt, rt.alloc(), &builder, &patterns, &text, times)?;
     println!(rt;
         "{:.9} {:.9} {} {} {}",
         measured.build.as_secs_f64(),
@@ -96,7 +96,7 @@ struct Measured {
 }
 
 /// Builds an automaton of the lines of the patterns, and searches a text so many times.
-fn measure<R: CpuClock>(
+fn measured<R: CpuClock>(
     rt: &R,
     alloc: Global,
     builder: &Builder,
