@@ -9,7 +9,7 @@
 ghost use Rattle.aho_base.specs.Patterns.{Patterns};
 
 use aho_base::search::{Input, MatchKind};
-use aho_corasick::noncontiguous::Builder;
+use aho_corasick::noncontiguous::{Builder, NFA};
 use aho_search::automaton::Automaton;
 use anyhow::{Context, Result, bail};
 use std::alloc::Global;
@@ -25,35 +25,28 @@ fn main(rt: HostRuntime) -> Result<()> {
         println!(rt; "usage: speeds KIND CASE PREFILTER DEPTH TIMES PATTERNS TEXT")?;
         return Ok(());
     };
-    let builder = builder_of(
-        kind.as_str(),
-        case.as_str(),
-        prefilter.as_str(),
-        depth.as_str(),
-    )?;
+    let mut builder = Builder::new();
+    builder.match_kind(kind_of(kind.as_str())?);
+    builder.ascii_case_insensitive(is_on(case.as_str())?);
+    builder.prefilter(is_on(prefilter.as_str())?);
+    builder.dense_depth(depth.parse::<usize>().context("reading DEPTH")?);
     let times = times.parse::<u32>().context("reading TIMES")?;
     let patterns = fs::read(&rt, patterns.as_str()).context("reading PATTERNS")?;
     let text = fs::read(&rt, text.as_str()).context("reading TEXT")?;
-    let measured = measured(&rt, rt.alloc(), &builder, &patterns, &text, times)?;
+    let lines = lines_of(rt.alloc(), &patterns)?;
+    let begun = rt.process_cpu_time()?;
+    let nfa = builder.build(rt.alloc(), lines.iter().copied())?;
+    let built = rt.process_cpu_time()?.saturating_sub(begun);
+    let (seen, least) = searched(&rt, &nfa, &text, times)?;
     println!(rt;
         "{:.9} {:.9} {} {} {}",
-        measured.build.as_secs_f64(),
-        measured.search.as_secs_f64(),
-        measured.seen.matches,
-        measured.seen.sum,
-        measured.size
+        built.as_secs_f64(),
+        least.as_secs_f64(),
+        seen.matches,
+        seen.sum,
+        nfa.memory_usage()
     )?;
     Ok(())
-}
-
-/// A builder of these settings.
-fn builder_of(kind: &str, case: &str, prefilter: &str, depth: &str) -> Result<Builder> {
-    let mut builder = Builder::new();
-    builder.match_kind(kind_of(kind)?);
-    builder.ascii_case_insensitive(is_on(case)?);
-    builder.prefilter(is_on(prefilter)?);
-    builder.dense_depth(depth.parse::<usize>().context("reading DEPTH")?);
-    Ok(builder)
 }
 
 /// The kind that a letter names.
@@ -86,37 +79,6 @@ fn lines_of(alloc: Global, bytes: &[u8]) -> Result<Vec<&[u8]>> {
     Ok(lines)
 }
 
-/// What is measured.
-#[derive(Clone, Copy)]
-struct Measured {
-    build: Duration,
-    search: Duration,
-    seen: Seen,
-    size: usize,
-}
-
-/// Builds an automaton of the lines of the patterns, and searches a text so many times.
-fn measured<R: CpuClock>(
-    rt: &R,
-    alloc: Global,
-    builder: &Builder,
-    patterns: &[u8],
-    text: &[u8],
-    times: u32,
-) -> Result<Measured> {
-    let lines = lines_of(alloc, patterns)?;
-    let begun = rt.process_cpu_time()?;
-    let nfa = builder.build(alloc, lines.iter().copied())?;
-    let build = rt.process_cpu_time()?.saturating_sub(begun);
-    let (seen, search) = searched(rt, &nfa, text, times)?;
-    Ok(Measured {
-        build,
-        search,
-        seen,
-        size: nfa.memory_usage(),
-    })
-}
-
 /// What the matches of a text come to.
 #[derive(Clone, Copy)]
 struct Seen {
@@ -125,35 +87,30 @@ struct Seen {
 }
 
 /// Searches a text so many times: what was seen last, and the least time of a search.
-fn searched<R: CpuClock, A: Automaton>(
-    rt: &R,
-    automaton: &A,
-    text: &[u8],
-    times: u32,
-) -> Result<(Seen, Duration)>
-    requires of { (p : Patterns) × A.is_of automaton.now p }
+fn searched<R: CpuClock>(rt: &R, nfa: &NFA, text: &[u8], times: u32) -> Result<(Seen, Duration)>
+    requires of { (p : Patterns) × ⟦<NFA as Automaton>⟧.is_of nfa.now p }
 {
     let mut seen = Seen { matches: 0, sum: 0 };
     let mut least = Duration::MAX;
     for _ in 0..times {
         let begun = rt.process_cpu_time()?;
-        seen = seen_in(automaton, text)?;
+        seen = seen_in(nfa, text);
         least = least.min(rt.process_cpu_time()?.saturating_sub(begun));
     }
     Ok((seen, least))
 }
 
 /// Searches a text once.
-fn seen_in<A: Automaton>(automaton: &A, text: &[u8]) -> Result<Seen>
-    requires of { (p : Patterns) × A.is_of automaton.now p }
+fn seen_in(nfa: &NFA, text: &[u8]) -> Seen
+    requires of { (p : Patterns) × ⟦<NFA as Automaton>⟧.is_of nfa.now p }
 {
     let mut seen = Seen { matches: 0, sum: 0 };
-    for m in automaton.try_find_iter(Input::new(text))? {
+    for m in nfa.try_find_iter(Input::new(text)).unwrap() {
         let places = (m.end() as u64)
             .wrapping_mul(7)
             .wrapping_add(m.start() as u64);
         seen.matches = seen.matches.wrapping_add(1);
         seen.sum = seen.sum.wrapping_mul(31).wrapping_add(places);
     }
-    Ok(seen)
+    seen
 }
