@@ -2,6 +2,6 @@
 #![tactic(auto)]
 
 pub mod matches;
+mod places;
 pub mod renumber;
 pub mod transitions;
-mod places;

@@ -15,8 +15,8 @@ ghost use Rattle.aho_lists.specs.Inside.{with_first, transition_of, transition_e
 ghost use Rattle.aho_lists.specs.Renaming.{IsTransitionLed};
 ghost use Rattle.std.specs.List.{AllZip};
 
-use crate::renumber::renamed;
 use crate::places::{are_beside, beside_alone, beside_behind, overflow, place_after};
+use crate::renumber::renamed;
 use aho_base::error::BuildError;
 use aho_base::search::{SmallIndex, StateID};
 use std::alloc::{AllocError, Global};

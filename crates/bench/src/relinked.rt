@@ -10,8 +10,8 @@ ghost use Rattle.bench.specs.Relinked.{IsRefused};
 
 use aho_base::error::{BuildError, MatchError};
 use aho_base::search::{Anchored, MatchKind, PatternID, SmallIndex, StateID, Work};
-use aho_build::special::Special;
 use aho_build::sizes::tables_bytes;
+use aho_build::special::Special;
 use aho_build::steps;
 use aho_corasick::noncontiguous::NFA;
 use aho_prefilter::prefilter::Prefilter;

@@ -11,7 +11,9 @@ use Rattle.aho_build.proofs.compiler.shuffle.gather_matches.Goals.{then-match_le
 pub loop-index-init : goal.loop-index-init
 loop-index-init c =
     let states = c.args.table.now.states in (
-      subst (λ (places : List ℕ). AreGathered 4 4 places states states) (sym c.requires.stay) (AreGathered-first states), refl, RowsAreMoved-first (length states) c.args.remapper.now c.args.table.now.rows c.requires.stay,
+      subst (λ (places : List ℕ). AreGathered 4 4 places states states) (sym c.requires.stay) (AreGathered-first states),
+      refl,
+      RowsAreMoved-first (length states) c.args.remapper.now c.args.table.now.rows c.requires.stay,
     )
 
 pub loop-index-preserved : goal.loop-index-preserved
@@ -41,7 +43,6 @@ loop-index-preserved c =
           let count : length loop.remapper ≡ length c.args.table.now.rows = omega arith in
           let of_index : loop.index < length c.args.table.now.rows = omega arith in
           let of_next : loop.next < length c.args.table.now.rows = omega arith in (
-
             subst (λ (n : ℕ). AreGathered n (loop.index + 1) c.if-match_len-gt0.remapper old after.states) (sym w.next-is)
                 (AreGathered-swapped old loop.next loop.index loop.remapper before loop.invariant.0 after.states c.if-match_len-gt0.remapper below some states places),
             ap (λ (t : Tables). record t { states = []; rows = [] }) w.table-is ∙ w.swap.ensures.kept ∙ loop.invariant.1,
