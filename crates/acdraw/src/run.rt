@@ -77,7 +77,11 @@ pub fn tell<E: Write>(failure: &Failure, errors: &mut FromWrite<E>) -> u8
 }
 
 /// Writes the automaton that the arguments ask for.
-fn answer<W: Write>(alloc: Global, arguments: &[String], output: &mut FromWrite<W>) -> Result<(), Failure>
+fn answer<W: Write>(
+    alloc: Global,
+    arguments: &[String],
+    output: &mut FromWrite<W>,
+) -> Result<(), Failure>
     ensures usage { find_by (texts arguments.now) ≡ None → result ≡ Err Usage }
     ensures unwritten { find_by (texts arguments.now) ≡ None → output.new ≡ output.old }
     ensures asked { OnOk result ((asked : Asked)
@@ -94,7 +98,11 @@ fn answer<W: Write>(alloc: Global, arguments: &[String], output: &mut FromWrite<
 }
 
 /// Writes the automaton that a request asks for.
-fn draw<W: Write>(alloc: Global, request: &Request<'_>, output: &mut FromWrite<W>) -> Result<(), Failure>
+fn draw<W: Write>(
+    alloc: Global,
+    request: &Request<'_>,
+    output: &mut FromWrite<W>,
+) -> Result<(), Failure>
     ensures builds { OnOk result (Builds (asked_for request.now)) }
     ensures draws { OnOk result (Draws (bytes_held W.Write output.old) (bytes_held W.Write output.new)) }
     ensures leaves { IfErr result (LeavesPrinting ⊤ (output.new ≡ output.old)
