@@ -1,7 +1,7 @@
 //! Laws of prefilters, each the contract of a function that does nothing: what a candidate tells a search, and that what
 //! is held for some patterns is a prefilter of them.
 
-ghost use Rattle.std.specs.Prelude.{◌≡◌, ◌≢◌, ◌≤◌, ◌<◌, ◌+◌, ◌↔◌, ℕ, Bool, List, Some, None, length, slice_index, false};
+ghost use Rattle.std.specs.Prelude.{◌≡◌, ◌≤◌, ◌↔◌, ℕ, Bool, List, Some, None, false};
 ghost use Rattle.std.specs.List.{Contains};
 ghost use Rattle.aho_base.specs.Answer.{IsAnswer};
 ghost use Rattle.aho_base.specs.Occurrence.{Occurrence};

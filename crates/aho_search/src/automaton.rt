@@ -5,23 +5,19 @@
 //! a search off these lists. What it takes for that to be the right answer are the trait's laws: whoever implements the
 //! trait proves them once, and each search is proved from them alone.
 
-ghost use Rattle.std.specs.Prelude.{◌≡◌, ℕ, List, [], ◌∷◌, ◌++◌, Bool, true, false, Option, Result, IsOk, IfOk, IfErr, Ok, Err, None, Some, IfSome, ◌+◌, ◌-◌, ◌<◌, ◌≤◌, ◌^◌, ◌↔◌, IsTrue, length, slice_get, slice_index, ◌≢◌, ◌*◌, min, OnOk, alloc_error, string_bytes, take, vec_items};
+ghost use Rattle.std.specs.Prelude.{◌≡◌, ℕ, List, [], ◌∷◌, ◌++◌, Bool, true, false, Option, Result, IsOk, IfOk, IfErr, Ok, Err, None, Some, IfSome, ◌+◌, ◌-◌, ◌<◌, ◌≤◌, ◌^◌, ◌↔◌, IsTrue, length, slice_get, slice_index, ◌≢◌, ◌*◌, OnOk, alloc_error, string_bytes, vec_items};
 ghost use Rattle.std.specs.Iterator.{UpTo};
-ghost use Rattle.std.specs.Iterator.Runs.{EachRunFrom};
 ghost use Rattle.std.specs.Option.{option_map};
 ghost use Rattle.aho_base.specs.Answer.{IsAnswer};
 ghost use Rattle.aho_base.specs.ClosureRun.{RunsInMemory};
-ghost use Rattle.aho_base.specs.Iteration.{AreFinds};
 ghost use Rattle.aho_base.specs.Laws.{Reads, longest, shortest};
 ghost use Rattle.aho_base.specs.Numbers.{greatest_index};
-ghost use Rattle.aho_base.specs.Occurrence.{Occurrence};
-ghost use Rattle.aho_base.specs.Overlapping.{all_occurrences, overlapping};
+ghost use Rattle.aho_base.specs.Overlapping.{overlapping};
 ghost use Rattle.aho_base.specs.Patterns.{Patterns};
-ghost use Rattle.aho_base.specs.Progress.{FitsSearch, without_match};
+ghost use Rattle.aho_base.specs.Progress.{without_match};
 ghost use Rattle.aho_base.specs.declared.error.MatchErrorKind.{MatchErrorKind};
 ghost use Rattle.aho_base.specs.declared.error.MatchErrorKind.TheVariants.{InvalidInputAnchored, UnsupportedOverlapping};
 ghost use Rattle.aho_base.specs.Replacement.{on_boundaries, pieces_of, replaced};
-ghost use Rattle.aho_base.specs.Search.{plain_search};
 ghost use Rattle.aho_base.specs.declared.error.replace.ReplaceError.{ReplaceError};
 ghost use Rattle.aho_base.specs.declared.search.Anchored.TheVariants.{No};
 ghost use Rattle.aho_base.specs.declared.search.Anchored.{Anchored};

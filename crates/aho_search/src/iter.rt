@@ -1,11 +1,9 @@
 //! The matches of a search, one after another.
 
-ghost use Rattle.std.specs.Prelude.{◌≡◌, ℕ, List, ◌+◌, ◌-◌, ◌<◌, ◌≤◌, IsOk, IfOk, IfErr, IfSome, Ok, Err, None, Some, suc, true};
+ghost use Rattle.std.specs.Prelude.{◌≡◌, ℕ, ◌+◌, ◌-◌, ◌<◌, ◌≤◌, IsOk, IfOk, IfErr, IfSome, Ok, Err, None, Some};
 ghost use Rattle.std.specs.Iterator.{UpTo, at_most};
-ghost use Rattle.std.specs.Iterator.Runs.{EachRunFrom};
 ghost use Rattle.aho_base.specs.Answer.{IsAnswer};
-ghost use Rattle.aho_base.specs.Iteration.{AreFinds, IsNextFind};
-ghost use Rattle.aho_base.specs.Occurrence.{Occurrence};
+ghost use Rattle.aho_base.specs.Iteration.{IsNextFind};
 ghost use Rattle.aho_base.specs.Patterns.{Patterns};
 ghost use Rattle.aho_search.specs.Fused.{IsFused};
 ghost use Rattle.aho_search.specs.Finding.{GivesFinds, GivesFirstFinds, GivesNext, from_next_place, last_after, places, places_left, search_after};

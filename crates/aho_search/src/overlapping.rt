@@ -19,13 +19,10 @@
 //!   end of its span, for the laws say of a dead state that the best match stays, and not that none ends later.
 
 ghost use Rattle.std.specs.Iterator.{at_most};
-ghost use Rattle.std.specs.Prelude.{◌≡◌, ◌≢◌, ℕ, [], true, false, ◌+◌, ◌<◌, ◌≤◌, ◌^◌, min, IsOk, IfOk, IfErr, IfSome, Ok, Err, None, Some, length, slice_get, slice_index};
+ghost use Rattle.std.specs.Prelude.{◌≡◌, ◌≢◌, ℕ, [], true, false, ◌+◌, ◌<◌, ◌≤◌, ◌^◌, IsOk, IfErr, IfSome, Ok, Err, None, Some, length, slice_index};
 ghost use Rattle.aho_base.specs.Impls.{ClonesTheSame};
 ghost use Rattle.aho_base.specs.Laws.{Fits};
-ghost use Rattle.aho_base.specs.Overlapping.{overlapping};
-ghost use Rattle.aho_base.specs.Patterns.{Patterns};
-ghost use Rattle.aho_base.specs.Progress.{FitsFrom, FitsSearch, IsPartWay, StandsAt, fresh, without_match};
-ghost use Rattle.aho_base.specs.declared.error.MatchErrorKind.{MatchErrorKind};
+ghost use Rattle.aho_base.specs.Progress.{fresh, without_match};
 ghost use Rattle.aho_base.specs.declared.error.MatchErrorKind.TheVariants.{UnsupportedOverlapping};
 ghost use Rattle.aho_base.specs.declared.search.Anchored.TheVariants.{No};
 ghost use Rattle.aho_base.specs.declared.search.MatchKind.TheVariants.{Standard};

@@ -1,9 +1,7 @@
 //! Replacement in memory: a haystack is copied with other bytes in the places of its matches.
 
-ghost use Rattle.std.specs.Prelude.{◌≡◌, IsOk, ℕ, IfOk, IsTrue, IsCharBoundary, ◌++◌, List, [], None, OnOk, slice_index_or, string_bytes, true, vec_items};
+ghost use Rattle.std.specs.Prelude.{◌≡◌, IsOk, ℕ, IfOk, IsTrue, IsCharBoundary, ◌++◌, [], None, OnOk, slice_index_or, string_bytes, true, vec_items};
 ghost use Rattle.aho_base.specs.ClosureRun.{RunsInMemory};
-ghost use Rattle.aho_base.specs.Iteration.{AreFinds};
-ghost use Rattle.aho_base.specs.Occurrence.{Occurrence};
 ghost use Rattle.aho_base.specs.Patterns.{Patterns};
 ghost use Rattle.aho_base.specs.Replacement.{is_on_boundaries, on_boundaries, pieces_of};
 ghost use Rattle.aho_base.specs.Search.{plain_search};

@@ -66,14 +66,12 @@ fn replacements_agree(
 {
     assert!(rt; first.patterns_len() == 2);
     let texts: [&str; 2] = ["<0>", "<1>"];
-    let (one, other) =
-        settings_do_not_change_replaced_text(alloc, first, second, TEXT, &texts)?;
+    let (one, other) = settings_do_not_change_replaced_text(alloc, first, second, TEXT, &texts)?;
     assert_same(rt, one.as_str(), "ab<1> <0>");
     assert_same(rt, other.as_str(), "ab<1> <0>");
     let pieces: [&[u8]; 2] = [b"<0>", b"<1>"];
     let bytes = TEXT.as_bytes();
-    let (one, other) =
-        settings_do_not_change_replaced_bytes(alloc, first, second, bytes, &pieces)?;
+    let (one, other) = settings_do_not_change_replaced_bytes(alloc, first, second, bytes, &pieces)?;
     assert_same(rt, one.as_slice(), b"ab<1> <0>");
     assert_same(rt, other.as_slice(), b"ab<1> <0>");
     Ok(())
