@@ -9,9 +9,10 @@ use Rattle.aho_base.specs.declared.error.stream.StreamError.{StreamError}
 use Rattle.aho_base.specs.declared.error.stream.StreamError.TheVariants.{Match as Refused, Read as ReadFault, Write, WriteZero, Memory, PositionLimit}
 use Rattle.aho_devices.specs.Counts.{counted}
 use Rattle.aho_devices.specs.Refusals.{is_read_fault}
-use Rattle.aho_stream.specs.After.{search_from}
-use Rattle.aho_stream.specs.Chunks.{Advances, DiesAt, ReadsOn, Tells, TellsError, TellsEnd, TellsMatch, TellsPlain, ends_between, match_told}
-use Rattle.aho_stream.specs.Finds.{Finds, FindsEnd, FindsError, FindsMatch, FindsNext}
+use Rattle.aho_search.specs.declared.automaton.Automaton.{Ghosts}
+use Rattle.aho_stream.specs.After.{IsAfter, search_from}
+use Rattle.aho_stream.specs.Chunks.{Advances, DiesAt, ReadsOn, Tells, TellsError, TellsEnd, TellsMatch, TellsPlain, ends_between, match_told, tells_limit}
+use Rattle.aho_stream.specs.Finds.{Finds, FindsEnd, FindsError, FindsMatch}
 use Rattle.aho_stream.specs.declared.progress.StreamProgress.{StreamProgress}
 use Rattle.aho_stream.specs.declared.progress.StreamPiece.{StreamPiece}
 use Rattle.aho_stream.specs.declared.progress.StreamPiece.TheVariants.{NonMatch, Match}
@@ -34,16 +35,15 @@ module _ {S : Type 0} (A : Ghosts S) (automaton : S) where
     is_after = λ p given of is. subst (After p lookups' s') (append_assoc given r.bytes a.reads.bytes) (a.reads.is_after p (given ++ r.bytes) of (r.is_after p given of is));
   }
 
-  -- with what its answer says of the match
-  pub finds_then : (lookups mid lookups' : ℕ) (s t s' : StreamProgress) (before between after : Option (List ℕ)) (answer : Option (Result StreamPiece StreamError)) (found : Option (Result Occurrence StreamError))
-      → (s.ended ≡ true → t.ended ≡ true) → ReadsOn A automaton lookups mid s t before between → Advances A automaton mid lookups' t s' between after answer
+  -- and then what its answer says of the match
+  pub says_then : (lookups mid lookups' : ℕ) (s t s' : StreamProgress) (before between after : Option (List ℕ)) (answer : Option (Result StreamPiece StreamError)) (found : Option (Result Occurrence StreamError))
+      (stays : s.ended ≡ true → t.ended ≡ true) (r : ReadsOn A automaton lookups mid s t before between) (a : Advances A automaton mid lookups' t s' between after answer)
       → ((p : Patterns) (given : List ℕ) → Tells p t s' given answer → Finds p s s' given found)
-      → FindsNext IsOf After lookups lookups' s s' before after found
+      → (p : Patterns) (given : List ℕ) → IsOf p → After p lookups s given
+      → Finds p s s' (given ++ (read_then lookups mid lookups' s t s' before between after answer stays r a).bytes) found
   unfolding read_then
-  finds_then lookups mid lookups' s t s' before between after answer found stays r a says = record {
-    reads = read_then lookups mid lookups' s t s' before between after answer stays r a;
-    finds = λ p given of is. says p (given ++ (r.bytes ++ a.reads.bytes)) (subst (λ (xs : List ℕ). Tells p t s' xs answer) (append_assoc given r.bytes a.reads.bytes) (a.tells p (given ++ r.bytes) of (r.is_after p given of is)));
-  }
+  says_then lookups mid lookups' s t s' before between after answer found stays r a says p given of is =
+      says p (given ++ (r.bytes ++ a.reads.bytes)) (subst (λ (xs : List ℕ). Tells p t s' xs answer) (append_assoc given r.bytes a.reads.bytes) (a.tells p (given ++ r.bytes) of (r.is_after p given of is)))
 
 -- an answer's word on the match, by the end of the last match alone
 pub match_found : (p : Patterns) (s t s' : StreamProgress) (given : List ℕ) (m : Occurrence) → t.from ≡ s.from → TellsMatch p t s' given m → FindsMatch p s s' given m
@@ -92,6 +92,15 @@ same_fault A B (Write reason) = refl
 same_fault A B WriteZero = refl
 same_fault A B Memory = refl
 same_fault A B PositionLimit = refl
+
+-- nor whether it is the limit
+pub same_limit : (A B : Type 0) (error : StreamError) → tells_limit {A = A} (Some (Err error)) ≡ tells_limit {A = B} (Some (Err error))
+same_limit A B (Refused cause) = refl
+same_limit A B (ReadFault reason) = refl
+same_limit A B (Write reason) = refl
+same_limit A B WriteZero = refl
+same_limit A B Memory = refl
+same_limit A B PositionLimit = refl
 
 -- the end is counted once
 pub counted_then : (b m a : Bool) (first mid last : ℕ) → (b ≡ true → m ≡ true) → (m ≡ true → a ≡ true) → mid ≡ counted (ends_between b m) first → last ≡ counted (ends_between m a) mid → last ≡ counted (ends_between b a) first

@@ -11,5 +11,7 @@ mod Found
 mod StreamFinds
 mod Countings
 mod Replacings
+mod FindRuns
+pub mod Collected
 mod StreamRuns
 mod Runnings

@@ -13,11 +13,13 @@ use Rattle.aho_base.specs.Occurrence.{Occurrence}
 use Rattle.aho_base.specs.Patterns.{Patterns}
 use Rattle.aho_base.specs.Search.{plain_search}
 use Rattle.aho_devices.specs.Counts.{AppendsBeginning, counted}
+use Rattle.aho_devices.specs.declared.device.Sink.{Ghosts as SinkGhosts}
+use Rattle.aho_devices.specs.declared.device.Source.{Ghosts as SourceGhosts}
 use Rattle.aho_search.specs.declared.automaton.Automaton.{Ghosts}
 use Rattle.aho_stream.specs.After.{IsAfter, MayFollow, kept_for, search_from}
 use Rattle.aho_stream.specs.Chunks.{Advances, Tells, TellsEnd, TellsError, TellsFault, ends_between}
 use Rattle.aho_stream.specs.Refills.{is_limit}
-use Rattle.aho_stream.specs.Replacing.{Begins, Gives, MayBe, Replaces, ReplacesUpTo, bytes_for, piece_for}
+use Rattle.aho_stream.specs.Replacing.{GaveAsMany, MayBe, SourceGave, BeginsStream, ReplacesStream, ReplacesStreamUpTo, chunk_bytes, piece_for}
 use Rattle.aho_stream.specs.declared.progress.StreamProgress.{StreamProgress}
 use Rattle.aho_stream.specs.declared.progress.StreamPiece.{StreamPiece}
 use Rattle.aho_stream.specs.declared.progress.StreamPiece.TheVariants.{NonMatch, Match}
@@ -61,18 +63,23 @@ count_on false true reads stays = refl
 count_on false false reads stays = refl
 
 -- what may follow later may follow now, behind what was given in between
-may_follow : (before after : Bool) (bytes more : List ℕ) → (before ≡ true → bytes ≡ []) → (before ≡ true → after ≡ true) → MayFollow after more → MayFollow before (bytes ++ more)
+pub may_follow : (before after : Bool) (bytes more : List ℕ) → (before ≡ true → bytes ≡ []) → (before ≡ true → after ≡ true) → MayFollow after more → MayFollow before (bytes ++ more)
 may_follow false after bytes more closed stays follows = tt
 may_follow true true bytes more closed stays follows = ap (λ (xs : List ℕ). xs ++ more) (closed refl) ∙ follows
 may_follow true false bytes more closed stays follows = let clash : false ≡ true = stays refl in cc
 
 -- a source gave more
-pub gives_on : (first left left' : Option (List ℕ)) (first_reads reads reads' : ℕ) (given bytes : List ℕ) (before after : Bool) → Gives first left first_reads reads given before
-    → Consumes left left' bytes → reads' ≡ counted (ends_between before after) reads → (before ≡ true → after ≡ true) → Gives first left' first_reads reads' (given ++ bytes) after
-gives_on first left left' first_reads reads reads' given bytes before after gives read counts stays = record {
-  bytes = Consumes-trans first left left' given bytes gives.bytes read;
-  end = counts ∙ ap (counted (ends_between before after)) gives.end ∙ count_on before after first_reads stays;
+pub gives_on : {R : Type 0} (S : SourceGhosts R) (first source source' : R) (given bytes : List ℕ) (before after : Bool) → SourceGave S first source given before
+    → Consumes (S.remaining source) (S.remaining source') bytes → S.empty_reads source' ≡ counted (ends_between before after) (S.empty_reads source)
+    → (before ≡ true → after ≡ true) → SourceGave S first source' (given ++ bytes) after
+gives_on S first source source' given bytes before after gives read counts stays = record {
+  bytes = Consumes-trans (S.remaining first) (S.remaining source) (S.remaining source') given bytes gives.bytes read;
+  end = counts ∙ ap (counted (ends_between before after)) gives.end ∙ count_on before after (S.empty_reads first) stays;
 }
+
+-- nothing was given yet
+pub gives_nothing : {R : Type 0} (S : SourceGhosts R) (source : R) (ended : Bool) → ended ≡ false → SourceGave S source source [] ended
+gives_nothing S source ended not_ended = record { bytes = Consumes-nil (S.remaining source); end = ap (λ (b : Bool). counted b (S.empty_reads source)) (sym not_ended) }
 
 -- what a stream may be later it may be now
 pub might_be : (given bytes all : List ℕ) (before after : Bool) → (before ≡ true → bytes ≡ []) → (before ≡ true → after ≡ true) → MayBe (given ++ bytes) after all → MayBe given before all
@@ -84,31 +91,28 @@ might_be given bytes all before after closed stays may = (
 
 -- each chunk leaves less room under the limit
 module _ {A : Type 0} (G : Ghosts A) (automaton : A) (p : Patterns) (lookups : ℕ) (s s' : StreamProgress) (given : List ℕ) where
-  abbrev lengths : List ℕ
-  lengths = G.lengths automaton
-
-  some_told : (piece : StreamPiece) → lengths ≡ map length p.words → IsAfter G automaton p lookups s' given → Tells p s s' given (Some (Ok piece)) → s.reported + 1 ≤ s'.reported
+  some_told : (piece : StreamPiece) → G.lengths automaton ≡ map length p.words → IsAfter G automaton p lookups s' given → Tells p s s' given (Some (Ok piece)) → s.reported + 1 ≤ s'.reported
   some_told NonMatch are after tells = tells.some
   some_told (Match m) are after tells =
-      omega (arith, occurs_some p lengths are m ((tells.answer [] (MayFollow-nothing s'.ended)).0) after.no_empty, tells.starts, tells.reported)
+      omega (arith, occurs_some p (G.lengths automaton) are m ((tells.answer [] (MayFollow-nothing s'.ended)).0) after.no_empty, tells.starts, tells.reported)
 
-  pub less_left : (piece : StreamPiece) → lengths ≡ map length p.words → IsAfter G automaton p lookups s' given → Tells p s s' given (Some (Ok piece))
+  pub less_left : (piece : StreamPiece) → G.lengths automaton ≡ map length p.words → IsAfter G automaton p lookups s' given → Tells p s s' given (Some (Ok piece))
       → s'.limit ≡ s.limit → s'.limit - s'.reported < s.limit - s.reported
   less_left piece are after tells same = omega (arith, some_told piece are after tells, after.reported_walked, after.walked_read, after.limited, same)
 
 -- nothing was given and nothing was written
-pub begins_nothing : (IsOf : Patterns → Type 0) (pieces : List (List ℕ)) (before : Option (List ℕ)) (reads : ℕ) (old : Option (List ℕ)) → Begins IsOf pieces before before reads reads old old
-begins_nothing IsOf pieces before reads old = record {
+pub begins_nothing : {A R W : Type 0} (G : Ghosts A) (S : SourceGhosts R) (K : SinkGhosts W) (automaton : A) (pieces : List (List ℕ)) (source : R) (sink : W)
+    → BeginsStream G S K automaton pieces source source sink sink
+begins_nothing G S K automaton pieces source sink = record {
   given = [];
   ended = false;
-  gives = record { bytes = Consumes-nil before; end = refl };
+  gives = gives_nothing S source false refl;
   written = [];
-  writes = Appends-nil old;
+  writes = Appends-nil (K.taken sink);
   beginning = λ p bytes ms of may finds. refl;
 }
 
-module _ {A : Type 0} (G : Ghosts A) (automaton : A) (pieces : List (List ℕ))
-    (first : Option (List ℕ)) (first_reads : ℕ) (begun : Option (List ℕ)) where
+module _ {A R W : Type 0} (G : Ghosts A) (S : SourceGhosts R) (K : SinkGhosts W) (automaton : A) (pieces : List (List ℕ)) (first : R) (begun : W) where
   abbrev IsOf : Patterns → Type 0
   IsOf = G.is_of automaton
 
@@ -119,22 +123,22 @@ module _ {A : Type 0} (G : Ghosts A) (automaton : A) (pieces : List (List ℕ))
   After = IsAfter G automaton
 
   -- so much was given and written, and what is left goes on to the whole
-  pub record Going (lookups : ℕ) (s : StreamProgress) (left : Option (List ℕ)) (reads : ℕ) (taken : Option (List ℕ)) : Type 0 where
+  pub record Going (lookups : ℕ) (s : StreamProgress) (source : R) (sink : W) : Type 0 where
     pub given : List ℕ
     pub written : List ℕ
-    pub gives : Gives first left first_reads reads given s.ended
-    pub writes : Appends begun taken written
+    pub gives : SourceGave S first source given s.ended
+    pub writes : Appends (K.taken begun) (K.taken sink) written
     pub after : (p : Patterns) → IsOf p → After p lookups s given
     pub rest : (p : Patterns) (bytes : List ℕ) (ms : List Occurrence) → IsOf p → MayBe given s.ended bytes → AreFinds p (plain_search bytes) None ms
         → Left p (piece_for pieces) bytes ms s.from s.reported written
 
   pub going_first : (lookups : ℕ) (s : StreamProgress) → s.ended ≡ false → s.from ≡ 0 → s.reported ≡ 0
-      → ((p : Patterns) → IsOf p → After p lookups s []) → Going lookups s first first_reads begun
+      → ((p : Patterns) → IsOf p → After p lookups s []) → Going lookups s first begun
   going_first lookups s not_ended from reported after = record {
     given = [];
     written = [];
-    gives = record { bytes = Consumes-nil first; end = ap (λ (b : Bool). counted b first_reads) (sym not_ended) };
-    writes = Appends-nil begun;
+    gives = gives_nothing S first s.ended not_ended;
+    writes = Appends-nil (K.taken begun);
     after = after;
     rest = λ p bytes ms of may finds.
         subst (λ (k : ℕ). Left p (piece_for pieces) bytes ms k s.reported []) (sym from)
@@ -142,17 +146,17 @@ module _ {A : Type 0} (G : Ghosts A) (automaton : A) (pieces : List (List ℕ))
         (left_first p (piece_for pieces) bytes ms finds));
   }
 
-  module _ (are : (p : Patterns) → IsOf p → lengths ≡ map length p.words) (lookups lookups' : ℕ) (s s' : StreamProgress) (left left' : Option (List ℕ)) (reads reads' : ℕ) (taken : Option (List ℕ)) (answer : Option (Result StreamPiece StreamError))
-      (going : Going lookups s left reads taken) (advance : Advances G automaton lookups lookups' s s' left left' answer)
-      (counts : reads' ≡ counted (ends_between s.ended s'.ended) reads) (stays : s.ended ≡ true → s'.ended ≡ true) where
+  module _ (are : (p : Patterns) → IsOf p → lengths ≡ map length p.words) (lookups lookups' : ℕ) (s s' : StreamProgress) (source source' : R) (sink : W) (answer : Option (Result StreamPiece StreamError))
+      (going : Going lookups s source sink) (advance : Advances G automaton lookups lookups' s s' (S.remaining source) (S.remaining source') answer)
+      (counts : S.empty_reads source' ≡ counted (ends_between s.ended s'.ended) (S.empty_reads source)) (stays : s.ended ≡ true → s'.ended ≡ true) where
     abbrev pub given : List ℕ
     given = going.given ++ advance.reads.bytes
 
     abbrev pub now_after : (p : Patterns) → IsOf p → After p lookups' s' given
     now_after p of = advance.reads.is_after p going.given of (going.after p of)
 
-    pub now_gives : Gives first left' first_reads reads' given s'.ended
-    now_gives = gives_on first left left' first_reads reads reads' going.given advance.reads.bytes s.ended s'.ended going.gives advance.reads.read counts stays
+    pub now_gives : SourceGave S first source' given s'.ended
+    now_gives = gives_on S first source source' going.given advance.reads.bytes s.ended s'.ended going.gives advance.reads.read counts stays
 
     module _ (p : Patterns) (of : IsOf p) (bytes : List ℕ) (ms : List Occurrence) (may : MayBe given s'.ended bytes) (finds : AreFinds p (plain_search bytes) None ms) where
       abbrev IsLeft : ℕ → ℕ → List ℕ → Type 0
@@ -161,7 +165,7 @@ module _ {A : Type 0} (G : Ghosts A) (automaton : A) (pieces : List (List ℕ))
       was_left : IsLeft s.from s.reported going.written
       was_left = going.rest p bytes ms of (might_be going.given advance.reads.bytes bytes s.ended s'.ended advance.reads.closed stays may) finds
 
-      left_chunk : (piece : StreamPiece) → Tells p s s' given (Some (Ok piece)) → IsLeft s'.from s'.reported (going.written ++ bytes_for piece (slice_range given s'.told s'.reported) pieces)
+      left_chunk : (piece : StreamPiece) → Tells p s s' given (Some (Ok piece)) → IsLeft s'.from s'.reported (going.written ++ chunk_bytes piece (slice_range given s'.told s'.reported) pieces)
       left_chunk NonMatch tells =
           let clear = λ (m : Occurrence) (answer : IsAnswer p (search_from s.from bytes) (Some m)).
           tells.clear may.0 m may.2 (subst (λ (xs : List ℕ). IsAnswer p (search_from s.from xs) (Some m)) may.1 answer) in
@@ -180,30 +184,30 @@ module _ {A : Type 0} (G : Ghosts A) (automaton : A) (pieces : List (List ℕ))
 
     module _ (piece : StreamPiece) (is : answer ≡ Some (Ok piece)) where
       abbrev pub chunk : List ℕ
-      chunk = bytes_for piece (slice_range given s'.told s'.reported) pieces
+      chunk = chunk_bytes piece (slice_range given s'.told s'.reported) pieces
 
       tells_piece : (p : Patterns) → IsOf p → Tells p s s' given (Some (Ok piece))
       tells_piece p of = subst (Tells p s s' given) is (advance.tells p going.given of (going.after p of))
 
       -- a chunk was written
-      pub going_on : (taken' : Option (List ℕ)) → Appends taken taken' chunk → Going lookups' s' left' reads' taken'
-      going_on taken' wrote = record {
+      pub going_on : (sink' : W) → Appends (K.taken sink) (K.taken sink') chunk → Going lookups' s' source' sink'
+      going_on sink' wrote = record {
         given = given;
         written = going.written ++ chunk;
         gives = now_gives;
-        writes = Appends-trans begun taken taken' going.written chunk going.writes wrote;
+        writes = Appends-trans (K.taken begun) (K.taken sink) (K.taken sink') going.written chunk going.writes wrote;
         after = now_after;
         rest = λ p bytes ms of may finds. left_chunk p of bytes ms may finds piece (tells_piece p of);
       }
 
       -- or a beginning of it
-      pub begins_chunk : (taken' : Option (List ℕ)) → AppendsBeginning taken taken' chunk → Begins IsOf pieces first left' first_reads reads' begun taken'
-      begins_chunk taken' (count, within, wrote) = record {
+      pub begins_chunk : (sink' : W) → AppendsBeginning (K.taken sink) (K.taken sink') chunk → BeginsStream G S K automaton pieces first source' begun sink'
+      begins_chunk sink' (count, within, wrote) = record {
         given = given;
         ended = s'.ended;
         gives = now_gives;
         written = going.written ++ take count chunk;
-        writes = Appends-trans begun taken taken' going.written (take count chunk) going.writes wrote;
+        writes = Appends-trans (K.taken begun) (K.taken sink) (K.taken sink') going.written (take count chunk) going.writes wrote;
         beginning = λ p bytes ms of may finds.
             left_begins p (piece_for pieces) bytes ms lengths (are p of) ((now_after p of).no_empty) s'.from s'.reported (going.written ++ take count chunk) (drop count chunk)
             (subst (λ (xs : List ℕ). IsLeft p of bytes ms may finds s'.from s'.reported xs)
@@ -212,7 +216,7 @@ module _ {A : Type 0} (G : Ghosts A) (automaton : A) (pieces : List (List ℕ))
       }
 
       pub less_room : (p : Patterns) → IsOf p → s'.limit ≡ s.limit → s'.limit - s'.reported < s.limit - s.reported
-      less_room p of same = less_left p lengths valid (held p) depth lookups' s s' given piece (are p of) (now_after p of) (tells_piece p of) same
+      less_room p of same = less_left G automaton p lookups' s s' given piece (are p of) (now_after p of) (tells_piece p of) same
 
     -- nothing was told, and nothing was written
     module _ (from_same : s'.from ≡ s.from) (reported_same : s'.reported ≡ s.reported) where
@@ -235,7 +239,7 @@ module _ {A : Type 0} (G : Ghosts A) (automaton : A) (pieces : List (List ℕ))
       error_left = still_left fault.still.from fault.still.reported
 
       -- a beginning was written
-      pub begins_still : Begins IsOf pieces first left' first_reads reads' begun taken
+      pub begins_still : BeginsStream G S K automaton pieces first source' begun sink
       begins_still = record {
         given = given;
         ended = s'.ended;
@@ -248,7 +252,7 @@ module _ {A : Type 0} (G : Ghosts A) (automaton : A) (pieces : List (List ℕ))
       }
 
       -- up to what was reported
-      pub up_to_still : ReplacesUpTo IsOf pieces first left' first_reads reads' begun taken (kept_for lengths)
+      pub up_to_still : ReplacesStreamUpTo G S K automaton pieces first source' begun sink
       up_to_still =
           let now = now_after p₀ of₀ in
           record {
@@ -261,13 +265,13 @@ module _ {A : Type 0} (G : Ghosts A) (automaton : A) (pieces : List (List ℕ))
             writes = λ p bytes ms of may finds.
                 let clear = λ (m : Occurrence) (answer : IsAnswer p (search_from s'.from bytes) (Some m)).
                 (now_after p of).clear may.0 m may.2 (subst (λ (xs : List ℕ). IsAnswer p (search_from s'.from xs) (Some m)) may.1 answer) in
-                subst (Appends begun taken)
+                subst (Appends (K.taken begun) (K.taken sink))
                 (sym (left_up_to p (piece_for pieces) bytes ms lengths (are p of) ((now_after p of).no_empty) s'.from s'.reported going.written (error_left p of bytes ms may finds) clear))
                 going.writes;
           }
 
       -- at the limit as many bytes were given
-      pub limit_met : is_limit {A = Unit {0}} (Err error) ≡ true → (all : List ℕ) × Consumes first left' all × (length all ≡ s.limit)
+      pub limit_met : is_limit {A = Unit {0}} (Err error) ≡ true → GaveAsMany S first source' s.limit
       limit_met met = (given, now_gives.bytes, limit_told p₀ s s' given error tells_error met)
 
     -- no more was answered
@@ -276,16 +280,16 @@ module _ {A : Type 0} (G : Ghosts A) (automaton : A) (pieces : List (List ℕ))
       tells_end p of = subst (Tells p s s' given) is (advance.tells p going.given of (going.after p of))
 
       -- the whole was written
-      pub replaces_all : Replaces IsOf pieces first left' first_reads reads' begun taken
+      pub replaces_all : ReplacesStream G S K automaton pieces first source' begun sink
       replaces_all =
           let tells = tells_end p₀ of₀ in
           let over = all_told p₀ s s' given below tells in
           record {
             given = given;
-            gives = subst (λ (b : Bool). Gives first left' first_reads reads' given b) over.0 now_gives;
+            gives = subst (λ (b : Bool). SourceGave S first source' given b) over.0 now_gives;
             writes = λ p ms of finds.
                 let may : MayBe given s'.ended given = ([], sym (append-nil given), subst (λ (b : Bool). MayFollow b []) (sym over.0) refl) in
-                subst (Appends begun taken)
+                subst (Appends (K.taken begun) (K.taken sink))
                 (sym (left_none p (piece_for pieces) given ms lengths (are p of) ((now_after p of).no_empty) s'.from s'.reported going.written (still_left tells.still.from tells.still.reported p of given ms may finds) ((tells_end p of).none (inr over.0)) (sym over.1)))
                 going.writes;
           }

@@ -18,10 +18,11 @@ use Rattle.aho_base.specs.Patterns.{Patterns}
 use Rattle.aho_base.specs.Search.{plain_search}
 use Rattle.aho_devices.specs.Counts.{counted}
 use Rattle.aho_devices.specs.Refusals.{IsFillRefusal, IsWriteRefusal, is_write_fault, is_write_of_nothing}
+use Rattle.aho_devices.specs.declared.device.Sink.{Ghosts as SinkGhosts}
 use Rattle.aho_search.proofs.NextFinds.{finds-next, finds-none}
 use Rattle.aho_search.proofs.Places.{no_part, part_join}
 use Rattle.aho_stream.specs.After.{search_from}
-use Rattle.aho_stream.specs.StreamRun.{CallsOn, Takes, starting_before}
+use Rattle.aho_stream.specs.StreamRun.{CallsOn, SinkTakes, starting_before}
 use Rattle.aho_stream.proofs.PatternLengths.{occurs_some}
 use Rattle.aho_stream.proofs.StreamFinds.{answer_of_find, find_of_answer}
 
@@ -32,19 +33,18 @@ part_cut bytes place start end ordered within =
     ap (take (end - start)) (ap (λ (k : ℕ). drop start (take k bytes)) (sym split) ∙ drop-take start (place - start) bytes)
     ∙ take-take (end - start) (place - start) (drop start bytes) (omega arith)
 
-module _ {F S : Type 0} (taken : S → Option (List ℕ)) (failures empty_writes : S → ℕ)
-    (calls : Mut F (Bor Occurrence × (Bor (List ℕ) × (MutBor S × Unit {0}))) (Result (Unit {0}) StreamError × (MutBor S × Unit {0}))) (closure : F) (begun : S) where
+module _ {F S : Type 0} (K : SinkGhosts S) (calls : Mut F (Bor Occurrence × (Bor (List ℕ) × (MutBor S × Unit {0}))) (Result (Unit {0}) StreamError × (MutBor S × Unit {0}))) (closure : F) (begun : S) where
   -- a sink took bytes, and none of its counts rose
   pub record Took (old : S) (bytes : List ℕ) (new : S) : Type 0 where
-    pub bytes_are : Appends (taken old) (taken new) bytes
-    pub no_failure : failures new ≡ failures old
-    pub no_empty_write : empty_writes new ≡ empty_writes old
+    pub bytes_are : Appends (K.taken old) (K.taken new) bytes
+    pub no_failure : K.failures new ≡ K.failures old
+    pub no_empty_write : K.empty_writes new ≡ K.empty_writes old
 
   -- a run of the closure
   abbrev pub Run : Bool → List ℕ → ℕ → List Occurrence → F → S → Result (Unit {0}) StreamError → F → S → Type 0
-  Run stopped bytes = ClosureRun (Takes taken failures empty_writes stopped) (CallsOn calls) bytes
+  Run stopped bytes = ClosureRun (SinkTakes K stopped) (CallsOn calls) bytes
 
-  took_takes : (stopped : Bool) (old : S) (bytes : List ℕ) (new : S) → Took old bytes new → Takes taken failures empty_writes stopped old bytes (Ok tt) new
+  took_takes : (stopped : Bool) (old : S) (bytes : List ℕ) (new : S) → Took old bytes new → SinkTakes K stopped old bytes (Ok tt) new
   took_takes stopped old bytes new took = record { whole = took.bytes_are; beginning = tt; write_failed = took.no_failure; took_nothing = took.no_empty_write; only = tt }
 
   module _ (p : Patterns) (bytes : List ℕ) (ms : List Occurrence) where
@@ -66,7 +66,7 @@ module _ {F S : Type 0} (taken : S → Option (List ℕ)) (failures empty_writes
       rest = ms;
       finds = finds;
       lent = begun;
-      gap = record { bytes_are = subst (Appends (taken begun) (taken begun)) (sym (no_part bytes 0)) (Appends-nil (taken begun)); no_failure = refl; no_empty_write = refl };
+      gap = record { bytes_are = subst (Appends (K.taken begun) (K.taken begun)) (sym (no_part bytes 0)) (Appends-nil (K.taken begun)); no_failure = refl; no_empty_write = refl };
       whole = λ stopped result left new run. run;
       up_to = λ place after stopped result left new run. run;
     }
@@ -80,8 +80,8 @@ module _ {F S : Type 0} (taken : S → Option (List ℕ)) (failures empty_writes
         finds = left.finds;
         lent = left.lent;
         gap = record {
-          bytes_are = subst (Appends (taken left.lent) (taken sink')) (sym (part_join bytes from reported reported' ordered later))
-              (Appends-trans (taken left.lent) (taken sink) (taken sink') (slice_range bytes from reported) (slice_range bytes reported reported') left.gap.bytes_are took.bytes_are);
+          bytes_are = subst (Appends (K.taken left.lent) (K.taken sink')) (sym (part_join bytes from reported reported' ordered later))
+              (Appends-trans (K.taken left.lent) (K.taken sink) (K.taken sink') (slice_range bytes from reported) (slice_range bytes reported reported') left.gap.bytes_are took.bytes_are);
           no_failure = took.no_failure ∙ left.gap.no_failure;
           no_empty_write = took.no_empty_write ∙ left.gap.no_empty_write;
         };
@@ -120,14 +120,14 @@ module _ {F S : Type 0} (taken : S → Option (List ℕ)) (failures empty_writes
       -- a beginning of the next gap was taken, and then it stopped
       module _ (stopped : Bool) (place : ℕ) (within : place ≤ length bytes) (clear : (m : Occurrence) → IsAnswer p (search_from from bytes) (Some m) → place ≤ m.start)
           (count : ℕ) (short : from + count ≤ place) (reason : StreamError) (new : S)
-          (wrote : Appends (taken left.lent) (taken new) (take count (drop from bytes)))
-          (failed : failures new ≡ counted (is_write_fault {A = Unit {0}} (Err reason)) (failures left.lent))
-          (nothing : empty_writes new ≡ counted (is_write_of_nothing {A = Unit {0}} (Err reason)) (empty_writes left.lent))
+          (wrote : Appends (K.taken left.lent) (K.taken new) (take count (drop from bytes)))
+          (failed : K.failures new ≡ counted (is_write_fault {A = Unit {0}} (Err reason)) (K.failures left.lent))
+          (nothing : K.empty_writes new ≡ counted (is_write_of_nothing {A = Unit {0}} (Err reason)) (K.empty_writes left.lent))
           (only : MatchBool stopped (IsFillRefusal reason) (IsWriteRefusal reason)) where
-        takes_beginning : (gap : List ℕ) → count ≤ length gap → take count gap ≡ take count (drop from bytes) → Takes taken failures empty_writes stopped left.lent gap (Err reason) new
+        takes_beginning : (gap : List ℕ) → count ≤ length gap → take count gap ≡ take count (drop from bytes) → SinkTakes K stopped left.lent gap (Err reason) new
         takes_beginning gap fits same = record {
           whole = tt;
-          beginning = (count, fits, subst (Appends (taken left.lent) (taken new)) (sym same) wrote);
+          beginning = (count, fits, subst (Appends (K.taken left.lent) (K.taken new)) (sym same) wrote);
           write_failed = failed;
           took_nothing = nothing;
           only = only;
@@ -159,7 +159,7 @@ module _ {F S : Type 0} (taken : S → Option (List ℕ)) (failures empty_writes
               rest = rest;
               finds = finds;
               lent = sink';
-              gap = record { bytes_are = subst (Appends (taken sink') (taken sink')) (sym (no_part bytes m.end)) (Appends-nil (taken sink')); no_failure = refl; no_empty_write = refl };
+              gap = record { bytes_are = subst (Appends (K.taken sink') (K.taken sink')) (sym (no_part bytes m.end)) (Appends-nil (K.taken sink')); no_failure = refl; no_empty_write = refl };
               whole = λ stopped result last new run.
                   let whole_run : Run stopped bytes from (m ∷ rest) now left.lent result last new =
                   inr (sink, took_takes stopped left.lent (slice_range bytes from m.start) sink took_gap, (Ok true, next, sink', (refl, called), run)) in

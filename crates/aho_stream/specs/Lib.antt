@@ -4,6 +4,8 @@ pub mod Refills
 pub mod Chunks
 pub mod Iterators
 pub mod Finds
+pub mod Starts
 pub mod Replacing
+pub mod FindRuns
 pub mod StreamRun
 pub mod Counting

@@ -13,7 +13,10 @@ use Rattle.aho_base.specs.Patterns.{Patterns}
 use Rattle.aho_base.specs.Replacement.{replaced}
 use Rattle.aho_base.specs.Search.{plain_search}
 use Rattle.aho_devices.specs.Counts.{counted}
-use Rattle.aho_stream.specs.After.{MayFollow}
+use Rattle.aho_devices.specs.declared.device.Sink.{Ghosts as SinkGhosts}
+use Rattle.aho_devices.specs.declared.device.Source.{Ghosts as SourceGhosts}
+use Rattle.aho_search.specs.declared.automaton.Automaton.{Ghosts}
+use Rattle.aho_stream.specs.After.{MayFollow, kept_for}
 use Rattle.aho_stream.specs.declared.progress.StreamPiece.{StreamPiece}
 use Rattle.aho_stream.specs.declared.progress.StreamPiece.TheVariants.{NonMatch, Match}
 
@@ -22,9 +25,9 @@ abbrev pub piece_for : List (List ℕ) → Occurrence → List ℕ
 piece_for pieces m = slice_index_or pieces m.pattern []
 
 -- what is written for a chunk: its bytes, or the piece of its match
-abbrev pub bytes_for : StreamPiece → List ℕ → List (List ℕ) → List ℕ
-bytes_for NonMatch bytes pieces = bytes
-bytes_for (Match m) bytes pieces = piece_for pieces m
+abbrev pub chunk_bytes : StreamPiece → List ℕ → List (List ℕ) → List ℕ
+chunk_bytes NonMatch bytes pieces = bytes
+chunk_bytes (Match m) bytes pieces = piece_for pieces m
 
 -- the bytes from one place up to another, with a piece in the place of each match that starts before that
 abbrev pub replaced_up_to : List ℕ → ℕ → ℕ → List Occurrence → (Occurrence → List ℕ) → List ℕ
@@ -34,10 +37,14 @@ replaced_up_to bytes place at (m ∷ ms) piece =
     then slice_range bytes at m.start ++ (piece m ++ replaced_up_to bytes place m.end ms piece)
     else slice_range bytes at place
 
--- what a source gave in a call, and whether its end was seen
-pub record Gives (before after : Option (List ℕ)) (reads reads' : ℕ) (given : List ℕ) (ended : Bool) : Type 0 where
-  pub bytes : Consumes before after given
-  pub end : reads' ≡ counted ended reads
+-- what a source gave in between, and whether its end was seen
+pub record SourceGave {R : Type 0} (S : SourceGhosts R) (source source' : R) (given : List ℕ) (ended : Bool) : Type 0 where
+  pub bytes : Consumes (S.remaining source) (S.remaining source') given
+  pub end : S.empty_reads source' ≡ counted ended (S.empty_reads source)
+
+-- it gave as many bytes
+abbrev pub GaveAsMany : {R : Type 0} → SourceGhosts R → R → R → ℕ → Type 0
+GaveAsMany S source source' count = (given : List ℕ) × Consumes (S.remaining source) (S.remaining source') given × (length given ≡ count)
 
 -- all bytes of a stream that has given some: any others may follow, and none once its end was seen
 abbrev pub MayBe : List ℕ → Bool → List ℕ → Type 0
@@ -68,32 +75,33 @@ IsStreamFault WriteZero = Unit {0}
 IsStreamFault Memory = ⊥
 IsStreamFault PositionLimit = Unit {0}
 
--- of patterns, and with one piece for each: from what a source had left to give, and its count of empty reads, before a call and
--- after it, and what a sink had taken
-module _ (IsOf : Patterns → Type 0) (pieces : List (List ℕ)) (before after : Option (List ℕ)) (reads reads' : ℕ) (old new : Option (List ℕ)) where
+-- by this automaton, and with one piece for each of its patterns: from a source and a sink before a call to those after it
+module _ {A R W : Type 0} (G : Ghosts A) (S : SourceGhosts R) (K : SinkGhosts W) (automaton : A) (pieces : List (List ℕ)) (source source' : R) (sink sink' : W) where
   -- the stream has ended, and its replacement was written
-  pub record Replaces : Type 0 where
+  pub record ReplacesStream : Type 0 where
     pub given : List ℕ
-    pub gives : Gives before after reads reads' given true
-    pub writes : (p : Patterns) (ms : List Occurrence) → IsOf p → AreFinds p (plain_search given) None ms → Appends old new (replaced given ms pieces)
+    pub gives : SourceGave S source source' given true
+    pub writes : (p : Patterns) (ms : List Occurrence) → G.is_of automaton p → AreFinds p (plain_search given) None ms
+        → Appends (K.taken sink) (K.taken sink') (replaced given ms pieces)
 
   -- a beginning of the replacement was written, whatever bytes may follow
-  pub record Begins : Type 0 where
+  pub record BeginsStream : Type 0 where
     pub given : List ℕ
     pub ended : Bool
-    pub gives : Gives before after reads reads' given ended
+    pub gives : SourceGave S source source' given ended
     pub written : List ℕ
-    pub writes : Appends old new written
-    pub beginning : (p : Patterns) (bytes : List ℕ) (ms : List Occurrence) → IsOf p → MayBe given ended bytes → AreFinds p (plain_search bytes) None ms
+    pub writes : Appends (K.taken sink) (K.taken sink') written
+    pub beginning : (p : Patterns) (bytes : List ℕ) (ms : List Occurrence) → G.is_of automaton p → MayBe given ended bytes → AreFinds p (plain_search bytes) None ms
         → StartsWith (replaced bytes ms pieces) written
 
-  -- the replacement was written up to a place, whatever bytes may follow: at most so many bytes were left out
-  pub record ReplacesUpTo (most : ℕ) : Type 0 where
+  -- the replacement was written up to a place, whatever bytes may follow: at most as many bytes were left out as the longest
+  -- pattern has
+  pub record ReplacesStreamUpTo : Type 0 where
     pub given : List ℕ
     pub ended : Bool
-    pub gives : Gives before after reads reads' given ended
+    pub gives : SourceGave S source source' given ended
     pub place : ℕ
     pub within : place ≤ length given
-    pub near : length given ≤ place + most
-    pub writes : (p : Patterns) (bytes : List ℕ) (ms : List Occurrence) → IsOf p → MayBe given ended bytes → AreFinds p (plain_search bytes) None ms
-        → Appends old new (replaced_up_to bytes place 0 ms (piece_for pieces))
+    pub near : length given ≤ place + kept_for (G.lengths automaton)
+    pub writes : (p : Patterns) (bytes : List ℕ) (ms : List Occurrence) → G.is_of automaton p → MayBe given ended bytes → AreFinds p (plain_search bytes) None ms
+        → Appends (K.taken sink) (K.taken sink') (replaced_up_to bytes place 0 ms (piece_for pieces))

@@ -11,9 +11,14 @@ use Rattle.aho_base.specs.Patterns.{Patterns}
 use Rattle.aho_base.specs.Search.{plain_search}
 use Rattle.aho_devices.specs.Counts.{AppendsBeginning, counted}
 use Rattle.aho_devices.specs.Refusals.{IsFillRefusal, IsWriteRefusal, is_read_fault, is_write_fault, is_write_of_nothing}
-use Rattle.aho_stream.specs.After.{greatest_position}
+use Rattle.aho_base.specs.Laws.{shortest}
+use Rattle.aho_base.specs.declared.search.Anchored.TheVariants.{No}
+use Rattle.aho_devices.specs.declared.device.Sink.{Ghosts as SinkGhosts}
+use Rattle.aho_devices.specs.declared.device.Source.{Ghosts as SourceGhosts}
+use Rattle.aho_search.specs.declared.automaton.Automaton.{Ghosts}
+use Rattle.aho_stream.specs.After.{greatest_position, kept_for}
 use Rattle.aho_stream.specs.Refills.{is_limit}
-use Rattle.aho_stream.specs.Replacing.{Gives, MayBe}
+use Rattle.aho_stream.specs.Replacing.{MayBe, SourceGave}
 
 -- a call of a closure that is lent a sink: where it succeeds, the replacing goes on
 abbrev pub CallsOn : {F S : Type 0} → Mut F (Bor Occurrence × (Bor (List ℕ) × (MutBor S × Unit {0}))) (Result (Unit {0}) StreamError × (MutBor S × Unit {0}))
@@ -26,34 +31,40 @@ abbrev pub starting_before : ℕ → List Occurrence → List Occurrence
 starting_before place [] = []
 starting_before place (m ∷ ms) = if nat_lt m.start place then m ∷ starting_before place ms else []
 
--- by what a sink has taken, and its counts of failed and of empty writes
-module _ {S : Type 0} (taken : S → Option (List ℕ)) (failures empty_writes : S → ℕ) where
-  -- bytes outside of every match go to a sink: all of them, or a beginning where the reading stopped, or else where a write
-  -- failed or took nothing
-  pub record Takes (stopped : Bool) (old : S) (bytes : List ℕ) (result : Result (Unit {0}) StreamError) (new : S) : Type 0 where
-    pub whole : OnOk result (Appends (taken old) (taken new) bytes)
-    pub beginning : OnErr result (AppendsBeginning (taken old) (taken new) bytes)
-    pub write_failed : failures new ≡ counted (is_write_fault result) (failures old)
-    pub took_nothing : empty_writes new ≡ counted (is_write_of_nothing result) (empty_writes old)
-    pub only : IfErr result (λ reason. MatchBool stopped (IsFillRefusal reason) (IsWriteRefusal reason))
+-- bytes outside of every match go to a sink: all of them, or a beginning where the reading stopped, or else where a write failed
+-- or took nothing
+pub record SinkTakes {W : Type 0} (K : SinkGhosts W) (stopped : Bool) (old : W) (bytes : List ℕ) (result : Result (Unit {0}) StreamError) (new : W) : Type 0 where
+  pub whole : OnOk result (Appends (K.taken old) (K.taken new) bytes)
+  pub beginning : OnErr result (AppendsBeginning (K.taken old) (K.taken new) bytes)
+  pub write_failed : K.failures new ≡ counted (is_write_fault result) (K.failures old)
+  pub took_nothing : K.empty_writes new ≡ counted (is_write_of_nothing result) (K.empty_writes old)
+  pub only : IfErr result (λ reason. MatchBool stopped (IsFillRefusal reason) (IsWriteRefusal reason))
 
-  -- a replacement of a stream of these patterns, with this closure and to this sink, may end so: it is a run over the bytes
-  -- given and any that may follow, where a refusal ends the run. From what a source had left to give, and its counts of empty
-  -- and of failed reads. At most so many of the given bytes are left out where the reading stopped
-  pub record RunsOver {F : Type 0} (IsOf : Patterns → Type 0)
-      (calls : Mut F (Bor Occurrence × (Bor (List ℕ) × (MutBor S × Unit {0}))) (Result (Unit {0}) StreamError × (MutBor S × Unit {0})))
-      (before after : Option (List ℕ)) (reads reads' failed failed' : ℕ) (closure : F) (old : S) (result : Result (Unit {0}) StreamError) (new : S) (most : ℕ) : Type 0 where
-    pub given : List ℕ
-    pub ended : Bool
-    -- whether a read failed, or the limit was met
-    pub stopped : Bool
-    pub gives : Gives before after reads reads' given ended
-    pub whole : OnOk result (ended ≡ true)
-    pub read_failed : failed' ≡ counted (stopped && is_read_fault result) failed
-    pub limit : stopped ≡ true → is_limit result ≡ true → length given ≡ greatest_position
-    pub run : (p : Patterns) (bytes : List ℕ) (ms : List Occurrence) → IsOf p → MayBe given ended bytes → AreFinds p (plain_search bytes) None ms
-        → (last : F) × ClosureRun (Takes stopped) (CallsOn calls) bytes 0 ms closure old result last new
-    -- where the reading stopped, the run over the bytes up to a place has come to its good end
-    pub near : stopped ≡ true → (place : ℕ) × (place ≤ length given) × (length given ≤ place + most)
-        × ((p : Patterns) (bytes : List ℕ) (ms : List Occurrence) → IsOf p → MayBe given ended bytes → AreFinds p (plain_search bytes) None ms
-        → (last : F) × ClosureRun (Takes stopped) (CallsOn calls) (take place bytes) 0 (starting_before place ms) closure old (Ok tt) last new)
+-- a replacement of a stream by this automaton, with this closure and to this sink, may end so: it is a run over the bytes given
+-- and any that may follow, where a refusal ends the run. At most as many of the given bytes are left out where the reading
+-- stopped as the longest pattern has
+pub record RunsOver {A R W F : Type 0} (G : Ghosts A) (S : SourceGhosts R) (K : SinkGhosts W) (automaton : A)
+    (calls : Mut F (Bor Occurrence × (Bor (List ℕ) × (MutBor W × Unit {0}))) (Result (Unit {0}) StreamError × (MutBor W × Unit {0})))
+    (source source' : R) (closure : F) (sink : W) (result : Result (Unit {0}) StreamError) (sink' : W) : Type 0 where
+  pub given : List ℕ
+  pub ended : Bool
+  -- whether a read failed, or the limit was met
+  pub stopped : Bool
+  pub gives : SourceGave S source source' given ended
+  pub whole : OnOk result (ended ≡ true)
+  pub read_failed : S.failures source' ≡ counted (stopped && is_read_fault result) (S.failures source)
+  pub limit : stopped ≡ true → is_limit result ≡ true → length given ≡ greatest_position
+  pub run : (p : Patterns) (bytes : List ℕ) (ms : List Occurrence) → G.is_of automaton p → MayBe given ended bytes → AreFinds p (plain_search bytes) None ms
+      → (last : F) × ClosureRun (SinkTakes K stopped) (CallsOn calls) bytes 0 ms closure sink result last sink'
+  -- where the reading stopped, the run over the bytes up to a place has come to its good end
+  pub near : stopped ≡ true → (place : ℕ) × (place ≤ length given) × (length given ≤ place + kept_for (G.lengths automaton))
+      × ((p : Patterns) (bytes : List ℕ) (ms : List Occurrence) → G.is_of automaton p → MayBe given ended bytes → AreFinds p (plain_search bytes) None ms
+      → (last : F) × ClosureRun (SinkTakes K stopped) (CallsOn calls) (take place bytes) 0 (starting_before place ms) closure sink (Ok tt) last sink')
+
+-- a stream can be searched by this automaton: it has no empty pattern, and searches that are not anchored
+abbrev pub CanBegin : {A : Type 0} → Ghosts A → A → Type 0
+CanBegin G automaton = (sid : ℕ) × (1 ≤ shortest (G.lengths automaton)) × (G.start automaton No ≡ Ok sid)
+
+-- it is refused for this, and a source and a sink are left as they were
+abbrev pub RefusesUntouched : {R W : Type 0} → Result (Unit {0}) StreamError → StreamError → R → R → W → W → Type 0
+RefusesUntouched result error source source' sink sink' = (result ≡ Err error) × (source' ≡ source) × (sink' ≡ sink)

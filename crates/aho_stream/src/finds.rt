@@ -1,9 +1,11 @@
 //! The matches of a stream, one after another.
 
-ghost use Rattle.std.specs.Prelude.{◌≡◌, IfOk, false};
+ghost use Rattle.std.specs.Iterator.Runs.{EachRunFrom};
+ghost use Rattle.std.specs.Prelude.{◌≡◌, IfOk, false, true};
 ghost use Rattle.aho_base.specs.Patterns.{Patterns};
 ghost use Rattle.aho_base.specs.declared.search.Anchored.TheVariants.{No};
 ghost use Rattle.aho_stream.specs.After.{greatest_position};
+ghost use Rattle.aho_stream.specs.FindRuns.{FindsAll, FindsAlong, FindsSoFar, is_limit_among};
 ghost use Rattle.aho_stream.specs.Finds.{FindsNext};
 ghost use Rattle.aho_stream.specs.Iterators.{CanGoOn, HasNotBegun, automaton_of};
 ghost use Rattle.aho_stream.specs.Replacing.{Refuses};
@@ -45,10 +47,33 @@ pub fn try_stream_find_iter<'a, 'r, A: Automaton, R: Source>(
     ensures after { IfOk result (λ it. HasNotBegun A.Automaton it.chunks) }
     ensures ready { IfOk result ⟦<StreamFindIter<'a, 'r, A, R> as Iterator>⟧.can_next }
     ensures refuses { Refuses (A.lengths automaton.entry.now) (A.start automaton.entry.now No) result }
+
+    // The matches among the items of a run are the first finds of what the source gave; after `None` they are all of
+    // them, where the position limit was not answered.
+    ensures first { (p : Patterns) → A.is_of automaton.entry.now p → IfOk result (λ it.
+        EachRunFrom ⟦<StreamFindIter<'a, 'r, A, R> as Iterator>⟧.next_gives it (λ run.
+        (left : R) × FindsSoFar R.Source p source.entry.now left run.items)) }
+    ensures finds { (p : Patterns) → A.is_of automaton.entry.now p → IfOk result (λ it.
+        EachRunFrom ⟦<StreamFindIter<'a, 'r, A, R> as Iterator>⟧.next_gives it (λ run.
+        run.whole ≡ true → is_limit_among run.items ≡ false
+        → (left : R) × FindsAll R.Source p source.entry.now left run.items)) }
+
+    // So they are wherever calls leave the iterator, of what its source gave till then.
+    ensures along { (p : Patterns) → A.is_of automaton.entry.now p → IfOk result (λ it.
+        FindsAlong R.Source ⟦<StreamFindIter<'a, 'r, A, R> as Iterator>⟧.next_gives p it) }
 {
     Ok(StreamFindIter {
         chunks: StreamChunkIter::new(alloc, automaton, source)?,
     })
+}
+
+impl<'a, 'r, A: Automaton, R: Source> StreamFindIter<'a, 'r, A, R> {
+    /// Ends the search, and gives back the source. Bytes that were read and not searched through are lost.
+    pub fn into_source(self) -> &'r mut R
+        ensures same { result ≡ self.entry.chunks.source }
+    {
+        self.chunks.into_source()
+    }
 }
 
 impl<'a, 'r, A: Automaton, R: Source> Iterator for StreamFindIter<'a, 'r, A, R> {

@@ -1,20 +1,21 @@
 //! Replacement in streams.
 
-ghost use Rattle.std.specs.Prelude.{◌⊎◌, ◌≡◌, ◌≢◌, ◌≤◌, ℕ, List, [], Ok, Err, IfErr, OnErr, OnOk, false, length, true};
-ghost use Rattle.std.specs.Io.KnownBytes.{Consumes};
+ghost use Rattle.std.specs.Prelude.{◌⊎◌, ◌≡◌, ◌≢◌, ◌≤◌, ℕ, Ok, Err, IfErr, OnErr, OnOk, false, length, true};
 ghost use Rattle.aho_base.specs.Laws.{shortest};
 ghost use Rattle.aho_base.specs.Patterns.{Patterns};
 ghost use Rattle.aho_base.specs.Replacement.{pieces_of};
 ghost use Rattle.aho_base.specs.declared.error.MatchErrorKind.{MatchErrorKind};
 ghost use Rattle.aho_base.specs.declared.error.MatchErrorKind.TheVariants.{UnsupportedEmpty};
 ghost use Rattle.aho_base.specs.declared.search.Anchored.TheVariants.{No};
+ghost use Rattle.aho_devices.specs.Buffer.{capacity_for};
 ghost use Rattle.aho_devices.specs.Counts.{counted};
 ghost use Rattle.aho_devices.specs.Refusals.{IsFillRefusal, is_read_fault, is_write_fault, is_write_of_nothing};
 ghost use Rattle.aho_stream.specs.After.{greatest_position, kept_for};
 ghost use Rattle.aho_stream.specs.Iterators.{HasNotBegun, automaton_of};
 ghost use Rattle.aho_stream.specs.Refills.{is_limit};
-ghost use Rattle.aho_stream.specs.StreamRun.{RunsOver};
-ghost use Rattle.aho_stream.specs.Replacing.{Begins, IsMakingRefusal, IsStreamFault, Replaces, ReplacesUpTo, bytes_for};
+ghost use Rattle.aho_stream.specs.Starts.{IsFreshStart};
+ghost use Rattle.aho_stream.specs.StreamRun.{CanBegin, RefusesUntouched, RunsOver};
+ghost use Rattle.aho_stream.specs.Replacing.{GaveAsMany, IsMakingRefusal, IsStreamFault, BeginsStream, ReplacesStream, ReplacesStreamUpTo, chunk_bytes};
 
 use crate::chunks::StreamChunkIter;
 use crate::progress::StreamPiece;
@@ -28,7 +29,7 @@ use std::alloc::Global;
 
 /// What is written for a chunk: its bytes, or the piece of its match.
 fn bytes_for<'b>(piece: &StreamPiece, bytes: &'b [u8], replace_with: &[&'b [u8]]) -> &'b [u8]
-    ensures bytes { result.now ≡ bytes_for piece.now bytes.now (pieces_of replace_with.now) }
+    ensures bytes { result.now ≡ chunk_bytes piece.now bytes.now (pieces_of replace_with.now) }
 {
     match piece {
         StreamPiece::NonMatch => bytes,
@@ -50,26 +51,19 @@ fn replace_chunks<'a, 'r, A: Automaton, R: Source, W: Sink>(
     requires open { chunks.old.progress.ended ≡ false }
     requires below { chunks.old.progress.refused ≡ false }
     ensures same_source { chunks.new.source.ghost_name ≡ chunks.old.source.ghost_name }
-    ensures replaced { OnOk result (Replaces (A.is_of (automaton_of chunks.old))
-        (pieces_of replace_with.now)
-        (R.remaining chunks.old.source.now) (R.remaining chunks.new.source.now)
-        (R.empty_reads chunks.old.source.now) (R.empty_reads chunks.new.source.now)
-        (W.taken sink.old) (W.taken sink.new)) }
-    ensures begun { OnErr result (Begins (A.is_of (automaton_of chunks.old))
-        (pieces_of replace_with.now)
-        (R.remaining chunks.old.source.now) (R.remaining chunks.new.source.now)
-        (R.empty_reads chunks.old.source.now) (R.empty_reads chunks.new.source.now)
-        (W.taken sink.old) (W.taken sink.new)) }
+    ensures replaced { OnOk result (ReplacesStream A.Automaton R.Source W.Sink
+        (automaton_of chunks.old) (pieces_of replace_with.now)
+        chunks.old.source.now chunks.new.source.now sink.old sink.new) }
+    ensures begun { OnErr result (BeginsStream A.Automaton R.Source W.Sink
+        (automaton_of chunks.old) (pieces_of replace_with.now)
+        chunks.old.source.now chunks.new.source.now sink.old sink.new) }
     ensures near { IfErr result (λ error. IsFillRefusal error →
-        ReplacesUpTo (A.is_of (automaton_of chunks.old))
-        (pieces_of replace_with.now)
-        (R.remaining chunks.old.source.now) (R.remaining chunks.new.source.now)
-        (R.empty_reads chunks.old.source.now) (R.empty_reads chunks.new.source.now)
-        (W.taken sink.old) (W.taken sink.new)
-        (kept_for (A.lengths (automaton_of chunks.old)))) }
-    ensures limit { is_limit result ≡ true → (given : List ℕ)
-        × Consumes (R.remaining chunks.old.source.now) (R.remaining chunks.new.source.now) given
-        × (length given ≡ chunks.old.progress.limit) }
+        ReplacesStreamUpTo A.Automaton R.Source W.Sink
+        (automaton_of chunks.old) (pieces_of replace_with.now)
+        chunks.old.source.now chunks.new.source.now sink.old sink.new) }
+    ensures limit { is_limit result ≡ true →
+        GaveAsMany R.Source chunks.old.source.now chunks.new.source.now
+        chunks.old.progress.limit }
     ensures read_failed { R.failures chunks.new.source.now
         ≡ counted (is_read_fault result) (R.failures chunks.old.source.now) }
     ensures write_failed { W.failures sink.new
@@ -89,16 +83,60 @@ fn replace_chunks<'a, 'r, A: Automaton, R: Source, W: Sink>(
 /// Writes what the source gives to the sink, with the bytes for its pattern in the place of each match.
 ///
 /// There is one replacement for each pattern. It ends where the source's end is seen. The matches are those that
-/// replacement in memory of the same bytes finds, whatever the pieces in which they are read. It takes all its memory
-/// before it reads.
+/// replacement in memory of the same bytes finds, whatever the pieces in which they are read. It takes no memory: all
+/// that it has is the buffer of the start, which it fills again and again.
 ///
 /// # Errors
 ///
-/// `Match` and `Memory` as `StreamChunkIter::new`, before anything is read. `Read` exactly where a read fails, `Write`
-/// where a write fails, `WriteZero` where a write of some bytes takes none, and `PositionLimit` where 2^63 - 1 bytes were
-/// given and the end was not seen. Nothing is tried again, and what was written then is a beginning of the replacement:
-/// after `Read` and `PositionLimit` all of it up to a place that is as far from the last byte given as the longest
-/// pattern is long, at most.
+/// `Read` exactly where a read fails, `Write` where a write fails, `WriteZero` where a write of some bytes takes none,
+/// and `PositionLimit` where as many bytes were given as the start allows and the end was not seen. Nothing is tried
+/// again, and what was written then is a beginning of the replacement: after `Read` and `PositionLimit` all of it up to a
+/// place that is as far from the last byte given as the longest pattern is long, at most.
+pub fn replace_stream<'a, A: Automaton, R: Source, W: Sink>(
+    start: StreamStart<'a, A>,
+    source: &mut R,
+    sink: &mut W,
+    replace_with: &[&[u8]],
+) -> Result<(), StreamError>
+    requires of { (p : Patterns) × A.is_of start.automaton.now p }
+    requires fresh { IsFreshStart A.Automaton start }
+    requires open { start.progress.ended ≡ false }
+    requires below { start.progress.refused ≡ false }
+    requires one_each { length replace_with.now ≡ length (A.lengths start.automaton.now) }
+    ensures replaced { OnOk result (ReplacesStream A.Automaton R.Source W.Sink
+        start.entry.automaton.now (pieces_of replace_with.now)
+        source.old source.new sink.old sink.new) }
+    ensures begun { OnErr result (BeginsStream A.Automaton R.Source W.Sink
+        start.entry.automaton.now (pieces_of replace_with.now)
+        source.old source.new sink.old sink.new) }
+    ensures near { IfErr result (λ error. IsFillRefusal error →
+        ReplacesStreamUpTo A.Automaton R.Source W.Sink
+        start.entry.automaton.now (pieces_of replace_with.now)
+        source.old source.new sink.old sink.new) }
+    ensures limit { is_limit result ≡ true →
+        GaveAsMany R.Source source.old source.new start.entry.progress.limit }
+    ensures read_failed { R.failures source.new
+        ≡ counted (is_read_fault result) (R.failures source.old) }
+    ensures write_failed { W.failures sink.new
+        ≡ counted (is_write_fault result) (W.failures sink.old) }
+    ensures took_nothing { W.empty_writes sink.new
+        ≡ counted (is_write_of_nothing result) (W.empty_writes sink.old) }
+    ensures only { IfErr result IsStreamFault }
+    ensures fixed { start.entry.progress.buffer.size
+        ≡ capacity_for (kept_for (A.lengths start.entry.automaton.now)) }
+{
+    let mut chunks = start.over(source);
+    let replaced = replace_chunks(&mut chunks, sink, replace_with);
+    let _source = chunks.into_source();
+    replaced
+}
+
+/// Writes what the source gives to the sink, with the bytes for its pattern in the place of each match: it takes all its
+/// memory, and then it is `replace_stream`. The source may give 2^63 - 1 bytes.
+///
+/// # Errors
+///
+/// `Match` and `Memory` as `StreamChunkIter::new`, before anything is read. Then as `replace_stream`.
 pub fn try_stream_replace_all<A: Automaton, R: Source, W: Sink>(
     alloc: Global,
     automaton: &A,
@@ -108,22 +146,15 @@ pub fn try_stream_replace_all<A: Automaton, R: Source, W: Sink>(
 ) -> Result<(), StreamError>
     requires of { (p : Patterns) × A.is_of automaton.now p }
     requires one_each { length replace_with.now ≡ length (A.lengths automaton.now) }
-    ensures replaced { OnOk result (Replaces (A.is_of automaton.now) (pieces_of replace_with.now)
-        (R.remaining source.old) (R.remaining source.new)
-        (R.empty_reads source.old) (R.empty_reads source.new)
-        (W.taken sink.old) (W.taken sink.new)) }
-    ensures begun { OnErr result (Begins (A.is_of automaton.now) (pieces_of replace_with.now)
-        (R.remaining source.old) (R.remaining source.new)
-        (R.empty_reads source.old) (R.empty_reads source.new)
-        (W.taken sink.old) (W.taken sink.new)) }
+    ensures replaced { OnOk result (ReplacesStream A.Automaton R.Source W.Sink
+        automaton.now (pieces_of replace_with.now) source.old source.new sink.old sink.new) }
+    ensures begun { OnErr result (BeginsStream A.Automaton R.Source W.Sink
+        automaton.now (pieces_of replace_with.now) source.old source.new sink.old sink.new) }
     ensures near { IfErr result (λ error. IsFillRefusal error →
-        ReplacesUpTo (A.is_of automaton.now) (pieces_of replace_with.now)
-        (R.remaining source.old) (R.remaining source.new)
-        (R.empty_reads source.old) (R.empty_reads source.new)
-        (W.taken sink.old) (W.taken sink.new) (kept_for (A.lengths automaton.now))) }
-    ensures limit { is_limit result ≡ true → (given : List ℕ)
-        × Consumes (R.remaining source.old) (R.remaining source.new) given
-        × (length given ≡ greatest_position) }
+        ReplacesStreamUpTo A.Automaton R.Source W.Sink
+        automaton.now (pieces_of replace_with.now) source.old source.new sink.old sink.new) }
+    ensures limit { is_limit result ≡ true →
+        GaveAsMany R.Source source.old source.new greatest_position }
     ensures read_failed { R.failures source.new
         ≡ counted (is_read_fault result) (R.failures source.old) }
     ensures write_failed { W.failures sink.new
@@ -139,10 +170,8 @@ pub fn try_stream_replace_all<A: Automaton, R: Source, W: Sink>(
     ensures suits { (sid : ℕ) (reason : MatchErrorKind) → 1 ≤ shortest (A.lengths automaton.now)
         → A.start automaton.now No ≡ Ok sid → result ≢ Err (StreamError.Match reason) }
 {
-    let mut chunks = StreamStart::new(alloc, automaton)?.over(source);
-    let replaced = replace_chunks(&mut chunks, sink, replace_with);
-    let _source = chunks.into_source();
-    replaced
+    let start = StreamStart::new(alloc, automaton)?;
+    replace_stream(start, source, sink, replace_with)
 }
 
 /// Writes the bytes of a stream that are outside of every match, and calls the closure on each match, of which none was
@@ -161,13 +190,8 @@ where
     requires limit { chunks.old.progress.limit ≡ greatest_position }
     requires callable { F.IsAlwaysCallable replace_with }
     ensures same_source { chunks.new.source.ghost_name ≡ chunks.old.source.ghost_name }
-    ensures runs { RunsOver W.taken W.failures W.empty_writes
-        (A.is_of (automaton_of chunks.old)) F.FnMut
-        (R.remaining chunks.old.source.now) (R.remaining chunks.new.source.now)
-        (R.empty_reads chunks.old.source.now) (R.empty_reads chunks.new.source.now)
-        (R.failures chunks.old.source.now) (R.failures chunks.new.source.now)
-        replace_with sink.old result sink.new
-        (kept_for (A.lengths (automaton_of chunks.old))) }
+    ensures runs { RunsOver A.Automaton R.Source W.Sink (automaton_of chunks.old) F.FnMut
+        chunks.old.source.now chunks.new.source.now replace_with sink.old result sink.new }
 {
     while let Some(answer) = chunks.advance() {
         match answer? {
@@ -203,21 +227,17 @@ where
     F: FnMut(&Match, &[u8], &mut W) -> Result<(), StreamError>,
     requires of { (p : Patterns) × A.is_of automaton.now p }
     requires callable { F.IsAlwaysCallable replace_with }
-    ensures runs { (sid : ℕ)
-        → 1 ≤ shortest (A.lengths automaton.now) → A.start automaton.now No ≡ Ok sid
-        → ((result ≡ Err StreamError.Memory) × (source.new ≡ source.old) × (sink.new ≡ sink.old))
-        ⊎ RunsOver W.taken W.failures W.empty_writes (A.is_of automaton.now) F.FnMut
-        (R.remaining source.old) (R.remaining source.new)
-        (R.empty_reads source.old) (R.empty_reads source.new)
-        (R.failures source.old) (R.failures source.new)
-        replace_with sink.old result sink.new (kept_for (A.lengths automaton.now)) }
+    ensures runs { CanBegin A.Automaton automaton.now
+        → RefusesUntouched result StreamError.Memory source.old source.new sink.old sink.new
+        ⊎ RunsOver A.Automaton R.Source W.Sink automaton.now F.FnMut
+        source.old source.new replace_with sink.old result sink.new }
     ensures empty { shortest (A.lengths automaton.now) ≡ 0
-        → (result ≡ Err (StreamError.Match UnsupportedEmpty))
-        × (source.new ≡ source.old) × (sink.new ≡ sink.old) }
+        → RefusesUntouched result (StreamError.Match UnsupportedEmpty)
+        source.old source.new sink.old sink.new }
     ensures refused { (reason : MatchErrorKind)
         → 1 ≤ shortest (A.lengths automaton.now) → A.start automaton.now No ≡ Err reason
-        → (result ≡ Err (StreamError.Match reason))
-        × (source.new ≡ source.old) × (sink.new ≡ sink.old) }
+        → RefusesUntouched result (StreamError.Match reason)
+        source.old source.new sink.old sink.new }
 {
     let mut chunks = StreamStart::new(alloc, automaton)?.over(source);
     let answer = replace_chunks_with(&mut chunks, sink, replace_with);

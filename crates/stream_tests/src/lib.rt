@@ -1,4 +1,4 @@
-//! The tests of streams and of the program: worked rows under every cut, random streams, limits, refusals, and devices
+//! A caller that collects a stream's matches, and the tests of streams and of the program: worked rows under every cut, random streams, limits, refusals, and devices
 //! whose calls go by a list.
 #![tactic(auto)]
 
@@ -6,6 +6,7 @@
 mod asserts;
 #[cfg(test)]
 mod automata;
+pub mod collect;
 #[cfg(test)]
 mod devices;
 #[cfg(test)]

@@ -4,6 +4,7 @@ ghost use Rattle.aho_base.specs.Patterns.{Patterns};
 
 use crate::asserts::{assert_same, assert_same_in};
 use crate::automata::nfa_of;
+use crate::collect::matches_of;
 use crate::scripted::{ScriptedSource, Turn};
 use aho_base::error::{Fault, MatchError, StreamError};
 use aho_base::search::{Match, MatchKind};
@@ -96,6 +97,26 @@ fn a_stream_is_searched_across_its_reads(rt: HostRuntime) -> Result<(), Fail> {
     let found = items(rt.alloc(), &nfa, &mut source)?;
     assert_same(&rt, found.as_slice(), worked_matches().as_slice());
     Ok(())
+}
+
+/// All matches of the worked stream are collected, and its source is at its end.
+fn collects_all<A: Automaton>(rt: &impl Abort, alloc: Global, automaton: &A) -> Result<(), Fail>
+    requires of { (p : Patterns) × A.is_of automaton.now p }
+{
+    let mut source = ScriptedSource::new(TEXT, ONE_BYTE);
+    let matches = matches_of(alloc, automaton, &mut source)?;
+    assert_same(rt, matches.len(), WORKED.len());
+    for at in 0..3 {
+        assert_same(rt, matches.get(at).map(|m| found_of(*m)), Some(WORKED[at]));
+    }
+    assert_same(rt, source.rest(), b"".as_slice());
+    Ok(())
+}
+
+#[test]
+fn the_matches_of_a_stream_are_collected(rt: HostRuntime) -> Result<(), Fail> {
+    let nfa = nfa_of(&rt, rt.alloc(), WORDS, MatchKind::Standard, false);
+    collects_all(&rt, rt.alloc(), &nfa)
 }
 
 #[test]

@@ -7,12 +7,14 @@ ghost use Rattle.aho_base.specs.Patterns.{Patterns};
 use crate::asserts::{assert_in, assert_same, assert_same_in};
 use crate::automata::nfa_of;
 use crate::scripted::{ScriptedSink, ScriptedSource, Turn};
+use crate::stream_finds::ONE_BYTE;
 use aho_base::error::{Fault, MatchError, StreamError};
 use aho_base::search::{Input, Match, MatchKind};
 use aho_devices::write::write_whole;
 use aho_search::automaton::Automaton;
 use aho_stream::chunks::{StreamChunk, StreamChunkIter};
-use aho_stream::replace::{try_stream_replace_all, try_stream_replace_all_with};
+use aho_stream::replace::{replace_stream, try_stream_replace_all, try_stream_replace_all_with};
+use aho_stream::start::StreamStart;
 use bench::listing::finds;
 use bench::pattern_set::PatternSet;
 use std::alloc::{AllocError, Global};
@@ -177,6 +179,30 @@ fn each_row_is_replaced_under_every_cut(rt: HostRuntime) -> Result<(), Fail> {
         is_replaced_under_every_cut(&rt, rt.alloc(), row)?;
     }
     Ok(())
+}
+
+/// A search of the animals' stream that was begun before its devices were there replaces it.
+fn replaces_by_a_start<A: Automaton>(
+    rt: &impl Abort,
+    alloc: Global,
+    automaton: &A,
+) -> Result<(), Fail>
+    requires of { (p : Patterns) × A.is_of automaton.now p }
+{
+    assert_eq!(rt; ANIMALS.pieces.len(), automaton.patterns_len());
+    let start = StreamStart::new(alloc, automaton)?;
+    let mut source = ScriptedSource::new(ANIMALS.given, ONE_BYTE);
+    let mut sink = ScriptedSink::new(alloc, ONE_BYTE);
+    replace_stream(start, &mut source, &mut sink, ANIMALS.pieces)?;
+    assert_same(rt, sink.taken(), ANIMALS.written);
+    Ok(())
+}
+
+#[test]
+fn a_start_replaces_a_stream_that_comes_later(rt: HostRuntime) -> Result<(), Fail> {
+    let alloc = rt.alloc();
+    let nfa = nfa_of(&rt, alloc, ANIMALS.patterns, MatchKind::Standard, false);
+    replaces_by_a_start(&rt, alloc, &nfa)
 }
 
 /// The animals' stream ends at a read that gives nothing, and what is behind is not read.

@@ -11,7 +11,7 @@ loop-answer-init g c =
     let from : s.from ≡ 0 = omega (arith, after.from_reported, after.reported_walked, after.walked_read, after.count) in
     let reported : s.reported ≡ 0 = omega (arith, after.reported_walked, after.walked_read, after.count) in
     record {
-      going = going_first _ _ _ _ _ _ _ _ _ _ s c.requires.open from reported c.requires.after;
+      going = going_first _ _ _ _ _ _ _ _ s c.requires.open from reported c.requires.after;
       source = refl;
       same = refl;
       limit = refl;
@@ -33,7 +33,7 @@ loop-answer-preserved g c =
     let bytes = (rw same at c.bytes.ensures.bytes) p given of (advance.reads.is_after p inv.going.given of (inv.going.after p of)) in
     let wrote = rw (c.bytes_for-bytes.ensures.bytes, bytes) at c.in_ok-write_whole.ensures.whole in
     record {
-      going = going_on _ _ _ _ _ _ _ _ _ are _ _ _ _ _ _ _ _ _ _ inv.going advance c.in-Some.ensures.ended c.in-Some.ensures.stays_ended c.in_ok-piece.piece (ap Some c.in_ok-piece.was) _ wrote;
+      going = going_on _ _ _ _ _ _ _ are _ _ _ _ _ _ _ _ inv.going advance c.in-Some.ensures.ended c.in-Some.ensures.stays_ended c.in_ok-piece.piece (ap Some c.in_ok-piece.was) _ wrote;
       source = c.in-Some.ensures.same_source ∙ inv.source;
       same = same;
       limit = c.in-Some.ensures.limit ∙ inv.limit;
@@ -50,7 +50,7 @@ loop-answer-smaller g c =
     let are = λ (p : Patterns) (of : g.A.Automaton.is_of automaton p). (g.met.A.Automaton.laws automaton p of).lengths_are in
     let (p, of) = c.requires.some in
     let advance = rw inv.same at c.in-Some.ensures.advances in
-    less_room _ _ _ _ _ _ _ _ _ are _ _ _ _ _ _ _ _ _ _ inv.going advance c.in-Some.ensures.ended c.in-Some.ensures.stays_ended c.in_ok-piece.piece (ap Some c.in_ok-piece.was) p of c.in-Some.ensures.limit
+    less_room _ _ _ _ _ _ _ are _ _ _ _ _ _ _ _ inv.going advance c.in-Some.ensures.ended c.in-Some.ensures.stays_ended c.in_ok-piece.piece (ap Some c.in_ok-piece.was) p of c.in-Some.ensures.limit
 
 pub returns-in_err-piece-clause-begun : goal.returns-in_err-piece-clause-begun
 returns-in_err-piece-clause-begun g c =
@@ -60,7 +60,7 @@ returns-in_err-piece-clause-begun g c =
     let (p, of) = c.requires.some in
     let advance = rw inv.same at c.in-Some.ensures.advances in
     rw (err_given c.from_residual.result c.in_err-piece.field-0.0 c.from_residual.ensures.1)
-    (begins_still _ _ _ _ _ _ _ _ _ are _ _ _ _ _ _ _ _ _ _ inv.going advance c.in-Some.ensures.ended c.in-Some.ensures.stays_ended c.in_err-piece.field-0.0 (ap Some c.in_err-piece.was) p of)
+    (begins_still _ _ _ _ _ _ _ are _ _ _ _ _ _ _ _ inv.going advance c.in-Some.ensures.ended c.in-Some.ensures.stays_ended c.in_err-piece.field-0.0 (ap Some c.in_err-piece.was) p of)
 
 pub returns-in_err-piece-clause-near : goal.returns-in_err-piece-clause-near
 returns-in_err-piece-clause-near g c =
@@ -70,7 +70,7 @@ returns-in_err-piece-clause-near g c =
     let (p, of) = c.requires.some in
     let advance = rw inv.same at c.in-Some.ensures.advances in
     rw (err_given c.from_residual.result c.in_err-piece.field-0.0 c.from_residual.ensures.1)
-    (λ fills. up_to_still _ _ _ _ _ _ _ _ _ are _ _ _ _ _ _ _ _ _ _ inv.going advance c.in-Some.ensures.ended c.in-Some.ensures.stays_ended c.in_err-piece.field-0.0 (ap Some c.in_err-piece.was) p of)
+    (λ fills. up_to_still _ _ _ _ _ _ _ are _ _ _ _ _ _ _ _ inv.going advance c.in-Some.ensures.ended c.in-Some.ensures.stays_ended c.in_err-piece.field-0.0 (ap Some c.in_err-piece.was) p of)
 
 pub returns-in_err-piece-clause-limit : goal.returns-in_err-piece-clause-limit
 returns-in_err-piece-clause-limit g c =
@@ -80,7 +80,7 @@ returns-in_err-piece-clause-limit g c =
     let (p, of) = c.requires.some in
     let advance = rw inv.same at c.in-Some.ensures.advances in
     rw (err_given c.from_residual.result c.in_err-piece.field-0.0 c.from_residual.ensures.1, ← inv.limit)
-    (limit_met _ _ _ _ _ _ _ _ _ are _ _ _ _ _ _ _ _ _ _ inv.going advance c.in-Some.ensures.ended c.in-Some.ensures.stays_ended c.in_err-piece.field-0.0 (ap Some c.in_err-piece.was) p of)
+    (limit_met _ _ _ _ _ _ _ are _ _ _ _ _ _ _ _ inv.going advance c.in-Some.ensures.ended c.in-Some.ensures.stays_ended c.in_err-piece.field-0.0 (ap Some c.in_err-piece.was) p of)
 
 pub returns-in_err-write_whole-clause-begun : goal.returns-in_err-write_whole-clause-begun
 returns-in_err-write_whole-clause-begun g c =
@@ -94,7 +94,7 @@ returns-in_err-write_whole-clause-begun g c =
     let bytes = (rw same at c.bytes.ensures.bytes) p given of (advance.reads.is_after p inv.going.given of (inv.going.after p of)) in
     let wrote = rw (c.bytes_for-bytes.ensures.bytes, bytes) at c.in_err-write_whole.ensures.beginning in
     rw (err_given c.from_residual-in_err-write_whole.result c.in_err-write_whole.field-0.0 c.from_residual-in_err-write_whole.ensures.1)
-    (begins_chunk _ _ _ _ _ _ _ _ _ are _ _ _ _ _ _ _ _ _ _ inv.going advance c.in-Some.ensures.ended c.in-Some.ensures.stays_ended c.in_ok-piece.piece (ap Some c.in_ok-piece.was) _ wrote)
+    (begins_chunk _ _ _ _ _ _ _ are _ _ _ _ _ _ _ _ inv.going advance c.in-Some.ensures.ended c.in-Some.ensures.stays_ended c.in_ok-piece.piece (ap Some c.in_ok-piece.was) _ wrote)
 
 pub returns-clause-replaced : goal.returns-clause-replaced
 returns-clause-replaced g c =
@@ -103,4 +103,4 @@ returns-clause-replaced g c =
     let are = λ (p : Patterns) (of : g.A.Automaton.is_of automaton p). (g.met.A.Automaton.laws automaton p of).lengths_are in
     let (p, of) = c.requires.some in
     let advance = rw inv.same at c.in_default.ensures.advances in
-    replaces_all _ _ _ _ _ _ _ _ _ are _ _ _ _ _ _ _ _ _ _ inv.going advance c.in_default.ensures.ended c.in_default.ensures.stays_ended refl inv.below p of
+    replaces_all _ _ _ _ _ _ _ are _ _ _ _ _ _ _ _ inv.going advance c.in_default.ensures.ended c.in_default.ensures.stays_ended refl inv.below p of

@@ -9,9 +9,8 @@ abbrev pub invariant-loop-answer : goal.invariant-loop-answer
 invariant-loop-answer g l =
     let automaton = l.initial.chunks.walk.automaton.now in
     record {
-      going : Going (g.A.Automaton.is_of automaton) (g.A.Automaton.lengths automaton) (g.A.Automaton.valid automaton) (g.A.Automaton.held automaton) (g.A.Automaton.depth automaton)
-          (pieces_of l.replace_with) (g.R.Source.remaining l.initial.chunks.source.now) (g.R.Source.empty_reads l.initial.chunks.source.now) (g.W.Sink.taken l.initial.sink)
-          l.chunks.walk.work l.chunks.progress (g.R.Source.remaining l.chunks.source.now) (g.R.Source.empty_reads l.chunks.source.now) (g.W.Sink.taken l.sink);
+      going : Going g.A.Automaton g.R.Source g.W.Sink automaton (pieces_of l.replace_with) l.initial.chunks.source.now l.initial.sink
+          l.chunks.walk.work l.chunks.progress l.chunks.source.now l.sink;
       source : l.chunks.source.ghost_name ≡ l.initial.chunks.source.ghost_name;
       same : l.chunks.walk.automaton.now ≡ automaton;
       limit : l.chunks.progress.limit ≡ l.initial.chunks.progress.limit;

@@ -9,10 +9,8 @@ invariant-loop-answer g l =
     let automaton = l.initial.chunks.walk.automaton.now in
     record {
       callable : goal.F-IsAlwaysCallable g l.replace_with;
-      running : Running g.W.Sink.taken g.W.Sink.failures g.W.Sink.empty_writes g.F.FnMut
-          (g.A.Automaton.is_of automaton) (g.A.Automaton.lengths automaton) (g.A.Automaton.valid automaton) (g.A.Automaton.held automaton) (g.A.Automaton.depth automaton)
-          (g.R.Source.remaining l.initial.chunks.source.now) (g.R.Source.empty_reads l.initial.chunks.source.now) l.initial.replace_with l.initial.sink
-          l.chunks.walk.work l.chunks.progress (g.R.Source.remaining l.chunks.source.now) (g.R.Source.empty_reads l.chunks.source.now) l.replace_with l.sink;
+      running : Running g.A.Automaton g.R.Source g.W.Sink automaton g.F.FnMut l.initial.chunks.source.now l.initial.replace_with l.initial.sink
+          l.chunks.walk.work l.chunks.progress l.chunks.source.now l.replace_with l.sink;
       source : l.chunks.source.ghost_name ≡ l.initial.chunks.source.ghost_name;
       same : l.chunks.walk.automaton.now ≡ automaton;
       limit : l.chunks.progress.limit ≡ l.initial.chunks.progress.limit;

@@ -6,23 +6,19 @@ use Rattle.aho_base.specs.Patterns.{Patterns}
 use Rattle.aho_base.specs.Occurrence.{Occurrence}
 use Rattle.aho_base.specs.declared.error.stream.StreamError.{StreamError}
 use Rattle.aho_devices.specs.Counts.{counted}
-use Rattle.aho_stream.specs.After.{IsAfter}
-use Rattle.aho_stream.specs.Chunks.{Advances, Tells, ends_between, tells_limit, tells_read_fault}
-use Rattle.aho_stream.specs.Finds.{Finds, FindsNext}
+use Rattle.aho_stream.specs.Chunks.{Advances, ReadsOn, Tells, ends_between, tells_limit, tells_read_fault}
+use Rattle.aho_stream.specs.Finds.{Finds}
+use Rattle.aho_stream.specs.Iterators.{HasGiven}
 use Rattle.aho_stream.specs.declared.progress.StreamProgress.{StreamProgress}
 use Rattle.aho_stream.specs.declared.progress.StreamPiece.{StreamPiece}
-use Rattle.aho_stream.proofs.Found.{counted_then, end_found, error_found, finds_then, piece_found, plain_told, read_then, same_fault}
+use Rattle.aho_stream.proofs.Found.{counted_then, end_found, error_found, piece_found, plain_told, read_then, same_fault, same_limit, says_then}
 use Rattle.aho_stream.proofs.finds.StreamFindIterIterator.next.Given.{Over}
 use Rattle.aho_stream.proofs.finds.StreamFindIterIterator.next.Goals.{After-advance}
 use Rattle.aho_stream.proofs.finds.StreamFindIterIterator.next.Goals as goal
 
--- how far the iterator has come, by its automaton
-abbrev AfterOf : (g : Over) → g.row.A.Denot → Patterns → ℕ → StreamProgress → List ℕ → Type 0
-AfterOf g automaton p lookups s given = IsAfter p (g.A.Automaton.lengths automaton) (g.A.Automaton.valid automaton) (g.A.Automaton.held automaton p) (g.A.Automaton.depth automaton) lookups s given
-
 -- what the call of `advance` promises, by the automaton of the whole call
 advanced : (g : Over) (c : After-advance g)
-    → Advances (g.A.Automaton.is_of c.args.self.now.chunks.walk.automaton.now) (AfterOf g c.args.self.now.chunks.walk.automaton.now) c.loop-error.self.chunks.walk.work c.advance.new.self.walk.work
+    → Advances g.A.Automaton c.args.self.now.chunks.walk.automaton.now c.loop-error.self.chunks.walk.work c.advance.new.self.walk.work
     c.loop-error.self.chunks.progress c.advance.new.self.progress (g.R.Source.remaining c.loop-error.self.chunks.source.now) (g.R.Source.remaining c.advance.new.self.source.now) c.advance.result
 advanced g c = rw c.loop-error.invariant.same at c.advance.ensures.advances
 
@@ -30,13 +26,21 @@ advanced g c = rw c.loop-error.invariant.same at c.advance.ensures.advances
 ended : (g : Over) (c : After-advance g) → g.R.Source.empty_reads c.advance.new.self.source.now ≡ counted (ends_between c.args.self.now.chunks.progress.ended c.advance.new.self.progress.ended) (g.R.Source.empty_reads c.args.self.now.chunks.source.now)
 ended g c = counted_then c.args.self.now.chunks.progress.ended c.loop-error.self.chunks.progress.ended c.advance.new.self.progress.ended _ _ _ c.loop-error.invariant.stays c.advance.ensures.stays_ended c.loop-error.invariant.ended c.advance.ensures.ended
 
--- what the whole call says, where the last answer says it
+-- what the whole call has read
+reads : (g : Over) (c : After-advance g) → ReadsOn g.A.Automaton c.args.self.now.chunks.walk.automaton.now c.args.self.now.chunks.walk.work c.advance.new.self.walk.work
+    c.args.self.now.chunks.progress c.advance.new.self.progress (g.R.Source.remaining c.args.self.now.chunks.source.now) (g.R.Source.remaining c.advance.new.self.source.now)
+reads g c =
+    read_then g.A.Automaton c.args.self.now.chunks.walk.automaton.now _ _ _ _ c.loop-error.self.chunks.progress c.advance.new.self.progress _ _ _ c.advance.result
+    c.loop-error.invariant.stays c.loop-error.invariant.read (advanced g c)
+
+-- and says, where the last answer says it
 finds : (g : Over) (c : After-advance g) (found : Option (Result Occurrence StreamError))
     → ((p : Patterns) (given : List ℕ) → Tells p c.loop-error.self.chunks.progress c.advance.new.self.progress given c.advance.result → Finds p c.args.self.now.chunks.progress c.advance.new.self.progress given found)
-    → FindsNext (g.A.Automaton.is_of c.args.self.now.chunks.walk.automaton.now) (AfterOf g c.args.self.now.chunks.walk.automaton.now) c.args.self.now.chunks.walk.work c.advance.new.self.walk.work
-    c.args.self.now.chunks.progress c.advance.new.self.progress (g.R.Source.remaining c.args.self.now.chunks.source.now) (g.R.Source.remaining c.advance.new.self.source.now) found
+    → (p : Patterns) (given : List ℕ) → g.A.Automaton.is_of c.args.self.now.chunks.walk.automaton.now p → HasGiven g.A.Automaton c.args.self.now.chunks p given
+    → Finds p c.args.self.now.chunks.progress c.advance.new.self.progress (given ++ (reads g c).bytes) found
+unfolding reads
 finds g c found says =
-    finds_then (g.A.Automaton.is_of c.args.self.now.chunks.walk.automaton.now) (AfterOf g c.args.self.now.chunks.walk.automaton.now) _ _ _ _ c.loop-error.self.chunks.progress c.advance.new.self.progress _ _ _ c.advance.result found
+    says_then g.A.Automaton c.args.self.now.chunks.walk.automaton.now _ _ _ _ c.loop-error.self.chunks.progress c.advance.new.self.progress _ _ _ c.advance.result found
     c.loop-error.invariant.stays c.loop-error.invariant.read (advanced g c) says
 
 -- after the end, and after the limit was answered, `advance` tells none
@@ -46,24 +50,31 @@ ended_none g c e told = let over = c.loop-error.invariant.over e told in c.advan
 refused_none : (g : Over) (c : After-advance g) → c.args.self.now.chunks.progress.refused ≡ true → c.advance.result ≡ None
 refused_none g c r = c.advance.ensures.after_limit (c.loop-error.invariant.refused ∙ r)
 
-stays_refused : (g : Over) (c : After-advance g) → c.args.self.now.chunks.progress.refused ≡ true → c.advance.new.self.progress.refused ≡ true
-stays_refused g c r = c.advance.ensures.refused ∙ ap (λ (b : Bool). b || tells_limit c.advance.result) (c.loop-error.invariant.refused ∙ r)
+-- whether the limit was answered, by what the last answer is
+refused : (g : Over) (c : After-advance g) (answer : Option (Result StreamPiece StreamError)) → c.advance.result ≡ answer → c.advance.new.self.progress.refused ≡ (c.args.self.now.chunks.progress.refused || tells_limit answer)
+refused g c answer is =
+    c.advance.ensures.refused ∙ ap (λ (r : Option (Result StreamPiece StreamError)). c.loop-error.self.chunks.progress.refused || tells_limit r) is
+    ∙ ap (λ (b : Bool). b || tells_limit answer) c.loop-error.invariant.refused
 
 pub returns-in-None-clause-steps : goal.returns-in-None-clause-steps
 returns-in-None-clause-steps g c =
     let d = (goal.at.returns-in-None-clause-steps g c).After-advance in
     let inv = c.loop-error.invariant in
-    let s = c.args.self.now.chunks.progress in (
-      c.advance.ensures.same ∙ inv.same,
-      c.advance.ensures.limit ∙ inv.limit,
-      finds g d None (λ p given tells. end_found p s c.loop-error.self.chunks.progress c.advance.new.self.progress given inv.from inv.refused
-          (subst (λ (r : Option (Result StreamPiece StreamError)). Tells p c.loop-error.self.chunks.progress c.advance.new.self.progress given r) c.in-None.is tells)),
-      ended g d,
-      λ e. c.advance.ensures.stays_ended (inv.stays e),
-      λ e told. refl,
-      λ r. (refl, stays_refused g d r),
-      c.in-None.ensures.read_failed ∙ inv.unfailed,
-    )
+    let s = c.args.self.now.chunks.progress in
+    record {
+      reads = reads g d;
+      finds = finds g d None (λ p given tells. end_found p s c.loop-error.self.chunks.progress c.advance.new.self.progress given inv.from inv.refused
+          (subst (λ (r : Option (Result StreamPiece StreamError)). Tells p c.loop-error.self.chunks.progress c.advance.new.self.progress given r) c.in-None.is tells));
+      same = c.advance.ensures.same ∙ inv.same;
+      same_source = c.advance.ensures.same_source ∙ inv.source;
+      limit = c.advance.ensures.limit ∙ inv.limit;
+      ended = ended g d;
+      stays_ended = λ e. c.advance.ensures.stays_ended (inv.stays e);
+      after_end = λ e told. refl;
+      after_limit = λ r. refl;
+      refused = refused g d None c.in-None.is;
+      read_failed = c.in-None.ensures.read_failed ∙ inv.unfailed;
+    }
 
 pub returns-in-Some-Err-clause-steps : goal.returns-in-Some-Err-clause-steps
 returns-in-Some-Err-clause-steps g c =
@@ -71,20 +82,24 @@ returns-in-Some-Err-clause-steps g c =
     let inv = c.loop-error.invariant in
     let s = c.args.self.now.chunks.progress in
     let error = c.in-Some-Err.error in
-    let is : c.advance.result ≡ Some (Err error) = c.in-Some-Err.is ∙ ap Some c.in-Some-Err.field-0-is in (
-      c.advance.ensures.same ∙ inv.same,
-      c.advance.ensures.limit ∙ inv.limit,
-      finds g d (Some (Err error)) (λ p given tells. error_found p s c.loop-error.self.chunks.progress c.advance.new.self.progress given error inv.from inv.refused inv.limit
-          (subst (λ (r : Option (Result StreamPiece StreamError)). Tells p c.loop-error.self.chunks.progress c.advance.new.self.progress given r) is tells)),
-      ended g d,
-      λ e. c.advance.ensures.stays_ended (inv.stays e),
-      λ e told. let none = ended_none g d e told in cc,
-      λ r. let none = refused_none g d r in cc,
-      c.advance.ensures.read_failed
+    let is : c.advance.result ≡ Some (Err error) = c.in-Some-Err.is ∙ ap Some c.in-Some-Err.field-0-is in
+    record {
+      reads = reads g d;
+      finds = finds g d (Some (Err error)) (λ p given tells. error_found p s c.loop-error.self.chunks.progress c.advance.new.self.progress given error inv.from inv.refused inv.limit
+          (subst (λ (r : Option (Result StreamPiece StreamError)). Tells p c.loop-error.self.chunks.progress c.advance.new.self.progress given r) is tells));
+      same = c.advance.ensures.same ∙ inv.same;
+      same_source = c.advance.ensures.same_source ∙ inv.source;
+      limit = c.advance.ensures.limit ∙ inv.limit;
+      ended = ended g d;
+      stays_ended = λ e. c.advance.ensures.stays_ended (inv.stays e);
+      after_end = λ e told. let none = ended_none g d e told in cc;
+      after_limit = λ r. let none = refused_none g d r in cc;
+      refused = refused g d (Some (Err error)) is ∙ ap (λ (b : Bool). s.refused || b) (same_limit StreamPiece Occurrence error);
+      read_failed = c.advance.ensures.read_failed
           ∙ ap (λ (r : Option (Result StreamPiece StreamError)). counted (tells_read_fault r) (g.R.Source.failures c.loop-error.self.chunks.source.now)) is
           ∙ ap (λ (b : Bool). counted b (g.R.Source.failures c.loop-error.self.chunks.source.now)) (same_fault StreamPiece Occurrence error)
-          ∙ ap (counted (tells_read_fault {A = Occurrence} (Some (Err error)))) inv.unfailed,
-    )
+          ∙ ap (counted (tells_read_fault {A = Occurrence} (Some (Err error)))) inv.unfailed;
+    }
 
 pub returns-in-Some-clause-steps : goal.returns-in-Some-clause-steps
 returns-in-Some-clause-steps g c =
@@ -92,19 +107,23 @@ returns-in-Some-clause-steps g c =
     let inv = c.loop-error.invariant in
     let s = c.args.self.now.chunks.progress in
     let piece = c.in-Some-Ok.piece in
-    let is : c.advance.result ≡ Some (Ok piece) = c.in-Some-Ok.is ∙ ap Some c.in-Some-Ok.field-0-is in (
-      c.advance.ensures.same ∙ inv.same,
-      c.advance.ensures.limit ∙ inv.limit,
-      finds g d (Some (Ok c.in-Some.m)) (λ p given tells. piece_found p s c.loop-error.self.chunks.progress c.advance.new.self.progress given piece c.in-Some.m (sym c.found.ensures.found ∙ c.in-Some.is) inv.from
-          (subst (λ (r : Option (Result StreamPiece StreamError)). Tells p c.loop-error.self.chunks.progress c.advance.new.self.progress given r) is tells)),
-      ended g d,
-      λ e. c.advance.ensures.stays_ended (inv.stays e),
-      λ e told. let none = ended_none g d e told in cc,
-      λ r. let none = refused_none g d r in cc,
-      c.advance.ensures.read_failed
+    let is : c.advance.result ≡ Some (Ok piece) = c.in-Some-Ok.is ∙ ap Some c.in-Some-Ok.field-0-is in
+    record {
+      reads = reads g d;
+      finds = finds g d (Some (Ok c.in-Some.m)) (λ p given tells. piece_found p s c.loop-error.self.chunks.progress c.advance.new.self.progress given piece c.in-Some.m (sym c.found.ensures.found ∙ c.in-Some.is) inv.from
+          (subst (λ (r : Option (Result StreamPiece StreamError)). Tells p c.loop-error.self.chunks.progress c.advance.new.self.progress given r) is tells));
+      same = c.advance.ensures.same ∙ inv.same;
+      same_source = c.advance.ensures.same_source ∙ inv.source;
+      limit = c.advance.ensures.limit ∙ inv.limit;
+      ended = ended g d;
+      stays_ended = λ e. c.advance.ensures.stays_ended (inv.stays e);
+      after_end = λ e told. let none = ended_none g d e told in cc;
+      after_limit = λ r. let none = refused_none g d r in cc;
+      refused = refused g d (Some (Ok piece)) is;
+      read_failed = c.advance.ensures.read_failed
           ∙ ap (λ (r : Option (Result StreamPiece StreamError)). counted (tells_read_fault r) (g.R.Source.failures c.loop-error.self.chunks.source.now)) is
-          ∙ inv.unfailed,
-    )
+          ∙ inv.unfailed;
+    }
 
 pub loop-error-preserved : goal.loop-error-preserved
 loop-error-preserved g c =
@@ -122,8 +141,9 @@ loop-error-preserved g c =
       same = c.advance.ensures.same ∙ inv.same;
       limit = c.advance.ensures.limit ∙ inv.limit;
       from = plain.from ∙ inv.from;
-      refused = c.advance.ensures.refused ∙ ap (λ (r : Option (Result StreamPiece StreamError)). t.refused || tells_limit r) is ∙ or-false t.refused ∙ inv.refused;
-      read = read_then (g.A.Automaton.is_of c.args.self.now.chunks.walk.automaton.now) (AfterOf g c.args.self.now.chunks.walk.automaton.now) _ _ _ s t c.advance.new.self.progress _ _ _ c.advance.result inv.stays inv.read (advanced g d);
+      refused = refused g d (Some (Ok piece)) is ∙ or-false s.refused;
+      source = c.advance.ensures.same_source ∙ inv.source;
+      read = reads g d;
       ended = ended g d;
       stays = λ e. c.advance.ensures.stays_ended (inv.stays e);
       over = λ e told. let none = ended_none g d e told in cc;
