@@ -34,6 +34,10 @@ kept_for lengths = max 1 (longest lengths)
 abbrev pub EndsIn : List ℕ → List ℕ → Type 0
 EndsIn bytes last = (gone : List ℕ) × (bytes ≡ gone ++ last)
 
+-- what is said of all that was given, by how much it was and by what the buffer holds
+abbrev pub ForGiven : StreamProgress → (List ℕ → Type 0) → Type 0
+ForGiven s says = (given : List ℕ) → length given ≡ s.read → EndsIn given s.buffer.bytes → says given
+
 -- what was walked since the end of the last match
 abbrev pub word_of : StreamProgress → List ℕ → List ℕ
 word_of s given = slice_range given s.from s.walked
@@ -58,6 +62,10 @@ IsDue A automaton s = (s.ended || settles A automaton s.sid s.in_hand) ≡ true
 -- no match is in hand, and the state that is held is a start
 abbrev pub starts_over : {S : Type 0} → Ghosts S → S → StreamProgress → Bool
 starts_over A automaton s = is_none s.in_hand && A.starts automaton s.sid
+
+-- then all was reported
+abbrev pub ReportsAtStart : {S : Type 0} → Ghosts S → S → StreamProgress → Type 0
+ReportsAtStart A automaton s = starts_over A automaton s ≡ true → s.read ≤ s.reported
 
 -- the place up to which what was walked is outside of every match: all of it, or all but as many bytes as a roll keeps
 abbrev pub IsOutside : {S : Type 0} → Ghosts S → S → StreamProgress → ℕ → Type 0

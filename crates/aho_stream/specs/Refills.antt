@@ -1,5 +1,5 @@
 -- What a refill of the buffer changes.
-use Rattle.std.specs.Prelude.{◌≡◌, ℕ, ◌+◌, ◌≤◌, min, Bool, true, false, List, ◌++◌, Option, Result, Ok, Err, length}
+use Rattle.std.specs.Prelude.{◌≡◌, ℕ, ◌+◌, ◌<◌, ◌≤◌, ◌⊎◌, min, Bool, true, false, List, ◌++◌, Option, Result, Ok, Err, length}
 use Rattle.std.specs.Io.KnownBytes.{Consumes}
 use Rattle.aho_base.specs.declared.error.stream.StreamError.{StreamError}
 use Rattle.aho_base.specs.declared.error.stream.StreamError.TheVariants.{Match, Read, Write, WriteZero, Memory, PositionLimit}
@@ -15,6 +15,10 @@ is_limit (Err (Write fault)) = false
 is_limit (Err WriteZero) = false
 is_limit (Err Memory) = false
 is_limit (Err PositionLimit) = true
+
+-- nothing was read, or fewer bytes are held than a roll keeps
+abbrev pub GainsFew : StreamProgress → StreamProgress → Type 0
+GainsFew s s' = (s'.read ≡ s.read) ⊎ (length s'.buffer.bytes < s'.buffer.least)
 
 -- bytes were read behind those that are kept; nothing else moved
 pub record Refills (s s' : StreamProgress) (before after : Option (List ℕ)) : Type 0 where

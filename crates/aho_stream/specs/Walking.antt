@@ -1,6 +1,6 @@
 -- What a walk over further bytes of a stream promises.
 use Rattle.std.specs.Prelude.{◌≡◌, ℕ, ◌+◌, ◌≤◌, List, ◌++◌, Option, IfSome, length, take}
-use Rattle.aho_base.specs.Laws.{BestAfter, longest}
+use Rattle.aho_base.specs.Laws.{BestAfter, longest, told}
 use Rattle.aho_base.specs.Occurrence.{Occurrence}
 use Rattle.aho_base.specs.Patterns.{Patterns}
 use Rattle.aho_base.specs.declared.search.Anchored.{Anchored}
@@ -25,3 +25,7 @@ IsHeldAt A automaton at sid = (p : Patterns) × (word : List ℕ) × A.is_of aut
 abbrev pub WalksFrom : {S : Type 0} → Ghosts S → S → ℕ → ℕ → Option Occurrence → List ℕ → Walked → Type 0
 WalksFrom A automaton at sid best bytes walked = (p : Patterns) (word : List ℕ) → A.is_of automaton p → length word ≡ at
     → A.held automaton p No word sid → BestAfter p No word best → WalksOn p (A.lengths automaton) (A.held automaton p) word bytes walked
+
+-- the match that a state tells after so many bytes
+abbrev pub told_here : {S : Type 0} → Ghosts S → S → ℕ → ℕ → Option Occurrence
+told_here A automaton at sid = told (A.lengths automaton) No 0 at (A.list automaton sid)

@@ -143,7 +143,8 @@ impl<'a, 'r, A: Automaton, R: Source> StreamChunkIter<'a, 'r, A, R> {
     /// match. None where the stream has ended, and after the position limit was answered.
     ///
     /// A match is given once no byte that follows can change it: under `Standard` when it is seen, under the leftmost kinds
-    /// when the state is dead or the end of the stream was seen.
+    /// when the state is dead or the end of the stream was seen. The source is asked for more only once all that is known so
+    /// far was given: each settled match, and all bytes before the place where the next match may begin.
     ///
     /// # Errors
     ///

@@ -1,7 +1,7 @@
 //! The next chunk of what was read: the walk up to where it is settled, and what it tells.
 
 ghost use Rattle.std.specs.Prelude.{◌≡◌, ◌+◌, ◌≤◌, None, Some, IfSome, true, false};
-ghost use Rattle.aho_stream.specs.After.{IsDue, IsOutside, IsUnderWay, IsUnsettled, OnlyWalks, StaysAfter, starts_over};
+ghost use Rattle.aho_stream.specs.After.{IsDue, IsOutside, IsUnderWay, IsUnsettled, OnlyWalks, ReportsAtStart, StaysAfter};
 ghost use Rattle.aho_stream.specs.Chunks.{TellsNext};
 
 use crate::progress::{StreamPiece, StreamProgress};
@@ -83,8 +83,7 @@ fn piece<W: Walk>(walk: &W, progress: &mut StreamProgress) -> Option<StreamPiece
     ensures near { result ≡ None
         → progress.new.walked ≤ progress.new.reported + progress.new.buffer.least }
     ensures start { result ≡ None
-        → starts_over W.Of.Automaton (W.of walk.now) progress.new ≡ true
-        → progress.new.read ≤ progress.new.reported }
+        → ReportsAtStart W.Of.Automaton (W.of walk.now) progress.new }
     ensures buffer { progress.new.buffer ≡ progress.old.buffer }
     ensures end { result ≡ None → progress.new.ended ≡ true
         → (progress.new.read ≤ progress.new.reported) × (progress.new.in_hand ≡ None) }
@@ -122,8 +121,7 @@ pub(crate) fn next_piece<W: Walk>(
     ensures near { result ≡ None
         → progress.new.read ≤ progress.new.reported + progress.new.buffer.least }
     ensures start { result ≡ None
-        → starts_over W.Of.Automaton (W.of walk.old) progress.new ≡ true
-        → progress.new.read ≤ progress.new.reported }
+        → ReportsAtStart W.Of.Automaton (W.of walk.old) progress.new }
     ensures buffer { progress.new.buffer ≡ progress.old.buffer }
     ensures end { result ≡ None → progress.new.ended ≡ true
         → (progress.new.read ≤ progress.new.reported) × (progress.new.in_hand ≡ None) }

@@ -4,9 +4,9 @@ ghost use Rattle.std.specs.Prelude.{◌≡◌, ◌+◌, ◌<◌, ◌≤◌, ◌^
 ghost use Rattle.aho_devices.specs.Counts.{counted};
 ghost use Rattle.aho_devices.specs.Buffer.{saw_end};
 ghost use Rattle.aho_devices.specs.Refusals.{is_read_fault, IsFillRefusal};
-ghost use Rattle.aho_stream.specs.After.{EndsIn, fresh, given_on, reported_to};
+ghost use Rattle.aho_stream.specs.After.{EndsIn, ForGiven, fresh, given_on, reported_to};
 ghost use Rattle.aho_stream.specs.Chunks.{match_told};
-ghost use Rattle.aho_stream.specs.Refills.{Refills, is_limit};
+ghost use Rattle.aho_stream.specs.Refills.{GainsFew, Refills, is_limit};
 ghost use Rattle.aho_stream.specs.declared.progress.StreamPiece.TheVariants.{NonMatch};
 
 use aho_base::error::StreamError;
@@ -97,8 +97,7 @@ impl StreamProgress {
         requires read { end ≤ self.now.read }
         requires held { self.now.read ≤ start + length self.now.buffer.bytes }
         requires whole { length self.now.buffer.bytes ≤ self.now.read }
-        ensures part { (given : List ℕ) → length given ≡ self.now.read
-            → EndsIn given self.now.buffer.bytes → result.now ≡ slice_range given start end }
+        ensures part { ForGiven self.now (λ given. result.now ≡ slice_range given start end) }
     {
         let bytes = self.buffer.buffer();
         let first = self.read - bytes.len() as u64;
@@ -153,9 +152,7 @@ impl StreamProgress {
         ensures refills { Refills self.old self.new (R.remaining source.old) (R.remaining source.new) }
         ensures more { result ≡ Ok tt → (self.old.read < self.new.read) ⊎ (self.new.ended ≡ true) }
         ensures open { OnErr result (self.new.ended ≡ false) }
-        ensures enough { (self.new.ended || is_err result) ≡ true →
-            (self.new.read ≡ self.old.read)
-            ⊎ (length self.new.buffer.bytes < self.new.buffer.least) }
+        ensures enough { (self.new.ended || is_err result) ≡ true → GainsFew self.old self.new }
         ensures ended { R.empty_reads source.new
             ≡ counted self.new.ended (R.empty_reads source.old) }
         ensures read_failed { R.failures source.new

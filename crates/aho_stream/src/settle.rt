@@ -1,11 +1,10 @@
 //! The walk over the bytes of a stream, from where it stands up to where the next match is known.
 
 ghost use Rattle.std.specs.Prelude.{◌≡◌, ◌+◌, ◌*◌, ◌<◌, ◌≤◌, ◌^◌, None, false, length};
-ghost use Rattle.aho_base.specs.Laws.{Fits, better, told};
-ghost use Rattle.aho_base.specs.declared.search.Anchored.TheVariants.{No};
+ghost use Rattle.aho_base.specs.Laws.{Fits, better};
 ghost use Rattle.aho_base.specs.declared.search.MatchKind.TheVariants.{Standard};
 ghost use Rattle.aho_stream.specs.After.{settles};
-ghost use Rattle.aho_stream.specs.Walking.{IsHeldAt, WalksFrom};
+ghost use Rattle.aho_stream.specs.Walking.{IsHeldAt, WalksFrom, told_here};
 
 use aho_base::search::{Anchored, Match, MatchKind, StateID};
 use aho_search::find::told_at;
@@ -44,7 +43,7 @@ fn better_at<W: Walk>(walk: &W, sid: StateID, at: usize, best: Option<Match>) ->
     requires fits { Fits (W.Of.lengths (W.of walk.now)) at (W.Of.list (W.of walk.now) sid) }
     requires first { W.Of.kind (W.of walk.now) ≡ Standard → best ≡ None }
     ensures better { result ≡ better (W.Of.kind (W.of walk.now)) best
-        (told (W.Of.lengths (W.of walk.now)) No 0 at (W.Of.list (W.of walk.now) sid)) }
+        (told_here W.Of.Automaton (W.of walk.now) at sid) }
 {
     match told_at(walk, Anchored::No, sid, 0, at) {
         Some(m) => Some(m),
