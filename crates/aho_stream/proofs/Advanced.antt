@@ -1,5 +1,5 @@
 -- What a call has read, and what its answer tells.
-use Rattle.std.proofs.Common.{◌≡◌, ◌≢◌, ℕ, ◌+◌, ◌≤◌, ◌⊎◌, ◌&&◌, inl, inr, min, Bool, true, false, List, [], ◌++◌, length, refl, sym, ◌∙◌, ap, subst, arith, append_assoc, append-nil, length-append}
+use Rattle.std.proofs.Common.{◌≡◌, ◌≢◌, ℕ, ◌+◌, ◌<◌, ◌≤◌, ◌⊎◌, ◌&&◌, ◌||◌, inl, inr, min, Bool, true, false, List, [], ◌∷◌, ◌++◌, length, refl, sym, ◌∙◌, ap, subst, arith, append_assoc, append-nil, length-append}
 use Rattle.std.specs.Prelude.{OnErr, Option, Some, None, Result, Ok, Err, is_none, slice_range}
 use Rattle.std.specs.Io.KnownBytes.{Consumes}
 use Rattle.std.proofs.KnownBytes.{Consumes-nil, Consumes-trans}
@@ -44,12 +44,12 @@ module _ {S : Type 0} (A : Ghosts S) (automaton : S) where
   -- what was read so far, and that all that was settled was told before it was asked for
   pub record ReadsPromptly (lookups lookups' : ℕ) (s s' : StreamProgress) (before after : Option (List ℕ)) : Type 0 where
     pub reads : ReadsOn A automaton lookups lookups' s s' before after
-    pub prompt : FillsNothing s s' reads.bytes None ⊎ Fills A automaton lookups s s' reads.bytes
+    pub prompt : FillsNothing s s' reads.bytes false ⊎ Fills A automaton lookups s s' reads.bytes false
 
   -- the same, where the source was asked
-  pub record ReadsFilling (lookups lookups' : ℕ) (s s' : StreamProgress) (before after : Option (List ℕ)) : Type 0 where
+  pub record ReadsFilling (lookups lookups' : ℕ) (s s' : StreamProgress) (before after : Option (List ℕ)) (failed : Bool) : Type 0 where
     pub reads : ReadsOn A automaton lookups lookups' s s' before after
-    pub fills : Fills A automaton lookups s s' reads.bytes
+    pub fills : Fills A automaton lookups s s' reads.bytes failed
 
   -- nothing was read
   pub read_none : (lookups lookups' : ℕ) (s s' : StreamProgress) (before : Option (List ℕ)) → s'.ended ≡ s.ended
@@ -65,13 +65,15 @@ module _ {S : Type 0} (A : Ghosts S) (automaton : S) where
   }
 
   -- a fill stays the last one where the buffer stays
-  fills_same : (lookups : ℕ) (s t s' : StreamProgress) (bytes : List ℕ) → s'.buffer ≡ t.buffer → Fills A automaton lookups s t bytes → Fills A automaton lookups s s' bytes
-  fills_same lookups s t s' bytes buffer f = record {
+  fills_same : (lookups : ℕ) (s t s' : StreamProgress) (bytes : List ℕ) → s'.buffer ≡ t.buffer → s'.ended ≡ t.ended → Fills A automaton lookups s t bytes false → Fills A automaton lookups s s' bytes false
+  fills_same lookups s t s' bytes buffer ended f = record {
     early = f.early;
     late = f.late;
     are_all = f.are_all;
     told = f.told;
     one_fill = subst (λ (b : Buffered). length b.bytes ≡ min b.least (s.read + length f.early) + length f.late) (sym buffer) f.one_fill;
+    enough = subst (λ (e : Bool). (e || false) ≡ true → (f.late ≡ []) ⊎ (length s'.buffer.bytes < s'.buffer.least)) (sym ended)
+        (subst (λ (b : Buffered). (t.ended || false) ≡ true → (f.late ≡ []) ⊎ (length b.bytes < b.least)) (sym buffer) f.enough);
   }
 
   -- nothing more was read
@@ -84,7 +86,7 @@ module _ {S : Type 0} (A : Ghosts S) (automaton : S) where
       closed = r.reads.closed;
       is_after = λ p given of a. keeps p (given ++ r.reads.bytes) of (r.reads.is_after p given of a);
     };
-    prompt = elim r.prompt [ inl nothing ↦ inl (nothing.0, ended ∙ nothing.1, nothing.2) | inr fills ↦ inr (fills_same lookups s t s' r.reads.bytes buffer fills) ];
+    prompt = elim r.prompt [ inl nothing ↦ inl (nothing.0, ended ∙ nothing.1, nothing.2) | inr fills ↦ inr (fills_same lookups s t s' r.reads.bytes buffer ended fills) ];
   }
 
   -- how many bytes a roll keeps of those that were given
@@ -93,12 +95,18 @@ module _ {S : Type 0} (A : Ghosts S) (automaton : S) where
       let (gone, last) = a.last in
       omega (arith, a.enough, a.count, ap length last, length-append gone s.buffer.bytes)
 
+  -- so many bytes more are none
+  no_more : (bytes : List ℕ) (before after : ℕ) → after ≡ before + length bytes → after ≡ before → bytes ≡ []
+  no_more [] before after count same = refl
+  no_more (x ∷ bytes) before after count same = absurd (omega (arith, count, same))
+
   -- these bytes were read too, once all was told that was settled by those before
-  pub read_more : (lookups mid lookups' : ℕ) (s t s' : StreamProgress) (before between after : Option (List ℕ)) (refills : Refills t s' between after)
+  pub read_more : (lookups mid lookups' : ℕ) (s t s' : StreamProgress) (before between after : Option (List ℕ)) (failed : Bool) (refills : Refills t s' between after)
+      → ((s'.ended || failed) ≡ true → (s'.read ≡ t.read) ⊎ (length s'.buffer.bytes < s'.buffer.least))
       → s.ended ≡ false → t.reported ≡ s.reported → t.from ≡ s.from → ((p : Patterns) × (given : List ℕ) × IsOf p × After p lookups s given)
       → ((p : Patterns) (given : List ℕ) → IsOf p → After p mid t given → AllTold A automaton p t given)
-      → ((p : Patterns) (given : List ℕ) → IsOf p → After p mid t given → After p lookups' s' (given ++ refills.bytes)) → ReadsPromptly lookups mid s t before between → ReadsFilling lookups lookups' s s' before after
-  read_more lookups mid lookups' s t s' before between after refills going reported from some all keeps r = record {
+      → ((p : Patterns) (given : List ℕ) → IsOf p → After p mid t given → After p lookups' s' (given ++ refills.bytes)) → ReadsPromptly lookups mid s t before between → ReadsFilling lookups lookups' s s' before after failed
+  read_more lookups mid lookups' s t s' before between after failed refills enough going reported from some all keeps r = record {
     reads = record {
       bytes = r.reads.bytes ++ refills.bytes;
       read = Consumes-trans before between after r.reads.bytes refills.bytes r.reads.read refills.given;
@@ -117,14 +125,17 @@ module _ {S : Type 0} (A : Ghosts S) (automaton : S) where
             none = λ standard. subst (λ (x : ℕ). IsAnswer p (search_from x bytes) None) from (told.none standard);
             alive = λ leftmost place died. told.alive leftmost place (subst (λ (x : ℕ). DiesAt p bytes x place) (sym from) died);
             near = omega (arith, told.near, reported, a.least, now.least);
-            start = let (sid, is_held, is_start) = told.start in
-                (sid, subst (λ (x : ℕ). A.held automaton p No (slice_range bytes x (length bytes)) sid) from is_held,
-                λ starts none. sym reported ∙ is_start starts (subst (λ (x : ℕ). IsAnswer p (search_from x bytes) None) (sym from) none));
+            start = let (sid, is_held, is_start) = told.start in (
+              sid,
+              subst (λ (x : ℕ). A.held automaton p No (slice_range bytes x (length bytes)) sid) from is_held,
+              λ starts none. sym reported ∙ is_start starts (subst (λ (x : ℕ). IsAnswer p (search_from x bytes) None) (sym from) none),
+            );
           };
       one_fill =
           let (p, given, of, a) = some in
           let now = r.reads.is_after p given of a in
           omega (arith, refills.kept, kept_of p mid t (given ++ r.reads.bytes) now, refills.least, now.count, a.count, length-append given r.reads.bytes);
+      enough = λ last. elim (enough last) [ inl same ↦ inl (no_more refills.bytes t.read s'.read refills.count same) | inr few ↦ inr few ];
     };
   }
 
@@ -135,10 +146,10 @@ module _ {S : Type 0} (A : Ghosts S) (automaton : S) where
   advances lookups lookups' s s' before after answer no_error r tells = record {
     reads = r.reads;
     tells = λ p given of a. tells p (given ++ r.reads.bytes) of (r.reads.is_after p given of a);
-    prompt = elim r.prompt [ inl nothing ↦ inl (nothing.0, nothing.1, no_error) | inr fills ↦ inr fills ];
+    prompt = subst (λ (failed : Bool). FillsNothing s s' r.reads.bytes failed ⊎ Fills A automaton lookups s s' r.reads.bytes failed) (sym no_error) r.prompt;
   }
 
-  pub advances_filling : (lookups lookups' : ℕ) (s s' : StreamProgress) (before after : Option (List ℕ)) (answer : Option (Result StreamPiece StreamError)) → (r : ReadsFilling lookups lookups' s s' before after)
+  pub advances_filling : (lookups lookups' : ℕ) (s s' : StreamProgress) (before after : Option (List ℕ)) (answer : Option (Result StreamPiece StreamError)) → (r : ReadsFilling lookups lookups' s s' before after (tells_error answer))
       → ((p : Patterns) (given : List ℕ) → IsOf p → After p lookups' s' given → Tells p s s' given answer)
       → Advances A automaton lookups lookups' s s' before after answer
   advances_filling lookups lookups' s s' before after answer r tells = record {
@@ -159,7 +170,7 @@ module _ {S : Type 0} (A : Ghosts S) (automaton : S) where
       record {
         reads = same.reads;
         tells = λ p given of a. tells p (given ++ r.reads.bytes) of (r.reads.is_after p given of a);
-        prompt = elim same.prompt [ inl nothing ↦ inl (nothing.0, nothing.1, no_error) | inr fills ↦ inr fills ];
+        prompt = subst (λ (failed : Bool). FillsNothing s s' same.reads.bytes failed ⊎ Fills A automaton lookups s s' same.reads.bytes failed) (sym no_error) same.prompt;
       }
 
 -- where all was walked and no match in hand is settled, all was told that these bytes settle
@@ -170,8 +181,11 @@ all_told A automaton p {kind} {lengths} {list} {dead} laws lookups s given a goi
   none = λ standard. answer_none (unsettled_none kind (dead s.sid) s.in_hand going (laws.kind_is ∙ standard));
   alive = λ leftmost. lives laws given s.from s.walked s.sid leftmost a.held_is s.in_hand going a.best_is all;
   near = omega (arith, near, a.count);
-  start = (s.sid, subst (λ (end : ℕ). A.held automaton p No (slice_range given s.from end) s.sid) all a.held_is,
-      λ is_start none. omega (arith, start (ap (λ (found : Option Occurrence). is_none found && A.starts automaton s.sid) (no_match s.in_hand a.best_is none) ∙ is_start), a.reported_walked, walked, a.count));
+  start = (
+    s.sid,
+    subst (λ (end : ℕ). A.held automaton p No (slice_range given s.from end) s.sid) all a.held_is,
+    λ is_start none. omega (arith, start (ap (λ (found : Option Occurrence). is_none found && A.starts automaton s.sid) (no_match s.in_hand a.best_is none) ∙ is_start), a.reported_walked, walked, a.count),
+  );
 }
   where
     all : s.walked ≡ length given
@@ -226,3 +240,8 @@ counted_once false after count mid going e = ap (counted after) e
 pub not_before : (before : Bool) → (before ≡ true → false ≡ true) → before ≡ false
 not_before true stays = let impossible = stays refl in cc
 not_before false stays = refl
+
+-- one of two is still true where the second follows
+pub or_more : (ended failed refused : Bool) → (failed ≡ true → refused ≡ true) → (ended || failed) ≡ true → (ended || refused) ≡ true
+or_more true failed refused then one = refl
+or_more false failed refused then one = then one

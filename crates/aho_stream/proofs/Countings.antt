@@ -80,9 +80,12 @@ going_first G S it unrefused = record {
 
 -- it may be called again
 pub goes_on : {A R : Type 0} (G : Ghosts A) (S : SourceGhosts R) (first it : StreamChunkIter A R) (count : ℕ) → Going G S first it count → IsFresh G first → CanGoOn G it
-goes_on {A = A} G S first it count going (p, of, a) =
-    (p, going.read.bytes, subst (λ (automaton : A). G.is_of automaton p) (sym going.same) of,
-    subst (λ (automaton : A). IsAfter G automaton p (lookups_of it) it.progress going.read.bytes) (sym going.same) (going.read.is_after p [] of a))
+goes_on {A = A} G S first it count going (p, of, a) = (
+  p,
+  going.read.bytes,
+  subst (λ (automaton : A). G.is_of automaton p) (sym going.same) of,
+  subst (λ (automaton : A). IsAfter G automaton p (lookups_of it) it.progress going.read.bytes) (sym going.same) (going.read.is_after p [] of a),
+)
 
 -- one call more
 module _ {A R : Type 0} (G : Ghosts A) (S : SourceGhosts R) (are : (automaton : A) (p : Patterns) → G.is_of automaton p → G.lengths automaton ≡ map length p.words) (first it it' : StreamChunkIter A R)

@@ -1,5 +1,5 @@
 -- How far an iterator over a stream has come, once these bytes were given.
-use Rattle.std.specs.Prelude.{◌≡◌, ℕ, ◌+◌, ◌*◌, ◌^◌, ◌<◌, ◌≤◌, ◌||◌, max, min, Bool, true, false, List, [], ◌++◌, Option, Some, None, length, slice_range}
+use Rattle.std.specs.Prelude.{◌≡◌, ℕ, ◌+◌, ◌-◌, ◌*◌, ◌^◌, ◌<◌, ◌≤◌, ◌||◌, ◌&&◌, max, min, is_none, MatchBool, Bool, true, false, List, [], ◌++◌, Option, Some, None, length, slice_range}
 use Rattle.aho_base.specs.Answer.{IsAnswer}
 use Rattle.aho_base.specs.Laws.{BestAfter, first_is_answer, longest, shortest}
 use Rattle.aho_base.specs.Occurrence.{Occurrence}
@@ -9,7 +9,7 @@ use Rattle.aho_base.specs.declared.search.Anchored.{Anchored}
 use Rattle.aho_base.specs.declared.search.Anchored.TheVariants.{No}
 use Rattle.aho_base.specs.declared.search.MatchKind.{MatchKind}
 use Rattle.aho_base.specs.declared.search.MatchKind.TheVariants.{Standard}
-use Rattle.aho_devices.specs.Buffer.{capacity_for}
+use Rattle.aho_devices.specs.Buffer.{Buffered, capacity_for}
 use Rattle.aho_search.specs.declared.automaton.Automaton.{Ghosts}
 use Rattle.aho_stream.specs.declared.progress.StreamProgress.{StreamProgress}
 
@@ -42,6 +42,63 @@ word_of s given = slice_range given s.from s.walked
 abbrev pub is_settled : MatchKind → Bool → Option Occurrence → Bool
 is_settled kind dead None = false
 is_settled kind dead (Some m) = first_is_answer kind false || dead
+
+-- the same, of a state and a match of this automaton
+abbrev pub settles : {S : Type 0} → Ghosts S → S → ℕ → Option Occurrence → Bool
+settles A automaton sid in_hand = is_settled (A.kind automaton) (A.dead automaton sid) in_hand
+
+-- the match in hand is not settled
+abbrev pub IsUnsettled : {S : Type 0} → Ghosts S → S → StreamProgress → Type 0
+IsUnsettled A automaton s = settles A automaton s.sid s.in_hand ≡ false
+
+-- it is given next: it is settled, or the end was seen
+abbrev pub IsDue : {S : Type 0} → Ghosts S → S → StreamProgress → Type 0
+IsDue A automaton s = (s.ended || settles A automaton s.sid s.in_hand) ≡ true
+
+-- no match is in hand, and the state that is held is a start
+abbrev pub starts_over : {S : Type 0} → Ghosts S → S → StreamProgress → Bool
+starts_over A automaton s = is_none s.in_hand && A.starts automaton s.sid
+
+-- the place up to which what was walked is outside of every match: all of it, or all but as many bytes as a roll keeps
+abbrev pub IsOutside : {S : Type 0} → Ghosts S → S → StreamProgress → ℕ → Type 0
+IsOutside A automaton s end = MatchBool (starts_over A automaton s) (end ≡ s.walked) (end ≡ s.walked - s.buffer.least)
+
+-- before the first byte
+abbrev pub fresh : Buffered → ℕ → ℕ → StreamProgress
+fresh buffer start limit = record {
+  buffer = buffer;
+  read = 0;
+  limit = limit;
+  from = 0;
+  told = 0;
+  reported = 0;
+  walked = 0;
+  position = 0;
+  sid = start;
+  start = start;
+  in_hand = None;
+  ended = false;
+  refused = false;
+}
+
+-- bytes were reported up to a place
+abbrev pub reported_to : StreamProgress → ℕ → StreamProgress
+reported_to s end = record s { told = s.reported; reported = end }
+
+-- a match was given, by its places from the end of the last one: the next search begins at its end
+abbrev pub given_on : StreamProgress → Occurrence → StreamProgress
+given_on s m = record s {
+  told = s.from + m.start;
+  reported = s.from + m.end;
+  from = s.from + m.end;
+  walked = s.from + m.end;
+  sid = s.start;
+  in_hand = None;
+}
+
+-- the walk alone went on
+abbrev pub OnlyWalks : StreamProgress → StreamProgress → Type 0
+OnlyWalks s s' = s' ≡ record s { walked = s'.walked; position = s'.position; sid = s'.sid; in_hand = s'.in_hand }
 
 -- a match in hand lies in what was walked. The walk stands at its end under Standard, and else at most one byte farther from
 -- its start than the longest pattern is long
@@ -96,3 +153,7 @@ IsUnderWay A automaton lookups s = (p : Patterns) × (given : List ℕ) × A.is_
 abbrev pub StaysAfter : {S : Type 0} → Ghosts S → S → ℕ → StreamProgress → ℕ → StreamProgress → Type 0
 StaysAfter A automaton lookups s lookups' s' = (p : Patterns) (given : List ℕ) → A.is_of automaton p
     → IsAfter A automaton p lookups s given → IsAfter A automaton p lookups' s' given
+
+-- before the first byte, whatever patterns the automaton is of
+abbrev pub IsBegun : {S : Type 0} → Ghosts S → S → StreamProgress → Type 0
+IsBegun A automaton s = (p : Patterns) → A.is_of automaton p → IsAfter A automaton p 0 s []

@@ -1,5 +1,5 @@
 -- What each call of an iterator over the chunks of a stream answers.
-use Rattle.std.specs.Prelude.{◌≡◌, ◌≢◌, ℕ, ◌+◌, ◌≤◌, ◌⊎◌, ◌&&◌, min, not, Bool, true, false, List, [], ◌++◌, Option, Some, None, Result, Ok, Err, IfSome, length, slice_range}
+use Rattle.std.specs.Prelude.{◌≡◌, ◌≢◌, ℕ, ◌+◌, ◌<◌, ◌≤◌, ◌⊎◌, ◌&&◌, ◌||◌, min, not, Bool, true, false, List, [], ◌++◌, Option, Some, None, Result, Ok, Err, IfSome, length, slice_range}
 use Rattle.std.specs.Io.KnownBytes.{Consumes}
 use Rattle.aho_base.specs.declared.error.stream.StreamError.{StreamError}
 use Rattle.aho_base.specs.declared.error.stream.StreamError.TheVariants.{Match as Refused, Read, Write, WriteZero, Memory, PositionLimit}
@@ -128,17 +128,19 @@ pub record AllTold {S : Type 0} (A : Ghosts S) (automaton : S) (p : Patterns) (s
       × (A.starts automaton sid ≡ true → IsAnswer p (search_from s.from given) None → s.reported ≡ length given)
 
 -- the source was asked for more: before the last fill of the buffer all that was settled had been told. The fill gave the late
--- bytes, and the buffer holds them behind the last ones of those before
-pub record Fills {S : Type 0} (A : Ghosts S) (automaton : S) (lookups : ℕ) (s s' : StreamProgress) (bytes : List ℕ) : Type 0 where
+-- bytes, and the buffer holds them behind the last ones of those before. Once enough bytes are held no more are read: where a
+-- read was empty or failed, it was the first of the fill, or fewer bytes are held than a roll keeps
+pub record Fills {S : Type 0} (A : Ghosts S) (automaton : S) (lookups : ℕ) (s s' : StreamProgress) (bytes : List ℕ) (failed : Bool) : Type 0 where
   pub early : List ℕ
   pub late : List ℕ
   pub are_all : bytes ≡ early ++ late
   pub told : (p : Patterns) (given : List ℕ) → A.is_of automaton p → IsAfter A automaton p lookups s given → AllTold A automaton p s (given ++ early)
   pub one_fill : length s'.buffer.bytes ≡ min s'.buffer.least (s.read + length early) + length late
+  pub enough : (s'.ended || failed) ≡ true → (late ≡ []) ⊎ (length s'.buffer.bytes < s'.buffer.least)
 
 -- a call asked the source for nothing: it read no byte, saw no end and answers no error
-abbrev pub FillsNothing : StreamProgress → StreamProgress → List ℕ → Option (Result StreamPiece StreamError) → Type 0
-FillsNothing s s' bytes answer = (bytes ≡ []) × (s'.ended ≡ s.ended) × (tells_error answer ≡ false)
+abbrev pub FillsNothing : StreamProgress → StreamProgress → List ℕ → Bool → Type 0
+FillsNothing s s' bytes failed = (bytes ≡ []) × (s'.ended ≡ s.ended) × (failed ≡ false)
 
 -- a call of a search by this automaton, from some look-ups, progress and bytes that the source has left to later ones
 module _ {S : Type 0} (A : Ghosts S) (automaton : S) (lookups lookups' : ℕ) (s s' : StreamProgress) (before after : Option (List ℕ)) where
@@ -154,7 +156,7 @@ module _ {S : Type 0} (A : Ghosts S) (automaton : S) (lookups lookups' : ℕ) (s
   pub record Advances (answer : Option (Result StreamPiece StreamError)) : Type 0 where
     pub reads : ReadsOn
     pub tells : (p : Patterns) (given : List ℕ) → A.is_of automaton p → IsAfter A automaton p lookups s given → Tells p s s' (given ++ reads.bytes) answer
-    pub prompt : FillsNothing s s' reads.bytes answer ⊎ Fills A automaton lookups s s' reads.bytes
+    pub prompt : FillsNothing s s' reads.bytes (tells_error answer) ⊎ Fills A automaton lookups s s' reads.bytes (tells_error answer)
 
 -- the next chunk of what was given, where there is one, is what it should be
 abbrev pub TellsNext : {S : Type 0} → Ghosts S → S → ℕ → StreamProgress → StreamProgress → Option StreamPiece → Type 0

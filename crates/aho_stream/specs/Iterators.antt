@@ -1,7 +1,8 @@
 -- What an iterator over the chunks of a stream is seen as, and what its calls promise.
-use Rattle.std.specs.Prelude.{◌≡◌, ℕ, ◌≤◌, ◌||◌, true, List, [], ◌++◌, Option, Some, None, Result, Ok, Err, slice_range, ⊤}
+use Rattle.std.specs.Prelude.{◌≡◌, ℕ, ◌+◌, ◌*◌, ◌≤◌, ◌||◌, true, length, List, [], ◌++◌, Option, Some, None, Result, Ok, Err, slice_range, ⊤}
 use Rattle.std.specs.Borrow.{Bor}
 use Rattle.aho_base.specs.declared.error.stream.StreamError.{StreamError}
+use Rattle.aho_base.specs.Laws.{longest}
 use Rattle.aho_base.specs.Occurrence.{Occurrence}
 use Rattle.aho_base.specs.Patterns.{Patterns}
 use Rattle.aho_devices.specs.Counts.{counted}
@@ -43,6 +44,19 @@ abbrev pub Advanced : {A R : Type 0} → Ghosts A → SourceGhosts R → StreamC
 Advanced G S it it' answer = Advances G (automaton_of it) (lookups_of it) (lookups_of it') it.progress it'.progress
     (S.remaining it.source.now) (S.remaining it'.source.now) answer
 
+-- what is said of the bytes of the last chunk, whatever the source gave
+abbrev pub ForLastChunk : {A R : Type 0} → Ghosts A → StreamChunkIter A R → (List ℕ → Type 0) → Type 0
+ForLastChunk G it says = (p : Patterns) (given : List ℕ) → G.is_of (automaton_of it) p → HasGiven G it p given
+    → says (slice_range given it.progress.told it.progress.reported)
+
+-- how many bytes are walked at most, each time that they are walked
+abbrev pub most_walked : {A R : Type 0} → Ghosts A → StreamChunkIter A R → List ℕ → ℕ
+most_walked G it given = (1 + longest (G.lengths (automaton_of it))) * length given
+
+-- the end was seen where a read was empty
+abbrev pub SeesEnd : {A R : Type 0} → SourceGhosts R → StreamChunkIter A R → StreamChunkIter A R → Type 0
+SeesEnd S it it' = S.empty_reads it'.source.now ≡ counted (ends_between it.progress.ended it'.progress.ended) (S.empty_reads it.source.now)
+
 -- the match that a chunk lends, where it has one, and its bytes
 abbrev pub chunk_lent : StreamChunk → Option Occurrence × List ℕ
 chunk_lent (Bytes bytes) = (None, bytes.now)
@@ -70,7 +84,7 @@ pub record Lends {A R : Type 0} (G : Ghosts A) (S : SourceGhosts R) (it it' : St
   pub same_source : it'.source.ghost_name ≡ it.source.ghost_name
   pub limit : it'.progress.limit ≡ it.progress.limit
   -- the end is seen where a read is empty, and stays
-  pub ended : S.empty_reads it'.source.now ≡ counted (ends_between it.progress.ended it'.progress.ended) (S.empty_reads it.source.now)
+  pub ended : SeesEnd S it it'
   pub stays_ended : it.progress.ended ≡ true → it'.progress.ended ≡ true
   -- after the end, and after the limit was answered, there is none for good
   pub after_end : it.progress.ended ≡ true → it.progress.read ≤ it.progress.reported → answer ≡ None

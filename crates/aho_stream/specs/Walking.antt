@@ -1,10 +1,12 @@
 -- What a walk over further bytes of a stream promises.
-use Rattle.std.specs.Prelude.{◌≡◌, ℕ, ◌+◌, ◌≤◌, List, ◌++◌, IfSome, length, take}
+use Rattle.std.specs.Prelude.{◌≡◌, ℕ, ◌+◌, ◌≤◌, List, ◌++◌, Option, IfSome, length, take}
 use Rattle.aho_base.specs.Laws.{BestAfter, longest}
+use Rattle.aho_base.specs.Occurrence.{Occurrence}
 use Rattle.aho_base.specs.Patterns.{Patterns}
 use Rattle.aho_base.specs.declared.search.Anchored.{Anchored}
 use Rattle.aho_base.specs.declared.search.Anchored.TheVariants.{No}
 use Rattle.aho_base.specs.declared.search.MatchKind.TheVariants.{Standard}
+use Rattle.aho_search.specs.declared.automaton.Automaton.{Ghosts}
 use Rattle.aho_stream.specs.declared.settle.Walked.{Walked}
 
 -- after the word and the bytes that were walked the state is held, and what was found is the best of them. The walk stands at
@@ -14,3 +16,12 @@ pub record WalksOn (p : Patterns) (lengths : List ℕ) (held : Anchored → List
   pub best_is : BestAfter p No (word ++ take walked.count bytes) walked.found
   pub near : IfSome walked.found (λ m. length word + walked.count ≤ m.start + longest lengths + 1)
   pub ends : p.kind ≡ Standard → IfSome walked.found (λ m. length word + walked.count ≤ m.end)
+
+-- a state of this automaton that is held after some word of so many bytes
+abbrev pub IsHeldAt : {S : Type 0} → Ghosts S → S → ℕ → ℕ → Type 0
+IsHeldAt A automaton at sid = (p : Patterns) × (word : List ℕ) × A.is_of automaton p × (length word ≡ at) × A.held automaton p No word sid
+
+-- a walk on from there, whatever the word was of which this is the best match
+abbrev pub WalksFrom : {S : Type 0} → Ghosts S → S → ℕ → ℕ → Option Occurrence → List ℕ → Walked → Type 0
+WalksFrom A automaton at sid best bytes walked = (p : Patterns) (word : List ℕ) → A.is_of automaton p → length word ≡ at
+    → A.held automaton p No word sid → BestAfter p No word best → WalksOn p (A.lengths automaton) (A.held automaton p) word bytes walked

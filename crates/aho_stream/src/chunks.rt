@@ -3,14 +3,13 @@
 ghost use Rattle.std.specs.Prelude.{◌≡◌, ◌+◌, ◌*◌, ◌≤◌, ◌||◌, min, ℕ, List, [], Option, Some, None, IfOk, length, slice_range, true, false};
 ghost use Rattle.std.specs.Borrow.{sem};
 ghost use Rattle.std.specs.Io.BufRead.{Rests};
-ghost use Rattle.aho_base.specs.Laws.{longest};
 ghost use Rattle.aho_base.specs.Patterns.{Patterns};
 ghost use Rattle.aho_base.specs.declared.search.Anchored.TheVariants.{No};
 ghost use Rattle.aho_base.specs.declared.search.MatchKind.TheVariants.{Standard};
 ghost use Rattle.aho_devices.specs.Counts.{counted};
 ghost use Rattle.aho_stream.specs.After.{greatest_position};
-ghost use Rattle.aho_stream.specs.Chunks.{ends_between, tells_limit, tells_read_fault};
-ghost use Rattle.aho_stream.specs.Iterators.{Advanced, CanGoOn, HasGiven, HasNotBegun, Lends, automaton_of, chunk_lent, lookups_of};
+ghost use Rattle.aho_stream.specs.Chunks.{tells_limit, tells_read_fault};
+ghost use Rattle.aho_stream.specs.Iterators.{Advanced, CanGoOn, ForLastChunk, HasGiven, HasNotBegun, Lends, SeesEnd, automaton_of, chunk_lent, lookups_of, most_walked};
 ghost use Rattle.aho_stream.specs.Replacing.{Refuses};
 ghost use Rattle.aho_stream.specs.contracts.chunks.StreamChunkIter.{the_row};
 ghost use mir.Syntax.{named};
@@ -155,9 +154,7 @@ impl<'a, 'r, A: Automaton, R: Source> StreamChunkIter<'a, 'r, A, R> {
         ensures advances { Advanced A.Automaton R.Source self.old self.new result }
         ensures same { automaton_of self.new ≡ automaton_of self.old }
         ensures limit { self.new.progress.limit ≡ self.old.progress.limit }
-        ensures ended { R.empty_reads self.new.source.now
-            ≡ counted (ends_between self.old.progress.ended self.new.progress.ended)
-            (R.empty_reads self.old.source.now) }
+        ensures ended { SeesEnd R.Source self.old self.new }
         ensures same_source { self.new.source.ghost_name ≡ self.old.source.ghost_name }
         ensures stays_ended { self.old.progress.ended ≡ true → self.new.progress.ended ≡ true }
 
@@ -214,9 +211,8 @@ impl<'a, 'r, A: Automaton, R: Source> StreamChunkIter<'a, 'r, A, R> {
     /// The chunk told last, by its match.
     fn lent(&self) -> StreamChunk<'_>
         requires after { CanGoOn A.Automaton self.now }
-        ensures chunk { (p : Patterns) (given : List ℕ) → A.is_of (automaton_of self.now) p
-            → HasGiven A.Automaton self.now p given → chunk_lent result
-            ≡ (self.now.found, slice_range given self.now.progress.told self.now.progress.reported) }
+        ensures chunk { ForLastChunk A.Automaton self.now
+            (λ bytes. chunk_lent result ≡ (self.now.found, bytes)) }
     {
         chunk_of(&self.found, self.bytes())
     }
@@ -224,10 +220,7 @@ impl<'a, 'r, A: Automaton, R: Source> StreamChunkIter<'a, 'r, A, R> {
     /// The bytes of the chunk that the last call of `advance` told; none after a call that told none.
     pub fn bytes(&self) -> &[u8]
         requires after { CanGoOn A.Automaton self.now }
-        ensures bytes { (p : Patterns) (given : List ℕ)
-            → A.is_of (automaton_of self.now) p
-            → HasGiven A.Automaton self.now p given
-            → result.now ≡ slice_range given self.now.progress.told self.now.progress.reported }
+        ensures bytes { ForLastChunk A.Automaton self.now (λ bytes. result.now ≡ bytes) }
     {
         self.progress
             .bytes(self.progress.told, self.progress.reported)
@@ -249,8 +242,7 @@ impl<'a, 'r, A: Automaton, R: Source> StreamChunkIter<'a, 'r, A, R> {
         ensures position { result ≡ self.now.progress.position }
         ensures bounded { (p : Patterns) (given : List ℕ)
             → HasGiven A.Automaton self.now p given
-            → result ≤ (1 + longest (A.lengths (automaton_of self.now)))
-            * length given }
+            → result ≤ most_walked A.Automaton self.now given }
         ensures once { (p : Patterns) (given : List ℕ) → p.kind ≡ Standard
             → HasGiven A.Automaton self.now p given
             → result ≤ length given }

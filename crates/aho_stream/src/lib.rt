@@ -4,8 +4,9 @@
 pub mod chunks;
 pub mod count;
 pub mod finds;
+pub mod impls;
 mod pieces;
 pub mod progress;
 pub mod replace;
-pub mod start;
 mod settle;
+pub mod start;

@@ -1,7 +1,7 @@
 //! The next chunk of what was read: the walk up to where it is settled, and what it tells.
 
-ghost use Rattle.std.specs.Prelude.{◌≡◌, ◌+◌, ◌≤◌, ◌-◌, ◌||◌, ◌&&◌, None, Some, IfSome, MatchBool, is_none, true, false};
-ghost use Rattle.aho_stream.specs.After.{IsUnderWay, StaysAfter, is_settled};
+ghost use Rattle.std.specs.Prelude.{◌≡◌, ◌+◌, ◌≤◌, None, Some, IfSome, true, false};
+ghost use Rattle.aho_stream.specs.After.{IsDue, IsOutside, IsUnderWay, IsUnsettled, OnlyWalks, StaysAfter, starts_over};
 ghost use Rattle.aho_stream.specs.Chunks.{TellsNext};
 
 use crate::progress::{StreamPiece, StreamProgress};
@@ -15,15 +15,10 @@ fn search<W: Walk>(walk: &mut W, progress: &mut StreamProgress)
     requires open { progress.old.refused ≡ false }
     ensures after { StaysAfter W.Of.Automaton (W.of walk.old)
         (W.lookups walk.old) progress.old (W.lookups walk.new) progress.new }
-    ensures all { is_settled (W.Of.kind (W.of walk.old)) (W.Of.dead (W.of walk.old) progress.new.sid)
-        progress.new.in_hand ≡ false → progress.new.walked ≡ progress.new.read }
+    ensures all { IsUnsettled W.Of.Automaton (W.of walk.old) progress.new
+        → progress.new.walked ≡ progress.new.read }
     ensures same { W.of walk.new ≡ W.of walk.old }
-    ensures others { progress.new ≡ record progress.old {
-      walked = progress.new.walked;
-      position = progress.new.position;
-      sid = progress.new.sid;
-      in_hand = progress.new.in_hand;
-    } }
+    ensures others { OnlyWalks progress.old progress.new }
 {
     if is_settled(walk, progress.sid, &progress.in_hand) {
         return;
@@ -45,10 +40,8 @@ fn search<W: Walk>(walk: &mut W, progress: &mut StreamProgress)
 fn outside<W: Walk>(walk: &W, progress: &StreamProgress) -> u64
     requires valid { W.Of.valid (W.of walk.now) progress.now.sid }
     ensures ended { progress.now.ended ≡ true → result ≡ progress.now.read }
-    ensures open { progress.now.ended ≡ false →
-        MatchBool (is_none progress.now.in_hand && W.Of.starts (W.of walk.now) progress.now.sid)
-        (result ≡ progress.now.walked)
-        (result ≡ progress.now.walked - progress.now.buffer.least) }
+    ensures open { progress.now.ended ≡ false
+        → IsOutside W.Of.Automaton (W.of walk.now) progress.now result }
 {
     if progress.ended {
         return progress.read;
@@ -65,10 +58,8 @@ fn outside<W: Walk>(walk: &W, progress: &StreamProgress) -> u64
 fn next_match<W: Walk>(walk: &W, progress: &StreamProgress) -> Option<Match>
     requires valid { W.Of.valid (W.of walk.now) progress.now.sid }
     ensures in_hand { IfSome result (λ m. progress.now.in_hand ≡ Some m) }
-    ensures due { IfSome result (λ m. (progress.now.ended || is_settled (W.Of.kind (W.of walk.now))
-        (W.Of.dead (W.of walk.now) progress.now.sid) progress.now.in_hand) ≡ true) }
-    ensures none { result ≡ None → (is_settled (W.Of.kind (W.of walk.now))
-        (W.Of.dead (W.of walk.now) progress.now.sid) progress.now.in_hand ≡ false)
+    ensures due { IfSome result (λ m. IsDue W.Of.Automaton (W.of walk.now) progress.now) }
+    ensures none { result ≡ None → IsUnsettled W.Of.Automaton (W.of walk.now) progress.now
         × (progress.now.ended ≡ true → progress.now.in_hand ≡ None) }
 {
     if progress.ended || is_settled(walk, progress.sid, &progress.in_hand) {
@@ -80,20 +71,19 @@ fn next_match<W: Walk>(walk: &W, progress: &StreamProgress) -> Option<Match>
 /// The next chunk of what was walked: the match that is given next, and before it the bytes that are outside of every match.
 fn piece<W: Walk>(walk: &W, progress: &mut StreamProgress) -> Option<StreamPiece>
     requires after { IsUnderWay W.Of.Automaton (W.of walk.now) (W.lookups walk.now) progress.old }
-    requires walked { is_settled (W.Of.kind (W.of walk.now)) (W.Of.dead (W.of walk.now) progress.old.sid)
-        progress.old.in_hand ≡ false → progress.old.walked ≡ progress.old.read }
+    requires walked { IsUnsettled W.Of.Automaton (W.of walk.now) progress.old
+        → progress.old.walked ≡ progress.old.read }
     requires open { progress.old.refused ≡ false }
     ensures after { StaysAfter W.Of.Automaton (W.of walk.now)
         (W.lookups walk.now) progress.old (W.lookups walk.now) progress.new }
     ensures tells { TellsNext W.Of.Automaton (W.of walk.now)
         (W.lookups walk.now) progress.old progress.new result }
-    ensures none { result ≡ None → (progress.new ≡ progress.old)
-        × (is_settled (W.Of.kind (W.of walk.now)) (W.Of.dead (W.of walk.now) progress.old.sid)
-        progress.old.in_hand ≡ false) }
+    ensures none { result ≡ None → progress.new ≡ progress.old }
+    ensures unsettled { result ≡ None → IsUnsettled W.Of.Automaton (W.of walk.now) progress.old }
     ensures near { result ≡ None
         → progress.new.walked ≤ progress.new.reported + progress.new.buffer.least }
     ensures start { result ≡ None
-        → (is_none progress.new.in_hand && W.Of.starts (W.of walk.now) progress.new.sid) ≡ true
+        → starts_over W.Of.Automaton (W.of walk.now) progress.new ≡ true
         → progress.new.read ≤ progress.new.reported }
     ensures buffer { progress.new.buffer ≡ progress.old.buffer }
     ensures end { result ≡ None → progress.new.ended ≡ true
@@ -116,26 +106,23 @@ fn piece<W: Walk>(walk: &W, progress: &mut StreamProgress) -> Option<StreamPiece
 }
 
 /// The next chunk of what was read, by walking on where no match in hand is settled; none where more has to be read first.
-pub(crate) fn next_piece<W: Walk>(walk: &mut W, progress: &mut StreamProgress) -> Option<StreamPiece>
+pub(crate) fn next_piece<W: Walk>(
+    walk: &mut W,
+    progress: &mut StreamProgress,
+) -> Option<StreamPiece>
     requires after { IsUnderWay W.Of.Automaton (W.of walk.old) (W.lookups walk.old) progress.old }
     requires open { progress.old.refused ≡ false }
     ensures after { StaysAfter W.Of.Automaton (W.of walk.old)
         (W.lookups walk.old) progress.old (W.lookups walk.new) progress.new }
     ensures tells { TellsNext W.Of.Automaton (W.of walk.old)
         (W.lookups walk.old) progress.old progress.new result }
-    ensures none { result ≡ None → progress.new ≡ record progress.old {
-      walked = progress.new.walked;
-      position = progress.new.position;
-      sid = progress.new.sid;
-      in_hand = progress.new.in_hand;
-    } }
-    ensures walked { result ≡ None → (is_settled (W.Of.kind (W.of walk.old))
-        (W.Of.dead (W.of walk.old) progress.new.sid) progress.new.in_hand ≡ false)
+    ensures none { result ≡ None → OnlyWalks progress.old progress.new }
+    ensures walked { result ≡ None → IsUnsettled W.Of.Automaton (W.of walk.old) progress.new
         × (progress.new.walked ≡ progress.new.read) }
     ensures near { result ≡ None
         → progress.new.read ≤ progress.new.reported + progress.new.buffer.least }
     ensures start { result ≡ None
-        → (is_none progress.new.in_hand && W.Of.starts (W.of walk.old) progress.new.sid) ≡ true
+        → starts_over W.Of.Automaton (W.of walk.old) progress.new ≡ true
         → progress.new.read ≤ progress.new.reported }
     ensures buffer { progress.new.buffer ≡ progress.old.buffer }
     ensures end { result ≡ None → progress.new.ended ≡ true

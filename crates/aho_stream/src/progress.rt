@@ -1,10 +1,10 @@
 //! How far a search of a stream has come: numbers, and the bytes that the buffer holds.
 
-ghost use Rattle.std.specs.Prelude.{◌≡◌, ◌+◌, ◌<◌, ◌≤◌, ◌^◌, ◌⊎◌, min, ℕ, List, Some, None, IfOk, IfErr, OnErr, length, slice_range, is_err, true, false, Err};
+ghost use Rattle.std.specs.Prelude.{◌≡◌, ◌+◌, ◌<◌, ◌≤◌, ◌^◌, ◌⊎◌, ◌||◌, min, ℕ, List, Some, None, IfOk, IfErr, OnErr, length, slice_range, is_err, true, false, Err};
 ghost use Rattle.aho_devices.specs.Counts.{counted};
 ghost use Rattle.aho_devices.specs.Buffer.{saw_end};
 ghost use Rattle.aho_devices.specs.Refusals.{is_read_fault, IsFillRefusal};
-ghost use Rattle.aho_stream.specs.After.{EndsIn};
+ghost use Rattle.aho_stream.specs.After.{EndsIn, fresh, given_on, reported_to};
 ghost use Rattle.aho_stream.specs.Chunks.{match_told};
 ghost use Rattle.aho_stream.specs.Refills.{Refills, is_limit};
 ghost use Rattle.aho_stream.specs.declared.progress.StreamPiece.TheVariants.{NonMatch};
@@ -72,21 +72,7 @@ pub struct StreamProgress {
 impl StreamProgress {
     /// Nothing was given yet.
     pub(crate) fn new(buffer: Buffer, start: StateID, limit: u64) -> StreamProgress
-        ensures made { result ≡ record {
-          buffer = buffer;
-          read = 0;
-          limit = limit;
-          from = 0;
-          told = 0;
-          reported = 0;
-          walked = 0;
-          position = 0;
-          sid = start;
-          start = start;
-          in_hand = None;
-          ended = false;
-          refused = false;
-        } }
+        ensures made { result ≡ fresh buffer start limit }
     {
         StreamProgress {
             buffer,
@@ -122,7 +108,7 @@ impl StreamProgress {
     /// Tells the bytes up to a place, where any are left before it.
     pub(crate) fn report(&mut self, end: u64) -> Option<StreamPiece>
         ensures some { self.old.reported < end → (result ≡ Some NonMatch)
-            × (self.new ≡ record self.old { told = self.old.reported; reported = end }) }
+            × (self.new ≡ reported_to self.old end) }
         ensures none { end ≤ self.old.reported → (result ≡ None) × (self.new ≡ self.old) }
     {
         if end <= self.reported {
@@ -142,14 +128,7 @@ impl StreamProgress {
           start = self.old.from + m.start;
           end = self.old.from + m.end;
         } }
-        ensures moved { self.new ≡ record self.old {
-          told = self.old.from + m.start;
-          reported = self.old.from + m.end;
-          from = self.old.from + m.end;
-          walked = self.old.from + m.end;
-          sid = self.old.start;
-          in_hand = None;
-        } }
+        ensures moved { self.new ≡ given_on self.old m }
     {
         let start = self.from + m.start() as u64;
         let end = self.from + m.end() as u64;
@@ -173,9 +152,10 @@ impl StreamProgress {
         requires below { self.old.refused ≡ false }
         ensures refills { Refills self.old self.new (R.remaining source.old) (R.remaining source.new) }
         ensures more { result ≡ Ok tt → (self.old.read < self.new.read) ⊎ (self.new.ended ≡ true) }
-        ensures faulty { OnErr result ((self.new.read ≡ self.old.read)
-            ⊎ (length self.new.buffer.bytes < self.new.buffer.least)) }
         ensures open { OnErr result (self.new.ended ≡ false) }
+        ensures enough { (self.new.ended || is_err result) ≡ true →
+            (self.new.read ≡ self.old.read)
+            ⊎ (length self.new.buffer.bytes < self.new.buffer.least) }
         ensures ended { R.empty_reads source.new
             ≡ counted self.new.ended (R.empty_reads source.old) }
         ensures read_failed { R.failures source.new

@@ -1,12 +1,11 @@
 //! The walk over the bytes of a stream, from where it stands up to where the next match is known.
 
-ghost use Rattle.std.specs.Prelude.{◌≡◌, ◌+◌, ◌*◌, ◌<◌, ◌≤◌, ◌^◌, ℕ, List, IfSome, None, false, length};
-ghost use Rattle.aho_base.specs.Laws.{BestAfter, Fits, better, told};
-ghost use Rattle.aho_base.specs.Patterns.{Patterns};
+ghost use Rattle.std.specs.Prelude.{◌≡◌, ◌+◌, ◌*◌, ◌<◌, ◌≤◌, ◌^◌, None, false, length};
+ghost use Rattle.aho_base.specs.Laws.{Fits, better, told};
 ghost use Rattle.aho_base.specs.declared.search.Anchored.TheVariants.{No};
 ghost use Rattle.aho_base.specs.declared.search.MatchKind.TheVariants.{Standard};
-ghost use Rattle.aho_stream.specs.After.{is_settled};
-ghost use Rattle.aho_stream.specs.Walking.{WalksOn};
+ghost use Rattle.aho_stream.specs.After.{settles};
+ghost use Rattle.aho_stream.specs.Walking.{IsHeldAt, WalksFrom};
 
 use aho_base::search::{Anchored, Match, MatchKind, StateID};
 use aho_search::find::told_at;
@@ -27,8 +26,7 @@ pub struct Walked {
 /// state is dead.
 pub fn is_settled<W: Walk>(walk: &W, sid: StateID, in_hand: &Option<Match>) -> bool
     requires valid { W.Of.valid (W.of walk.now) sid }
-    ensures settled { result ≡ is_settled (W.Of.kind (W.of walk.now))
-        (W.Of.dead (W.of walk.now) sid) in_hand.now }
+    ensures settled { result ≡ settles W.Of.Automaton (W.of walk.now) sid in_hand.now }
 {
     if in_hand.is_none() {
         return false;
@@ -63,22 +61,17 @@ pub fn walk_on<W: Walk>(
     sid: StateID,
     in_hand: Option<Match>,
 ) -> Walked
-    requires unsettled { is_settled (W.Of.kind (W.of walk.old))
-        (W.Of.dead (W.of walk.old) sid) in_hand ≡ false }
+    requires unsettled { settles W.Of.Automaton (W.of walk.old) sid in_hand ≡ false }
     requires valid { W.Of.valid (W.of walk.old) sid }
-    requires held { (p : Patterns) × (word : List ℕ) × W.Of.is_of (W.of walk.old) p
-        × (length word ≡ at) × W.Of.held (W.of walk.old) p No word sid }
+    requires held { IsHeldAt W.Of.Automaton (W.of walk.old) at sid }
     requires places { at + length bytes.now < 2 ^ 64 }
     requires room { W.lookups walk.old + W.Of.depth (W.of walk.old) sid
         + 2 * length bytes.now < 2 ^ 128 }
-    ensures walks { (p : Patterns) (word : List ℕ) → W.Of.is_of (W.of walk.old) p
-        → length word ≡ at → W.Of.held (W.of walk.old) p No word sid → BestAfter p No word in_hand
-        → WalksOn p (W.Of.lengths (W.of walk.old)) (W.Of.held (W.of walk.old) p) word bytes.now
-        result }
+    ensures walks { WalksFrom W.Of.Automaton (W.of walk.old) at sid in_hand bytes.now result }
     ensures valid { W.Of.valid (W.of walk.old) result.sid }
     ensures within { result.count ≤ length bytes.now }
-    ensures all { is_settled (W.Of.kind (W.of walk.old)) (W.Of.dead (W.of walk.old) result.sid)
-        result.found ≡ false → result.count ≡ length bytes.now }
+    ensures all { settles W.Of.Automaton (W.of walk.old) result.sid result.found ≡ false
+        → result.count ≡ length bytes.now }
     ensures same { W.of walk.new ≡ W.of walk.old }
     ensures cost { W.lookups walk.new + W.Of.depth (W.of walk.old) result.sid
         ≤ W.lookups walk.old + W.Of.depth (W.of walk.old) sid + 2 * result.count }

@@ -5,7 +5,7 @@ ghost use Rattle.aho_base.specs.Laws.{shortest};
 ghost use Rattle.aho_base.specs.Patterns.{Patterns};
 ghost use Rattle.aho_base.specs.declared.error.MatchErrorKind.TheVariants.{UnsupportedEmpty};
 ghost use Rattle.aho_base.specs.declared.search.Anchored.TheVariants.{No};
-ghost use Rattle.aho_stream.specs.After.{IsAfter, greatest_position};
+ghost use Rattle.aho_stream.specs.After.{IsBegun, greatest_position};
 ghost use Rattle.aho_stream.specs.Iterators.{automaton_of, lookups_of};
 ghost use Rattle.aho_stream.specs.Replacing.{IsMakingRefusal, Refuses};
 
@@ -40,8 +40,8 @@ impl<'a, A: Automaton> StreamStart<'a, A> {
         ensures begun { IfOk result (λ start. (start.progress.ended ≡ false)
             × (start.progress.refused ≡ false)) }
         ensures of { IfOk result (λ start. start.automaton.now ≡ automaton.entry.now) }
-        ensures after { (p : Patterns) → A.is_of automaton.entry.now p → IfOk result (λ start.
-            IsAfter A.Automaton automaton.entry.now p 0 start.progress []) }
+        ensures after { IfOk result (λ start.
+            IsBegun A.Automaton automaton.entry.now start.progress) }
         ensures refuses { Refuses (A.lengths automaton.entry.now)
             (A.start automaton.entry.now No) result }
         ensures only { IfErr result IsMakingRefusal }
@@ -68,8 +68,8 @@ impl<'a, A: Automaton> StreamStart<'a, A> {
         ensures begun { IfOk result (λ start. (start.progress.ended ≡ false)
             × (start.progress.refused ≡ false)) }
         ensures of { IfOk result (λ start. start.automaton.now ≡ automaton.entry.now) }
-        ensures after { (p : Patterns) → A.is_of automaton.entry.now p → IfOk result (λ start.
-            IsAfter A.Automaton automaton.entry.now p 0 start.progress []) }
+        ensures after { IfOk result (λ start.
+            IsBegun A.Automaton automaton.entry.now start.progress) }
         ensures refuses { Refuses (A.lengths automaton.entry.now)
             (A.start automaton.entry.now No) result }
         ensures only { IfErr result IsMakingRefusal }
@@ -123,8 +123,7 @@ pub(crate) fn begin<A: Automaton>(
     requires of { (p : Patterns) × A.is_of automaton.now p }
     ensures made { IfOk result (λ s. s.limit ≡ min limit greatest_position) }
     ensures begun { IfOk result (λ s. (s.ended ≡ false) × (s.refused ≡ false)) }
-    ensures after { (p : Patterns) → A.is_of automaton.now p → IfOk result (λ s.
-        IsAfter A.Automaton automaton.now p 0 s []) }
+    ensures after { IfOk result (IsBegun A.Automaton automaton.now) }
     ensures refuses { Refuses (A.lengths automaton.now) (A.start automaton.now No) result }
     ensures only { IfErr result IsMakingRefusal }
 {

@@ -1,6 +1,8 @@
 -- What each way out tells, and each turn of the loop.
-use Rattle.std.proofs.Common.{◌≡◌, ◌≢◌, ◌++◌, ◌∙◌, inl, inr, Bool, false, ap, refl, sym, subst, arith, append-nil, List, ℕ, length}
-use Rattle.std.specs.Prelude.{Option, Some, None, Ok, Err, IfSome}
+use Rattle.std.proofs.Common.{◌≡◌, ◌≢◌, ◌++◌, ◌∙◌, inl, inr, Bool, true, false, ap, refl, sym, subst, arith, append-nil, List, ℕ, length}
+use Rattle.std.specs.Prelude.{Option, Some, None, Result, Ok, Err, IfSome, is_err}
+use Rattle.std.proofs.Math.Bool.{or-true}
+use Rattle.aho_base.specs.declared.error.stream.StreamError.{StreamError}
 use Rattle.aho_base.specs.Patterns.{Patterns}
 use Rattle.aho_base.specs.declared.search.MatchKind.TheVariants.{Standard}
 use Rattle.aho_devices.specs.Counts.{counted}
@@ -8,7 +10,7 @@ use Rattle.aho_stream.specs.After.{IsAfter, is_settled}
 use Rattle.aho_stream.specs.Chunks.{DiesAt, TellsChunk, TellsNone, ends_between}
 use Rattle.aho_stream.specs.declared.progress.StreamProgress.{StreamProgress}
 use Rattle.aho_stream.specs.declared.progress.StreamPiece.{StreamPiece}
-use Rattle.aho_stream.proofs.Advanced.{IsUntold, ReadsFilling, ReadsPromptly, advances, advances_filling, advances_from, all_told, counted_once, counted_same, end_told, error_told, not_before, of_limit, read_more, read_none, read_same}
+use Rattle.aho_stream.proofs.Advanced.{IsUntold, ReadsFilling, ReadsPromptly, advances, advances_filling, advances_from, all_told, counted_once, counted_same, end_told, error_told, not_before, of_limit, or_more, read_more, read_none, read_same}
 use Rattle.aho_stream.proofs.Afters.{after_refilled, after_told}
 use Rattle.aho_stream.proofs.Deaths.{lives}
 use Rattle.aho_stream.proofs.Reported.{no_chunk_left, told_from}
@@ -109,15 +111,16 @@ returns-then-self-2-clause-advances g c =
     (inl (c.if-self-2.true, end.0)))
 
 -- what was read before and after a refill
-refilled_read : (g : Over) (c : After-refill g)
-    → ReadsFilling g.A.Automaton c.args.self.now.walk.automaton.now c.args.self.now.walk.work c.next_piece.new.walk.work c.args.self.now.progress c.refill.new.self (g.R.Source.remaining c.args.self.now.source.now) (g.R.Source.remaining c.refill.new.source)
-refilled_read g c =
+refilled_read : (g : Over) (c : After-refill g) (failed : Bool) → (failed ≡ true → is_err c.refill.result ≡ true)
+    → ReadsFilling g.A.Automaton c.args.self.now.walk.automaton.now c.args.self.now.walk.work c.next_piece.new.walk.work c.args.self.now.progress c.refill.new.self (g.R.Source.remaining c.args.self.now.source.now) (g.R.Source.remaining c.refill.new.source) failed
+refilled_read g c failed fault =
     let automaton = c.args.self.now.walk.automaton.now in
     let none = c.in_default.is in
     let u = still_untold g (goal.at.After-refill g c).After-next_piece none in
     let walked = all_walked g (goal.at.After-refill g c).After-next_piece none in
     let refills = c.refill.ensures.refills in
-    read_more g.A.Automaton automaton _ _ _ c.args.self.now.progress c.next_piece.new.progress c.refill.new.self _ _ _ refills
+    read_more g.A.Automaton automaton _ _ _ c.args.self.now.progress c.next_piece.new.progress c.refill.new.self _ _ _ failed refills
+    (λ last. c.refill.ensures.enough (or_more c.refill.new.self.ended failed (is_err c.refill.result) fault last))
     (not_before c.args.self.now.progress.ended (λ e. sym c.if-self-2.false ∙ c.next_piece.ensures.ended ∙ c.loop-piece.invariant.stays e))
     u.reported u.from c.requires.after
     (λ p given of a. all_told _ _ p (g.met.A.Automaton.laws _ p of) _ c.next_piece.new.progress given a walked.0 walked.1 (c.next_piece.ensures.near none) ((rw c.loop-piece.invariant.same at c.next_piece.ensures.start) none))
@@ -163,11 +166,12 @@ returns-in-Err-clause-advances g c =
     let near = c.next_piece.ensures.near c.in_default.is in
     let reported : c.refill.new.self.reported ≡ t.reported = ap (λ (t : StreamProgress). t.reported) refills.others in
     let told : c.refill.new.self.told ≡ c.refill.new.self.reported = still.told ∙ sym still.reported in
-    advances_filling g.A.Automaton automaton _ _ s c.refill.new.self _ _ (Some (Err c.in-Err.error)) (refilled_read g d)
+    let failed : is_err c.refill.result ≡ true = ap (λ (r : Result (Unit {0}) StreamError). is_err r) c.in-Err.is in
+    advances_filling g.A.Automaton automaton _ _ s c.refill.new.self _ _ (Some (Err c.in-Err.error)) (refilled_read g d true (λ e. failed))
     (λ p given of a. error_told p s c.refill.new.self given c.in-Err.error c.in-Err.ensures.only
     (record {
       still = still;
-      near = elim c.in-Err.ensures.faulty [ inl same ↦ omega (arith, a.count, same, near, reported, refills.least) | inr short ↦ omega (arith, a.count, a.kept, short, told) ];
+      near = elim (c.refill.ensures.enough (or_more c.refill.new.self.ended true (is_err c.refill.result) (λ e. failed) (or-true c.refill.new.self.ended))) [ inl same ↦ omega (arith, a.count, same, near, reported, refills.least) | inr short ↦ omega (arith, a.count, a.kept, short, told) ];
     })
     (λ e. (omega (arith, a.count, c.in-Err.ensures.limit e, refills.count, refills.limited, u.limit), c.in-Err.ensures.refused ∙ e)) u.unrefused
     (λ e leftmost. lives_refilled g d p given of a leftmost (c.in-Err.ensures.limit e)))
@@ -185,7 +189,7 @@ loop-piece-preserved g c =
       source = inv.source;
       same = c.next_piece.ensures.same ∙ inv.same;
       untold = record { told = still.told; reported = still.reported; from = still.from; limit = ap (λ (t : StreamProgress). t.limit) c.refill.ensures.refills.others ∙ u.limit; unrefused = u.unrefused; going = c.in_default-refill.ensures.refused };
-      read = let r = refilled_read g d in record { reads = r.reads; prompt = inr r.fills };
+      read = let r = refilled_read g d false (λ e. cc) in record { reads = r.reads; prompt = inr r.fills };
       ended = c.refill.ensures.ended ∙ counted_once s.ended c.refill.new.self.ended (g.R.Source.empty_reads c.args.self.now.source.now) (g.R.Source.empty_reads c.loop-piece.self.source.now) going
           (inv.ended ∙ ap (λ (b : Bool). counted (ends_between s.ended b) (g.R.Source.empty_reads c.args.self.now.source.now)) (sym c.next_piece.ensures.ended ∙ c.if-self-2.false));
       stays = λ e. cc;

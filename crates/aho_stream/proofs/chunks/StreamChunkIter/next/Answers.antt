@@ -1,5 +1,5 @@
 -- What each way out lends.
-use Rattle.std.proofs.Common.{◌≡◌, ◌++◌, ◌∙◌, ◌||◌, inl, inr, true, List, ℕ, ◌≤◌, Option, Result, Some, None, Ok, Err, Bor, refl, sym, ap, subst}
+use Rattle.std.proofs.Common.{◌≡◌, ◌++◌, ◌∙◌, ◌||◌, ◌⊎◌, true, List, ℕ, ◌≤◌, Option, Result, Some, None, Ok, Err, Bor, refl, sym, ap, subst}
 use Rattle.std.specs.Prelude.{slice_range}
 use Rattle.aho_base.specs.declared.error.stream.StreamError.{StreamError}
 use Rattle.aho_base.specs.Occurrence.{Occurrence}
@@ -7,8 +7,8 @@ use Rattle.aho_base.specs.Patterns.{Patterns}
 use Rattle.aho_devices.specs.Counts.{counted}
 use Rattle.aho_devices.specs.declared.device.Source.{Ghosts as SourceGhosts}
 use Rattle.aho_search.specs.declared.automaton.Automaton.{Ghosts}
-use Rattle.aho_stream.specs.Chunks.{Tells, ends_between, match_told, piece_of, tells_error, tells_limit, tells_read_fault}
-use Rattle.aho_stream.specs.Iterators.{Advanced, HasGiven, Lends, LendsThese, automaton_of, chunk_lent, told_lent}
+use Rattle.aho_stream.specs.Chunks.{Fills, FillsNothing, Tells, ends_between, match_told, piece_of, tells_error, tells_limit, tells_read_fault}
+use Rattle.aho_stream.specs.Iterators.{Advanced, HasGiven, Lends, LendsThese, automaton_of, chunk_lent, lookups_of, told_lent}
 use Rattle.aho_stream.specs.declared.chunks.StreamChunk.{StreamChunk}
 use Rattle.aho_stream.specs.declared.chunks.StreamChunkIter.{StreamChunkIter}
 use Rattle.aho_stream.specs.declared.progress.StreamPiece.{StreamPiece}
@@ -35,7 +35,8 @@ says G S it it' told answer none is advances lent same source limit ended stays 
   advances = record {
     reads = advances.reads;
     tells = λ p given of a. subst (Tells p it.progress it'.progress (given ++ advances.reads.bytes)) is (advances.tells p given of a);
-    prompt = elim advances.prompt [ inl nothing ↦ inl (nothing.0, nothing.1, sym (ap (λ (r : Option (Result StreamPiece StreamError)). tells_error r) is) ∙ nothing.2) | inr fills ↦ inr fills ];
+    prompt = subst (λ (r : Option (Result StreamPiece StreamError)). FillsNothing it.progress it'.progress advances.reads.bytes (tells_error r)
+        ⊎ Fills G (automaton_of it) (lookups_of it) it.progress it'.progress advances.reads.bytes (tells_error r)) is advances.prompt;
   };
   lent = lent;
   same = same;
@@ -51,16 +52,28 @@ says G S it it' told answer none is advances lent same source limit ended stays 
 
 pub returns-in-None : goal.returns-in-None
 returns-in-None g c =
-    let e = c.advance.ensures in
-    ((refl, λ x. tt, says _ _ _ _ c.advance.result None (λ n. refl) c.in-None.is e.advances (λ p given of a. tt) e.same e.same_source
-        e.limit e.ended e.stays_ended e.after_end e.after_limit e.refused e.read_failed), record { lends = tt })
+    let e = c.advance.ensures in (
+      (
+        refl,
+        λ x. tt,
+        says _ _ _ _ c.advance.result None (λ n. refl) c.in-None.is e.advances (λ p given of a. tt) e.same e.same_source
+            e.limit e.ended e.stays_ended e.after_end e.after_limit e.refused e.read_failed,
+      ),
+      record { lends = tt },
+    )
 
 pub returns-in-Some-Err : goal.returns-in-Some-Err
 returns-in-Some-Err g c =
     let e = c.advance.ensures in
-    let is : c.advance.result ≡ Some (Err c.in-Some-Err.error) = c.in-Some-Err.is ∙ ap (λ (r : Result StreamPiece StreamError). Some r) c.in-Some-Err.field-0-is in
-    ((refl, λ x. tt, says _ _ _ _ c.advance.result _ (λ n. cc) is e.advances (λ p given of a. tt) e.same e.same_source
-        e.limit e.ended e.stays_ended e.after_end e.after_limit e.refused e.read_failed), record { lends = tt })
+    let is : c.advance.result ≡ Some (Err c.in-Some-Err.error) = c.in-Some-Err.is ∙ ap (λ (r : Result StreamPiece StreamError). Some r) c.in-Some-Err.field-0-is in (
+      (
+        refl,
+        λ x. tt,
+        says _ _ _ _ c.advance.result _ (λ n. cc) is e.advances (λ p given of a. tt) e.same e.same_source
+            e.limit e.ended e.stays_ended e.after_end e.after_limit e.refused e.read_failed,
+      ),
+      record { lends = tt },
+    )
 
 pub returns-in-Some-Ok : goal.returns-in-Some-Ok
 returns-in-Some-Ok g c =
@@ -73,6 +86,12 @@ returns-in-Some-Ok g c =
     ∙ ap (λ (m : Option Occurrence). (m, slice_range (given ++ e.advances.reads.bytes) s'.told s'.reported)) c.found-self.ensures.found in
     let (p, given, of, a) = c.requires.some in
     let told : c.advance.result ≡ told_lent (Some (Ok c.lent.result)) =
-    is ∙ ap (λ (chunk : StreamPiece). Some (Ok chunk)) (sym (ap (λ (told : Option Occurrence × List ℕ). piece_of told.0) (lent p given of a) ∙ piece_of-told piece)) in
-    ((refl, λ x. tt, says _ _ _ _ c.advance.result _ (λ n. cc) told e.advances (λ p given of a. ap (λ (told : Option Occurrence × List ℕ). told.1) (lent p given of a)) e.same e.same_source
-        e.limit e.ended e.stays_ended e.after_end e.after_limit e.refused e.read_failed), record { lends = tt })
+    is ∙ ap (λ (chunk : StreamPiece). Some (Ok chunk)) (sym (ap (λ (told : Option Occurrence × List ℕ). piece_of told.0) (lent p given of a) ∙ piece_of-told piece)) in (
+      (
+        refl,
+        λ x. tt,
+        says _ _ _ _ c.advance.result _ (λ n. cc) told e.advances (λ p given of a. ap (λ (told : Option Occurrence × List ℕ). told.1) (lent p given of a)) e.same e.same_source
+            e.limit e.ended e.stays_ended e.after_end e.after_limit e.refused e.read_failed,
+      ),
+      record { lends = tt },
+    )
