@@ -1,14 +1,18 @@
 -- What the replacement of a stream writes is what is asked for.
-use Rattle.std.proofs.Common.{◌≡◌, ◌≢◌, ℕ, ◌+◌, ◌≤◌, List, [], ◌++◌, Option, true, length, map, refl, sym, ap, subst, ◌∙◌, append-nil, le_refl}
+use Rattle.std.proofs.Common.{◌≡◌, ◌≢◌, ℕ, ◌+◌, ◌≤◌, List, [], ◌++◌, Option, true, length, map, refl, sym, ap, subst, ◌∙◌, append-nil, le_refl, arith}
 use Rattle.std.specs.Prelude.{None, Some, Result, Ok, Err, OnOk}
 use Rattle.std.specs.Io.{StartsWith}
-use Rattle.std.specs.Io.KnownBytes.{IsAtEnd, Keeps}
+use Rattle.std.specs.Io.KnownBytes.{Consumes, IsAtEnd, Keeps}
 use Rattle.std.proofs.KnownBytes.{Appends-kept}
 use Rattle.std.proofs.Math.Seq.{take-length}
 use Rattle.aho_base.specs.Iteration.{AreFinds}
 use Rattle.aho_base.specs.Patterns.{Patterns}
 use Rattle.aho_base.specs.Replacement.{replaced}
-use Rattle.aho_stream.specs.Replacing.{Begins, Replaces, ReplacesUpTo}
+use Rattle.aho_stream.specs.Replacing.{BeginsStream, ReplacesStream, ReplacesStreamUpTo}
+use Rattle.aho_devices.specs.Counts.{counted}
+use Rattle.aho_devices.specs.declared.device.Sink.{Ghosts as SinkGhosts}
+use Rattle.aho_devices.specs.declared.device.Source.{Ghosts as SourceGhosts}
+use Rattle.aho_search.specs.declared.automaton.Automaton.{Ghosts}
 use Rattle.commands.specs.Answers.{BeginsReplacement, WritesMost, WritesReplacement}
 use Rattle.commands.specs.Streams.{Contents}
 use Rattle.aho_base.specs.declared.error.stream.StreamError.{StreamError}
@@ -37,38 +41,49 @@ leaves_stream WriteZero same some near = some
 leaves_stream Memory same some near = same tt
 leaves_stream PositionLimit same some near = (some, near tt)
 
-module _ (IsOf : Patterns → Type 0) (asked : Replacing) (of : IsOf (patterns_to_replace asked)) {before after old new : Option (List ℕ)} (reads' : ℕ) (ends : reads' ≢ 0 → IsAtEnd after) where
-  pub replaces_asked : Replaces IsOf asked.pieces before after 0 reads' old new → WritesReplacement (record { left_before = before; left_after = after; held_before = old; held_after = new }) asked
-  replaces_asked whole =
-      let exist = finds-exist (patterns_to_replace asked) (plain_search whole.given) None (le_refl (length whole.given)) in
-      record {
-        text = whole.given;
-        read = whole.gives.bytes;
-        ended = ends (λ none. cc);
-        matches = exist.0;
-        found = exist.1;
-        written = whole.writes (patterns_to_replace asked) exist.0 of exist.1;
-      }
+-- once the end was seen, what counted none before counts one
+one_end : (reads reads' : ℕ) → reads ≡ 0 → reads' ≡ counted true reads → reads' ≢ 0
+one_end reads reads' none rises zero = let one : reads' ≡ 1 = rises ∙ ap (counted true) none in omega (arith, one, zero)
 
-  pub begins_asked : Begins IsOf asked.pieces before after 0 reads' old new → BeginsReplacement (record { left_before = before; left_after = after; held_before = old; held_after = new }) asked
-  begins_asked begun = record {
-    text = begun.given;
-    read = begun.gives.bytes;
-    ended = begun.ended;
-    at_end = λ is. ends (λ none. cc);
-    written = begun.written;
-    grown = begun.writes;
-    beginning = λ bytes ms may finds. begun.beginning (patterns_to_replace asked) bytes ms of may finds;
-  }
+-- the replacement of a stream, from a source that has so much left and has seen no end, is what was asked for
+pub replaces_asked : {A R W : Type 0} {G : Ghosts A} {S : SourceGhosts R} {K : SinkGhosts W} {automaton : A} {source source' : R} {sink sink' : W} (asked : Replacing)
+    → ReplacesStream G S K automaton asked.pieces source source' sink sink' → G.is_of automaton (patterns_to_replace asked)
+    → {before : Option (List ℕ)} → S.remaining source ≡ before → S.empty_reads source ≡ 0 → (S.empty_reads source' ≢ 0 → IsAtEnd (S.remaining source'))
+    → WritesReplacement (record { left_before = before; left_after = S.remaining source'; held_before = K.taken sink; held_after = K.taken sink' }) asked
+replaces_asked {S = S} {source = source} {source' = source'} asked whole of left none ends =
+    let exist = finds-exist (patterns_to_replace asked) (plain_search whole.given) None (le_refl (length whole.given)) in
+    record {
+      text = whole.given;
+      read = subst (λ bytes. Consumes bytes (S.remaining source') whole.given) left whole.gives.bytes;
+      ended = ends (one_end (S.empty_reads source) (S.empty_reads source') none whole.gives.end);
+      matches = exist.0;
+      found = exist.1;
+      written = whole.writes (patterns_to_replace asked) exist.0 of exist.1;
+    }
 
--- the replacement up to a place is that of the patterns asked for
-pub most_asked : (IsOf : Patterns → Type 0) (asked : Replacing) → IsOf (patterns_to_replace asked) → {before after old new : Option (List ℕ)} (lengths : List ℕ) (reads' : ℕ) → lengths ≡ map length asked.words
-    → (reads' ≢ 0 → IsAtEnd after) → ReplacesUpTo IsOf asked.pieces before after 0 reads' old new (kept_for lengths) → WritesMost (record { left_before = before; left_after = after; held_before = old; held_after = new }) asked
-most_asked IsOf asked of lengths reads' same ends up = record {
+pub begins_asked : {A R W : Type 0} {G : Ghosts A} {S : SourceGhosts R} {K : SinkGhosts W} {automaton : A} {source source' : R} {sink sink' : W} (asked : Replacing)
+    → BeginsStream G S K automaton asked.pieces source source' sink sink' → G.is_of automaton (patterns_to_replace asked)
+    → {before : Option (List ℕ)} → S.remaining source ≡ before → S.empty_reads source ≡ 0 → (S.empty_reads source' ≢ 0 → IsAtEnd (S.remaining source'))
+    → BeginsReplacement (record { left_before = before; left_after = S.remaining source'; held_before = K.taken sink; held_after = K.taken sink' }) asked
+begins_asked {S = S} {source = source} {source' = source'} asked begun of left none ends = record {
+  text = begun.given;
+  read = subst (λ bytes. Consumes bytes (S.remaining source') begun.given) left begun.gives.bytes;
+  ended = begun.ended;
+  at_end = λ is. ends (one_end (S.empty_reads source) (S.empty_reads source') none (begun.gives.end ∙ ap (λ ended. counted ended (S.empty_reads source)) is));
+  written = begun.written;
+  grown = begun.writes;
+  beginning = λ bytes ms may finds. begun.beginning (patterns_to_replace asked) bytes ms of may finds;
+}
+
+pub most_asked : {A R W : Type 0} {G : Ghosts A} {S : SourceGhosts R} {K : SinkGhosts W} {automaton : A} {source source' : R} {sink sink' : W} (asked : Replacing)
+    → ReplacesStreamUpTo G S K automaton asked.pieces source source' sink sink' → G.lengths automaton ≡ map length asked.words → G.is_of automaton (patterns_to_replace asked)
+    → {before : Option (List ℕ)} → S.remaining source ≡ before → S.empty_reads source ≡ 0 → (S.empty_reads source' ≢ 0 → IsAtEnd (S.remaining source'))
+    → WritesMost (record { left_before = before; left_after = S.remaining source'; held_before = K.taken sink; held_after = K.taken sink' }) asked
+most_asked {S = S} {source = source} {source' = source'} asked up same of left none ends = record {
   text = up.given;
-  read = up.gives.bytes;
+  read = subst (λ bytes. Consumes bytes (S.remaining source') up.given) left up.gives.bytes;
   ended = up.ended;
-  at_end = λ is. ends (λ none. cc);
+  at_end = λ is. ends (one_end (S.empty_reads source) (S.empty_reads source') none (up.gives.end ∙ ap (λ ended. counted ended (S.empty_reads source)) is));
   place = up.place;
   within = up.within;
   near = subst (λ l. length up.given ≤ up.place + kept_for l) same up.near;
