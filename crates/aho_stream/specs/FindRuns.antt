@@ -1,6 +1,7 @@
 -- What a run of calls of an iterator over the matches of a stream finds.
 use Rattle.std.specs.Prelude.{◌≡◌, ◌||◌, ℕ, Bool, true, false, List, [], ◌∷◌, ◌++◌, Option, None, Result, Ok, Err}
 use Rattle.std.specs.Iterator.{Yields, YieldsThen}
+use Rattle.std.specs.Iterator.Runs.{Run}
 use Rattle.aho_base.specs.declared.error.stream.StreamError.{StreamError}
 use Rattle.aho_base.specs.Iteration.{AreFinds}
 use Rattle.aho_base.specs.Occurrence.{Occurrence}
@@ -37,6 +38,16 @@ pub record FindsAll {R : Type 0} (S : SourceGhosts R) (p : Patterns) (source sou
   pub given : List ℕ
   pub gives : SourceGave S source source' given true
   pub all : AreFinds p (plain_search given) None (matches_among items)
+
+-- a run of calls finds so
+abbrev pub RunFindsFirst : {A R : Type 0} {steps : StreamFindIter A R → Option (Result Occurrence StreamError) → StreamFindIter A R → Type 0}
+    → SourceGhosts R → Patterns → R → Run steps → Type 0
+RunFindsFirst {R = R} S p source run = (left : R) × FindsSoFar S p source left run.items
+
+-- and all of them, where it went on to `None` and the position limit was not answered
+abbrev pub RunFindsAll : {A R : Type 0} {steps : StreamFindIter A R → Option (Result Occurrence StreamError) → StreamFindIter A R → Type 0}
+    → SourceGhosts R → Patterns → R → Run steps → Type 0
+RunFindsAll {R = R} S p source run = run.whole ≡ true → is_limit_among run.items ≡ false → (left : R) × FindsAll S p source left run.items
 
 -- calls of this iterator find so, wherever they leave it
 pub record FindsAlong {A R : Type 0} (S : SourceGhosts R) (next_gives : StreamFindIter A R → Option (Result Occurrence StreamError) → StreamFindIter A R → Type 0)

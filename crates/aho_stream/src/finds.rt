@@ -1,11 +1,11 @@
 //! The matches of a stream, one after another.
 
 ghost use Rattle.std.specs.Iterator.Runs.{EachRunFrom};
-ghost use Rattle.std.specs.Prelude.{◌≡◌, IfOk, false, true};
+ghost use Rattle.std.specs.Prelude.{◌≡◌, IfOk, false};
 ghost use Rattle.aho_base.specs.Patterns.{Patterns};
 ghost use Rattle.aho_base.specs.declared.search.Anchored.TheVariants.{No};
 ghost use Rattle.aho_stream.specs.After.{greatest_position};
-ghost use Rattle.aho_stream.specs.FindRuns.{FindsAll, FindsAlong, FindsSoFar, is_limit_among};
+ghost use Rattle.aho_stream.specs.FindRuns.{FindsAlong, RunFindsAll, RunFindsFirst};
 ghost use Rattle.aho_stream.specs.Finds.{FindsNext};
 ghost use Rattle.aho_stream.specs.Iterators.{CanGoOn, HasNotBegun, automaton_of};
 ghost use Rattle.aho_stream.specs.Replacing.{Refuses};
@@ -51,12 +51,11 @@ pub fn try_stream_find_iter<'a, 'r, A: Automaton, R: Source>(
     // The matches among the items of a run are the first finds of what the source gave; after `None` they are all of
     // them, where the position limit was not answered.
     ensures first { (p : Patterns) → A.is_of automaton.entry.now p → IfOk result (λ it.
-        EachRunFrom ⟦<StreamFindIter<'a, 'r, A, R> as Iterator>⟧.next_gives it (λ run.
-        (left : R) × FindsSoFar R.Source p source.entry.now left run.items)) }
+        EachRunFrom ⟦<StreamFindIter<'a, 'r, A, R> as Iterator>⟧.next_gives it
+        (RunFindsFirst R.Source p source.entry.now)) }
     ensures finds { (p : Patterns) → A.is_of automaton.entry.now p → IfOk result (λ it.
-        EachRunFrom ⟦<StreamFindIter<'a, 'r, A, R> as Iterator>⟧.next_gives it (λ run.
-        run.whole ≡ true → is_limit_among run.items ≡ false
-        → (left : R) × FindsAll R.Source p source.entry.now left run.items)) }
+        EachRunFrom ⟦<StreamFindIter<'a, 'r, A, R> as Iterator>⟧.next_gives it
+        (RunFindsAll R.Source p source.entry.now)) }
 
     // So they are wherever calls leave the iterator, of what its source gave till then.
     ensures along { (p : Patterns) → A.is_of automaton.entry.now p → IfOk result (λ it.
