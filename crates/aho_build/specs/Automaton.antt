@@ -1,6 +1,6 @@
 -- What it means that a table is the automaton of some patterns, whatever numbers its states have, and which of its states
 -- may be held after a word.
-use Rattle.std.specs.Prelude.{◌≡◌, ◌≢◌, ℕ, ◌+◌, ◌*◌, ◌<◌, ◌||◌, ◌&&◌, if◌then◌else◌, Bool, true, List, [], ◌∷◌, map, length, nat_eq, nat_lt, Option, Some, None, MatchBool}
+use Rattle.std.specs.Prelude.{◌≡◌, ◌≢◌, ℕ, ◌+◌, ◌<◌, ◌||◌, ◌&&◌, if◌then◌else◌, Bool, true, List, [], ◌∷◌, map, length, nat_eq, nat_lt, Option, Some, None, MatchBool}
 use Rattle.aho_base.specs.declared.search.Anchored.{Anchored}
 use Rattle.aho_base.specs.declared.search.Anchored.TheVariants.{No, Yes}
 use Rattle.aho_base.specs.declared.search.MatchKind.{MatchKind}

@@ -1,5 +1,5 @@
 -- What the phases of a build make of the patterns.
-use Rattle.std.specs.Prelude.{◌≡◌, List, map, length}
+use Rattle.std.specs.Prelude.{◌≡◌, map, length}
 use Rattle.std.specs.Option.{is_some}
 use Rattle.aho_base.specs.Patterns.{Patterns}
 use Rattle.aho_prefilter.specs.Prefilter.{has_empty}

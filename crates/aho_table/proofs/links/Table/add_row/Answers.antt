@@ -1,5 +1,5 @@
 -- The row stands behind the others, and leads as the state's list does.
-use Rattle.std.proofs.Common.{◌≡◌, ◌<◌, ◌+◌, ◌∙◌, ℕ, Bool, List, true, length, arith, ap, subst}
+use Rattle.std.proofs.Common.{◌≡◌, ◌<◌, ◌+◌, ◌∙◌, ℕ, List, true, length, arith, ap, subst}
 use Rattle.std.proofs.lemmas.Bool.{lt-ltb}
 use Rattle.aho_table.specs.Table.{Tables, state_at, with_row}
 use Rattle.aho_table.specs.Alphabet.{class_count}
