@@ -1,10 +1,15 @@
 -- What a call of the program asks for, and what it writes.
-use Rattle.std.specs.Prelude.{◌≡◌, ℕ, ◌++◌, Bool, true, not, List, [], ◌∷◌, codes, Option, None, if◌then◌else◌}
+use Rattle.std.specs.Prelude.{◌≡◌, ℕ, ◌++◌, Bool, true, not, List, [], ◌∷◌, codes, Option, None, if◌then◌else◌, ⊤}
 use Rattle.std.specs.Io.KnownBytes.{Appends}
-use Rattle.aho_devices.specs.Counts.{AppendsBeginning}
 use Rattle.std.specs.Str.{bytes_eq}
-use Rattle.commands.specs.Asked.{Asked}
+use Rattle.std.specs.declared.io.traits.Write.{Ghosts as Writers}
+use Rattle.aho_devices.specs.Counts.{AppendsBeginning}
+use Rattle.aho_devices.specs.declared.adapters.FromWrite.{FromWrite}
 use Rattle.commands.specs.Arguments.{find_by}
+use Rattle.commands.specs.Asked.{Asked}
+use Rattle.commands.specs.Failures.{LeavesPrinting}
+use Rattle.commands.specs.Streams.{bytes_held}
+use Rattle.commands.specs.declared.failure.Failure.{Failure}
 
 -- [-u] KIND [-i] PATTERN..: the automaton that is drawn
 abbrev pub drawing_by : List (List ℕ) → Option Asked
@@ -31,3 +36,7 @@ Draws old new = (text : List ℕ) × IsWhole text × Appends old new text
 -- a beginning of one is
 abbrev pub BeginsDrawing : Option (List ℕ) → Option (List ℕ) → Type 0
 BeginsDrawing old new = (text : List ℕ) × IsWhole text × AppendsBeginning old new text
+
+-- what each failure leaves of an output: nothing is written, but for a beginning where a write failed
+abbrev pub LeavesDrawing : {W : Type 0} → Writers W → FromWrite W → FromWrite W → Failure → Type 0
+LeavesDrawing Writes old new = LeavesPrinting ⊤ (new ≡ old) (BeginsDrawing (bytes_held Writes old) (bytes_held Writes new))

@@ -1,13 +1,13 @@
 //! A call of the program over its arguments and streams.
 
-ghost use Rattle.std.specs.Prelude.{◌≡◌, ◌≢◌, ◌≤◌, ◌⊎◌, ⊤, true, None, Some, IfOk, IfErr, IfSome, OnOk, option_map};
+ghost use Rattle.std.specs.Prelude.{◌≡◌, ◌≢◌, ◌≤◌, ◌⊎◌, true, None, Some, IfOk, IfErr, IfSome, OnOk, option_map};
 ghost use Rattle.commands.specs.Answers.{TellsFailure};
 ghost use Rattle.commands.specs.Arguments.{texts};
 ghost use Rattle.commands.specs.Asked.{Asked, Builds, asked_for};
-ghost use Rattle.commands.specs.Failures.{LeavesPrinting, line_of_failure, status_of_failure};
+ghost use Rattle.commands.specs.Failures.{line_of_failure, status_of_failure};
 ghost use Rattle.commands.specs.Streams.{WritesBeginning, bytes_held};
 ghost use Rattle.commands.specs.declared.failure.Failure.TheVariants.{Usage};
-ghost use Rattle.acdraw.specs.Calls.{BeginsDrawing, Draws, drawing_by, draws_anchored, usage_line};
+ghost use Rattle.acdraw.specs.Calls.{Draws, LeavesDrawing, drawing_by, draws_anchored, usage_line};
 
 use crate::dot::dot_of;
 use crate::picture::picture_of;
@@ -50,8 +50,7 @@ pub fn run<W: Write, E: Write>(
     ensures unwritten { result ≡ 2 → output.new ≡ output.old }
     ensures tells_failure { (asked : Asked) → drawing_by (texts arguments.now) ≡ Some asked
         → 2 ≤ result → TellsFailure E.Write errors.old errors.new result
-        (LeavesPrinting ⊤ (output.new ≡ output.old)
-        (BeginsDrawing (bytes_held W.Write output.old) (bytes_held W.Write output.new))) }
+        (LeavesDrawing W.Write output.old output.new) }
 {
     match answer(alloc, arguments, output) {
         Ok(()) => 0,
@@ -77,15 +76,18 @@ pub fn tell<E: Write>(failure: &Failure, errors: &mut FromWrite<E>) -> u8
 }
 
 /// Writes the automaton that the arguments ask for.
-fn answer<W: Write>(alloc: Global, arguments: &[String], output: &mut FromWrite<W>) -> Result<(), Failure>
+fn answer<W: Write>(
+    alloc: Global,
+    arguments: &[String],
+    output: &mut FromWrite<W>,
+) -> Result<(), Failure>
     ensures usage { drawing_by (texts arguments.now) ≡ None → result ≡ Err Usage }
     ensures unwritten { drawing_by (texts arguments.now) ≡ None → output.new ≡ output.old }
     ensures asked { OnOk result ((asked : Asked)
         × (drawing_by (texts arguments.now) ≡ Some asked) × Builds asked) }
     ensures draws { OnOk result (Draws (bytes_held W.Write output.old) (bytes_held W.Write output.new)) }
     ensures leaves { (asked : Asked) → drawing_by (texts arguments.now) ≡ Some asked
-        → IfErr result (LeavesPrinting ⊤ (output.new ≡ output.old)
-        (BeginsDrawing (bytes_held W.Write output.old) (bytes_held W.Write output.new))) }
+        → IfErr result (LeavesDrawing W.Write output.old output.new) }
 {
     match parse(arguments) {
         Some(drawing) => draw(alloc, &drawing, output),
@@ -119,11 +121,14 @@ fn parse(arguments: &[String]) -> Option<Drawing<'_>>
 }
 
 /// Writes what is asked for.
-fn draw<W: Write>(alloc: Global, drawing: &Drawing<'_>, output: &mut FromWrite<W>) -> Result<(), Failure>
+fn draw<W: Write>(
+    alloc: Global,
+    drawing: &Drawing<'_>,
+    output: &mut FromWrite<W>,
+) -> Result<(), Failure>
     ensures builds { OnOk result (Builds (asked_for drawing.now.request)) }
     ensures draws { OnOk result (Draws (bytes_held W.Write output.old) (bytes_held W.Write output.new)) }
-    ensures leaves { IfErr result (LeavesPrinting ⊤ (output.new ≡ output.old)
-        (BeginsDrawing (bytes_held W.Write output.old) (bytes_held W.Write output.new))) }
+    ensures leaves { IfErr result (LeavesDrawing W.Write output.old output.new) }
 {
     let nfa = build(alloc, &drawing.request)?;
     let picture = picture_of(alloc, &nfa, drawing.anchored)?;

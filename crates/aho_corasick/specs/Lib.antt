@@ -2,3 +2,5 @@
 pub mod ReadOut
 -- when one automaton is a clone of another
 pub mod Clones
+-- what a build promises of it
+pub mod Made

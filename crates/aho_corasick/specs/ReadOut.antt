@@ -30,6 +30,10 @@ dense_rows_of nfa = nfa.table.rows
 abbrev pub IsNaming : NFA → Patterns → List (Option (List ℕ)) → Type 0
 IsNaming nfa p names = IsOf p nfa.match_kind nfa.pattern_lens.items nfa.special nfa.table.states × IsAutomaton nfa.special p names nfa.table.states
 
+-- so it is by whatever patterns the automaton is of and whatever naming of its states
+abbrev pub ByWords : NFA → (Patterns → List (Option (List ℕ)) → Type 0) → Type 0
+ByWords nfa says = (p : Patterns) (names : List (Option (List ℕ))) → IsNaming nfa p names → says p names
+
 -- the word that a state stands for: its name, and the empty word for the anchored start, which has none; no word for DEAD and
 -- FAIL
 abbrev pub word_in : Special → List (Option (List ℕ)) → ℕ → Option (List ℕ)

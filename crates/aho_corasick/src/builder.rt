@@ -42,9 +42,8 @@ impl Builder {
     ghost use Rattle.std.specs.Prelude.{IfOk, IfErr};
     ghost use Rattle.std.specs.Iterator.{IsFinite};
     ghost use Rattle.aho_build.specs.Items.{IsFailure, OfAccepted};
-    ghost use Rattle.aho_build.specs.Automaton.{memory_for};
     ghost use Rattle.aho_build.specs.Dense.{AreDense};
-    ghost use Rattle.aho_build.specs.Prefilters.{held_by};
+    ghost use Rattle.aho_corasick.specs.Made.{HoldsPrefilter, TakesMemory};
     ghost use Rattle.aho_corasick.specs.ReadOut.{states_of, dense_rows_of};
 
     /// Standard, with regard to case, dense rows up to depth 3, a prefilter where one can be held, and the greatest limits.
@@ -74,9 +73,9 @@ impl Builder {
         ensures built { IfOk result (λ nfa.
             OfAccepted I.next_gives patterns self.now (⟦<NFA as Automaton>⟧.is_of nfa)) }
         ensures held { IfOk result (λ nfa. OfAccepted I.next_gives patterns self.now
-            (λ p. ⟦<NFA as Automaton>⟧.prefilter nfa ≡ held_by self.now p)) }
+            (HoldsPrefilter ⟦<NFA as Automaton>⟧ self.now nfa)) }
         ensures sized { IfOk result (λ nfa. OfAccepted I.next_gives patterns self.now
-            (λ p. ⟦<NFA as Automaton>⟧.memory nfa ≡ memory_for self.now p)) }
+            (TakesMemory ⟦<NFA as Automaton>⟧ self.now nfa)) }
         ensures dense { IfOk result (λ nfa.
             AreDense self.now.dense_depth (states_of nfa) (dense_rows_of nfa)) }
         ensures refused { IfErr result (IsFailure I.next_gives patterns self.now) }

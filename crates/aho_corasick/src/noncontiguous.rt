@@ -56,15 +56,15 @@ impl NFA {
     ghost use Rattle.std.specs.Iterator.{IsFinite};
     ghost use Rattle.aho_base.specs.declared.search.Anchored.{Anchored};
     ghost use Rattle.aho_base.specs.Patterns.{Patterns};
-    ghost use Rattle.aho_build.specs.Automaton.{IsOf, memory_for, memory_of};
+    ghost use Rattle.aho_build.specs.Automaton.{IsOf, memory_of};
     ghost use Rattle.aho_build.specs.Dense.{AreDense, HasBorders};
     ghost use Rattle.aho_build.specs.Items.{IsFailure, OfAccepted};
-    ghost use Rattle.aho_build.specs.Prefilters.{held_by};
     ghost use Rattle.aho_build.specs.Settings.{default_settings};
     ghost use Rattle.aho_build.specs.Shuffled.{IsInOrder};
     ghost use Rattle.aho_prefilter.specs.Prefilter.{IsPrefilterOf, has_empty};
     ghost use Rattle.aho_corasick.specs.ReadOut.{states_of, dense_rows_of};
     ghost use Rattle.aho_corasick.specs.Clones.{IsCloneOf, HasReadOutOf};
+    ghost use Rattle.aho_corasick.specs.Made.{HoldsPrefilter, TakesMemory};
 
     /// The automaton of these patterns, as a new `Builder` builds it.
     ///
@@ -81,9 +81,9 @@ impl NFA {
         ensures built { IfOk result (λ nfa.
             OfAccepted I.next_gives patterns default_settings (⟦<NFA as Automaton>⟧.is_of nfa)) }
         ensures held { IfOk result (λ nfa. OfAccepted I.next_gives patterns default_settings
-            (λ p. ⟦<NFA as Automaton>⟧.prefilter nfa ≡ held_by default_settings p)) }
+            (HoldsPrefilter ⟦<NFA as Automaton>⟧ default_settings nfa)) }
         ensures sized { IfOk result (λ nfa. OfAccepted I.next_gives patterns default_settings
-            (λ p. ⟦<NFA as Automaton>⟧.memory nfa ≡ memory_for default_settings p)) }
+            (TakesMemory ⟦<NFA as Automaton>⟧ default_settings nfa)) }
         ensures dense { IfOk result (λ nfa.
             AreDense default_settings.dense_depth (states_of nfa) (dense_rows_of nfa)) }
         ensures refused { IfErr result (IsFailure I.next_gives patterns default_settings) }

@@ -47,8 +47,8 @@ impl Relinked {
     ///
     /// What the table refused: want of memory, or an index above the greatest.
     pub fn new(alloc: Global, nfa: &NFA) -> Result<Relinked, BuildError>
-        ensures of { IfOk result (λ relinked. (p : Patterns)
-            → ⟦<NFA as Automaton>⟧.is_of nfa.now p → ⟦<Relinked as Automaton>⟧.is_of relinked p) }
+        ensures of { IfOk result (λ made. (p : Patterns)
+            → ⟦<NFA as Automaton>⟧.is_of nfa.now p → ⟦<Relinked as Automaton>⟧.is_of made p) }
         ensures states { IfOk result (λ relinked. relinked.table.states ≡ states_of nfa.now) }
         ensures memory { IfOk result (λ relinked. (p : Patterns)
             → ⟦<NFA as Automaton>⟧.is_of nfa.now p

@@ -12,7 +12,7 @@ ghost use Rattle.aho_build.specs.Sizes.{states_size};
 ghost use Rattle.aho_build.specs.StateNames.{IsStateOf};
 ghost use Rattle.aho_build.specs.Walking.{IsSound, AreStarts};
 ghost use Rattle.aho_prefilter.specs.Prefilter.{has_empty};
-ghost use Rattle.aho_corasick.specs.ReadOut.{states_of, special_of, classes_of, IsNaming, word_of_state, link_of, LeadsAsWord};
+ghost use Rattle.aho_corasick.specs.ReadOut.{states_of, special_of, classes_of, ByWords, IsNaming, word_of_state, link_of, LeadsAsWord};
 ghost use Rattle.aho_table.specs.Table.{IsRising, state_at, fail_in, depth_in, matches_in};
 
 use super::NFA;
@@ -46,8 +46,8 @@ impl NFA {
         requires within { sid < length (states_of self.now) }
         ensures depth { result ≡ depth_in (states_of self.now) sid }
         ensures bound { result ≤ greatest_index }
-        ensures of_word { (p : Patterns) (names : List (Option (List ℕ)))
-            → IsNaming self.now p names → result ≡ depth_of (word_of_state self.now names sid) }
+        ensures of_word { ByWords self.now (λ p names.
+            result ≡ depth_of (word_of_state self.now names sid)) }
     {
         self.table.depth(sid)
     }
@@ -57,9 +57,8 @@ impl NFA {
     pub fn fail(&self, sid: StateID) -> StateID
         requires within { sid < length (states_of self.now) }
         ensures fail { result ≡ fail_in (states_of self.now) sid }
-        ensures of_word { (p : Patterns) (names : List (Option (List ℕ)))
-            → IsNaming self.now p names
-            → IsStateOf names (link_of p (word_of_state self.now names sid)) result }
+        ensures of_word { ByWords self.now (λ p names.
+            IsStateOf names (link_of p (word_of_state self.now names sid)) result) }
     {
         self.table.fail(sid)
     }
@@ -71,8 +70,7 @@ impl NFA {
         requires within { sid < length (states_of self.now) }
         ensures listed { result ≡ (state_at (states_of self.now) sid).transitions }
         ensures rising { IsRising result }
-        ensures of_word { (p : Patterns) (names : List (Option (List ℕ)))
-            → IsNaming self.now p names → LeadsAsWord self.now p names sid result }
+        ensures of_word { ByWords self.now (λ p names. LeadsAsWord self.now p names sid result) }
     {
         self.table.transitions(sid)
     }
@@ -81,8 +79,8 @@ impl NFA {
     pub fn matches(&self, sid: StateID) -> Matches<'_>
         requires within { sid < length (states_of self.now) }
         ensures listed { result ≡ matches_in (states_of self.now) sid }
-        ensures of_word { (p : Patterns) (names : List (Option (List ℕ)))
-            → IsNaming self.now p names → result ≡ matches_of p (word_of_state self.now names sid) }
+        ensures of_word { ByWords self.now (λ p names.
+            result ≡ matches_of p (word_of_state self.now names sid)) }
     {
         self.table.matches(sid)
     }
