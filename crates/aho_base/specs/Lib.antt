@@ -1,4 +1,4 @@
--- In the order of docs/RULES.md.
+-- Numbers, patterns and occurrences first, then what searches answer, then what automata and texts have to keep.
 pub mod Numbers
 pub mod Patterns
 pub mod Search

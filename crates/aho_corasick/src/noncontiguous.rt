@@ -35,12 +35,21 @@ use std::alloc::{AllocError, Global};
 /// ```
 #[derive(Drop)]
 pub struct NFA {
+    /// Which of several matches is found.
     match_kind: MatchKind,
+    /// The states: DEAD, FAIL, those that list a pattern and are no start, the unanchored start, the anchored start, and
+    /// the rest. Each has its transitions, its patterns and its failure link. A state near the start has a dense row as
+    /// well: an entry for each class of bytes, so that one look-up answers any byte.
     table: Table,
+    /// The numbers of the starts, and those up to which a state lists a pattern or is special.
     special: Special,
+    /// The length of each pattern in bytes, by its number.
     pattern_lens: Vec<SmallIndex>,
+    /// The least of the lengths, and the greatest `usize` where there is no pattern.
     min_pattern_len: usize,
+    /// The greatest of the lengths, and 0 where there is no pattern.
     max_pattern_len: usize,
+    /// What unanchored searches skip by, if the builder was told to hold one and the patterns allow it.
     prefilter: Option<Prefilter>,
     ghost sound: { IsSound table.states },
     ghost starts: { AreStarts special table.states },

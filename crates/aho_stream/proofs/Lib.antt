@@ -1,13 +1,17 @@
+-- The bytes given, and how long what occurs in them is.
 mod GivenBytes
 mod PatternLengths
+-- One byte more: the next match, whatever follows, and where a state dies.
 mod NextMatches
-mod Refilled
 mod Walks
 mod Deaths
+-- One call more: a refill of the buffer, and what the iterator has read and told.
+mod Refilled
 mod Afters
 mod Reported
 mod Advanced
 mod Found
+-- Many calls: the finds of a stream, their number, and replacements.
 mod StreamFinds
 mod Countings
 mod Replacings
