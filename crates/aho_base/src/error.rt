@@ -40,7 +40,7 @@ pub enum BuildError {
         /// The limit in force.
         max: usize,
     },
-    /// A growth was refused for want of memory.
+    /// An allocation failed.
     OutOfMemory,
 }
 

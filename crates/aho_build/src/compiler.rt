@@ -26,7 +26,7 @@ use std::alloc::Global;
 /// The first that the limits refuse of what is asked for: for each pattern in turn its number (`PatternIDOverflow`), its
 /// length in bytes (`PatternTooLong`), and the indexes of its states, transitions and match (`StateIDOverflow`); after the
 /// last pattern the indexes of the anchored start's matches, the starts of the dense rows, and the indexes of the copied
-/// matches. Or want of memory, at any time.
+/// matches. Or `OutOfMemory`, at any time.
 pub fn compile<'p, I: Iterator<Item = &'p [u8]> + Drop>(
     alloc: Global,
     settings: &Settings,

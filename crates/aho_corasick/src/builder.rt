@@ -62,7 +62,8 @@ impl Builder {
     /// The first that the limits refuse of what is asked for: for each pattern in turn its number (`PatternIDOverflow`), its
     /// length in bytes (`PatternTooLong`), and the indexes of its states, transitions and match (`StateIDOverflow`); after
     /// the last pattern the indexes of the anchored start's matches, the starts of the dense rows, and the indexes of the
-    /// copied matches. Patterns that come after one that is refused change nothing of the error. Or want of memory, at any time. The builder can be used again.
+    /// copied matches. Patterns that come after one that is refused change nothing of the error. Or `OutOfMemory`, at any
+    /// time. The builder can be used again.
     pub fn build<'p, I: Iterator<Item = &'p [u8]> + Drop>(
         &self,
         alloc: Global,

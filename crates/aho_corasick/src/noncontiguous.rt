@@ -80,7 +80,7 @@ impl NFA {
     /// # Errors
     ///
     /// `PatternIDOverflow`, `PatternTooLong` or `StateIDOverflow` where a pattern's number, its length in bytes, or an index
-    /// of a table is above the greatest; or want of memory, at any time.
+    /// of a table is above the greatest; or `OutOfMemory`, at any time.
     pub fn new<'p, I: Iterator<Item = &'p [u8]> + Drop>(
         alloc: Global,
         patterns: I,
@@ -136,7 +136,7 @@ impl NFA {
     ///
     /// # Errors
     ///
-    /// Want of memory.
+    /// Out of memory.
     pub fn try_clone(&self) -> Result<NFA, AllocError>
         ensures same { IfOk result (λ nfa. IsCloneOf ⟦<NFA as Automaton>⟧ nfa self.now) }
         ensures read_out { IfOk result (λ nfa. HasReadOutOf nfa self.now) }

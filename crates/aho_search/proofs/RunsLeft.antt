@@ -11,7 +11,7 @@ use Rattle.aho_base.specs.Replacement.{is_on_boundaries, on_boundaries}
 use Rattle.aho_base.specs.Search.{Search, plain_search}
 use Rattle.aho_search.proofs.NextFinds.{finds-next, finds-none}
 
--- a refusal for want of memory
+-- an error of memory is the one error of its type
 pub refused : (result : Result (Unit {0}) AllocError) → IsErr result → result ≡ Err alloc_error
 refused (Ok done) is_err = cc
 refused (Err reason) is_err = refl

@@ -376,7 +376,7 @@ pub trait Automaton {
     ///
     /// # Errors
     ///
-    /// `Match` exactly where `start_state` refuses unanchored searches. `Memory` where a growth is refused.
+    /// `Match` exactly where `start_state` refuses unanchored searches. `Memory` where an allocation fails.
     final fn try_replace_all(
         &self,
         alloc: Global,
@@ -442,9 +442,9 @@ pub trait Automaton {
     ///
     /// # Errors
     ///
-    /// `Match` exactly where `start_state` refuses unanchored searches; then `dst` stays. `Memory` where a growth of `dst`
-    /// is refused, or the closure answers so: then `dst` has what it had, all that was copied in whole pieces before, and
-    /// what the closure appended.
+    /// `Match` exactly where `start_state` refuses unanchored searches; then `dst` stays. `Memory` where an allocation of
+    /// `dst` fails, or the closure answers so: then `dst` has what it had, all that was copied in whole pieces before,
+    /// and what the closure appended.
     final fn try_replace_all_with<F>(
         &self,
         haystack: &str,

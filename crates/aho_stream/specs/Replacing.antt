@@ -59,8 +59,8 @@ IsMakingRefusal WriteZero = ⊥
 IsMakingRefusal Memory = Unit {0}
 IsMakingRefusal PositionLimit = ⊥
 
--- what is not begun is refused for this, in this order, and for want of memory alone else. By the lengths of an automaton's
--- patterns, and its start
+-- why a start is refused: an empty pattern first, then the automaton, and else memory alone. By the lengths of an automaton's
+-- patterns, and by what it answers for its start
 pub record Refuses {A : Type 0} (lengths : List ℕ) (start : Result ℕ MatchErrorKind) (result : Result A StreamError) : Type 0 where
   pub empty : shortest lengths ≡ 0 → result ≡ Err (Refused UnsupportedEmpty)
   pub refused : (reason : MatchErrorKind) → 1 ≤ shortest lengths → start ≡ Err reason → result ≡ Err (Refused reason)

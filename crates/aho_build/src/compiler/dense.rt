@@ -22,7 +22,7 @@ fn has_row(table: &Table, sid: StateID, depth: usize) -> bool
 ///
 /// # Errors
 ///
-/// `StateIDOverflow` at the first row that would start above the limit, by its start; or want of memory.
+/// `StateIDOverflow` at the first row that would start above the limit, by its start; or `OutOfMemory`.
 pub fn densify(table: &mut Table, classes: ByteClasses, depth: usize) -> Result<(), BuildError>
     requires alike { (sid : ℕ) → 2 ≤ sid → sid < length table.old.states
         → LeadsAlike classes (state_at table.old.states sid).transitions }

@@ -36,7 +36,7 @@ impl PrefilterPatterns {
     ///
     /// # Errors
     ///
-    /// Want of memory.
+    /// Out of memory.
     pub fn add(&mut self, pattern: &[u8]) -> Result<(), AllocError>
         ensures added { (settings : Settings) (p : Patterns) → Collects settings p self.old
             → OnOk result (Collects settings (with_word p pattern.now) self.new) }
@@ -51,7 +51,7 @@ impl PrefilterPatterns {
     ///
     /// # Errors
     ///
-    /// Want of memory.
+    /// Out of memory.
     pub fn build(self) -> Result<Option<Prefilter>, AllocError>
         ensures held { (settings : Settings) (p : Patterns) → Collects settings p self
             → result ≡ Ok (held_by settings p) }

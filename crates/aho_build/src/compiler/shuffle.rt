@@ -20,7 +20,7 @@ use std::alloc::{AllocError, Global};
 ///
 /// # Errors
 ///
-/// Want of memory. The table is then unchanged.
+/// Out of memory. The table is then unchanged.
 pub fn shuffle(alloc: Global, table: &mut Table, skips: bool) -> Result<Special, AllocError>
     requires starts { anchored_id < length table.old.states }
     ensures shuffled { IfOk result (AreShuffled skips table.old table.new) }

@@ -209,7 +209,7 @@ fn add_pattern(
 /// # Errors
 ///
 /// `PatternIDOverflow`, `PatternTooLong` and `StateIDOverflow` where a number passes its limit, at the first pattern that
-/// makes it do so; or want of memory, at any time.
+/// makes it do so; or `OutOfMemory`, at any time.
 pub fn build_trie<'p, I: Iterator<Item = &'p [u8]> + Drop>(
     alloc: Global,
     settings: &Settings,
