@@ -5,11 +5,11 @@ use Rattle.std.specs.Str.{bytes_eq}
 use Rattle.std.specs.declared.io.traits.Write.{Ghosts as Writers}
 use Rattle.aho_devices.specs.Counts.{AppendsBeginning}
 use Rattle.aho_devices.specs.declared.adapters.FromWrite.{FromWrite}
-use Rattle.commands.specs.Arguments.{find_by}
-use Rattle.commands.specs.Asked.{Asked}
-use Rattle.commands.specs.Failures.{LeavesPrinting}
-use Rattle.commands.specs.Streams.{bytes_held}
-use Rattle.commands.specs.declared.failure.Failure.{Failure}
+use Rattle.programs.specs.Arguments.{find_by}
+use Rattle.programs.specs.Asked.{Asked}
+use Rattle.programs.specs.Failures.{LeavesPrinting}
+use Rattle.programs.specs.Streams.{bytes_held}
+use Rattle.programs.specs.declared.failure.Failure.{Failure}
 
 -- [-u] KIND [-i] PATTERN..: the automaton that is drawn
 abbrev pub drawing_by : List (List ℕ) → Option Asked

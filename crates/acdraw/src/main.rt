@@ -12,14 +12,14 @@ mod text;
 
 ghost use Rattle.std.specs.Prelude.{◌≡◌, ◌≤◌, None, IfOk, IfErr, OnErr};
 ghost use Rattle.std.specs.Process.{exit_status};
-ghost use Rattle.commands.specs.Arguments.{texts};
-ghost use Rattle.commands.specs.Failures.{status_of_failure};
-ghost use Rattle.commands.specs.Streams.{bytes_held};
+ghost use Rattle.programs.specs.Arguments.{texts};
+ghost use Rattle.programs.specs.Failures.{status_of_failure};
+ghost use Rattle.programs.specs.Streams.{bytes_held};
 ghost use Rattle.acdraw.specs.Calls.{Draws, drawing_by};
 
 use aho_devices::adapters::FromWrite;
-use commands::arguments::arguments;
-use commands::failure::Failure;
+use programs::arguments::arguments;
+use programs::failure::Failure;
 use run::{run, tell};
 use std::alloc::Global;
 use std::io::Write;

@@ -1,21 +1,21 @@
 //! A call of the program over its arguments and streams.
 
 ghost use Rattle.std.specs.Prelude.{◌≡◌, ◌≢◌, ◌≤◌, ◌⊎◌, true, None, Some, IfOk, IfErr, IfSome, OnOk, option_map};
-ghost use Rattle.commands.specs.Answers.{TellsFailure};
-ghost use Rattle.commands.specs.Arguments.{texts};
-ghost use Rattle.commands.specs.Asked.{Asked, Builds, asked_for};
-ghost use Rattle.commands.specs.Failures.{line_of_failure, status_of_failure};
-ghost use Rattle.commands.specs.Streams.{WritesBeginning, bytes_held};
-ghost use Rattle.commands.specs.declared.failure.Failure.TheVariants.{Usage};
+ghost use Rattle.programs.specs.Answers.{TellsFailure};
+ghost use Rattle.programs.specs.Arguments.{texts};
+ghost use Rattle.programs.specs.Asked.{Asked, Builds, asked_for};
+ghost use Rattle.programs.specs.Failures.{line_of_failure, status_of_failure};
+ghost use Rattle.programs.specs.Streams.{WritesBeginning, bytes_held};
+ghost use Rattle.programs.specs.declared.failure.Failure.TheVariants.{Usage};
 ghost use Rattle.acdraw.specs.Calls.{Draws, LeavesDrawing, drawing_by, draws_anchored, usage_line};
 
 use crate::dot::dot_of;
 use crate::picture::picture_of;
 use aho_devices::adapters::FromWrite;
-use commands::command::{Request, parse_find};
-use commands::failure::Failure;
-use commands::print::write_whole;
-use commands::run::{build, report};
+use programs::command::{Request, parse_find};
+use programs::failure::Failure;
+use programs::print::write_whole;
+use programs::run::{build, report};
 use std::alloc::Global;
 use std::io::Write;
 

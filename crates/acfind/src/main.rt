@@ -12,16 +12,16 @@
 
 ghost use Rattle.std.specs.Prelude.{◌≡◌, ◌<◌, ◌≤◌, IfOk, IfErr, OnErr, true, false, is_some};
 ghost use Rattle.std.specs.Process.{exit_status};
-ghost use Rattle.commands.specs.Answers.{BeginsLine, PrintsIfDone, WritesIfDone};
-ghost use Rattle.commands.specs.Arguments.{IfGivenAsked, IfGivenReplacing, IfGivenWrong, replacing_by, texts};
-ghost use Rattle.commands.specs.Failures.{HasStatus};
-ghost use Rattle.commands.specs.Streams.{contents, Unread, Unwritten};
+ghost use Rattle.programs.specs.Answers.{BeginsLine, PrintsIfDone, WritesIfDone};
+ghost use Rattle.programs.specs.Arguments.{IfGivenAsked, IfGivenReplacing, IfGivenWrong, replacing_by, texts};
+ghost use Rattle.programs.specs.Failures.{HasStatus};
+ghost use Rattle.programs.specs.Streams.{contents, Unread, Unwritten};
 
 use aho_devices::adapters::{FromRead, FromWrite};
-use commands::arguments::arguments;
-use commands::command::parse_replace;
-use commands::failure::Failure;
-use commands::run::{report, run};
+use programs::arguments::arguments;
+use programs::command::parse_replace;
+use programs::failure::Failure;
+use programs::run::{report, run};
 use std::alloc::Global;
 use std::io;
 use std::io::{BufWriter, LineWriter, Read, Write};

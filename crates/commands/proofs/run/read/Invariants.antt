@@ -1,7 +1,0 @@
--- What was read so far is the text.
-use Rattle.std.specs.Io.KnownBytes.{Consumes}
-use Rattle.commands.specs.Streams.{bytes_left}
-use Rattle.commands.proofs.run.read.Given as goal
-
-abbrev pub invariant-loop : goal.invariant-loop
-invariant-loop g l = Consumes (bytes_left l.initial.input) (bytes_left l.input) l.text.items

@@ -1,0 +1,50 @@
+-- The words are pairs, and the automaton is that of the patterns.
+use Rattle.std.proofs.Common.{◌∙◌, ap, length, map, string_bytes, inr}
+use Rattle.std.proofs.lemmas.List.{length-map}
+use Rattle.std.proofs.lemmas.Result.{IfErr-weaker}
+use Rattle.aho_build.proofs.StoppedBuilds.{IfErr-given}
+use Rattle.programs.specs.Asked.{patterns_to_replace, replacing_for}
+use Rattle.programs.proofs.Pairs.{as_many, shown}
+use Rattle.programs.proofs.Replacings.{begins_whole, leaves_write, ok_given, replaces_kept}
+use Rattle.programs.proofs.replace.replace.Goals as goal
+
+pub replace_all-requires : goal.replace_all-requires
+replace_all-requires g c =
+    let asked = replacing_for (map string_bytes c.args.arguments.now) in
+    record {
+      of = (
+        patterns_to_replace asked,
+        c.in_ok-automaton.ensures.of asked (shown c.as_slice.ensures.value c.in_ok-pairs.ensures.patterns),
+        as_many _ _ c.requires.even ∙ ap length (shown c.as_slice-2.ensures.value c.in_ok-pairs.ensures.pieces) ∙ length-map _ _,
+      );
+    }
+
+pub returns-in_err-replace_all-clause-built_first :
+    goal.returns-in_err-replace_all-clause-built_first
+returns-in_err-replace_all-clause-built_first g c =
+    inr (c.in_ok-automaton.ensures.accepted (replacing_for (map string_bytes c.args.arguments.now)) (shown c.as_slice.ensures.value c.in_ok-pairs.ensures.patterns))
+
+pub returns-in_err-replace_all-clause-leaves : goal.returns-in_err-replace_all-clause-leaves
+returns-in_err-replace_all-clause-leaves g c =
+    let asked = replacing_for (map string_bytes c.args.arguments.now) in
+    IfErr-given _ _ _ c.from_residual-in_err-replace_all.ensures.1
+    (c.in_err-replace_all.ensures.leaves asked (shown c.as_slice-2.ensures.value c.in_ok-pairs.ensures.pieces)
+    (c.in_ok-automaton.ensures.of asked (shown c.as_slice.ensures.value c.in_ok-pairs.ensures.patterns)))
+
+pub returns-clause-built_first : goal.returns-clause-built_first
+returns-clause-built_first g c =
+    inr (c.in_ok-automaton.ensures.accepted (replacing_for (map string_bytes c.args.arguments.now)) (shown c.as_slice.ensures.value c.in_ok-pairs.ensures.patterns))
+
+pub returns-clause-replaces : goal.returns-clause-replaces
+returns-clause-replaces g c =
+    let asked = replacing_for (map string_bytes c.args.arguments.now) in
+    let whole = c.in_ok-replace_all.ensures.replaces asked (shown c.as_slice-2.ensures.value c.in_ok-pairs.ensures.pieces)
+    (c.in_ok-automaton.ensures.of asked (shown c.as_slice.ensures.value c.in_ok-pairs.ensures.patterns)) in
+    ok_given c.flush.result (replaces_kept _ whole c.flush.ensures.kept)
+
+pub returns-clause-leaves : goal.returns-clause-leaves
+returns-clause-leaves g c =
+    let asked = replacing_for (map string_bytes c.args.arguments.now) in
+    let whole = c.in_ok-replace_all.ensures.replaces asked (shown c.as_slice-2.ensures.value c.in_ok-pairs.ensures.pieces)
+    (c.in_ok-automaton.ensures.of asked (shown c.as_slice.ensures.value c.in_ok-pairs.ensures.patterns)) in
+    IfErr-weaker c.flush.result _ _ (λ failure of. leaves_write _ _ failure of (begins_whole (replaces_kept _ whole c.flush.ensures.kept))) c.flush.ensures.of_write

@@ -1,0 +1,22 @@
+-- What the library promises of the devices holds of the reader and the writer.
+use Rattle.std.proofs.Common.{◌≢◌, ◌∙◌, sym, ap}
+use Rattle.aho_build.proofs.StoppedBuilds.{IfErr-given}
+use Rattle.programs.proofs.Replacings.{at_end, begins_asked, leaves_stream, most_asked, replaces_asked}
+use Rattle.programs.proofs.replace.replace_all.Goals as goal
+
+pub returns-in_err-try_stream_replace_all-clause-leaves : goal.returns-in_err-try_stream_replace_all-clause-leaves
+returns-in_err-try_stream_replace_all-clause-leaves g c asked same of =
+    let promised = c.in_err-try_stream_replace_all.ensures in
+    let left = ap (λ device. g.R.Read.remaining device.reader) c.restart.ensures.device in
+    let ends = λ (some : c.try_stream_replace_all.new.source.empty_reads ≢ 0). at_end _ (λ bytes is. c.try_stream_replace_all.new.source.ended bytes some is) in
+    IfErr-given _ _ _ c.from_residual.ensures.1
+    (leaves_stream c.in_err-try_stream_replace_all.field-0.0
+    (λ made. (ap (λ s. s.device) (promised.untouched made).0 ∙ c.restart.ensures.device, ap (λ s. s.device) (promised.untouched made).1))
+    (begins_asked asked (rw (sym same) at promised.begun) of left c.restart.ensures.empty_reads ends)
+    (λ fill. most_asked asked (rw (sym same) at (promised.near fill)) (g.met.A.Automaton.laws _ _ of).lengths_are of left c.restart.ensures.empty_reads ends))
+
+pub returns-clause-replaces : goal.returns-clause-replaces
+returns-clause-replaces g c asked same of =
+    let left = ap (λ device. g.R.Read.remaining device.reader) c.restart.ensures.device in
+    replaces_asked asked (rw (sym same) at c.in_ok-try_stream_replace_all.ensures.replaced) of left c.restart.ensures.empty_reads
+    (λ some. at_end _ (λ bytes is. c.try_stream_replace_all.new.source.ended bytes some is))

@@ -1,0 +1,159 @@
+-- What a run answers.
+use Rattle.std.specs.Prelude.{◌≡◌, ℕ, Bool, true, false, ◌+◌, ◌<◌, ◌≤◌, List, [], ◌∷◌, ◌++◌, Option, None, length, map, decimal, codes, if◌then◌else◌}
+use Rattle.std.specs.Io.{StartsWith}
+use Rattle.std.specs.Io.KnownBytes.{Appends, Consumes, IsAtEnd}
+use Rattle.std.specs.List.{flat_map}
+use Rattle.std.specs.declared.io.traits.Read.{Ghosts as Readers}
+use Rattle.std.specs.declared.io.traits.Write.{Ghosts as Writers}
+use Rattle.aho_base.specs.Iteration.{AreFinds}
+use Rattle.aho_base.specs.Occurrence.{Occurrence}
+use Rattle.aho_base.specs.Overlapping.{all_occurrences}
+use Rattle.aho_base.specs.Patterns.{Patterns}
+use Rattle.aho_base.specs.Replacement.{replaced}
+use Rattle.aho_base.specs.Search.{plain_search}
+use Rattle.aho_stream.specs.After.{kept_for}
+use Rattle.aho_stream.specs.Replacing.{MayBe, piece_for, replaced_up_to}
+use Rattle.aho_devices.specs.Counts.{AppendsBeginning}
+use Rattle.aho_devices.specs.declared.adapters.FromRead.{FromRead}
+use Rattle.aho_devices.specs.declared.adapters.FromWrite.{FromWrite}
+use Rattle.programs.specs.Asked.{Asked, Replacing, asked_patterns, patterns_to_replace}
+use Rattle.programs.specs.Failures.{HasStatus, line_of_failure, LeavesPrinting, LeavesReplacing}
+use Rattle.programs.specs.Streams.{Contents, contents, Unread, Unwritten, WritesBeginning, WritesBytes}
+use Rattle.programs.specs.declared.command.Task.{Task}
+use Rattle.programs.specs.declared.command.Task.TheVariants.{Find, Overlap}
+use Rattle.programs.specs.declared.failure.Failure.{Failure}
+
+-- the matches of a text one after another
+abbrev pub AreFindsIn : Patterns → List ℕ → List Occurrence → Type 0
+AreFindsIn p text = AreFinds p (plain_search text) None
+
+-- the matches of a text that a task prints, in order: those of an iteration, or all occurrences
+abbrev pub AreMatches : Task → Patterns → List ℕ → List Occurrence → Type 0
+AreMatches (Find kind ignore_case) p text ms = AreFindsIn p text ms
+AreMatches Overlap p text ms = ms ≡ all_occurrences p text 0 (length text)
+
+-- what is printed of a match: `PATTERN START END` and a line end
+abbrev pub line_of : Occurrence → List ℕ
+line_of m = decimal m.pattern ++ (codes " " ++ (decimal m.start ++ (codes " " ++ (decimal m.end ++ codes "\n"))))
+
+-- one line after another
+abbrev pub lines_of : List Occurrence → List ℕ
+lines_of ms = flat_map line_of ms
+
+-- whether there is a match
+abbrev pub is_any : List Occurrence → Bool
+is_any [] = false
+is_any (m ∷ ms) = true
+
+-- the status where there is a match, and where there is none
+abbrev pub status_of : Bool → ℕ
+status_of any = if any then 0 else 1
+
+module _ {W : Type 0} (Writes : Writers W) where
+  -- the line of each match is written and nothing else, and this says whether there is one
+  abbrev pub PrintsLines : FromWrite W → FromWrite W → List Occurrence → Bool → Type 0
+  PrintsLines old new ms any = WritesBytes Writes old new (lines_of ms) × (any ≡ is_any ms)
+
+  -- that is so of the matches that are meant
+  pub record Prints (AreMeant : List Occurrence → Type 0) (old new : FromWrite W) (any : Bool) : Type 0 where
+    pub matches : List Occurrence
+    pub meant : AreMeant matches
+    pub printed : WritesBytes Writes old new (lines_of matches)
+    pub told : any ≡ is_any matches
+
+  -- that is so of the matches that a task prints
+  abbrev pub PrintsAll : Task → Patterns → List ℕ → FromWrite W → FromWrite W → Bool → Type 0
+  PrintsAll task p text = Prints (AreMatches task p text)
+
+  -- a beginning of the lines of the matches that are meant is written
+  pub record Begun (AreMeant : List Occurrence → Type 0) (old new : FromWrite W) : Type 0 where
+    pub matches : List Occurrence
+    pub meant : AreMeant matches
+    pub begun : WritesBeginning Writes old new (lines_of matches)
+
+  -- a beginning of the line of a failure is written
+  abbrev pub BeginsLine : FromWrite W → FromWrite W → Failure → Type 0
+  BeginsLine old new failure = WritesBeginning Writes old new (line_of_failure failure)
+
+  -- the line of a failure of this status is begun, and the failure leaves what it should
+  pub record TellsFailure (old new : FromWrite W) (status : ℕ) (Left : Failure → Type 0) : Type 0 where
+    pub failure : Failure
+    pub told : HasStatus status failure
+    pub begun : BeginsLine old new failure
+    pub left : Left failure
+
+-- all of the input was read, and these are the matches that are asked for
+pub record ReadsMatches (bytes : Contents) (ms : List Occurrence) (asked : Asked) : Type 0 where
+  pub text : List ℕ
+  pub read : Consumes bytes.left_before bytes.left_after text
+  pub ended : IsAtEnd bytes.left_after
+  pub right : AreMatches asked.task (asked_patterns asked) text ms
+
+-- the matches are found, the line of each is written and nothing else, and the status says whether there is one
+pub record PrintsMatches (bytes : Contents) (status : ℕ) (asked : Asked) : Type 0 where
+  pub matches : List Occurrence
+  pub found : ReadsMatches bytes matches asked
+  pub printed : Appends bytes.held_before bytes.held_after (lines_of matches)
+  pub told : status ≡ status_of (is_any matches)
+
+-- the matches are found, and a beginning of their lines is written
+pub record BeginsMatches (bytes : Contents) (asked : Asked) : Type 0 where
+  pub matches : List Occurrence
+  pub found : ReadsMatches bytes matches asked
+  pub begun : AppendsBeginning bytes.held_before bytes.held_after (lines_of matches)
+
+-- the end of the input was seen, and the replacement of all of it is written and nothing else
+pub record WritesReplacement (bytes : Contents) (asked : Replacing) : Type 0 where
+  pub text : List ℕ
+  pub read : Consumes bytes.left_before bytes.left_after text
+  pub ended : IsAtEnd bytes.left_after
+  pub matches : List Occurrence
+  pub found : AreFinds (patterns_to_replace asked) (plain_search text) None matches
+  pub written : Appends bytes.held_before bytes.held_after (replaced text matches asked.pieces)
+
+-- some of the input was read, and what is written begins the replacement, whatever bytes follow: none once its end was seen
+pub record BeginsReplacement (bytes : Contents) (asked : Replacing) : Type 0 where
+  pub text : List ℕ
+  pub read : Consumes bytes.left_before bytes.left_after text
+  pub ended : Bool
+  pub at_end : ended ≡ true → IsAtEnd bytes.left_after
+  pub written : List ℕ
+  pub grown : Appends bytes.held_before bytes.held_after written
+  pub beginning : (given : List ℕ) (ms : List Occurrence) → MayBe text ended given
+      → AreFinds (patterns_to_replace asked) (plain_search given) None ms → StartsWith (replaced given ms asked.pieces) written
+
+-- and it is the replacement up to a place, whatever bytes follow: no more than the longest pattern has, and at least one, are left
+pub record WritesMost (bytes : Contents) (asked : Replacing) : Type 0 where
+  pub text : List ℕ
+  pub read : Consumes bytes.left_before bytes.left_after text
+  pub ended : Bool
+  pub at_end : ended ≡ true → IsAtEnd bytes.left_after
+  pub place : ℕ
+  pub within : place ≤ length text
+  pub near : length text ≤ place + kept_for (map length asked.words)
+  pub written : (given : List ℕ) (ms : List Occurrence) → MayBe text ended given
+      → AreFinds (patterns_to_replace asked) (plain_search given) None ms
+      → Appends bytes.held_before bytes.held_after (replaced_up_to given place 0 ms (piece_for asked.pieces))
+
+-- the matches are printed where the status tells of no failure
+abbrev pub PrintsIfDone : Contents → ℕ → Asked → Type 0
+PrintsIfDone bytes status asked = status < 2 → PrintsMatches bytes status asked
+
+-- the replacement is written where the status tells of no failure
+abbrev pub WritesIfDone : Contents → ℕ → Replacing → Type 0
+WritesIfDone bytes status asked = status ≡ 0 → WritesReplacement bytes asked
+
+module _ {R : Type 0} {Reads : Readers R} {W : Type 0} (Writes : Writers W) where
+  -- what a failure leaves where matches are asked for
+  abbrev pub LeavesMatches : Asked → FromRead R Reads → FromRead R Reads → FromWrite W → FromWrite W → Failure → Type 0
+  LeavesMatches asked input_old input_new output_old output_new = LeavesPrinting
+      (Unread input_old input_new)
+      (Unwritten output_old output_new)
+      (BeginsMatches (contents Writes input_old input_new output_old output_new) asked)
+
+  -- what a failure leaves where a replacement is asked for
+  abbrev pub LeavesReplacement : Replacing → FromRead R Reads → FromRead R Reads → FromWrite W → FromWrite W → Failure → Type 0
+  LeavesReplacement asked input_old input_new output_old output_new = LeavesReplacing
+      (Unread input_old input_new × Unwritten output_old output_new)
+      (BeginsReplacement (contents Writes input_old input_new output_old output_new) asked)
+      (WritesMost (contents Writes input_old input_new output_old output_new) asked)

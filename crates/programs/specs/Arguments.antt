@@ -1,0 +1,83 @@
+-- What the arguments, those after the program's name, ask for.
+use Rattle.std.specs.Prelude.{◌≡◌, ℕ, ◌%◌, ◌==◌, ◌||◌, not, true, false, List, [], ◌∷◌, Option, Some, None, codes, length, map, String, string_bytes, Vec, Result, IfOk, option_and_then, if◌then◌else◌}
+use Rattle.std.specs.Str.{bytes_eq}
+use Rattle.aho_base.specs.declared.search.MatchKind.{MatchKind}
+use Rattle.aho_base.specs.declared.search.MatchKind.TheVariants.{Standard, LeftmostFirst, LeftmostLongest}
+use Rattle.programs.specs.Asked.{Asked, Replacing, replacing_for}
+use Rattle.programs.specs.declared.command.Task.{Task}
+use Rattle.programs.specs.declared.command.Task.TheVariants.{Find, Overlap}
+
+-- the match kind that an argument names
+abbrev pub kind_by : List ℕ → Option MatchKind
+kind_by word =
+    if bytes_eq word (codes "standard") then Some Standard
+    else if bytes_eq word (codes "first") then Some LeftmostFirst
+    else if bytes_eq word (codes "longest") then Some LeftmostLongest
+    else None
+
+-- PATTERN..: at least one
+abbrev pub patterns_by : Task → List (List ℕ) → Option Asked
+patterns_by task [] = None
+patterns_by task (word ∷ words) = Some (record { task = task; words = word ∷ words })
+
+-- [-i] PATTERN..: `-i` sets the case rule in the first place, and is a pattern in any other
+abbrev pub cased_by : MatchKind → List (List ℕ) → Option Asked
+cased_by kind [] = None
+cased_by kind (word ∷ words) =
+    if bytes_eq word (codes "-i") then patterns_by (Find kind true) words else patterns_by (Find kind false) (word ∷ words)
+
+-- KIND [-i] PATTERN..
+abbrev pub find_by : List (List ℕ) → Option Asked
+find_by [] = None
+find_by (word ∷ words) = option_and_then (λ kind. cased_by kind words) (kind_by word)
+
+-- find KIND [-i] PATTERN.., or overlap PATTERN..: the matches that are printed
+abbrev pub asked_by : List (List ℕ) → Option Asked
+asked_by [] = None
+asked_by (word ∷ words) =
+    if bytes_eq word (codes "find") then find_by words
+    else if bytes_eq word (codes "overlap") then patterns_by Overlap words
+    else None
+
+-- P1 R1 P2 R2 ..: at least one pattern, and a piece for each
+abbrev pub pairs_by : List (List ℕ) → Option Replacing
+pairs_by words =
+    if length words == 0 || not (length words % 2 == 0) then None
+    else Some (replacing_for words)
+
+-- replace P1 R1 P2 R2 ..
+abbrev pub replacing_by : List (List ℕ) → Option Replacing
+replacing_by [] = None
+replacing_by (word ∷ words) = if bytes_eq word (codes "replace") then pairs_by words else None
+
+module _ {Z : Type 0} where
+  -- the bytes of each argument
+  abbrev pub texts : List (String Z) → List (List ℕ)
+  texts arguments = map string_bytes arguments
+
+  -- what holds of the matches that the arguments ask for, where they ask for some
+  abbrev pub IfAsked : List (String Z) → (Asked → Type 0) → Type 0
+  IfAsked arguments Holds = (asked : Asked) → asked_by (texts arguments) ≡ Some asked → Holds asked
+
+  -- what holds of the replacement that the arguments ask for, where they ask for one
+  abbrev pub IfReplacing : List (String Z) → (Replacing → Type 0) → Type 0
+  IfReplacing arguments Holds = (asked : Replacing) → replacing_by (texts arguments) ≡ Some asked → Holds asked
+
+  -- the arguments ask for nothing
+  abbrev pub AreWrong : List (String Z) → Type 0
+  AreWrong arguments = (asked_by (texts arguments) ≡ None) × (replacing_by (texts arguments) ≡ None)
+
+  -- the arguments do not ask for matches
+  abbrev pub AskForNone : List (String Z) → Type 0
+  AskForNone arguments = asked_by (texts arguments) ≡ None
+
+  -- the same where there may be a failure in the place of arguments
+  module _ {A E : Type 0} where
+    abbrev pub IfGivenAsked : Result (Vec (String Z) A) E → (Asked → Type 0) → Type 0
+    IfGivenAsked given Holds = IfOk given (λ arguments. IfAsked arguments.items Holds)
+
+    abbrev pub IfGivenReplacing : Result (Vec (String Z) A) E → (Replacing → Type 0) → Type 0
+    IfGivenReplacing given Holds = IfOk given (λ arguments. IfReplacing arguments.items Holds)
+
+    abbrev pub IfGivenWrong : Result (Vec (String Z) A) E → Type 0 → Type 0
+    IfGivenWrong given Holds = IfOk given (λ arguments. AreWrong arguments.items → Holds)

@@ -1,0 +1,68 @@
+-- What is asked for: which matches of which patterns, and the settings of the automaton's build.
+use Rattle.std.specs.Prelude.{◌≡◌, ℕ, Bool, false, List, [], ◌∷◌, None, map, string_bytes}
+use Rattle.aho_base.specs.Patterns.{Patterns}
+use Rattle.aho_base.specs.declared.search.MatchKind.{MatchKind}
+use Rattle.aho_base.specs.declared.search.MatchKind.TheVariants.{Standard}
+use Rattle.aho_build.specs.Refusals.{cause}
+use Rattle.aho_build.specs.Settings.{default_settings}
+use Rattle.aho_build.specs.declared.settings.Settings.{Settings}
+use Rattle.programs.specs.declared.command.Request.{Request}
+use Rattle.programs.specs.declared.command.Task.{Task}
+use Rattle.programs.specs.declared.command.Task.TheVariants.{Find, Overlap}
+
+-- which matches are printed, and the bytes of each pattern
+pub record Asked : Type 0 where
+  pub task : Task
+  pub words : List (List ℕ)
+
+-- each argument's bytes are a pattern
+abbrev pub asked_for : Request → Asked
+asked_for request = record { task = request.task; words = map string_bytes request.patterns.now }
+
+-- overlapping search is that of the kind `Standard`, and of letters as they are
+abbrev pub kind_of : Task → MatchKind
+kind_of (Find kind ignore_case) = kind
+kind_of Overlap = Standard
+
+abbrev pub ignores_case : Task → Bool
+ignores_case (Find kind ignore_case) = ignore_case
+ignores_case Overlap = false
+
+abbrev pub asked_patterns : Asked → Patterns
+asked_patterns asked = record { words = asked.words; kind = kind_of asked.task; ignore_case = ignores_case asked.task }
+
+-- their kind and case rule; all else is as a new builder has it
+abbrev pub settings_for : Task → Settings
+settings_for task = record default_settings { kind = kind_of task; ignore_case = ignores_case task }
+
+-- nothing that is asked for is refused by the build
+abbrev pub Builds : Asked → Type 0
+Builds asked = cause (settings_for asked.task) (asked_patterns asked) ≡ None
+
+-- patterns, and for each the piece that is written in the place of its matches
+pub record Replacing : Type 0 where
+  pub words : List (List ℕ)
+  pub pieces : List (List ℕ)
+
+-- the arguments at even places, the first of which is 0, and those at odd places
+abbrev pub at_even : List (List ℕ) → List (List ℕ)
+at_even [] = []
+at_even (word ∷ []) = word ∷ []
+at_even (word ∷ other ∷ words) = word ∷ at_even words
+
+abbrev pub at_odd : List (List ℕ) → List (List ℕ)
+at_odd [] = []
+at_odd (word ∷ []) = []
+at_odd (word ∷ other ∷ words) = other ∷ at_odd words
+
+-- each pattern is followed by its piece
+abbrev pub replacing_for : List (List ℕ) → Replacing
+replacing_for words = record { words = at_even words; pieces = at_odd words }
+
+-- replacement is that of the kind `Standard`, and of letters as they are
+abbrev pub patterns_to_replace : Replacing → Patterns
+patterns_to_replace asked = record { words = asked.words; kind = Standard; ignore_case = false }
+
+-- no pattern is refused by the build
+abbrev pub BuildsReplacing : Replacing → Type 0
+BuildsReplacing asked = cause default_settings (patterns_to_replace asked) ≡ None

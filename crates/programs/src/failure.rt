@@ -1,0 +1,130 @@
+//! Why a call of either program answers nothing.
+
+ghost use Rattle.std.specs.Prelude.{◌≡◌, IfOk};
+
+use aho_base::error::{BuildError, MatchError, StreamError};
+use std::alloc::AllocError;
+use std::fmt;
+use std::fmt::{InlineText, Write};
+
+/// The room for a failure's line. The longest is that of a pattern's number, with two numbers of twenty digits: 130 bytes.
+const LINE_CAPACITY: usize = 160;
+
+/// Why a call answers nothing.
+#[derive(Drop)]
+pub enum Failure {
+    /// The arguments are wrong.
+    Usage,
+    /// The automaton is refused.
+    Build(BuildError),
+    /// The search or the replacement is refused.
+    Search(MatchError),
+    /// Memory runs out.
+    OutOfMemory,
+    /// The input is longer than a replacement may be.
+    PositionLimit,
+    /// Standard input cannot be read.
+    Read,
+    /// Standard output cannot be written.
+    Write,
+    /// A write to standard output took no bytes.
+    WriteZero,
+}
+
+impl Failure {
+    ghost use Rattle.std.specs.Fmt.InlineText.{inline_text};
+    ghost use Rattle.programs.specs.Failures.{status_of_failure, line_of_failure};
+
+    /// The exit status: 3 where a device fails, and else 2.
+    pub fn status(&self) -> u8
+        ensures status { result ≡ status_of_failure self.now }
+    {
+        match self {
+            Failure::Usage
+            | Failure::Build(_)
+            | Failure::Search(_)
+            | Failure::OutOfMemory
+            | Failure::PositionLimit => 2,
+            Failure::Read | Failure::Write | Failure::WriteZero => 3,
+        }
+    }
+
+    /// The text and a line end. It takes no memory, so that memory has run out can be told too.
+    pub fn line(&self) -> Result<InlineText<{ LINE_CAPACITY }>, fmt::Error>
+        ensures line { IfOk result (λ line. inline_text line ≡ line_of_failure self.now) }
+    {
+        let mut line = InlineText::new();
+        writeln!(line, "{self}")?;
+        Ok(line)
+    }
+}
+
+impl From<BuildError> for Failure {
+    ghost use Rattle.programs.specs.declared.failure.Failure.TheVariants.{Build};
+
+    ghost from_gives = { λ error failure. failure ≡ Build error };
+
+    fn from(error: BuildError) -> Failure {
+        Failure::Build(error)
+    }
+}
+
+impl From<MatchError> for Failure {
+    ghost use Rattle.programs.specs.declared.failure.Failure.TheVariants.{Search};
+
+    ghost from_gives = { λ error failure. failure ≡ Search error };
+
+    fn from(error: MatchError) -> Failure {
+        Failure::Search(error)
+    }
+}
+
+impl From<AllocError> for Failure {
+    ghost use Rattle.programs.specs.declared.failure.Failure.TheVariants.{OutOfMemory};
+
+    ghost from_gives = { λ _ failure. failure ≡ OutOfMemory };
+
+    fn from(_error: AllocError) -> Failure {
+        Failure::OutOfMemory
+    }
+}
+
+impl From<StreamError> for Failure {
+    ghost use Rattle.programs.specs.Failures.{failure_of_stream};
+
+    ghost from_gives = { λ error failure. failure ≡ failure_of_stream error };
+
+    fn from(error: StreamError) -> Failure {
+        match error {
+            StreamError::Match(error) => Failure::Search(error),
+            StreamError::Read(_) => Failure::Read,
+            StreamError::Write(_) => Failure::Write,
+            StreamError::WriteZero => Failure::WriteZero,
+            StreamError::Memory => Failure::OutOfMemory,
+            StreamError::PositionLimit => Failure::PositionLimit,
+        }
+    }
+}
+
+/// Writes why nothing is answered, with no line end.
+impl fmt::Display for Failure {
+    ghost use Rattle.std.specs.Prelude.{Some};
+    ghost use Rattle.programs.specs.Failures.{failure_text};
+
+    ghost output = { λ failure. Some (failure_text failure) };
+
+    fn fmt<W: fmt::Write>(&self, f: &mut fmt::Formatter<W>) -> fmt::Result {
+        match self {
+            Failure::Usage => f.write_str(
+                "usage: acfind find KIND [-i] PATTERN.. | overlap PATTERN.. | replace P R ..",
+            ),
+            Failure::Build(error) => write!(f, "{error}"),
+            Failure::Search(error) => write!(f, "{error}"),
+            Failure::OutOfMemory => f.write_str("out of memory"),
+            Failure::PositionLimit => f.write_str("position limit reached"),
+            Failure::Read => f.write_str("read fault"),
+            Failure::Write => f.write_str("write fault"),
+            Failure::WriteZero => f.write_str("write took no bytes"),
+        }
+    }
+}

@@ -1,0 +1,102 @@
+//! What `acfind replace` does: replacement from a reader to a writer, through a buffer of fixed length.
+
+ghost use Rattle.std.specs.Prelude.{◌≡◌, ◌%◌, ◌⊎◌, ⊤, true, IfOk, IfErr, OnOk, length};
+ghost use Rattle.aho_base.specs.Patterns.{Patterns};
+ghost use Rattle.aho_base.specs.Replacement.{pieces_of};
+ghost use Rattle.programs.specs.Answers.{LeavesReplacement, WritesReplacement};
+ghost use Rattle.programs.specs.Arguments.{texts};
+ghost use Rattle.programs.specs.Asked.{BuildsReplacing, Replacing, at_even, at_odd, patterns_to_replace, replacing_for};
+ghost use Rattle.programs.specs.Failures.{LeavesReplacing};
+ghost use Rattle.programs.specs.Streams.{contents, Unread};
+
+use crate::failure::Failure;
+use crate::print::flush;
+use aho_corasick::noncontiguous::NFA;
+use aho_devices::adapters::{FromRead, FromWrite};
+use aho_search::automaton::Automaton;
+use aho_stream::replace::try_stream_replace_all;
+use std::alloc::{AllocError, Global};
+use std::io::{Read, Write};
+
+/// Patterns, and for each the piece that is written in the place of its matches.
+#[derive(Drop)]
+struct Pairs<'w> {
+    patterns: Vec<&'w [u8]>,
+    pieces: Vec<&'w [u8]>,
+}
+
+/// Writes the input to the output with a piece in the place of each match, and flushes. Each of the patterns is followed by
+/// its piece. It takes all memory before it reads, and where it fails then, a beginning may have been written.
+pub fn replace<R: Read, W: Write>(
+    alloc: Global,
+    arguments: &[String],
+    input: &mut FromRead<R>,
+    output: &mut FromWrite<W>,
+) -> Result<(), Failure>
+    requires even { length arguments.now % 2 ≡ 0 }
+
+    // The automaton is built before anything is read.
+    ensures built_first { Unread input.old input.new
+        ⊎ BuildsReplacing (replacing_for (texts arguments.now)) }
+    ensures replaces { OnOk result (WritesReplacement
+        (contents W.Write input.old input.new output.old output.new)
+        (replacing_for (texts arguments.now))) }
+    ensures flushed { OnOk result (output.new.device.flushed ≡ true) }
+    ensures leaves { IfErr result (LeavesReplacement W.Write
+        (replacing_for (texts arguments.now)) input.old input.new output.old output.new) }
+{
+    let pairs = split(alloc, arguments)?;
+    let automaton = build(alloc, pairs.patterns.as_slice())?;
+    replace_all(alloc, &automaton, pairs.pieces.as_slice(), input, output)?;
+    flush(output)
+}
+
+/// The arguments at even places are patterns, and those at odd places their pieces.
+fn split<'w>(alloc: Global, arguments: &'w [String]) -> Result<Pairs<'w>, AllocError>
+    requires even { length arguments.now % 2 ≡ 0 }
+    ensures patterns { IfOk result (λ pairs.
+        pieces_of pairs.patterns.items ≡ at_even (texts arguments.now)) }
+    ensures pieces { IfOk result (λ pairs.
+        pieces_of pairs.pieces.items ≡ at_odd (texts arguments.now)) }
+{
+    let mut patterns = Vec::new(alloc);
+    let mut pieces = Vec::new(alloc);
+    let mut rest = arguments;
+    while rest.len() >= 2 {
+        patterns.push(rest[0].as_bytes())?;
+        pieces.push(rest[1].as_bytes())?;
+        rest = &rest[2..];
+    }
+    Ok(Pairs { patterns, pieces })
+}
+
+/// The automaton of the patterns.
+fn build(alloc: Global, patterns: &[&[u8]]) -> Result<NFA, Failure>
+    ensures of { (asked : Replacing) → asked.words ≡ pieces_of patterns.now → IfOk result
+        (λ automaton. ⟦<NFA as Automaton>⟧.is_of automaton (patterns_to_replace asked)) }
+    ensures leaves { IfErr result (LeavesReplacing ⊤ ⊥ ⊥) }
+    ensures accepted { (asked : Replacing) → asked.words ≡ pieces_of patterns.now
+        → OnOk result (BuildsReplacing asked) }
+{
+    Ok(NFA::new(alloc, patterns.iter().copied())?)
+}
+
+/// Writes the input to the output with a piece in the place of each match.
+fn replace_all<A: Automaton, R: Read, W: Write>(
+    alloc: Global,
+    automaton: &A,
+    pieces: &[&[u8]],
+    input: &mut FromRead<R>,
+    output: &mut FromWrite<W>,
+) -> Result<(), Failure>
+    requires of { (p : Patterns) × A.is_of automaton.now p × (length p.words ≡ length pieces.now) }
+    ensures replaces { (asked : Replacing) → asked.pieces ≡ pieces_of pieces.now
+        → A.is_of automaton.now (patterns_to_replace asked) → OnOk result
+        (WritesReplacement (contents W.Write input.old input.new output.old output.new) asked) }
+    ensures leaves { (asked : Replacing) → asked.pieces ≡ pieces_of pieces.now
+        → A.is_of automaton.now (patterns_to_replace asked)
+        → IfErr result (LeavesReplacement W.Write asked input.old input.new output.old output.new) }
+{
+    input.restart();
+    Ok(try_stream_replace_all(alloc, automaton, input, output, pieces)?)
+}

@@ -1,0 +1,293 @@
+//! A call of `acfind` over its arguments and streams. Both programs take the build and the report of a failure from here.
+
+ghost use Rattle.std.specs.Prelude.{IsOk, true, ◌≡◌, ◌<◌, ◌≤◌, ◌⊎◌, ⊤, IfOk, IfErr, OnOk};
+ghost use Rattle.std.specs.Io.KnownBytes.{Consumes, IsAtEnd};
+ghost use Rattle.aho_base.specs.Patterns.{Patterns};
+ghost use Rattle.aho_base.specs.declared.search.Anchored.TheVariants.{No};
+ghost use Rattle.aho_base.specs.declared.search.MatchKind.TheVariants.{Standard};
+ghost use Rattle.programs.specs.Answers.{AreFindsIn, AreMatches, BeginsLine, BeginsMatches, Begun, LeavesMatches, LeavesReplacement, Prints, PrintsAll, PrintsIfDone, PrintsMatches, TellsFailure, WritesIfDone, WritesReplacement, status_of};
+ghost use Rattle.programs.specs.Arguments.{AreWrong, AskForNone, IfAsked, IfReplacing};
+ghost use Rattle.programs.specs.Asked.{Builds, BuildsReplacing, asked_for, asked_patterns, kind_of, settings_for};
+ghost use Rattle.programs.specs.Failures.{status_of_failure, line_of_failure, IsOfWrite, LeavesPrinting};
+ghost use Rattle.programs.specs.Streams.{bytes_left, contents, Unread, Unwritten, WritesBytes};
+ghost use Rattle.programs.specs.declared.command.Task.TheVariants.{Overlap};
+ghost use Rattle.programs.specs.declared.failure.Failure.TheVariants.{Usage};
+
+use crate::command::{Request, Task, parse, parse_replace};
+use crate::failure::Failure;
+use crate::print::{print, write_whole};
+use crate::replace::replace;
+use aho_base::search::Input;
+use aho_corasick::noncontiguous::{Builder, NFA};
+use aho_devices::adapters::{FromRead, FromWrite};
+use aho_devices::device::Source;
+use aho_search::automaton::Automaton;
+use std::alloc::Global;
+use std::io::{Read, Write};
+
+/// How many bytes are asked of the input at once.
+const PIECE: usize = 16 * 1024;
+
+/// Does what the arguments after the program's name ask for, and answers the exit status: 0 where matches were printed or
+/// the input was replaced to its end, 1 where there is no match to print, 2 where the arguments are wrong, the automaton,
+/// the search or the replacement is refused or memory runs out, and 3 where a device fails.
+///
+/// The automaton is built before the input is read. The input is read whole before a match is printed; a replacement is
+/// written while it is read, in memory that does not grow with it. Where the status is 0 or 1, all output was flushed.
+/// Where it is 2 or 3, `errors` gets a line that says why; where that line cannot be written, the status is the same.
+pub fn run<R: Read, W: Write, E: Write>(
+    alloc: Global,
+    arguments: &[String],
+    input: &mut FromRead<R>,
+    output: &mut FromWrite<W>,
+    errors: &mut FromWrite<E>,
+) -> u8
+    // Wrong arguments are found first, and told.
+    ensures usage { AreWrong arguments.now → result ≡ 2 }
+    ensures unread { AreWrong arguments.now → Unread input.old input.new }
+    ensures unwritten { AreWrong arguments.now → Unwritten output.old output.new }
+    ensures tells_usage { AreWrong arguments.now → BeginsLine E.Write errors.old errors.new Usage }
+
+    // For right arguments the automaton is built before anything is read.
+    ensures built_first { IfAsked arguments.now (λ asked.
+        Unread input.old input.new ⊎ Builds asked) }
+    ensures built_to_replace { IfReplacing arguments.now (λ asked.
+        Unread input.old input.new ⊎ BuildsReplacing asked) }
+
+    // All matches are printed, and told by the status.
+    ensures prints { IfAsked arguments.now
+        (PrintsIfDone (contents W.Write input.old input.new output.old output.new) result) }
+    // Or the input is written with its matches replaced, all of it.
+    ensures replaces { IfReplacing arguments.now
+        (WritesIfDone (contents W.Write input.old input.new output.old output.new) result) }
+    ensures no_status_1 { IfReplacing arguments.now (λ _. result < 2 → result ≡ 0) }
+    ensures flushed { result < 2 → output.new.device.flushed ≡ true }
+    ensures quiet { result < 2 → errors.new ≡ errors.old }
+
+    // Any other status is that of a failure, which is told.
+    ensures bound { result ≤ 3 }
+    ensures refused { IfAsked arguments.now (λ _.
+        result ≡ 2 → Unwritten output.old output.new) }
+    ensures tells_failure { 2 ≤ result → IfAsked arguments.now (λ asked.
+        TellsFailure E.Write errors.old errors.new result
+        (LeavesMatches W.Write asked input.old input.new output.old output.new)) }
+    ensures begins { IfAsked arguments.now (λ asked. Unwritten output.old output.new
+        ⊎ BeginsMatches (contents W.Write input.old input.new output.old output.new) asked) }
+    ensures tells_replace_failure { 2 ≤ result → IfReplacing arguments.now (λ asked.
+        TellsFailure E.Write errors.old errors.new result
+        (LeavesReplacement W.Write asked input.old input.new output.old output.new)) }
+{
+    match answer(alloc, arguments, input, output) {
+        Ok(true) => 0,
+        Ok(false) => 1,
+        Err(failure) => report(&failure, errors),
+    }
+}
+
+/// Writes why a call answers nothing as a line, and answers the exit status, whether that could be written or not.
+pub fn report<E: Write>(failure: &Failure, errors: &mut FromWrite<E>) -> u8
+    ensures status { result ≡ status_of_failure failure.now }
+    ensures begun { BeginsLine E.Write errors.old errors.new failure.now }
+{
+    let _ = write_failure(failure, errors);
+    failure.status()
+}
+
+/// Writes why a call answers nothing as a line.
+fn write_failure<E: Write>(failure: &Failure, errors: &mut FromWrite<E>) -> Result<(), Failure>
+    ensures written { OnOk result
+        (WritesBytes E.Write errors.old errors.new (line_of_failure failure.now)) }
+    ensures begun { BeginsLine E.Write errors.old errors.new failure.now }
+{
+    // Each line has room: one that had none would not be written.
+    match failure.line() {
+        Ok(line) => write_whole(errors, line.as_str().as_bytes()),
+        Err(_) => Err(Failure::Write),
+    }
+}
+
+/// Does what the arguments ask for. Where they ask for matches, it answers whether there was one.
+fn answer<R: Read, W: Write>(
+    alloc: Global,
+    arguments: &[String],
+    input: &mut FromRead<R>,
+    output: &mut FromWrite<W>,
+) -> Result<bool, Failure>
+    ensures usage { AreWrong arguments.now → result ≡ Err Usage }
+    ensures unread { AreWrong arguments.now → Unread input.old input.new }
+    ensures unwritten { AreWrong arguments.now → Unwritten output.old output.new }
+    ensures built_first { IfAsked arguments.now (λ asked.
+        Unread input.old input.new ⊎ Builds asked) }
+    ensures built_to_replace { IfReplacing arguments.now (λ asked.
+        Unread input.old input.new ⊎ BuildsReplacing asked) }
+    ensures prints { IfOk result (λ any. IfAsked arguments.now
+        (PrintsMatches (contents W.Write input.old input.new output.old output.new) (status_of any))) }
+    ensures replaces { OnOk result (IfReplacing arguments.now
+        (WritesReplacement (contents W.Write input.old input.new output.old output.new))) }
+    ensures replaced { IfReplacing arguments.now (λ _. IfOk result (λ any. any ≡ true)) }
+    ensures flushed { OnOk result (output.new.device.flushed ≡ true) }
+    ensures leaves { IfAsked arguments.now (λ asked. IfErr result
+        (LeavesMatches W.Write asked input.old input.new output.old output.new)) }
+    ensures leaves_replacing { IfReplacing arguments.now (λ asked. IfErr result
+        (LeavesReplacement W.Write asked input.old input.new output.old output.new)) }
+{
+    match parse_replace(arguments) {
+        Some(pairs) => {
+            replace(alloc, pairs, input, output)?;
+            Ok(true)
+        }
+        None => answer_matches(alloc, arguments, input, output),
+    }
+}
+
+/// Prints the matches in the input that the arguments ask for, and answers whether there was one.
+fn answer_matches<R: Read, W: Write>(
+    alloc: Global,
+    arguments: &[String],
+    input: &mut FromRead<R>,
+    output: &mut FromWrite<W>,
+) -> Result<bool, Failure>
+    ensures usage { AskForNone arguments.now → result ≡ Err Usage }
+    ensures unread { AskForNone arguments.now
+        → Unread input.old input.new }
+    ensures unwritten { AskForNone arguments.now
+        → Unwritten output.old output.new }
+    ensures built_first { IfAsked arguments.now (λ asked.
+        Unread input.old input.new ⊎ Builds asked) }
+    ensures prints { IfOk result (λ any. IfAsked arguments.now
+        (PrintsMatches (contents W.Write input.old input.new output.old output.new) (status_of any))) }
+    ensures flushed { OnOk result (output.new.device.flushed ≡ true) }
+    ensures leaves { IfAsked arguments.now (λ asked. IfErr result
+        (LeavesMatches W.Write asked input.old input.new output.old output.new)) }
+{
+    match parse(arguments) {
+        Some(request) => search_input(alloc, &request, input, output),
+        None => Err(Failure::Usage),
+    }
+}
+
+/// Prints the matches in the input that a request asks for, and answers whether there was one.
+fn search_input<R: Read, W: Write>(
+    alloc: Global,
+    request: &Request<'_>,
+    input: &mut FromRead<R>,
+    output: &mut FromWrite<W>,
+) -> Result<bool, Failure>
+    ensures built_first { Unread input.old input.new ⊎ Builds (asked_for request.now) }
+    ensures prints { IfOk result (λ any. PrintsMatches
+        (contents W.Write input.old input.new output.old output.new) (status_of any) (asked_for request.now)) }
+    ensures flushed { OnOk result (output.new.device.flushed ≡ true) }
+    ensures leaves { IfErr result
+        (LeavesMatches W.Write (asked_for request.now) input.old input.new output.old output.new) }
+{
+    let automaton = build(alloc, request)?;
+    let text = read(alloc, input)?;
+    print_matches(&automaton, request.task, text.as_slice(), output)
+}
+
+/// The automaton of the patterns that a request asks for, or why it is refused.
+pub fn build(alloc: Global, request: &Request<'_>) -> Result<NFA, Failure>
+    ensures of { IfOk result (λ automaton.
+        ⟦<NFA as Automaton>⟧.is_of automaton (asked_patterns (asked_for request.now))) }
+    ensures leaves { IfErr result (LeavesPrinting ⊤ ⊤ ⊥) }
+    ensures accepted { OnOk result (Builds (asked_for request.now)) }
+{
+    let patterns = request.patterns.iter().map(|pattern| pattern.as_bytes());
+    Ok(builder(request.task).build(alloc, patterns)?)
+}
+
+/// How the automaton is built.
+fn builder(task: Task) -> Builder
+    ensures settings { result ≡ settings_for task }
+{
+    let mut builder = NFA::builder();
+    builder
+        .match_kind(task.kind())
+        .ascii_case_insensitive(task.ignore_case());
+    builder
+}
+
+/// All of the input. A failed read is not tried again.
+fn read<R: Read>(alloc: Global, input: &mut FromRead<R>) -> Result<Vec<u8>, Failure>
+    ensures read { IfOk result (λ text.
+        Consumes (bytes_left input.old) (bytes_left input.new) text.items) }
+    ensures ended { OnOk result (IsAtEnd (bytes_left input.new)) }
+    ensures leaves { IfErr result (LeavesPrinting ⊥ ⊤ ⊥) }
+{
+    input.restart();
+    let mut text = Vec::new(alloc);
+    let mut piece = [0; PIECE];
+    // Nothing says that an input ends, so the turns are counted.
+    for _ in 0..u64::MAX {
+        match input.read(&mut piece) {
+            Ok(0) => return Ok(text),
+            Ok(count) => text.extend_from_slice(&piece[..count])?,
+            Err(_) => return Err(Failure::Read),
+        }
+    }
+    Err(Failure::Read)
+}
+
+/// Prints the matches of a text that a task asks for, and answers whether there was one.
+///
+/// The automaton has the task's match kind, and refuses no search that is not anchored.
+fn print_matches<A: Automaton, W: Write>(
+    automaton: &A,
+    task: Task,
+    text: &[u8],
+    output: &mut FromWrite<W>,
+) -> Result<bool, Failure>
+    requires of { (p : Patterns) × A.is_of automaton.now p }
+    requires starts { IsOk (A.start automaton.now No) }
+    requires kind { A.kind automaton.now ≡ kind_of task }
+    ensures printed { (p : Patterns) → A.is_of automaton.now p → IfOk result
+        (PrintsAll W.Write task p text.now output.old output.new) }
+    ensures begun { (p : Patterns) → A.is_of automaton.now p →
+        Begun W.Write (AreMatches task p text.now) output.old output.new }
+    ensures flushed { OnOk result (output.new.device.flushed ≡ true) }
+    ensures of_write { IfErr result IsOfWrite }
+{
+    match task {
+        Task::Find { .. } => print_finds(automaton, text, output),
+        Task::Overlap => print_occurrences(automaton, text, output),
+    }
+}
+
+/// Prints the matches of a text one after another, and answers whether there was one.
+fn print_finds<A: Automaton, W: Write>(
+    automaton: &A,
+    text: &[u8],
+    output: &mut FromWrite<W>,
+) -> Result<bool, Failure>
+    requires of { (p : Patterns) × A.is_of automaton.now p }
+    requires starts { IsOk (A.start automaton.now No) }
+    ensures printed { (p : Patterns) → A.is_of automaton.now p → IfOk result (Prints W.Write (AreFindsIn p text.now) output.old output.new) }
+    ensures begun { (p : Patterns) → A.is_of automaton.now p → Begun W.Write
+        (AreFindsIn p text.now) output.old output.new }
+    ensures flushed { OnOk result (output.new.device.flushed ≡ true) }
+    ensures of_write { IfErr result IsOfWrite }
+{
+    print(output, automaton.try_find_iter(Input::new(text))?)
+}
+
+/// Prints all that occurs in a text, and answers whether something does.
+fn print_occurrences<A: Automaton, W: Write>(
+    automaton: &A,
+    text: &[u8],
+    output: &mut FromWrite<W>,
+) -> Result<bool, Failure>
+    requires of { (p : Patterns) × A.is_of automaton.now p }
+    requires starts { IsOk (A.start automaton.now No) }
+    requires standard { A.kind automaton.now ≡ Standard }
+    ensures printed { (p : Patterns) → A.is_of automaton.now p → IfOk result
+        (PrintsAll W.Write Overlap p text.now output.old output.new) }
+    ensures begun { (p : Patterns) → A.is_of automaton.now p →
+        Begun W.Write (AreMatches Overlap p text.now) output.old output.new }
+    ensures flushed { OnOk result (output.new.device.flushed ≡ true) }
+    ensures of_write { IfErr result IsOfWrite }
+{
+    print(
+        output,
+        automaton.try_find_overlapping_iter(Input::new(text))?,
+    )
+}
