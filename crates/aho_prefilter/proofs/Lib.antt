@@ -10,3 +10,5 @@ pub mod Held
 pub mod Skips
 -- the first bytes, said literally
 pub mod Literally
+-- vectors, lane by lane
+mod Lanes

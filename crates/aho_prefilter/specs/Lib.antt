@@ -10,3 +10,5 @@ pub mod Finding
 pub mod Inside
 -- what was added to a builder
 pub mod Taken
+-- what a packed search looks for, and where it stops
+pub mod Packed

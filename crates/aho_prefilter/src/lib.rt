@@ -3,5 +3,6 @@
 
 pub mod impls;
 pub mod laws;
+pub mod packed;
 pub mod prefilter;
 pub mod text;
