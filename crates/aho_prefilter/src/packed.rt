@@ -28,14 +28,14 @@ use std::simd::prelude::*;
 const LANES: usize = 16;
 
 /// The masks of one byte of the fingerprints: for each half of a byte the groups that it meets, a bit for each.
-#[derive(Clone, Copy)]
+#[derive(Drop)]
 pub struct Masks {
     low: [u8; 16],
     high: [u8; 16],
 }
 
 /// The masks of the first three bytes of patterns in eight groups.
-#[derive(Clone, Copy)]
+#[derive(Drop)]
 pub struct Packed {
     first: Masks,
     second: Masks,
@@ -196,7 +196,7 @@ impl Packed {
         None
     }
 
-    /// The first place of these bytes that meets some group.
+    /// The first place of these bytes that meets some group: a place where a match may start. It takes no memory.
     #[inline(never)]
     pub fn find(&self, bytes: &[u8]) -> Option<usize>
         ensures first { IsFirstMet self.now bytes.now result }
