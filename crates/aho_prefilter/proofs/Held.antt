@@ -68,7 +68,7 @@ first_bytes-has p k byte below has =
     (flat_map-has (begins_by p.ignore_case) p.words k byte below has)
 
 -- what is the same as a byte is the byte or its other case
-opposite-same : (x byte : ℕ) → (x ≡ byte → ⊥) → folded_by true x ≡ folded_by true byte → opposite x ≡ byte
+pub opposite-same : (x byte : ℕ) → (x ≡ byte → ⊥) → folded_by true x ≡ folded_by true byte → opposite x ≡ byte
 opposite-same x byte other same = grind (arith, nat_tests)
 
 pub cases_of-has : (ignore_case : Bool) (x byte : ℕ) → folded_by ignore_case x ≡ folded_by ignore_case byte → Contains (cases_of ignore_case x) byte

@@ -12,3 +12,5 @@ pub mod Skips
 pub mod Literally
 -- vectors, lane by lane
 mod Lanes
+-- what the packed search passes over
+pub mod PackedSound
