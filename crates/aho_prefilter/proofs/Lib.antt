@@ -12,5 +12,7 @@ pub mod Skips
 pub mod Literally
 -- vectors, lane by lane
 mod Lanes
--- what the packed search passes over
+-- words that were added to a packed search meet its masks where they stand
 pub mod PackedSound
+-- what the packed search for the patterns finds
+pub mod PackedFinds

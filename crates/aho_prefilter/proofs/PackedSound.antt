@@ -1,6 +1,6 @@
 -- A word that was added to a packed search meets the masks of its group wherever it stands.
-use Rattle.std.proofs.Common.{◌≡◌, ◌≢◌, ℕ, ◌+◌, ◌/◌, ◌%◌, ◌<◌, zero, suc, inl, inr, Bool, true, false, cond, map, set, List, [], ◌∷◌, length, get_or, refl, sym, ap, subst, ◌∙◌, arith}
-use Rattle.std.specs.Prelude.{bit_and, bit_or, nat_lt}
+use Rattle.std.proofs.Common.{◌≡◌, ◌≢◌, ℕ, ◌+◌, ◌/◌, ◌%◌, ◌<◌, ◌≤◌, zero, suc, inl, inr, Bool, true, false, cond, map, set, List, [], ◌∷◌, length, get_or, refl, sym, ap, subst, ◌∙◌, arith}
+use Rattle.std.specs.Prelude.{None, Some, bit_and, bit_or, nat_lt}
 use Rattle.std.specs.Int.{bit_at}
 use Rattle.std.specs.List.{fold}
 use Rattle.std.proofs.lemmas.Bool.{cases_eq, cases_lt}
@@ -10,7 +10,7 @@ use Rattle.std.proofs.lemmas.List.{get_or-map, get_or-set_other, length-map, len
 use Rattle.std.proofs.Math.ListN.{get_or-eq_default}
 use Rattle.std.proofs.lemmas.Nat.Bits.{bit_at_and, bit_at_or, bit_at-lt, bit_at-pow_same, bit_at-zero}
 use Rattle.aho_base.specs.Bytes.{folded_by, opposite}
-use Rattle.aho_prefilter.specs.Packed.{MeetsAt, group_of, groups_at, groups_of, masks_with, masks_with_all, masks_with_cases, masks_with_place, packed_with}
+use Rattle.aho_prefilter.specs.Packed.{IsFirstMet, MeetsAt, group_of, groups_at, groups_of, masks_with, masks_with_all, masks_with_cases, masks_with_place, no_masks, packed_with}
 use Rattle.aho_prefilter.specs.declared.packed.Masks.{Masks}
 use Rattle.aho_prefilter.specs.declared.packed.Packed.{Packed}
 use Rattle.aho_prefilter.proofs.Held.{opposite-same}
@@ -255,3 +255,31 @@ module _ (bytes : List ℕ) (at : ℕ) where
           (MeetsAll-more words (packed_with ignore_case packed word) (get_or word 0 0 % 8) (MeetsAll-with packed word whole stands))
       MeetsAt-added (word ∷ words) packed (suc k) whole below stands =
           MeetsAt-added words (packed_with ignore_case packed word) k (IsWhole-with ignore_case packed word whole) (omega arith) stands
+
+-- the search for these words, which are added one after another
+abbrev pub packed_of : Bool → List (List ℕ) → Packed
+packed_of ignore_case words = fold (packed_with ignore_case) (record { first = no_masks; second = no_masks; third = no_masks }) words
+
+IsLong-none : IsLong no_masks
+IsLong-none = record { low = refl; high = refl }
+
+module _ (ignore_case : Bool) (words : List (List ℕ)) (bytes : List ℕ) (small : (k : ℕ) → get_or bytes k 0 < 256) where
+  -- a place where one of the words stands meets the masks of some group
+  pub MeetsAt-packed : (k at : ℕ) → k < length words → StandsAt ignore_case (get_or words k []) bytes at → MeetsAt (packed_of ignore_case words) bytes at
+  MeetsAt-packed k at below stands =
+      MeetsAt-added bytes at ignore_case small words (record { first = no_masks; second = no_masks; third = no_masks }) k
+      (record { first = IsLong-none; second = IsLong-none; third = IsLong-none }) below stands
+
+  -- the place that is found is not behind a place where one of the words stands
+  pub found_before : (place k at : ℕ) → IsFirstMet (packed_of ignore_case words) bytes (Some place) → k < length words → at < length bytes
+      → StandsAt ignore_case (get_or words k []) bytes at → place ≤ at
+  found_before place k at found below within stands =
+      elim (cases_lt at place) [
+        | inl sooner ↦ absurd (found.0.before at (omega arith) sooner (MeetsAt-packed k at below stands))
+        | inr late ↦ late
+      ]
+
+  -- where no place is found none of the words stands
+  pub none_stands : (k at : ℕ) → IsFirstMet (packed_of ignore_case words) bytes None → k < length words → at < length bytes
+      → StandsAt ignore_case (get_or words k []) bytes at → ⊥
+  none_stands k at none below within stands = none at (omega arith) within (MeetsAt-packed k at below stands)

@@ -15,7 +15,7 @@ use Rattle.aho_prefilter.specs.Prefilter.{AllBeginWithin, IsOnlyPattern}
 pub length_part : (haystack : List ℕ) (start end : ℕ) → end ≤ length haystack → length (slice_range haystack start end) ≡ end - start
 length_part haystack start end within = simp (length-take, length-drop) (omega arith)
 
-part-reads : (haystack : List ℕ) (start end k : ℕ) → k < end - start → slice_index (slice_range haystack start end) k ≡ slice_index haystack (start + k)
+pub part-reads : (haystack : List ℕ) (start end k : ℕ) → k < end - start → slice_index (slice_range haystack start end) k ≡ slice_index haystack (start + k)
 part-reads haystack start end k below = rw (get_or-take, get_or-drop) refl
 
 module _ (p : Patterns) where
