@@ -4,7 +4,7 @@ use Rattle.std.proofs.lemmas.Grind.{flat_map-append}
 use Rattle.std.proofs.lemmas.List.{append_assoc, append-nil}
 use Rattle.std.proofs.lemmas.List.FromFn.{map-range_with_len_more}
 use Rattle.acdraw.specs.declared.picture.runs.Run.{Run}
-use Rattle.acdraw.specs.Runs.{AreApart, GoesOn, all_pairs, pairs_of}
+use Rattle.acdraw.specs.Runs.{AreApart, Adjoins, all_pairs, pairs_of}
 
 -- the pairs of a last run stand last
 last : (runs : List Run) (run : Run) → all_pairs (runs ++ run ∷ []) ≡ all_pairs runs ++ pairs_of run
@@ -32,7 +32,7 @@ apart_longer (before ∷ []) run new first next apart = (λ goes_on. apart.0 (go
 apart_longer (before ∷ other ∷ runs) run new first next apart = (apart.0, apart_longer (other ∷ runs) run new first next apart.1)
 
 -- or another one begins behind it
-pub apart_more : (runs : List Run) (run new : Run) → (GoesOn run new → ⊥) → AreApart (runs ++ run ∷ []) → AreApart ((runs ++ run ∷ []) ++ new ∷ [])
+pub apart_more : (runs : List Run) (run new : Run) → (Adjoins run new → ⊥) → AreApart (runs ++ run ∷ []) → AreApart ((runs ++ run ∷ []) ++ new ∷ [])
 apart_more [] run new other apart = (other, tt)
 apart_more (before ∷ []) run new other apart = (apart.0, (other, tt))
 apart_more (before ∷ next ∷ runs) run new other apart = (apart.0, apart_more (next ∷ runs) run new other apart.1)

@@ -14,12 +14,12 @@ use Rattle.programs.specs.declared.failure.Failure.{Failure}
 -- [-u] KIND [-i] PATTERN..: the automaton that is drawn
 abbrev pub drawing_by : List (List ℕ) → Option Asked
 drawing_by [] = None
-drawing_by (word ∷ words) = if bytes_eq word (codes "-u") then find_by words else find_by (word ∷ words)
+drawing_by (first ∷ rest) = if bytes_eq first (codes "-u") then find_by rest else find_by (first ∷ rest)
 
 -- its anchored start is drawn, where the first argument is not `-u`
 abbrev pub draws_anchored : List (List ℕ) → Bool
 draws_anchored [] = true
-draws_anchored (word ∷ words) = not (bytes_eq word (codes "-u"))
+draws_anchored (first ∷ rest) = not (bytes_eq first (codes "-u"))
 
 -- the line that tells of wrong arguments
 abbrev pub usage_line : List ℕ

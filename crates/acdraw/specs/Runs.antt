@@ -12,11 +12,11 @@ abbrev pub all_pairs : List Run → List (ℕ × ℕ)
 all_pairs runs = flat_map pairs_of runs
 
 -- the second run begins where the first one ends, and leads to the same state: they could be one
-abbrev pub GoesOn : Run → Run → Type 0
-GoesOn run after = (run.first + run.more + 1 ≡ after.first) × (run.next ≡ after.next)
+abbrev pub Adjoins : Run → Run → Type 0
+Adjoins run after = (run.first + run.more + 1 ≡ after.first) × (run.next ≡ after.next)
 
 -- no run goes on in the one behind it
 abbrev pub AreApart : List Run → Type 0
 AreApart [] = Unit {0}
 AreApart (run ∷ []) = Unit {0}
-AreApart (run ∷ after ∷ runs) = (GoesOn run after → ⊥) × AreApart (after ∷ runs)
+AreApart (run ∷ after ∷ runs) = (Adjoins run after → ⊥) × AreApart (after ∷ runs)

@@ -10,7 +10,7 @@ ghost use Rattle.acdraw.specs.Calls.{IsWhole};
 use crate::picture::arrows::Arrow;
 use crate::picture::runs::Run;
 use crate::picture::{Node, Picture};
-use crate::text::Text;
+use crate::text::DotText;
 use aho_base::search::StateID;
 use aho_corasick::links::DEAD;
 use std::alloc::{AllocError, Global};
@@ -19,7 +19,7 @@ use std::alloc::{AllocError, Global};
 pub fn dot_of(alloc: Global, picture: &Picture) -> Result<Vec<u8>, AllocError>
     ensures whole { IfOk result (λ text. IsWhole text.items) }
 {
-    let mut text = Text::new(alloc);
+    let mut text = DotText::new(alloc);
     text.put("digraph automaton {\n    rankdir=LR;\n")?;
     text.put("    node [shape=circle];\n    edge [fontsize=11];\n")?;
     for node in &picture.nodes {
@@ -33,7 +33,7 @@ pub fn dot_of(alloc: Global, picture: &Picture) -> Result<Vec<u8>, AllocError>
 }
 
 /// A state with its name and the patterns that it lists.
-fn put_node(text: &mut Text, picture: &Picture, node: &Node) -> Result<(), AllocError> {
+fn put_node(text: &mut DotText, picture: &Picture, node: &Node) -> Result<(), AllocError> {
     text.put("    ")?;
     text.put_number(node.sid.as_usize())?;
     text.put(" [label=\"")?;
@@ -45,7 +45,7 @@ fn put_node(text: &mut Text, picture: &Picture, node: &Node) -> Result<(), Alloc
 }
 
 /// What a state is called: its word, where it is no start and not DEAD.
-fn put_name(text: &mut Text, picture: &Picture, node: &Node) -> Result<(), AllocError> {
+fn put_name(text: &mut DotText, picture: &Picture, node: &Node) -> Result<(), AllocError> {
     if node.sid == DEAD {
         text.put("DEAD")
     } else if node.sid == picture.unanchored_start {
@@ -58,7 +58,7 @@ fn put_name(text: &mut Text, picture: &Picture, node: &Node) -> Result<(), Alloc
 }
 
 /// The patterns that a state lists, on a line of their own.
-fn put_listed(text: &mut Text, node: &Node) -> Result<(), AllocError> {
+fn put_listed(text: &mut DotText, node: &Node) -> Result<(), AllocError> {
     let mut between = "\\n";
     for pattern in &node.listed {
         text.put(between)?;
@@ -82,7 +82,7 @@ fn shape_of(picture: &Picture, node: &Node) -> &'static str {
 }
 
 /// The arrows from a state, its link among them.
-fn put_arrows(text: &mut Text, node: &Node) -> Result<(), AllocError> {
+fn put_arrows(text: &mut DotText, node: &Node) -> Result<(), AllocError> {
     for arrow in &node.arrows {
         put_labelled(text, node.sid, arrow)?;
     }
@@ -95,7 +95,7 @@ fn put_arrows(text: &mut Text, node: &Node) -> Result<(), AllocError> {
 }
 
 /// An arrow with its runs of bytes, each on a line of its own.
-fn put_labelled(text: &mut Text, sid: StateID, arrow: &Arrow) -> Result<(), AllocError> {
+fn put_labelled(text: &mut DotText, sid: StateID, arrow: &Arrow) -> Result<(), AllocError> {
     put_arrow(text, sid, arrow.next)?;
     text.put(" [label=\"")?;
     let mut between = "";
@@ -108,7 +108,7 @@ fn put_labelled(text: &mut Text, sid: StateID, arrow: &Arrow) -> Result<(), Allo
 }
 
 /// A run of bytes: its byte, or its first and its last.
-fn put_run(text: &mut Text, run: &Run) -> Result<(), AllocError> {
+fn put_run(text: &mut DotText, run: &Run) -> Result<(), AllocError> {
     text.put_byte(run.first)?;
     if run.more > 0 {
         text.put("-")?;
@@ -118,7 +118,7 @@ fn put_run(text: &mut Text, run: &Run) -> Result<(), AllocError> {
 }
 
 /// An arrow from a state to another, without its label.
-fn put_arrow(text: &mut Text, from: StateID, to: StateID) -> Result<(), AllocError> {
+fn put_arrow(text: &mut DotText, from: StateID, to: StateID) -> Result<(), AllocError> {
     text.put("    ")?;
     text.put_number(from.as_usize())?;
     text.put(" -> ")?;

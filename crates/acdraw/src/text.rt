@@ -7,14 +7,14 @@ use std::alloc::{AllocError, Global};
 
 /// Text that grows at its end.
 #[derive(Drop)]
-pub struct Text {
+pub struct DotText {
     bytes: Vec<u8>,
 }
 
-impl Text {
+impl DotText {
     /// No text.
-    pub fn new(alloc: Global) -> Text {
-        Text {
+    pub fn new(alloc: Global) -> DotText {
+        DotText {
             bytes: Vec::new(alloc),
         }
     }

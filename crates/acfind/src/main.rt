@@ -3,28 +3,26 @@
 //! prints all that occur, those that overlap too. `acfind replace P R ..` prints the input with R in the place of each
 //! match of P.
 //!
-//! `-i` is the case rule in the place after KIND alone. Anywhere else it is a pattern of two bytes, as any word is that
+//! `-i` is the case rule in the place after KIND alone. Anywhere else it is a pattern of two bytes, as any argument is that
 //! begins with '-': there is no flag after `overlap` and after `replace`.
 //!
 //! The status is 0 where there is a match and 1 where there is none. It is 2 where nothing is searched and 3 where reading
 //! or writing fails, and then a line on standard error says why.
 #![tactic(auto)]
 
-ghost use Rattle.std.specs.Prelude.{◌≡◌, ◌<◌, ◌≤◌, IfOk, IfErr, OnErr, true, false, is_some};
+ghost use Rattle.std.specs.Prelude.{◌≡◌, ◌<◌, ◌≤◌, IfErr, OnErr, true};
 ghost use Rattle.std.specs.Process.{exit_status};
 ghost use Rattle.programs.specs.Answers.{BeginsLine, PrintsIfDone, WritesIfDone};
-ghost use Rattle.programs.specs.Arguments.{IfGivenAsked, IfGivenReplacing, IfGivenWrong, replacing_by, texts};
+ghost use Rattle.programs.specs.Arguments.{IfGivenAsked, IfGivenReplacing, IfGivenWrong};
 ghost use Rattle.programs.specs.Failures.{HasStatus};
 ghost use Rattle.programs.specs.Streams.{contents, Unread, Unwritten};
 
 use aho_devices::adapters::{FromRead, FromWrite};
 use programs::arguments::arguments;
-use programs::command::parse_replace;
 use programs::failure::Failure;
 use programs::run::{report, run};
 use std::alloc::Global;
-use std::io;
-use std::io::{BufWriter, LineWriter, Read, Write};
+use std::io::{BufWriter, Read, Write};
 use std::process::ExitCode;
 
 /// How many bytes of output are kept before they are written.
@@ -32,30 +30,8 @@ const OUTPUT_CAPACITY: usize = 64 * 1024;
 
 fn main(rt: HostRuntime) -> ExitCode {
     let given = arguments(&rt);
-    let (alloc, output) = (rt.alloc(), rt.stdout());
-    if shows_lines(&given) {
-        exit_over(
-            &rt,
-            given,
-            LineWriter::with_capacity(alloc, OUTPUT_CAPACITY, output),
-        )
-    } else {
-        exit_over(
-            &rt,
-            given,
-            BufWriter::with_capacity(alloc, OUTPUT_CAPACITY, output),
-        )
-    }
-}
-
-/// Runs on the arguments over the process's own streams, where there is memory for what keeps its output.
-fn exit_over<W: Write + Drop>(
-    rt: &HostRuntime,
-    given: Result<Vec<String>, Failure>,
-    output: io::Result<W>,
-) -> ExitCode {
     let mut errors = FromWrite::new(rt.stderr());
-    match output {
+    match BufWriter::with_capacity(rt.alloc(), OUTPUT_CAPACITY, rt.stdout()) {
         Ok(output) => exit_code(
             rt.alloc(),
             given,
@@ -64,18 +40,6 @@ fn exit_over<W: Write + Drop>(
             &mut errors,
         ),
         Err(_) => ExitCode::from(report(&Failure::OutOfMemory, &mut errors)),
-    }
-}
-
-/// Whether each line of the output is to be seen soon, since the input may have no end.
-fn shows_lines(given: &Result<Vec<String>, Failure>) -> bool
-    ensures replaces { IfOk given.now (λ arguments.
-        result ≡ is_some (replacing_by (texts arguments.items))) }
-    ensures faulty { OnErr given.now (result ≡ false) }
-{
-    match given {
-        Ok(arguments) => parse_replace(arguments.as_slice()).is_some(),
-        Err(_) => false,
     }
 }
 

@@ -3,7 +3,7 @@
 ghost use Rattle.std.specs.Prelude.{◌≡◌, ◌≢◌, ◌≤◌, ℕ, List, [], Some, Ok, true, length, take, is_ok, is_err, IfOk, IfErr, MatchResult};
 ghost use Rattle.std.specs.Io.KnownBytes.{Appends, Consumes, IsAtEnd, Keeps};
 ghost use Rattle.aho_devices.specs.Counts.{counted, is_empty_read, is_empty_write, Asks};
-ghost use Rattle.aho_devices.specs.Refusals.{IsWriteRefusal};
+ghost use Rattle.aho_devices.specs.Refusals.{is_write_fault, is_write_of_nothing, IsWriteRefusal};
 
 use crate::calls::{CalledReader, CalledWriter};
 use crate::device::{Sink, Source};
@@ -129,20 +129,6 @@ impl<W: Write> FromWrite<W> {
         }
     }
 
-    /// Has the writer hand on what it keeps, by one call. A flush that fails is not tried again, and no count of the sink
-    /// tells it.
-    pub fn flush(&mut self) -> Result<(), StreamError>
-        ensures called { self.new.device.calls ≡ counted true self.old.device.calls }
-        ensures flushed { self.new.device.flushed ≡ is_ok result }
-        ensures kept { Keeps (W.contents self.old.device.writer)
-            (W.contents self.new.device.writer) }
-        ensures only { IfErr result IsWriteRefusal }
-        ensures failures { self.new.failures ≡ self.old.failures }
-        ensures empty_writes { self.new.empty_writes ≡ self.old.empty_writes }
-    {
-        self.device.flush()
-    }
-
     /// The writer, with what it has taken. It is not flushed.
     pub fn into_inner(self) -> W
         ensures writer { result ≡ self.device.writer }
@@ -158,6 +144,8 @@ impl<W: Write> Sink for FromWrite<W> {
     ghost failures = { λ sink. sink.failures };
 
     ghost empty_writes = { λ sink. sink.empty_writes };
+
+    ghost flushed = { λ sink. sink.device.flushed };
 
     fn write(&mut self, piece: &[u8]) -> Result<usize, Fault>
         ensures within { IfOk result (λ count. count ≤ length piece.now) }
@@ -186,5 +174,28 @@ impl<W: Write> Sink for FromWrite<W> {
                 Err(fault)
             }
         }
+    }
+
+    /// Has the writer hand on what it keeps, by one call. A flush that fails is not tried again.
+    fn flush(&mut self) -> Result<(), StreamError>
+        ensures called { self.new.device.calls ≡ counted true self.old.device.calls }
+        ensures flushed { self.new.device.flushed ≡ is_ok result }
+        ensures kept { Keeps (W.contents self.old.device.writer)
+            (W.contents self.new.device.writer) }
+        ensures failures { self.new.failures
+            ≡ counted (is_write_fault result) self.old.failures }
+        ensures empty_writes { self.new.empty_writes
+            ≡ counted (is_write_of_nothing result) self.old.empty_writes }
+        ensures only { IfErr result IsWriteRefusal }
+    {
+        let answer = self.device.flush();
+        match answer {
+            Err(StreamError::Write(_)) => self.failures = self.failures.wrapping_add(1),
+            Err(StreamError::WriteZero) => {
+                self.empty_writes = self.empty_writes.wrapping_add(1);
+            }
+            _ => {}
+        }
+        answer
     }
 }

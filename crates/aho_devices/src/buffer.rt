@@ -1,6 +1,6 @@
 //! The buffer of fixed length between a source and a search of its stream.
 
-ghost use Rattle.std.specs.Prelude.{◌≡◌, ◌<◌, ◌≤◌, ◌+◌, ◌-◌, ◌↔◌, ◌⊎◌, max, [], ℕ, length, take, drop, vec_len, vec_capacity, IfOk, IfErr, OnErr, MatchResult, IsTrue, is_err, true, false, Err};
+ghost use Rattle.std.specs.Prelude.{◌≡◌, ◌<◌, ◌≤◌, ◌+◌, ◌-◌, ◌↔◌, ◌⊎◌, ◌==◌, max, [], ℕ, length, take, drop, vec_len, vec_capacity, IfOk, IfErr, OnErr, MatchResult, IsTrue, is_err, true, false, Err};
 ghost use Rattle.std.specs.Io.KnownBytes.{Consumes, Keeps};
 ghost use Rattle.aho_base.specs.Numbers.{greatest_index};
 ghost use Rattle.aho_devices.specs.Buffer.{Buffered, Gains, capacity_for, rolled, saw_end};
@@ -144,6 +144,40 @@ impl Buffer {
                 }
                 Err(fault) => return Err(StreamError::Read(fault)),
             }
+        }
+    }
+
+    /// Reads once, at most `room` bytes. With no room at all nothing is read, and `PositionLimit` is answered. It takes no
+    /// memory.
+    pub fn fill_once<R: Source>(&mut self, source: &mut R, room: u64) -> Result<Filled, StreamError>
+        requires free { length self.old.bytes < self.old.size }
+        ensures gained { Gains self.old self.new (R.remaining source.old) (R.remaining source.new) }
+        ensures within { length self.new.bytes ≤ self.new.size }
+        ensures limited { length self.new.bytes ≤ length self.old.bytes + room }
+        ensures told { IfOk result (λ filled.
+            length self.new.bytes ≡ length self.old.bytes + filled.read) }
+        ensures some_or_ended { IfOk result (λ filled.
+            filled.ended ≡ (filled.read == 0)) }
+        ensures nothing { OnErr result (length self.new.bytes ≡ length self.old.bytes) }
+
+        // An empty read, and each error, is answered exactly where it came.
+        ensures ended { R.empty_reads source.new
+            ≡ counted (saw_end result) (R.empty_reads source.old) }
+        ensures read_failed { R.failures source.new
+            ≡ counted (is_read_fault result) (R.failures source.old) }
+        ensures limit { (result ≡ Err StreamError.PositionLimit) ↔ (room ≡ 0) }
+        ensures unread { room ≡ 0 → source.new ≡ source.old }
+        ensures only { IfErr result IsFillRefusal }
+    {
+        if room == 0 {
+            return Err(StreamError::PositionLimit);
+        }
+        match self.read_once(source, room) {
+            Ok(count) => Ok(Filled {
+                read: count as u64,
+                ended: count == 0,
+            }),
+            Err(fault) => Err(StreamError::Read(fault)),
         }
     }
 

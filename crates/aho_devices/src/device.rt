@@ -1,10 +1,11 @@
 //! The devices of a stream: what gives its bytes and what takes them.
 
-ghost use Rattle.std.specs.Prelude.{◌≡◌, ◌≤◌, ℕ, Option, List, length, take, IfOk, MatchResult, is_err};
+ghost use Rattle.std.specs.Prelude.{◌≡◌, ◌≤◌, ℕ, Bool, true, Option, List, length, take, IfOk, IfErr, OnOk, MatchResult, is_err};
 ghost use Rattle.std.specs.Io.KnownBytes.{Appends, Consumes, Keeps};
 ghost use Rattle.aho_devices.specs.Counts.{counted, is_empty_read, is_empty_write};
+ghost use Rattle.aho_devices.specs.Refusals.{is_write_fault, is_write_of_nothing, IsWriteRefusal};
 
-use aho_base::error::Fault;
+use aho_base::error::{Fault, StreamError};
 
 /// What gives the bytes of a stream.
 ///
@@ -38,11 +39,14 @@ pub trait Sink {
     /// The bytes that it has taken so far, where the sink tells them.
     ghost taken: { Self → Option (List ℕ) };
 
-    /// How many writes have failed.
+    /// How many writes and flushes have failed.
     ghost failures: { Self → ℕ };
 
-    /// How many writes of a nonempty piece have taken nothing.
+    /// How many writes of a nonempty piece have taken nothing. A flush that finds such a write behind the sink counts too.
     ghost empty_writes: { Self → ℕ };
+
+    /// Whether nothing was taken since the last flush that did not fail.
+    ghost flushed: { Self → Bool };
 
     /// Takes bytes from the front of `piece`, and says how many. A write that fails takes nothing.
     fn write(&mut self, piece: &[u8]) -> Result<usize, Fault>
@@ -53,4 +57,14 @@ pub trait Sink {
         ensures failures { failures self.new ≡ counted (is_err result) (failures self.old) }
         ensures empty_writes { empty_writes self.new
             ≡ counted (is_empty_write result piece.now) (empty_writes self.old) };
+
+    /// Hands on all that it keeps of what it has taken. A replacement of a stream flushes before each read, so that all it
+    /// has told by then can be seen.
+    fn flush(&mut self) -> Result<(), StreamError>
+        ensures flushed { OnOk result (flushed self.new ≡ true) }
+        ensures kept { Keeps (taken self.old) (taken self.new) }
+        ensures failures { failures self.new ≡ counted (is_write_fault result) (failures self.old) }
+        ensures empty_writes { empty_writes self.new
+            ≡ counted (is_write_of_nothing result) (empty_writes self.old) }
+        ensures only { IfErr result IsWriteRefusal };
 }

@@ -1,12 +1,34 @@
-//! Writing a whole piece.
+//! Writing a whole piece, and a sink for what nobody wants.
 
-ghost use Rattle.std.specs.Prelude.{◌≡◌, [], Ok, OnErr, OnOk, IfErr};
+ghost use Rattle.std.specs.Prelude.{◌≡◌, [], None, Ok, OnErr, OnOk, IfErr, true};
 ghost use Rattle.std.specs.Io.KnownBytes.{Appends};
 ghost use Rattle.aho_devices.specs.Counts.{counted, AppendsBeginning};
 ghost use Rattle.aho_devices.specs.Refusals.{is_write_fault, is_write_of_nothing, IsWriteRefusal};
 
 use crate::device::Sink;
-use aho_base::error::StreamError;
+use aho_base::error::{Fault, StreamError};
+
+/// A sink that takes all and keeps nothing.
+#[derive(Clone, Copy)]
+pub struct Nowhere;
+
+impl Sink for Nowhere {
+    ghost taken = { λ _. None };
+
+    ghost failures = { λ _. 0 };
+
+    ghost empty_writes = { λ _. 0 };
+
+    ghost flushed = { λ _. true };
+
+    fn write(&mut self, piece: &[u8]) -> Result<usize, Fault> {
+        Ok(piece.len())
+    }
+
+    fn flush(&mut self) -> Result<(), StreamError> {
+        Ok(())
+    }
+}
 
 /// Writes all of `piece`, by as many writes as the sink needs; an empty piece makes no write. Nothing is tried again:
 /// the first write that fails or takes no byte is the error, and a beginning of the piece was taken then. It takes no

@@ -1,8 +1,8 @@
 -- How far a replacement of a stream has come, from one chunk told to the next.
 use Rattle.std.proofs.Common.{◌≡◌, ℕ, ◌+◌, ◌-◌, ◌<◌, ◌≤◌, Bool, true, false, List, [], ◌++◌, length, drop, take, map, refl, sym, ◌∙◌, ap, subst, arith, append_assoc, append-nil, inl, inr}
 use Rattle.std.specs.Prelude.{IsErrAnd, Option, Some, None, Result, Ok, Err, slice_range}
-use Rattle.std.specs.Io.KnownBytes.{Appends, Consumes}
-use Rattle.std.proofs.KnownBytes.{Appends-nil, Appends-trans, Consumes-nil, Consumes-trans}
+use Rattle.std.specs.Io.KnownBytes.{Appends, Consumes, Keeps}
+use Rattle.std.proofs.KnownBytes.{Appends-kept, Appends-nil, Appends-trans, Consumes-nil, Consumes-trans}
 use Rattle.std.proofs.lemmas.List.{take-append-drop}
 use Rattle.aho_base.specs.declared.error.stream.StreamError.{StreamError}
 use Rattle.aho_base.specs.declared.error.stream.StreamError.TheVariants.{Match as Refused, Read, Write, WriteZero, Memory, PositionLimit}
@@ -17,7 +17,7 @@ use Rattle.aho_devices.specs.declared.device.Sink.{Ghosts as SinkGhosts}
 use Rattle.aho_devices.specs.declared.device.Source.{Ghosts as SourceGhosts}
 use Rattle.aho_search.specs.declared.automaton.Automaton.{Ghosts}
 use Rattle.aho_stream.specs.After.{IsAfter, MayFollow, kept_for, search_from}
-use Rattle.aho_stream.specs.Chunks.{Advances, Tells, TellsEnd, TellsError, TellsFault, ends_between}
+use Rattle.aho_stream.specs.Chunks.{Advances, ReadsOn, Tells, TellsEnd, TellsError, TellsFault, ends_between}
 use Rattle.aho_stream.specs.Refills.{is_limit}
 use Rattle.aho_stream.specs.Replacing.{GaveAsMany, MayBe, SourceGave, BeginsStream, ReplacesStream, ReplacesStreamUpTo, chunk_bytes, piece_for}
 use Rattle.aho_stream.specs.declared.progress.StreamProgress.{StreamProgress}
@@ -144,6 +144,34 @@ module _ {A R W : Type 0} (G : Ghosts A) (S : SourceGhosts R) (K : SinkGhosts W)
         subst (λ (k : ℕ). Left p (piece_for pieces) bytes ms k s.reported []) (sym from)
         (subst (λ (k : ℕ). Left p (piece_for pieces) bytes ms 0 k []) (sym reported)
         (left_first p (piece_for pieces) bytes ms finds));
+  }
+
+  -- the sink was flushed
+  pub going_kept : (lookups : ℕ) (s : StreamProgress) (source : R) (sink sink' : W) → Going lookups s source sink → Keeps (K.taken sink) (K.taken sink') → Going lookups s source sink'
+  going_kept lookups s source sink sink' going kept = record {
+    given = going.given;
+    written = going.written;
+    gives = going.gives;
+    writes = Appends-kept (K.taken begun) (K.taken sink) (K.taken sink') going.written going.writes kept;
+    after = going.after;
+    rest = going.rest;
+  }
+
+  -- some bytes were read, and nothing was told of them: a beginning was written
+  pub begins_ahead : ((p : Patterns) → IsOf p → lengths ≡ map length p.words) → (lookups lookups' : ℕ) (s s' : StreamProgress) (source source' : R) (sink : W)
+      → Going lookups s source sink → ReadsOn G automaton lookups lookups' s s' (S.remaining source) (S.remaining source')
+      → S.empty_reads source' ≡ counted (ends_between s.ended s'.ended) (S.empty_reads source) → (s.ended ≡ true → s'.ended ≡ true)
+      → BeginsStream G S K automaton pieces first source' begun sink
+  begins_ahead are lookups lookups' s s' source source' sink going reads counts stays = record {
+    given = going.given ++ reads.bytes;
+    ended = s'.ended;
+    gives = gives_on S first source source' going.given reads.bytes s.ended s'.ended going.gives reads.read counts stays;
+    written = going.written;
+    writes = going.writes;
+    beginning = λ p bytes ms of may finds.
+        left_begins p (piece_for pieces) bytes ms lengths (are p of) ((going.after p of).no_empty) s.from s.reported going.written []
+        (subst (λ (xs : List ℕ). Left p (piece_for pieces) bytes ms s.from s.reported xs) (sym (append-nil going.written))
+        (going.rest p bytes ms of (might_be going.given reads.bytes bytes s.ended s'.ended reads.closed stays may) finds));
   }
 
   module _ (are : (p : Patterns) → IsOf p → lengths ≡ map length p.words) (lookups lookups' : ℕ) (s s' : StreamProgress) (source source' : R) (sink : W) (answer : Option (Result StreamPiece StreamError))

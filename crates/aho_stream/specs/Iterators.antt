@@ -9,7 +9,7 @@ use Rattle.aho_devices.specs.Counts.{counted}
 use Rattle.aho_devices.specs.declared.device.Source.{Ghosts as SourceGhosts}
 use Rattle.aho_search.specs.declared.automaton.Automaton.{Ghosts}
 use Rattle.aho_stream.specs.After.{IsAfter}
-use Rattle.aho_stream.specs.Chunks.{Advances, ends_between, piece_of, tells_limit, tells_read_fault}
+use Rattle.aho_stream.specs.Chunks.{Advances, ReadsOn, TellsNone, ends_between, piece_of, tells_limit, tells_read_fault}
 use Rattle.aho_stream.specs.declared.chunks.StreamChunk.{StreamChunk}
 use Rattle.aho_stream.specs.declared.chunks.StreamChunk.TheVariants.{NonMatch as Bytes, Match as BytesOf}
 use Rattle.aho_stream.specs.declared.chunks.StreamChunkIter.{StreamChunkIter}
@@ -43,6 +43,12 @@ IsFresh G it = (p : Patterns) × G.is_of (automaton_of it) p × HasGiven G it p 
 abbrev pub Advanced : {A R : Type 0} → Ghosts A → SourceGhosts R → StreamChunkIter A R → StreamChunkIter A R → Option (Result StreamPiece StreamError) → Type 0
 Advanced G S it it' answer = Advances G (automaton_of it) (lookups_of it) (lookups_of it') it.progress it'.progress
     (S.remaining it.source.now) (S.remaining it'.source.now) answer
+
+-- a call reads some bytes, and tells nothing
+pub record ReadsAhead {A R : Type 0} (G : Ghosts A) (S : SourceGhosts R) (it it' : StreamChunkIter A R) : Type 0 where
+  pub reads : ReadsOn G (automaton_of it) (lookups_of it) (lookups_of it') it.progress it'.progress
+      (S.remaining it.source.now) (S.remaining it'.source.now)
+  pub still : TellsNone it.progress it'.progress
 
 -- what is said of the bytes of the last chunk, whatever the source gave
 abbrev pub ForLastChunk : {A R : Type 0} → Ghosts A → StreamChunkIter A R → (List ℕ → Type 0) → Type 0

@@ -1,15 +1,17 @@
 //! The chunks of a stream, one after another: matches, and the bytes between them.
 
-ghost use Rattle.std.specs.Prelude.{◌≡◌, ◌+◌, ◌*◌, ◌≤◌, ◌||◌, min, ℕ, List, [], Option, Some, None, IfOk, length, slice_range, true, false};
+ghost use Rattle.std.specs.Prelude.{◌≡◌, ◌+◌, ◌*◌, ◌≤◌, ◌||◌, min, ℕ, List, [], Option, Some, None, Ok, IfOk, IfErr, OnErr, MatchResult, length, slice_range, true, false};
 ghost use Rattle.std.specs.Borrow.{sem};
 ghost use Rattle.std.specs.Io.BufRead.{Rests};
+ghost use Rattle.std.specs.Io.KnownBytes.{Keeps};
 ghost use Rattle.aho_base.specs.Patterns.{Patterns};
 ghost use Rattle.aho_base.specs.declared.search.Anchored.TheVariants.{No};
 ghost use Rattle.aho_base.specs.declared.search.MatchKind.TheVariants.{Standard};
 ghost use Rattle.aho_devices.specs.Counts.{counted};
+ghost use Rattle.aho_devices.specs.Refusals.{is_write_fault, is_write_of_nothing, IsWriteRefusal};
 ghost use Rattle.aho_stream.specs.After.{greatest_position};
 ghost use Rattle.aho_stream.specs.Chunks.{tells_limit, tells_read_fault};
-ghost use Rattle.aho_stream.specs.Iterators.{Advanced, CanGoOn, ForLastChunk, HasGiven, HasNotBegun, Lends, SeesEnd, automaton_of, chunk_lent, lookups_of, most_walked};
+ghost use Rattle.aho_stream.specs.Iterators.{Advanced, CanGoOn, ReadsAhead, ForLastChunk, HasGiven, HasNotBegun, Lends, SeesEnd, automaton_of, chunk_lent, lookups_of, most_walked};
 ghost use Rattle.aho_stream.specs.Replacing.{Refuses};
 ghost use Rattle.aho_stream.specs.contracts.chunks.StreamChunkIter.{the_row};
 ghost use mir.Syntax.{named};
@@ -19,7 +21,8 @@ use crate::progress::{StreamPiece, StreamProgress};
 use crate::start::{MAX_POSITION, StreamStart};
 use aho_base::error::StreamError;
 use aho_base::search::Match;
-use aho_devices::device::Source;
+use aho_devices::device::{Sink, Source};
+use aho_devices::write::Nowhere;
 use aho_search::automaton::Automaton;
 use aho_search::walk::{Counted, Walk};
 use std::alloc::Global;
@@ -168,19 +171,62 @@ impl<'a, 'r, A: Automaton, R: Source> StreamChunkIter<'a, 'r, A, R> {
         ensures read_failed { R.failures self.new.source.now
             ≡ counted (tells_read_fault result) (R.failures self.old.source.now) }
     {
+        match self.advance_flushing(&mut Nowhere) {
+            Ok(answer) => answer,
+            // `Nowhere` is always flushed.
+            Err(error) => Some(Err(error)),
+        }
+    }
+
+    /// As `advance`, but flushes the sink before each read, so that all that was told by then can be seen.
+    ///
+    /// # Errors
+    ///
+    /// The error of a flush that fails: nothing is read after it, nothing is told, and nothing is lost.
+    pub(crate) fn advance_flushing<W: Sink>(
+        &mut self,
+        sink: &mut W,
+    ) -> Result<Option<Result<StreamPiece, StreamError>>, StreamError>
+        requires after { CanGoOn A.Automaton self.old }
+        ensures advances { IfOk result (Advanced A.Automaton R.Source self.old self.new) }
+        ensures reads { OnErr result (ReadsAhead A.Automaton R.Source self.old self.new) }
+        ensures same { automaton_of self.new ≡ automaton_of self.old }
+        ensures limit { self.new.progress.limit ≡ self.old.progress.limit }
+        ensures ended { SeesEnd R.Source self.old self.new }
+        ensures same_source { self.new.source.ghost_name ≡ self.old.source.ghost_name }
+        ensures stays_ended { self.old.progress.ended ≡ true → self.new.progress.ended ≡ true }
+        ensures after_end { self.old.progress.ended ≡ true
+            → self.old.progress.read ≤ self.old.progress.reported → result ≡ Ok None }
+        ensures after_limit { self.old.progress.refused ≡ true → result ≡ Ok None }
+        ensures refused { IfOk result (λ answer. self.new.progress.refused
+            ≡ (self.old.progress.refused || tells_limit answer)) }
+        ensures read_failed { MatchResult result
+            (λ answer. R.failures self.new.source.now
+            ≡ counted (tells_read_fault answer) (R.failures self.old.source.now))
+            (λ _. R.failures self.new.source.now ≡ R.failures self.old.source.now) }
+
+        // The sink is flushed, and nothing else.
+        ensures kept { Keeps (W.taken sink.old) (W.taken sink.new) }
+        ensures write_failed { W.failures sink.new
+            ≡ counted (is_write_fault result) (W.failures sink.old) }
+        ensures took_nothing { W.empty_writes sink.new
+            ≡ counted (is_write_of_nothing result) (W.empty_writes sink.old) }
+        ensures only { IfErr result IsWriteRefusal }
+    {
         self.progress.told = self.progress.reported;
         if self.progress.refused {
-            return None;
+            return Ok(None);
         }
         loop {
             if let Some(piece) = next_piece(&mut self.walk, &mut self.progress) {
-                return Some(Ok(piece));
+                return Ok(Some(Ok(piece)));
             }
             if self.progress.ended {
-                return None;
+                return Ok(None);
             }
-            if let Err(error) = self.progress.refill(self.source) {
-                return Some(Err(error));
+            sink.flush()?;
+            if let Err(error) = self.progress.refill(self.source, sink) {
+                return Ok(Some(Err(error)));
             }
         }
     }

@@ -12,7 +12,7 @@ ghost use Rattle.aho_stream.specs.declared.progress.StreamPiece.TheVariants.{Non
 use aho_base::error::StreamError;
 use aho_base::search::{Match, Span, StateID};
 use aho_devices::buffer::Buffer;
-use aho_devices::device::Source;
+use aho_devices::device::{Sink, Source};
 
 /// What a call of `advance` tells, without its bytes.
 #[derive(Clone, Copy)]
@@ -144,8 +144,14 @@ impl StreamProgress {
         Match::new(m.pattern(), range)
     }
 
-    /// Reads more bytes behind those that are kept. Where it is refused, what was read before stays.
-    pub(crate) fn refill<R: Source>(&mut self, source: &mut R) -> Result<(), StreamError>
+    /// Reads once, behind the bytes that are kept. Where it is refused, what was read before stays. The sink shows that all
+    /// that was told by now was written and flushed.
+    pub(crate) fn refill<R: Source, W: Sink>(
+        &mut self,
+        source: &mut R,
+        _sink: &W,
+    ) -> Result<(), StreamError>
+        requires flushed { W.flushed _sink.now ≡ true }
         requires limited { self.old.read ≤ self.old.limit }
         requires open { self.old.ended ≡ false }
         requires below { self.old.refused ≡ false }
@@ -163,7 +169,7 @@ impl StreamProgress {
     {
         make_room(&mut self.buffer);
         let held = self.buffer.buffer().len();
-        let filled = self.buffer.fill(source, self.limit - self.read);
+        let filled = self.buffer.fill_once(source, self.limit - self.read);
         self.read += (self.buffer.buffer().len() - held) as u64;
         match filled {
             Ok(filled) => {

@@ -72,7 +72,7 @@ fn replace_chunks<'a, 'r, A: Automaton, R: Source, W: Sink>(
         ≡ counted (is_write_of_nothing result) (W.empty_writes sink.old) }
     ensures only { IfErr result IsStreamFault }
 {
-    while let Some(answer) = chunks.advance() {
+    while let Some(answer) = chunks.advance_flushing(sink)? {
         let piece = answer?;
         let bytes = bytes_for(&piece, chunks.bytes(), &*replace_with);
         write_whole(sink, bytes)?;

@@ -1,6 +1,6 @@
 //! Streams.
 
-ghost use Rattle.std.specs.Prelude.{None};
+ghost use Rattle.std.specs.Prelude.{None, true};
 ghost use Rattle.aho_base.specs.Patterns.{Patterns};
 
 use crate::builds::automaton;
@@ -33,12 +33,18 @@ impl<'w> Sink for Compare<'w> {
 
     ghost empty_writes = { λ _. 0 };
 
+    ghost flushed = { λ _. true };
+
     fn write(&mut self, piece: &[u8]) -> Result<usize, Fault> {
         match self.rest.strip_prefix(piece) {
             Some(rest) => self.rest = rest,
             None => self.differs = true,
         }
         Ok(piece.len())
+    }
+
+    fn flush(&mut self) -> Result<(), StreamError> {
+        Ok(())
     }
 }
 

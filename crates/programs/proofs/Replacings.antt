@@ -76,7 +76,7 @@ begins_asked {S = S} {source = source} {source' = source'} asked begun of left n
 }
 
 pub most_asked : {A R W : Type 0} {G : Ghosts A} {S : SourceGhosts R} {K : SinkGhosts W} {automaton : A} {source source' : R} {sink sink' : W} (asked : Replacing)
-    → ReplacesStreamUpTo G S K automaton asked.pieces source source' sink sink' → G.lengths automaton ≡ map length asked.words → G.is_of automaton (patterns_to_replace asked)
+    → ReplacesStreamUpTo G S K automaton asked.pieces source source' sink sink' → G.lengths automaton ≡ map length asked.patterns → G.is_of automaton (patterns_to_replace asked)
     → {before : Option (List ℕ)} → S.remaining source ≡ before → S.empty_reads source ≡ 0 → (S.empty_reads source' ≢ 0 → IsAtEnd (S.remaining source'))
     → WritesMost (record { left_before = before; left_after = S.remaining source'; held_before = K.taken sink; held_after = K.taken sink' }) asked
 most_asked {S = S} {source = source} {source' = source'} asked up same of left none ends = record {
@@ -122,15 +122,6 @@ begins_whole {asked} whole = record {
       ap (λ l. replaced whole.text l asked.pieces) (finds-unique _ _ _ _ _ whole.found found) ∙ ap (λ given. replaced given ms asked.pieces) (sym same) in
       subst (StartsWith (replaced bytes ms asked.pieces)) (sym equal) (take-length (replaced bytes ms asked.pieces));
 }
-
--- the failure of a sink's error is that of a write
-pub of_sink : (error : StreamError) → IsWriteRefusal error → IsOfWrite (failure_of_stream error)
-of_sink (Match cause) of = absurd of
-of_sink (Read fault) of = absurd of
-of_sink (Write fault) of = tt
-of_sink WriteZero of = tt
-of_sink Memory of = absurd of
-of_sink PositionLimit of = absurd of
 
 -- a write's failure leaves what was begun
 pub leaves_write : (untouched most : Type 0) {begun : Type 0} (failure : Failure) → IsOfWrite failure → begun → LeavesReplacing untouched begun most failure

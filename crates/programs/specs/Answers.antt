@@ -130,7 +130,7 @@ pub record WritesMost (bytes : Contents) (asked : Replacing) : Type 0 where
   pub at_end : ended ≡ true → IsAtEnd bytes.left_after
   pub place : ℕ
   pub within : place ≤ length text
-  pub near : length text ≤ place + kept_for (map length asked.words)
+  pub near : length text ≤ place + kept_for (map length asked.patterns)
   pub written : (given : List ℕ) (ms : List Occurrence) → MayBe text ended given
       → AreFinds (patterns_to_replace asked) (plain_search given) None ms
       → Appends bytes.held_before bytes.held_after (replaced_up_to given place 0 ms (piece_for asked.pieces))

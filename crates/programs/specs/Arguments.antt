@@ -9,46 +9,46 @@ use Rattle.programs.specs.declared.command.Task.TheVariants.{Find, Overlap}
 
 -- the match kind that an argument names
 abbrev pub kind_by : List ℕ → Option MatchKind
-kind_by word =
-    if bytes_eq word (codes "standard") then Some Standard
-    else if bytes_eq word (codes "first") then Some LeftmostFirst
-    else if bytes_eq word (codes "longest") then Some LeftmostLongest
+kind_by argument =
+    if bytes_eq argument (codes "standard") then Some Standard
+    else if bytes_eq argument (codes "first") then Some LeftmostFirst
+    else if bytes_eq argument (codes "longest") then Some LeftmostLongest
     else None
 
 -- PATTERN..: at least one
 abbrev pub patterns_by : Task → List (List ℕ) → Option Asked
 patterns_by task [] = None
-patterns_by task (word ∷ words) = Some (record { task = task; words = word ∷ words })
+patterns_by task (first ∷ rest) = Some (record { task = task; patterns = first ∷ rest })
 
 -- [-i] PATTERN..: `-i` sets the case rule in the first place, and is a pattern in any other
 abbrev pub cased_by : MatchKind → List (List ℕ) → Option Asked
 cased_by kind [] = None
-cased_by kind (word ∷ words) =
-    if bytes_eq word (codes "-i") then patterns_by (Find kind true) words else patterns_by (Find kind false) (word ∷ words)
+cased_by kind (first ∷ rest) =
+    if bytes_eq first (codes "-i") then patterns_by (Find kind true) rest else patterns_by (Find kind false) (first ∷ rest)
 
 -- KIND [-i] PATTERN..
 abbrev pub find_by : List (List ℕ) → Option Asked
 find_by [] = None
-find_by (word ∷ words) = option_and_then (λ kind. cased_by kind words) (kind_by word)
+find_by (first ∷ rest) = option_and_then (λ kind. cased_by kind rest) (kind_by first)
 
 -- find KIND [-i] PATTERN.., or overlap PATTERN..: the matches that are printed
 abbrev pub asked_by : List (List ℕ) → Option Asked
 asked_by [] = None
-asked_by (word ∷ words) =
-    if bytes_eq word (codes "find") then find_by words
-    else if bytes_eq word (codes "overlap") then patterns_by Overlap words
+asked_by (command ∷ rest) =
+    if bytes_eq command (codes "find") then find_by rest
+    else if bytes_eq command (codes "overlap") then patterns_by Overlap rest
     else None
 
 -- P1 R1 P2 R2 ..: at least one pattern, and a piece for each
 abbrev pub pairs_by : List (List ℕ) → Option Replacing
-pairs_by words =
-    if length words == 0 || not (length words % 2 == 0) then None
-    else Some (replacing_for words)
+pairs_by arguments =
+    if length arguments == 0 || not (length arguments % 2 == 0) then None
+    else Some (replacing_for arguments)
 
 -- replace P1 R1 P2 R2 ..
 abbrev pub replacing_by : List (List ℕ) → Option Replacing
 replacing_by [] = None
-replacing_by (word ∷ words) = if bytes_eq word (codes "replace") then pairs_by words else None
+replacing_by (command ∷ rest) = if bytes_eq command (codes "replace") then pairs_by rest else None
 
 module _ {Z : Type 0} where
   -- the bytes of each argument

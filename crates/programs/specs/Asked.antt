@@ -13,11 +13,11 @@ use Rattle.programs.specs.declared.command.Task.TheVariants.{Find, Overlap}
 -- which matches are printed, and the bytes of each pattern
 pub record Asked : Type 0 where
   pub task : Task
-  pub words : List (List ℕ)
+  pub patterns : List (List ℕ)
 
 -- each argument's bytes are a pattern
 abbrev pub asked_for : Request → Asked
-asked_for request = record { task = request.task; words = map string_bytes request.patterns.now }
+asked_for request = record { task = request.task; patterns = map string_bytes request.patterns.now }
 
 -- overlapping search is that of the kind `Standard`, and of letters as they are
 abbrev pub kind_of : Task → MatchKind
@@ -29,7 +29,7 @@ ignores_case (Find kind ignore_case) = ignore_case
 ignores_case Overlap = false
 
 abbrev pub asked_patterns : Asked → Patterns
-asked_patterns asked = record { words = asked.words; kind = kind_of asked.task; ignore_case = ignores_case asked.task }
+asked_patterns asked = record { words = asked.patterns; kind = kind_of asked.task; ignore_case = ignores_case asked.task }
 
 -- their kind and case rule; all else is as a new builder has it
 abbrev pub settings_for : Task → Settings
@@ -41,27 +41,27 @@ Builds asked = cause (settings_for asked.task) (asked_patterns asked) ≡ None
 
 -- patterns, and for each the piece that is written in the place of its matches
 pub record Replacing : Type 0 where
-  pub words : List (List ℕ)
+  pub patterns : List (List ℕ)
   pub pieces : List (List ℕ)
 
 -- the arguments at even places, the first of which is 0, and those at odd places
 abbrev pub at_even : List (List ℕ) → List (List ℕ)
 at_even [] = []
-at_even (word ∷ []) = word ∷ []
-at_even (word ∷ other ∷ words) = word ∷ at_even words
+at_even (first ∷ []) = first ∷ []
+at_even (first ∷ second ∷ rest) = first ∷ at_even rest
 
 abbrev pub at_odd : List (List ℕ) → List (List ℕ)
 at_odd [] = []
-at_odd (word ∷ []) = []
-at_odd (word ∷ other ∷ words) = other ∷ at_odd words
+at_odd (first ∷ []) = []
+at_odd (first ∷ second ∷ rest) = second ∷ at_odd rest
 
 -- each pattern is followed by its piece
 abbrev pub replacing_for : List (List ℕ) → Replacing
-replacing_for words = record { words = at_even words; pieces = at_odd words }
+replacing_for arguments = record { patterns = at_even arguments; pieces = at_odd arguments }
 
 -- replacement is that of the kind `Standard`, and of letters as they are
 abbrev pub patterns_to_replace : Replacing → Patterns
-patterns_to_replace asked = record { words = asked.words; kind = Standard; ignore_case = false }
+patterns_to_replace asked = record { words = asked.patterns; kind = Standard; ignore_case = false }
 
 -- no pattern is refused by the build
 abbrev pub BuildsReplacing : Replacing → Type 0

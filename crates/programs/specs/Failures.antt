@@ -1,5 +1,5 @@
 -- What a failure is told by: its status and its text.
-use Rattle.std.specs.Prelude.{◌≡◌, ℕ, List, ◌++◌, codes, ⊤}
+use Rattle.std.specs.Prelude.{◌≡◌, ℕ, Bool, true, false, List, ◌++◌, codes, Result, Ok, Err, ⊤}
 use Rattle.aho_base.specs.declared.error.stream.StreamError.{StreamError}
 use Rattle.aho_base.specs.declared.error.stream.StreamError.TheVariants.{Match as Refused, Read as ReadFailed, Write as WriteFailed, WriteZero as TookNothing, Memory, PositionLimit as LimitMet}
 use Rattle.aho_base.specs.Texts.{build_error_text, match_error_text}
@@ -16,6 +16,18 @@ status_of_failure PositionLimit = 2
 status_of_failure Read = 3
 status_of_failure Write = 3
 status_of_failure WriteZero = 3
+
+-- whether the failure is that of a read
+abbrev pub is_failed_read : {A : Type 0} → Result A Failure → Bool
+is_failed_read (Ok x) = false
+is_failed_read (Err Usage) = false
+is_failed_read (Err (Build error)) = false
+is_failed_read (Err (Search error)) = false
+is_failed_read (Err OutOfMemory) = false
+is_failed_read (Err PositionLimit) = false
+is_failed_read (Err Read) = true
+is_failed_read (Err Write) = false
+is_failed_read (Err WriteZero) = false
 
 -- this is its status
 abbrev pub HasStatus : ℕ → Failure → Type 0

@@ -44,11 +44,11 @@ impl Task {
 
 /// What is asked for.
 #[derive(Clone, Copy)]
-pub struct Request<'w> {
+pub struct Request<'a> {
     /// Which matches are printed.
     pub task: Task,
     /// The patterns, which are numbered from 0 on.
-    pub patterns: &'w [String],
+    pub patterns: &'a [String],
 }
 
 /// Which matches the arguments after the program's name ask to print: none where they ask for something else, or are wrong.
@@ -67,15 +67,15 @@ pub fn parse(arguments: &[String]) -> Option<Request<'_>>
 pub fn parse_find(arguments: &[String]) -> Option<Request<'_>>
     ensures asked { option_map asked_for result ≡ find_by (texts arguments.now) }
 {
-    let (word, rest) = arguments.split_first()?;
-    let kind = parse_kind(word.as_str())?;
+    let (argument, rest) = arguments.split_first()?;
+    let kind = parse_kind(argument.as_str())?;
     parse_cased(kind, rest)
 }
 
-fn parse_kind(word: &str) -> Option<MatchKind>
-    ensures kind { result ≡ kind_by word.now }
+fn parse_kind(argument: &str) -> Option<MatchKind>
+    ensures kind { result ≡ kind_by argument.now }
 {
-    match word {
+    match argument {
         "standard" => Some(MatchKind::Standard),
         "first" => Some(MatchKind::LeftmostFirst),
         "longest" => Some(MatchKind::LeftmostLongest),
@@ -87,8 +87,8 @@ fn parse_kind(word: &str) -> Option<MatchKind>
 fn parse_cased(kind: MatchKind, arguments: &[String]) -> Option<Request<'_>>
     ensures asked { option_map asked_for result ≡ cased_by kind (texts arguments.now) }
 {
-    let (word, rest) = arguments.split_first()?;
-    let ignore_case = word.as_str() == "-i";
+    let (first, rest) = arguments.split_first()?;
+    let ignore_case = first.as_str() == "-i";
     let task = Task::Find { kind, ignore_case };
     parse_patterns(task, if ignore_case { rest } else { arguments })
 }

@@ -11,6 +11,7 @@ ghost use Rattle.programs.specs.Streams.{bytes_held, WritesBeginning, WritesByte
 use crate::failure::Failure;
 use aho_base::search::Match;
 use aho_devices::adapters::FromWrite;
+use aho_devices::device::Sink;
 use aho_devices::write;
 use itoa::write_digits;
 use std::io::Write;

@@ -20,9 +20,9 @@ use std::io::{Read, Write};
 
 /// Patterns, and for each the piece that is written in the place of its matches.
 #[derive(Drop)]
-struct Pairs<'w> {
-    patterns: Vec<&'w [u8]>,
-    pieces: Vec<&'w [u8]>,
+struct Pairs<'a> {
+    patterns: Vec<&'a [u8]>,
+    pieces: Vec<&'a [u8]>,
 }
 
 /// Writes the input to the output with a piece in the place of each match, and flushes. Each of the patterns is followed by
@@ -52,7 +52,7 @@ pub fn replace<R: Read, W: Write>(
 }
 
 /// The arguments at even places are patterns, and those at odd places their pieces.
-fn split<'w>(alloc: Global, arguments: &'w [String]) -> Result<Pairs<'w>, AllocError>
+fn split<'a>(alloc: Global, arguments: &'a [String]) -> Result<Pairs<'a>, AllocError>
     requires even { length arguments.now % 2 ≡ 0 }
     ensures patterns { IfOk result (λ pairs.
         pieces_of pairs.patterns.items ≡ at_even (texts arguments.now)) }
@@ -72,10 +72,10 @@ fn split<'w>(alloc: Global, arguments: &'w [String]) -> Result<Pairs<'w>, AllocE
 
 /// The automaton of the patterns.
 fn build(alloc: Global, patterns: &[&[u8]]) -> Result<NFA, Failure>
-    ensures of { (asked : Replacing) → asked.words ≡ pieces_of patterns.now → IfOk result
+    ensures of { (asked : Replacing) → asked.patterns ≡ pieces_of patterns.now → IfOk result
         (λ automaton. ⟦<NFA as Automaton>⟧.is_of automaton (patterns_to_replace asked)) }
     ensures leaves { IfErr result (LeavesReplacing ⊤ ⊥ ⊥) }
-    ensures accepted { (asked : Replacing) → asked.words ≡ pieces_of patterns.now
+    ensures accepted { (asked : Replacing) → asked.patterns ≡ pieces_of patterns.now
         → OnOk result (BuildsReplacing asked) }
 {
     Ok(NFA::new(alloc, patterns.iter().copied())?)

@@ -8,7 +8,8 @@ ghost use Rattle.aho_base.specs.declared.search.MatchKind.TheVariants.{Standard}
 ghost use Rattle.programs.specs.Answers.{AreFindsIn, AreMatches, BeginsLine, BeginsMatches, Begun, LeavesMatches, LeavesReplacement, Prints, PrintsAll, PrintsIfDone, PrintsMatches, TellsFailure, WritesIfDone, WritesReplacement, status_of};
 ghost use Rattle.programs.specs.Arguments.{AreWrong, AskForNone, IfAsked, IfReplacing};
 ghost use Rattle.programs.specs.Asked.{Builds, BuildsReplacing, asked_for, asked_patterns, kind_of, settings_for};
-ghost use Rattle.programs.specs.Failures.{status_of_failure, line_of_failure, IsOfWrite, LeavesPrinting};
+ghost use Rattle.aho_devices.specs.Counts.{counted};
+ghost use Rattle.programs.specs.Failures.{is_failed_read, status_of_failure, line_of_failure, IsOfWrite, LeavesPrinting};
 ghost use Rattle.programs.specs.Streams.{bytes_left, contents, Unread, Unwritten, WritesBytes};
 ghost use Rattle.programs.specs.declared.command.Task.TheVariants.{Overlap};
 ghost use Rattle.programs.specs.declared.failure.Failure.TheVariants.{Usage};
@@ -213,19 +214,19 @@ fn read<R: Read>(alloc: Global, input: &mut FromRead<R>) -> Result<Vec<u8>, Fail
         Consumes (bytes_left input.old) (bytes_left input.new) text.items) }
     ensures ended { OnOk result (IsAtEnd (bytes_left input.new)) }
     ensures leaves { IfErr result (LeavesPrinting ⊥ ⊤ ⊥) }
+    // A read fault is answered exactly where a read failed.
+    ensures failed { input.new.failures ≡ counted (is_failed_read result) input.old.failures }
 {
     input.restart();
     let mut text = Vec::new(alloc);
     let mut piece = [0; PIECE];
-    // Nothing says that an input ends, so the turns are counted.
-    for _ in 0..u64::MAX {
+    loop {
         match input.read(&mut piece) {
             Ok(0) => return Ok(text),
             Ok(count) => text.extend_from_slice(&piece[..count])?,
             Err(_) => return Err(Failure::Read),
         }
     }
-    Err(Failure::Read)
 }
 
 /// Prints the matches of a text that a task asks for, and answers whether there was one.

@@ -61,7 +61,8 @@ enum Then {
     Fails(ErrorKind),
 }
 
-/// A writer that takes a byte at a time, `first` of them at least, and keeps what it took until it is flushed.
+/// A writer that takes a byte at a time, `first` of them at least, and keeps what it took until it is flushed. The first flush
+/// of some bytes may fail.
 #[derive(Drop)]
 struct Device {
     first: usize,
@@ -103,6 +104,9 @@ impl Write for Device {
     }
 
     fn flush(&mut self) -> io::Result<()> {
+        if self.held.is_empty() {
+            return Ok(());
+        }
         if let Some(kind) = self.flush.take() {
             return Err(io::Error::from(kind));
         }

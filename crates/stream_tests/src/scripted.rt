@@ -1,8 +1,8 @@
 //! Devices in memory whose calls go by a list: they cut, end, come back after an end, and fail.
 
-ghost use Rattle.std.specs.Prelude.{◌≡◌, Some};
+ghost use Rattle.std.specs.Prelude.{◌≡◌, Some, true};
 
-use aho_base::error::Fault;
+use aho_base::error::{Fault, StreamError};
 use aho_devices::device::{Sink, Source};
 use std::alloc::Global;
 
@@ -122,6 +122,8 @@ impl<'a> Sink for ScriptedSink<'a> {
 
     ghost empty_writes = { λ sink. sink.empty_writes };
 
+    ghost flushed = { λ _. true };
+
     fn write(&mut self, piece: &[u8]) -> Result<usize, Fault> {
         self.writes = self.writes.saturating_add(1);
         let mut most = piece.len();
@@ -143,5 +145,9 @@ impl<'a> Sink for ScriptedSink<'a> {
             self.empty_writes = self.empty_writes.wrapping_add(1);
         }
         Ok(most)
+    }
+
+    fn flush(&mut self) -> Result<(), StreamError> {
+        Ok(())
     }
 }

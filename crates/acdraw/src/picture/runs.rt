@@ -2,7 +2,7 @@
 
 ghost use Rattle.std.specs.Prelude.{◌≡◌, ◌≤◌, ◌+◌, ◌++◌, ◌∷◌, [], IsFalse, IsNone, IsTrue, IfOk};
 ghost use Rattle.std.specs.Option.{option_to_list};
-ghost use Rattle.acdraw.specs.Runs.{AreApart, GoesOn, all_pairs};
+ghost use Rattle.acdraw.specs.Runs.{AreApart, Adjoins, all_pairs};
 
 use aho_base::search::StateID;
 use aho_corasick::links::Transitions;
@@ -36,7 +36,7 @@ impl Run {
         ensures place { IsTrue result → self.now.first + self.now.more + 1 ≡ byte }
         ensures next { IsTrue result → self.now.next ≡ next }
         ensures apart { IsFalse result
-            → GoesOn self.now (record { first = byte; more = 0; next = next }) → ⊥ }
+            → Adjoins self.now (record { first = byte; more = 0; next = next }) → ⊥ }
     {
         if self.next != next {
             return false;

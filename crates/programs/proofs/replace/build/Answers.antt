@@ -16,11 +16,11 @@ pub returns : goal.returns
 returns c =
     let built = c.in_ok-new.ensures.built in
     let drained = built.1.0 in
-    let words : pieces_of built.0 ≡ pieces_of c.args.patterns.now =
+    let patterns : pieces_of built.0 ≡ pieces_of c.args.patterns.now =
     ap pieces_of (sym (map-id built.0) ∙ items_from_drains built.0 (drained.1.0, drained.1.1, λ _. (drained.0, drained.1.2)) (YieldsList-from_copied (YieldsList-from_slice c.args.patterns.now (cc)))) in
-    let made : List (List ℕ) → Patterns = λ ws. patterns_to_replace (record { words = ws; pieces = ws }) in
+    let made : List (List ℕ) → Patterns = λ ws. patterns_to_replace (record { patterns = ws; pieces = ws }) in
     record {
-      of = λ asked same. subst (λ ws. ghosts.is_of c.in_ok-new.field-0 (made ws)) (words ∙ sym same) built.2;
+      of = λ asked same. subst (λ ws. ghosts.is_of c.in_ok-new.field-0 (made ws)) (patterns ∙ sym same) built.2;
       leaves = tt;
-      accepted = λ asked same. subst (λ ws. cause default_settings (made ws) ≡ None) (words ∙ sym same) built.1.1;
+      accepted = λ asked same. subst (λ ws. cause default_settings (made ws) ≡ None) (patterns ∙ sym same) built.1.1;
     }

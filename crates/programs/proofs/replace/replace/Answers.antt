@@ -1,4 +1,4 @@
--- The words are pairs, and the automaton is that of the patterns.
+-- The arguments are pairs, and the automaton is that of the patterns.
 use Rattle.std.proofs.Common.{◌∙◌, ap, length, map, string_bytes, inr}
 use Rattle.std.proofs.lemmas.List.{length-map}
 use Rattle.std.proofs.lemmas.Result.{IfErr-weaker}

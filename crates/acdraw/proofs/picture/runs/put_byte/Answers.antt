@@ -1,7 +1,7 @@
 use Rattle.std.proofs.Common.{◌≡◌, ◌∙◌, ℕ, ◌+◌, List, [], ◌∷◌, ◌++◌, refl, sym, ap, subst}
 use Rattle.std.specs.Option.{option_to_list}
 use Rattle.std.specs.Prelude.{Option}
-use Rattle.acdraw.specs.Runs.{AreApart, GoesOn, all_pairs}
+use Rattle.acdraw.specs.Runs.{AreApart, Adjoins, all_pairs}
 use Rattle.acdraw.specs.declared.picture.runs.Run.{Run}
 use Rattle.acdraw.proofs.Runs.{apart_longer, apart_more, longer_run}
 use Rattle.acdraw.proofs.picture.runs.put_byte.Goals as goal
@@ -23,7 +23,7 @@ pub returns-clause-apart : goal.returns-clause-apart
 returns-clause-apart c =
     let run : Run = c.in-Some.run' in
     let new : Run = c.of-2.result in
-    let other : GoesOn run new → ⊥ = λ goes_on.
+    let other : Adjoins run new → ⊥ = λ goes_on.
     c.if-goes_on.ensures.apart refl (goes_on.0 ∙ ap (λ (r : Run). r.first) c.of-2.ensures.of, goes_on.1 ∙ ap (λ (r : Run). r.next) c.of-2.ensures.of) in
     let so_far : AreApart (c.args.runs.now.items ++ run ∷ []) = subst (λ (o : Option Run). AreApart (c.args.runs.now.items ++ option_to_list o)) c.in-Some.is c.requires.apart in
     subst (λ (l : List Run). AreApart (l ++ new ∷ [])) (sym c.in_ok-push.ensures.items) (apart_more c.args.runs.now.items run new other so_far)

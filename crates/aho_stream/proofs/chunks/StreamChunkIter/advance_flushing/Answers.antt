@@ -1,6 +1,7 @@
 -- What each way out tells, and each turn of the loop.
 use Rattle.std.proofs.Common.{◌≡◌, ◌≢◌, ◌++◌, ◌∙◌, inl, inr, Bool, true, false, ap, refl, sym, subst, arith, append-nil, List, ℕ, length}
 use Rattle.std.specs.Prelude.{Option, Some, None, Result, Ok, Err, IfSome, is_err}
+use Rattle.std.proofs.KnownBytes.{Keeps-refl, Keeps-trans}
 use Rattle.std.proofs.Math.Bool.{or-true}
 use Rattle.aho_base.specs.declared.error.stream.StreamError.{StreamError}
 use Rattle.aho_base.specs.Patterns.{Patterns}
@@ -15,9 +16,9 @@ use Rattle.aho_stream.proofs.Afters.{after_refilled, after_told}
 use Rattle.aho_stream.proofs.Deaths.{lives}
 use Rattle.aho_stream.proofs.Reported.{no_chunk_left, told_from}
 use Rattle.aho_stream.proofs.Walks.{unsettled_none}
-use Rattle.aho_stream.proofs.chunks.StreamChunkIter.advance.Given.{Over}
-use Rattle.aho_stream.proofs.chunks.StreamChunkIter.advance.Goals.{After-next_piece, After-refill}
-use Rattle.aho_stream.proofs.chunks.StreamChunkIter.advance.Goals as goal
+use Rattle.aho_stream.proofs.chunks.StreamChunkIter.advance_flushing.Given.{Over}
+use Rattle.aho_stream.proofs.chunks.StreamChunkIter.advance_flushing.Goals.{After-next_piece, After-refill}
+use Rattle.aho_stream.proofs.chunks.StreamChunkIter.advance_flushing.Goals as goal
 
 -- how far the iterator has come, by its automaton
 abbrev AfterOf : (g : Over) → g.row.A.Denot → Patterns → ℕ → StreamProgress → List ℕ → Type 0
@@ -46,6 +47,9 @@ loop-piece-init g c =
       ended = counted_same s.ended _;
       stays = λ e. e;
       unfailed = refl;
+      kept = Keeps-refl (g.W.Sink.taken c.args.sink.now);
+      writes = refl;
+      empty_writes = refl;
     }
 
 -- what was read before and after the next chunk was looked for
@@ -194,4 +198,7 @@ loop-piece-preserved g c =
           (inv.ended ∙ ap (λ (b : Bool). counted (ends_between s.ended b) (g.R.Source.empty_reads c.args.self.now.source.now)) (sym c.next_piece.ensures.ended ∙ c.if-self-2.false));
       stays = λ e. cc;
       unfailed = c.in_default-refill.ensures.read_failed ∙ inv.unfailed;
+      kept = Keeps-trans (g.W.Sink.taken c.args.sink.now) (g.W.Sink.taken c.loop-piece.sink) _ inv.kept c.in_ok-flush.ensures.kept;
+      writes = c.in_ok-flush.ensures.failures ∙ inv.writes;
+      empty_writes = c.in_ok-flush.ensures.empty_writes ∙ inv.empty_writes;
     }
