@@ -13,6 +13,8 @@ pub mod Listings
 pub mod Answers
 -- the matches of an iteration
 pub mod Iterations
+-- a span that is cut, and a pass over a list of what occurs
+pub mod ClearCuts
 -- a haystack whose matches are replaced
 pub mod Replacements
 -- the test of a character boundary
