@@ -1,6 +1,7 @@
 -- What the laws of a text that is cut say of patterns, of places and of pieces.
-use Rattle.std.specs.Prelude.{◌⊎◌, ℕ, ◌<◌, ◌≤◌, false, nat_le, if◌then◌else◌, List, [], ◌∷◌, length}
+use Rattle.std.specs.Prelude.{◌⊎◌, ℕ, ◌-◌, ◌<◌, ◌≤◌, max, false, nat_le, nat_lt, if◌then◌else◌, List, [], ◌∷◌, filter, length, map}
 use Rattle.aho_base.specs.declared.search.Anchored.TheVariants.{No}
+use Rattle.aho_base.specs.Laws.{longest}
 use Rattle.aho_base.specs.Occurrence.{Occurrence}
 use Rattle.aho_base.specs.Occurs.{Occurs}
 use Rattle.aho_base.specs.Patterns.{Patterns, pattern_at}
@@ -22,3 +23,11 @@ IsClear p haystack start end place = (m : Occurrence) → Occurs p No haystack s
 abbrev pub chosen : ℕ → List Occurrence → List Occurrence
 chosen at [] = []
 chosen at (m ∷ ms) = if nat_le at m.start then m ∷ chosen m.end ms else chosen at ms
+
+-- where a part has to begin that holds all that ends behind a cut: the longest length less one before it, or at the span's start
+abbrev pub overlap_start : Patterns → ℕ → ℕ → ℕ
+overlap_start p start cut = max start (cut - (longest (map length p.words) - 1))
+
+-- what ends behind a place
+abbrev pub ending_behind : ℕ → List Occurrence → List Occurrence
+ending_behind place ms = filter (λ (m : Occurrence). nat_lt place m.end) ms

@@ -7,7 +7,7 @@ ghost use Rattle.aho_base.specs.Occurrence.{Occurrence};
 ghost use Rattle.aho_base.specs.Order.{IsBefore};
 ghost use Rattle.aho_base.specs.Overlapping.{all_occurrences};
 ghost use Rattle.aho_base.specs.Patterns.{Patterns};
-ghost use Rattle.aho_laws.specs.CutLaws.{IsClear, NoneIsEmpty, chosen, span_search};
+ghost use Rattle.aho_laws.specs.CutLaws.{IsClear, NoneIsEmpty, chosen, ending_behind, overlap_start, span_search};
 ghost use Rattle.aho_base.specs.declared.search.MatchKind.TheVariants.{Standard};
 
 /// A span is cut at a place that no occurrence of it lies across. Then the finds of the part before
@@ -21,9 +21,19 @@ pub fn finds_at_clear_cuts()
         → AreFinds p (span_search haystack start end) None (ms ++ ns) }
 {}
 
+/// A span is cut at any place. Its list of all occurrences is that of the part before the cut, and then
+/// what ends behind the cut in a list of a part that begins earlier, by the longest pattern's length
+/// less one. Patterns may be empty.
+pub fn lists_overlapping_parts()
+    ensures spans { (p : Patterns) (haystack : List ℕ) (start cut end : ℕ)
+        → cut ≤ end → end ≤ length haystack
+        → all_occurrences p haystack start end ≡ all_occurrences p haystack start cut
+        ++ ending_behind cut (all_occurrences p haystack (overlap_start p start cut) end) }
+{}
+
 /// The finds of a span are what one pass takes from a list of all its occurrences, in the order of
-/// the match kind. A list by another order, as that of an overlapping search, has to be sorted first;
-/// the list of an overlapping search is in the order of the standard kind.
+/// the match kind. The list of an overlapping search is in the order of the standard kind; for another
+/// kind it is sorted first. No pattern may be empty.
 pub fn finds_are_chosen()
     ensures each_kind { (p : Patterns) (haystack : List ℕ) (start end : ℕ) (list : List Occurrence)
         → NoneIsEmpty p → end ≤ length haystack → IsListedBy (IsBefore p.kind) list
