@@ -15,6 +15,8 @@ pub mod Answers
 pub mod Iterations
 -- a span that is cut, and a pass over a list of what occurs
 pub mod ClearCuts
+-- the bytes of a span as a text of their own, and texts that are joined
+pub mod SpanTexts
 -- lists of parts that overlap
 pub mod OverlappingParts
 -- a haystack whose matches are replaced

@@ -1,5 +1,5 @@
 -- What the laws of a text that is cut say of patterns, of places and of pieces.
-use Rattle.std.specs.Prelude.{◌⊎◌, ℕ, ◌-◌, ◌<◌, ◌≤◌, max, false, nat_le, nat_lt, if◌then◌else◌, List, [], ◌∷◌, filter, length, map}
+use Rattle.std.specs.Prelude.{◌⊎◌, ℕ, ◌+◌, ◌-◌, ◌<◌, ◌≤◌, max, false, nat_le, nat_lt, if◌then◌else◌, List, [], ◌∷◌, filter, length, map}
 use Rattle.aho_base.specs.declared.search.Anchored.TheVariants.{No}
 use Rattle.aho_base.specs.Laws.{longest}
 use Rattle.aho_base.specs.Occurrence.{Occurrence}
@@ -31,3 +31,7 @@ overlap_start p start cut = max start (cut - (longest (map length p.words) - 1))
 -- what ends behind a place
 abbrev pub ending_behind : ℕ → List Occurrence → List Occurrence
 ending_behind place ms = filter (λ (m : Occurrence). nat_lt place m.end) ms
+
+-- a match so many places further on
+abbrev pub moved : ℕ → Occurrence → Occurrence
+moved by m = record { pattern = m.pattern; start = by + m.start; end = by + m.end }

@@ -1,14 +1,24 @@
 //! Laws of a text that is cut: when its parts can be searched apart, and what their answers are together.
 
-ghost use Rattle.std.specs.Prelude.{◌≡◌, ◌≤◌, ◌↔◌, ◌++◌, ℕ, List, length, None};
+ghost use Rattle.std.specs.Prelude.{◌≡◌, ◌≤◌, ◌↔◌, ◌++◌, ℕ, List, length, map, slice_range, None};
 ghost use Rattle.aho_base.specs.Iteration.{AreFinds};
 ghost use Rattle.aho_base.specs.Listing.{IsMember, IsListedBy};
 ghost use Rattle.aho_base.specs.Occurrence.{Occurrence};
 ghost use Rattle.aho_base.specs.Order.{IsBefore};
 ghost use Rattle.aho_base.specs.Overlapping.{all_occurrences};
 ghost use Rattle.aho_base.specs.Patterns.{Patterns};
-ghost use Rattle.aho_laws.specs.CutLaws.{IsClear, NoneIsEmpty, chosen, ending_behind, overlap_start, span_search};
+ghost use Rattle.aho_base.specs.Search.{plain_search};
+ghost use Rattle.aho_laws.specs.CutLaws.{IsClear, NoneIsEmpty, chosen, ending_behind, moved, overlap_start, span_search};
 ghost use Rattle.aho_base.specs.declared.search.MatchKind.TheVariants.{Standard};
+
+/// The bytes of a span may be searched as a text of their own. Its finds, moved on by the span's start,
+/// are the finds of the span. No pattern may be empty.
+pub fn spans_are_texts()
+    ensures finds { (p : Patterns) (haystack : List ℕ) (start end : ℕ) (ms : List Occurrence)
+        → NoneIsEmpty p → start ≤ end → end ≤ length haystack
+        → AreFinds p (plain_search (slice_range haystack start end)) None ms
+        → AreFinds p (span_search haystack start end) None (map (moved start) ms) }
+{}
 
 /// A span is cut at a place that no occurrence of it lies across. Then the finds of the part before
 /// the place and those of the part behind it, one after another, are the finds of the span, by each
@@ -19,6 +29,11 @@ pub fn finds_at_clear_cuts()
         → AreFinds p (span_search haystack start cut) None ms
         → AreFinds p (span_search haystack cut end) None ns
         → AreFinds p (span_search haystack start end) None (ms ++ ns) }
+    // Two texts, joined where no occurrence lies: the matches of the second move on by the first's length.
+    ensures texts { (p : Patterns) (left right : List ℕ) (ms ns : List Occurrence)
+        → NoneIsEmpty p → IsClear p (left ++ right) 0 (length (left ++ right)) (length left)
+        → AreFinds p (plain_search left) None ms → AreFinds p (plain_search right) None ns
+        → AreFinds p (plain_search (left ++ right)) None (ms ++ map (moved (length left)) ns) }
 {}
 
 /// A span is cut at any place. Its list of all occurrences is that of the part before the cut, and then
