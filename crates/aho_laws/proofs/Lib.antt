@@ -17,6 +17,8 @@ pub mod Iterations
 pub mod ClearCuts
 -- the bytes of a span as a text of their own, and texts that are joined
 pub mod SpanTexts
+-- a text that is cut into pieces, its finds and its replacement
+pub mod JoinedPieces
 -- lists of parts that overlap
 pub mod OverlappingParts
 -- a haystack whose matches are replaced

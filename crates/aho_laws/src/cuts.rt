@@ -1,14 +1,15 @@
 //! Laws of a text that is cut: when its parts can be searched apart, and what their answers are together.
 
-ghost use Rattle.std.specs.Prelude.{◌≡◌, ◌≤◌, ◌↔◌, ◌++◌, ℕ, List, length, map, slice_range, None};
+ghost use Rattle.std.specs.Prelude.{◌≡◌, ◌≤◌, ◌↔◌, ◌∷◌, ◌++◌, ◌+◌, ℕ, List, length, map, slice_range, None};
 ghost use Rattle.aho_base.specs.Iteration.{AreFinds};
 ghost use Rattle.aho_base.specs.Listing.{IsMember, IsListedBy};
 ghost use Rattle.aho_base.specs.Occurrence.{Occurrence};
 ghost use Rattle.aho_base.specs.Order.{IsBefore};
 ghost use Rattle.aho_base.specs.Overlapping.{all_occurrences};
 ghost use Rattle.aho_base.specs.Patterns.{Patterns};
+ghost use Rattle.aho_base.specs.Replacement.{replaced};
 ghost use Rattle.aho_base.specs.Search.{plain_search};
-ghost use Rattle.aho_laws.specs.CutLaws.{IsClear, NoneIsEmpty, chosen, ending_behind, moved, overlap_start, span_search};
+ghost use Rattle.aho_laws.specs.CutLaws.{AreCutBehind, AreSearched, IsClear, NoneHolds, NoneIsEmpty, Piece, chosen, ending_behind, joined, moved, overlap_start, placed, replaced_apart, span_search};
 ghost use Rattle.aho_base.specs.declared.search.MatchKind.TheVariants.{Standard};
 
 /// The bytes of a span may be searched as a text of their own. Its finds, moved on by the span's start,
@@ -34,6 +35,27 @@ pub fn finds_at_clear_cuts()
         → NoneIsEmpty p → IsClear p (left ++ right) 0 (length (left ++ right)) (length left)
         → AreFinds p (plain_search left) None ms → AreFinds p (plain_search right) None ns
         → AreFinds p (plain_search (left ++ right)) None (ms ++ map (moved (length left)) ns) }
+{}
+
+/// Where no pattern holds a byte, no occurrence lies across a place behind that byte. So the finds of a
+/// text that is cut behind some or all of these bytes, as a text is cut into lines, are those of its
+/// pieces, one after another, at their places in the text. No pattern may be empty.
+pub fn finds_of_lines()
+    ensures clear { (p : Patterns) (byte : ℕ) (front rest : List ℕ) (start end : ℕ)
+        → NoneHolds p byte → IsClear p (front ++ byte ∷ rest) start end (length front + 1) }
+    ensures finds { (p : Patterns) (byte : ℕ) (pieces : List Piece)
+        → NoneIsEmpty p → NoneHolds p byte → AreCutBehind byte pieces → AreSearched p pieces
+        → AreFinds p (plain_search (joined pieces)) None (placed 0 pieces) }
+{}
+
+/// A text is cut into pieces anywhere, and in each piece its own finds are replaced. Then the results,
+/// one after another, are the text with all these matches replaced. So where the finds of the pieces
+/// are those of the text, as of its lines, the replacements of the pieces are that of the text.
+pub fn replaces_in_pieces()
+    ensures pieces { (p : Patterns) (pieces : List Piece) (replacements : List (List ℕ))
+        → AreSearched p pieces
+        → replaced (joined pieces) (placed 0 pieces) replacements
+        ≡ replaced_apart pieces replacements }
 {}
 
 /// A span is cut at any place. Its list of all occurrences is that of the part before the cut, and then
