@@ -1,15 +1,13 @@
 -- A text that is cut into pieces: its finds, and its replacement.
-use Rattle.std.proofs.Common.{◌≡◌, ◌⊎◌, inl, inr, ℕ, zero, suc, ◌+◌, ◌-◌, ◌≤◌, ◌<◌, List, [], ◌∷◌, ◌++◌, length, map, take, drop, Option, Some, None, refl, sym, ◌∙◌, ap, subst, arith, append_assoc, length-append, length-drop}
+use Rattle.std.proofs.Common.{◌≡◌, inl, inr, ℕ, zero, suc, ◌+◌, ◌-◌, ◌≤◌, ◌<◌, List, [], ◌∷◌, ◌++◌, length, map, take, drop, None, refl, sym, ◌∙◌, ap, subst, arith, append_assoc, length-append, length-drop}
 use Rattle.std.specs.Prelude.{slice_index_or, slice_range}
 use Rattle.std.proofs.lemmas.Bool.{cases_lt}
 use Rattle.std.proofs.lemmas.List.{drop-append-le, map-append, take-append-le}
 use Rattle.std.proofs.Math.Seq.{drop-append-add, take-append-add}
-use Rattle.aho_base.specs.declared.search.Anchored.TheVariants.{No}
 use Rattle.aho_base.specs.Bytes.{folded, folded_word}
 use Rattle.aho_base.specs.Iteration.{AreFinds}
 use Rattle.aho_base.specs.Listing.{IsListedBy, IsMember}
 use Rattle.aho_base.specs.Occurrence.{Occurrence}
-use Rattle.aho_base.specs.Occurs.{Occurs}
 use Rattle.aho_base.specs.Patterns.{Patterns, pattern_at}
 use Rattle.aho_base.specs.Replacement.{replaced, replaced_from}
 use Rattle.aho_base.specs.Search.{plain_search}
@@ -25,8 +23,8 @@ map-moved_twice : (by at : ℕ) (ms : List Occurrence) → map (moved by) (map (
 map-moved_twice by at [] = refl
 map-moved_twice by at (m ∷ ms) =
     let first : moved by (moved at m) ≡ moved (by + at) m =
-        ap (λ (x : ℕ). record { pattern = m.pattern; start = x; end = by + (at + m.end) }) (omega arith)
-        ∙ ap (λ (x : ℕ). record { pattern = m.pattern; start = by + at + m.start; end = x }) (omega arith) in
+    ap (λ (x : ℕ). record { pattern = m.pattern; start = x; end = by + (at + m.end) }) (omega arith)
+    ∙ ap (λ (x : ℕ). record { pattern = m.pattern; start = by + at + m.start; end = x }) (omega arith) in
     let rest = map-moved_twice by at ms in
     cc
 
@@ -89,7 +87,7 @@ module _ (p : Patterns) where
   finds-pieces [] byte full none cut each = best-find p full [] 0 0 None None (λ m occurs. omega (arith, occurs.before_end, Occurs-full p full [] 0 0 m occurs))
   finds-pieces (piece ∷ pieces) byte full none cut each =
       let clear : IsClear p (piece.bytes ++ joined pieces) 0 (length (piece.bytes ++ joined pieces)) (length piece.bytes) =
-          elim cut.0 [ inl last ↦ clear_last piece.bytes (joined pieces) (ap joined last) | inr ends ↦ clear_joined byte piece.bytes (joined pieces) none ends ] in
+      elim cut.0 [ inl last ↦ clear_last piece.bytes (joined pieces) (ap joined last) | inr ends ↦ clear_joined byte piece.bytes (joined pieces) none ends ] in
       subst (AreFinds p (plain_search (piece.bytes ++ joined pieces)) None) (placed-first piece pieces)
       (finds-joined p full piece.bytes (joined pieces) piece.found (placed 0 pieces) clear (each piece (inl refl)) (finds-pieces pieces byte full none cut.1 (λ other later. each other (inr later))))
 
@@ -100,7 +98,7 @@ module _ (left right : List ℕ) (with : Occurrence → List ℕ) (alike : (m : 
   replaced-right (n ∷ ns) at =
       let count : (length left + n.start) - (length left + at) ≡ n.start - at = omega arith in
       let between : slice_range (left ++ right) (length left + at) (length left + n.start) ≡ slice_range right at n.start =
-          ap (take ((length left + n.start) - (length left + at))) (drop-append-add left right at) ∙ ap (λ (k : ℕ). take k (drop at right)) count in
+      ap (take ((length left + n.start) - (length left + at))) (drop-append-add left right at) ∙ ap (λ (k : ℕ). take k (drop at right)) count in
       let own = alike n in
       let rest = replaced-right ns n.end in
       cc
@@ -112,12 +110,12 @@ module _ (left right : List ℕ) (with : Occurrence → List ℕ) (alike : (m : 
       let count : (length left + n.start) - at ≡ length (drop at left) + n.start = omega (arith, length-drop at left) in
       let whole : n.start ≡ n.start - 0 = omega arith in
       let between : slice_range (left ++ right) at (length left + n.start) ≡ drop at left ++ slice_range right 0 n.start =
-          ap (take ((length left + n.start) - at)) (drop-append-le at left right low)
-          ∙ ap (λ (k : ℕ). take k (drop at left ++ right)) count
-          ∙ take-append-add (drop at left) right n.start
-          ∙ ap (λ (k : ℕ). drop at left ++ take k right) whole in
+      ap (take ((length left + n.start) - at)) (drop-append-le at left right low)
+      ∙ ap (λ (k : ℕ). take k (drop at left ++ right)) count
+      ∙ take-append-add (drop at left) right n.start
+      ∙ ap (λ (k : ℕ). drop at left ++ take k right) whole in
       let behind : with (moved (length left) n) ++ replaced_from (left ++ right) (length left + n.end) (map (moved (length left)) ns) with ≡ with n ++ replaced_from right n.end ns with =
-          ap (λ (bytes : List ℕ). bytes ++ replaced_from (left ++ right) (length left + n.end) (map (moved (length left)) ns) with) (alike n) ∙ ap (λ (bytes : List ℕ). with n ++ bytes) (replaced-right ns n.end) in
+      ap (λ (bytes : List ℕ). bytes ++ replaced_from (left ++ right) (length left + n.end) (map (moved (length left)) ns) with) (alike n) ∙ ap (λ (bytes : List ℕ). with n ++ bytes) (replaced-right ns n.end) in
       ap (λ (bytes : List ℕ). bytes ++ (with (moved (length left) n) ++ replaced_from (left ++ right) (length left + n.end) (map (moved (length left)) ns) with)) between
       ∙ ap (λ (bytes : List ℕ). (drop at left ++ slice_range right 0 n.start) ++ bytes) behind
       ∙ append_assoc (drop at left) (slice_range right 0 n.start) (with n ++ replaced_from right n.end ns with)
@@ -128,10 +126,10 @@ module _ (left right : List ℕ) (with : Occurrence → List ℕ) (alike : (m : 
   replaced-left (m ∷ ms) ns at low listed inside =
       let here = inside m (inl refl) in
       let between : slice_range (left ++ right) at m.start ≡ slice_range left at m.start =
-          ap (take (m.start - at)) (drop-append-le at left right low)
-          ∙ take-append-le (m.start - at) (drop at left) right (omega (arith, here.0, here.1, here.2, length-drop at left)) in
+      ap (take (m.start - at)) (drop-append-le at left right low)
+      ∙ take-append-le (m.start - at) (drop at left) right (omega (arith, here.0, here.1, here.2, length-drop at left)) in
       let rest : replaced_from (left ++ right) m.end (ms ++ map (moved (length left)) ns) with ≡ replaced_from left m.end ms with ++ replaced_from right 0 ns with =
-          replaced-left ms ns m.end here.2 listed.1 (λ n later. (listed.0 n later, (inside n (inr later)).1, (inside n (inr later)).2)) in
+      replaced-left ms ns m.end here.2 listed.1 (λ n later. (listed.0 n later, (inside n (inr later)).1, (inside n (inr later)).2)) in
       ap (λ (bytes : List ℕ). bytes ++ (with m ++ replaced_from (left ++ right) m.end (ms ++ map (moved (length left)) ns) with)) between
       ∙ ap (λ (bytes : List ℕ). slice_range left at m.start ++ (with m ++ bytes)) rest
       ∙ ap (λ (bytes : List ℕ). slice_range left at m.start ++ bytes) (sym (append_assoc (with m) (replaced_from left m.end ms with) (replaced_from right 0 ns with)))
@@ -145,8 +143,7 @@ replaced-pieces p (piece ∷ pieces) replacements each =
     let with_each = λ (m : Occurrence). slice_index_or replacements m.pattern [] in
     ap (λ (ms : List Occurrence). replaced (piece.bytes ++ joined pieces) ms replacements) (sym (placed-first piece pieces))
     ∙ replaced-left piece.bytes (joined pieces) with_each (λ m. refl) piece.found (placed 0 pieces) 0 (omega arith) (finds-apart p piece.found (plain_search piece.bytes) None found)
-    (λ m in_found.
-    (
+    (λ m in_found. (
       omega arith,
       finds-ordered p piece.found (plain_search piece.bytes) None found m in_found,
       (finds-occur p piece.found (plain_search piece.bytes) None m found in_found).before_end,

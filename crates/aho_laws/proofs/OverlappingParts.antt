@@ -1,5 +1,5 @@
 -- The list of all occurrences of a span, from those of two parts that overlap.
-use Rattle.std.proofs.Common.{◌≡◌, ◌⊎◌, inl, inr, ℕ, zero, suc, ◌+◌, ◌-◌, ◌≤◌, ◌<◌, max, List, [], ◌∷◌, ◌++◌, length, map, refl, sym, ◌∙◌, subst, arith}
+use Rattle.std.proofs.Common.{◌≡◌, inl, inr, ℕ, zero, suc, ◌-◌, ◌≤◌, ◌<◌, List, [], ◌∷◌, ◌++◌, length, map, refl, sym, ◌∙◌, subst, arith}
 use Rattle.std.specs.Prelude.{nat_lt, slice_index_or}
 use Rattle.std.proofs.Math.Nat.{le-max_left, le-max_right}
 use Rattle.std.proofs.lemmas.Bool.{cases_lt, lt-ltb, ltb-true}
@@ -11,7 +11,7 @@ use Rattle.aho_base.specs.Occurrence.{Occurrence}
 use Rattle.aho_base.specs.Occurs.{Occurs}
 use Rattle.aho_base.specs.Order.{IsBefore}
 use Rattle.aho_base.specs.Overlapping.{all_occurrences}
-use Rattle.aho_base.specs.Patterns.{Patterns, pattern_at}
+use Rattle.aho_base.specs.Patterns.{Patterns}
 use Rattle.aho_laws.specs.CutLaws.{ending_behind, overlap_start}
 use Rattle.aho_laws.proofs.ClearCuts.{Occurs-in}
 use Rattle.aho_laws.proofs.Listed.{listed-append, member-left, member-of_append, member-right}
@@ -27,14 +27,14 @@ listed-same Before [] (y ∷ ys) never trans p q forth back = absurd (back y (in
 listed-same Before (x ∷ xs) [] never trans p q forth back = absurd (forth x (inl refl))
 listed-same {X} Before (x ∷ xs) (y ∷ ys) never trans p q forth back =
     let first : x ≡ y =
-        elim (forth x (inl refl)) [
-          | inl e ↦ e
-          | inr in_ys ↦ elim (back y (inl refl)) [ inl e ↦ sym e | inr in_xs ↦ absurd (never x (trans x y x (p.0 y in_xs) (q.0 x in_ys))) ]
-        ] in
+    elim (forth x (inl refl)) [
+      | inl e ↦ e
+      | inr in_ys ↦ elim (back y (inl refl)) [ inl e ↦ sym e | inr in_xs ↦ absurd (never x (trans x y x (p.0 y in_xs) (q.0 x in_ys))) ]
+    ] in
     let rest : xs ≡ ys =
-        listed-same Before xs ys never trans p.1 q.1
-        (λ z in_xs. elim (forth z (inr in_xs)) [ inl e ↦ absurd (never x (subst (Before x) (e ∙ sym first) (p.0 z in_xs))) | inr in_ys ↦ in_ys ])
-        (λ z in_ys. elim (back z (inr in_ys)) [ inl e ↦ absurd (never y (subst (Before y) (e ∙ first) (q.0 z in_ys))) | inr in_xs ↦ in_xs ]) in
+    listed-same Before xs ys never trans p.1 q.1
+    (λ z in_xs. elim (forth z (inr in_xs)) [ inl e ↦ absurd (never x (subst (Before x) (e ∙ sym first) (p.0 z in_xs))) | inr in_ys ↦ in_ys ])
+    (λ z in_ys. elim (back z (inr in_ys)) [ inl e ↦ absurd (never y (subst (Before y) (e ∙ first) (q.0 z in_ys))) | inr in_xs ↦ in_xs ]) in
     cc
 
 -- no pattern is longer than the longest

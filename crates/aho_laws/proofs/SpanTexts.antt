@@ -1,5 +1,5 @@
 -- The bytes of a span as a text of their own, and texts that are joined.
-use Rattle.std.proofs.Common.{◌≡◌, ◌⊎◌, inl, inr, ℕ, ◌+◌, ◌-◌, ◌≤◌, ◌<◌, List, [], ◌∷◌, ◌++◌, length, map, take, drop, Option, Some, None, refl, sym, ◌∙◌, ap, subst, arith, length-append, length-drop}
+use Rattle.std.proofs.Common.{◌≡◌, inl, inr, ℕ, ◌+◌, ◌-◌, ◌≤◌, List, [], ◌∷◌, ◌++◌, length, map, take, drop, Option, Some, None, refl, sym, ◌∙◌, ap, subst, arith, length-append, length-drop}
 use Rattle.std.specs.Prelude.{slice_range}
 use Rattle.std.proofs.lemmas.List.{take-take, drop-drop, drop-take, length-take}
 use Rattle.std.proofs.Math.Seq.{drop-append_seam, take-append_seam, take-length}
@@ -87,8 +87,8 @@ module _ (p : Patterns) (haystack : List ℕ) (start end : ℕ) where
       let starts : start + (m.start - start) ≡ m.start = omega arith in
       let ends : start + (m.end - start) ≡ m.end = omega arith in
       let bytes : slice_range part (m.start - start) (m.end - start) ≡ slice_range haystack m.start m.end =
-          part_of_part haystack start end (m.start - start) (m.end - start) (omega arith) (omega arith)
-          ∙ ap (λ (x : ℕ). slice_range haystack x (start + (m.end - start))) starts ∙ ap (slice_range haystack m.start) ends in
+      part_of_part haystack start end (m.start - start) (m.end - start) (omega arith) (omega arith)
+      ∙ ap (λ (x : ℕ). slice_range haystack x (start + (m.end - start))) starts ∙ ap (slice_range haystack m.start) ends in
       record {
         numbered = o.numbered;
         after_start = omega arith;
