@@ -13,6 +13,14 @@ pub mod Listings
 pub mod Answers
 -- the matches of an iteration
 pub mod Iterations
+-- a span that is cut, and a pass over a list of what occurs
+pub mod ClearCuts
+-- the bytes of a span as a text of their own, and texts that are joined
+pub mod SpanTexts
+-- a text that is cut into pieces, its finds and its replacement
+pub mod JoinedPieces
+-- lists of parts that overlap
+pub mod OverlappingParts
 -- a haystack whose matches are replaced
 pub mod Replacements
 -- the test of a character boundary

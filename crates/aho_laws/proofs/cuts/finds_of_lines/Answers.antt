@@ -1,0 +1,8 @@
+use Rattle.aho_laws.proofs.JoinedPieces.{clear_behind, finds-pieces}
+use Rattle.aho_laws.proofs.cuts.finds_of_lines.Goals as goal
+
+pub returns-clause-clear : goal.returns-clause-clear
+returns-clause-clear c = clear_behind
+
+pub returns-clause-finds : goal.returns-clause-finds
+returns-clause-finds c = λ p byte pieces full none cut each. finds-pieces p pieces byte full none cut each

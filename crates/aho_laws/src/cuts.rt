@@ -1,0 +1,83 @@
+//! Laws of a text that is cut: when its parts can be searched apart, and what their answers are together.
+
+ghost use Rattle.std.specs.Prelude.{◌≡◌, ◌≤◌, ◌↔◌, ◌∷◌, ◌++◌, ◌+◌, ℕ, List, length, map, slice_range, None};
+ghost use Rattle.aho_base.specs.Iteration.{AreFinds};
+ghost use Rattle.aho_base.specs.Listing.{IsMember, IsListedBy};
+ghost use Rattle.aho_base.specs.Occurrence.{Occurrence};
+ghost use Rattle.aho_base.specs.Order.{IsBefore};
+ghost use Rattle.aho_base.specs.Overlapping.{all_occurrences};
+ghost use Rattle.aho_base.specs.Patterns.{Patterns};
+ghost use Rattle.aho_base.specs.Replacement.{replaced};
+ghost use Rattle.aho_base.specs.Search.{plain_search};
+ghost use Rattle.aho_laws.specs.CutLaws.{AreCutBehind, AreSearched, IsClear, NoneHolds, NoneIsEmpty, Piece, chosen, ending_behind, joined, moved, overlap_start, placed, replaced_apart, span_search};
+ghost use Rattle.aho_base.specs.declared.search.MatchKind.TheVariants.{Standard};
+
+/// The bytes of a span may be searched as a text of their own. Its finds, moved on by the span's start,
+/// are the finds of the span. No pattern may be empty.
+pub fn spans_are_texts()
+    ensures finds { (p : Patterns) (haystack : List ℕ) (start end : ℕ) (ms : List Occurrence)
+        → NoneIsEmpty p → start ≤ end → end ≤ length haystack
+        → AreFinds p (plain_search (slice_range haystack start end)) None ms
+        → AreFinds p (span_search haystack start end) None (map (moved start) ms) }
+{}
+
+/// A span is cut at a place that no occurrence of it lies across. Then the finds of the part before
+/// the place and those of the part behind it, one after another, are the finds of the span, by each
+/// match kind. No pattern may be empty: an empty match at the place would be found in both parts.
+pub fn finds_at_clear_cuts()
+    ensures spans { (p : Patterns) (haystack : List ℕ) (start cut end : ℕ) (ms ns : List Occurrence)
+        → NoneIsEmpty p → start ≤ cut → cut ≤ end → IsClear p haystack start end cut
+        → AreFinds p (span_search haystack start cut) None ms
+        → AreFinds p (span_search haystack cut end) None ns
+        → AreFinds p (span_search haystack start end) None (ms ++ ns) }
+    // Two texts, joined where no occurrence lies: the matches of the second move on by the first's length.
+    ensures texts { (p : Patterns) (left right : List ℕ) (ms ns : List Occurrence)
+        → NoneIsEmpty p → IsClear p (left ++ right) 0 (length (left ++ right)) (length left)
+        → AreFinds p (plain_search left) None ms → AreFinds p (plain_search right) None ns
+        → AreFinds p (plain_search (left ++ right)) None (ms ++ map (moved (length left)) ns) }
+{}
+
+/// Where no pattern holds a byte, no occurrence lies across a place behind that byte. So the finds of a
+/// text that is cut behind some or all of these bytes, as a text is cut into lines, are those of its
+/// pieces, one after another, at their places in the text. No pattern may be empty.
+pub fn finds_of_lines()
+    ensures clear { (p : Patterns) (byte : ℕ) (front rest : List ℕ) (start end : ℕ)
+        → NoneHolds p byte → IsClear p (front ++ byte ∷ rest) start end (length front + 1) }
+    ensures finds { (p : Patterns) (byte : ℕ) (pieces : List Piece)
+        → NoneIsEmpty p → NoneHolds p byte → AreCutBehind byte pieces → AreSearched p pieces
+        → AreFinds p (plain_search (joined pieces)) None (placed 0 pieces) }
+{}
+
+/// A text is cut into pieces anywhere, and in each piece its own finds are replaced. Then the results,
+/// one after another, are the text with all these matches replaced. So where the finds of the pieces
+/// are those of the text, as of its lines, the replacements of the pieces are that of the text.
+pub fn replaces_in_pieces()
+    ensures pieces { (p : Patterns) (pieces : List Piece) (replacements : List (List ℕ))
+        → AreSearched p pieces
+        → replaced (joined pieces) (placed 0 pieces) replacements
+        ≡ replaced_apart pieces replacements }
+{}
+
+/// A span is cut at any place. Its list of all occurrences is that of the part before the cut, and then
+/// what ends behind the cut in a list of a part that begins earlier, by the longest pattern's length
+/// less one. Patterns may be empty.
+pub fn lists_overlapping_parts()
+    ensures spans { (p : Patterns) (haystack : List ℕ) (start cut end : ℕ)
+        → cut ≤ end → end ≤ length haystack
+        → all_occurrences p haystack start end ≡ all_occurrences p haystack start cut
+        ++ ending_behind cut (all_occurrences p haystack (overlap_start p start cut) end) }
+{}
+
+/// The finds of a span are what one pass takes from a list of all its occurrences, in the order of
+/// the match kind. The list of an overlapping search is in the order of the standard kind; for another
+/// kind it is sorted first. No pattern may be empty.
+pub fn finds_are_chosen()
+    ensures each_kind { (p : Patterns) (haystack : List ℕ) (start end : ℕ) (list : List Occurrence)
+        → NoneIsEmpty p → end ≤ length haystack → IsListedBy (IsBefore p.kind) list
+        → ((m : Occurrence) → (IsMember list m ↔ IsMember (all_occurrences p haystack start end) m))
+        → AreFinds p (span_search haystack start end) None (chosen start list) }
+    ensures standard { (p : Patterns) (haystack : List ℕ) (start end : ℕ)
+        → NoneIsEmpty p → end ≤ length haystack → p.kind ≡ Standard
+        → AreFinds p (span_search haystack start end) None
+        (chosen start (all_occurrences p haystack start end)) }
+{}
