@@ -1,0 +1,6 @@
+//! Automata whose states have rows.
+#![tactic(auto)]
+
+pub mod hybrid;
+mod fill;
+mod rows;
