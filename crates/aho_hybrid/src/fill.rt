@@ -47,7 +47,7 @@ pub fn rows_of(alloc: Global, nfa: &NFA) -> Result<Rows, BuildError>
     if size > SmallIndex::MAX.as_usize() {
         return Err(overflow(size));
     }
-    let firsts = first_bytes(alloc, nfa.byte_classes())?;
+    let firsts = first_bytes(nfa.byte_classes());
     let filled = filled_rows(alloc, nfa, &firsts, stride)?;
     if filled.lists.len() > SmallIndex::MAX.as_usize() {
         return Err(overflow(filled.lists.len()));
@@ -96,30 +96,15 @@ fn push(list: &mut Vec<SmallIndex>, index: SmallIndex) -> Result<(), BuildError>
 }
 
 /// A byte of each class, by the class.
-fn first_bytes(alloc: Global, classes: &ByteClasses) -> Result<Vec<u8>, BuildError>
-    ensures first { IfOk result (λ firsts. AreFirst classes.now firsts.items) }
-    ensures refused { IfErr result IsRefused }
+fn first_bytes(classes: &ByteClasses) -> [u8; 256]
+    ensures first { AreFirst classes.now result }
 {
-    let mut firsts = zeros(alloc)?;
-    for byte in 0..256 {
-        let byte = byte as u8;
+    let mut firsts = [0; 256];
+    for index in 0..256usize {
+        let byte = index as u8;
         firsts[classes.get(byte) as usize] = byte;
     }
-    Ok(firsts)
-}
-
-/// 256 zeros.
-fn zeros(alloc: Global) -> Result<Vec<u8>, BuildError>
-    ensures zeros { IfOk result (λ zeros. length zeros.items ≡ 256) }
-    ensures refused { IfErr result IsRefused }
-{
-    let mut zeros = Vec::new(alloc);
-    for _ in 0..256usize {
-        let Ok(()) = zeros.push(0) else {
-            return Err(BuildError::OutOfMemory);
-        };
-    }
-    Ok(zeros)
+    firsts
 }
 
 /// Where the row of a state of the `NFA` begins.
