@@ -48,7 +48,7 @@ no-entries states firsts stride sid old = record {
 -- before the first row
 pub none-filled : (special : Special) (states : List State) (classes : List Bool) (firsts : List ℕ) (low : ℕ) → 0 < low → IsFilled special states classes firsts 0 [] (0 ∷ []) low
 none-filled special states classes firsts low some = record {
-  sized = refl;
+  sized = omega arith;
   entry = λ i class below. absurd (omega (arith, below));
   step = λ i class below. absurd (omega (arith, below));
   listed = λ i below. absurd (omega (arith, below));

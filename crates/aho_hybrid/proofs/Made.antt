@@ -2,7 +2,7 @@
 use Rattle.std.proofs.Common.{◌≡◌, ◌≢◌, ℕ, zero, suc, ◌+◌, ◌*◌, ◌<◌, ◌≤◌, ◌%◌, ◌/◌, ◌||◌, Bool, true, false, cond, List, [], ◌∷◌, length, map, get_or, nat_eq, refl, sym, ap, subst, ◌∙◌, inl, inr, arith, eq-eqb, ne_eqb}
 use Rattle.std.specs.Prelude.{Option, Some, None, is_none, nat_lt}
 use Rattle.std.proofs.Math.Nat.{mul-le-mul_right, mul-mod_left, mul_comm}
-use Rattle.std.proofs.lemmas.Bool.{cases_Bool, cases_eq, cond-true, cond-false, ltb-lt, ltb-false}
+use Rattle.std.proofs.lemmas.Bool.{cases_Bool, cases_eq, cond-true, cond-false}
 use Rattle.std.proofs.lemmas.Bool.Decides.{nat_tests}
 use Rattle.std.proofs.lemmas.Nat.{div-add-mod', div-mul-add}
 use Rattle.aho_base.specs.Bytes.{folded}
@@ -34,6 +34,15 @@ use Rattle.aho_hybrid.specs.Reading.{IsLayoutOf}
 -- the state of a row, by the row's number
 source-dead : (special : Special) → source_in special 0 ≡ 0
 source-dead special = refl
+
+-- two layouts are one where their borders and starts are
+pub same-layout : (rows lists : List ℕ) (classes classes' : List Bool) (start start' low : ℕ) → classes ≡ classes' → start ≡ start'
+    → let one : Layout = record { rows = rows; lists = lists; classes = classes; start = start; low = low } in
+    let other : Layout = record { rows = rows; lists = lists; classes = classes'; start = start'; low = low } in
+    one ≡ other
+same-layout rows lists classes classes' start start' low classes_are start_is =
+    ap (λ (cs : List Bool). record { rows = rows; lists = lists; classes = cs; start = start; low = low }) classes_are
+    ∙ ap (λ (n : ℕ). record { rows = rows; lists = lists; classes = classes'; start = n; low = low }) start_is
 
 module _ (special : Special) (states : List State) (classes : List Bool) (firsts entries lists : List ℕ) (low : ℕ)
     (filled : IsFilled special states classes firsts (length states) entries lists low) (starts : AreStarts special states) where
@@ -72,15 +81,22 @@ module _ (special : Special) (states : List State) (classes : List Bool) (firsts
   by-number : (P : ℕ → Type 0) → ((i : ℕ) → i < length states → P (i * stride)) → (sid : ℕ) → IsRow stride (length entries) sid → P sid
   by-number P holds sid row = subst P (row-number sid row) (holds (sid / stride) (row-below sid row))
 
+  none : (n : ℕ) → 0 * n ≡ 0
+  none n = omega arith
+
+  first : (class : ℕ) → class ≡ 0 * stride + class
+  first class = omega arith
+
   pub sound-layout : length entries ≤ greatest_index → length lists ≤ greatest_index + 1 → 0 < length states → IsSoundLayout layout
   sound-layout small small_lists some = record {
-    dead = row-of 0 some;
+    dead = subst (IsRow stride (length entries)) (none stride) (row-of 0 some);
     start = row-of root starts.unanchored.state.0;
     next = λ sid class row within.
         by-number (λ (n : ℕ). IsRow stride (length entries) (get_or entries (n + class) 0))
         (λ i below. subst (IsRow stride (length entries)) (sym (filled.entry i class below within)) (row-of (leads_in states firsts (source_in special i) class) (filled.step i class below within).state.0))
         sid row;
-    dead_stays = λ class within. filled.entry 0 class some within ∙ ap (λ (n : ℕ). n * stride) ((filled.step 0 class some within).dead_stays refl);
+    dead_stays = λ class within.
+        ap (λ (n : ℕ). get_or entries n 0) (first class) ∙ filled.entry 0 class some within ∙ ap (λ (n : ℕ). n * stride) ((filled.step 0 class some within).dead_stays refl) ∙ none stride;
     dead_special = filled.some;
     listed = by-number (λ (n : ℕ). get_or entries (n + class_count classes) 0 + get_or lists (get_or entries (n + class_count classes) 0) 0 < length lists)
         (λ i below. within-at lists (get_or entries (i * stride + class_count classes) 0) (matches_in states (source_in special i)) (filled.listed i below));
@@ -176,13 +192,6 @@ module _ (special : Special) (states : List State) (classes : List Bool) (firsts
         ∙ held-dead special p names states a No (name_at names source) source (source-held i below)
         ∙ ap (λ (n : ℕ). is_none (name_at names (source_in special n))) (sym (row-divided i))
       where
-        same_test : (i : ℕ) → nat_eq (i * stride) 0 ≡ nat_eq (source_in special i) 0
-        same_test i =
-            elim (cases_eq i 0) [
-              | inl dead ↦ subst (λ (n : ℕ). nat_eq (n * stride) 0 ≡ nat_eq (source_in special n) 0) (sym dead) refl
-              | inr alive ↦ ne_eqb (i * stride) 0 (λ e. alive (omega (arith, in-row 0 0 i stride (omega (arith, alive)) (omega arith), e))) ∙ sym (ne_eqb (source_in special i) 0 (other i alive))
-            ]
-
         other : (i : ℕ) → i ≢ 0 → source_in special i ≢ 0
         other i alive e =
             elim (cases_Bool (nat_eq i 1 || nat_eq i special.start_anchored_id)) [
@@ -192,6 +201,13 @@ module _ (special : Special) (states : List State) (classes : List Bool) (firsts
               | inr own ↦
                   alive
                   (sym (cond-false {A = ℕ} (nat_eq i 0) 0 (cond (nat_eq i 1 || nat_eq i special.start_anchored_id) root i) (ne_eqb i 0 alive) ∙ cond-false {A = ℕ} (nat_eq i 1 || nat_eq i special.start_anchored_id) root i own) ∙ e)
+            ]
+
+        same_test : (i : ℕ) → nat_eq (i * stride) 0 ≡ nat_eq (source_in special i) 0
+        same_test i =
+            elim (cases_eq i 0) [
+              | inl dead ↦ subst (λ (n : ℕ). nat_eq (n * stride) 0 ≡ nat_eq (source_in special n) 0) (sym dead) (ap (λ (n : ℕ). nat_eq n 0) (none stride))
+              | inr alive ↦ ne_eqb (i * stride) 0 (λ e. alive (omega (arith, in-row 0 0 i stride (omega (arith, alive)) (omega arith), e))) ∙ sym (ne_eqb (source_in special i) 0 (other i alive))
             ]
 
     pub layout-of : (kind : MatchKind) (lengths : List ℕ) → kind ≡ p.kind → lengths ≡ map length p.words → IsLayoutOf layout p kind lengths

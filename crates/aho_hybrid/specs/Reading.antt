@@ -2,8 +2,8 @@
 use Rattle.std.proofs.Common.{◌≡◌, ℕ, ◌+◌, ◌<◌, arith, Bool, true, false, List, [], ◌∷◌, ◌++◌, length, map, refl, sym, subst, ◌∙◌, ap, nat_eq, eqb-true, ne_eqb}
 use Rattle.std.proofs.lemmas.Bool.{both_ways, cond-false, lt-ltb}
 use Rattle.std.proofs.lemmas.List.{append-nil, append_assoc}
-use Rattle.std.proofs.lemmas.List.Elements.{All-append}
-use Rattle.std.specs.Prelude.{Option, Some, None, is_none, nat_lt}
+use Rattle.std.proofs.lemmas.List.Elements.{All-head, All-nil, All-push, All-tail}
+use Rattle.std.specs.Prelude.{Option, Some, None, is_none, nat_lt, slice_index_or}
 use Rattle.std.specs.List.{All}
 use Rattle.aho_base.specs.Bytes.{folded}
 use Rattle.aho_base.specs.Held.{held_after}
@@ -41,6 +41,12 @@ module _ (t : Layout) (sound : IsSoundLayout t) where
   pub next-state : (sid byte : ℕ) → IsStateIn t sid → IsStateIn t (next_in t sid byte)
   next-state sid byte state = sound.next sid (class_of t.classes byte) state (class_of-count t.classes byte)
 
+  -- from a dead state it leads to a dead state again
+  pub dead-next : (sid byte : ℕ) → nat_eq sid 0 ≡ true → nat_eq (next_in t sid byte) 0 ≡ true
+  dead-next sid byte dead =
+      let place : sid + class_of t.classes byte ≡ class_of t.classes byte = omega (arith, eqb-true sid 0 dead) in
+      ap (λ (n : ℕ). nat_eq (slice_index_or t.rows n 0) 0) place ∙ ap (λ (n : ℕ). nat_eq n 0) (sound.dead_stays (class_of t.classes byte) (class_of-count t.classes byte))
+
   run-state : (sid : ℕ) (word : List ℕ) → IsStateIn t sid → IsStateIn t (run_from t sid word)
   run-state sid [] state = state
   run-state sid (x ∷ word) state = run-state (next_in t sid x) word (next-state sid x state)
@@ -48,7 +54,7 @@ module _ (t : Layout) (sound : IsSoundLayout t) where
   -- a state that follows the held one is held after one more byte
   pub held-next : (anchored : Anchored) (word : List ℕ) (sid byte next : ℕ) → byte < 256 → next ≡ next_in t sid byte → IsHeldIn t anchored word sid → IsHeldIn t anchored (word ++ byte ∷ []) next
   held-next No word sid byte next small is held =
-      (All-append (λ (b : ℕ). b < 256) word (byte ∷ []) held.0 (small, tt), is ∙ ap (λ (n : ℕ). next_in t n byte) held.1 ∙ sym (run-push t.start word byte))
+      (All-push (λ (b : ℕ). b < 256) word byte held.0 small, is ∙ ap (λ (n : ℕ). next_in t n byte) held.1 ∙ sym (run-push t.start word byte))
   held-next Yes word sid byte next small is held = absurd held
 
   module _ (p : Patterns) (kind : MatchKind) (lengths : List ℕ) (of : IsLayoutOf t p kind lengths) where
@@ -57,8 +63,8 @@ module _ (t : Layout) (sound : IsSoundLayout t) where
     word-run before sid [] small state is = is ∙ ap (held_after p No) (sym (append-nil before))
     word-run before sid (x ∷ word) small state is =
         let one : of.word (next_in t sid x) ≡ held_after p No (before ++ x ∷ []) =
-        of.at_next sid x state small.0 ∙ ap (λ (o : Option (List ℕ)). follow p No o (folded p x)) is ∙ sym (held_after-push p No before x) in
-        word-run (before ++ x ∷ []) (next_in t sid x) word small.1 (next-state sid x state) one
+        of.at_next sid x state (All-head (λ (b : ℕ). b < 256) x word small) ∙ ap (λ (o : Option (List ℕ)). follow p No o (folded p x)) is ∙ sym (held_after-push p No before x) in
+        word-run (before ++ x ∷ []) (next_in t sid x) word (All-tail (λ (b : ℕ). b < 256) x word small) (next-state sid x state) one
         ∙ ap (held_after p No) (append_assoc before (x ∷ []) word)
 
     held-word : (word : List ℕ) (sid : ℕ) → IsHeldIn t No word sid → IsStateIn t sid × (of.word sid ≡ held_after p No word)
@@ -87,7 +93,7 @@ module _ (t : Layout) (sound : IsSoundLayout t) where
     begun : (word : List ℕ) (sid : ℕ) → IsHeldIn t No word sid → nat_eq sid t.start ≡ true → IsHeldIn t No [] sid × (held_after p No word ≡ Some [])
     begun word sid held first =
         let is : sid ≡ t.start = eqb-true sid t.start first in
-        ((tt, is), sym (held-word word sid held).1 ∙ ap of.word is ∙ of.at_start)
+        ((All-nil (λ (b : ℕ). b < 256), is), sym (held-word word sid held).1 ∙ ap of.word is ∙ of.at_start)
 
     -- the states that may be held have the laws of an automaton
     pub reads_of : Reads p kind lengths (IsHeldIn t) (list_in t) (λ sid. nat_eq sid 0) (λ sid. nat_eq sid t.start)

@@ -131,14 +131,10 @@ fn source_of(special: &Special, index: usize) -> StateID
 }
 
 /// The rows of all states.
-fn filled_rows(
-    alloc: Global,
-    nfa: &NFA,
-    firsts: &[u8],
-    stride: usize,
-) -> Result<Filled, BuildError>
+fn filled_rows(alloc: Global, nfa: &NFA, firsts: &[u8], stride: usize) -> Result<Filled, BuildError>
     requires stride { stride ≡ stride_of (classes_of nfa.now) }
     requires small { length (states_of nfa.now) * stride ≤ greatest_index }
+    requires bounded { stride ≤ 257 }
     requires firsts { length firsts.now ≡ 256 }
     ensures filled { IfOk result (λ f. IsFilled (special_of nfa.now) (states_of nfa.now) (classes_of nfa.now) firsts.now
         (length (states_of nfa.now)) f.entries.items f.lists.items f.low) }
@@ -163,7 +159,9 @@ fn first_low(nfa: &NFA, stride: usize) -> usize
     ensures some { 0 < result }
 {
     match nfa.prefilter() {
-        Some(_) => (nfa.special().start_unanchored_id.as_usize() + 1).saturating_mul(stride).max(1),
+        Some(_) => (nfa.special().start_unanchored_id.as_usize() + 1)
+            .saturating_mul(stride)
+            .max(1),
         None => 1,
     }
 }
@@ -178,6 +176,7 @@ fn add_row(
 ) -> Result<(), BuildError>
     requires stride { stride ≡ stride_of (classes_of nfa.now) }
     requires small { length (states_of nfa.now) * stride ≤ greatest_index }
+    requires bounded { stride ≤ 257 }
     requires firsts { length firsts.now ≡ 256 }
     requires within { index < length (states_of nfa.now) }
     requires filled { IsFilled (special_of nfa.now) (states_of nfa.now) (classes_of nfa.now) firsts.now
@@ -190,10 +189,16 @@ fn add_row(
     push_entries(&mut filled.entries, nfa, firsts, stride, sid)?;
     let place = push_list(&mut filled.lists, nfa, sid)?;
     push(&mut filled.entries, place)?;
-    if nfa.match_len(sid) > 0 {
-        filled.low = filled.low.max(filled.entries.len());
-    }
+    filled.low = low_with(filled.low, filled.entries.len(), nfa.match_len(sid));
     Ok(())
+}
+
+/// The number below which states are special, with one state more: its row ends here, and it lists so many patterns.
+fn low_with(low: usize, end: usize, listed: usize) -> usize
+    ensures higher { low ≤ result }
+    ensures past { result < end → listed ≡ 0 }
+{
+    if listed > 0 { low.max(end) } else { low }
 }
 
 /// The entries of a row: where a byte of each class leads.
@@ -206,6 +211,7 @@ fn push_entries(
 ) -> Result<(), BuildError>
     requires stride { stride ≡ stride_of (classes_of nfa.now) }
     requires small { length (states_of nfa.now) * stride ≤ greatest_index }
+    requires bounded { stride ≤ 257 }
     requires firsts { length firsts.now ≡ 256 }
     requires state { IsState (states_of nfa.now) sid }
     ensures entries { OnOk result (HasEntries (states_of nfa.now) firsts.now stride sid

@@ -1,9 +1,11 @@
 //! The automaton.
 
-ghost use Rattle.std.specs.Prelude.{◌≡◌, ◌+◌, ◌<◌, ◌≤◌, ◌^◌, length};
+ghost use Rattle.std.specs.Prelude.{◌≡◌, ◌+◌, ◌<◌, ◌≤◌, ◌^◌, length, IfOk, IfErr};
+ghost use Rattle.std.specs.Option.{option_map};
 ghost use Rattle.aho_base.specs.Laws.{shortest, longest};
 ghost use Rattle.aho_base.specs.Numbers.{greatest_index};
 ghost use Rattle.aho_prefilter.specs.Prefilter.{prefilter_bytes};
+ghost use Rattle.aho_hybrid.specs.Filled.{IsRefused};
 ghost use Rattle.aho_hybrid.specs.Layout.{IsSoundLayout};
 
 use crate::fill::rows_of;
@@ -35,9 +37,7 @@ pub struct Hybrid {
 }
 
 impl Hybrid {
-    ghost use Rattle.std.specs.Prelude.{IfOk, IfErr};
     ghost use Rattle.aho_base.specs.Patterns.{Patterns};
-    ghost use Rattle.aho_hybrid.specs.Filled.{IsRefused};
 
     /// The automaton of all that the `NFA` is of.
     ///

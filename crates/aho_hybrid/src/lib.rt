@@ -1,6 +1,6 @@
 //! Automata whose states have rows.
 #![tactic(auto)]
 
-pub mod hybrid;
 mod fill;
+pub mod hybrid;
 mod rows;
