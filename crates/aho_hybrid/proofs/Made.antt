@@ -1,7 +1,7 @@
 -- The rows of all states of an automaton that is read out are an automaton of the same patterns.
-use Rattle.std.proofs.Common.{◌≡◌, ◌≢◌, ℕ, zero, suc, ◌+◌, ◌*◌, ◌<◌, ◌≤◌, ◌%◌, ◌/◌, ◌||◌, Bool, true, false, cond, List, [], ◌∷◌, length, map, get_or, nat_eq, refl, sym, ap, subst, ◌∙◌, inl, inr, arith, eq-eqb, ne_eqb}
+use Rattle.std.proofs.Common.{◌≡◌, ◌≢◌, ℕ, ◌+◌, ◌*◌, ◌<◌, ◌≤◌, ◌/◌, ◌||◌, Bool, false, cond, List, [], length, map, get_or, nat_eq, refl, sym, ap, subst, ◌∙◌, inl, inr, arith, ne_eqb}
 use Rattle.std.specs.Prelude.{Option, Some, None, is_none, nat_lt}
-use Rattle.std.proofs.Math.Nat.{mul-le-mul_right, mul-mod_left, mul_comm}
+use Rattle.std.proofs.Math.Nat.{mul-le-mul_right, mul-mod_left}
 use Rattle.std.proofs.lemmas.Bool.{cases_Bool, cases_eq, cond-true, cond-false}
 use Rattle.std.proofs.lemmas.Bool.Decides.{nat_tests}
 use Rattle.std.proofs.lemmas.Nat.{div-add-mod', div-mul-add}
@@ -12,7 +12,6 @@ use Rattle.aho_base.specs.Patterns.{Patterns}
 use Rattle.aho_base.specs.Step.{follow}
 use Rattle.aho_base.specs.declared.search.Anchored.TheVariants.{No}
 use Rattle.aho_base.specs.declared.search.MatchKind.{MatchKind}
-use Rattle.aho_build.proofs.AutomatonLaws.{one_of_two}
 use Rattle.aho_build.proofs.AutomatonStates.{held-dead, held-lists}
 use Rattle.aho_build.proofs.LinkedNodes.{IsNamed, named-ne_dead, named-state, state-named}
 use Rattle.aho_build.proofs.NamesOfTries.{name_at-below}
@@ -23,12 +22,12 @@ use Rattle.aho_build.specs.Walking.{AreStarts, IsSound, IsState, links_left, ste
 use Rattle.aho_build.specs.declared.special.Special.{Special}
 use Rattle.aho_table.proofs.Classes.{class_of-count}
 use Rattle.aho_table.specs.Alphabet.{class_count, class_of}
-use Rattle.aho_table.specs.Table.{State, dead_id, fail_id, matches_in}
+use Rattle.aho_table.specs.Table.{State, matches_in}
 use Rattle.aho_hybrid.proofs.Alike.{follows, step-alike}
 use Rattle.aho_hybrid.proofs.Filling.{in-row}
-use Rattle.aho_hybrid.proofs.Listed.{length-at, list-at, within-at}
-use Rattle.aho_hybrid.specs.Filled.{AreFirst, IsFilled, IsStep, leads_in, source_in}
-use Rattle.aho_hybrid.specs.Layout.{IsRow, IsSoundLayout, IsStateIn, Layout, list_from, list_in, list_place, next_in, stride_of}
+use Rattle.aho_hybrid.proofs.Listed.{list-at, within-at}
+use Rattle.aho_hybrid.specs.Filled.{AreFirst, IsFilled, leads_in, source_in}
+use Rattle.aho_hybrid.specs.Layout.{IsRow, IsSoundLayout, Layout, list_from, list_in, stride_of}
 use Rattle.aho_hybrid.specs.Reading.{IsLayoutOf}
 
 -- the state of a row, by the row's number

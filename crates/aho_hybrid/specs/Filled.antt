@@ -10,9 +10,21 @@ use Rattle.aho_table.specs.Alphabet.{class_of, class_count}
 use Rattle.aho_table.specs.Table.{State, dead_id, fail_id, matches_in}
 use Rattle.aho_hybrid.specs.Layout.{stride_of}
 
--- memory was wanted, or a number is above the greatest
-abbrev pub IsRefused : BuildError → Type 0
-IsRefused error = (error ≡ OutOfMemory) ⊎ ((requested : ℕ) × (greatest_index < requested) × (error ≡ StateIDOverflow greatest_index requested))
+-- an index is above the greatest
+abbrev pub IsTooLarge : ℕ → BuildError → Type 0
+IsTooLarge index error = (greatest_index < index) × (error ≡ StateIDOverflow greatest_index index)
+
+-- memory was wanted, or the place of some list is above the greatest index
+abbrev pub IsListRefused : BuildError → Type 0
+IsListRefused error = (error ≡ OutOfMemory) ⊎ ((place : ℕ) × IsTooLarge place error)
+
+-- the entries of all rows: for each state one for each class, and one for its list
+abbrev pub rows_size : List State → List Bool → ℕ
+rows_size states classes = length states * stride_of classes
+
+-- why rows are refused: memory was wanted, they have more entries than there are indices, or else the lists have
+abbrev pub IsRefused : List State → List Bool → BuildError → Type 0
+IsRefused states classes error = (error ≡ OutOfMemory) ⊎ IsTooLarge (rows_size states classes) error ⊎ ((rows_size states classes ≤ greatest_index) × IsListRefused error)
 
 -- a byte of each class stands at the class's place
 pub record AreFirst (classes : List Bool) (firsts : List ℕ) : Type 0 where

@@ -2,7 +2,6 @@
 use Rattle.std.specs.Prelude.{◌≡◌, ℕ, ◌+◌, ◌<◌, ◌≤◌, ◌%◌, Bool, List, [], ◌∷◌, length, take, drop, nat_lt, slice_index_or, if◌then◌else◌, Result, Ok, Err, Option, ◌*◌}
 use Rattle.std.specs.List.{All}
 use Rattle.aho_base.specs.Numbers.{greatest_index}
-use Rattle.aho_base.specs.Patterns.{Patterns}
 use Rattle.aho_base.specs.declared.error.MatchErrorKind.{MatchErrorKind}
 use Rattle.aho_base.specs.declared.error.MatchErrorKind.TheVariants.{InvalidInputAnchored}
 use Rattle.aho_base.specs.declared.search.Anchored.{Anchored}

@@ -9,7 +9,7 @@ ghost use Rattle.aho_table.specs.Alphabet.{class_of, class_count};
 ghost use Rattle.aho_table.specs.Table.{matches_in};
 ghost use Rattle.aho_hybrid.specs.Layout.{IsSoundLayout, stride_of};
 ghost use Rattle.aho_hybrid.specs.Reading.{IsLayoutOf};
-ghost use Rattle.aho_hybrid.specs.Filled.{AreFirst, HasEntries, IsFilled, IsListAt, IsPlaced, IsRefused, source_in};
+ghost use Rattle.aho_hybrid.specs.Filled.{AreFirst, HasEntries, IsFilled, IsListAt, IsListRefused, IsPlaced, IsRefused, IsTooLarge, source_in};
 
 use crate::rows::Rows;
 use aho_base::error::BuildError;
@@ -34,13 +34,14 @@ struct Filled {
 ///
 /// # Errors
 ///
-/// Want of memory, or `StateIDOverflow` where a number of a state or the place of a list is above the greatest index.
+/// `OutOfMemory`, at any time; or `StateIDOverflow` where the rows have more entries than the greatest index, or the place of
+/// a list is above it.
 pub fn rows_of(alloc: Global, nfa: &NFA) -> Result<Rows, BuildError>
     ensures sound { IfOk result IsSoundLayout }
     ensures of { IfOk result (λ rows. (p : Patterns)
         → ⟦<NFA as Automaton>⟧.is_of nfa.now p
         → IsLayoutOf rows p (⟦<NFA as Automaton>⟧.kind nfa.now) (⟦<NFA as Automaton>⟧.lengths nfa.now)) }
-    ensures refused { IfErr result IsRefused }
+    ensures refused { IfErr result (IsRefused (states_of nfa.now) (classes_of nfa.now)) }
 {
     let stride = nfa.byte_classes().alphabet_len() + 1;
     let size = nfa.states_len() * stride;
@@ -65,7 +66,7 @@ pub fn rows_of(alloc: Global, nfa: &NFA) -> Result<Rows, BuildError>
 /// The refusal of a number that is above the greatest index.
 fn overflow(requested: usize) -> BuildError
     requires above { greatest_index < requested }
-    ensures refused { IsRefused result }
+    ensures refused { IsTooLarge requested result }
 {
     BuildError::StateIDOverflow {
         max: SmallIndex::MAX.as_usize() as u64,
@@ -76,7 +77,7 @@ fn overflow(requested: usize) -> BuildError
 /// The index of this value.
 fn index_of(value: usize) -> Result<SmallIndex, BuildError>
     ensures value { IfOk result (λ index. index ≡ value) }
-    ensures refused { IfErr result IsRefused }
+    ensures refused { IfErr result IsListRefused }
 {
     match SmallIndex::new(value) {
         Ok(index) => Ok(index),
@@ -87,7 +88,7 @@ fn index_of(value: usize) -> Result<SmallIndex, BuildError>
 /// One more at the end.
 fn push(list: &mut Vec<SmallIndex>, index: SmallIndex) -> Result<(), BuildError>
     ensures pushed { OnOk result (list.new.items ≡ list.old.items ++ index ∷ []) }
-    ensures refused { IfErr result IsRefused }
+    ensures refused { IfErr result IsListRefused }
 {
     match list.push(index) {
         Ok(()) => Ok(()),
@@ -138,7 +139,7 @@ fn filled_rows(alloc: Global, nfa: &NFA, firsts: &[u8], stride: usize) -> Result
     requires firsts { length firsts.now ≡ 256 }
     ensures filled { IfOk result (λ f. IsFilled (special_of nfa.now) (states_of nfa.now) (classes_of nfa.now) firsts.now
         (length (states_of nfa.now)) f.entries.items f.lists.items f.low) }
-    ensures refused { IfErr result IsRefused }
+    ensures refused { IfErr result IsListRefused }
 {
     let mut filled = Filled {
         entries: Vec::new(alloc),
@@ -183,7 +184,7 @@ fn add_row(
         index filled.old.entries.items filled.old.lists.items filled.old.low }
     ensures filled { OnOk result (IsFilled (special_of nfa.now) (states_of nfa.now) (classes_of nfa.now) firsts.now
         (index + 1) filled.new.entries.items filled.new.lists.items filled.new.low) }
-    ensures refused { IfErr result IsRefused }
+    ensures refused { IfErr result IsListRefused }
 {
     let sid = source_of(nfa.special(), index);
     push_entries(&mut filled.entries, nfa, firsts, stride, sid)?;
@@ -216,7 +217,7 @@ fn push_entries(
     requires state { IsState (states_of nfa.now) sid }
     ensures entries { OnOk result (HasEntries (states_of nfa.now) firsts.now stride sid
         (class_count (classes_of nfa.now)) entries.old.items entries.new.items) }
-    ensures refused { IfErr result IsRefused }
+    ensures refused { IfErr result IsListRefused }
 {
     for class in 0..stride - 1 {
         let next = nfa.next_state(Anchored::No, sid, firsts[class]);
@@ -231,7 +232,7 @@ fn push_list(lists: &mut Vec<SmallIndex>, nfa: &NFA, sid: StateID) -> Result<Sma
     requires empty { IsListAt lists.old.items 0 [] }
     ensures placed { IfOk result (λ place.
         IsPlaced (matches_in (states_of nfa.now) sid) place lists.old.items lists.new.items) }
-    ensures refused { IfErr result IsRefused }
+    ensures refused { IfErr result IsListRefused }
 {
     let len = nfa.match_len(sid);
     if len == 0 {
@@ -247,7 +248,7 @@ fn push_list(lists: &mut Vec<SmallIndex>, nfa: &NFA, sid: StateID) -> Result<Sma
 /// These patterns at the end of the lists.
 fn push_patterns(lists: &mut Vec<SmallIndex>, matches: Matches<'_>) -> Result<(), BuildError>
     ensures pushed { OnOk result (lists.new.items ≡ lists.old.items ++ matches.entry) }
-    ensures refused { IfErr result IsRefused }
+    ensures refused { IfErr result IsListRefused }
 {
     for pattern in matches {
         push(lists, SmallIndex::new_unchecked(pattern.as_usize()))?;

@@ -4,8 +4,8 @@ ghost use Rattle.std.specs.Prelude.{◌≡◌, ◌+◌, ◌<◌, ◌≤◌, ◌^
 ghost use Rattle.std.specs.Option.{option_map};
 ghost use Rattle.aho_base.specs.Laws.{shortest, longest};
 ghost use Rattle.aho_base.specs.Numbers.{greatest_index};
+ghost use Rattle.aho_base.specs.declared.error.BuildError.TheVariants.{OutOfMemory};
 ghost use Rattle.aho_prefilter.specs.Prefilter.{prefilter_bytes};
-ghost use Rattle.aho_hybrid.specs.Filled.{IsRefused};
 ghost use Rattle.aho_hybrid.specs.Layout.{IsSoundLayout};
 
 use crate::fill::rows_of;
@@ -15,7 +15,7 @@ use aho_base::search::{Anchored, MatchKind, PatternID, SmallIndex, StateID, Work
 use aho_corasick::noncontiguous::NFA;
 use aho_prefilter::prefilter::Prefilter;
 use aho_search::automaton::Automaton;
-use std::alloc::Global;
+use std::alloc::{AllocError, Global};
 
 /// The stated bytes of an entry of a row or a list, and of a pattern's length.
 const ENTRY_BYTES: usize = 4;
@@ -38,16 +38,20 @@ pub struct Hybrid {
 
 impl Hybrid {
     ghost use Rattle.aho_base.specs.Patterns.{Patterns};
+    ghost use Rattle.aho_corasick.specs.Clones.{IsCloneOf};
+    ghost use Rattle.aho_corasick.specs.ReadOut.{classes_of, states_of};
+    ghost use Rattle.aho_hybrid.specs.Filled.{IsRefused};
 
     /// The automaton of all that the `NFA` is of.
     ///
     /// # Errors
     ///
-    /// Want of memory, or `StateIDOverflow` where a number of a state or the place of a list is above the greatest index.
+    /// `OutOfMemory`, at any time; or `StateIDOverflow` where the rows have more entries than the greatest index, or the place
+    /// of a list is above it.
     pub fn from_nfa(alloc: Global, nfa: &NFA) -> Result<Hybrid, BuildError>
         ensures of { IfOk result (λ made. (p : Patterns)
             → ⟦<NFA as Automaton>⟧.is_of nfa.now p → ⟦<Hybrid as Automaton>⟧.is_of made p) }
-        ensures refused { IfErr result IsRefused }
+        ensures refused { IfErr result (IsRefused (states_of nfa.now) (classes_of nfa.now)) }
     {
         let Ok(pattern_lens) = Vec::from_slice(alloc, nfa.pattern_lens()) else {
             return Err(BuildError::OutOfMemory);
@@ -59,6 +63,24 @@ impl Hybrid {
             min_pattern_len: nfa.min_pattern_len(),
             max_pattern_len: nfa.max_pattern_len(),
             prefilter: clone_of(nfa.prefilter())?,
+        })
+    }
+
+    /// A copy of the automaton, with the same states under the same numbers.
+    ///
+    /// # Errors
+    ///
+    /// Out of memory.
+    pub fn try_clone(&self) -> Result<Hybrid, AllocError>
+        ensures same { IfOk result (λ made. IsCloneOf ⟦<Hybrid as Automaton>⟧ made self.now) }
+    {
+        Ok(Hybrid {
+            match_kind: self.match_kind,
+            rows: self.rows.try_clone()?,
+            pattern_lens: self.pattern_lens.clone()?,
+            min_pattern_len: self.min_pattern_len,
+            max_pattern_len: self.max_pattern_len,
+            prefilter: copy_of(&self.prefilter)?,
         })
     }
 }
@@ -196,7 +218,7 @@ fn bytes_of(prefilter: &Option<Prefilter>) -> usize
 /// The same prefilter, or none.
 fn clone_of(prefilter: Option<&Prefilter>) -> Result<Option<Prefilter>, BuildError>
     ensures same { IfOk result (λ copy. copy ≡ option_map (λ held. held.now) prefilter.entry) }
-    ensures refused { IfErr result IsRefused }
+    ensures refused { IfErr result (λ error. error ≡ OutOfMemory) }
 {
     let Some(prefilter) = prefilter else {
         return Ok(None);
@@ -204,5 +226,15 @@ fn clone_of(prefilter: Option<&Prefilter>) -> Result<Option<Prefilter>, BuildErr
     match prefilter.try_clone() {
         Ok(copy) => Ok(Some(copy)),
         Err(_) => Err(BuildError::OutOfMemory),
+    }
+}
+
+/// The same prefilter, or none.
+fn copy_of(prefilter: &Option<Prefilter>) -> Result<Option<Prefilter>, AllocError>
+    ensures same { IfOk result (λ copy. copy ≡ prefilter.now) }
+{
+    match prefilter {
+        Some(prefilter) => Ok(Some(prefilter.try_clone()?)),
+        None => Ok(None),
     }
 }

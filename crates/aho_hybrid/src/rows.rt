@@ -6,6 +6,7 @@ ghost use Rattle.aho_hybrid.specs.Layout.{IsSoundLayout, IsStateIn, next_in, lis
 
 use aho_base::search::{PatternID, SmallIndex, StateID};
 use aho_table::alphabet::ByteClasses;
+use std::alloc::AllocError;
 use std::marker::Model;
 
 /// The rows of all states, one behind the other. A state's number is the place where its row begins.
@@ -35,6 +36,23 @@ impl Model for Rows {
 }
 
 impl Rows {
+    /// The same rows once more.
+    ///
+    /// # Errors
+    ///
+    /// Out of memory.
+    pub fn try_clone(&self) -> Result<Rows, AllocError>
+        ensures same { IfOk result (λ rows. rows ≡ self.now) }
+    {
+        Ok(Rows {
+            classes: self.classes.copy(),
+            entries: self.entries.clone()?,
+            lists: self.lists.clone()?,
+            start: self.start,
+            low: self.low,
+        })
+    }
+
     /// Where an unanchored search starts.
     pub fn start(&self) -> StateID
         ensures start { result ≡ self.now.start }

@@ -1,4 +1,4 @@
-use Rattle.std.proofs.Common.{◌≡◌, ◌+◌, ◌*◌, ◌≤◌, ◌<◌, ◌∙◌, ℕ, List, [], ◌∷◌, ◌++◌, length, arith, ap, subst, sym}
+use Rattle.std.proofs.Common.{◌≡◌, ◌+◌, ◌*◌, ◌∙◌, ℕ, List, [], ◌∷◌, ◌++◌, length, arith, ap, subst, sym}
 use Rattle.std.proofs.lemmas.List.{length_push, nil_from_length}
 use Rattle.aho_build.specs.declared.special.Special.{Special}
 use Rattle.aho_corasick.specs.ReadOut.{states_of, special_of, classes_of}

@@ -1,6 +1,5 @@
-use Rattle.std.proofs.Common.{◌≡◌, ◌*◌, ◌<◌, ◌∙◌, ℕ, arith, eq-eqb, eqb-true, get_or, sym, subst, ap}
-use Rattle.aho_base.specs.declared.search.Anchored.TheVariants.{No}
-use Rattle.aho_build.specs.Walking.{IsState, step_in}
+use Rattle.std.proofs.Common.{◌≡◌, ◌*◌, ◌<◌, ◌∙◌, ℕ, arith, eq-eqb, eqb-true, sym, subst, ap}
+use Rattle.aho_build.specs.Walking.{IsState}
 use Rattle.aho_corasick.specs.ReadOut.{states_of}
 use Rattle.aho_hybrid.specs.Filled.{leads_in}
 use Rattle.aho_hybrid.proofs.Filling.{entry-added}

@@ -1,4 +1,4 @@
-use Rattle.std.proofs.Common.{◌≡◌, ◌∙◌, ◌++◌, List, ℕ, ap, arith}
+use Rattle.std.proofs.Common.{◌∙◌, ◌++◌, List, ℕ, ap, arith}
 use Rattle.aho_corasick.specs.ReadOut.{states_of}
 use Rattle.aho_table.specs.Table.{matches_in}
 use Rattle.aho_hybrid.proofs.Listed.{list-placed}

@@ -1,5 +1,4 @@
-use Rattle.std.proofs.Common.{◌≡◌, ◌+◌, ◌*◌, ◌≤◌, ◌<◌, ◌∙◌, Bool, ℕ, List, length, arith, ap, subst, sym}
-use Rattle.aho_base.specs.Numbers.{greatest_index}
+use Rattle.std.proofs.Common.{◌≡◌, ◌+◌, ◌*◌, ◌∙◌, Bool, ℕ, List, length, arith, ap, subst, sym}
 use Rattle.aho_build.specs.declared.special.Special.{Special}
 use Rattle.aho_corasick.specs.ReadOut.{states_of, special_of, classes_of}
 use Rattle.aho_table.specs.Alphabet.{class_count}
