@@ -9,7 +9,7 @@ ghost use Rattle.aho_table.specs.Alphabet.{class_of, class_count};
 ghost use Rattle.aho_table.specs.Table.{matches_in};
 ghost use Rattle.aho_hybrid.specs.Layout.{IsSoundLayout, stride_of};
 ghost use Rattle.aho_hybrid.specs.Reading.{IsLayoutOf};
-ghost use Rattle.aho_hybrid.specs.Filled.{AreFirst, HasEntries, IsFilled, IsListAt, IsListRefused, IsPlaced, IsRefused, IsTooLarge, source_in};
+ghost use Rattle.aho_hybrid.specs.Filled.{AreFirst, HasEntries, IsFilled, IsListAt, IsListRefused, IsPlaced, IsRefused, IsTooLarge, rows_size, source_in};
 
 use crate::rows::Rows;
 use aho_base::error::BuildError;
@@ -41,6 +41,8 @@ pub fn rows_of(alloc: Global, nfa: &NFA) -> Result<Rows, BuildError>
     ensures of { IfOk result (λ rows. (p : Patterns)
         → ⟦<NFA as Automaton>⟧.is_of nfa.now p
         → IsLayoutOf rows p (⟦<NFA as Automaton>⟧.kind nfa.now) (⟦<NFA as Automaton>⟧.lengths nfa.now)) }
+    ensures sized { IfOk result (λ rows.
+        length rows.rows ≡ rows_size (states_of nfa.now) (classes_of nfa.now)) }
     ensures refused { IfErr result (IsRefused (states_of nfa.now) (classes_of nfa.now)) }
 {
     let stride = nfa.byte_classes().alphabet_len() + 1;

@@ -40,7 +40,7 @@ impl Hybrid {
     ghost use Rattle.aho_base.specs.Patterns.{Patterns};
     ghost use Rattle.aho_corasick.specs.Clones.{IsCloneOf};
     ghost use Rattle.aho_corasick.specs.ReadOut.{classes_of, states_of};
-    ghost use Rattle.aho_hybrid.specs.Filled.{IsRefused};
+    ghost use Rattle.aho_hybrid.specs.Filled.{IsRefused, rows_size};
 
     /// The automaton of all that the `NFA` is of.
     ///
@@ -51,6 +51,10 @@ impl Hybrid {
     pub fn from_nfa(alloc: Global, nfa: &NFA) -> Result<Hybrid, BuildError>
         ensures of { IfOk result (λ made. (p : Patterns)
             → ⟦<NFA as Automaton>⟧.is_of nfa.now p → ⟦<Hybrid as Automaton>⟧.is_of made p) }
+        ensures rows { IfOk result (λ made.
+            length made.rows.rows ≡ rows_size (states_of nfa.now) (classes_of nfa.now)) }
+        ensures held { IfOk result (λ made.
+            ⟦<Hybrid as Automaton>⟧.prefilter made ≡ ⟦<NFA as Automaton>⟧.prefilter nfa.now) }
         ensures refused { IfErr result (IsRefused (states_of nfa.now) (classes_of nfa.now)) }
     {
         let Ok(pattern_lens) = Vec::from_slice(alloc, nfa.pattern_lens()) else {
