@@ -54,11 +54,11 @@ module _ (root : ℕ) (p : Patterns) (names : List (Option (List ℕ))) (states 
       MatchBool-at_false (name_at names (next_in states sid byte) ≡ Some (longer p word byte)) (next_in states sid byte ≡ missing_from root p word) other (nodes.transitions sid word byte e small)
 
   -- the state of a word or of none
-  state-named : (state : Option (List ℕ)) (sid : ℕ) → IsStateOf names state sid → IsNamed names sid × (name_at names sid ≡ state)
+  pub state-named : (state : Option (List ℕ)) (sid : ℕ) → IsStateOf names state sid → IsNamed names sid × (name_at names sid ≡ state)
   state-named None sid e = (inl e, ap (name_at names) e ∙ nodes.dead)
   state-named (Some word) sid e = (inr (word, e), e)
 
-  named-state : (state : Option (List ℕ)) (sid : ℕ) → IsNamed names sid → name_at names sid ≡ state → IsStateOf names state sid
+  pub named-state : (state : Option (List ℕ)) (sid : ℕ) → IsNamed names sid → name_at names sid ≡ state → IsStateOf names state sid
   named-state None sid (inl e) is = e
   named-state None sid (inr w) is = let clash : Some w.0 ≡ None = sym w.1 ∙ is in cc
   named-state (Some word) sid ok is = is

@@ -98,7 +98,7 @@ impl ByteClasses {
     }
 
     /// The same classes once more.
-    pub(crate) fn copy(&self) -> ByteClasses
+    pub fn copy(&self) -> ByteClasses
         ensures same { result ≡ self.now }
     {
         ByteClasses {

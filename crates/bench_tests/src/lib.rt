@@ -15,6 +15,8 @@ mod compiling;
 #[cfg(test)]
 mod errors;
 #[cfg(test)]
+mod hybrid;
+#[cfg(test)]
 mod inputs;
 #[cfg(test)]
 mod iteration;

@@ -1,0 +1,51 @@
+-- The clone has equal rows, equal lengths and an equal prefilter.
+use Rattle.std.proofs.Common.{◌≡◌, ℕ, List, Option, Bool, rules, nat_eq, nat_lt, sym, ap, subst, ◌∙◌}
+use Rattle.std.specs.List.{each_same}
+use Rattle.std.specs.Prelude.{IfSome}
+use Rattle.aho_base.specs.declared.search.Anchored.{Anchored}
+use Rattle.aho_prefilter.specs.Prefilter.{IsPrefilterOf}
+use Rattle.aho_prefilter.specs.declared.prefilter.Searcher.{Searcher}
+use Rattle.aho_hybrid.specs.Layout.{IsHeldIn, IsStateIn, Layout, list_in, memory_in, next_in, start_in}
+use Rattle.aho_hybrid.specs.Reading.{IsLayoutOf}
+use Rattle.aho_hybrid.proofs.hybrid.Hybrid.try_clone.Goals as goal
+
+pub returns : goal.returns
+returns c =
+    let own = c.args.self.now in
+    let rows : c.in_ok-try_clone.field-0 ≡ own.rows = c.in_ok-try_clone.ensures.same in
+    let lens : c.in_ok-clone.field-0.items ≡ own.pattern_lens.items = each_same own.pattern_lens.items c.in_ok-clone.field-0.items c.in_ok-clone.ensures.cases.0 in
+    let held : c.in_ok-copy_of.field-0 ≡ own.prefilter = c.in_ok-copy_of.ensures.same in
+    let special : Layout → ℕ → Bool = λ t sid. nat_lt sid t.low in
+    let starts : Layout → ℕ → Bool = λ t sid. nat_eq sid t.start in
+    let next : Layout → Anchored → ℕ → ℕ → ℕ = λ t anchored. next_in t in
+    record {
+      same = record {
+        same_patterns = λ p. (
+          λ is. (
+            subst (λ (t : Layout). IsLayoutOf t p own.match_kind c.in_ok-clone.field-0.items) (sym rows) (subst (λ (ls : List ℕ). IsLayoutOf own.rows p own.match_kind ls) (sym lens) is.0),
+            subst (λ (searcher : Option Searcher). IfSome searcher (λ s. IsPrefilterOf s p)) (sym held) is.1,
+          ),
+          λ is. (
+            subst (λ (t : Layout). IsLayoutOf t p own.match_kind own.pattern_lens.items) rows (subst (λ (ls : List ℕ). IsLayoutOf c.in_ok-try_clone.field-0 p own.match_kind ls) lens is.0),
+            subst (λ (searcher : Option Searcher). IfSome searcher (λ s. IsPrefilterOf s p)) held is.1,
+          ),
+        );
+        same_held = λ p anchored word sid. (subst (λ (t : Layout). IsHeldIn t anchored word sid) (sym rows), subst (λ (t : Layout). IsHeldIn t anchored word sid) rows);
+        same_valid = λ sid. (subst (λ (t : Layout). IsStateIn t sid) (sym rows), subst (λ (t : Layout). IsStateIn t sid) rows);
+        same_kind = search rules;
+        same_lengths = lens;
+        same_list = ap list_in rows;
+        same_dead = search rules;
+        same_special = ap special rows;
+        same_starts = ap starts rows;
+        same_depth = search rules;
+        same_next = ap next rows;
+        same_lookups = search rules;
+        same_start = ap start_in rows;
+        same_memory =
+            ap (λ (t : Layout). memory_in t c.in_ok-clone.field-0.items c.in_ok-copy_of.field-0) rows
+            ∙ ap (λ (ls : List ℕ). memory_in own.rows ls c.in_ok-copy_of.field-0) lens
+            ∙ ap (memory_in own.rows own.pattern_lens.items) held;
+        same_prefilter = held;
+      };
+    }

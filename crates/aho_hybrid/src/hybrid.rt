@@ -1,0 +1,244 @@
+//! The automaton.
+
+ghost use Rattle.std.specs.Prelude.{◌≡◌, ◌+◌, ◌<◌, ◌≤◌, ◌^◌, length, IfOk, IfErr};
+ghost use Rattle.std.specs.Option.{option_map};
+ghost use Rattle.aho_base.specs.Laws.{shortest, longest};
+ghost use Rattle.aho_base.specs.Numbers.{greatest_index};
+ghost use Rattle.aho_base.specs.declared.error.BuildError.TheVariants.{OutOfMemory};
+ghost use Rattle.aho_prefilter.specs.Prefilter.{prefilter_bytes};
+ghost use Rattle.aho_hybrid.specs.Layout.{IsSoundLayout};
+
+use crate::fill::rows_of;
+use crate::rows::Rows;
+use aho_base::error::{BuildError, MatchError};
+use aho_base::search::{Anchored, MatchKind, PatternID, SmallIndex, StateID, Work};
+use aho_corasick::noncontiguous::NFA;
+use aho_prefilter::prefilter::Prefilter;
+use aho_search::automaton::Automaton;
+use std::alloc::{AllocError, Global};
+
+/// The stated bytes of an entry of a row or a list, and of a pattern's length.
+const ENTRY_BYTES: usize = 4;
+
+/// An automaton that is made from an `NFA` by what it tells of its states.
+#[derive(Drop)]
+pub struct Hybrid {
+    match_kind: MatchKind,
+    rows: Rows,
+    pattern_lens: Vec<SmallIndex>,
+    min_pattern_len: usize,
+    max_pattern_len: usize,
+    prefilter: Option<Prefilter>,
+    ghost sound: { IsSoundLayout rows },
+    ghost shortest: { min_pattern_len ≡ shortest pattern_lens.items },
+    ghost longest: { max_pattern_len ≡ longest pattern_lens.items },
+    ghost counted: { length pattern_lens.items ≤ greatest_index + 1 },
+    ghost bounded: { max_pattern_len ≤ greatest_index },
+}
+
+impl Hybrid {
+    ghost use Rattle.aho_base.specs.Patterns.{Patterns};
+    ghost use Rattle.aho_corasick.specs.Clones.{IsCloneOf};
+    ghost use Rattle.aho_corasick.specs.ReadOut.{classes_of, states_of};
+    ghost use Rattle.aho_hybrid.specs.Filled.{IsRefused, rows_size};
+
+    /// The automaton of all that the `NFA` is of.
+    ///
+    /// # Errors
+    ///
+    /// `OutOfMemory`, at any time; or `StateIDOverflow` where the rows have more entries than the greatest index, or the place
+    /// of a list is above it.
+    pub fn from_nfa(alloc: Global, nfa: &NFA) -> Result<Hybrid, BuildError>
+        ensures of { IfOk result (λ made. (p : Patterns)
+            → ⟦<NFA as Automaton>⟧.is_of nfa.now p → ⟦<Hybrid as Automaton>⟧.is_of made p) }
+        ensures rows { IfOk result (λ made.
+            length made.rows.rows ≡ rows_size (states_of nfa.now) (classes_of nfa.now)) }
+        ensures held { IfOk result (λ made.
+            ⟦<Hybrid as Automaton>⟧.prefilter made ≡ ⟦<NFA as Automaton>⟧.prefilter nfa.now) }
+        ensures refused { IfErr result (IsRefused (states_of nfa.now) (classes_of nfa.now)) }
+    {
+        let Ok(pattern_lens) = Vec::from_slice(alloc, nfa.pattern_lens()) else {
+            return Err(BuildError::OutOfMemory);
+        };
+        Ok(Hybrid {
+            match_kind: nfa.match_kind(),
+            rows: rows_of(alloc, nfa)?,
+            pattern_lens,
+            min_pattern_len: nfa.min_pattern_len(),
+            max_pattern_len: nfa.max_pattern_len(),
+            prefilter: clone_of(nfa.prefilter())?,
+        })
+    }
+
+    /// A copy of the automaton, with the same states under the same numbers.
+    ///
+    /// # Errors
+    ///
+    /// Out of memory.
+    pub fn try_clone(&self) -> Result<Hybrid, AllocError>
+        ensures same { IfOk result (λ made. IsCloneOf ⟦<Hybrid as Automaton>⟧ made self.now) }
+    {
+        Ok(Hybrid {
+            match_kind: self.match_kind,
+            rows: self.rows.try_clone()?,
+            pattern_lens: self.pattern_lens.clone()?,
+            min_pattern_len: self.min_pattern_len,
+            max_pattern_len: self.max_pattern_len,
+            prefilter: copy_of(&self.prefilter)?,
+        })
+    }
+}
+
+impl Automaton for Hybrid {
+    ghost use Rattle.std.specs.Prelude.{ℕ, IfSome, nat_eq, nat_lt, refl};
+    ghost use Rattle.aho_base.specs.Patterns.{Patterns};
+    ghost use Rattle.aho_prefilter.specs.Prefilter.{IsPrefilterOf};
+    ghost use Rattle.aho_hybrid.specs.Layout.{IsStateIn, IsHeldIn, next_in, list_in, start_in, memory_in};
+    ghost use Rattle.aho_hybrid.specs.Reading.{IsLayoutOf, reads_of, plain_of};
+
+    ghost is_of = { λ h p. IsLayoutOf h.rows p h.match_kind h.pattern_lens.items
+        × IfSome h.prefilter (λ searcher. IsPrefilterOf searcher p) };
+
+    ghost held = { λ h p anchored word sid. IsHeldIn h.rows anchored word sid };
+
+    ghost valid = { λ h sid. IsStateIn h.rows sid };
+
+    ghost kind = { λ h. h.match_kind };
+
+    ghost lengths = { λ h. h.pattern_lens.items };
+
+    ghost list = { λ h sid. list_in h.rows sid };
+
+    ghost dead = { λ h sid. nat_eq sid 0 };
+
+    ghost special = { λ h sid. nat_lt sid h.rows.low };
+
+    ghost starts = { λ h sid. nat_eq sid h.rows.start };
+
+    ghost depth = { λ h sid. 0 };
+
+    ghost next = { λ h anchored sid byte. next_in h.rows sid byte };
+
+    ghost lookups = { λ h p anchored word byte. 1 };
+
+    ghost start = { λ h anchored. start_in h.rows anchored };
+
+    ghost memory = { λ h. memory_in h.rows h.pattern_lens.items h.prefilter };
+
+    ghost prefilter = { λ h. h.prefilter };
+
+    fn start_state(&self, anchored: Anchored) -> Result<StateID, MatchError> {
+        match anchored {
+            Anchored::No => Ok(self.rows.start()),
+            Anchored::Yes => Err(MatchError::invalid_input_anchored()),
+        }
+    }
+
+    fn next_state(&self, _anchored: Anchored, sid: StateID, byte: u8) -> StateID {
+        self.rows.next(sid, byte)
+    }
+
+    #[inline(always)]
+    fn step(&self, _anchored: Anchored, sid: StateID, byte: u8, work: &mut Work) -> StateID {
+        work.tick();
+        self.rows.next(sid, byte)
+    }
+
+    fn is_special(&self, sid: StateID) -> bool {
+        self.rows.is_special(sid)
+    }
+
+    fn is_dead(&self, sid: StateID) -> bool {
+        sid == StateID::ZERO
+    }
+
+    fn is_match(&self, sid: StateID) -> bool {
+        self.rows.list_len(sid) > 0
+    }
+
+    fn is_start(&self, sid: StateID) -> bool {
+        sid == self.rows.start()
+    }
+
+    fn match_kind(&self) -> MatchKind {
+        self.match_kind
+    }
+
+    fn prefilter(&self) -> Option<&Prefilter> {
+        self.prefilter.as_ref()
+    }
+
+    fn match_len(&self, sid: StateID) -> usize {
+        self.rows.list_len(sid)
+    }
+
+    fn match_pattern(&self, sid: StateID, index: usize) -> PatternID {
+        self.rows.pattern(sid, index)
+    }
+
+    fn patterns_len(&self) -> usize {
+        self.pattern_lens.len()
+    }
+
+    fn pattern_len(&self, pid: PatternID) -> usize {
+        self.pattern_lens[pid.as_usize()].as_usize()
+    }
+
+    fn min_pattern_len(&self) -> usize {
+        self.min_pattern_len
+    }
+
+    fn max_pattern_len(&self) -> usize {
+        self.max_pattern_len
+    }
+
+    fn memory_usage(&self) -> usize {
+        ENTRY_BYTES * (self.rows.entries.len() + self.rows.lists.len() + self.pattern_lens.len())
+            + bytes_of(&self.prefilter)
+    }
+
+    ghost laws = { λ h p of. reads_of h.rows h.sound p h.match_kind h.pattern_lens.items of.0 };
+
+    ghost plain = { λ h sid valid. plain_of h.rows h.sound sid };
+
+    ghost dead_shallow = { λ h sid valid dead. refl };
+
+    ghost starts_shallow = { λ h sid valid starts. refl };
+
+    ghost prefilters = { λ h p of. of.1 };
+}
+
+/// The bytes that a prefilter holds, where there is one.
+fn bytes_of(prefilter: &Option<Prefilter>) -> usize
+    ensures bytes { result ≡ prefilter_bytes prefilter.now }
+    ensures bound { result < 2 ^ 63 }
+{
+    match prefilter {
+        Some(prefilter) => prefilter.memory_usage(),
+        None => 0,
+    }
+}
+
+/// The same prefilter, or none.
+fn clone_of(prefilter: Option<&Prefilter>) -> Result<Option<Prefilter>, BuildError>
+    ensures same { IfOk result (λ copy. copy ≡ option_map (λ held. held.now) prefilter.entry) }
+    ensures refused { IfErr result (λ error. error ≡ OutOfMemory) }
+{
+    let Some(prefilter) = prefilter else {
+        return Ok(None);
+    };
+    match prefilter.try_clone() {
+        Ok(copy) => Ok(Some(copy)),
+        Err(_) => Err(BuildError::OutOfMemory),
+    }
+}
+
+/// The same prefilter, or none.
+fn copy_of(prefilter: &Option<Prefilter>) -> Result<Option<Prefilter>, AllocError>
+    ensures same { IfOk result (λ copy. copy ≡ prefilter.now) }
+{
+    match prefilter {
+        Some(prefilter) => Ok(Some(prefilter.try_clone()?)),
+        None => Ok(None),
+    }
+}

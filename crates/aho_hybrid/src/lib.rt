@@ -1,0 +1,7 @@
+//! Automata that are made from an `NFA`, and whose states have rows: a step is one look-up.
+#![tactic(auto)]
+
+pub mod answers;
+mod fill;
+pub mod hybrid;
+mod rows;
