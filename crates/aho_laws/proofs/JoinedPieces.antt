@@ -151,9 +151,9 @@ replaced-pieces p (piece ∷ pieces) replacements each =
     ∙ ap (λ (bytes : List ℕ). replaced piece.bytes piece.found replacements ++ bytes) (replaced-pieces p pieces replacements (λ other later. each other (inr later)))
 
 -- the replacement of lines
-pub replaced-lines : (p : Patterns) (byte : ℕ) (pieces : List Piece) (replacements : List (List ℕ)) (ms : List Occurrence) → NoneIsEmpty p → NoneHolds p byte
+pub replaced-lines : (p : Patterns) (byte : ℕ) (pieces : List Piece) (ms : List Occurrence) (replacements : List (List ℕ)) → NoneIsEmpty p → NoneHolds p byte
     → AreCutBehind byte pieces → AreSearched p pieces → AreFinds p (plain_search (joined pieces)) None ms → replaced (joined pieces) ms replacements ≡ replaced_apart pieces replacements
-replaced-lines p byte pieces replacements ms full none cut each h =
+replaced-lines p byte pieces ms replacements full none cut each h =
     ap (λ (found : List Occurrence). replaced (joined pieces) found replacements)
     (finds-unique p ms (placed 0 pieces) (plain_search (joined pieces)) None h (finds-pieces p pieces byte full none cut each))
     ∙ replaced-pieces p pieces replacements each

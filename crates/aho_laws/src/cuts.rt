@@ -55,14 +55,15 @@ pub fn finds_of_lines()
 
 /// A text is cut into pieces anywhere, and in each piece its own finds are replaced. Then the results,
 /// one after another, are the text with all these matches replaced. Where the pieces are cut behind a
-/// byte that no pattern holds, as lines are, that is the replacement of the text. No pattern may be empty
-/// there.
+/// byte that no pattern holds, as lines are, that is the replacement of the text. There no pattern may
+/// be empty.
 pub fn replaces_in_pieces()
     ensures pieces { (p : Patterns) (pieces : List Piece) (replacements : List (List ℕ))
         → AreSearched p pieces
         → replaced (joined pieces) (placed 0 pieces) replacements
         ≡ replaced_apart pieces replacements }
-    ensures lines { (p : Patterns) (byte : ℕ) (pieces : List Piece) (replacements : List (List ℕ)) (ms : List Occurrence)
+    ensures lines { (p : Patterns) (byte : ℕ) (pieces : List Piece) (ms : List Occurrence)
+        (replacements : List (List ℕ))
         → NoneIsEmpty p → NoneHolds p byte → AreCutBehind byte pieces → AreSearched p pieces
         → AreFinds p (plain_search (joined pieces)) None ms
         → replaced (joined pieces) ms replacements ≡ replaced_apart pieces replacements }
