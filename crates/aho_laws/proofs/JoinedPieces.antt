@@ -14,7 +14,7 @@ use Rattle.aho_base.specs.Search.{plain_search}
 use Rattle.aho_laws.specs.CutLaws.{AreCutBehind, AreSearched, EndsIn, IsClear, NoneHolds, NoneIsEmpty, Piece, joined, moved, placed, replaced_apart}
 use Rattle.aho_laws.specs.SearchLaws.{EndsBefore}
 use Rattle.aho_laws.proofs.ClearCuts.{Occurs-full, best-find}
-use Rattle.aho_laws.proofs.Iterations.{finds-apart, finds-occur, finds-ordered}
+use Rattle.aho_laws.proofs.Iterations.{finds-apart, finds-occur, finds-ordered, finds-unique}
 use Rattle.aho_laws.proofs.Members.{member-map, member-of_map}
 use Rattle.aho_laws.proofs.SpanTexts.{finds-joined, map-moved_zero}
 
@@ -149,3 +149,11 @@ replaced-pieces p (piece ∷ pieces) replacements each =
       (finds-occur p piece.found (plain_search piece.bytes) None m found in_found).before_end,
     ))
     ∙ ap (λ (bytes : List ℕ). replaced piece.bytes piece.found replacements ++ bytes) (replaced-pieces p pieces replacements (λ other later. each other (inr later)))
+
+-- the replacement of lines
+pub replaced-lines : (p : Patterns) (byte : ℕ) (pieces : List Piece) (ms : List Occurrence) (replacements : List (List ℕ)) → NoneIsEmpty p → NoneHolds p byte
+    → AreCutBehind byte pieces → AreSearched p pieces → AreFinds p (plain_search (joined pieces)) None ms → replaced (joined pieces) ms replacements ≡ replaced_apart pieces replacements
+replaced-lines p byte pieces ms replacements full none cut each h =
+    ap (λ (found : List Occurrence). replaced (joined pieces) found replacements)
+    (finds-unique p ms (placed 0 pieces) (plain_search (joined pieces)) None h (finds-pieces p pieces byte full none cut each))
+    ∙ replaced-pieces p pieces replacements each

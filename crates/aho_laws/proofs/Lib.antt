@@ -21,6 +21,8 @@ pub mod SpanTexts
 pub mod JoinedPieces
 -- lists of parts that overlap
 pub mod OverlappingParts
+-- the list of a span, from that of its bytes as a text
+pub mod SpanLists
 -- a haystack whose matches are replaced
 pub mod Replacements
 -- the test of a character boundary

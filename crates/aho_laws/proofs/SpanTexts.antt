@@ -28,14 +28,14 @@ part_of_part haystack start end x y le within =
     ∙ ap (take (y - x)) (drop-drop x start haystack)
     ∙ ap (λ (n : ℕ). take n (drop (start + x) haystack)) count
 
-length_part : (haystack : List ℕ) (start end : ℕ) → end ≤ length haystack → length (slice_range haystack start end) ≡ end - start
+pub length_part : (haystack : List ℕ) (start end : ℕ) → end ≤ length haystack → length (slice_range haystack start end) ≡ end - start
 length_part haystack start end within = simp (length-take, length-drop) (omega arith)
 
 -- an occurrence of the whole, seen in the part
-abbrev moved_back : ℕ → Occurrence → Occurrence
+abbrev pub moved_back : ℕ → Occurrence → Occurrence
 moved_back by m = record { pattern = m.pattern; start = m.start - by; end = m.end - by }
 
-moved-moved_back : (by : ℕ) (m : Occurrence) → by ≤ m.start → by ≤ m.end → moved by (moved_back by m) ≡ m
+pub moved-moved_back : (by : ℕ) (m : Occurrence) → by ≤ m.start → by ≤ m.end → moved by (moved_back by m) ≡ m
 moved-moved_back by m starts ends =
     ap (λ (x : ℕ). record { pattern = m.pattern; start = x; end = by + (m.end - by) }) (omega arith)
     ∙ ap (λ (x : ℕ). record { pattern = m.pattern; start = m.start; end = x }) (omega arith)
@@ -50,7 +50,7 @@ pub map-moved_zero : (ms : List Occurrence) → map (moved 0) ms ≡ ms
 map-moved_zero [] = refl
 map-moved_zero (m ∷ ms) = let first = moved-zero m in let rest = map-moved_zero ms in cc
 
-moved-before : (kind : MatchKind) (by : ℕ) (m n : Occurrence) → IsBefore kind m n → IsBefore kind (moved by m) (moved by n)
+pub moved-before : (kind : MatchKind) (by : ℕ) (m n : Occurrence) → IsBefore kind m n → IsBefore kind (moved by m) (moved by n)
 moved-before Standard by m n (inl ends) = inl (omega arith)
 moved-before Standard by m n (inr (same, inl starts)) = inr (omega arith, inl (omega arith))
 moved-before Standard by m n (inr (same, inr (also, number))) = inr (omega arith, inr (omega arith, number))

@@ -13,7 +13,8 @@ use Rattle.aho_base.specs.Search.{Search, plain_search}
 
 -- the plain search of a span of a haystack
 abbrev pub span_search : List ℕ → ℕ → ℕ → Search
-span_search haystack start end = record { haystack = haystack; start = start; end = end; anchored = No; earliest = false }
+span_search haystack start end =
+    record { haystack = haystack; start = start; end = end; anchored = No; earliest = false }
 
 -- each pattern has at least one byte
 abbrev pub NoneIsEmpty : Patterns → Type 0
@@ -21,14 +22,16 @@ NoneIsEmpty p = (number : ℕ) → number < length p.words → 0 < length (patte
 
 -- no occurrence of the span lies across the place: each ends there or before, or starts there or later
 abbrev pub IsClear : Patterns → List ℕ → ℕ → ℕ → ℕ → Type 0
-IsClear p haystack start end place = (m : Occurrence) → Occurs p No haystack start end m → (m.end ≤ place) ⊎ (place ≤ m.start)
+IsClear p haystack start end place =
+    (m : Occurrence) → Occurs p No haystack start end m → (m.end ≤ place) ⊎ (place ≤ m.start)
 
 -- one pass over a list: whatever starts at a place or later is taken, and the place is then where that ends
 abbrev pub chosen : ℕ → List Occurrence → List Occurrence
 chosen at [] = []
 chosen at (m ∷ ms) = if nat_le at m.start then m ∷ chosen m.end ms else chosen at ms
 
--- where a part has to begin that holds all that ends behind a cut: the longest length less one before it, or at the span's start
+-- where a part has to begin that holds all that ends behind a cut: before it by the longest length less one, or at the
+-- span's start
 abbrev pub overlap_start : Patterns → ℕ → ℕ → ℕ
 overlap_start p start cut = max start (cut - (longest (map length p.words) - 1))
 
@@ -42,7 +45,8 @@ moved by m = record { pattern = m.pattern; start = by + m.start; end = by + m.en
 
 -- no byte of a pattern is the same as this byte
 abbrev pub NoneHolds : Patterns → ℕ → Type 0
-NoneHolds p byte = (number other : ℕ) → number < length p.words → IsMember (pattern_at p number) other → IsSameByte p other byte → ⊥
+NoneHolds p byte =
+    (number other : ℕ) → number < length p.words → IsMember (pattern_at p number) other → IsSameByte p other byte → ⊥
 
 -- a piece of a text, and the matches that were found in it, at places of the piece
 pub record Piece : Type 0 where
@@ -51,7 +55,8 @@ pub record Piece : Type 0 where
 
 -- each piece was searched as a text of its own
 abbrev pub AreSearched : Patterns → List Piece → Type 0
-AreSearched p pieces = (piece : Piece) → IsMember pieces piece → AreFinds p (plain_search piece.bytes) None piece.found
+AreSearched p pieces =
+    (piece : Piece) → IsMember pieces piece → AreFinds p (plain_search piece.bytes) None piece.found
 
 -- the byte is the text's last
 abbrev pub EndsIn : ℕ → List ℕ → Type 0
@@ -66,7 +71,7 @@ AreCutBehind byte (piece ∷ pieces) = ((pieces ≡ []) ⊎ EndsIn byte piece.by
 abbrev pub joined : List Piece → List ℕ
 joined pieces = flat_map (λ (piece : Piece). piece.bytes) pieces
 
--- the matches of the pieces, one piece after another, at their places in a text in which the first piece begins at a place
+-- the matches of the pieces, one piece after another, at their places in a text; there the first piece begins at a place
 abbrev pub placed : ℕ → List Piece → List Occurrence
 placed at [] = []
 placed at (piece ∷ pieces) = map (moved at) piece.found ++ placed (at + length piece.bytes) pieces

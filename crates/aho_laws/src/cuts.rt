@@ -13,12 +13,17 @@ ghost use Rattle.aho_laws.specs.CutLaws.{AreCutBehind, AreSearched, IsClear, Non
 ghost use Rattle.aho_base.specs.declared.search.MatchKind.TheVariants.{Standard};
 
 /// The bytes of a span may be searched as a text of their own. Its finds, moved on by the span's start,
-/// are the finds of the span. No pattern may be empty.
+/// are the finds of the span, where no pattern is empty. Its list of all occurrences, moved on alike, is
+/// the list of the span; there patterns may be empty.
 pub fn spans_are_texts()
     ensures finds { (p : Patterns) (haystack : List ℕ) (start end : ℕ) (ms : List Occurrence)
         → NoneIsEmpty p → start ≤ end → end ≤ length haystack
         → AreFinds p (plain_search (slice_range haystack start end)) None ms
         → AreFinds p (span_search haystack start end) None (map (moved start) ms) }
+    ensures lists { (p : Patterns) (haystack : List ℕ) (start end : ℕ)
+        → start ≤ end → end ≤ length haystack
+        → all_occurrences p haystack start end ≡ map (moved start)
+        (all_occurrences p (slice_range haystack start end) 0 (length (slice_range haystack start end))) }
 {}
 
 /// A span is cut at a place that no occurrence of it lies across. Then the finds of the part before
@@ -49,13 +54,19 @@ pub fn finds_of_lines()
 {}
 
 /// A text is cut into pieces anywhere, and in each piece its own finds are replaced. Then the results,
-/// one after another, are the text with all these matches replaced. So where the finds of the pieces
-/// are those of the text, as of its lines, the replacements of the pieces are that of the text.
+/// one after another, are the text with all these matches replaced. Where the pieces are cut behind a
+/// byte that no pattern holds, as lines are, that is the replacement of the text. There no pattern may
+/// be empty.
 pub fn replaces_in_pieces()
     ensures pieces { (p : Patterns) (pieces : List Piece) (replacements : List (List ℕ))
         → AreSearched p pieces
         → replaced (joined pieces) (placed 0 pieces) replacements
         ≡ replaced_apart pieces replacements }
+    ensures lines { (p : Patterns) (byte : ℕ) (pieces : List Piece) (ms : List Occurrence)
+        (replacements : List (List ℕ))
+        → NoneIsEmpty p → NoneHolds p byte → AreCutBehind byte pieces → AreSearched p pieces
+        → AreFinds p (plain_search (joined pieces)) None ms
+        → replaced (joined pieces) ms replacements ≡ replaced_apart pieces replacements }
 {}
 
 /// A span is cut at any place. Its list of all occurrences is that of the part before the cut, and then

@@ -1,5 +1,8 @@
-use Rattle.aho_laws.proofs.JoinedPieces.{replaced-pieces}
+use Rattle.aho_laws.proofs.JoinedPieces.{replaced-lines, replaced-pieces}
 use Rattle.aho_laws.proofs.cuts.replaces_in_pieces.Goals as goal
 
-pub returns : goal.returns
-returns c = record { pieces = replaced-pieces }
+pub returns-clause-pieces : goal.returns-clause-pieces
+returns-clause-pieces c = replaced-pieces
+
+pub returns-clause-lines : goal.returns-clause-lines
+returns-clause-lines c = replaced-lines
