@@ -175,7 +175,16 @@ fn random_inputs_over_both_cases_are_searched(rt: HostRuntime) -> Result<(), Fai
 
 /// Many patterns and many bytes, as an `NFA` of many states has them.
 const WORDS: &[&[u8]] = &[
-    b"samwise", b"sam", b"wise", b"amw", b"\x00\xff", b"\xff", b"ise", b"mwisest", b"estate", b"",
+    b"samwise",
+    b"sam",
+    b"wise",
+    b"amw",
+    b"\x00\xff",
+    b"\xff",
+    b"ise",
+    b"mwisest",
+    b"estate",
+    b"",
 ];
 
 #[test]
