@@ -6,7 +6,9 @@ use Rattle.aho_base.specs.Patterns.{Patterns, pattern_at}
 use Rattle.aho_base.specs.declared.search.MatchKind.{MatchKind}
 use Rattle.aho_prefilter.specs.FirstBytes.{first_bytes}
 use Rattle.aho_prefilter.specs.declared.prefilter.Searcher.{Searcher}
-use Rattle.aho_prefilter.specs.declared.prefilter.Searcher.TheVariants.{Memmem, Memchr, Memchr2, Memchr3}
+use Rattle.aho_prefilter.specs.declared.prefilter.Searcher.TheVariants.{Memmem, Memchr, Memchr2, Memchr3, Packed}
+use Rattle.aho_prefilter.specs.Packed.{packed_of}
+use Rattle.aho_prefilter.specs.declared.packed.Packed.{Packed as Fingerprints}
 
 -- the needle is the only pattern, which is not empty, and its bytes are compared as they are
 pub record IsOnlyPattern (p : Patterns) (needle : List ℕ) : Type 0 where
@@ -23,12 +25,18 @@ pub record BeginsWithin (p : Patterns) (bytes word : List ℕ) : Type 0 where
 abbrev pub AllBeginWithin : Patterns → List ℕ → Type 0
 AllBeginWithin p bytes = (k : ℕ) → k < length p.words → BeginsWithin p bytes (pattern_at p k)
 
+-- no pattern is empty, and the fingerprints are those of the patterns
+pub record AreFingerprintsOf (p : Patterns) (packed : Fingerprints) : Type 0 where
+  pub some : (k : ℕ) → k < length p.words → 0 < length (pattern_at p k)
+  pub made : packed ≡ packed_of p.ignore_case p.words
+
 -- a search is one for these patterns, by their case rule and whatever their kind is
 abbrev pub IsPrefilterOf : Searcher → Patterns → Type 0
 IsPrefilterOf (Memmem needle) p = IsOnlyPattern p needle
 IsPrefilterOf (Memchr x) p = AllBeginWithin p (x ∷ [])
 IsPrefilterOf (Memchr2 x y) p = AllBeginWithin p (x ∷ y ∷ [])
 IsPrefilterOf (Memchr3 x y z) p = AllBeginWithin p (x ∷ y ∷ z ∷ [])
+IsPrefilterOf (Packed packed) p = AreFingerprintsOf p packed
 
 -- the bytes of memory that it holds
 abbrev pub bytes_held : Searcher → ℕ
@@ -36,6 +44,7 @@ bytes_held (Memmem needle) = length needle
 bytes_held (Memchr x) = 0
 bytes_held (Memchr2 x y) = 0
 bytes_held (Memchr3 x y z) = 0
+bytes_held (Packed packed) = 0
 
 -- the same where it may be that none is held
 abbrev pub prefilter_bytes : Option Searcher → ℕ
@@ -48,6 +57,7 @@ is_whole (Memmem needle) = true
 is_whole (Memchr x) = false
 is_whole (Memchr2 x y) = false
 is_whole (Memchr3 x y z) = false
+is_whole (Packed packed) = false
 
 -- the search for one to three bytes
 abbrev pub search_for : List ℕ → Option Searcher
