@@ -1,6 +1,7 @@
 -- What a prefilter is of, and which one is held for which patterns.
-use Rattle.std.specs.Prelude.{◌≡◌, ℕ, ◌<◌, Bool, true, false, not, ◌&&◌, List, [], ◌∷◌, ◌++◌, length, slice_index, nat_eq, if◌then◌else◌, Option, Some, None}
+use Rattle.std.specs.Prelude.{◌≡◌, ℕ, ◌<◌, Bool, true, false, not, ◌&&◌, List, [], ◌∷◌, ◌++◌, length, slice_index, nat_eq, nat_lt, if◌then◌else◌, Option, Some, None}
 use Rattle.std.specs.List.{Contains, list_any}
+use Rattle.std.specs.Option.{option_or}
 use Rattle.aho_base.specs.Bytes.{IsSameByte}
 use Rattle.aho_base.specs.Patterns.{Patterns, pattern_at}
 use Rattle.aho_base.specs.declared.search.MatchKind.{MatchKind}
@@ -86,6 +87,24 @@ held_for p =
     if has_empty p then None
     else if is_searched_whole p then Some (Memmem (pattern_at p 0))
     else search_for (first_bytes p)
+
+-- whether a pattern has less than two bytes
+abbrev pub is_short : List ℕ → Bool
+is_short word = nat_lt (length word) 2
+
+abbrev pub has_short : Patterns → Bool
+has_short p = list_any is_short p.words
+
+-- the packed search, for one to a hundred patterns of at least two bytes each
+abbrev pub packed_for : Patterns → Option Searcher
+packed_for p =
+    if has_short p then None
+    else if nat_lt 0 (length p.words) && nat_lt (length p.words) 101 then Some (Packed (packed_of p.ignore_case p.words))
+    else None
+
+-- which search is held where a packed search may be: the other one, if there is one
+abbrev pub held_or_packed : Patterns → Option Searcher
+held_or_packed p = option_or (held_for p) (packed_for p)
 
 -- the patterns with one more behind them
 abbrev pub with_word : Patterns → List ℕ → Patterns

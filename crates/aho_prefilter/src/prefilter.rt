@@ -9,12 +9,14 @@ ghost use Rattle.aho_prefilter.specs.Prefilter.{IsPrefilterOf, is_whole, bytes_h
 mod builder;
 mod first_bytes;
 mod needle;
+mod packed_builder;
 
 use crate::packed::Packed;
 use aho_base::search::{Match, PatternID, Span};
 pub use builder::PrefilterBuilder;
 use memchr::{memchr, memchr2, memchr3};
 use needle::Needle;
+pub use packed_builder::PackedBuilder;
 use std::alloc::AllocError;
 use std::marker::Model;
 
