@@ -291,7 +291,10 @@ fn a_packed_search_is_held_for_a_hundred(rt: HostRuntime) -> Result<(), Fail> {
     assert!(&rt; packed_of(rt.alloc(), &[], true)?.is_none());
     let short: [&[u8]; 4] = [b"ab", b"cd", b"ef", b"g"];
     assert!(&rt; packed_of(rt.alloc(), &short, false)?.is_none());
-    assert!(&rt; packed_of(rt.alloc(), &short[..3], true)?.is_some());
+    let four = packed_of(rt.alloc(), &short[..2], true)?;
+    let held = four.expect(&rt, "a prefilter");
+    let candidate = held.find_in(b"xxCD", Span { start: 0, end: 4 });
+    assert_same(&rt, candidate.into_option(), Some(2));
     Ok(())
 }
 
