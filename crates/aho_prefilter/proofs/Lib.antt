@@ -6,6 +6,8 @@ pub mod Found
 pub mod Few
 -- which bytes they are, and that what is held is a prefilter of the patterns
 pub mod Held
+-- how the fingerprints grow by a pattern, and that a packed search that is held is a prefilter of the patterns
+pub mod HeldPacked
 -- what a candidate tells a search
 pub mod Skips
 -- the first bytes, said literally

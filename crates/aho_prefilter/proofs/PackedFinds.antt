@@ -1,8 +1,6 @@
 -- The packed search for the patterns stops no later than where the first one occurs.
-use Rattle.std.proofs.Common.{◌≡◌, ℕ, ◌+◌, ◌-◌, ◌<◌, ◌≤◌, inl, inr, List, length, get_or, sym, ap, subst, ◌∙◌, arith}
+use Rattle.std.proofs.Common.{◌≡◌, ℕ, ◌+◌, ◌-◌, ◌<◌, ◌≤◌, List, length, get_or, sym, ap, ◌∙◌, arith}
 use Rattle.std.specs.Prelude.{None, Some, slice_range}
-use Rattle.std.proofs.Math.ListN.{get_or-eq_default}
-use Rattle.std.proofs.lemmas.Bool.{cases_lt}
 use Rattle.std.proofs.lemmas.List.{get_or-map, length-map}
 use Rattle.aho_base.specs.declared.search.Anchored.TheVariants.{No}
 use Rattle.aho_base.specs.Bytes.{folded, IsSameByte, IsSameWord}
@@ -10,8 +8,8 @@ use Rattle.aho_base.specs.Occurrence.{Occurrence}
 use Rattle.aho_base.specs.Occurs.{Occurs}
 use Rattle.aho_base.specs.Patterns.{Patterns, pattern_at}
 use Rattle.aho_prefilter.specs.Candidate.{IsPossibleStart, NothingOccurs}
-use Rattle.aho_prefilter.specs.Packed.{IsFirstMet}
-use Rattle.aho_prefilter.proofs.PackedSound.{found_before, none_stands, packed_of, StandsAt}
+use Rattle.aho_prefilter.specs.Packed.{IsFirstMet, packed_of}
+use Rattle.aho_prefilter.proofs.PackedSound.{found_before, none_stands, StandsAt}
 use Rattle.aho_prefilter.proofs.Parts.{length_part, part-reads}
 
 -- words that are the same have the same bytes
@@ -21,16 +19,7 @@ same_at p xs ys k below same =
     sym (get_or-map (folded p) xs k 0 0 below) ∙ ap (λ (w : List ℕ). get_or w k 0) same ∙ get_or-map (folded p) ys k 0 0 (omega arith)
 
 module _ (p : Patterns) (some : (k : ℕ) → k < length p.words → 0 < length (pattern_at p k)) where
-  module _ (haystack : List ℕ) (start end : ℕ) (ordered : start ≤ end) (within : end ≤ length haystack) (small : (k : ℕ) → get_or haystack k 0 < 256) where
-    part-small : (k : ℕ) → get_or (slice_range haystack start end) k 0 < 256
-    part-small k =
-        elim (cases_lt k (end - start)) [
-          | inl below ↦ subst (λ x. x < 256) (sym (part-reads haystack start end k below)) (small (start + k))
-          | inr behind ↦
-              let long = length_part haystack start end within in
-              subst (λ x. x < 256) (sym (get_or-eq_default (slice_range haystack start end) 0 (omega arith))) (omega arith)
-        ]
-
+  module _ (haystack : List ℕ) (start end : ℕ) (ordered : start ≤ end) (within : end ≤ length haystack) where
     -- a pattern that occurs stands in the part
     stands : (m : Occurrence) → Occurs p No haystack start end m → StandsAt p.ignore_case (pattern_at p m.pattern) (slice_range haystack start end) (m.start - start)
     stands m o k below =
@@ -53,7 +42,7 @@ module _ (p : Patterns) (some : (k : ℕ) → k < length p.words → 0 < length 
     -- where the search finds no place nothing occurs
     pub packed-none : IsFirstMet (packed_of p.ignore_case p.words) (slice_range haystack start end) None → NothingOccurs p haystack start end
     packed-none none m o =
-        none_stands p.ignore_case p.words (slice_range haystack start end) part-small m.pattern (m.start - start) none o.numbered (inside m o) (stands m o)
+        none_stands p.ignore_case p.words (slice_range haystack start end) m.pattern (m.start - start) none o.numbered (inside m o) (stands m o)
 
     -- nothing starts before the place that it finds
     pub packed-start : (at : ℕ) → IsFirstMet (packed_of p.ignore_case p.words) (slice_range haystack start end) (Some at) → IsPossibleStart p haystack start end (start + at)
@@ -62,6 +51,6 @@ module _ (p : Patterns) (some : (k : ℕ) → k < length p.words → 0 < length 
       before_end = omega (arith, found.0.high, length_part haystack start end within);
       first = λ m o.
           let low : start ≤ m.start = o.after_start in
-          let before = found_before p.ignore_case p.words (slice_range haystack start end) part-small at m.pattern (m.start - start) found o.numbered (inside m o) (stands m o) in
+          let before = found_before p.ignore_case p.words (slice_range haystack start end) at m.pattern (m.start - start) found o.numbered (inside m o) (stands m o) in
           omega arith;
     }

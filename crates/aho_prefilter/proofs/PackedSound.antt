@@ -10,7 +10,7 @@ use Rattle.std.proofs.lemmas.List.{get_or-map, get_or-set_other, length-map, len
 use Rattle.std.proofs.Math.ListN.{get_or-eq_default}
 use Rattle.std.proofs.lemmas.Nat.Bits.{bit_at_and, bit_at_or, bit_at-lt, bit_at-pow_same, bit_at-zero}
 use Rattle.aho_base.specs.Bytes.{folded_by, opposite}
-use Rattle.aho_prefilter.specs.Packed.{IsFirstMet, MeetsAt, group_of, groups_at, groups_of, masks_with, masks_with_all, masks_with_cases, masks_with_place, no_masks, packed_with}
+use Rattle.aho_prefilter.specs.Packed.{IsFirstMet, MeetsAt, group_of, groups_at, groups_of, masks_with, masks_with_all, masks_with_cases, masks_with_place, no_masks, packed_none, packed_of, packed_with}
 use Rattle.aho_prefilter.specs.declared.packed.Masks.{Masks}
 use Rattle.aho_prefilter.specs.declared.packed.Packed.{Packed}
 use Rattle.aho_prefilter.proofs.Held.{opposite-same}
@@ -79,7 +79,7 @@ Grows-then : (a b c : Masks) → Grows a b → Grows b c → Grows a c
 Grows-then a b c first then = record { low = Keeps-then a.low b.low c.low first.low then.low; high = Keeps-then a.high b.high c.high first.high then.high }
 
 Grows-with : (groups : ℕ) (masks : Masks) (byte : ℕ) → Grows masks (masks_with groups masks byte)
-Grows-with groups masks byte = record { low = Keeps-set masks.low (byte % 16) groups; high = Keeps-set masks.high (byte / 16) groups }
+Grows-with groups masks byte = record { low = Keeps-set masks.low (byte % 16) groups; high = Keeps-set masks.high (byte / 16 % 16) groups }
 
 Grows-all : (groups : ℕ) (masks : Masks) → Grows masks (masks_with_all groups masks)
 Grows-all groups masks = record { low = Keeps-all masks.low groups; high = Keeps-all masks.high groups }
@@ -105,8 +105,8 @@ MeetsGroup masks i byte = HasBit (groups_of masks byte) i
 
 MeetsGroup-grows : (old new : Masks) (i byte : ℕ) → Grows old new → MeetsGroup old i byte → MeetsGroup new i byte
 MeetsGroup-grows old new i byte grows is =
-    let both = HasBit-of_and (get_or old.low (byte % 16) 0) (get_or old.high (byte / 16) 0) i is in
-    HasBit-and (get_or new.low (byte % 16) 0) (get_or new.high (byte / 16) 0) i (grows.low.bits (byte % 16) i both.0) (grows.high.bits (byte / 16) i both.1)
+    let both = HasBit-of_and (get_or old.low (byte % 16) 0) (get_or old.high (byte / 16 % 16) 0) i is in
+    HasBit-and (get_or new.low (byte % 16) 0) (get_or new.high (byte / 16 % 16) 0) i (grows.low.bits (byte % 16) i both.0) (grows.high.bits (byte / 16 % 16) i both.1)
 
 -- both tables have an entry for each half of a byte
 record IsLong (masks : Masks) : Type 0 where
@@ -128,46 +128,46 @@ all-have table j groups i below is =
 
 -- a group that is added, by its number
 module _ (groups i : ℕ) (has : HasBit groups i) where
-  MeetsGroup-with : (masks : Masks) (byte : ℕ) → IsLong masks → byte < 256 → MeetsGroup (masks_with groups masks byte) i byte
-  MeetsGroup-with masks byte long small =
+  MeetsGroup-with : (masks : Masks) (byte : ℕ) → IsLong masks → MeetsGroup (masks_with groups masks byte) i byte
+  MeetsGroup-with masks byte long =
       let low = long.low in
       let high = long.high in
-      HasBit-and (get_or (masks_with groups masks byte).low (byte % 16) 0) (get_or (masks_with groups masks byte).high (byte / 16) 0) i
-      (set-has masks.low (byte % 16) groups i (omega arith) has) (set-has masks.high (byte / 16) groups i (omega arith) has)
+      HasBit-and (get_or (masks_with groups masks byte).low (byte % 16) 0) (get_or (masks_with groups masks byte).high (byte / 16 % 16) 0) i
+      (set-has masks.low (byte % 16) groups i (omega arith) has) (set-has masks.high (byte / 16 % 16) groups i (omega arith) has)
 
-  MeetsGroup-all : (masks : Masks) (byte : ℕ) → IsLong masks → byte < 256 → MeetsGroup (masks_with_all groups masks) i byte
-  MeetsGroup-all masks byte long small =
+  MeetsGroup-all : (masks : Masks) (byte : ℕ) → IsLong masks → MeetsGroup (masks_with_all groups masks) i byte
+  MeetsGroup-all masks byte long =
       let low = long.low in
       let high = long.high in
-      HasBit-and (get_or (masks_with_all groups masks).low (byte % 16) 0) (get_or (masks_with_all groups masks).high (byte / 16) 0) i
-      (all-have masks.low (byte % 16) groups i (omega arith) has) (all-have masks.high (byte / 16) groups i (omega arith) has)
+      HasBit-and (get_or (masks_with_all groups masks).low (byte % 16) 0) (get_or (masks_with_all groups masks).high (byte / 16 % 16) 0) i
+      (all-have masks.low (byte % 16) groups i (omega arith) has) (all-have masks.high (byte / 16 % 16) groups i (omega arith) has)
 
-  MeetsGroup-cases : (ignore_case : Bool) (masks : Masks) (x byte : ℕ) → IsLong masks → byte < 256 → folded_by ignore_case x ≡ folded_by ignore_case byte
+  MeetsGroup-cases : (ignore_case : Bool) (masks : Masks) (x byte : ℕ) → IsLong masks → folded_by ignore_case x ≡ folded_by ignore_case byte
       → MeetsGroup (masks_with_cases ignore_case groups masks x) i byte
-  MeetsGroup-cases false masks x byte long small same =
-      subst (λ y. MeetsGroup (masks_with groups masks y) i byte) (sym same) (MeetsGroup-with masks byte long small)
-  MeetsGroup-cases true masks x byte long small same =
+  MeetsGroup-cases false masks x byte long same =
+      subst (λ y. MeetsGroup (masks_with groups masks y) i byte) (sym same) (MeetsGroup-with masks byte long)
+  MeetsGroup-cases true masks x byte long same =
       let once = masks_with groups masks x in
       let grows = Grows-with groups masks x in
       elim (cases_eq x byte) [
         | inl equal ↦
             MeetsGroup-grows once (masks_with groups once (opposite x)) i byte (Grows-with groups once (opposite x))
-            (subst (λ y. MeetsGroup (masks_with groups masks y) i byte) (sym equal) (MeetsGroup-with masks byte long small))
+            (subst (λ y. MeetsGroup (masks_with groups masks y) i byte) (sym equal) (MeetsGroup-with masks byte long))
         | inr other ↦
             subst (λ y. MeetsGroup (masks_with groups once y) i byte) (sym (opposite-same x byte other same))
-            (MeetsGroup-with once byte (IsLong-grows masks once grows long) small)
+            (MeetsGroup-with once byte (IsLong-grows masks once grows long))
       ]
 
   -- at a place of a word what is the same as its byte meets the group, and behind its end every byte
-  MeetsGroup-place : (ignore_case : Bool) (masks : Masks) (word : List ℕ) (place byte : ℕ) → IsLong masks → byte < 256
+  MeetsGroup-place : (ignore_case : Bool) (masks : Masks) (word : List ℕ) (place byte : ℕ) → IsLong masks
       → (place < length word → folded_by ignore_case (get_or word place 0) ≡ folded_by ignore_case byte)
       → MeetsGroup (masks_with_place ignore_case groups masks word place) i byte
-  MeetsGroup-place ignore_case masks word place byte long small same = by_test (nat_lt place (length word)) refl
+  MeetsGroup-place ignore_case masks word place byte long same = by_test (nat_lt place (length word)) refl
     where
       by_test : (test : Bool) → nat_lt place (length word) ≡ test
           → MeetsGroup (cond test (masks_with_cases ignore_case groups masks (get_or word place 0)) (masks_with_all groups masks)) i byte
-      by_test true is = MeetsGroup-cases ignore_case masks (get_or word place 0) byte long small (same (grind (arith, nat_tests, is)))
-      by_test false is = MeetsGroup-all masks byte long small
+      by_test true is = MeetsGroup-cases ignore_case masks (get_or word place 0) byte long (same (grind (arith, nat_tests, is)))
+      by_test false is = MeetsGroup-all masks byte long
 
 -- a search that keeps what another one's places meet
 record KeepsMasks (old new : Packed) : Type 0 where
@@ -230,44 +230,39 @@ module _ (bytes : List ℕ) (at : ℕ) where
         MeetsAll-more words (packed_with ignore_case packed word) i
         (MeetsAll-grows packed (packed_with ignore_case packed word) i (KeepsMasks-with ignore_case packed word) meets)
 
-    module _ (small : (k : ℕ) → get_or bytes k 0 < 256) where
-      -- a word that was just added meets its group where it stands
-      MeetsAll-with : (packed : Packed) (word : List ℕ) → IsWhole packed → StandsAt ignore_case word bytes at
-          → MeetsAll (packed_with ignore_case packed word) bytes at (get_or word 0 0 % 8)
-      MeetsAll-with packed word whole stands =
-          let i = get_or word 0 0 % 8 in
-          let has : HasBit (group_of word) i = bit_at-pow_same i in
-          let here : at + 0 ≡ at = omega arith in
-          record {
-            first =
-                MeetsGroup-place (group_of word) i has ignore_case packed.first word 0 (get_or bytes at 0) whole.first (small at)
-                (λ below. subst (λ n. folded_by ignore_case (get_or word 0 0) ≡ folded_by ignore_case (get_or bytes n 0)) here (stands 0 below));
-            second = MeetsGroup-place (group_of word) i has ignore_case packed.second word 1 (get_or bytes (at + 1) 0) whole.second (small (at + 1)) (stands 1);
-            third = MeetsGroup-place (group_of word) i has ignore_case packed.third word 2 (get_or bytes (at + 2) 0) whole.third (small (at + 2)) (stands 2);
-          }
+    -- a word that was just added meets its group where it stands
+    MeetsAll-with : (packed : Packed) (word : List ℕ) → IsWhole packed → StandsAt ignore_case word bytes at
+        → MeetsAll (packed_with ignore_case packed word) bytes at (get_or word 0 0 % 8)
+    MeetsAll-with packed word whole stands =
+        let i = get_or word 0 0 % 8 in
+        let has : HasBit (group_of word) i = bit_at-pow_same i in
+        let here : at + 0 ≡ at = omega arith in
+        record {
+          first =
+              MeetsGroup-place (group_of word) i has ignore_case packed.first word 0 (get_or bytes at 0) whole.first
+              (λ below. subst (λ n. folded_by ignore_case (get_or word 0 0) ≡ folded_by ignore_case (get_or bytes n 0)) here (stands 0 below));
+          second = MeetsGroup-place (group_of word) i has ignore_case packed.second word 1 (get_or bytes (at + 1) 0) whole.second (stands 1);
+          third = MeetsGroup-place (group_of word) i has ignore_case packed.third word 2 (get_or bytes (at + 2) 0) whole.third (stands 2);
+        }
 
-      -- a place where a word that was added stands meets the masks of some group
-      MeetsAt-added : (words : List (List ℕ)) (packed : Packed) (k : ℕ) → IsWhole packed → k < length words → StandsAt ignore_case (get_or words k []) bytes at
-          → MeetsAt (fold (packed_with ignore_case) packed words) bytes at
-      MeetsAt-added [] packed k whole below stands = absurd (omega arith)
-      MeetsAt-added (word ∷ words) packed zero whole below stands =
-          MeetsAll-meets (fold (packed_with ignore_case) packed (word ∷ words)) (get_or word 0 0 % 8)
-          (MeetsAll-more words (packed_with ignore_case packed word) (get_or word 0 0 % 8) (MeetsAll-with packed word whole stands))
-      MeetsAt-added (word ∷ words) packed (suc k) whole below stands =
-          MeetsAt-added words (packed_with ignore_case packed word) k (IsWhole-with ignore_case packed word whole) (omega arith) stands
-
--- the search for these words, which are added one after another
-abbrev pub packed_of : Bool → List (List ℕ) → Packed
-packed_of ignore_case words = fold (packed_with ignore_case) (record { first = no_masks; second = no_masks; third = no_masks }) words
+    -- a place where a word that was added stands meets the masks of some group
+    MeetsAt-added : (words : List (List ℕ)) (packed : Packed) (k : ℕ) → IsWhole packed → k < length words → StandsAt ignore_case (get_or words k []) bytes at
+        → MeetsAt (fold (packed_with ignore_case) packed words) bytes at
+    MeetsAt-added [] packed k whole below stands = absurd (omega arith)
+    MeetsAt-added (word ∷ words) packed zero whole below stands =
+        MeetsAll-meets (fold (packed_with ignore_case) packed (word ∷ words)) (get_or word 0 0 % 8)
+        (MeetsAll-more words (packed_with ignore_case packed word) (get_or word 0 0 % 8) (MeetsAll-with packed word whole stands))
+    MeetsAt-added (word ∷ words) packed (suc k) whole below stands =
+        MeetsAt-added words (packed_with ignore_case packed word) k (IsWhole-with ignore_case packed word whole) (omega arith) stands
 
 IsLong-none : IsLong no_masks
 IsLong-none = record { low = refl; high = refl }
 
-module _ (ignore_case : Bool) (words : List (List ℕ)) (bytes : List ℕ) (small : (k : ℕ) → get_or bytes k 0 < 256) where
+module _ (ignore_case : Bool) (words : List (List ℕ)) (bytes : List ℕ) where
   -- a place where one of the words stands meets the masks of some group
   pub MeetsAt-packed : (k at : ℕ) → k < length words → StandsAt ignore_case (get_or words k []) bytes at → MeetsAt (packed_of ignore_case words) bytes at
   MeetsAt-packed k at below stands =
-      MeetsAt-added bytes at ignore_case small words (record { first = no_masks; second = no_masks; third = no_masks }) k
+      MeetsAt-added bytes at ignore_case words packed_none k
       (record { first = IsLong-none; second = IsLong-none; third = IsLong-none }) below stands
 
   -- the place that is found is not behind a place where one of the words stands

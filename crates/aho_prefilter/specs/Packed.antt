@@ -1,5 +1,6 @@
 -- What a packed search looks for: places whose first three bytes meet the masks of some group.
 use Rattle.std.specs.Prelude.{◌≡◌, ◌≢◌, ℕ, ◌+◌, ◌<◌, ◌/◌, ◌%◌, ◌^◌, Bool, List, length, map, replicate, slice_index, slice_set, nat_lt, if◌then◌else◌, bit_and, bit_or, Option}
+use Rattle.std.specs.List.{fold}
 use Rattle.memchr.specs.Find.{IsFirst}
 use Rattle.aho_base.specs.Bytes.{opposite}
 use Rattle.aho_prefilter.specs.declared.packed.Masks.{Masks}
@@ -12,7 +13,7 @@ pub record HasLanes (v : List ℕ) (f : ℕ → ℕ) : Type 0 where
 
 -- the groups that a byte meets, a bit for each: those of both of its halves
 abbrev pub groups_of : Masks → ℕ → ℕ
-groups_of masks byte = bit_and (slice_index masks.low (byte % 16)) (slice_index masks.high (byte / 16))
+groups_of masks byte = bit_and (slice_index masks.low (byte % 16)) (slice_index masks.high (byte / 16 % 16))
 
 -- the groups that a place and the two behind it meet; past the end of the bytes zeros stand
 abbrev pub groups_at : Packed → List ℕ → ℕ → ℕ
@@ -37,7 +38,7 @@ no_masks = record { low = replicate 16 0; high = replicate 16 0 }
 abbrev pub masks_with : ℕ → Masks → ℕ → Masks
 masks_with groups masks byte = record {
   low = slice_set masks.low (byte % 16) (bit_or (slice_index masks.low (byte % 16)) groups);
-  high = slice_set masks.high (byte / 16) (bit_or (slice_index masks.high (byte / 16)) groups);
+  high = slice_set masks.high (byte / 16 % 16) (bit_or (slice_index masks.high (byte / 16 % 16)) groups);
 }
 
 -- the same with the byte's other case, under the case rule
@@ -65,3 +66,11 @@ packed_with ignore_case packed word = record {
   second = masks_with_place ignore_case (group_of word) packed.second word 1;
   third = masks_with_place ignore_case (group_of word) packed.third word 2;
 }
+
+-- the search for no word, which stops nowhere
+abbrev pub packed_none : Packed
+packed_none = record { first = no_masks; second = no_masks; third = no_masks }
+
+-- the search for these words, which are added one after another
+abbrev pub packed_of : Bool → List (List ℕ) → Packed
+packed_of ignore_case words = fold (packed_with ignore_case) packed_none words

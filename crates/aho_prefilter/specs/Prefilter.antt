@@ -1,12 +1,15 @@
 -- What a prefilter is of, and which one is held for which patterns.
-use Rattle.std.specs.Prelude.{◌≡◌, ℕ, ◌<◌, Bool, true, false, not, ◌&&◌, List, [], ◌∷◌, ◌++◌, length, slice_index, nat_eq, if◌then◌else◌, Option, Some, None}
+use Rattle.std.specs.Prelude.{◌≡◌, ℕ, ◌<◌, Bool, true, false, not, ◌&&◌, List, [], ◌∷◌, ◌++◌, length, slice_index, nat_eq, nat_lt, if◌then◌else◌, Option, Some, None}
 use Rattle.std.specs.List.{Contains, list_any}
+use Rattle.std.specs.Option.{option_or}
 use Rattle.aho_base.specs.Bytes.{IsSameByte}
 use Rattle.aho_base.specs.Patterns.{Patterns, pattern_at}
 use Rattle.aho_base.specs.declared.search.MatchKind.{MatchKind}
 use Rattle.aho_prefilter.specs.FirstBytes.{first_bytes}
 use Rattle.aho_prefilter.specs.declared.prefilter.Searcher.{Searcher}
-use Rattle.aho_prefilter.specs.declared.prefilter.Searcher.TheVariants.{Memmem, Memchr, Memchr2, Memchr3}
+use Rattle.aho_prefilter.specs.declared.prefilter.Searcher.TheVariants.{Memmem, Memchr, Memchr2, Memchr3, Packed}
+use Rattle.aho_prefilter.specs.Packed.{packed_of}
+use Rattle.aho_prefilter.specs.declared.packed.Packed.{Packed as Fingerprints}
 
 -- the needle is the only pattern, which is not empty, and its bytes are compared as they are
 pub record IsOnlyPattern (p : Patterns) (needle : List ℕ) : Type 0 where
@@ -23,12 +26,18 @@ pub record BeginsWithin (p : Patterns) (bytes word : List ℕ) : Type 0 where
 abbrev pub AllBeginWithin : Patterns → List ℕ → Type 0
 AllBeginWithin p bytes = (k : ℕ) → k < length p.words → BeginsWithin p bytes (pattern_at p k)
 
+-- no pattern is empty, and the fingerprints are those of the patterns
+pub record AreFingerprintsOf (p : Patterns) (packed : Fingerprints) : Type 0 where
+  pub some : (k : ℕ) → k < length p.words → 0 < length (pattern_at p k)
+  pub made : packed ≡ packed_of p.ignore_case p.words
+
 -- a search is one for these patterns, by their case rule and whatever their kind is
 abbrev pub IsPrefilterOf : Searcher → Patterns → Type 0
 IsPrefilterOf (Memmem needle) p = IsOnlyPattern p needle
 IsPrefilterOf (Memchr x) p = AllBeginWithin p (x ∷ [])
 IsPrefilterOf (Memchr2 x y) p = AllBeginWithin p (x ∷ y ∷ [])
 IsPrefilterOf (Memchr3 x y z) p = AllBeginWithin p (x ∷ y ∷ z ∷ [])
+IsPrefilterOf (Packed packed) p = AreFingerprintsOf p packed
 
 -- the bytes of memory that it holds
 abbrev pub bytes_held : Searcher → ℕ
@@ -36,6 +45,7 @@ bytes_held (Memmem needle) = length needle
 bytes_held (Memchr x) = 0
 bytes_held (Memchr2 x y) = 0
 bytes_held (Memchr3 x y z) = 0
+bytes_held (Packed packed) = 0
 
 -- the same where it may be that none is held
 abbrev pub prefilter_bytes : Option Searcher → ℕ
@@ -48,6 +58,7 @@ is_whole (Memmem needle) = true
 is_whole (Memchr x) = false
 is_whole (Memchr2 x y) = false
 is_whole (Memchr3 x y z) = false
+is_whole (Packed packed) = false
 
 -- the search for one to three bytes
 abbrev pub search_for : List ℕ → Option Searcher
@@ -76,6 +87,24 @@ held_for p =
     if has_empty p then None
     else if is_searched_whole p then Some (Memmem (pattern_at p 0))
     else search_for (first_bytes p)
+
+-- whether a pattern has less than two bytes
+abbrev pub is_short : List ℕ → Bool
+is_short word = nat_lt (length word) 2
+
+abbrev pub has_short : Patterns → Bool
+has_short p = list_any is_short p.words
+
+-- the packed search, for one to a hundred patterns of at least two bytes each
+abbrev pub packed_for : Patterns → Option Searcher
+packed_for p =
+    if has_short p then None
+    else if nat_lt 0 (length p.words) && nat_lt (length p.words) 101 then Some (Packed (packed_of p.ignore_case p.words))
+    else None
+
+-- which search is held where a packed search may be: the other one, if there is one
+abbrev pub held_or_packed : Patterns → Option Searcher
+held_or_packed p = option_or (held_for p) (packed_for p)
 
 -- the patterns with one more behind them
 abbrev pub with_word : Patterns → List ℕ → Patterns

@@ -11,7 +11,7 @@ ghost use Rattle.aho_base.specs.declared.search.Anchored.TheVariants.{No};
 ghost use Rattle.aho_base.specs.declared.search.MatchKind.{MatchKind};
 ghost use Rattle.aho_prefilter.specs.Candidate.{AllStartFrom, IsCandidate, IsWholeMatch, NoneStarts, NoneStartsBefore, NothingOccurs, place_of};
 ghost use Rattle.aho_prefilter.specs.FirstBytes.{IsEachOnce, IsFirstOf, first_bytes};
-ghost use Rattle.aho_prefilter.specs.Prefilter.{IsPrefilterOf, held_for, under};
+ghost use Rattle.aho_prefilter.specs.Prefilter.{IsPrefilterOf, held_for, held_or_packed, under};
 ghost use Rattle.aho_prefilter.specs.declared.prefilter.Candidate.{Candidate};
 ghost use Rattle.aho_prefilter.specs.declared.prefilter.Searcher.{Searcher};
 
@@ -54,6 +54,10 @@ pub fn held_serves_each_kind()
         → held_for p ≡ Some search → IsPrefilterOf search p }
     ensures held { (p : Patterns) (kind : MatchKind)
         → held_for (under kind p) ≡ held_for p }
+    ensures of_packed { (p : Patterns) (search : Searcher)
+        → held_or_packed p ≡ Some search → IsPrefilterOf search p }
+    ensures held_packed { (p : Patterns) (kind : MatchKind)
+        → held_or_packed (under kind p) ≡ held_or_packed p }
     ensures served { (p : Patterns) (kind : MatchKind) (search : Searcher)
         → IsPrefilterOf search p → IsPrefilterOf search (under kind p) }
 {}

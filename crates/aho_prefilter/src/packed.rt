@@ -28,14 +28,14 @@ use std::simd::prelude::*;
 const LANES: usize = 16;
 
 /// The masks of one byte of the fingerprints: for each half of a byte the groups that it meets, a bit for each.
-#[derive(Drop)]
+#[derive(Clone, Copy)]
 pub struct Masks {
     low: [u8; 16],
     high: [u8; 16],
 }
 
 /// The masks of the first three bytes of patterns in eight groups.
-#[derive(Drop)]
+#[derive(Clone, Copy)]
 pub struct Packed {
     first: Masks,
     second: Masks,
@@ -112,7 +112,7 @@ fn by_low_half(table: &[u8; 16], bytes: u8x16) -> u8x16
 /// What a table holds at the high half of each byte.
 #[inline(always)]
 fn by_high_half(table: &[u8; 16], bytes: u8x16) -> u8x16
-    ensures held { HasLanes result (λ k. slice_index table.now (slice_index bytes k / 16)) }
+    ensures held { HasLanes result (λ k. slice_index table.now (slice_index bytes k / 16 % 16)) }
 {
     u8x16::from_slice(table).swizzle_dyn(bytes >> u8x16::splat(4))
 }

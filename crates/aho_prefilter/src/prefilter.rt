@@ -9,11 +9,14 @@ ghost use Rattle.aho_prefilter.specs.Prefilter.{IsPrefilterOf, is_whole, bytes_h
 mod builder;
 mod first_bytes;
 mod needle;
+mod packed_builder;
 
+use crate::packed::Packed;
 use aho_base::search::{Match, PatternID, Span};
 pub use builder::PrefilterBuilder;
 use memchr::{memchr, memchr2, memchr3};
 use needle::Needle;
+pub use packed_builder::PackedBuilder;
 use std::alloc::AllocError;
 use std::marker::Model;
 
@@ -53,6 +56,8 @@ enum Searcher {
     Memchr2(u8, u8),
     /// For three.
     Memchr3(u8, u8, u8),
+    /// For the fingerprints of the patterns.
+    Packed(Packed),
 }
 
 impl Searcher {
@@ -66,6 +71,7 @@ impl Searcher {
             Searcher::Memchr(x) => memchr(*x, part),
             Searcher::Memchr2(x, y) => memchr2(*x, *y, part),
             Searcher::Memchr3(x, y, z) => memchr3(*x, *y, *z, part),
+            Searcher::Packed(packed) => packed.find(part),
         }
     }
 }
@@ -120,6 +126,7 @@ impl Prefilter {
         match &self.searcher {
             Searcher::Memmem(needle) => needle.len(),
             Searcher::Memchr(_) | Searcher::Memchr2(_, _) | Searcher::Memchr3(_, _, _) => 0,
+            Searcher::Packed(_) => 0,
         }
     }
 
@@ -137,6 +144,7 @@ impl Prefilter {
             Searcher::Memchr(x) => Searcher::Memchr(*x),
             Searcher::Memchr2(x, y) => Searcher::Memchr2(*x, *y),
             Searcher::Memchr3(x, y, z) => Searcher::Memchr3(*x, *y, *z),
+            Searcher::Packed(packed) => Searcher::Packed(*packed),
         };
         Ok(Prefilter { searcher })
     }

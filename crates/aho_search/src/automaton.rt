@@ -32,6 +32,7 @@ ghost use Rattle.aho_search.specs.Fused.{IsFused};
 ghost use Rattle.aho_search.specs.Overlaps.{FindsNext, FindsNone, FitsNext, FitsSome, ListsAll, ListsFirst, RefusesFirst};
 
 mod reference;
+mod with_prefilter;
 
 pub use crate::find::find_in;
 pub use crate::iter::FindIter;
@@ -44,6 +45,7 @@ use aho_base::search::{Anchored, Input, Match, MatchKind, PatternID, Span, State
 use aho_prefilter::prefilter::Prefilter;
 use aho_prefilter::text::Bytes;
 use std::alloc::{AllocError, Global};
+pub use with_prefilter::WithPrefilter;
 
 /// An automaton that reads bytes, and tells the best match that ends where it stands.
 pub trait Automaton {

@@ -20,7 +20,7 @@ ghost use Rattle.aho_prefilter.specs.Prefilter.{IsPrefilterOf};
 ghost use Rattle.aho_search.specs.Finding.{AreFirstFinds, places};
 ghost use Rattle.bench.specs.Callers.{both_cases, without_help};
 
-use aho_base::error::{BuildError, ReplaceError, StreamError};
+use aho_base::error::{BuildError, MatchError, ReplaceError, StreamError};
 use aho_base::search::{Anchored, Input, Match, MatchKind, Span};
 use aho_corasick::answers::{answer_of, best_occurrence};
 use aho_corasick::noncontiguous::{Builder, NFA};
@@ -28,9 +28,9 @@ use aho_devices::buffer::Buffer;
 use aho_devices::device::{Sink, Source};
 use aho_devices::write::write_whole;
 use aho_prefilter::laws::candidates_tell_where;
-use aho_prefilter::prefilter::{Prefilter, PrefilterBuilder};
+use aho_prefilter::prefilter::{PackedBuilder, Prefilter, PrefilterBuilder};
 use aho_prefilter::text::Bytes;
-use aho_search::automaton::{Automaton, Counted, find_in};
+use aho_search::automaton::{Automaton, Counted, WithPrefilter, find_in};
 use std::alloc::{AllocError, Global};
 
 /// The automaton of these patterns as a new builder builds it.
@@ -366,6 +366,41 @@ pub fn prefilter_of(alloc: Global, patterns: &[&[u8]]) -> Result<Option<Prefilte
         builder.add(pattern)?;
     }
     builder.build()
+}
+
+/// The prefilter of these patterns in both cases where it may be a packed search, if there is one.
+///
+/// # Errors
+///
+/// The error says that memory ran out.
+pub fn packed_prefilter_of(
+    alloc: Global,
+    patterns: &[&[u8]],
+) -> Result<Option<Prefilter>, AllocError>
+    ensures of { IfOk result (λ held. IfSome held (λ prefilter.
+        IsPrefilterOf prefilter (patterns_of both_cases patterns.now))) }
+{
+    let mut builder = PackedBuilder::new(alloc, true);
+    for pattern in patterns {
+        builder.add(pattern)?;
+    }
+    builder.build()
+}
+
+/// The first match in a haystack, by an automaton that skips by this prefilter of its patterns.
+pub fn find_by(
+    nfa: &NFA,
+    prefilter: &Prefilter,
+    haystack: &[u8],
+) -> Result<Option<Match>, MatchError>
+    requires of { (p : Patterns) × ⟦<NFA as Automaton>⟧.is_of nfa.now p
+        × IsPrefilterOf prefilter.now p }
+    ensures found { (p : Patterns) → ⟦<NFA as Automaton>⟧.is_of nfa.now p
+        → IsPrefilterOf prefilter.now p → IfOk result (IsAnswer p
+        (search_of haystack.now (record { start = 0; end = length haystack.now }) No false)) }
+{
+    let automaton = WithPrefilter::new(nfa, prefilter);
+    automaton.try_find(&Input::new(haystack))
 }
 
 /// Where a match of the prefilter's patterns may start in a haystack; none where there is no match.
