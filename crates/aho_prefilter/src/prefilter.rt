@@ -134,7 +134,7 @@ impl Prefilter {
     ///
     /// # Errors
     ///
-    /// Want of memory, for the copy of a pattern that is searched for as a whole.
+    /// Out of memory, for the copy of a pattern that is searched for as a whole.
     pub fn try_clone(&self) -> Result<Prefilter, AllocError>
         ensures same { IfOk result (λ copy. copy ≡ self.now) }
         ensures wanted { IfErr result (λ _. is_whole self.now ≡ true) }

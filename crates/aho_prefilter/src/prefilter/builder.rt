@@ -46,7 +46,7 @@ impl PrefilterBuilder {
     ///
     /// # Errors
     ///
-    /// Want of memory, for the copy of a first pattern. The builder is then unchanged.
+    /// Out of memory, for the copy of a first pattern. The builder is then unchanged.
     pub fn add(&mut self, pattern: &[u8]) -> Result<(), AllocError>
         ensures added { (p : Patterns) → HasTaken self.old p
             → OnOk result (HasTaken self.new (with_word p pattern.now)) }
@@ -82,7 +82,7 @@ impl PrefilterBuilder {
     ///
     /// # Errors
     ///
-    /// Want of memory. None is wanted today: the copy of a pattern was made as it was added.
+    /// Out of memory. It takes none today: the copy of a pattern was made as it was added.
     pub fn build(self) -> Result<Option<Prefilter>, AllocError>
         ensures held { (p : Patterns) → HasTaken self p → result ≡ Ok (held_for p) }
         ensures of { (p : Patterns) → HasTaken self p → IfOk result

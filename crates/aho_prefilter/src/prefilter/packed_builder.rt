@@ -42,7 +42,7 @@ impl PackedBuilder {
     ///
     /// # Errors
     ///
-    /// Want of memory, for the copy of a first pattern. The builder is then unchanged.
+    /// Out of memory, for the copy of a first pattern. The builder is then unchanged.
     pub fn add(&mut self, pattern: &[u8]) -> Result<(), AllocError>
         ensures added { (p : Patterns) → HasTakenPacked self.old p
             → OnOk result (HasTakenPacked self.new (with_word p pattern.now)) }
@@ -60,7 +60,7 @@ impl PackedBuilder {
     ///
     /// # Errors
     ///
-    /// Want of memory. None is wanted today: the copy of a pattern was made as it was added.
+    /// Out of memory. It takes none today: the copy of a pattern was made as it was added.
     pub fn build(self) -> Result<Option<Prefilter>, AllocError>
         ensures held { (p : Patterns) → HasTakenPacked self p → result ≡ Ok (held_or_packed p) }
         ensures of { (p : Patterns) → HasTakenPacked self p → IfOk result
