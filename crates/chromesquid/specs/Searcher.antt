@@ -1,10 +1,18 @@
 -- What a searcher is seen as, and which patterns it was built from.
+use Rattle.std.specs.Prelude.{◌≡◌, ◌≤◌, ℕ, List, Bool, true, false, Result, Err, length, map, if◌then◌else◌}
+use Rattle.aho_base.specs.Laws.{shortest}
 use Rattle.aho_base.specs.Patterns.{Patterns}
+use Rattle.aho_base.specs.declared.error.MatchErrorKind.{MatchErrorKind}
+use Rattle.aho_base.specs.declared.error.MatchErrorKind.TheVariants.{InvalidInputAnchored, InvalidInputUnanchored}
+use Rattle.aho_base.specs.declared.search.Anchored.{Anchored}
+use Rattle.aho_base.specs.declared.search.Anchored.TheVariants.{No, Yes}
+use Rattle.aho_base.specs.declared.search.MatchKind.{MatchKind}
 use Rattle.aho_corasick.specs.declared.noncontiguous.NFA.{NFA}
 use Rattle.aho_corasick.specs.contracts.noncontiguous.NFAAutomaton.TheImpl.{ghosts}
 use Rattle.chromesquid.specs.declared.kinds.StartKind.{StartKind}
+use Rattle.chromesquid.specs.declared.kinds.StartKind.TheVariants.{Both, Unanchored, Anchored as AnchoredOnly}
 
--- an automaton, and the searches that are answered
+-- an automaton, and which searches are answered
 pub record Searcher : Type 0 where
   pub automaton : NFA
   pub start_kind : StartKind
@@ -12,3 +20,40 @@ pub record Searcher : Type 0 where
 -- the searcher was built from these patterns, with their match kind and case rule
 pub record IsBuiltFrom (searcher : Searcher) (p : Patterns) : Type 0 where
   pub reads : ghosts.is_of searcher.automaton p
+
+-- which of several matches it finds
+abbrev pub match_kind_of : Searcher → MatchKind
+match_kind_of searcher = ghosts.kind searcher.automaton
+
+-- how many bytes each of its patterns has
+abbrev pub lengths_of : Searcher → List ℕ
+lengths_of searcher = ghosts.lengths searcher.automaton
+
+-- how many patterns it has
+abbrev pub patterns_len_of : Searcher → ℕ
+patterns_len_of searcher = length (lengths_of searcher)
+
+-- none of its patterns is empty
+abbrev pub HasNoEmpty : Searcher → Type 0
+HasNoEmpty searcher = 1 ≤ shortest (lengths_of searcher)
+
+-- whether searches of this anchoring are answered
+abbrev pub allows : StartKind → Anchored → Bool
+allows Both anchored = true
+allows Unanchored No = true
+allows Unanchored Yes = false
+allows AnchoredOnly No = false
+allows AnchoredOnly Yes = true
+
+-- why a search of this anchoring is refused
+abbrev pub refusal_of : Anchored → MatchErrorKind
+refusal_of No = InvalidInputUnanchored
+refusal_of Yes = InvalidInputAnchored
+
+-- the searcher answers searches of this anchoring
+abbrev pub Answers : Searcher → Anchored → Type 0
+Answers searcher anchored = allows searcher.start_kind anchored ≡ true
+
+-- a search of this anchoring begins in the automaton's start, or is refused
+abbrev pub start_by : Searcher → Anchored → Result ℕ MatchErrorKind
+start_by searcher anchored = if allows searcher.start_kind anchored then ghosts.start searcher.automaton anchored else Err (refusal_of anchored)

@@ -1,21 +1,14 @@
 //! A searcher for some patterns.
 
-ghost use Rattle.std.specs.Prelude.{◌≡◌, IfOk, is_some, Option, None, true};
-ghost use Rattle.std.specs.Iterator.Runs.{EachRunFrom};
-ghost use Rattle.aho_base.specs.Answer.{IsAnswer};
-ghost use Rattle.aho_base.specs.Iteration.{AreFinds};
-ghost use Rattle.aho_base.specs.Occurrence.{Occurrence};
+ghost use Rattle.std.specs.Prelude.{◌≡◌, IfOk};
 ghost use Rattle.aho_base.specs.Patterns.{Patterns};
-ghost use Rattle.aho_base.specs.Search.{plain_search};
 ghost use Rattle.aho_build.specs.Items.{patterns_of};
 ghost use Rattle.aho_build.specs.Settings.{default_settings};
 
 use crate::kinds::{AhoCorasickKind, StartKind};
 use aho_base::error::BuildError;
-use aho_base::search::{Input, Match};
-use aho_corasick::answers::answer_of;
 use aho_corasick::noncontiguous::NFA;
-use aho_search::automaton::{Automaton, FindIter};
+use aho_search::automaton::Automaton;
 use std::alloc::Global;
 use std::marker::Model;
 
@@ -60,47 +53,30 @@ impl AhoCorasick {
     }
 
     /// The automaton that searches.
-    fn automaton(&self) -> &NFA
-        ensures some { (p : Patterns) × ⟦<NFA as Automaton>⟧.is_of result.now p }
-        ensures of { (p : Patterns) → IsBuiltFrom self.now p
-            → ⟦<NFA as Automaton>⟧.is_of result.now p }
+    pub(crate) fn automaton(&self) -> &NFA
+        ensures same { result.now ≡ self.now.automaton }
     {
         &self.automaton
+    }
+
+    /// The searcher, which was built from some patterns.
+    pub(crate) fn built(&self) -> &AhoCorasick
+        ensures same { result ≡ self.entry }
+        ensures some { (p : Patterns) × IsBuiltFrom self.now p }
+    {
+        let _automaton = &self.automaton;
+        self
+    }
+
+    /// Which searches are answered.
+    pub fn start_kind(&self) -> StartKind
+        ensures start_kind { result ≡ self.now.start_kind }
+    {
+        self.start_kind
     }
 
     /// Which automaton searches.
     pub fn kind(&self) -> AhoCorasickKind {
         AhoCorasickKind::NoncontiguousNFA
-    }
-
-    /// The match that a plain search finds.
-    pub fn find(&self, haystack: &[u8]) -> Option<Match>
-        ensures found { (p : Patterns) → IsBuiltFrom self.now p
-            → IsAnswer p (plain_search haystack.now) result }
-    {
-        answer_of(self.automaton(), &Input::new(haystack))
-    }
-
-    /// Whether a pattern occurs.
-    pub fn is_match(&self, haystack: &[u8]) -> bool
-        ensures found { (p : Patterns) → IsBuiltFrom self.now p
-            → (answer : Option Occurrence)
-            × IsAnswer p (record (plain_search haystack.now) { earliest = true }) answer
-            × (result ≡ is_some answer) }
-    {
-        answer_of(self.automaton(), &Input::new(haystack).earliest(true)).is_some()
-    }
-
-    /// The matches, one after another.
-    pub fn find_iter<'a, 'h>(&'a self, haystack: &'h [u8]) -> FindIter<'a, 'h, NFA>
-        ensures ready { ⟦<FindIter<'a, 'h, NFA> as Iterator>⟧.can_next result }
-        ensures finds { (p : Patterns) → IsBuiltFrom self.entry.now p
-            → EachRunFrom ⟦<FindIter<'a, 'h, NFA> as Iterator>⟧.next_gives result (λ run.
-            run.whole ≡ true → AreFinds p (plain_search haystack.now) None run.items) }
-    {
-        match self.automaton().try_find_iter(Input::new(haystack)) {
-            Ok(matches) => matches,
-            Err(_) => unreachable!(),
-        }
     }
 }
