@@ -2,6 +2,8 @@
 use Rattle.std.specs.Prelude.{◌≡◌, ◌≤◌, ℕ, List, Bool, true, false, Result, Err, length, map, if◌then◌else◌}
 use Rattle.aho_base.specs.Laws.{shortest}
 use Rattle.aho_base.specs.Patterns.{Patterns}
+use Rattle.aho_build.specs.Settings.{default_settings}
+use Rattle.aho_build.specs.declared.settings.Settings.{Settings}
 use Rattle.aho_base.specs.declared.error.MatchErrorKind.{MatchErrorKind}
 use Rattle.aho_base.specs.declared.error.MatchErrorKind.TheVariants.{InvalidInputAnchored, InvalidInputUnanchored}
 use Rattle.aho_base.specs.declared.search.Anchored.{Anchored}
@@ -57,3 +59,12 @@ Answers searcher anchored = allows searcher.start_kind anchored ≡ true
 -- a search of this anchoring begins in the automaton's start, or is refused
 abbrev pub start_by : Searcher → Anchored → Result ℕ MatchErrorKind
 start_by searcher anchored = if allows searcher.start_kind anchored then ghosts.start searcher.automaton anchored else Err (refusal_of anchored)
+
+-- how a searcher is built
+pub record Building : Type 0 where
+  pub settings : Settings
+  pub start_kind : StartKind
+
+-- how it is built where nothing is set
+abbrev pub default_building : Building
+default_building = record { settings = default_settings; start_kind = Unanchored }

@@ -1,10 +1,14 @@
 //! A searcher for some patterns.
 
-ghost use Rattle.std.specs.Prelude.{◌≡◌, IfOk};
+ghost use Rattle.std.specs.Prelude.{◌≡◌, IfErr, IfOk, length, map};
+ghost use Rattle.std.specs.Iterator.{IsFinite};
 ghost use Rattle.aho_base.specs.Patterns.{Patterns};
-ghost use Rattle.aho_build.specs.Items.{patterns_of};
+ghost use Rattle.aho_base.specs.declared.search.MatchKind.TheVariants.{Standard};
+ghost use Rattle.aho_build.specs.Items.{IsFailure, OfAccepted, patterns_of};
 ghost use Rattle.aho_build.specs.Settings.{default_settings};
+ghost use Rattle.chromesquid.specs.declared.kinds.StartKind.TheVariants.{Unanchored};
 
+use crate::builder::AhoCorasickBuilder;
 use crate::kinds::{AhoCorasickKind, StartKind};
 use aho_base::error::BuildError;
 use aho_corasick::noncontiguous::NFA;
@@ -30,26 +34,61 @@ impl Model for AhoCorasick {
     ghost invariant = { λ a. (p : Patterns) × ⟦<NFA as Automaton>⟧.is_of a.automaton p };
 }
 
-/// The automaton of these patterns as a new builder builds it.
-fn default_automaton(alloc: Global, patterns: &[&[u8]]) -> Result<NFA, BuildError>
-    ensures of { IfOk result (λ nfa.
-        ⟦<NFA as Automaton>⟧.is_of nfa (patterns_of default_settings patterns.now)) }
-{
-    NFA::new(alloc, patterns.iter().copied())
-}
-
 impl AhoCorasick {
-    ghost use Rattle.chromesquid.specs.Searcher.{IsBuiltFrom};
+    ghost use Rattle.chromesquid.specs.Searcher.{IsBuiltFrom, default_building, lengths_of, match_kind_of};
 
-    /// The searcher of these patterns, of kind Standard.
+    /// The searcher of these patterns, as a new builder builds it: of kind Standard, for searches that are not anchored.
+    ///
+    /// # Errors
+    ///
+    /// As those of `AhoCorasickBuilder::build`.
     pub fn new(alloc: Global, patterns: &[&[u8]]) -> Result<AhoCorasick, BuildError>
         ensures of { IfOk result (λ built.
             IsBuiltFrom built (patterns_of default_settings patterns.now)) }
+        ensures match_kind { IfOk result (λ built. match_kind_of built ≡ Standard) }
+        ensures start_kind { IfOk result (λ built. built.start_kind ≡ Unanchored) }
+        ensures lengths { IfOk result (λ built.
+            lengths_of built ≡ map (λ pattern. length pattern.now) patterns.now) }
     {
-        Ok(AhoCorasick {
-            automaton: default_automaton(alloc, patterns)?,
-            start_kind: StartKind::Unanchored,
-        })
+        AhoCorasickBuilder::new().build(alloc, patterns)
+    }
+
+    /// The searcher of the patterns that an iterator gives, as a new builder builds it.
+    ///
+    /// # Errors
+    ///
+    /// As those of `AhoCorasickBuilder::build`.
+    pub fn new_from_iter<'p, I: Iterator<Item = &'p [u8]> + Drop>(
+        alloc: Global,
+        patterns: I,
+    ) -> Result<AhoCorasick, BuildError>
+        requires can { I.can_next patterns }
+        requires ends { IsFinite (I.remaining patterns) }
+        ensures of { IfOk result (λ built.
+            OfAccepted I.next_gives patterns default_settings (IsBuiltFrom built)) }
+        ensures match_kind { IfOk result (λ built. match_kind_of built ≡ Standard) }
+        ensures start_kind { IfOk result (λ built. built.start_kind ≡ Unanchored) }
+        ensures refused { IfErr result (IsFailure I.next_gives patterns default_settings) }
+    {
+        AhoCorasickBuilder::new().build_from_iter(alloc, patterns)
+    }
+
+    /// The settings to build with.
+    pub fn builder() -> AhoCorasickBuilder
+        ensures new { result ≡ default_building }
+    {
+        AhoCorasickBuilder::new()
+    }
+
+    /// The searcher with this automaton.
+    pub(crate) fn of_automaton(automaton: NFA, start_kind: StartKind) -> AhoCorasick
+        requires of { (p : Patterns) × ⟦<NFA as Automaton>⟧.is_of automaton p }
+        ensures same { result ≡ record { automaton = automaton; start_kind = start_kind } }
+    {
+        AhoCorasick {
+            automaton,
+            start_kind,
+        }
     }
 
     /// The automaton that searches.

@@ -1,0 +1,5 @@
+use Rattle.chromesquid.proofs.Built.{lengths-of_items}
+use Rattle.chromesquid.proofs.builder.AhoCorasickBuilder.build.Goals as goal
+
+pub returns-clause-lengths : goal.returns-clause-lengths
+returns-clause-lengths c = lengths-of_items c.self.inside.automaton c.args.patterns.now c.of_automaton.result (rw c.of_automaton.ensures.same c.in_ok-automaton.ensures.of)
