@@ -35,9 +35,17 @@ lengths_of searcher = ghosts.lengths searcher.automaton
 abbrev pub patterns_len_of : Searcher → ℕ
 patterns_len_of searcher = length (lengths_of searcher)
 
+-- how many bytes of memory it holds, by the stated sizes of its parts
+abbrev pub memory_of : Searcher → ℕ
+memory_of searcher = ghosts.memory searcher.automaton
+
 -- none of its patterns is empty
 abbrev pub HasNoEmpty : Searcher → Type 0
 HasNoEmpty searcher = 1 ≤ shortest (lengths_of searcher)
+
+-- one of its patterns is empty
+abbrev pub HasEmpty : Searcher → Type 0
+HasEmpty searcher = shortest (lengths_of searcher) ≡ 0
 
 -- whether searches of this anchoring are answered
 abbrev pub allows : StartKind → Anchored → Bool
@@ -55,6 +63,10 @@ refusal_of Yes = InvalidInputAnchored
 -- the searcher answers searches of this anchoring
 abbrev pub Answers : Searcher → Anchored → Type 0
 Answers searcher anchored = allows searcher.start_kind anchored ≡ true
+
+-- and refuses them
+abbrev pub Refuses : Searcher → Anchored → Type 0
+Refuses searcher anchored = allows searcher.start_kind anchored ≡ false
 
 -- a search of this anchoring begins in the automaton's start, or is refused
 abbrev pub start_by : Searcher → Anchored → Result ℕ MatchErrorKind

@@ -42,11 +42,7 @@ impl Default for AhoCorasickBuilder {
 }
 
 /// The automaton of these patterns.
-fn automaton_of(
-    builder: &Builder,
-    alloc: Global,
-    patterns: &[&[u8]],
-) -> Result<NFA, BuildError>
+fn automaton_of(builder: &Builder, alloc: Global, patterns: &[&[u8]]) -> Result<NFA, BuildError>
     ensures of { IfOk result (λ nfa.
         ⟦<NFA as Automaton>⟧.is_of nfa (patterns_of builder.now patterns.now)) }
 {
@@ -54,7 +50,7 @@ fn automaton_of(
 }
 
 impl AhoCorasickBuilder {
-    ghost use Rattle.chromesquid.specs.Searcher.{IsBuiltFrom, default_building, lengths_of, match_kind_of};
+    ghost use Rattle.chromesquid.specs.Searcher.{IsBuiltFrom, default_building, lengths_of, match_kind_of, patterns_len_of};
 
     /// Standard, with regard to case, for searches that are not anchored, with a prefilter where one can be held, dense rows
     /// up to depth 3, and the greatest limits.
@@ -80,6 +76,7 @@ impl AhoCorasickBuilder {
         ensures start_kind { IfOk result (λ built. built.start_kind ≡ self.now.start_kind) }
         ensures lengths { IfOk result (λ built.
             lengths_of built ≡ map (λ pattern. length pattern.now) patterns.now) }
+        ensures count { IfOk result (λ built. patterns_len_of built ≡ length patterns.now) }
     {
         let automaton = automaton_of(&self.automaton, alloc, patterns)?;
         Ok(AhoCorasick::of_automaton(automaton, self.start_kind))

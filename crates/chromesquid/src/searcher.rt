@@ -1,7 +1,9 @@
 //! A searcher for some patterns.
 
-ghost use Rattle.std.specs.Prelude.{◌≡◌, IfErr, IfOk, length, map};
+ghost use Rattle.std.specs.Prelude.{◌≡◌, ◌≤◌, IfErr, IfOk, length, map};
 ghost use Rattle.std.specs.Iterator.{IsFinite};
+ghost use Rattle.aho_base.specs.Laws.{longest, shortest};
+ghost use Rattle.aho_base.specs.Numbers.{greatest_index};
 ghost use Rattle.aho_base.specs.Patterns.{Patterns};
 ghost use Rattle.aho_base.specs.declared.search.MatchKind.TheVariants.{Standard};
 ghost use Rattle.aho_build.specs.Items.{IsFailure, OfAccepted, patterns_of};
@@ -11,9 +13,10 @@ ghost use Rattle.chromesquid.specs.declared.kinds.StartKind.TheVariants.{Unancho
 use crate::builder::AhoCorasickBuilder;
 use crate::kinds::{AhoCorasickKind, StartKind};
 use aho_base::error::BuildError;
+use aho_base::search::MatchKind;
 use aho_corasick::noncontiguous::NFA;
 use aho_search::automaton::Automaton;
-use std::alloc::Global;
+use std::alloc::{AllocError, Global};
 use std::marker::Model;
 
 /// A searcher for some patterns.
@@ -35,7 +38,7 @@ impl Model for AhoCorasick {
 }
 
 impl AhoCorasick {
-    ghost use Rattle.chromesquid.specs.Searcher.{IsBuiltFrom, default_building, lengths_of, match_kind_of};
+    ghost use Rattle.chromesquid.specs.Searcher.{IsBuiltFrom, default_building, lengths_of, match_kind_of, memory_of, patterns_len_of};
 
     /// The searcher of these patterns, as a new builder builds it: of kind Standard, for searches that are not anchored.
     ///
@@ -49,6 +52,7 @@ impl AhoCorasick {
         ensures start_kind { IfOk result (λ built. built.start_kind ≡ Unanchored) }
         ensures lengths { IfOk result (λ built.
             lengths_of built ≡ map (λ pattern. length pattern.now) patterns.now) }
+        ensures count { IfOk result (λ built. patterns_len_of built ≡ length patterns.now) }
     {
         AhoCorasickBuilder::new().build(alloc, patterns)
     }
@@ -91,6 +95,23 @@ impl AhoCorasick {
         }
     }
 
+    /// A copy of the searcher.
+    ///
+    /// # Errors
+    ///
+    /// Out of memory.
+    pub fn try_clone(&self) -> Result<AhoCorasick, AllocError>
+        ensures of { (p : Patterns) → IsBuiltFrom self.now p
+            → IfOk result (λ copy. IsBuiltFrom copy p) }
+        ensures match_kind { IfOk result (λ copy. match_kind_of copy ≡ match_kind_of self.now) }
+        ensures start_kind { IfOk result (λ copy. copy.start_kind ≡ self.now.start_kind) }
+        ensures lengths { IfOk result (λ copy. lengths_of copy ≡ lengths_of self.now) }
+        ensures memory { IfOk result (λ copy. memory_of copy ≡ memory_of self.now) }
+    {
+        let automaton = self.built().automaton().try_clone()?;
+        Ok(AhoCorasick::of_automaton(automaton, self.start_kind))
+    }
+
     /// The automaton that searches.
     pub(crate) fn automaton(&self) -> &NFA
         ensures same { result.now ≡ self.now.automaton }
@@ -105,6 +126,46 @@ impl AhoCorasick {
     {
         let _automaton = &self.automaton;
         self
+    }
+
+    /// How many patterns it was built from.
+    #[tactic(auto, using(crate::proofs::Built::count_of))]
+    pub fn patterns_len(&self) -> usize
+        ensures len { result ≡ patterns_len_of self.now }
+        ensures patterns { (p : Patterns) → IsBuiltFrom self.now p → result ≡ length p.words }
+    {
+        Automaton::patterns_len(self)
+    }
+
+    /// How many bytes the shortest pattern has; the greatest `usize` where there is no pattern.
+    pub fn min_pattern_len(&self) -> usize
+        ensures shortest { result ≡ shortest (lengths_of self.now) }
+    {
+        Automaton::min_pattern_len(self)
+    }
+
+    /// How many bytes the longest pattern has; 0 where there is no pattern.
+    pub fn max_pattern_len(&self) -> usize
+        ensures longest { result ≡ longest (lengths_of self.now) }
+        ensures bound { result ≤ greatest_index }
+    {
+        Automaton::max_pattern_len(self)
+    }
+
+    /// Which of several matches it finds.
+    #[tactic(auto, using(crate::proofs::Built::finds_by))]
+    pub fn match_kind(&self) -> MatchKind
+        ensures kind { result ≡ match_kind_of self.now }
+        ensures patterns { (p : Patterns) → IsBuiltFrom self.now p → result ≡ p.kind }
+    {
+        Automaton::match_kind(self)
+    }
+
+    /// How many bytes of memory it holds, by the stated sizes of its parts.
+    pub fn memory_usage(&self) -> usize
+        ensures memory { result ≡ memory_of self.now }
+    {
+        Automaton::memory_usage(self)
     }
 
     /// Which searches are answered.
