@@ -23,6 +23,14 @@ impl<'h> Searchable<'h> for &'h [u8] {
     }
 }
 
+impl<'h> Searchable<'h> for &'h str {
+    ghost search = { λ haystack. plain_search haystack.now };
+
+    fn into_input(self) -> Input<'h> {
+        Input::new(self.as_bytes())
+    }
+}
+
 impl<'h> Searchable<'h> for Input<'h> {
     ghost search = { λ input. input };
 
