@@ -1,0 +1,4 @@
+-- the definitions that a caller's contract names, from one place
+pub mod Rules
+-- what a searcher is seen as, and which patterns it was built from
+pub mod Searcher

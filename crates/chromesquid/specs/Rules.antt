@@ -1,0 +1,16 @@
+-- The definitions that a caller's contract names, from one place.
+pub use Rattle.aho_base.specs.Answer.{IsAnswer}
+pub use Rattle.aho_base.specs.ClosureRun.{RunsInMemory}
+pub use Rattle.aho_base.specs.Iteration.{AreFinds}
+pub use Rattle.aho_base.specs.Occurrence.{Occurrence}
+pub use Rattle.aho_base.specs.Overlapping.{all_occurrences}
+pub use Rattle.aho_base.specs.Patterns.{Patterns}
+pub use Rattle.aho_base.specs.Replacement.{on_boundaries, pieces_of, replaced}
+pub use Rattle.aho_base.specs.Search.{Search, plain_search, search_of}
+pub use Rattle.aho_base.specs.declared.search.Anchored.TheVariants.{No, Yes}
+pub use Rattle.aho_base.specs.declared.search.MatchKind.TheVariants.{LeftmostFirst, LeftmostLongest, Standard}
+pub use Rattle.aho_build.specs.Items.{patterns_of}
+pub use Rattle.aho_build.specs.Settings.{default_settings}
+pub use Rattle.aho_search.specs.Finding.{AreFirstFinds}
+pub use Rattle.aho_stream.specs.Replacing.{ReplacesStream}
+pub use Rattle.chromesquid.specs.Searcher.{Answers, HasEmpty, HasNoEmpty, IsBuiltFrom, Refuses, match_kind_of, patterns_len_of}

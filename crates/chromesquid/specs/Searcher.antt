@@ -1,0 +1,82 @@
+-- What a searcher is seen as, and which patterns it was built from.
+use Rattle.std.specs.Prelude.{◌≡◌, ◌≤◌, ℕ, List, Bool, true, false, Result, Err, length, map, if◌then◌else◌}
+use Rattle.aho_base.specs.Laws.{shortest}
+use Rattle.aho_base.specs.Patterns.{Patterns}
+use Rattle.aho_build.specs.Settings.{default_settings}
+use Rattle.aho_build.specs.declared.settings.Settings.{Settings}
+use Rattle.aho_base.specs.declared.error.MatchErrorKind.{MatchErrorKind}
+use Rattle.aho_base.specs.declared.error.MatchErrorKind.TheVariants.{InvalidInputAnchored, InvalidInputUnanchored}
+use Rattle.aho_base.specs.declared.search.Anchored.{Anchored}
+use Rattle.aho_base.specs.declared.search.Anchored.TheVariants.{No, Yes}
+use Rattle.aho_base.specs.declared.search.MatchKind.{MatchKind}
+use Rattle.aho_corasick.specs.declared.noncontiguous.NFA.{NFA}
+use Rattle.aho_corasick.specs.contracts.noncontiguous.NFAAutomaton.TheImpl.{ghosts}
+use Rattle.chromesquid.specs.declared.kinds.StartKind.{StartKind}
+use Rattle.chromesquid.specs.declared.kinds.StartKind.TheVariants.{Both, Unanchored, Anchored as AnchoredOnly}
+
+-- an automaton, and which searches are answered
+pub record Searcher : Type 0 where
+  pub automaton : NFA
+  pub start_kind : StartKind
+
+-- the searcher was built from these patterns, with their match kind and case rule
+pub record IsBuiltFrom (searcher : Searcher) (p : Patterns) : Type 0 where
+  pub reads : ghosts.is_of searcher.automaton p
+
+-- which of several matches it finds
+abbrev pub match_kind_of : Searcher → MatchKind
+match_kind_of searcher = ghosts.kind searcher.automaton
+
+-- how many bytes each of its patterns has
+abbrev pub lengths_of : Searcher → List ℕ
+lengths_of searcher = ghosts.lengths searcher.automaton
+
+-- how many patterns it has
+abbrev pub patterns_len_of : Searcher → ℕ
+patterns_len_of searcher = length (lengths_of searcher)
+
+-- how many bytes of memory it holds, by the stated sizes of its parts
+abbrev pub memory_of : Searcher → ℕ
+memory_of searcher = ghosts.memory searcher.automaton
+
+-- none of its patterns is empty
+abbrev pub HasNoEmpty : Searcher → Type 0
+HasNoEmpty searcher = 1 ≤ shortest (lengths_of searcher)
+
+-- one of its patterns is empty
+abbrev pub HasEmpty : Searcher → Type 0
+HasEmpty searcher = shortest (lengths_of searcher) ≡ 0
+
+-- whether searches of this anchoring are answered
+abbrev pub allows : StartKind → Anchored → Bool
+allows Both anchored = true
+allows Unanchored No = true
+allows Unanchored Yes = false
+allows AnchoredOnly No = false
+allows AnchoredOnly Yes = true
+
+-- why a search of this anchoring is refused
+abbrev pub refusal_of : Anchored → MatchErrorKind
+refusal_of No = InvalidInputUnanchored
+refusal_of Yes = InvalidInputAnchored
+
+-- the searcher answers searches of this anchoring
+abbrev pub Answers : Searcher → Anchored → Type 0
+Answers searcher anchored = allows searcher.start_kind anchored ≡ true
+
+-- and refuses them
+abbrev pub Refuses : Searcher → Anchored → Type 0
+Refuses searcher anchored = allows searcher.start_kind anchored ≡ false
+
+-- a search of this anchoring begins in the automaton's start, or is refused
+abbrev pub start_by : Searcher → Anchored → Result ℕ MatchErrorKind
+start_by searcher anchored = if allows searcher.start_kind anchored then ghosts.start searcher.automaton anchored else Err (refusal_of anchored)
+
+-- how a searcher is built
+pub record Building : Type 0 where
+  pub settings : Settings
+  pub start_kind : StartKind
+
+-- how it is built where nothing is set
+abbrev pub default_building : Building
+default_building = record { settings = default_settings; start_kind = Unanchored }

@@ -1,0 +1,128 @@
+//! A searcher is an automaton as well: every search that is written for any automaton takes one.
+
+use crate::kinds::{is_allowed, refusal_of};
+use crate::searcher::AhoCorasick;
+use aho_base::error::MatchError;
+use aho_base::search::{Anchored, MatchKind, PatternID, StateID, Work};
+use aho_corasick::noncontiguous::NFA;
+use aho_prefilter::prefilter::Prefilter;
+use aho_search::automaton::Automaton;
+
+impl Automaton for AhoCorasick {
+    ghost use Rattle.std.specs.Prelude.{is_some};
+    ghost use Rattle.aho_build.proofs.AutomatonLaws.{reads_of, plain_of, dead_shallow_of, starts_shallow_of};
+    ghost use Rattle.chromesquid.specs.Searcher.{IsBuiltFrom, start_by};
+
+    ghost is_of = { λ s p. IsBuiltFrom s p };
+
+    ghost held = { λ s p anchored word sid. ⟦<NFA as Automaton>⟧.held s.automaton p anchored word sid };
+
+    ghost valid = { λ s sid. ⟦<NFA as Automaton>⟧.valid s.automaton sid };
+
+    ghost kind = { λ s. ⟦<NFA as Automaton>⟧.kind s.automaton };
+
+    ghost lengths = { λ s. ⟦<NFA as Automaton>⟧.lengths s.automaton };
+
+    ghost list = { λ s sid. ⟦<NFA as Automaton>⟧.list s.automaton sid };
+
+    ghost dead = { λ s sid. ⟦<NFA as Automaton>⟧.dead s.automaton sid };
+
+    ghost special = { λ s sid. ⟦<NFA as Automaton>⟧.special s.automaton sid };
+
+    ghost starts = { λ s sid. ⟦<NFA as Automaton>⟧.starts s.automaton sid };
+
+    ghost depth = { λ s sid. ⟦<NFA as Automaton>⟧.depth s.automaton sid };
+
+    ghost next = { λ s anchored sid byte. ⟦<NFA as Automaton>⟧.next s.automaton anchored sid byte };
+
+    ghost lookups = { λ s p anchored word byte.
+        ⟦<NFA as Automaton>⟧.lookups s.automaton p anchored word byte };
+
+    ghost start = { λ s anchored. start_by s anchored };
+
+    ghost memory = { λ s. ⟦<NFA as Automaton>⟧.memory s.automaton };
+
+    ghost prefilter = { λ s. ⟦<NFA as Automaton>⟧.prefilter s.automaton };
+
+    fn start_state(&self, anchored: Anchored) -> Result<StateID, MatchError> {
+        if is_allowed(self.start_kind(), anchored) {
+            self.automaton().start_state(anchored)
+        } else {
+            Err(refusal_of(anchored))
+        }
+    }
+
+    fn next_state(&self, anchored: Anchored, sid: StateID, byte: u8) -> StateID {
+        self.automaton().next_state(anchored, sid, byte)
+    }
+
+    fn step(&self, anchored: Anchored, sid: StateID, byte: u8, work: &mut Work) -> StateID {
+        self.automaton().step(anchored, sid, byte, work)
+    }
+
+    fn is_special(&self, sid: StateID) -> bool {
+        self.automaton().is_special(sid)
+    }
+
+    fn is_dead(&self, sid: StateID) -> bool {
+        self.automaton().is_dead(sid)
+    }
+
+    fn is_match(&self, sid: StateID) -> bool {
+        self.automaton().is_match(sid)
+    }
+
+    fn is_start(&self, sid: StateID) -> bool {
+        self.automaton().is_start(sid)
+    }
+
+    fn match_kind(&self) -> MatchKind {
+        self.automaton().match_kind()
+    }
+
+    fn prefilter(&self) -> Option<&Prefilter> {
+        self.automaton().prefilter()
+    }
+
+    fn match_len(&self, sid: StateID) -> usize {
+        self.automaton().match_len(sid)
+    }
+
+    fn match_pattern(&self, sid: StateID, index: usize) -> PatternID {
+        self.automaton().match_pattern(sid, index)
+    }
+
+    fn patterns_len(&self) -> usize {
+        self.automaton().patterns_len()
+    }
+
+    fn pattern_len(&self, pid: PatternID) -> usize {
+        self.automaton().pattern_len(pid)
+    }
+
+    fn min_pattern_len(&self) -> usize {
+        self.automaton().min_pattern_len()
+    }
+
+    fn max_pattern_len(&self) -> usize {
+        self.automaton().max_pattern_len()
+    }
+
+    fn memory_usage(&self) -> usize {
+        self.automaton().memory_usage()
+    }
+
+    ghost laws = { λ s p built. reads_of p s.automaton.match_kind s.automaton.pattern_lens.items
+        s.automaton.special s.automaton.table.states built.reads.0 };
+
+    ghost plain = { λ s sid valid. plain_of (is_some s.automaton.prefilter) s.automaton.special
+        s.automaton.table.states sid };
+
+    ghost dead_shallow = { λ s sid valid.
+        dead_shallow_of s.automaton.table.states sid s.automaton.sound };
+
+    ghost starts_shallow = { λ s sid valid.
+        starts_shallow_of s.automaton.special s.automaton.table.states sid s.automaton.starts };
+
+    ghost prefilters = { λ s p built. built.reads.1 };
+}

@@ -1,0 +1,156 @@
+//! The settings of a searcher, and its build.
+
+ghost use Rattle.std.specs.Prelude.{◌≡◌, IfErr, IfOk, length, map};
+ghost use Rattle.std.specs.Iterator.{IsFinite};
+ghost use Rattle.aho_base.specs.Patterns.{Patterns};
+ghost use Rattle.aho_build.specs.Items.{IsFailure, OfAccepted, patterns_of};
+
+use crate::kinds::StartKind;
+use crate::searcher::AhoCorasick;
+use aho_base::error::BuildError;
+use aho_base::search::MatchKind;
+use aho_corasick::noncontiguous::{Builder, Limits, NFA};
+use aho_search::automaton::Automaton;
+use std::alloc::Global;
+use std::marker::Model;
+
+/// How a searcher is built.
+#[derive(Clone, Drop)]
+pub struct AhoCorasickBuilder {
+    automaton: Builder,
+    start_kind: StartKind,
+}
+
+impl Model for AhoCorasickBuilder {
+    ghost use Rattle.chromesquid.specs.Searcher.{Building};
+
+    ghost Value = { Building };
+
+    ghost view = { λ b. record { settings = b.automaton; start_kind = b.start_kind } };
+
+    ghost inverse = { λ b. record { automaton = b.settings; start_kind = b.start_kind } };
+}
+
+impl Default for AhoCorasickBuilder {
+    ghost use Rattle.chromesquid.specs.Searcher.{default_building};
+
+    ghost is_default = { λ builder. builder ≡ default_building };
+
+    fn default() -> AhoCorasickBuilder {
+        AhoCorasickBuilder::new()
+    }
+}
+
+/// The automaton of these patterns.
+fn automaton_of(builder: &Builder, alloc: Global, patterns: &[&[u8]]) -> Result<NFA, BuildError>
+    ensures of { IfOk result (λ nfa.
+        ⟦<NFA as Automaton>⟧.is_of nfa (patterns_of builder.now patterns.now)) }
+{
+    builder.build(alloc, patterns.iter().copied())
+}
+
+impl AhoCorasickBuilder {
+    ghost use Rattle.chromesquid.specs.Searcher.{IsBuiltFrom, default_building, lengths_of, match_kind_of, patterns_len_of};
+
+    /// Standard, with regard to case, for searches that are not anchored, with a prefilter where one can be held, dense rows
+    /// up to depth 3, and the greatest limits.
+    pub fn new() -> AhoCorasickBuilder
+        ensures new { result ≡ default_building }
+    {
+        AhoCorasickBuilder {
+            automaton: NFA::builder(),
+            start_kind: StartKind::Unanchored,
+        }
+    }
+
+    /// The searcher of these patterns, which are numbered from 0 on as they stand. The builder can be used again.
+    ///
+    /// # Errors
+    ///
+    /// A limit refuses a pattern's number (`PatternIDOverflow`), its length (`PatternTooLong`) or an index of a table
+    /// (`StateIDOverflow`). Or memory ran out (`OutOfMemory`), at any time.
+    pub fn build(&self, alloc: Global, patterns: &[&[u8]]) -> Result<AhoCorasick, BuildError>
+        ensures of { IfOk result (λ built.
+            IsBuiltFrom built (patterns_of self.now.settings patterns.now)) }
+        ensures match_kind { IfOk result (λ built. match_kind_of built ≡ self.now.settings.kind) }
+        ensures start_kind { IfOk result (λ built. built.start_kind ≡ self.now.start_kind) }
+        ensures lengths { IfOk result (λ built.
+            lengths_of built ≡ map (λ pattern. length pattern.now) patterns.now) }
+        ensures count { IfOk result (λ built. patterns_len_of built ≡ length patterns.now) }
+    {
+        let automaton = automaton_of(&self.automaton, alloc, patterns)?;
+        Ok(AhoCorasick::of_automaton(automaton, self.start_kind))
+    }
+
+    /// The searcher of the patterns that an iterator gives, which are numbered from 0 on as they come. The builder can be
+    /// used again.
+    ///
+    /// # Errors
+    ///
+    /// As those of `build`.
+    pub fn build_from_iter<'p, I: Iterator<Item = &'p [u8]> + Drop>(
+        &self,
+        alloc: Global,
+        patterns: I,
+    ) -> Result<AhoCorasick, BuildError>
+        requires can { I.can_next patterns }
+        requires ends { IsFinite (I.remaining patterns) }
+        ensures of { IfOk result (λ built.
+            OfAccepted I.next_gives patterns self.now.settings (IsBuiltFrom built)) }
+        ensures match_kind { IfOk result (λ built. match_kind_of built ≡ self.now.settings.kind) }
+        ensures start_kind { IfOk result (λ built. built.start_kind ≡ self.now.start_kind) }
+        ensures refused { IfErr result (IsFailure I.next_gives patterns self.now.settings) }
+    {
+        let automaton = self.automaton.build(alloc, patterns)?;
+        Ok(AhoCorasick::of_automaton(automaton, self.start_kind))
+    }
+
+    /// Which of several matches is found.
+    pub fn match_kind(mut self, kind: MatchKind) -> AhoCorasickBuilder
+        ensures set { result ≡ record self { settings = record self.settings { kind = kind } } }
+    {
+        self.automaton.match_kind(kind);
+        self
+    }
+
+    /// Whether ASCII letters are the same in both cases.
+    pub fn ascii_case_insensitive(mut self, yes: bool) -> AhoCorasickBuilder
+        ensures set { result ≡ record self { settings = record self.settings { ignore_case = yes } } }
+    {
+        self.automaton.ascii_case_insensitive(yes);
+        self
+    }
+
+    /// Which searches are answered. An automaton for all of them takes no more memory than one for some.
+    pub fn start_kind(mut self, kind: StartKind) -> AhoCorasickBuilder
+        ensures set { result ≡ record self { start_kind = kind } }
+    {
+        self.start_kind = kind;
+        self
+    }
+
+    /// Whether a prefilter is held where there is one for the patterns. No answer depends on it.
+    pub fn prefilter(mut self, yes: bool) -> AhoCorasickBuilder
+        ensures set { result ≡ record self { settings = record self.settings { prefilter = yes } } }
+    {
+        self.automaton.prefilter(yes);
+        self
+    }
+
+    /// Up to which distance from the start states have dense rows, by which a step is one look; none at 0. A row takes four
+    /// bytes for each class of bytes. No answer depends on it.
+    pub fn dense_depth(mut self, depth: usize) -> AhoCorasickBuilder
+        ensures set { result ≡ record self { settings = record self.settings { dense_depth = depth } } }
+    {
+        self.automaton.dense_depth(depth);
+        self
+    }
+
+    /// The greatest numbers that a build may use.
+    pub fn limits(mut self, limits: Limits) -> AhoCorasickBuilder
+        ensures set { result ≡ record self { settings = record self.settings { limits = limits } } }
+    {
+        self.automaton.limits(limits);
+        self
+    }
+}

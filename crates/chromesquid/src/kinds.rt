@@ -1,0 +1,47 @@
+//! Which automaton searches, and which searches are answered.
+
+ghost use Rattle.std.specs.Prelude.{◌≡◌, IfErr, Err, IsOk, true, false};
+ghost use Rattle.chromesquid.specs.Searcher.{allows, refusal_of};
+
+use aho_base::error::MatchError;
+use aho_base::search::Anchored;
+
+/// Which automaton searches. No answer depends on it.
+#[derive(Clone, Copy, Debug, PartialEq, Eq)]
+pub enum AhoCorasickKind {
+    /// The noncontiguous automaton: a trie with failure links.
+    NoncontiguousNFA,
+}
+
+/// Which searches are answered.
+#[derive(Clone, Copy, Debug, Default, PartialEq, Eq)]
+pub enum StartKind {
+    /// Searches of anchored inputs, and of those that are not.
+    Both,
+    /// Searches of inputs that are not anchored.
+    #[default]
+    Unanchored,
+    /// Searches of anchored inputs.
+    Anchored,
+}
+
+/// Whether searches of this anchoring are answered.
+pub fn is_allowed(start_kind: StartKind, anchored: Anchored) -> bool
+    ensures allows { result ≡ allows start_kind anchored }
+{
+    match start_kind {
+        StartKind::Both => true,
+        StartKind::Unanchored => anchored == Anchored::No,
+        StartKind::Anchored => anchored == Anchored::Yes,
+    }
+}
+
+/// Why searches of this anchoring are refused.
+pub(crate) fn refusal_of(anchored: Anchored) -> MatchError
+    ensures refusal { result ≡ refusal_of anchored }
+{
+    match anchored {
+        Anchored::No => MatchError::invalid_input_unanchored(),
+        Anchored::Yes => MatchError::invalid_input_anchored(),
+    }
+}

@@ -1,0 +1,24 @@
+//! Multiple-pattern search.
+#![tactic(auto)]
+
+pub mod automaton;
+pub mod builder;
+pub mod find;
+pub mod input;
+pub mod kinds;
+pub mod replace;
+pub mod searcher;
+pub mod stream;
+
+pub use aho_base::error::{BuildError, Fault, MatchError, ReplaceError, StreamError};
+pub use aho_base::search::{Anchored, Input, Match, MatchKind, PatternID, Span};
+pub use aho_corasick::noncontiguous::Limits;
+pub use aho_devices::adapters::{FromRead, FromWrite};
+pub use aho_devices::device::{Sink, Source};
+pub use aho_devices::write::write_whole;
+pub use aho_search::automaton::Automaton;
+pub use builder::AhoCorasickBuilder;
+pub use find::{FindIter, FindOverlappingIter};
+pub use kinds::{AhoCorasickKind, StartKind};
+pub use searcher::AhoCorasick;
+pub use stream::StreamFindIter;

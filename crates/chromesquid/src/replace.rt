@@ -1,0 +1,239 @@
+//! Replacement in memory.
+
+ghost use Rattle.std.specs.Prelude.{◌≡◌, Err, IfOk, Ok, OnOk, alloc_error, false, length, string_bytes, vec_items};
+ghost use Rattle.aho_base.specs.ClosureRun.{RunsInMemory};
+ghost use Rattle.aho_base.specs.Replacement.{on_boundaries, pieces_of, replaced};
+ghost use Rattle.aho_base.specs.declared.error.MatchErrorKind.{MatchErrorKind};
+ghost use Rattle.aho_base.specs.declared.error.MatchErrorKind.TheVariants.{InvalidInputUnanchored};
+ghost use Rattle.aho_base.specs.declared.error.replace.ReplaceError.{ReplaceError};
+ghost use Rattle.aho_base.specs.declared.search.Anchored.TheVariants.{No};
+ghost use Rattle.aho_search.specs.Finding.{HoldsOfFinds};
+
+use crate::searcher::AhoCorasick;
+use aho_base::error::ReplaceError;
+use aho_base::search::Match;
+use aho_search::automaton::Automaton;
+use std::alloc::{AllocError, Global};
+
+impl AhoCorasick {
+    ghost use Rattle.chromesquid.specs.Searcher.{Answers, IsBuiltFrom, Refuses, patterns_len_of};
+
+    /// The text with each match replaced by the text of its pattern. A match that starts or ends inside a character is
+    /// skipped: its bytes stay.
+    ///
+    /// There is one replacement for each pattern, and the searcher answers searches that are not anchored;
+    /// `try_replace_all` tests that.
+    ///
+    /// # Errors
+    ///
+    /// The error says that memory ran out.
+    pub fn replace_all(
+        &self,
+        alloc: Global,
+        haystack: &str,
+        replace_with: &[&str],
+    ) -> Result<String, AllocError>
+        requires starts { Answers self.now No }
+        requires one_each { length replace_with.now ≡ patterns_len_of self.now }
+        ensures replaced { HoldsOfFinds (IsBuiltFrom self.now) haystack.now (λ ms.
+            IfOk result (λ text. string_bytes text ≡
+            replaced haystack.now (on_boundaries haystack.now ms) (pieces_of replace_with.now))) }
+    {
+        match Automaton::try_replace_all(self.built(), alloc, haystack, replace_with) {
+            Ok(text) => Ok(text),
+            Err(ReplaceError::Memory) => Err(AllocError),
+            Err(ReplaceError::Match(_)) => unreachable!(),
+        }
+    }
+
+    /// The text with each match replaced by the text of its pattern, as `replace_all` gives it.
+    ///
+    /// # Errors
+    ///
+    /// `Match` exactly where the searcher answers anchored searches alone. `Memory` where an allocation fails.
+    pub fn try_replace_all(
+        &self,
+        alloc: Global,
+        haystack: &str,
+        replace_with: &[&str],
+    ) -> Result<String, ReplaceError>
+        requires one_each { length replace_with.now ≡ patterns_len_of self.now }
+        ensures replaced { HoldsOfFinds (IsBuiltFrom self.now) haystack.now (λ ms.
+            IfOk result (λ text. string_bytes text ≡
+            replaced haystack.now (on_boundaries haystack.now ms) (pieces_of replace_with.now))) }
+        ensures refused { Refuses self.now No
+            → result ≡ Err (ReplaceError.Match InvalidInputUnanchored) }
+        ensures error { (reason : MatchErrorKind) → result ≡ Err (ReplaceError.Match reason) →
+            Refuses self.now No }
+    {
+        Automaton::try_replace_all(self.built(), alloc, haystack, replace_with)
+    }
+
+    /// The bytes with each match replaced by the bytes for its pattern.
+    ///
+    /// There is one replacement for each pattern, and the searcher answers searches that are not anchored;
+    /// `try_replace_all_bytes` tests that.
+    ///
+    /// # Errors
+    ///
+    /// The error says that memory ran out.
+    pub fn replace_all_bytes(
+        &self,
+        alloc: Global,
+        haystack: &[u8],
+        replace_with: &[&[u8]],
+    ) -> Result<Vec<u8>, AllocError>
+        requires starts { Answers self.now No }
+        requires one_each { length replace_with.now ≡ patterns_len_of self.now }
+        ensures replaced { HoldsOfFinds (IsBuiltFrom self.now) haystack.now (λ ms. IfOk result
+            (λ bytes. vec_items bytes ≡ replaced haystack.now ms (pieces_of replace_with.now))) }
+    {
+        match Automaton::try_replace_all_bytes(self.built(), alloc, haystack, replace_with) {
+            Ok(bytes) => Ok(bytes),
+            Err(ReplaceError::Memory) => Err(AllocError),
+            Err(ReplaceError::Match(_)) => unreachable!(),
+        }
+    }
+
+    /// The bytes with each match replaced by the bytes for its pattern, as `replace_all_bytes` gives them.
+    ///
+    /// # Errors
+    ///
+    /// As those of `try_replace_all`.
+    pub fn try_replace_all_bytes(
+        &self,
+        alloc: Global,
+        haystack: &[u8],
+        replace_with: &[&[u8]],
+    ) -> Result<Vec<u8>, ReplaceError>
+        requires one_each { length replace_with.now ≡ patterns_len_of self.now }
+        ensures replaced { HoldsOfFinds (IsBuiltFrom self.now) haystack.now (λ ms. IfOk result
+            (λ bytes. vec_items bytes ≡ replaced haystack.now ms (pieces_of replace_with.now))) }
+        ensures refused { Refuses self.now No
+            → result ≡ Err (ReplaceError.Match InvalidInputUnanchored) }
+        ensures error { (reason : MatchErrorKind) → result ≡ Err (ReplaceError.Match reason) →
+            Refuses self.now No }
+    {
+        Automaton::try_replace_all_bytes(self.built(), alloc, haystack, replace_with)
+    }
+
+    /// Appends the text to `dst`, with what the closure appends in the place of each match. Where the closure answers
+    /// false no more is replaced, and the rest is copied. A match that starts or ends inside a character is skipped.
+    ///
+    /// The searcher answers searches that are not anchored; `try_replace_all_with` tests that.
+    ///
+    /// # Errors
+    ///
+    /// The error says that memory ran out, or the closure answered so.
+    pub fn replace_all_with<F>(
+        &self,
+        haystack: &str,
+        dst: &mut String,
+        replace_with: F,
+    ) -> Result<(), AllocError>
+    where
+        F: FnMut(&Match, &str, &mut String) -> Result<bool, AllocError>,
+        requires starts { Answers self.now No }
+        requires callable { F.IsAlwaysCallable replace_with }
+        ensures run { HoldsOfFinds (IsBuiltFrom self.now) haystack.now (λ ms.
+            RunsInMemory F.FnMut string_bytes haystack.now
+            (on_boundaries haystack.now ms) replace_with dst.old result dst.new) }
+    {
+        match Automaton::try_replace_all_with(self.built(), haystack, dst, replace_with) {
+            Ok(()) => Ok(()),
+            Err(ReplaceError::Memory) => Err(AllocError),
+            Err(ReplaceError::Match(_)) => unreachable!(),
+        }
+    }
+
+    /// Appends the bytes to `dst`, with what the closure appends in the place of each match. Where the closure answers
+    /// false no more is replaced, and the rest is copied.
+    ///
+    /// The searcher answers searches that are not anchored; `try_replace_all_with_bytes` tests that.
+    ///
+    /// # Errors
+    ///
+    /// The error says that memory ran out, or the closure answered so.
+    pub fn replace_all_with_bytes<F>(
+        &self,
+        haystack: &[u8],
+        dst: &mut Vec<u8>,
+        replace_with: F,
+    ) -> Result<(), AllocError>
+    where
+        F: FnMut(&Match, &[u8], &mut Vec<u8>) -> Result<bool, AllocError>,
+        requires starts { Answers self.now No }
+        requires callable { F.IsAlwaysCallable replace_with }
+        ensures run { HoldsOfFinds (IsBuiltFrom self.now) haystack.now (λ ms.
+            RunsInMemory F.FnMut vec_items haystack.now ms replace_with dst.old result dst.new) }
+    {
+        match Automaton::try_replace_all_with_bytes(self.built(), haystack, dst, replace_with) {
+            Ok(()) => Ok(()),
+            Err(ReplaceError::Memory) => Err(AllocError),
+            Err(ReplaceError::Match(_)) => unreachable!(),
+        }
+    }
+
+    /// Appends the text to `dst` as `replace_all_with` does.
+    ///
+    /// # Errors
+    ///
+    /// `Match` exactly where the searcher answers anchored searches alone; then `dst` stays. `Memory` where an allocation
+    /// of `dst` fails, or the closure answers so.
+    pub fn try_replace_all_with<F>(
+        &self,
+        haystack: &str,
+        dst: &mut String,
+        replace_with: F,
+    ) -> Result<(), ReplaceError>
+    where
+        F: FnMut(&Match, &str, &mut String) -> Result<bool, AllocError>,
+        requires callable { F.IsAlwaysCallable replace_with }
+        ensures run { HoldsOfFinds (IsBuiltFrom self.now) haystack.now (λ ms.
+            OnOk result (RunsInMemory F.FnMut string_bytes haystack.now
+            (on_boundaries haystack.now ms) replace_with dst.old (Ok tt) dst.new)) }
+        ensures stopped { HoldsOfFinds (IsBuiltFrom self.now) haystack.now (λ ms.
+            result ≡ Err ReplaceError.Memory →
+            RunsInMemory F.FnMut string_bytes haystack.now
+            (on_boundaries haystack.now ms) replace_with dst.old (Err alloc_error) dst.new) }
+        ensures refused { Refuses self.now No
+            → result ≡ Err (ReplaceError.Match InvalidInputUnanchored) }
+        ensures error { (reason : MatchErrorKind) → result ≡ Err (ReplaceError.Match reason) →
+            Refuses self.now No }
+        ensures unchanged { (reason : MatchErrorKind) → result ≡ Err (ReplaceError.Match reason) →
+            dst.new ≡ dst.old }
+    {
+        Automaton::try_replace_all_with(self.built(), haystack, dst, replace_with)
+    }
+
+    /// Appends the bytes to `dst` as `replace_all_with_bytes` does.
+    ///
+    /// # Errors
+    ///
+    /// As those of `try_replace_all_with`.
+    pub fn try_replace_all_with_bytes<F>(
+        &self,
+        haystack: &[u8],
+        dst: &mut Vec<u8>,
+        replace_with: F,
+    ) -> Result<(), ReplaceError>
+    where
+        F: FnMut(&Match, &[u8], &mut Vec<u8>) -> Result<bool, AllocError>,
+        requires callable { F.IsAlwaysCallable replace_with }
+        ensures run { HoldsOfFinds (IsBuiltFrom self.now) haystack.now (λ ms.
+            OnOk result (RunsInMemory F.FnMut vec_items haystack.now
+            ms replace_with dst.old (Ok tt) dst.new)) }
+        ensures stopped { HoldsOfFinds (IsBuiltFrom self.now) haystack.now (λ ms.
+            result ≡ Err ReplaceError.Memory →
+            RunsInMemory F.FnMut vec_items haystack.now
+            ms replace_with dst.old (Err alloc_error) dst.new) }
+        ensures refused { Refuses self.now No
+            → result ≡ Err (ReplaceError.Match InvalidInputUnanchored) }
+        ensures error { (reason : MatchErrorKind) → result ≡ Err (ReplaceError.Match reason) →
+            Refuses self.now No }
+        ensures unchanged { (reason : MatchErrorKind) → result ≡ Err (ReplaceError.Match reason) →
+            dst.new ≡ dst.old }
+    {
+        Automaton::try_replace_all_with_bytes(self.built(), haystack, dst, replace_with)
+    }
+}

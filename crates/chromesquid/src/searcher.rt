@@ -1,0 +1,182 @@
+//! A searcher for some patterns.
+
+ghost use Rattle.std.specs.Prelude.{◌≡◌, ◌≤◌, IfErr, IfOk, length, map};
+ghost use Rattle.std.specs.Iterator.{IsFinite};
+ghost use Rattle.aho_base.specs.Laws.{longest, shortest};
+ghost use Rattle.aho_base.specs.Numbers.{greatest_index};
+ghost use Rattle.aho_base.specs.Patterns.{Patterns};
+ghost use Rattle.aho_base.specs.declared.search.MatchKind.TheVariants.{Standard};
+ghost use Rattle.aho_build.specs.Items.{IsFailure, OfAccepted, patterns_of};
+ghost use Rattle.aho_build.specs.Settings.{default_settings};
+ghost use Rattle.chromesquid.specs.declared.kinds.StartKind.TheVariants.{Unanchored};
+
+use crate::builder::AhoCorasickBuilder;
+use crate::kinds::{AhoCorasickKind, StartKind};
+use aho_base::error::BuildError;
+use aho_base::search::MatchKind;
+use aho_corasick::noncontiguous::NFA;
+use aho_search::automaton::Automaton;
+use std::alloc::{AllocError, Global};
+use std::marker::Model;
+
+/// A searcher for some patterns.
+#[derive(Drop)]
+pub struct AhoCorasick {
+    automaton: NFA,
+    start_kind: StartKind,
+}
+
+impl Model for AhoCorasick {
+    ghost use Rattle.aho_base.specs.Patterns.{Patterns};
+    ghost use Rattle.chromesquid.specs.Searcher.{Searcher};
+
+    ghost Value = { Searcher };
+
+    ghost view = { λ a. record { automaton = a.automaton; start_kind = a.start_kind } };
+
+    ghost invariant = { λ a. (p : Patterns) × ⟦<NFA as Automaton>⟧.is_of a.automaton p };
+}
+
+impl AhoCorasick {
+    ghost use Rattle.chromesquid.specs.Searcher.{IsBuiltFrom, default_building, lengths_of, match_kind_of, memory_of, patterns_len_of};
+
+    /// The searcher of these patterns, as a new builder builds it: of kind Standard, for searches that are not anchored.
+    ///
+    /// # Errors
+    ///
+    /// As those of `AhoCorasickBuilder::build`.
+    pub fn new(alloc: Global, patterns: &[&[u8]]) -> Result<AhoCorasick, BuildError>
+        ensures of { IfOk result (λ built.
+            IsBuiltFrom built (patterns_of default_settings patterns.now)) }
+        ensures match_kind { IfOk result (λ built. match_kind_of built ≡ Standard) }
+        ensures start_kind { IfOk result (λ built. built.start_kind ≡ Unanchored) }
+        ensures lengths { IfOk result (λ built.
+            lengths_of built ≡ map (λ pattern. length pattern.now) patterns.now) }
+        ensures count { IfOk result (λ built. patterns_len_of built ≡ length patterns.now) }
+    {
+        AhoCorasickBuilder::new().build(alloc, patterns)
+    }
+
+    /// The searcher of the patterns that an iterator gives, as a new builder builds it.
+    ///
+    /// # Errors
+    ///
+    /// As those of `AhoCorasickBuilder::build`.
+    pub fn new_from_iter<'p, I: Iterator<Item = &'p [u8]> + Drop>(
+        alloc: Global,
+        patterns: I,
+    ) -> Result<AhoCorasick, BuildError>
+        requires can { I.can_next patterns }
+        requires ends { IsFinite (I.remaining patterns) }
+        ensures of { IfOk result (λ built.
+            OfAccepted I.next_gives patterns default_settings (IsBuiltFrom built)) }
+        ensures match_kind { IfOk result (λ built. match_kind_of built ≡ Standard) }
+        ensures start_kind { IfOk result (λ built. built.start_kind ≡ Unanchored) }
+        ensures refused { IfErr result (IsFailure I.next_gives patterns default_settings) }
+    {
+        AhoCorasickBuilder::new().build_from_iter(alloc, patterns)
+    }
+
+    /// The settings to build with.
+    pub fn builder() -> AhoCorasickBuilder
+        ensures new { result ≡ default_building }
+    {
+        AhoCorasickBuilder::new()
+    }
+
+    /// The searcher with this automaton.
+    pub(crate) fn of_automaton(automaton: NFA, start_kind: StartKind) -> AhoCorasick
+        requires of { (p : Patterns) × ⟦<NFA as Automaton>⟧.is_of automaton p }
+        ensures same { result ≡ record { automaton = automaton; start_kind = start_kind } }
+    {
+        AhoCorasick {
+            automaton,
+            start_kind,
+        }
+    }
+
+    /// A copy of the searcher.
+    ///
+    /// # Errors
+    ///
+    /// Out of memory.
+    pub fn try_clone(&self) -> Result<AhoCorasick, AllocError>
+        ensures of { (p : Patterns) → IsBuiltFrom self.now p
+            → IfOk result (λ copy. IsBuiltFrom copy p) }
+        ensures match_kind { IfOk result (λ copy. match_kind_of copy ≡ match_kind_of self.now) }
+        ensures start_kind { IfOk result (λ copy. copy.start_kind ≡ self.now.start_kind) }
+        ensures lengths { IfOk result (λ copy. lengths_of copy ≡ lengths_of self.now) }
+        ensures memory { IfOk result (λ copy. memory_of copy ≡ memory_of self.now) }
+    {
+        let automaton = self.built().automaton().try_clone()?;
+        Ok(AhoCorasick::of_automaton(automaton, self.start_kind))
+    }
+
+    /// The automaton that searches.
+    pub(crate) fn automaton(&self) -> &NFA
+        ensures same { result.now ≡ self.now.automaton }
+    {
+        &self.automaton
+    }
+
+    /// The searcher, which was built from some patterns.
+    pub(crate) fn built(&self) -> &AhoCorasick
+        ensures same { result ≡ self.entry }
+        ensures some { (p : Patterns) × IsBuiltFrom self.now p }
+    {
+        let _automaton = &self.automaton;
+        self
+    }
+
+    /// How many patterns it was built from.
+    #[tactic(auto, using(crate::proofs::Built::count_of))]
+    pub fn patterns_len(&self) -> usize
+        ensures len { result ≡ patterns_len_of self.now }
+        ensures patterns { (p : Patterns) → IsBuiltFrom self.now p → result ≡ length p.words }
+    {
+        Automaton::patterns_len(self)
+    }
+
+    /// How many bytes the shortest pattern has; the greatest `usize` where there is no pattern.
+    pub fn min_pattern_len(&self) -> usize
+        ensures shortest { result ≡ shortest (lengths_of self.now) }
+    {
+        Automaton::min_pattern_len(self)
+    }
+
+    /// How many bytes the longest pattern has; 0 where there is no pattern.
+    pub fn max_pattern_len(&self) -> usize
+        ensures longest { result ≡ longest (lengths_of self.now) }
+        ensures bound { result ≤ greatest_index }
+    {
+        Automaton::max_pattern_len(self)
+    }
+
+    /// Which of several matches it finds.
+    #[tactic(auto, using(crate::proofs::Built::finds_by))]
+    pub fn match_kind(&self) -> MatchKind
+        ensures kind { result ≡ match_kind_of self.now }
+        ensures patterns { (p : Patterns) → IsBuiltFrom self.now p → result ≡ p.kind }
+    {
+        Automaton::match_kind(self)
+    }
+
+    /// How many bytes of memory it holds, by the stated sizes of its parts.
+    pub fn memory_usage(&self) -> usize
+        ensures memory { result ≡ memory_of self.now }
+    {
+        Automaton::memory_usage(self)
+    }
+
+    /// Which searches are answered.
+    pub fn start_kind(&self) -> StartKind
+        ensures start_kind { result ≡ self.now.start_kind }
+    {
+        self.start_kind
+    }
+
+    /// Which automaton searches.
+    pub fn kind(&self) -> AhoCorasickKind {
+        AhoCorasickKind::NoncontiguousNFA
+    }
+}
