@@ -5,7 +5,6 @@ ghost use Rattle.aho_base.specs.Numbers.{greatest_index};
 
 use crate::asserts::{assert_in, assert_same, assert_same_in};
 use crate::inputs::{KINDS, Random};
-use aho_base::error::BuildError;
 use aho_base::search::{Input, Match, MatchKind, PatternID, Span};
 use aho_prefilter::prefilter::{Candidate, PackedBuilder, Prefilter, PrefilterBuilder};
 use bench::callers::{automaton_of, find_by, packed_prefilter_of};
@@ -304,7 +303,7 @@ fn look_at_answer(
     alloc: Global,
     words: &[&[u8]],
     haystack: &[u8],
-) -> Result<(), BuildError> {
+) -> Result<(), Fail> {
     let nfa = automaton_of(alloc, words)?;
     let held = packed_prefilter_of(alloc, words)?;
     assert!(rt; words.len() <= PatternID::MAX.as_usize());
@@ -324,7 +323,7 @@ fn look_at_packed(
     random: &mut Random,
     words: &[&[u8]],
     bytes: &[u8],
-) -> Result<(), BuildError> {
+) -> Result<(), Fail> {
     assert!(rt; words.len() <= PatternID::MAX.as_usize());
     for ignore_case in [false, true] {
         let Some(prefilter) = packed_of(alloc, words, ignore_case)? else {
@@ -334,10 +333,9 @@ fn look_at_packed(
             let haystack = random.range(bytes, 60);
             let start = random.below(haystack.len() + 1);
             let end = haystack.len();
-            let spans = [Span { start: 0, end }, Span { start, end }];
-            for span in spans {
-                look_at_span(rt, &prefilter, words, ignore_case, haystack, span);
-            }
+            let (whole, part) = (Span { start: 0, end }, Span { start, end });
+            look_at_span(rt, &prefilter, words, ignore_case, haystack, whole);
+            look_at_span(rt, &prefilter, words, ignore_case, haystack, part);
             look_at_answer(rt, alloc, words, haystack)?;
         }
     }
