@@ -1,9 +1,9 @@
 -- How many patterns the states list together while the lists are copied, and in the end.
-use Rattle.std.proofs.Common.{◌≡◌, ℕ, zero, suc, ◌+◌, ◌<◌, ◌≤◌, ◌≢◌, Bool, List, [], ◌∷◌, ◌++◌, length, get_or, take, map, Option, Some, None, refl, sym, ap, subst, ◌∙◌, inl, inr, arith}
+use Rattle.std.proofs.Common.{◌≡◌, ℕ, zero, suc, ◌+◌, ◌<◌, ◌≤◌, ◌≢◌, Bool, List, [], ◌∷◌, ◌++◌, length, get_or, map, Option, Some, None, refl, sym, ap, subst, ◌∙◌, inl, inr, arith}
 use Rattle.std.specs.Prelude.{sum_by}
 use Rattle.std.proofs.Math.ListN.{set}
 use Rattle.std.proofs.lemmas.Bool.{cases_eq}
-use Rattle.std.proofs.lemmas.List.{length-set, length-append, length-take-le, length-map, get_or-map}
+use Rattle.std.proofs.lemmas.List.{length-set, length-append, length-map, get_or-map}
 use Rattle.std.proofs.lemmas.List.Sums.{sum_by-cons, sum_by-set}
 use Rattle.aho_base.specs.declared.error.BuildError.{BuildError}
 use Rattle.aho_base.specs.declared.error.BuildError.TheVariants.{StateIDOverflow}
@@ -16,15 +16,13 @@ use Rattle.aho_laws.proofs.Inserted.{own_among-all}
 use Rattle.aho_build.specs.FailureLinks.{IsLinking, append_matches, linked_state}
 use Rattle.aho_build.specs.Built.{IsBuilt}
 use Rattle.aho_build.specs.Starts.{root_loop}
-use Rattle.aho_table.specs.Refusal.{IsRefusalOf, refusal_at}
+use Rattle.aho_table.specs.Refusal.{IsRefusalOf}
 use Rattle.aho_build.specs.Trie.{HoldsTrie, IsTrie, names_before}
 use Rattle.aho_build.specs.StateNames.{name_at}
 use Rattle.aho_build.specs.Sizes.{nodes, matches_size}
 use Rattle.aho_table.specs.Table.{fail_id, dead_id, State, Tables, new_state, state_at, fail_in, matches_in, matches_count, set_fail_of}
 use Rattle.aho_build.specs.FirstStates.{anchored_id, root_id}
 use Rattle.aho_table.proofs.States.{state_at-set_same, state_at-set_other, part-set}
-use Rattle.aho_build.proofs.CopiedMatches.{copied_state}
-use Rattle.aho_table.proofs.Refusals.{IsRefusalOf-at}
 use Rattle.aho_build.proofs.KeptTransitions.{sum_by-places, matches_count-same}
 
 -- one state lists more patterns
@@ -55,15 +53,6 @@ matches_count-after old new to from below size here others =
       | inr other ↦ others i other ∙ sym (ap (λ (r : State). r.matches) (state_at-set_other old to i state other))
     ])
     ∙ matches_count-append old to from below
-
--- the next pattern of a list is refused
-pub copied_refused : (old states : List State) (to from i limit : ℕ) (error : BuildError) → to < length old → i < length (matches_in old from)
-    → states ≡ set old to (copied_state old to from i) → error ≡ refusal_at limit (matches_count states) → IsRefusalOf limit (matches_count old + length (matches_in old from)) error
-copied_refused old states to from i limit error below inside states_are is =
-    let list : List ℕ = matches_in old from in
-    let count : matches_count states ≡ matches_count old + i =
-    omega (arith, ap matches_count states_are, matches_count-longer old to (copied_state old to from i) (take i list) below refl, length-take-le i list (omega arith)) in
-    IsRefusalOf-at limit (matches_count states) (matches_count old + length list) error (omega arith) is
 
 -- a refusal below one size is one below a larger size
 pub IsRefusalOf-larger : (limit larger limit' size : ℕ) (error : BuildError) → limit' ≡ limit → size ≤ larger → IsRefusalOf limit' size error → IsRefusalOf limit larger error

@@ -11,15 +11,12 @@ use Rattle.aho_base.specs.Step.{depth_of, follow}
 use Rattle.aho_base.specs.Trie.{is_node}
 use Rattle.aho_build.specs.StateNames.{name_at, IsStateOf}
 use Rattle.aho_build.specs.Trie.{longer, IsTrie, names_before}
+pub use Rattle.aho_table.specs.Table.{append_matches}
 use Rattle.aho_table.specs.Table.{fail_id, dead_id, State, Tables, state_at, transition_in, next_in, fail_in, depth_in, matches_in}
 use Rattle.aho_build.specs.Sizes.{matches_size}
 use Rattle.aho_build.specs.Starts.{root_loop, IsAnchoredStart, IsDead, IsReady}
 use Rattle.aho_table.specs.Refusal.{IsRefusalOf}
 use Rattle.aho_build.specs.FirstStates.{root_id}
-
--- the state lists the patterns of another after its own
-abbrev pub append_matches : List State → ℕ → ℕ → List State
-append_matches states sid from = slice_set states sid (record (state_at states sid) { matches = (state_at states sid).matches ++ matches_in states from })
 
 -- the state leads on failure to another, and lists that one's patterns after its own
 abbrev pub linked_state : List State → ℕ → ℕ → List State

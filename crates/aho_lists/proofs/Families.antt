@@ -2,25 +2,13 @@
 use Rattle.std.proofs.Common.{◌≡◌, ℕ, ◌+◌, ◌<◌, ◌≤◌, ◌≢◌, ◌⊎◌, Bool, true, false, cond, List, [], ◌∷◌, ◌++◌, length, refl, sym, ap, ◌∙◌, inl, inr, arith}
 use Rattle.std.proofs.lemmas.Bool.{cases_order}
 use Rattle.std.proofs.lemmas.List.{length-set, length_push, get_or_past, get_or-set_same, get_or-set_other, get_or_append_left, get_or_push}
-use Rattle.aho_lists.specs.Lists.{list_at, IsList, without, push_in}
+use Rattle.aho_lists.specs.Lists.{list_at, IsList, without}
 use Rattle.aho_lists.specs.TransitionList.{with_transition, lists_transition, is_above, room_for, number_after, set_transition_in}
 use Rattle.aho_lists.proofs.TransitionRuns.{with_transition-more, with_transition-same, with_transition-less, lists_transition-other, is_above-more, is_above-not}
 
 -- a number at which a list with an item stands is a list's
 pub IsList-from : {X : Type 0} (lists : List (List X)) (number : ℕ) (items : List X) → list_at lists number ≡ items → items ≢ [] → IsList lists number
 IsList-from lists number items is some none = absurd (some (sym is ∙ none))
-
--- ---- an item was added at a list's end
-
-pub push_in-other : {X : Type 0} (lists : List (List X)) (list : ℕ) (item : X) (other : ℕ) → other < length lists → other ≢ list → list_at (push_in lists list item) other ≡ list_at lists other
-push_in-other lists list item other below ne =
-    get_or_append_left (without lists list) ((list_at lists list ++ item ∷ []) ∷ []) [] other (omega (arith, length-set lists list [])) ∙ get_or-set_other lists list other [] [] ne
-
-pub push_in-this : {X : Type 0} (lists : List (List X)) (list : ℕ) (item : X) → list_at (push_in lists list item) (length lists) ≡ list_at lists list ++ item ∷ []
-push_in-this lists list item = get_or_push (without lists list) (list_at lists list ++ item ∷ []) [] (length lists) (length-set lists list [])
-
-pub push-some : {X : Type 0} (xs : List X) (item : X) → xs ++ item ∷ [] ≢ []
-push-some xs item none = let count = ap (λ (l : List _). length l) none in omega (arith, length_push xs item)
 
 -- ---- a byte of a list was led to a state
 
@@ -96,9 +84,6 @@ module _ (lists : List (List (ℕ × ℕ))) (list byte next : ℕ) where
       length-set (without (room_for lists list byte) list) (number_after lists list byte) (with_transition (list_at lists list) byte next)
       ∙ length-set (room_for lists list byte) list []
       ∙ room-count (lists_transition (list_at lists list) byte)
-
-pub push_in-count : {X : Type 0} (lists : List (List X)) (list : ℕ) (item : X) → length (push_in lists list item) ≡ length lists + 1
-push_in-count lists list item = length_push (without lists list) (list_at lists list ++ item ∷ []) ∙ ap (λ (n : ℕ). n + 1) (length-set lists list [])
 
 -- the number that a list has then is the one that it had, or a new one
 pub number_after-fresh : (lists : List (List (ℕ × ℕ))) (list byte made : ℕ) → made ≡ number_after lists list byte → (made ≡ list) ⊎ (length lists ≤ made)

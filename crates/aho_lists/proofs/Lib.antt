@@ -1,3 +1,6 @@
+pub mod Patterns
+pub mod Laying
+pub mod PatternChanges
 pub mod Runs
 pub mod Stores
 pub mod Changes
@@ -8,9 +11,7 @@ pub mod TransitionChanges
 pub mod Results
 pub mod Walks
 pub mod SideBySide
-pub mod MatchChanges
 pub mod Families
 pub mod Firsts
 pub mod Sides
 pub mod Renamed
-pub mod Counted

@@ -4,7 +4,7 @@ use Rattle.std.proofs.lemmas.List.{get_or_past}
 use Rattle.std.proofs.lemmas.List.FromFn.{length-map-range_with_len, get_or-map-range_with_len}
 use Rattle.std.proofs.lemmas.Bool.{cases_eq, cases_order}
 use Rattle.aho_lists.specs.Rings.{Entries, list_ending, lists_of, IsRun, AreRings}
-use Rattle.aho_lists.specs.Lists.{Lists, list_at, IsList, push_in}
+use Rattle.aho_lists.specs.Lists.{Lists, list_at, IsList}
 use Rattle.aho_lists.proofs.Runs.{list_ending-none, list_ending-ring, list_ending-zero}
 
 pub length-lists_of : {X : Type 0} (entries : Entries X) (count : ℕ) → length (lists_of entries count) ≡ count
@@ -97,11 +97,6 @@ list_at-cases {X = X} entries count rings number =
     at some below ends =
         let joined = rings.joined number some below ends in
         subst (λ (l : List X). IsRun entries number (entries.link number) l) (sym (list_at-lists_of entries count number below ∙ list_ending-ring some ends joined.1)) joined.1
-
--- the first item of a list
-pub push_in-empty : {X : Type 0} (lists : List (List X)) (item : X) → list_at lists 0 ≡ [] → push_in lists 0 item ≡ lists ++ (item ∷ []) ∷ []
-push_in-empty [] item none = refl
-push_in-empty {X = X} (list ∷ lists) item none = ap (λ (l : List X). (l ∷ lists) ++ (list ++ item ∷ []) ∷ []) (sym none) ∙ ap (λ (l : List X). (list ∷ lists) ++ (l ++ item ∷ []) ∷ []) none
 
 -- a list that has an item has a number
 pub some_list : {X : Type 0} (lists : List (List X)) (list index : ℕ) → list_at lists 0 ≡ [] → index < length (list_at lists list) → 0 < list

@@ -2,10 +2,8 @@
 use Rattle.std.specs.Prelude.{◌≡◌, ◌≢◌, ℕ, ◌+◌, ◌<◌, ◌≤◌, List, [], ◌∷◌, ◌++◌, length, slice_index_or, slice_set}
 use Rattle.aho_base.specs.Numbers.{greatest_index}
 use Rattle.aho_lists.specs.Rings.{Entries, lists_of, AreRings, IsPassed}
-use Rattle.aho_lists.specs.Lists.{list_at}
 use Rattle.aho_lists.specs.Renaming.{IsLed}
 use Rattle.aho_lists.specs.declared.transitions.Transition.{Transition}
-use Rattle.aho_lists.specs.declared.matches.MatchEntry.{MatchEntry}
 
 -- the entry at this place
 abbrev pub transition_of : List Transition → ℕ → Transition
@@ -42,34 +40,6 @@ pub record IsEntryLed (leads : ℕ → ℕ → Type 0) (old new : Transition) : 
   pub byte : new.byte ≡ old.byte
   pub link : new.link ≡ old.link
   pub next : IsLed leads old.next new.next
-
-abbrev pub match_of : List MatchEntry → ℕ → MatchEntry
-match_of entries place = slice_index_or entries place (record { pattern = 0; link = 0; before = 0 })
-
--- the entries, the one at index 0 among them, which comes with the first one of a list
-abbrev pub with_first_match : List MatchEntry → List MatchEntry
-with_first_match [] = record { pattern = 0; link = 0; before = 0 } ∷ []
-with_first_match (entry ∷ entries) = entry ∷ entries
-
-abbrev pub relinked_match : List MatchEntry → ℕ → ℕ → List MatchEntry
-relinked_match entries place link = slice_set entries place (record (match_of entries place) { link = link })
-
--- the entries and one more, which stands in a list behind this place
-abbrev pub matched_behind : List MatchEntry → ℕ → ℕ → List MatchEntry
-matched_behind entries place pattern = relinked_match entries place (length entries) ++ record { pattern = pattern; link = (match_of entries place).link; before = (match_of entries place).before + 1 } ∷ []
-
--- a match's key is its place
-abbrev pub match_entries : List MatchEntry → Entries ℕ
-match_entries entries = record {
-  item = λ place. (match_of entries place).pattern;
-  link = λ place. (match_of entries place).link;
-  key = λ place. place;
-}
-
--- each last entry tells how many stand before it in its list
-abbrev pub AreCounted : List MatchEntry → Type 0
-AreCounted entries = (number : ℕ) → list_at (lists_of (match_entries entries) (length entries)) number ≢ []
-    → length (list_at (lists_of (match_entries entries) (length entries)) number) ≡ (match_of entries number).before + 1
 
 -- the entries are lists, and none is above the limit
 pub record IsStore {X : Type 0} (entries : Entries X) (count limit : ℕ) : Type 0 where

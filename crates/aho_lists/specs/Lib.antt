@@ -6,6 +6,8 @@ pub mod Lists
 pub mod TransitionList
 -- why a store refuses to grow
 pub mod Refusal
+-- lists of patterns, laid down in one vector
+pub mod Words
 -- the inside of the stores: for private clauses, and cited by no other crate
 pub mod Inside
 -- numbers of states that are exchanged

@@ -5,3 +5,4 @@ pub mod matches;
 mod places;
 pub mod renumber;
 pub mod transitions;
+mod words;

@@ -1,151 +1,154 @@
 //! Lists of patterns in one vector.
 //!
-//! An entry links to the next of its list, and the last one back to the first. A list's number is the index of its last
-//! entry, which its caller keeps; 0 is the number of the empty list. So a pattern is added at the end in constant time.
+//! The patterns of a list stand side by side. A list that grows is moved to the end, unless there is room behind it; then there
+//! is room for as many patterns again. So a pattern is added in constant time, over many of them. A list's number, which its
+//! caller keeps, is the place of its first pattern; 0 is the number of the empty list.
 
-ghost use Rattle.std.specs.Prelude.{◌≡◌, ℕ, ◌≢◌, ◌+◌, ◌-◌, ◌<◌, ◌≤◌, ◌∷◌, ◌++◌, [], length, IfOk, IfErr, OnOk, OnErr, min, slice_get, unwrap_or};
+ghost use Rattle.std.specs.Prelude.{◌≡◌, ◌≤◌, ◌+◌, ◌<◌, ◌∷◌, ◌++◌, [], length, IfOk, IfErr, OnOk, OnErr, min, slice_get};
+ghost use Rattle.std.specs.List.{All};
 ghost use Rattle.std.specs.Iterator.{YieldsFirst, item_count};
 ghost use Rattle.aho_base.specs.Numbers.{greatest_index};
-ghost use Rattle.aho_lists.specs.Refusal.{refusal_at};
-ghost use Rattle.aho_lists.specs.Rings.{AreRings, lists_of};
-ghost use Rattle.aho_lists.specs.Lists.{list_at, IsList, push_in};
-ghost use Rattle.aho_lists.specs.Inside.{with_first_match, AreCounted, match_of, match_entries, relinked_match, matched_behind};
+ghost use Rattle.aho_lists.specs.Refusal.{refusal_at, IsRefusalOf};
+ghost use Rattle.aho_lists.specs.Lists.{list_at, IsList, IsListed};
 
-use crate::places::{overflow, place_after};
+use crate::places::overflow;
+use crate::words::{join_patterns, len_at, pattern_at, push_pattern, words_from};
 use aho_base::error::BuildError;
-use aho_base::search::{PatternID, SmallIndex, StateID};
+use aho_base::search::{PatternID, SmallIndex};
 use std::alloc::{AllocError, Global};
 use std::iter::FusedIterator;
 use std::marker::Model;
 
-/// An entry: the pattern, and the next entry of the list.
-#[derive(Clone, Copy)]
-struct MatchEntry {
-    pattern: PatternID,
-    link: StateID,
-    /// How many entries of the list stand before it.
-    before: u32,
-}
-
 /// Lists of patterns.
 ///
-/// An index of an entry is at most the limit. Index 0 is taken by an entry of no list, which comes with the first one of a list.
+/// Each pattern that was listed has an index, from 1 on; it is at most the limit.
 #[derive(Drop)]
 pub struct MatchLists {
-    /// None, or those of the lists behind the one at index 0.
-    entries: Vec<MatchEntry>,
+    words: Vec<u32>,
+    /// How many patterns were listed, and one.
+    count: usize,
     limit: usize,
 }
 
 impl Model for MatchLists {
-    ghost use Rattle.std.specs.Prelude.{ℕ, length};
-    ghost use Rattle.aho_lists.specs.Rings.{lists_of};
-    ghost use Rattle.aho_lists.specs.Lists.{Lists};
-    ghost use Rattle.aho_lists.specs.Inside.{match_entries, with_first_match, IsStore, AreCounted};
+    ghost use Rattle.aho_lists.specs.Lists.{PatternLists};
+    ghost use Rattle.aho_lists.specs.Words.{pattern_lists, AreStored};
 
-    ghost Value = { Lists ℕ };
+    ghost Value = { PatternLists };
 
     ghost view = { λ s. record {
-      lists = lists_of (match_entries (with_first_match s.entries.items)) (length (with_first_match s.entries.items));
+      lists = pattern_lists s.words.items;
+      count = s.count;
       limit = s.limit;
     } };
 
-    ghost invariant = { λ s.
-        IsStore (match_entries (with_first_match s.entries.items)) (length (with_first_match s.entries.items)) s.limit
-        × AreCounted (with_first_match s.entries.items) };
+    ghost invariant = { λ s. AreStored s.words.items s.count s.limit };
 }
 
 impl MatchLists {
     /// No lists yet, of indexes that are at most `limit`; a greater limit counts as `SmallIndex::MAX`. It takes no memory.
     pub fn new(alloc: Global, limit: usize) -> MatchLists
-        ensures empty { result ≡ record { lists = [] ∷ []; limit = min limit greatest_index } }
+        ensures empty { result ≡ record { lists = [] ∷ []; count = 1; limit = min limit greatest_index } }
     {
         MatchLists {
-            entries: Vec::new(alloc),
+            words: Vec::new(alloc),
+            count: 1,
             limit: limit.min(SmallIndex::MAX.as_usize()),
         }
     }
 
-    /// How many entries the lists have together, and one: the entry at index 0.
+    /// How many patterns were listed, and one.
     pub fn len(&self) -> usize
-        ensures len { result ≡ length self.now.lists }
+        ensures len { result ≡ self.now.count }
         ensures bound { result ≤ greatest_index + 1 }
     {
-        self.entries.len().max(1)
+        self.count
     }
 
     /// What is true of every store, for a proof to cite. The call does nothing.
     pub fn facts(&self)
         ensures some { 0 < length self.now.lists }
-        ensures within { length self.now.lists ≤ self.now.limit + 1 }
+        ensures within { self.now.count ≤ self.now.limit + 1 }
         ensures small { self.now.limit ≤ greatest_index }
         ensures empty { list_at self.now.lists 0 ≡ [] }
     {
-        let _entries = &self.entries;
+        let _words = &self.words;
     }
 
-    /// The pattern is added at the end of the list of this number. Answers the list's number then, which is another one.
+    /// The pattern is added at the end of the list of this number. Answers the list's number then.
     ///
     /// # Errors
     ///
-    /// `StateIDOverflow` where one entry more has an index above the limit; else want of memory. The store is then
+    /// `StateIDOverflow` where one pattern more has an index above the limit; else want of memory. The store is then
     /// unchanged.
-    pub fn push(&mut self, list: StateID, pattern: PatternID) -> Result<StateID, BuildError>
+    pub fn push(&mut self, list: u32, pattern: PatternID) -> Result<u32, BuildError>
         requires known { IsList self.old.lists list }
-        ensures number { IfOk result (λ made. made ≡ length self.old.lists) }
-        ensures pushed { OnOk result (self.new ≡ record self.old
-            { lists = push_in self.old.lists list pattern }) }
-        ensures changed { IfOk result (λ made. list_at self.new.lists made
-            ≡ list_at self.old.lists list ++ pattern ∷ []) }
-        ensures known { IfOk result (λ made. IsList self.new.lists made) }
-        ensures others { OnOk result ((other : ℕ) → other < length self.old.lists → other ≢ list
-            → list_at self.new.lists other ≡ list_at self.old.lists other) }
-        ensures within { OnOk result (length self.new.lists ≤ self.old.limit + 1) }
+        ensures listed { IfOk result (λ made. IsListed self.old.lists self.new.lists list made
+            (list_at self.old.lists list ++ pattern ∷ [])) }
+        ensures limit { OnOk result (self.new.limit ≡ self.old.limit) }
+        ensures counted { OnOk result (self.new.count ≡ self.old.count + 1) }
+        ensures within { OnOk result (self.new.count ≤ self.old.limit + 1) }
         ensures refused { IfErr result
-            (λ error. error ≡ refusal_at self.old.limit (length self.old.lists)) }
+            (λ error. error ≡ refusal_at self.old.limit self.old.count) }
         ensures unchanged { OnErr result (self.new ≡ self.old) }
     {
-        if list == StateID::ZERO {
-            return self.start(pattern);
+        if self.count > self.limit {
+            return Err(overflow(self.limit));
         }
-        let made = push_behind(&mut self.entries, self.limit, list, pattern)?;
+        let Ok(made) = push_pattern(&mut self.words, list, pattern) else {
+            return Err(BuildError::OutOfMemory);
+        };
+        self.count += 1;
         Ok(made)
     }
 
-    /// A list of one pattern.
-    fn start(&mut self, pattern: PatternID) -> Result<StateID, BuildError>
-        ensures number { IfOk result (λ made. made ≡ length self.old.lists) }
-        ensures started { OnOk result (self.new
-            ≡ record self.old { lists = self.old.lists ++ (pattern ∷ []) ∷ [] }) }
-        ensures empty { list_at self.old.lists 0 ≡ [] }
-        ensures within { OnOk result (length self.new.lists ≤ self.old.limit + 1) }
+    /// The patterns of the other list are added at the end of the list of this number. Answers the list's number then.
+    ///
+    /// # Errors
+    ///
+    /// `StateIDOverflow` where so many patterns more have an index above the limit; else want of memory. The store is then
+    /// unchanged.
+    pub fn join(&mut self, list: u32, other: u32) -> Result<u32, BuildError>
+        requires known { IsList self.old.lists list }
+        requires other { IsList self.old.lists other }
+        ensures listed { IfOk result (λ made. IsListed self.old.lists self.new.lists list made
+            (list_at self.old.lists list ++ list_at self.old.lists other)) }
+        ensures limit { OnOk result (self.new.limit ≡ self.old.limit) }
+        ensures counted { OnOk result
+            (self.new.count ≡ self.old.count + length (list_at self.old.lists other)) }
         ensures refused { IfErr result
-            (λ error. error ≡ refusal_at self.old.limit (length self.old.lists)) }
+            (IsRefusalOf self.old.limit (self.old.count + length (list_at self.old.lists other))) }
         ensures unchanged { OnErr result (self.new ≡ self.old) }
     {
-        let made = push_alone(&mut self.entries, self.limit, pattern)?;
+        let more = len_at(&self.words, other);
+        if more == 0 {
+            return Ok(list);
+        }
+        if self.count + more > self.limit + 1 {
+            return Err(overflow(self.limit));
+        }
+        let Ok(made) = join_patterns(&mut self.words, list, other) else {
+            return Err(BuildError::OutOfMemory);
+        };
+        self.count += more;
         Ok(made)
     }
 
     /// How many patterns the list of this number has.
-    pub fn len_of(&self, list: StateID) -> usize
+    pub fn len_of(&self, list: u32) -> usize
         requires known { IsList self.now.lists list }
         ensures len { result ≡ length (list_at self.now.lists list) }
     {
-        let entries = self.entries.as_slice();
-        if list == StateID::ZERO {
-            return 0;
-        }
-        entry(entries, list).before as usize + 1
+        len_at(&self.words, list)
     }
 
-    /// The pattern of this place in the list of this number. It walks along the list to where the entries lie side by side.
-    pub fn get(&self, list: StateID, index: usize) -> PatternID
+    /// The pattern of this place in the list of this number.
+    pub fn get(&self, list: u32, index: usize) -> PatternID
         requires known { IsList self.now.lists list }
         requires within { index < length (list_at self.now.lists list) }
         ensures listed { slice_get (list_at self.now.lists list) index ≡ Some result }
     {
-        read(&self.entries, list, index)
+        pattern_at(&self.words, list, index)
     }
 
     /// An equal store, in memory of its own.
@@ -157,28 +160,20 @@ impl MatchLists {
         ensures same { IfOk result (λ store. store ≡ self.now) }
     {
         Ok(MatchLists {
-            entries: Vec::from_slice(alloc, &self.entries)?,
+            words: Vec::from_slice(alloc, &self.words)?,
+            count: self.count,
             limit: self.limit,
         })
     }
 
     /// The patterns of the list of this number, in the order of their listing.
-    pub fn iter(&self, list: StateID) -> Matches<'_>
+    pub fn iter(&self, list: u32) -> Matches<'_>
         requires known { IsList self.now.lists list }
         ensures listed { result ≡ list_at self.now.lists list }
     {
-        let entries = self.entries.as_slice();
-        if list == StateID::ZERO {
-            return Matches {
-                entries,
-                at: None,
-                last: list,
-            };
-        }
+        let count = len_at(&self.words, list);
         Matches {
-            entries,
-            at: Some(entry(entries, list).link),
-            last: list,
+            rest: words_from(&self.words, list as usize, count),
         }
     }
 }
@@ -188,22 +183,19 @@ impl MatchLists {
 /// It is seen as the list of those that are left.
 #[derive(Drop)]
 pub struct Matches<'t> {
-    entries: &'t [MatchEntry],
-    at: Option<StateID>,
-    last: StateID,
+    rest: &'t [u32],
 }
 
 impl<'t> Model for Matches<'t> {
-    ghost use Rattle.std.specs.Prelude.{ℕ, List, length};
-    ghost use Rattle.aho_lists.specs.Rings.{rest_from, IsWalk};
-    ghost use Rattle.aho_lists.specs.Inside.{match_entries};
+    ghost use Rattle.std.specs.Prelude.{ℕ, List, ◌≤◌};
+    ghost use Rattle.std.specs.List.{All};
+    ghost use Rattle.aho_base.specs.Numbers.{greatest_index};
 
     ghost Value = { List ℕ };
 
-    ghost view = { λ it. rest_from (match_entries it.entries.now) it.at it.last };
+    ghost view = { λ it. it.rest.now };
 
-    ghost invariant = { λ it.
-        IsWalk (match_entries it.entries.now) (length it.entries.now) it.at it.last };
+    ghost invariant = { λ it. All (λ (word : ℕ). word ≤ greatest_index) it.rest.now };
 }
 
 impl<'t> Iterator for Matches<'t> {
@@ -214,158 +206,11 @@ impl<'t> Iterator for Matches<'t> {
     ghost remaining = { item_count (λ rest. rest) };
 
     fn next(&mut self) -> Option<PatternID> {
-        let Some(at) = self.at else {
-            return None;
-        };
-        let listed = entry(self.entries, at);
-        self.at = place_after(listed.link, at, self.last);
-        Some(listed.pattern)
+        let (first, rest) = self.rest.split_first()?;
+        let pattern = PatternID::new_unchecked(*first as usize);
+        self.rest = rest;
+        Some(pattern)
     }
 }
 
 impl<'t> FusedIterator for Matches<'t> {}
-
-/// The entry at this place.
-fn entry(entries: &[MatchEntry], place: StateID) -> MatchEntry
-    requires within { place < length entries.now }
-    ensures entry { result ≡ match_of entries.now place }
-{
-    entries[place.as_usize()]
-}
-
-/// The pattern of this place in the list that ends at `last`.
-fn read(entries: &[MatchEntry], last: StateID, index: usize) -> PatternID
-    requires counted { AreCounted entries.now }
-    requires rings { AreRings (match_entries entries.now) (length entries.now) }
-    requires some { 0 < last }
-    requires known { IsList (lists_of (match_entries entries.now) (length entries.now)) last }
-    requires inside { index < length (list_at (lists_of (match_entries entries.now) (length entries.now)) last) }
-    ensures listed { slice_get (list_at (lists_of (match_entries entries.now) (length entries.now)) last) index ≡ Some result }
-{
-    let end = entry(entries, last);
-    let mut at = end.link;
-    let mut behind = end.before as usize;
-    let mut steps = index;
-    'walk: loop {
-        if last.as_usize() - at.as_usize() == behind {
-            return entry(entries, StateID::new_unchecked(at.as_usize() + steps)).pattern;
-        }
-        let listed = entry(entries, at);
-        if steps == 0 {
-            return listed.pattern;
-        }
-        at = listed.link;
-        behind -= 1;
-        steps -= 1;
-    }
-}
-
-/// One entry more, which links to `link`, or to itself where there is none.
-fn push(
-    entries: &mut Vec<MatchEntry>,
-    limit: usize,
-    pattern: PatternID,
-    link: Option<StateID>,
-    before: u32,
-) -> Result<StateID, BuildError>
-    requires small { limit ≤ greatest_index }
-    ensures number { IfOk result (λ made. made ≡ length entries.old.items) }
-    ensures pushed { OnOk result (entries.new.items ≡ entries.old.items
-        ++ record { pattern = pattern; link = unwrap_or link (length entries.old.items); before = before } ∷ []) }
-    ensures within { OnOk result (length entries.old.items ≤ limit) }
-    ensures refused { IfErr result (λ error. error ≡ refusal_at limit (length entries.old.items)) }
-    ensures unchanged { OnErr result (entries.new.items ≡ entries.old.items) }
-{
-    let index = entries.len();
-    if index > limit {
-        return Err(overflow(limit));
-    }
-    let made = StateID::new_unchecked(index);
-    let link = link.unwrap_or(made);
-    if entries
-        .push(MatchEntry {
-            pattern,
-            link,
-            before,
-        })
-        .is_err()
-    {
-        return Err(BuildError::OutOfMemory);
-    }
-    Ok(made)
-}
-
-/// The entry at index 0 stands there.
-fn add_dummy(entries: &mut Vec<MatchEntry>) -> Result<(), AllocError>
-    ensures there { OnOk result (entries.new.items ≡ with_first_match entries.old.items) }
-    ensures unchanged { OnErr result (entries.new.items ≡ entries.old.items) }
-{
-    if entries.is_empty() {
-        let dummy = MatchEntry {
-            pattern: PatternID::new_unchecked(0),
-            link: StateID::ZERO,
-            before: 0,
-        };
-        entries.push(dummy)?;
-    }
-    Ok(())
-}
-
-/// One entry more, which links to itself.
-fn push_alone(
-    entries: &mut Vec<MatchEntry>,
-    limit: usize,
-    pattern: PatternID,
-) -> Result<StateID, BuildError>
-    requires small { limit ≤ greatest_index }
-    ensures number { IfOk result (λ made. made ≡ length (with_first_match entries.old.items)) }
-    ensures pushed { OnOk result (entries.new.items ≡ with_first_match entries.old.items
-        ++ record { pattern = pattern; link = length (with_first_match entries.old.items); before = 0 } ∷ []) }
-    ensures within { OnOk result (length (with_first_match entries.old.items) ≤ limit) }
-    ensures refused { IfErr result
-        (λ error. error ≡ refusal_at limit (length (with_first_match entries.old.items))) }
-    ensures unchanged { OnErr result
-        (with_first_match entries.new.items ≡ with_first_match entries.old.items) }
-{
-    if entries.len().max(1) > limit {
-        return Err(overflow(limit));
-    }
-    let Ok(()) = add_dummy(entries) else {
-        return Err(BuildError::OutOfMemory);
-    };
-    push(entries, limit, pattern, None, 0)
-}
-
-/// The entry at this place links to another.
-fn relink(entries: &mut Vec<MatchEntry>, place: StateID, link: StateID)
-    requires place { place < length entries.old.items }
-    ensures relinked { entries.new.items ≡ relinked_match entries.old.items place link }
-    ensures count { length entries.new.items ≡ length entries.old.items }
-{
-    let listed = &mut entries[place.as_usize()];
-    listed.link = link;
-}
-
-/// One entry more behind the last one of a list, which links to the first as that one did.
-fn push_behind(
-    entries: &mut Vec<MatchEntry>,
-    limit: usize,
-    last: StateID,
-    pattern: PatternID,
-) -> Result<StateID, BuildError>
-    requires small { limit ≤ greatest_index }
-    requires place { last < length entries.old.items }
-    requires few { (match_of entries.old.items last).before ≤ greatest_index }
-    ensures number { IfOk result (λ made. made ≡ length entries.old.items) }
-    ensures pushed { OnOk result
-        (entries.new.items ≡ matched_behind entries.old.items last pattern) }
-    ensures count { OnOk result (length entries.new.items ≡ length entries.old.items + 1) }
-    ensures within { OnOk result (length entries.old.items ≤ limit) }
-    ensures refused { IfErr result (λ error. error ≡ refusal_at limit (length entries.old.items)) }
-    ensures unchanged { OnErr result (entries.new.items ≡ entries.old.items) }
-{
-    let end = entry(entries, last);
-    let made = push(entries, limit, pattern, Some(end.link), end.before + 1)?;
-    relink(entries, last, made);
-    Ok(made)
-}

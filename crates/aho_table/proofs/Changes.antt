@@ -4,7 +4,7 @@ use Rattle.std.proofs.Math.ListN.{set, length-set}
 use Rattle.std.proofs.lemmas.List.{length-map, map-set, map-append, take-map, length_push, length-take, set-get_or, get_or_default}
 use Rattle.std.proofs.lemmas.List.Sums.{sum_by-append}
 use Rattle.std.proofs.Math.Seq.{take-append_seam}
-use Rattle.aho_lists.specs.Lists.{Lists, list_at, IsList}
+use Rattle.aho_lists.specs.Lists.{Lists, PatternLists, list_at, IsList}
 use Rattle.aho_table.specs.Table.{State, new_state, state_at, transitions_count, matches_count}
 use Rattle.aho_table.specs.Inside.{record_at, recorded_state, recorded_states, transition_numbers, match_numbers, AreNumbers, IsConsistent}
 use Rattle.aho_table.specs.declared.links.states.Record.{Record}
@@ -75,7 +75,7 @@ module _ (records : List Record) (sid : ℕ) (state : Record) (below : sid < len
         (ap (λ (xs : List (ℕ × ℕ)). record (recorded_state old matches state) { transitions = xs }) change.changed
         ∙ sym (ap (λ (s : State). record s { transitions = items }) (the_state old matches)))
 
-  pub IsConsistent-led : (transitions new : Lists (ℕ × ℕ)) (matches : Lists ℕ) (limit made : ℕ) (items : List (ℕ × ℕ)) → IsConsistent records transitions matches limit
+  pub IsConsistent-led : (transitions new : Lists (ℕ × ℕ)) (matches : PatternLists) (limit made : ℕ) (items : List (ℕ × ℕ)) → IsConsistent records transitions matches limit
       → IsListChange transitions.lists new.lists state.transitions made items → new.limit ≡ transitions.limit
       → length new.lists + length (list_at transitions.lists state.transitions) ≡ length transitions.lists + length items
       → IsConsistent (set records sid (record state { transitions = made })) new matches limit
@@ -139,9 +139,9 @@ module _ (records : List Record) (sid : ℕ) (state : Record) (below : sid < len
         (ap (λ (xs : List ℕ). record (recorded_state transitions old state) { matches = xs }) change.changed
         ∙ sym (ap (λ (s : State). record s { matches = items }) (the_state transitions old)))
 
-  pub IsConsistent-listed : (transitions : Lists (ℕ × ℕ)) (matches new : Lists ℕ) (limit made : ℕ) (items : List ℕ) → IsConsistent records transitions matches limit
+  pub IsConsistent-listed : (transitions : Lists (ℕ × ℕ)) (matches new : PatternLists) (limit made : ℕ) (items : List ℕ) → IsConsistent records transitions matches limit
       → IsListChange matches.lists new.lists state.matches made items → new.limit ≡ matches.limit
-      → length new.lists + length (list_at matches.lists state.matches) ≡ length matches.lists + length items
+      → new.count + length (list_at matches.lists state.matches) ≡ matches.count + length items
       → IsConsistent (set records sid (record state { matches = made })) transitions new limit
   IsConsistent-listed transitions matches new limit made items consistent change same counted =
       let states : List State = recorded_states transitions.lists matches.lists records in
@@ -180,7 +180,7 @@ module _ (records : List Record) (sid : ℕ) (state : Record) (below : sid < len
       recorded_states-changed transitions transitions matches matches records sid (record state { fail = fail }) below (λ i inside ne. refl)
       ∙ ap (set (recorded_states transitions matches records) sid) (sym (ap (λ (s : State). record s { fail = fail }) (the_state transitions matches)))
 
-  pub IsConsistent-linked : (transitions : Lists (ℕ × ℕ)) (matches : Lists ℕ) (limit fail : ℕ) → IsConsistent records transitions matches limit
+  pub IsConsistent-linked : (transitions : Lists (ℕ × ℕ)) (matches : PatternLists) (limit fail : ℕ) → IsConsistent records transitions matches limit
       → IsConsistent (set records sid (record state { fail = fail })) transitions matches limit
   IsConsistent-linked transitions matches limit fail consistent =
       let states : List State = recorded_states transitions.lists matches.lists records in
@@ -211,20 +211,20 @@ module _ (records : List Record) (sid : ℕ) (state : Record) (below : sid < len
 
 -- ---- no state, one state more, or one less
 
-pub IsConsistent-none : (transitions : Lists (ℕ × ℕ)) (matches : Lists ℕ) (limit : ℕ) → limit ≤ 2147483646
-    → transitions ≡ record { lists = [] ∷ []; limit = limit } → matches ≡ record { lists = [] ∷ []; limit = limit } → IsConsistent [] transitions matches limit
+pub IsConsistent-none : (transitions : Lists (ℕ × ℕ)) (matches : PatternLists) (limit : ℕ) → limit ≤ 2147483646
+    → transitions ≡ record { lists = [] ∷ []; limit = limit } → matches ≡ record { lists = [] ∷ []; count = 1; limit = limit } → IsConsistent [] transitions matches limit
 IsConsistent-none transitions matches limit small is is' = record {
   small = small;
   states_within = omega arith;
   transitions_limit = ap (λ (s : Lists (ℕ × ℕ)). s.limit) is;
-  matches_limit = ap (λ (s : Lists ℕ). s.limit) is';
+  matches_limit = ap (λ (s : PatternLists). s.limit) is';
   transition_lists = record { known = λ i below. absurd (omega arith); apart = λ i j below below' ne same. absurd (omega arith) };
   match_lists = record { known = λ i below. absurd (omega arith); apart = λ i j below below' ne same. absurd (omega arith) };
   transitions_are = omega (arith, ap (λ (s : Lists (ℕ × ℕ)). length s.lists) is, ap (λ (ss : List State). transitions_count ss) (recorded_states-none transitions.lists matches.lists));
-  matches_are = omega (arith, ap (λ (s : Lists ℕ). length s.lists) is', ap (λ (ss : List State). matches_count ss) (recorded_states-none transitions.lists matches.lists));
+  matches_are = omega (arith, ap (λ (s : PatternLists). s.count) is', ap (λ (ss : List State). matches_count ss) (recorded_states-none transitions.lists matches.lists));
 }
 
-pub IsConsistent-push : (records : List Record) (transitions : Lists (ℕ × ℕ)) (matches : Lists ℕ) (limit : ℕ) (last : Record) → IsConsistent records transitions matches limit
+pub IsConsistent-push : (records : List Record) (transitions : Lists (ℕ × ℕ)) (matches : PatternLists) (limit : ℕ) (last : Record) → IsConsistent records transitions matches limit
     → length records ≤ limit → last.transitions ≡ 0 → last.matches ≡ 0 → list_at transitions.lists 0 ≡ [] → list_at matches.lists 0 ≡ [] → IsConsistent (records ++ last ∷ []) transitions matches limit
 IsConsistent-push records transitions matches limit last consistent room none none' empty empty' =
     let more = recorded_states-append transitions.lists matches.lists records last in
@@ -262,7 +262,7 @@ recorded_states-first records transitions matches states depth count are is =
     let same : length states ≡ count = omega (arith, ap (λ (ss : List State). length ss) are, length-recorded_states transitions matches records, length_push states (new_state depth)) in
     sym (take-recorded_states transitions matches records count) ∙ ap (take count) are ∙ ap (λ (n : ℕ). take n (states ++ new_state depth ∷ [])) (sym same) ∙ take-append_seam states (new_state depth ∷ [])
 
-pub IsConsistent-first : (records : List Record) (transitions : Lists (ℕ × ℕ)) (matches : Lists ℕ) (limit : ℕ) (states : List State) (depth count : ℕ) → IsConsistent records transitions matches limit
+pub IsConsistent-first : (records : List Record) (transitions : Lists (ℕ × ℕ)) (matches : PatternLists) (limit : ℕ) (states : List State) (depth count : ℕ) → IsConsistent records transitions matches limit
     → recorded_states transitions.lists matches.lists records ≡ states ++ new_state depth ∷ [] → count + 1 ≡ length records → IsConsistent (take count records) transitions matches limit
 IsConsistent-first records transitions matches limit states depth count consistent are is =
     let first = recorded_states-first records transitions.lists matches.lists states depth count are is in

@@ -3,7 +3,7 @@ use Rattle.std.proofs.Common.{◌≡◌, ◌≢◌, ℕ, ◌<◌, ◌≤◌, Lis
 use Rattle.std.proofs.Math.ListN.{set, length-set}
 use Rattle.std.proofs.lemmas.Bool.{cases_eq, cases_order}
 use Rattle.std.proofs.lemmas.List.{length-map, get_or-map, map-set, map-append, take-map, get_or_past, ext_get_or, get_or-set_same, get_or-set_other}
-use Rattle.aho_lists.specs.Lists.{Lists, list_at, IsList}
+use Rattle.aho_lists.specs.Lists.{Lists, PatternLists, list_at, IsList}
 use Rattle.aho_table.specs.Table.{State, new_state, state_at, IsRising, AllRising}
 use Rattle.aho_table.specs.Inside.{LimitedStates, record_at, recorded_state, recorded_states, transition_numbers, match_numbers, AreNumbers}
 use Rattle.aho_table.specs.declared.links.states.Record.{Record}
@@ -74,18 +74,18 @@ match_number records i below = get_or-map (λ (state : Record). state.matches) r
 -- ---- a table's state, by the record that was read
 
 -- what a table is seen as
-abbrev pub seen_as : List Record → Lists (ℕ × ℕ) → Lists ℕ → ℕ → LimitedStates
+abbrev pub seen_as : List Record → Lists (ℕ × ℕ) → PatternLists → ℕ → LimitedStates
 seen_as records transitions matches limit = record { states = recorded_states transitions.lists matches.lists records; limit = limit }
 
 pub same_table : {states others : List State} {limit another : ℕ} → states ≡ others → limit ≡ another → let t : LimitedStates = record { states = states; limit = limit } in t ≡ record { states = others; limit = another }
 same_table {states = states} {others = others} {limit = limit} {another = another} same equal =
     ap (λ (ss : List State). let t : LimitedStates = record { states = ss; limit = limit } in t) same ∙ ap (λ (n : ℕ). let t : LimitedStates = record { states = others; limit = n } in t) equal
 
-pub count_is : (records : List Record) (transitions : Lists (ℕ × ℕ)) (matches : Lists ℕ) (limit : ℕ) (now : LimitedStates) → seen_as records transitions matches limit ≡ now → length now.states ≡ length records
+pub count_is : (records : List Record) (transitions : Lists (ℕ × ℕ)) (matches : PatternLists) (limit : ℕ) (now : LimitedStates) → seen_as records transitions matches limit ≡ now → length now.states ≡ length records
 count_is records transitions matches limit now view = ap (λ (t : LimitedStates). length t.states) (sym view) ∙ length-recorded_states transitions.lists matches.lists records
 
 -- where each list rises, those of the states do
-pub AllRising-lists : (records : List Record) (transitions : Lists (ℕ × ℕ)) (matches : Lists ℕ) → ((list : ℕ) → IsRising (list_at transitions.lists list))
+pub AllRising-lists : (records : List Record) (transitions : Lists (ℕ × ℕ)) (matches : PatternLists) → ((list : ℕ) → IsRising (list_at transitions.lists list))
     → AllRising (recorded_states transitions.lists matches.lists records)
 AllRising-lists records transitions matches rising i =
     elim (cases_order i (length records)) as (λ _. IsRising (state_at (recorded_states transitions.lists matches.lists records) i).transitions) [
@@ -100,7 +100,7 @@ AllRising-lists records transitions matches rising i =
     past le = subst (λ (s : State). IsRising s.transitions)
         (sym (get_or_past (recorded_states transitions.lists matches.lists records) i (new_state 0) (omega (arith, le, length-recorded_states transitions.lists matches.lists records)))) tt
 
-module _ (records : List Record) (transitions : Lists (ℕ × ℕ)) (matches : Lists ℕ) (limit sid : ℕ) (now : LimitedStates) (view : seen_as records transitions matches limit ≡ now)
+module _ (records : List Record) (transitions : Lists (ℕ × ℕ)) (matches : PatternLists) (limit sid : ℕ) (now : LimitedStates) (view : seen_as records transitions matches limit ≡ now)
     (added : sid < length now.states) where
   record_in : sid < length records
   record_in = omega (arith, count_is records transitions matches limit now view)

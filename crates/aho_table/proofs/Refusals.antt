@@ -1,5 +1,5 @@
 -- Why a table is not to have so many entries.
-use Rattle.std.proofs.Common.{◌≡◌, ℕ, ◌+◌, ◌<◌, ◌≤◌, Bool, cond, nat_lt, ap, ◌∙◌, inl, inr, arith}
+use Rattle.std.proofs.Common.{◌≡◌, ℕ, ◌+◌, ◌<◌, ◌≤◌, Bool, cond, nat_lt, ap, ◌∙◌, subst, inl, inr, arith}
 use Rattle.std.proofs.lemmas.Bool.{cases_Bool, ltb-true}
 use Rattle.aho_base.specs.declared.error.BuildError.{BuildError}
 use Rattle.aho_base.specs.declared.error.BuildError.TheVariants.{StateIDOverflow, OutOfMemory}
@@ -16,3 +16,8 @@ IsRefusalOf-at limit index size error less is =
       | inl full ↦ inr (is ∙ ap (λ (b : Bool). cond b (StateIDOverflow limit (limit + 1)) OutOfMemory) full, omega (arith, less, ltb-true limit index full))
       | inr room ↦ inl (is ∙ ap (λ (b : Bool). cond b (StateIDOverflow limit (limit + 1)) OutOfMemory) room)
     ]
+
+-- by other names of the same numbers
+pub IsRefusalOf-same : {limit another size other : ℕ} {error : BuildError} → limit ≡ another → size ≡ other → IsRefusalOf limit size error → IsRefusalOf another other error
+IsRefusalOf-same {limit} {another} {size} {other} {error} same equal refusal =
+    subst (λ (n : ℕ). IsRefusalOf n other error) same (subst (λ (n : ℕ). IsRefusalOf limit n error) equal refusal)

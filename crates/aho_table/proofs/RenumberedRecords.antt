@@ -4,7 +4,7 @@ use Rattle.std.specs.List.{AllZip, swap}
 use Rattle.std.proofs.lemmas.List.{length-map, ext_get_or}
 use Rattle.std.proofs.lemmas.List.Edits.{length-swap}
 use Rattle.std.proofs.lemmas.List.Elements.{length_all_zip}
-use Rattle.aho_lists.specs.Lists.{Lists, list_at}
+use Rattle.aho_lists.specs.Lists.{Lists, PatternLists, list_at}
 use Rattle.aho_lists.specs.Renaming.{IsTransitionLed}
 use Rattle.aho_table.specs.Table.{State, new_state}
 use Rattle.aho_table.specs.Inside.{record_at, recorded_state, recorded_states, transition_numbers, AreNumbers, IsConsistent, IsLinkLed}
@@ -65,7 +65,7 @@ module _ (records swapped : List Record) (a b : ℕ) (of_a : a < length records)
       ∙ sym (state_at-recorded_states transitions matches records (transposed a b i) place)
       ∙ sym (swap-at (new_state 0) states (swap states a b) a b (omega arith) (omega arith) refl i))
 
-  pub IsConsistent-swapped : (transitions : Lists (ℕ × ℕ)) (matches : Lists ℕ) (limit : ℕ) → IsConsistent records transitions matches limit → IsConsistent swapped transitions matches limit
+  pub IsConsistent-swapped : (transitions : Lists (ℕ × ℕ)) (matches : PatternLists) (limit : ℕ) → IsConsistent records transitions matches limit → IsConsistent swapped transitions matches limit
   IsConsistent-swapped transitions matches limit old =
       let states : List State = recorded_states transitions.lists matches.lists records in
       let now : List State = recorded_states transitions.lists matches.lists swapped in
@@ -94,7 +94,7 @@ same_numbers leads number same (x ∷ xs) [] all = absurd all
 same_numbers leads number same (x ∷ xs) (y ∷ ys) all =
     ap (λ (n : ℕ). n ∷ map number xs) (sym (same x y all.0)) ∙ ap (λ (ns : List ℕ). number y ∷ ns) (same_numbers leads number same xs ys all.1)
 
-module _ (leads : ℕ → ℕ → Type 0) (before after : Lists (ℕ × ℕ)) (matches : Lists ℕ)
+module _ (leads : ℕ → ℕ → Type 0) (before after : Lists (ℕ × ℕ)) (matches : PatternLists)
     (lists : (list : ℕ) → AllZip (IsTransitionLed leads) (list_at before.lists list) (list_at after.lists list)) where
   pub recorded_states-renamed : (old new : List Record) → AllZip (IsLinkLed leads) old new → AllZip (IsRenamed leads) (recorded_states before.lists matches.lists old) (recorded_states after.lists matches.lists new)
   unfolding recorded_states

@@ -1,7 +1,7 @@
 -- The inside of a table: what its records and its stores of lists make of its states, the classes of bytes, and the rows by them.
 use Rattle.std.specs.Prelude.{◌≡◌, ◌≢◌, ℕ, ◌+◌, ◌-◌, ◌<◌, ◌≤◌, ◌⊎◌, Bool, nat_lt, List, [], ◌∷◌, map, length, slice_index, slice_index_or}
 use Rattle.aho_base.specs.Numbers.{greatest_index}
-use Rattle.aho_lists.specs.Lists.{Lists, list_at, IsList}
+use Rattle.aho_lists.specs.Lists.{Lists, PatternLists, list_at, IsList}
 use Rattle.aho_lists.specs.Renaming.{IsLed}
 use Rattle.aho_table.specs.Alphabet.{class_of, class_count}
 use Rattle.aho_table.specs.Table.{State, state_at, transition_at, transitions_count, matches_count}
@@ -48,7 +48,7 @@ pub record AreNumbers {X : Type 0} (numbers : List ℕ) (lists : List (List X)) 
   pub apart : (i j : ℕ) → i < length numbers → j < length numbers → i ≢ j → slice_index numbers i ≡ slice_index numbers j → slice_index numbers i ≡ 0
 
 -- each state has lists of its own, and no store has others; no index is above the limit
-pub record IsConsistent (records : List Record) (transitions : Lists (ℕ × ℕ)) (matches : Lists ℕ) (limit : ℕ) : Type 0 where
+pub record IsConsistent (records : List Record) (transitions : Lists (ℕ × ℕ)) (matches : PatternLists) (limit : ℕ) : Type 0 where
   pub small : limit ≤ greatest_index
   pub states_within : length records ≤ limit + 1
   pub transitions_limit : transitions.limit ≡ limit
@@ -56,7 +56,7 @@ pub record IsConsistent (records : List Record) (transitions : Lists (ℕ × ℕ
   pub transition_lists : AreNumbers (transition_numbers records) transitions.lists
   pub match_lists : AreNumbers (match_numbers records) matches.lists
   pub transitions_are : length transitions.lists ≡ transitions_count (recorded_states transitions.lists matches.lists records)
-  pub matches_are : length matches.lists ≡ matches_count (recorded_states transitions.lists matches.lists records)
+  pub matches_are : matches.count ≡ matches_count (recorded_states transitions.lists matches.lists records)
 
 -- ---- the rows
 

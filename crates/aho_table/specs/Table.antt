@@ -81,6 +81,10 @@ set_transition states sid byte next = slice_set states sid (record (state_at sta
 abbrev pub push_match : List State → ℕ → ℕ → List State
 push_match states sid pattern = slice_set states sid (record (state_at states sid) { matches = (state_at states sid).matches ++ pattern ∷ [] })
 
+-- the state lists the patterns of another after its own
+abbrev pub append_matches : List State → ℕ → ℕ → List State
+append_matches states sid from = slice_set states sid (record (state_at states sid) { matches = (state_at states sid).matches ++ matches_in states from })
+
 abbrev pub set_fail_of : List State → ℕ → ℕ → List State
 set_fail_of states sid fail = slice_set states sid (record (state_at states sid) { fail = fail })
 

@@ -2,9 +2,9 @@
 
 ghost use Rattle.std.specs.Prelude.{◌≡◌, ◌≢◌, ◌+◌, ◌<◌, ◌≤◌, ◌^◌, [], ◌∷◌, ◌++◌, length, true, false, Bool, IsTrue, ◌↔◌, IsOk, IfOk, IfErr, OnOk, OnErr, min, slice_get, nat_lt, ℕ, List};
 ghost use Rattle.aho_base.specs.Numbers.{greatest_index};
-ghost use Rattle.aho_table.specs.Refusal.{refusal_at, row_refusal_at, IsLeadRefusal};
+ghost use Rattle.aho_table.specs.Refusal.{refusal_at, row_refusal_at, IsRefusalOf, IsLeadRefusal};
 ghost use Rattle.aho_table.specs.Alphabet.{no_borders, class_count};
-ghost use Rattle.aho_table.specs.Table.{State, fail_id, IsRising, new_state, transition_in, next_in, matches_in, fail_in, depth_in, set_transition, push_match, set_fail_of, state_at, lists_byte, transitions_count, matches_count, AllRising, IsWithinLimit, IsLedTo, LeadsAlike, with_row, without_row, no_rows, rows_led};
+ghost use Rattle.aho_table.specs.Table.{State, fail_id, IsRising, new_state, transition_in, next_in, matches_in, fail_in, depth_in, set_transition, push_match, append_matches, set_fail_of, state_at, lists_byte, transitions_count, matches_count, AllRising, IsWithinLimit, IsLedTo, LeadsAlike, with_row, without_row, no_rows, rows_led};
 
 mod renumber;
 mod rows;
@@ -234,6 +234,25 @@ impl Table {
         self.states.add_match(sid, pattern)
     }
 
+    /// The state lists the patterns of another too, after its own.
+    ///
+    /// # Errors
+    ///
+    /// `StateIDOverflow` where so many listed patterns more have an index above the limit; else want of memory. The table is
+    /// then unchanged.
+    pub fn append_matches(&mut self, sid: StateID, from: StateID) -> Result<(), BuildError>
+        requires added { sid < length self.old.states }
+        requires from { from < length self.old.states }
+        ensures appended { OnOk result
+            (self.new ≡ record self.old { states = append_matches self.old.states sid from }) }
+        ensures refused { IfErr result
+            (IsRefusalOf self.old.limit
+            (matches_count self.old.states + length (matches_in self.old.states from))) }
+        ensures unchanged { OnErr result (self.new ≡ self.old) }
+    {
+        self.states.append_matches(sid, from)
+    }
+
     /// Goes by these classes of bytes, and forgets every row.
     pub fn set_byte_classes(&mut self, classes: ByteClasses)
         ensures set { self.new ≡ record self.old {
@@ -369,18 +388,6 @@ impl Table {
         ensures some { result ≡ nat_lt 0 (length (matches_in self.now.states sid)) }
     {
         self.states.has_matches(sid)
-    }
-
-    /// The patterns of the state, in a vector of their own, in the order of their listing.
-    ///
-    /// # Errors
-    ///
-    /// Want of memory.
-    pub fn patterns(&self, sid: StateID) -> Result<Vec<PatternID>, AllocError>
-        requires added { sid < length self.now.states }
-        ensures listed { IfOk result (λ patterns. patterns.items ≡ matches_in self.now.states sid) }
-    {
-        self.states.patterns(sid)
     }
 
     /// The pattern of this place in the state's list.

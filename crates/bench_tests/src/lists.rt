@@ -71,7 +71,7 @@ fn a_list_is_read_by_index(rt: HostRuntime) {
 fn patterns_stand_in_their_order(rt: HostRuntime) {
     let mut store = MatchLists::new(rt.alloc(), 3);
     let list = store
-        .push(StateID::ZERO, pattern(&rt, 4))
+        .push(0, pattern(&rt, 4))
         .expect(&rt, "a pattern");
     let list = store.push(list, pattern(&rt, 2)).expect(&rt, "another");
     let list = store.push(list, pattern(&rt, 4)).expect(&rt, "a third");

@@ -112,8 +112,6 @@ fn patterns_are_given(
 {
     let patterns = iterated(rt, alloc, table, DEAD);
     assert_same(rt, patterns.as_slice(), [first, second].as_slice());
-    let copied = table.patterns(DEAD).expect(rt, "memory");
-    assert_same(rt, copied.as_slice(), [first, second].as_slice());
     assert!(rt; iterated(rt, alloc, table, FAIL).is_empty());
 }
 

@@ -35,14 +35,7 @@ fn copy_matches(table: &mut Table, from: StateID, to: StateID) -> Result<(), Bui
         (IsRefusalOf table.old.limit
         (matches_count table.old.states + length (matches_in table.old.states from))) }
 {
-    let Ok(patterns) = table.patterns(from) else {
-        return Err(BuildError::OutOfMemory);
-    };
-    for index in 0..patterns.len() {
-        let pattern = patterns[index];
-        table.add_match(to, pattern)?;
-    }
-    Ok(())
+    table.append_matches(to, from)
 }
 
 /// Gives the anchored start the root's transitions and patterns.

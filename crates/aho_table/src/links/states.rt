@@ -3,8 +3,8 @@
 ghost use Rattle.std.specs.Prelude.{◌≡◌, ◌+◌, ◌<◌, ◌≤◌, [], ◌∷◌, ◌++◌, length, true, IsOk, IfOk, IfErr, OnOk, OnErr, min, slice_get, slice_set, nat_lt, ℕ, List};
 ghost use Rattle.aho_base.specs.Numbers.{greatest_index};
 ghost use Rattle.aho_base.specs.declared.error.BuildError.TheVariants.{StateIDOverflow};
-ghost use Rattle.aho_table.specs.Refusal.{refusal_at};
-ghost use Rattle.aho_table.specs.Table.{State, IsRising, new_state, transition_in, next_in, matches_in, fail_in, depth_in, set_transition, push_match, set_fail_of, state_at, lists_byte, transitions_count, matches_count, AllRising, IsWithinLimit};
+ghost use Rattle.aho_table.specs.Refusal.{refusal_at, IsRefusalOf};
+ghost use Rattle.aho_table.specs.Table.{State, IsRising, new_state, transition_in, next_in, matches_in, fail_in, depth_in, set_transition, push_match, append_matches, set_fail_of, state_at, lists_byte, transitions_count, matches_count, AllRising, IsWithinLimit};
 ghost use Rattle.std.specs.List.{AllZip, swap};
 ghost use Rattle.aho_table.specs.Renaming.{IsRenamed};
 ghost use Rattle.aho_table.specs.Inside.{record_at, IsLinkLed};
@@ -21,7 +21,7 @@ use std::marker::Model;
 #[derive(Copy, Clone)]
 struct Record {
     transitions: StateID,
-    matches: StateID,
+    matches: u32,
     fail: StateID,
     depth: SmallIndex,
 }
@@ -124,7 +124,7 @@ impl States {
         self.matches.facts();
         let added = Record {
             transitions: StateID::ZERO,
-            matches: StateID::ZERO,
+            matches: 0,
             fail: FAIL,
             depth,
         };
@@ -202,6 +202,35 @@ impl States {
         Ok(())
     }
 
+    /// The state lists the patterns of another too, after its own.
+    ///
+    /// # Errors
+    ///
+    /// `StateIDOverflow` where so many listed patterns more have an index above the limit; else want of memory. Nothing is
+    /// then changed.
+    pub(super) fn append_matches(&mut self, sid: StateID, from: StateID) -> Result<(), BuildError>
+        requires added { sid < length self.old.states }
+        requires from { from < length self.old.states }
+        ensures appended { OnOk result
+            (self.new ≡ record self.old { states = append_matches self.old.states sid from }) }
+        ensures refused { IfErr result
+            (IsRefusalOf self.old.limit
+            (matches_count self.old.states + length (matches_in self.old.states from))) }
+        ensures unchanged { OnErr result (self.new ≡ self.old) }
+    {
+        let state = record_of(&self.records, sid);
+        let other = record_of(&self.records, from);
+        self.matches.facts();
+        let joined = self.matches.join(state.matches, other.matches)?;
+        self.matches.facts();
+        let changed = Record {
+            matches: joined,
+            ..state
+        };
+        replace(&mut self.records, sid, changed);
+        Ok(())
+    }
+
     /// The state leads on failure to another.
     pub(super) fn set_fail(&mut self, sid: StateID, fail: StateID)
         requires added { sid < length self.old.states }
@@ -273,23 +302,7 @@ impl States {
         ensures some { result ≡ nat_lt 0 (length (matches_in self.now.states sid)) }
     {
         self.matches.facts();
-        record_of(&self.records, sid).matches.as_usize() > 0
-    }
-
-    /// The patterns of the state, in a vector of their own, in the order of their listing.
-    ///
-    /// # Errors
-    ///
-    /// Want of memory.
-    pub(super) fn patterns(&self, sid: StateID) -> Result<Vec<PatternID>, AllocError>
-        requires added { sid < length self.now.states }
-        ensures listed { IfOk result (λ patterns. patterns.items ≡ matches_in self.now.states sid) }
-    {
-        let mut patterns = Vec::new(self.alloc);
-        for pattern in self.matches(sid) {
-            patterns.push(pattern)?;
-        }
-        Ok(patterns)
+        record_of(&self.records, sid).matches > 0
     }
 
     /// The pattern of this place in the state's list.

@@ -1,68 +1,32 @@
--- The entries of a list are those that are read.
-use Rattle.std.proofs.Common.{◌≡◌, ◌<◌, List, [], Some, length, sym, subst, ◌∙◌}
-use Rattle.std.specs.List.{slice_get}
-use Rattle.aho_lists.specs.Rings.{AreRings}
-use Rattle.aho_lists.specs.Lists.{list_at, IsList}
-use Rattle.aho_lists.specs.Inside.{match_entries, with_first_match, AreCounted}
-use Rattle.aho_lists.specs.declared.matches.MatchEntry.{MatchEntry}
-use Rattle.aho_lists.proofs.Stores.{list_at-zero, some_list}
-use Rattle.aho_lists.proofs.MatchChanges.{match_lists, match_list_in}
-use Rattle.aho_lists.proofs.Firsts.{real_matches}
+-- The word of the place is the pattern.
+use Rattle.std.proofs.Common.{◌≡◌, ◌+◌, ◌<◌, ◌≤◌, ℕ, List, Some, length, sym, ap, subst, ◌∙◌, arith}
+use Rattle.aho_base.specs.Numbers.{greatest_index}
+use Rattle.aho_lists.specs.Lists.{list_at}
+use Rattle.aho_lists.specs.Words.{word_at, length_at, pattern_lists}
+use Rattle.aho_lists.proofs.Patterns.{length-list_at, get-list_at, list_within, pattern_small}
 use Rattle.aho_lists.proofs.matches.MatchLists.get.Goals as goal
 
-pub read-requires-clause-counted : goal.read-requires-clause-counted
-read-requires-clause-counted c =
-    let none : list_at c.args.self.now.lists 0 ≡ [] = rw (← c.self.view_is) (list_at-zero (match_entries (with_first_match c.self.inside.entries.items)) (length (with_first_match c.self.inside.entries.items)) c.self.invariant.0.rings.some) in
-    let some : 0 < c.args.list = some_list c.args.self.now.lists c.args.list c.args.index none c.requires.within in
-    let known : IsList (match_lists (with_first_match c.self.inside.entries.items)) c.args.list = rw (← c.self.view_is) at c.requires.known in
-    let inside : c.args.list < length (with_first_match c.self.inside.entries.items) = match_list_in (with_first_match c.self.inside.entries.items) c.self.inside.limit c.args.list c.self.invariant.0 known some in
-    let real : c.deref.result.now ≡ (with_first_match c.self.inside.entries.items) = c.deref.ensures.value ∙ sym (real_matches c.self.inside.entries.items c.args.list some inside) in
-    subst (λ (es : List MatchEntry). AreCounted es) (sym real) c.self.invariant.1
+pub pattern_at-requires-clause-place : goal.pattern_at-requires-clause-place
+pattern_at-requires-clause-place c =
+    let words = c.self.inside.words.items in
+    let within : c.args.index < length (list_at (pattern_lists words) c.args.list) = rw (← c.self.view_is) at c.requires.within in
+    let below : c.args.index < length_at words c.args.list = omega (arith, within, length-list_at words c.self.inside.count c.args.list c.self.invariant.laid_down) in
+    omega (arith, below, list_within words c.self.inside.count c.args.list c.self.invariant.laid_down (omega arith), ap (λ (ws : List ℕ). length ws) c.deref.ensures.value)
 
-pub read-requires-clause-rings : goal.read-requires-clause-rings
-read-requires-clause-rings c =
-    let none : list_at c.args.self.now.lists 0 ≡ [] = rw (← c.self.view_is) (list_at-zero (match_entries (with_first_match c.self.inside.entries.items)) (length (with_first_match c.self.inside.entries.items)) c.self.invariant.0.rings.some) in
-    let some : 0 < c.args.list = some_list c.args.self.now.lists c.args.list c.args.index none c.requires.within in
-    let known : IsList (match_lists (with_first_match c.self.inside.entries.items)) c.args.list = rw (← c.self.view_is) at c.requires.known in
-    let inside : c.args.list < length (with_first_match c.self.inside.entries.items) = match_list_in (with_first_match c.self.inside.entries.items) c.self.inside.limit c.args.list c.self.invariant.0 known some in
-    let real : c.deref.result.now ≡ (with_first_match c.self.inside.entries.items) = c.deref.ensures.value ∙ sym (real_matches c.self.inside.entries.items c.args.list some inside) in
-    subst (λ (es : List MatchEntry). AreRings (match_entries es) (length es)) (sym real) c.self.invariant.0.rings
-
-pub read-requires-clause-some : goal.read-requires-clause-some
-read-requires-clause-some c =
-    let none : list_at c.args.self.now.lists 0 ≡ [] = rw (← c.self.view_is) (list_at-zero (match_entries (with_first_match c.self.inside.entries.items)) (length (with_first_match c.self.inside.entries.items)) c.self.invariant.0.rings.some) in
-    let some : 0 < c.args.list = some_list c.args.self.now.lists c.args.list c.args.index none c.requires.within in
-    let known : IsList (match_lists (with_first_match c.self.inside.entries.items)) c.args.list = rw (← c.self.view_is) at c.requires.known in
-    let inside : c.args.list < length (with_first_match c.self.inside.entries.items) = match_list_in (with_first_match c.self.inside.entries.items) c.self.inside.limit c.args.list c.self.invariant.0 known some in
-    let real : c.deref.result.now ≡ (with_first_match c.self.inside.entries.items) = c.deref.ensures.value ∙ sym (real_matches c.self.inside.entries.items c.args.list some inside) in
-    some
-
-pub read-requires-clause-known : goal.read-requires-clause-known
-read-requires-clause-known c =
-    let none : list_at c.args.self.now.lists 0 ≡ [] = rw (← c.self.view_is) (list_at-zero (match_entries (with_first_match c.self.inside.entries.items)) (length (with_first_match c.self.inside.entries.items)) c.self.invariant.0.rings.some) in
-    let some : 0 < c.args.list = some_list c.args.self.now.lists c.args.list c.args.index none c.requires.within in
-    let known : IsList (match_lists (with_first_match c.self.inside.entries.items)) c.args.list = rw (← c.self.view_is) at c.requires.known in
-    let inside : c.args.list < length (with_first_match c.self.inside.entries.items) = match_list_in (with_first_match c.self.inside.entries.items) c.self.inside.limit c.args.list c.self.invariant.0 known some in
-    let real : c.deref.result.now ≡ (with_first_match c.self.inside.entries.items) = c.deref.ensures.value ∙ sym (real_matches c.self.inside.entries.items c.args.list some inside) in
-    subst (λ (es : List MatchEntry). IsList (match_lists es) c.args.list) (sym real) known
-
-pub read-requires-clause-inside : goal.read-requires-clause-inside
-read-requires-clause-inside c =
-    let none : list_at c.args.self.now.lists 0 ≡ [] = rw (← c.self.view_is) (list_at-zero (match_entries (with_first_match c.self.inside.entries.items)) (length (with_first_match c.self.inside.entries.items)) c.self.invariant.0.rings.some) in
-    let some : 0 < c.args.list = some_list c.args.self.now.lists c.args.list c.args.index none c.requires.within in
-    let known : IsList (match_lists (with_first_match c.self.inside.entries.items)) c.args.list = rw (← c.self.view_is) at c.requires.known in
-    let inside : c.args.list < length (with_first_match c.self.inside.entries.items) = match_list_in (with_first_match c.self.inside.entries.items) c.self.inside.limit c.args.list c.self.invariant.0 known some in
-    let real : c.deref.result.now ≡ (with_first_match c.self.inside.entries.items) = c.deref.ensures.value ∙ sym (real_matches c.self.inside.entries.items c.args.list some inside) in
-    let within : c.args.index < length (list_at (match_lists (with_first_match c.self.inside.entries.items)) c.args.list) = rw (← c.self.view_is) at c.requires.within in
-    subst (λ (es : List MatchEntry). c.args.index < length (list_at (match_lists es) c.args.list)) (sym real) within
+pub pattern_at-requires-clause-small : goal.pattern_at-requires-clause-small
+pattern_at-requires-clause-small c =
+    let words = c.self.inside.words.items in
+    let within : c.args.index < length (list_at (pattern_lists words) c.args.list) = rw (← c.self.view_is) at c.requires.within in
+    let below : c.args.index < length_at words c.args.list = omega (arith, within, length-list_at words c.self.inside.count c.args.list c.self.invariant.laid_down) in
+    subst (λ (ws : List ℕ). word_at ws (c.args.list + c.args.index) ≤ greatest_index) (sym c.deref.ensures.value)
+    (pattern_small words c.self.inside.count c.args.list c.args.index c.self.invariant.laid_down below)
 
 pub returns : goal.returns
 returns c =
-    let none : list_at c.args.self.now.lists 0 ≡ [] = rw (← c.self.view_is) (list_at-zero (match_entries (with_first_match c.self.inside.entries.items)) (length (with_first_match c.self.inside.entries.items)) c.self.invariant.0.rings.some) in
-    let some : 0 < c.args.list = some_list c.args.self.now.lists c.args.list c.args.index none c.requires.within in
-    let known : IsList (match_lists (with_first_match c.self.inside.entries.items)) c.args.list = rw (← c.self.view_is) at c.requires.known in
-    let inside : c.args.list < length (with_first_match c.self.inside.entries.items) = match_list_in (with_first_match c.self.inside.entries.items) c.self.inside.limit c.args.list c.self.invariant.0 known some in
-    let real : c.deref.result.now ≡ (with_first_match c.self.inside.entries.items) = c.deref.ensures.value ∙ sym (real_matches c.self.inside.entries.items c.args.list some inside) in
+    let words = c.self.inside.words.items in
+    let within : c.args.index < length (list_at (pattern_lists words) c.args.list) = rw (← c.self.view_is) at c.requires.within in
+    let below : c.args.index < length_at words c.args.list = omega (arith, within, length-list_at words c.self.inside.count c.args.list c.self.invariant.laid_down) in
     record {
-      listed = rw (← c.self.view_is) (subst (λ (es : List MatchEntry). slice_get (list_at (match_lists es) c.args.list) c.args.index ≡ Some c.read.result) real c.read.ensures.listed);
+      listed = rw (← c.self.view_is) (get-list_at words c.self.inside.count c.args.list c.self.invariant.laid_down c.args.index below
+          ∙ ap Some (sym (c.pattern_at.ensures.pattern ∙ ap (λ (ws : List ℕ). word_at ws (c.args.list + c.args.index)) c.deref.ensures.value)));
     }

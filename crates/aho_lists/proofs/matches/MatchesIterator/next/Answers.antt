@@ -1,43 +1,11 @@
--- One step of a walk.
-use Rattle.std.proofs.Common.{◌≡◌, ℕ, Option, Some, List, ◌∷◌, length, ap, sym, subst, arith, ◌∙◌}
-use Rattle.aho_lists.specs.Rings.{rest_from, place_after, IsWalk}
-use Rattle.aho_lists.specs.Inside.{match_of, match_entries}
-use Rattle.aho_lists.specs.declared.matches.MatchEntry.{MatchEntry}
-use Rattle.aho_lists.proofs.Walks.{rest_from-none, rest_from-next, IsWalk-next}
+-- What is left after the first pattern are patterns.
+use Rattle.std.proofs.Common.{◌≤◌, ℕ, List, drop, ap, subst}
+use Rattle.std.specs.List.{All}
+use Rattle.std.proofs.lemmas.List.Elements.{All-drop}
+use Rattle.aho_base.specs.Numbers.{greatest_index}
 use Rattle.aho_lists.proofs.matches.MatchesIterator.next.Goals as goal
-
-pub returns-in_default-clause-steps : goal.returns-in_default-clause-steps
-returns-in_default-clause-steps c =
-    let none = sym c.self.view_is ∙ ap (λ (o : Option ℕ). rest_from (match_entries c.self.inside.entries.now) o c.self.inside.last) c.in_default.is
-    ∙ rest_from-none (match_entries c.self.inside.entries.now) c.self.inside.last in
-    (none, none)
-
--- what is left at an entry, where its link is what was read
-rest : (entries : List MatchEntry) (last at count : ℕ) (read : MatchEntry) (after : Option ℕ) → IsWalk (match_entries entries) count (Some at) last → read ≡ match_of entries at
-    → after ≡ place_after read.link at last → rest_from (match_entries entries) (Some at) last ≡ read.pattern ∷ rest_from (match_entries entries) after last
-rest entries last at count read after walk is next =
-    rest_from-next walk.on_list.2
-    ∙ ap (λ (m : MatchEntry). m.pattern ∷ rest_from (match_entries entries) (place_after m.link at last) last) (sym is)
-    ∙ ap (λ (o : Option ℕ). read.pattern ∷ rest_from (match_entries entries) o last) (sym next)
 
 pub invariant_of-self : goal.invariant_of-self
 invariant_of-self c =
-    let walk : IsWalk (match_entries c.self.inside.entries.now) (length c.self.inside.entries.now) (Some c.in-Some.at) c.self.inside.last =
-    subst (λ (o : Option ℕ). IsWalk (match_entries c.self.inside.entries.now) (length c.self.inside.entries.now) o c.self.inside.last) c.in-Some.is c.self.invariant in
-    let link = ap (λ (m : MatchEntry). m.link) c.entry-listed.ensures.entry in
-    subst (λ (o : Option ℕ). IsWalk (match_entries c.self.inside.entries.now) (length c.self.inside.entries.now) o c.self.inside.last)
-    (sym (c.place_after-self-inside.ensures.place ∙ ap (λ (n : ℕ). place_after n c.in-Some.at c.self.inside.last) link))
-    (IsWalk-next walk.within walk.on_list.0 walk.on_list.2)
-
-pub returns-clause-steps : goal.returns-clause-steps
-returns-clause-steps c =
-    let walk : IsWalk (match_entries c.self.inside.entries.now) (length c.self.inside.entries.now) (Some c.in-Some.at) c.self.inside.last =
-    subst (λ (o : Option ℕ). IsWalk (match_entries c.self.inside.entries.now) (length c.self.inside.entries.now) o c.self.inside.last) c.in-Some.is c.self.invariant in
-    sym c.self.view_is
-    ∙ ap (λ (o : Option ℕ). rest_from (match_entries c.self.inside.entries.now) o c.self.inside.last) c.in-Some.is
-    ∙ rest c.self.inside.entries.now c.self.inside.last c.in-Some.at (length c.self.inside.entries.now) c.entry-listed.result c.place_after-self-inside.result walk c.entry-listed.ensures.entry c.place_after-self-inside.ensures.place
-
-pub returns-clause-goes : goal.returns-clause-goes
-returns-clause-goes c =
-    let less = ap (λ (l : List (ℕ)). length l) (returns-clause-steps c) in
-    record { on = λ finite. (tt, tt, omega arith); keeps = tt; rests = λ finite. tt }
+    subst (λ (xs : List ℕ). All (λ (word : ℕ). word ≤ greatest_index) xs) (ap (λ (xs : List ℕ). drop 1 xs) c.in_ok-first.ensures.cases.0)
+    (All-drop (λ (word : ℕ). word ≤ greatest_index) 1 c.self.inside.rest.now c.self.invariant)

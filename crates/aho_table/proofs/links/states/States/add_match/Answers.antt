@@ -1,8 +1,7 @@
 -- The state's list is changed, and no other.
-use Rattle.std.proofs.Common.{ℕ, List, [], ◌∷◌, ◌++◌, length, refl, sym, ap, subst, ◌∙◌, inr, arith}
+use Rattle.std.proofs.Common.{ℕ, List, [], ◌∷◌, ◌++◌, length, refl, sym, ap, subst, ◌∙◌, arith}
 use Rattle.std.proofs.Math.ListN.{set}
-use Rattle.aho_lists.specs.Lists.{Lists, list_at}
-use Rattle.aho_lists.proofs.Families.{push_in-count}
+use Rattle.aho_lists.specs.Lists.{list_at}
 use Rattle.aho_table.specs.Table.{State, state_at}
 use Rattle.std.proofs.lemmas.List.{length_push}
 use Rattle.aho_table.specs.Inside.{LimitedStates, recorded_states, IsConsistent}
@@ -29,10 +28,10 @@ the_change c = record {
   some = c.facts.ensures.some;
   empty = c.facts.ensures.empty;
   empty_still = c.facts-2.ensures.empty;
-  others = c.in_ok-list.ensures.others;
-  changed = c.in_ok-list.ensures.changed;
-  known = c.in_ok-list.ensures.known;
-  fresh = inr (omega (arith, c.in_ok-list.ensures.number));
+  others = c.in_ok-list.ensures.listed.others;
+  changed = c.in_ok-list.ensures.listed.listed;
+  known = c.in_ok-list.ensures.listed.known;
+  fresh = c.in_ok-list.ensures.listed.number;
 }
 
 pub invariant_of-self-2 : goal.invariant_of-self-2
@@ -43,11 +42,10 @@ invariant_of-self-2 c =
     (read_here c.self.inside.records.items c.self.inside.transitions c.self.inside.matches c.self.inside.limit c.args.sid c.args.self.now c.self.view_is c.requires.added c.deref.result.now c.deref.ensures.value c.record_of-state.result c.record_of-state.ensures.found)
     c.self.inside.transitions c.self.inside.matches c.push.new.self c.self.inside.limit c.in_ok-list.list
     (list_at c.self.inside.matches.lists c.record_of-state.result.matches ++ c.args.pattern ∷ [])
-    c.self.invariant (the_change c) (ap (λ (s : Lists ℕ). s.limit) c.in_ok-list.ensures.pushed)
+    c.self.invariant (the_change c) c.in_ok-list.ensures.limit
     (omega (
       arith,
-      ap (λ (s : Lists ℕ). length s.lists) c.in_ok-list.ensures.pushed,
-      push_in-count c.self.inside.matches.lists c.record_of-state.result.matches c.args.pattern,
+      c.in_ok-list.ensures.counted,
       length_push (list_at c.self.inside.matches.lists c.record_of-state.result.matches) c.args.pattern,
     )))
 

@@ -19,7 +19,7 @@ returns c =
     let known = matches_known c.self.inside.records.items c.self.inside.transitions c.self.inside.matches c.self.inside.limit c.args.sid c.args.self.now c.self.view_is c.requires.added
     c.deref.result.now c.deref.ensures.value c.record_of.result c.record_of.ensures.found c.self.invariant.match_lists in
     record {
-      some = both_some c.as_usize.result (length (matches_in c.args.self.now.states c.args.sid))
-          (λ zero. ap (λ (xs : List ℕ). length xs) (listed ∙ ap (list_at c.self.inside.matches.lists) (sym c.as_usize.ensures.value ∙ zero) ∙ c.facts.ensures.empty))
-          (λ none. c.as_usize.ensures.value ∙ known (sym listed ∙ nil_from_length (matches_in c.args.self.now.states c.args.sid) none));
+      some = both_some c.record_of.result.matches (length (matches_in c.args.self.now.states c.args.sid))
+          (λ zero. ap (λ (xs : List ℕ). length xs) (listed ∙ ap (list_at c.self.inside.matches.lists) zero ∙ c.facts.ensures.empty))
+          (λ none. known (sym listed ∙ nil_from_length (matches_in c.args.self.now.states c.args.sid) none));
     }

@@ -1,0 +1,238 @@
+-- Lists of patterns in one vector of words.
+use Rattle.std.proofs.Common.{◌≡◌, ◌≢◌, ℕ, suc, ◌+◌, ◌-◌, ◌<◌, ◌≤◌, ◌⊎◌, Some, List, [], ◌∷◌, ◌++◌, length, get_or, take, drop, replicate, refl, sym, ap, ◌∙◌, inl, inr, arith}
+use Rattle.std.specs.List.{All, slice_get}
+use Rattle.std.proofs.lemmas.Option.{slice_get-get_or}
+use Rattle.std.proofs.lemmas.Bool.{cases_eq, cases_lt, lt-ltb, le-ltb}
+use Rattle.std.proofs.lemmas.List.{get_or_past, get_or-take, get_or-drop, get_or_append_left, get_or-append-add, get_or-replicate, length-take-le, length-drop, length-append}
+use Rattle.std.proofs.lemmas.List.FromFn.{length-map-range_with_len, get_or-map-range_with_len}
+use Rattle.std.proofs.lemmas.List.Elements.{All-from_get_or}
+use Rattle.std.proofs.lemmas.Grind.{get_or_default_zero, same_number_lists}
+use Rattle.std.proofs.Math.Seq.{get_or-append_seam}
+use Rattle.aho_base.specs.Numbers.{greatest_index}
+use Rattle.aho_lists.specs.Lists.{PatternLists, list_at, IsList, IsListed}
+use Rattle.aho_lists.specs.Words.{room, length_mark, word_at, told, length_at, patterns_at, pattern_lists, laid, IsHeld, AreLaid, IsLengthened}
+
+-- ---- the length that a word tells
+
+told-below : (word : ℕ) → word < room → told word ≡ word - length_mark
+unfolding told
+told-below word below = rw (lt-ltb word room below) refl
+
+told-above : (word : ℕ) → room ≤ word → told word ≡ 0
+unfolding told
+told-above word above = rw (le-ltb word room above) refl
+
+pub told-small : (word : ℕ) → word ≤ greatest_index → told word ≡ 0
+told-small word small = omega (arith, told-below word (omega arith))
+
+pub told-room : told room ≡ 0
+told-room = told-above room (omega arith)
+
+pub told-mark : (n : ℕ) → n ≤ greatest_index → told (length_mark + n) ≡ n
+told-mark n few = omega (arith, told-below (length_mark + n) (omega arith))
+
+pub told-some : (word : ℕ) → 0 < told word → (word < room) × (word ≡ length_mark + told word)
+told-some word some =
+    elim (cases_lt word room) [
+      | inl below ↦ (below, omega (arith, told-below word below))
+      | inr above ↦ absurd (omega (arith, told-above word above))
+    ]
+
+-- ---- where lists lie
+
+pub length_at-zero : (words : List ℕ) → length_at words 0 ≡ 0
+unfolding length_at
+length_at-zero words = refl
+
+pub length_at-suc : (words : List ℕ) (place : ℕ) → length_at words (suc place) ≡ told (word_at words place)
+unfolding length_at
+length_at-suc words place = refl
+
+pub length_at-some : (words : List ℕ) (list : ℕ) → list ≢ 0 → length_at words list ≡ told (word_at words (list - 1))
+length_at-some words list some =
+    let e : list ≡ suc (list - 1) = omega (arith, some) in
+    ap (length_at words) e ∙ length_at-suc words (list - 1)
+
+pub some_at : (words : List ℕ) (list : ℕ) → 0 < length_at words list → list ≢ 0
+some_at words list some is = omega (arith, ap (length_at words) is, length_at-zero words)
+
+-- what stands before a list
+pub mark_at : (words : List ℕ) (list : ℕ) → 0 < length_at words list → word_at words (list - 1) ≡ length_mark + length_at words list
+mark_at words list some =
+    let is = length_at-some words list (some_at words list some) in
+    omega (arith, is, (told-some (word_at words (list - 1)) (omega (arith, some, is))).1)
+
+-- a place that tells a length, and the patterns behind it, are inside
+pub place_within : (words : List ℕ) (count place : ℕ) → AreLaid words count → 0 < told (word_at words place)
+    → place + told (word_at words place) < length words
+place_within words count place are some =
+    elim (cases_lt (place + told (word_at words place)) (length words)) [
+      | inl below ↦ below
+      | inr above ↦ absurd (
+          let small = are.patterns place (place + told (word_at words place)) (omega arith) (omega arith) in
+          omega (arith, small, get_or_past words (place + told (word_at words place)) room above)
+      )
+    ]
+
+pub list_within : (words : List ℕ) (count list : ℕ) → AreLaid words count → 0 < length_at words list
+    → list + length_at words list ≤ length words
+list_within words count list are some =
+    let none = some_at words list some in
+    let is = length_at-some words list none in
+    omega (arith, none, is, place_within words count (list - 1) are (omega arith))
+
+-- also for a number that has the empty list
+pub own_within : (words : List ℕ) (count list : ℕ) → AreLaid words count → IsHeld words list → list + length_at words list ≤ length words
+own_within words count list are held =
+    elim (cases_eq list 0) [
+      | inl is ↦ omega (arith, ap (length_at words) is, length_at-zero words)
+      | inr ne ↦ list_within words count list are (held ne)
+    ]
+
+pub length_at-fewer : (words : List ℕ) (count list : ℕ) → AreLaid words count → length_at words list < count
+length_at-fewer words count list are =
+    elim (cases_eq list 0) [
+      | inl is ↦ omega (arith, ap (length_at words) is, length_at-zero words, are.fewer 0)
+      | inr ne ↦ omega (arith, length_at-some words list ne, are.fewer (list - 1))
+    ]
+
+pub pattern_small : (words : List ℕ) (count list i : ℕ) → AreLaid words count → i < length_at words list → word_at words (list + i) ≤ greatest_index
+pattern_small words count list i are below =
+    let none = some_at words list (omega arith) in
+    are.patterns (list - 1) (list + i) (omega (arith, none)) (omega (arith, none, length_at-some words list none))
+
+-- ---- and which patterns they have
+
+pub patterns_at-none : (words : List ℕ) (list : ℕ) → length_at words list ≡ 0 → patterns_at words list ≡ []
+unfolding patterns_at
+patterns_at-none words list none = ap (λ (n : ℕ). take n (drop list words)) none
+
+pub patterns_at-zero : (words : List ℕ) → patterns_at words 0 ≡ []
+patterns_at-zero words = patterns_at-none words 0 (length_at-zero words)
+
+pub patterns_at-past : (words : List ℕ) (list : ℕ) → length words < list → patterns_at words list ≡ []
+patterns_at-past words list past =
+    patterns_at-none words list
+    (
+      length_at-some words list (λ is. omega arith)
+      ∙ ap told (get_or_past words (list - 1) room (omega arith))
+      ∙ told-room
+    )
+
+pub length-patterns_at : (words : List ℕ) (count list : ℕ) → AreLaid words count → length (patterns_at words list) ≡ length_at words list
+unfolding patterns_at
+length-patterns_at words count list are =
+    elim (cases_eq (length_at words list) 0) [
+      | inl is ↦ ap length (patterns_at-none words list is) ∙ sym is
+      | inr ne ↦ length-take-le (length_at words list) (drop list words)
+          (omega (arith, ne, length-drop list words, list_within words count list are (omega (arith, ne))))
+    ]
+
+pub get_or-patterns_at : (words : List ℕ) (count list i : ℕ) → AreLaid words count → i < length_at words list
+    → get_or (patterns_at words list) i 0 ≡ word_at words (list + i)
+unfolding patterns_at
+get_or-patterns_at words count list i are below =
+    get_or-take (length_at words list) (drop list words) i 0 below
+    ∙ get_or-drop list words i 0
+    ∙ sym (get_or_default_zero words (list + i) room (omega (arith, list_within words count list are (omega arith))))
+
+pub patterns_at-small : (words : List ℕ) (count list : ℕ) → AreLaid words count → All (λ (word : ℕ). word ≤ greatest_index) (patterns_at words list)
+patterns_at-small words count list are =
+    All-from_get_or (λ (word : ℕ). word ≤ greatest_index) (patterns_at words list) 0
+    (λ i below.
+      let within : i < length_at words list = omega (arith, below, length-patterns_at words count list are) in
+      omega (arith, get_or-patterns_at words count list i are within, pattern_small words count list i are within))
+
+-- the patterns are these, where so many are told and each stands at its place
+pub patterns_are : (words : List ℕ) (count list : ℕ) (items : List ℕ) → AreLaid words count → length_at words list ≡ length items
+    → ((i : ℕ) → i < length items → word_at words (list + i) ≡ get_or items i 0) → patterns_at words list ≡ items
+patterns_are words count list items are told_so each =
+    same_number_lists (patterns_at words list) items
+    (length-patterns_at words count list are ∙ told_so)
+    (λ i below.
+      let within : i < length_at words list = omega (arith, below, length-patterns_at words count list are) in
+      get_or-patterns_at words count list i are within ∙ each i (omega (arith, within, told_so)))
+
+-- where another store has the same length and the same words, the list has the same patterns
+pub same_patterns : (old new : List ℕ) (count now list : ℕ) → AreLaid old count → AreLaid new now → length_at new list ≡ length_at old list
+    → ((i : ℕ) → i < length_at old list → word_at new (list + i) ≡ word_at old (list + i)) → patterns_at new list ≡ patterns_at old list
+same_patterns old new count now list are then same each =
+    patterns_are new now list (patterns_at old list) then (same ∙ sym (length-patterns_at old count list are))
+    (λ i below.
+      let within : i < length_at old list = omega (arith, below, length-patterns_at old count list are) in
+      each i within ∙ sym (get_or-patterns_at old count list i are within))
+
+-- ---- the lists by their numbers
+
+pub length-pattern_lists : (words : List ℕ) → length (pattern_lists words) ≡ length words + 1
+unfolding pattern_lists
+length-pattern_lists words = length-map-range_with_len (patterns_at words) 0 (length words + 1)
+
+list_at-within : (words : List ℕ) (list : ℕ) → list < length words + 1 → list_at (pattern_lists words) list ≡ patterns_at words list
+unfolding pattern_lists
+list_at-within words list below = get_or-map-range_with_len (patterns_at words) 0 (length words + 1) list list [] below (omega arith)
+
+pub list_at-pattern_lists : (words : List ℕ) (list : ℕ) → list_at (pattern_lists words) list ≡ patterns_at words list
+list_at-pattern_lists words list =
+    elim (cases_lt list (length words + 1)) [
+      | inl below ↦ list_at-within words list below
+      | inr above ↦ get_or_past (pattern_lists words) list [] (omega (arith, length-pattern_lists words))
+          ∙ sym (patterns_at-past words list (omega arith))
+    ]
+
+-- a number that is a list's is held
+pub held_of : (words : List ℕ) (list : ℕ) → IsList (pattern_lists words) list → IsHeld words list
+held_of words list known some =
+    elim (cases_eq (length_at words list) 0) [
+      | inl is ↦ absurd (some (known (list_at-pattern_lists words list ∙ patterns_at-none words list is)))
+      | inr ne ↦ omega (arith, ne)
+    ]
+
+-- the store has the list, where the others have the patterns that they had
+pub is_listed : (old new : List ℕ) (list made : ℕ) (items : List ℕ) → patterns_at new made ≡ items → 0 < length items
+    → (made ≡ list) ⊎ (length old + 1 ≤ made) → ((other : ℕ) → other ≤ length old → other ≢ list → patterns_at new other ≡ patterns_at old other)
+    → IsListed (pattern_lists old) (pattern_lists new) list made items
+is_listed old new list made items listed some number others = record {
+  listed = list_at-pattern_lists new made ∙ listed;
+  known = λ none. absurd (omega (arith, some, ap length (sym (list_at-pattern_lists new made ∙ listed) ∙ none)));
+  number = number_of number;
+  others = λ other below ne.
+      list_at-pattern_lists new other ∙ others other (omega (arith, below, length-pattern_lists old)) ne ∙ sym (list_at-pattern_lists old other);
+}
+  where
+    number_of : (made ≡ list) ⊎ (length old + 1 ≤ made) → (made ≡ list) ⊎ (length (pattern_lists old) ≤ made)
+    number_of (inl is) = inl is
+    number_of (inr past) = inr (omega (arith, past, length-pattern_lists old))
+
+-- ---- a store with no words
+
+pub AreLaid-none : AreLaid [] 1
+AreLaid-none = record {
+  patterns = λ place k past inside. absurd (omega (arith, told-room));
+  fewer = λ place. omega (arith, told-room);
+}
+
+pub pattern_lists-none : pattern_lists [] ≡ [] ∷ []
+unfolding pattern_lists
+pattern_lists-none = ap (λ (xs : List ℕ). xs ∷ []) (patterns_at-zero [])
+
+-- what a store is seen as
+abbrev pub pattern_store : List (List ℕ) → ℕ → ℕ → PatternLists
+pattern_store lists count limit = record { lists = lists; count = count; limit = limit }
+
+pub same_pattern_store : {lists others : List (List ℕ)} {limit another : ℕ} (count : ℕ) → lists ≡ others → limit ≡ another
+    → pattern_store lists count limit ≡ pattern_store others count another
+same_pattern_store {lists} {others} {limit} {another} count same equal =
+    ap (λ (ls : List (List ℕ)). pattern_store ls count limit) same ∙ ap (pattern_store others count) equal
+
+-- ---- a list by its number
+
+module _ (words : List ℕ) (count list : ℕ) (are : AreLaid words count) where
+  pub length-list_at : length (list_at (pattern_lists words) list) ≡ length_at words list
+  length-list_at = ap length (list_at-pattern_lists words list) ∙ length-patterns_at words count list are
+
+  pub get-list_at : (index : ℕ) → index < length_at words list → slice_get (list_at (pattern_lists words) list) index ≡ Some (word_at words (list + index))
+  get-list_at index below =
+      ap (λ (xs : List ℕ). slice_get xs index) (list_at-pattern_lists words list)
+      ∙ slice_get-get_or (patterns_at words list) index 0 (omega (arith, below, length-patterns_at words count list are))
+      ∙ ap Some (get_or-patterns_at words count list index are below)

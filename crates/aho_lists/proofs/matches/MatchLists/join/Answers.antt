@@ -1,0 +1,78 @@
+-- The patterns of the other list stand behind those of the list; where there are none the store is as it was.
+use Rattle.std.proofs.Common.{◌≡◌, ◌≢◌, ◌+◌, ◌<◌, ◌≤◌, ℕ, List, [], ◌++◌, length, sym, ap, subst, refl, inl, inr, ◌∙◌, arith}
+use Rattle.std.proofs.lemmas.List.{append-nil}
+use Rattle.aho_base.specs.declared.error.BuildError.TheVariants.{StateIDOverflow}
+use Rattle.aho_lists.specs.Lists.{list_at, IsList, IsListed}
+use Rattle.aho_lists.specs.Refusal.{IsRefusalOf}
+use Rattle.aho_lists.specs.Words.{length_at, patterns_at, pattern_lists, IsHeld, AreLaid}
+use Rattle.aho_lists.proofs.Patterns.{held_of, length_at-zero, length_at-fewer, length-list_at, list_at-pattern_lists, patterns_at-none}
+use Rattle.aho_lists.proofs.matches.MatchLists.join.Goals as goal
+
+pub len_at-more-requires : goal.len_at-more-requires
+len_at-more-requires c =
+    let words = c.self.inside.words.items in
+    let known : IsList (pattern_lists words) c.args.other = rw (← c.self.view_is) at c.requires.other in
+    record { held = subst (λ (ws : List ℕ). IsHeld ws c.args.other) (sym c.deref.ensures.value) (held_of words c.args.other known) }
+
+pub returns-then-more-eq0-clause-listed : goal.returns-then-more-eq0-clause-listed
+returns-then-more-eq0-clause-listed c =
+    let words = c.self.inside.words.items in
+    let more = c.len_at-more.ensures.len ∙ ap (λ (ws : List ℕ). length_at ws c.args.other) c.deref.ensures.value in
+    let none : list_at c.args.self.now.lists c.args.other ≡ [] =
+        rw (← c.self.view_is) (list_at-pattern_lists words c.args.other ∙ patterns_at-none words c.args.other (sym more ∙ c.if-more-eq0.true))
+    in
+    record {
+      listed = sym (ap (λ (xs : List ℕ). list_at c.args.self.now.lists c.args.list ++ xs) none ∙ append-nil (list_at c.args.self.now.lists c.args.list));
+      known = c.requires.known;
+      number = inl refl;
+      others = λ other below ne. refl;
+    }
+
+pub returns-then-more-eq0-clause-counted : goal.returns-then-more-eq0-clause-counted
+returns-then-more-eq0-clause-counted c =
+    let words = c.self.inside.words.items in
+    let more = c.len_at-more.ensures.len ∙ ap (λ (ws : List ℕ). length_at ws c.args.other) c.deref.ensures.value in
+    let len : length (list_at c.args.self.now.lists c.args.other) ≡ length_at words c.args.other =
+        rw (← c.self.view_is) (length-list_at words c.self.inside.count c.args.other c.self.invariant.laid_down)
+    in
+    omega (arith, len, more, c.if-more-eq0.true)
+
+pub overflow_add-self-inside : goal.overflow_add-self-inside
+overflow_add-self-inside c =
+    let words = c.self.inside.words.items in
+    let more = c.len_at-more.ensures.len ∙ ap (λ (ws : List ℕ). length_at ws c.args.other) c.deref.ensures.value in
+    omega (arith, more, length_at-fewer words c.self.inside.count c.args.other c.self.invariant.laid_down, c.self.invariant.within, c.self.invariant.small)
+
+pub returns-then-self-more-clause-refused : goal.returns-then-self-more-clause-refused
+returns-then-self-more-clause-refused c =
+    let words = c.self.inside.words.items in
+    let more = c.len_at-more.ensures.len ∙ ap (λ (ws : List ℕ). length_at ws c.args.other) c.deref.ensures.value in
+    let len = length-list_at words c.self.inside.count c.args.other c.self.invariant.laid_down in
+    rw (← c.self.view_is) (inr (c.overflow.ensures.overflow, omega (arith, len, more, c.if-self-more.true)))
+
+pub join_patterns-requires-clause-held : goal.join_patterns-requires-clause-held
+join_patterns-requires-clause-held c =
+    let known : IsList (pattern_lists c.self.inside.words.items) c.args.list = rw (← c.self.view_is) at c.requires.known in
+    held_of c.self.inside.words.items c.args.list known
+
+pub join_patterns-requires-clause-some : goal.join_patterns-requires-clause-some
+join_patterns-requires-clause-some c is =
+    let words = c.self.inside.words.items in
+    let more = c.len_at-more.ensures.len ∙ ap (λ (ws : List ℕ). length_at ws c.args.other) c.deref.ensures.value in
+    c.if-more-eq0.false (more ∙ ap (length_at words) is ∙ length_at-zero words)
+
+pub returns-clause-listed : goal.returns-clause-listed
+returns-clause-listed c =
+    let words = c.self.inside.words.items in
+    let new = pattern_lists c.join_patterns.new.words.items in
+    rw (← c.self.view_is)
+    (subst (λ (xs : List ℕ). IsListed (pattern_lists words) new c.args.list c.in-Ok.made (xs ++ list_at (pattern_lists words) c.args.other)) (sym (list_at-pattern_lists words c.args.list))
+        (subst (λ (xs : List ℕ). IsListed (pattern_lists words) new c.args.list c.in-Ok.made (patterns_at words c.args.list ++ xs)) (sym (list_at-pattern_lists words c.args.other))
+            c.in-Ok.ensures.listed))
+
+pub returns-clause-counted : goal.returns-clause-counted
+returns-clause-counted c =
+    let words = c.self.inside.words.items in
+    let more = c.len_at-more.ensures.len ∙ ap (λ (ws : List ℕ). length_at ws c.args.other) c.deref.ensures.value in
+    let len = length-list_at words c.self.inside.count c.args.other c.self.invariant.laid_down in
+    rw (← c.self.view_is) (omega (arith, len, more))

@@ -1,0 +1,49 @@
+-- A list that is laid down at the end has the patterns of both.
+use Rattle.std.proofs.Common.{◌≡◌, ◌+◌, ◌<◌, ◌≤◌, List, [], ◌++◌, ℕ, length, get_or, replicate, sym, ap, subst, ◌∙◌, arith}
+use Rattle.aho_base.specs.Numbers.{greatest_index}
+use Rattle.aho_lists.specs.Lists.{IsListed}
+use Rattle.aho_lists.specs.Words.{room, laid, length_at, patterns_at, pattern_lists, AreLaid}
+use Rattle.aho_lists.proofs.Patterns.{own_within, length_at-fewer, length-patterns_at}
+use Rattle.aho_lists.proofs.Laying.{joined-len, joined-small, laid-alone}
+use Rattle.aho_lists.proofs.PatternChanges.{AreLaid-laid, IsListed-laid}
+use Rattle.aho_lists.proofs.words.join_patterns.Goals as goal
+
+pub add_joined-requires-clause-within : goal.add_joined-requires-clause-within
+add_joined-requires-clause-within c =
+    let own = c.len_at-own.ensures.len ∙ ap (λ (ws : List ℕ). length_at ws c.args.list) c.deref.ensures.value in
+    omega (arith, own, own_within c.args.words.now.items c.requires.laid.0 c.args.list c.requires.laid.1 c.requires.held)
+
+pub add_joined-requires-clause-within_too : goal.add_joined-requires-clause-within_too
+add_joined-requires-clause-within_too c =
+    let more = c.len_at-more.ensures.len ∙ ap (λ (ws : List ℕ). length_at ws c.args.other) c.deref-2.ensures.value in
+    omega (arith, more, own_within c.args.words.now.items c.requires.laid.0 c.args.other c.requires.laid.1 c.requires.other)
+
+pub add_joined-requires-clause-few : goal.add_joined-requires-clause-few
+add_joined-requires-clause-few c =
+    let own = c.len_at-own.ensures.len ∙ ap (λ (ws : List ℕ). length_at ws c.args.list) c.deref.ensures.value in
+    let more = c.len_at-more.ensures.len ∙ ap (λ (ws : List ℕ). length_at ws c.args.other) c.deref-2.ensures.value in
+    omega (arith, own, more, c.requires.laid.2, length_at-fewer c.args.words.now.items c.requires.laid.0 c.args.list c.requires.laid.1)
+
+pub returns-clause-laid : goal.returns-clause-laid
+returns-clause-laid c count are few =
+    let old = c.args.words.now.items in
+    let items = patterns_at old c.args.list ++ patterns_at old c.args.other in
+    let len = joined-len old count c.args.list c.args.other are in
+    let fewer = length_at-fewer old count c.args.list are in
+    subst (λ (ws : List ℕ). AreLaid ws (count + length_at old c.args.other)) (sym (c.in-Ok.ensures.added ∙ laid-alone old items))
+    (AreLaid-laid old count (count + length_at old c.args.other) items 0 are (omega arith) (omega arith) (omega arith)
+        (joined-small old count c.args.list c.args.other are))
+
+pub returns-clause-listed : goal.returns-clause-listed
+returns-clause-listed c =
+    let old = c.args.words.now.items in
+    let items = patterns_at old c.args.list ++ patterns_at old c.args.other in
+    let count = c.requires.laid.0 in
+    let are = c.requires.laid.1 in
+    let len = joined-len old count c.args.list c.args.other are in
+    let fewer = length_at-fewer old count c.args.list are in
+    let made : length old + 1 ≡ c.in_ok-made.made = omega (arith, c.in_ok-made.ensures.number) in
+    subst (λ (n : ℕ). IsListed (pattern_lists old) (pattern_lists c.add_joined.new.words.items) c.args.list n items) made
+    (subst (λ (ws : List ℕ). IsListed (pattern_lists old) (pattern_lists ws) c.args.list (length old + 1) items) (sym (c.in-Ok.ensures.added ∙ laid-alone old items))
+        (IsListed-laid old count (count + length_at old c.args.other) items 0 are (omega arith) (omega arith) (omega (arith, c.requires.laid.2))
+            (joined-small old count c.args.list c.args.other are) c.args.list (omega (arith, len, c.requires.other c.requires.some))))

@@ -1,0 +1,90 @@
+-- The list grows where it stands, or stands once more at the end.
+use Rattle.std.proofs.Common.{◌≡◌, ◌≢◌, ◌+◌, ◌<◌, ◌≤◌, List, [], ◌∷◌, ◌++◌, ℕ, length, get_or, replicate, sym, ap, subst, ◌∙◌, arith}
+use Rattle.aho_base.specs.Numbers.{greatest_index}
+use Rattle.aho_lists.specs.Lists.{IsListed}
+use Rattle.aho_lists.specs.Words.{room, laid, word_at, length_at, patterns_at, pattern_lists, AreLaid}
+use Rattle.aho_lists.proofs.Patterns.{own_within, length_at-fewer, length-patterns_at, mark_at}
+use Rattle.aho_lists.proofs.Laying.{pushed-len, pushed-small, laid-grouped}
+use Rattle.aho_lists.proofs.PatternChanges.{AreLaid-laid, IsListed-laid, AreLaid-lengthened, IsListed-lengthened}
+use Rattle.aho_lists.proofs.words.push_pattern.Goals as goal
+
+pub has_room-requires : goal.has_room-requires
+has_room-requires c =
+    let own = c.len_at-own.ensures.len ∙ ap (λ (ws : List ℕ). length_at ws c.args.list) c.deref.ensures.value in
+    record { few = omega (arith, own, c.requires.laid.2, length_at-fewer c.args.words.now.items c.requires.laid.0 c.args.list c.requires.laid.1) }
+
+pub overflow_add-list : goal.overflow_add-list
+overflow_add-list c =
+    let own = c.len_at-own.ensures.len ∙ ap (λ (ws : List ℕ). length_at ws c.args.list) c.deref.ensures.value in
+    omega (arith, own, c.requires.laid.2, length_at-fewer c.args.words.now.items c.requires.laid.0 c.args.list c.requires.laid.1)
+
+pub lengthen-requires-clause-within : goal.lengthen-requires-clause-within
+lengthen-requires-clause-within c =
+    let own = c.len_at-own.ensures.len ∙ ap (λ (ws : List ℕ). length_at ws c.args.list) c.deref.ensures.value in
+    omega (arith, own, own_within c.args.words.now.items c.requires.laid.0 c.args.list c.requires.laid.1 c.requires.held)
+
+pub lengthen-requires-clause-few : goal.lengthen-requires-clause-few
+lengthen-requires-clause-few c =
+    let ne = (c.has_room.ensures.room c.if-has_room.true).0 in
+    omega (
+      arith,
+      mark_at c.args.words.now.items c.args.list (c.requires.held ne),
+      c.requires.laid.2,
+      length_at-fewer c.args.words.now.items c.requires.laid.0 c.args.list c.requires.laid.1,
+    )
+
+pub returns-then-has_room-clause-laid : goal.returns-then-has_room-clause-laid
+returns-then-has_room-clause-laid c count are few =
+    let old = c.args.words.now.items in
+    let own = c.len_at-own.ensures.len ∙ ap (λ (ws : List ℕ). length_at ws c.args.list) c.deref.ensures.value in
+    let found = c.has_room.ensures.room c.if-has_room.true in
+    let free : word_at old (c.args.list + length_at old c.args.list) ≡ room =
+        ap (λ (n : ℕ). word_at old (c.args.list + n)) (sym own) ∙ ap (λ (ws : List ℕ). word_at ws (c.args.list + c.len_at-own.result)) (sym c.deref-2.ensures.value) ∙ found.1
+    in
+    AreLaid-lengthened old c.lengthen.new.words.items count c.args.list c.as_usize-pattern.result are few (c.requires.held found.0) free c.as_usize-pattern.ensures.bound c.in_ok-lengthen.ensures.lengthened
+
+pub returns-then-has_room-clause-listed : goal.returns-then-has_room-clause-listed
+returns-then-has_room-clause-listed c =
+    let old = c.args.words.now.items in
+    let own = c.len_at-own.ensures.len ∙ ap (λ (ws : List ℕ). length_at ws c.args.list) c.deref.ensures.value in
+    let found = c.has_room.ensures.room c.if-has_room.true in
+    let free : word_at old (c.args.list + length_at old c.args.list) ≡ room =
+        ap (λ (n : ℕ). word_at old (c.args.list + n)) (sym own) ∙ ap (λ (ws : List ℕ). word_at ws (c.args.list + c.len_at-own.result)) (sym c.deref-2.ensures.value) ∙ found.1
+    in
+    let listed = IsListed-lengthened old c.lengthen.new.words.items c.requires.laid.0 c.args.list c.as_usize-pattern.result c.requires.laid.1 c.requires.laid.2 (c.requires.held found.0) free c.as_usize-pattern.ensures.bound c.in_ok-lengthen.ensures.lengthened in
+    subst (λ (p : ℕ). IsListed (pattern_lists old) (pattern_lists c.lengthen.new.words.items) c.args.list c.args.list (patterns_at old c.args.list ++ p ∷ [])) c.as_usize-pattern.ensures.value listed
+
+pub add_longer-requires-clause-within : goal.add_longer-requires-clause-within
+add_longer-requires-clause-within c =
+    let own = c.len_at-own.ensures.len ∙ ap (λ (ws : List ℕ). length_at ws c.args.list) c.deref.ensures.value in
+    omega (arith, own, own_within c.args.words.now.items c.requires.laid.0 c.args.list c.requires.laid.1 c.requires.held)
+
+pub add_longer-requires-clause-few : goal.add_longer-requires-clause-few
+add_longer-requires-clause-few c =
+    let own = c.len_at-own.ensures.len ∙ ap (λ (ws : List ℕ). length_at ws c.args.list) c.deref.ensures.value in
+    omega (arith, own, c.requires.laid.2, length_at-fewer c.args.words.now.items c.requires.laid.0 c.args.list c.requires.laid.1)
+
+pub returns-clause-laid : goal.returns-clause-laid
+returns-clause-laid c count are few =
+    let old = c.args.words.now.items in
+    let items = patterns_at old c.args.list ++ c.as_usize-pattern.result ∷ [] in
+    let len = pushed-len old count c.args.list c.as_usize-pattern.result are in
+    let fewer = length_at-fewer old count c.args.list are in
+    subst (λ (ws : List ℕ). AreLaid ws (count + 1)) (sym (c.in-Ok.ensures.added ∙ laid-grouped old items c.len_at-own.result))
+    (AreLaid-laid old count (count + 1) items c.len_at-own.result are (omega arith) (omega arith) (omega arith)
+        (pushed-small old count c.args.list c.as_usize-pattern.result are c.as_usize-pattern.ensures.bound))
+
+pub returns-clause-listed : goal.returns-clause-listed
+returns-clause-listed c =
+    let old = c.args.words.now.items in
+    let items = patterns_at old c.args.list ++ c.as_usize-pattern.result ∷ [] in
+    let count = c.requires.laid.0 in
+    let are = c.requires.laid.1 in
+    let len = pushed-len old count c.args.list c.as_usize-pattern.result are in
+    let fewer = length_at-fewer old count c.args.list are in
+    let made : length old + 1 ≡ c.in_ok-made.made = omega (arith, c.in_ok-made.ensures.number) in
+    subst (λ (p : ℕ). IsListed (pattern_lists old) (pattern_lists c.add_longer.new.words.items) c.args.list c.in_ok-made.made (patterns_at old c.args.list ++ p ∷ [])) c.as_usize-pattern.ensures.value
+    (subst (λ (n : ℕ). IsListed (pattern_lists old) (pattern_lists c.add_longer.new.words.items) c.args.list n items) made
+        (subst (λ (ws : List ℕ). IsListed (pattern_lists old) (pattern_lists ws) c.args.list (length old + 1) items) (sym (c.in-Ok.ensures.added ∙ laid-grouped old items c.len_at-own.result))
+            (IsListed-laid old count (count + 1) items c.len_at-own.result are (omega arith) (omega arith) (omega (arith, c.requires.laid.2))
+                (pushed-small old count c.args.list c.as_usize-pattern.result are c.as_usize-pattern.ensures.bound) c.args.list (omega (arith, len)))))

@@ -1,0 +1,65 @@
+-- Lists of patterns in one vector of numbers, its words. A list is a word that tells its length, and behind it the patterns; room
+-- may follow. A list's number is the place of its first pattern, and 0 that of the empty list.
+use Rattle.std.specs.Prelude.{◌≡◌, ◌≢◌, ℕ, zero, suc, ◌+◌, ◌-◌, ◌<◌, ◌≤◌, List, [], ◌∷◌, drop, length, map, nat_lt, if◌then◌else◌, slice_index_or, take}
+use Rattle.std.specs.List.{range_with_len}
+use Rattle.aho_base.specs.Numbers.{greatest_index}
+
+-- the word of a place where nothing stands
+abbrev pub room : ℕ
+room = 4294967295
+
+-- what is added to a length, to tell it from a pattern
+abbrev pub length_mark : ℕ
+length_mark = 2147483648
+
+abbrev pub word_at : List ℕ → ℕ → ℕ
+word_at words place = slice_index_or words place room
+
+-- the length that a word tells, and 0 for a pattern or room
+unfoldable pub told : ℕ → ℕ
+told word = if nat_lt word room then word - length_mark else 0
+
+-- how many patterns the list of this number has
+unfoldable pub length_at : List ℕ → ℕ → ℕ
+length_at words zero = 0
+length_at words (suc place) = told (word_at words place)
+
+-- and which
+unfoldable pub patterns_at : List ℕ → ℕ → List ℕ
+patterns_at words list = take (length_at words list) (drop list words)
+
+-- the lists by their numbers
+unfoldable pub pattern_lists : List ℕ → List (List ℕ)
+pattern_lists words = map (patterns_at words) (range_with_len 0 (length words + 1))
+
+-- a list as it is laid down
+abbrev pub laid : List ℕ → List ℕ
+laid patterns = (length_mark + length patterns) ∷ patterns
+
+-- the number is that of a list, or 0
+abbrev pub IsHeld : List ℕ → ℕ → Type 0
+IsHeld words list = list ≢ 0 → 0 < length_at words list
+
+-- behind each word that tells a length there are so many patterns, fewer than `count`
+pub record AreLaid (words : List ℕ) (count : ℕ) : Type 0 where
+  pub patterns : (place k : ℕ) → place < k → k ≤ place + told (word_at words place) → word_at words k ≤ greatest_index
+  pub fewer : (place : ℕ) → told (word_at words place) < count
+
+-- and no index of a listed pattern is above the limit
+pub record AreStored (words : List ℕ) (count limit : ℕ) : Type 0 where
+  pub small : limit ≤ greatest_index
+  pub within : count ≤ limit + 1
+  pub laid_down : AreLaid words count
+
+-- the word at one place is another, which stands behind all or where one stood
+pub record IsPut (old : List ℕ) (place word : ℕ) (new : List ℕ) : Type 0 where
+  pub here : word_at new place ≡ word
+  pub others : (i : ℕ) → i ≢ place → word_at new i ≡ word_at old i
+  pub longer : length old ≤ length new
+
+-- the list of this number has one pattern more, behind those that it had
+pub record IsLengthened (old : List ℕ) (list pattern : ℕ) (new : List ℕ) : Type 0 where
+  pub mark : word_at new (list - 1) ≡ word_at old (list - 1) + 1
+  pub added : word_at new (list + length_at old list) ≡ pattern
+  pub others : (i : ℕ) → i ≢ list - 1 → i ≢ list + length_at old list → word_at new i ≡ word_at old i
+  pub longer : length old ≤ length new

@@ -1,0 +1,233 @@
+//! Lists of patterns in one vector of numbers, its words.
+//!
+//! A list is a word that tells its length, and behind it the patterns. Room for more of them may follow. A list's number is
+//! the place of its first pattern, and 0 that of the empty list.
+
+ghost use Rattle.std.specs.Prelude.{◌≡◌, ◌≢◌, ◌+◌, ◌-◌, ◌<◌, ◌≤◌, ◌∷◌, ◌++◌, [], ℕ, true, length, replicate, take, drop, IfOk, OnOk, OnErr};
+ghost use Rattle.aho_base.specs.Numbers.{greatest_index};
+ghost use Rattle.aho_lists.specs.Words.{word_at as the_word, room, length_at, patterns_at, laid, IsHeld, pattern_lists, AreLaid, IsPut, IsLengthened};
+ghost use Rattle.aho_lists.specs.Lists.{IsListed};
+
+use aho_base::search::PatternID;
+use std::alloc::AllocError;
+
+/// What stands where room is.
+const ROOM: u32 = u32::MAX;
+/// What is added to a length, to tell it from a pattern.
+const LENGTH: u32 = 1 << 31;
+
+/// The word of this place, and room behind the last one.
+fn word_at(words: &[u32], place: usize) -> u32
+    ensures word { result ≡ the_word words.now place }
+{
+    match words.get(place) {
+        Some(word) => *word,
+        None => ROOM,
+    }
+}
+
+/// How many patterns the list of this number has.
+pub(crate) fn len_at(words: &[u32], list: u32) -> usize
+    requires held { IsHeld words.now list }
+    ensures len { result ≡ length_at words.now list }
+{
+    if list == 0 {
+        return 0;
+    }
+    words[list as usize - 1] as usize - LENGTH as usize
+}
+
+/// The pattern of this place in the list of this number.
+pub(crate) fn pattern_at(words: &[u32], list: u32, index: usize) -> PatternID
+    requires place { list + index < length words.now }
+    requires small { the_word words.now (list + index) ≤ greatest_index }
+    ensures pattern { result ≡ the_word words.now (list + index) }
+{
+    PatternID::new_unchecked(words[list as usize + index] as usize)
+}
+
+/// So many words from this place on.
+pub(crate) fn words_from(words: &[u32], from: usize, count: usize) -> &[u32]
+    requires within { from + count ≤ length words.now }
+    ensures part { result.now ≡ take count (drop from words.now) }
+{
+    &words[from..from + count]
+}
+
+/// A list of `len` patterns is begun at the end, with the `own` ones of a list.
+fn begin(words: &mut Vec<u32>, list: u32, own: usize, len: usize) -> Result<(), AllocError>
+    requires within { list + own ≤ length words.old.items }
+    requires few { len ≤ greatest_index }
+    ensures begun { OnOk result
+        (words.new.items ≡ words.old.items ++ (2147483648 + len) ∷ take own (drop list words.old.items)) }
+    ensures kept { take (length words.old.items) words.new.items ≡ words.old.items }
+{
+    let from = list as usize;
+    words.push(LENGTH + len as u32)?;
+    words.extend_from_within(from..from + own)
+}
+
+/// A list stands once more at the end, with one pattern more and room for as many as it had.
+fn add_longer(
+    words: &mut Vec<u32>,
+    list: u32,
+    own: usize,
+    pattern: u32,
+) -> Result<(), AllocError>
+    requires within { list + own ≤ length words.old.items }
+    requires len { own ≡ length_at words.old.items list }
+    requires few { own + 1 ≤ greatest_index }
+    ensures added { OnOk result (words.new.items ≡ words.old.items
+        ++ laid (patterns_at words.old.items list ++ pattern ∷ []) ++ replicate own room) }
+    ensures kept { take (length words.old.items) words.new.items ≡ words.old.items }
+{
+    begin(words, list, own, own + 1)?;
+    words.push(pattern)?;
+    let end = words.len();
+    words.resize(end + own, ROOM)
+}
+
+/// A list stands once more at the end, with the patterns of another behind its own.
+fn add_joined(
+    words: &mut Vec<u32>,
+    list: u32,
+    own: usize,
+    other: u32,
+    more: usize,
+) -> Result<(), AllocError>
+    requires within { list + own ≤ length words.old.items }
+    requires within_too { other + more ≤ length words.old.items }
+    requires len { own ≡ length_at words.old.items list }
+    requires len_too { more ≡ length_at words.old.items other }
+    requires few { own + more ≤ greatest_index }
+    ensures added { OnOk result (words.new.items ≡ words.old.items
+        ++ laid (patterns_at words.old.items list ++ patterns_at words.old.items other)) }
+    ensures kept { take (length words.old.items) words.new.items ≡ words.old.items }
+{
+    let from = other as usize;
+    begin(words, list, own, own + more)?;
+    words.extend_from_within(from..from + more)
+}
+
+/// Puts the word at this place, which may be that behind the last one.
+fn put(words: &mut Vec<u32>, place: usize, word: u32) -> Result<(), AllocError>
+    requires within { place ≤ length words.old.items }
+    ensures put { OnOk result (IsPut words.old.items place word words.new.items) }
+    ensures unchanged { OnErr result (words.new.items ≡ words.old.items) }
+{
+    if place < words.len() {
+        words[place] = word;
+        return Ok(());
+    }
+    words.push(word)?;
+    Ok(())
+}
+
+/// The list has one pattern more, at this place behind its last one.
+fn lengthen(
+    words: &mut Vec<u32>,
+    list: u32,
+    end: usize,
+    pattern: u32,
+) -> Result<(), AllocError>
+    requires some { list ≢ 0 }
+    requires end { end ≡ list + length_at words.old.items list }
+    requires within { end ≤ length words.old.items }
+    requires few { the_word words.old.items (list - 1) + 1 < room }
+    ensures lengthened { OnOk result
+        (IsLengthened words.old.items list pattern words.new.items) }
+    ensures unchanged { OnErr result (words.new.items ≡ words.old.items) }
+{
+    put(words, end, pattern)?;
+    words[list as usize - 1] += 1;
+    Ok(())
+}
+
+/// Whether there is room behind the patterns of this list, of which there are so many. Behind the empty list there is none.
+fn has_room(words: &[u32], list: u32, own: usize) -> bool
+    requires few { own ≤ greatest_index }
+    ensures room { result ≡ true → (list ≢ 0) × (the_word words.now (list + own) ≡ room) }
+{
+    if list == 0 {
+        return false;
+    }
+    word_at(words, list as usize + own) == ROOM
+}
+
+/// The number of a list that is added where there are so many words. A number above `u32::MAX` counts as want of memory.
+fn number_after(place: usize) -> Result<u32, AllocError>
+    ensures number { IfOk result (λ made. made ≡ place + 1) }
+{
+    if place >= u32::MAX as usize {
+        return Err(AllocError);
+    }
+    Ok(place as u32 + 1)
+}
+
+/// The pattern is added at the end of the list of this number. Answers the list's number then.
+///
+/// # Errors
+///
+/// Want of memory. The words are then unchanged.
+pub(crate) fn push_pattern(
+    words: &mut Vec<u32>,
+    list: u32,
+    pattern: PatternID,
+) -> Result<u32, AllocError>
+    requires laid { (count : ℕ) × AreLaid words.old.items count × (count ≤ greatest_index) }
+    requires held { IsHeld words.old.items list }
+    ensures listed { IfOk result (λ made.
+        IsListed (pattern_lists words.old.items) (pattern_lists words.new.items) list made
+        (patterns_at words.old.items list ++ pattern ∷ [])) }
+    ensures laid { OnOk result ((count : ℕ) → AreLaid words.old.items count → count ≤ greatest_index
+        → AreLaid words.new.items (count + 1)) }
+    ensures unchanged { OnErr result (words.new.items ≡ words.old.items) }
+{
+    let pattern = pattern.as_usize() as u32;
+    let own = len_at(words, list);
+    if has_room(words, list, own) {
+        lengthen(words, list, list as usize + own, pattern)?;
+        return Ok(list);
+    }
+    let place = words.len();
+    let made = number_after(place)?;
+    let Ok(()) = add_longer(words, list, own, pattern) else {
+        words.truncate(place);
+        return Err(AllocError);
+    };
+    Ok(made)
+}
+
+/// The patterns of the other list are added at the end of the list of this number. Answers the list's number then.
+///
+/// # Errors
+///
+/// Want of memory. The words are then unchanged.
+pub(crate) fn join_patterns(
+    words: &mut Vec<u32>,
+    list: u32,
+    other: u32,
+) -> Result<u32, AllocError>
+    requires laid { (count : ℕ) × AreLaid words.old.items count
+        × (count + length_at words.old.items other ≤ greatest_index + 1) }
+    requires held { IsHeld words.old.items list }
+    requires other { IsHeld words.old.items other }
+    requires some { other ≢ 0 }
+    ensures listed { IfOk result (λ made.
+        IsListed (pattern_lists words.old.items) (pattern_lists words.new.items) list made
+        (patterns_at words.old.items list ++ patterns_at words.old.items other)) }
+    ensures laid { OnOk result ((count : ℕ) → AreLaid words.old.items count
+        → count + length_at words.old.items other ≤ greatest_index + 1
+        → AreLaid words.new.items (count + length_at words.old.items other)) }
+    ensures unchanged { OnErr result (words.new.items ≡ words.old.items) }
+{
+    let own = len_at(words, list);
+    let more = len_at(words, other);
+    let place = words.len();
+    let made = number_after(place)?;
+    let Ok(()) = add_joined(words, list, own, other, more) else {
+        words.truncate(place);
+        return Err(AllocError);
+    };
+    Ok(made)
+}
