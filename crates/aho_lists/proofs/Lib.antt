@@ -1,6 +1,7 @@
 pub mod Patterns
 pub mod Laying
 pub mod PatternChanges
+pub mod Closed
 pub mod Runs
 pub mod Stores
 pub mod Changes

@@ -1,13 +1,12 @@
 -- A list of patterns that grows where it stands, and one that is laid down at the end.
-use Rattle.std.proofs.Common.{◌≡◌, ◌≢◌, ℕ, suc, ◌+◌, ◌-◌, ◌<◌, ◌≤◌, ◌⊎◌, List, [], ◌∷◌, ◌++◌, length, get_or, take, drop, replicate, refl, sym, ap, ◌∙◌, inl, inr, arith}
+use Rattle.std.proofs.Common.{◌≡◌, ◌≢◌, ℕ, suc, ◌+◌, ◌-◌, ◌<◌, ◌≤◌, ◌⊎◌, true, List, [], ◌∷◌, ◌++◌, length, get_or, take, drop, replicate, refl, sym, ap, ◌∙◌, inl, inr, arith}
 use Rattle.std.proofs.lemmas.Bool.{cases_eq, cases_lt}
 use Rattle.std.proofs.lemmas.List.{get_or_past, get_or_append_left, get_or-append-add, get_or-replicate, length-replicate, length-append}
 use Rattle.std.proofs.lemmas.Grind.{get_or_default_zero}
 use Rattle.std.proofs.Math.Seq.{get_or-append_seam}
 use Rattle.aho_base.specs.Numbers.{greatest_index}
-use Rattle.aho_lists.specs.Lists.{IsListed}
-use Rattle.aho_lists.specs.Words.{room, length_mark, word_at, told, length_at, patterns_at, pattern_lists, laid, AreLaid, IsLengthened}
-use Rattle.aho_lists.proofs.Patterns.{told-small, told-room, told-mark, told-some, length_at-zero, length_at-some, some_at, place_within, list_within, length-patterns_at, get_or-patterns_at, pattern_small, patterns_are, same_patterns, is_listed}
+use Rattle.aho_lists.specs.Words.{room, length_mark, word_at, told, length_at, patterns_at, is_closed, laid, HasPatterns, AreLaid, IsLengthened}
+use Rattle.aho_lists.proofs.Patterns.{told-small, told-room, told-mark, told-some, length_at-zero, length_at-some, some_at, place_within, list_within, length-patterns_at, get_or-patterns_at, pattern_small, patterns_are, same_patterns, is_closed-below, closed-below}
 
 -- ---- the list has one pattern more, where there was room behind it
 
@@ -105,13 +104,38 @@ module _ (old new : List ℕ) (count list pattern : ℕ) (are : AreLaid old coun
   listed-len =
       omega (arith, length_at-some new list ne, told-here, length-patterns_at old count list are, length-append (patterns_at old list) (pattern ∷ []))
 
-  pub IsListed-lengthened : IsListed (pattern_lists old) (pattern_lists new) list list (patterns_at old list ++ pattern ∷ [])
-  IsListed-lengthened =
-      is_listed old new list list (patterns_at old list ++ pattern ∷ [])
-      (patterns_are new (count + 1) list (patterns_at old list ++ pattern ∷ []) AreLaid-lengthened listed-len listed-each)
-      (omega (arith, length-append (patterns_at old list) (pattern ∷ [])))
-      (inl refl)
-      (λ other below apart. others-same other apart)
+  stays_below : (k : ℕ) → word_at old k < room → word_at new k < room
+  stays_below k below =
+      elim (cases_eq k (list - 1)) [
+        | inl is ↦ omega (arith, ap (word_at new) is, longer.mark, own_mark, own_few, few)
+        | inr apart ↦ elim (cases_eq k (list + length_at old list)) [
+          | inl end ↦ absurd (omega (arith, below, ap (word_at old) end, free))
+          | inr off ↦ omega (arith, longer.others k apart off, below)
+        ]
+      ]
+
+  -- the list is not closed
+  apart_from : (other : ℕ) → is_closed old other ≡ true → other ≢ list
+  apart_from other closed is = omega (arith, closed-below old other closed, ap (λ (n : ℕ). word_at old (n + length_at old n)) is, free)
+
+  others-kept : (other : ℕ) → (other ≢ list) ⊎ (is_closed old other ≡ true) → patterns_at new other ≡ patterns_at old other
+  others-kept other (inl apart) = others-same other apart
+  others-kept other (inr closed) = others-same other (apart_from other closed)
+
+  others-closed : (other : ℕ) → is_closed old other ≡ true → is_closed new other ≡ true
+  others-closed other closed =
+      let len = others-len other (apart_from other closed) in
+      let below = stays_below (other + length_at old other) (closed-below old other closed) in
+      is_closed-below new other (omega (arith, below, ap (λ (n : ℕ). word_at new (other + n)) len))
+
+  pub HasPatterns-lengthened : HasPatterns old new list list (patterns_at old list ++ pattern ∷ [])
+  HasPatterns-lengthened = record {
+    patterns = patterns_are new (count + 1) list (patterns_at old list ++ pattern ∷ []) AreLaid-lengthened listed-len listed-each;
+    some = omega (arith, length-append (patterns_at old list) (pattern ∷ []));
+    number = inl refl;
+    others = λ other below why. others-kept other why;
+    closed = others-closed;
+  }
 
 before-next : (n : ℕ) → n + 1 - 1 ≡ n
 before-next n = omega arith
@@ -196,28 +220,43 @@ module _ (old : List ℕ) (count now : ℕ) (items : List ℕ) (more : ℕ) (are
         ];
   }
 
+  same_len : (other : ℕ) → other ≤ length old → length_at new other ≡ length_at old other
+  same_len other inside =
+      elim (cases_eq other 0) [
+        | inl is ↦ ap (length_at new) is ∙ length_at-zero new ∙ sym (ap (length_at old) is ∙ length_at-zero old)
+        | inr first ↦ length_at-some new other first ∙ ap told (word-left (other - 1) (omega (arith, first))) ∙ sym (length_at-some old other first)
+      ]
+
   laid-others : (other : ℕ) → other ≤ length old → patterns_at new other ≡ patterns_at old other
   laid-others other inside =
       same_patterns old new count now other are AreLaid-laid (same_len other inside)
       (λ i below. word-left (other + i) (omega (arith, below, list_within old count other are (omega arith))))
-    where
-      same_len : (other : ℕ) → other ≤ length old → length_at new other ≡ length_at old other
-      same_len other inside =
-          elim (cases_eq other 0) [
-            | inl is ↦ ap (length_at new) is ∙ length_at-zero new ∙ sym (ap (length_at old) is ∙ length_at-zero old)
-            | inr first ↦ length_at-some new other first ∙ ap told (word-left (other - 1) (omega (arith, first))) ∙ sym (length_at-some old other first)
-          ]
+
+  laid-closed : (other : ℕ) → is_closed old other ≡ true → is_closed new other ≡ true
+  laid-closed other closed =
+      let below = closed-below old other closed in
+      elim (cases_lt (other + length_at old other) (length old)) [
+        | inl inside ↦
+            let len = same_len other (omega arith) in
+            is_closed-below new other (omega (arith, below, word-left (other + length_at old other) inside, ap (λ (n : ℕ). word_at new (other + n)) len))
+        | inr past ↦ absurd (omega (arith, below, get_or_past old (other + length_at old other) room past))
+      ]
 
   laid-patterns : patterns_at new (length old + 1) ≡ items
   laid-patterns =
       patterns_are new now (length old + 1) items AreLaid-laid
       (
-        length_at-some new (length old + 1) (λ is. omega arith)
-        ∙ ap (λ (i : ℕ). told (word_at new i)) (before-next (length old))
-        ∙ told-mark-here
+      length_at-some new (length old + 1) (λ is. omega arith)
+      ∙ ap (λ (i : ℕ). told (word_at new i)) (before-next (length old))
+      ∙ told-mark-here
       )
       (λ i below. ap (word_at new) (next-place (length old) i) ∙ word-in i below)
 
-  pub IsListed-laid : (list : ℕ) → 0 < length items → IsListed (pattern_lists old) (pattern_lists (old ++ (laid items ++ replicate more room))) list (length old + 1) items
-  IsListed-laid list some =
-      is_listed old new list (length old + 1) items laid-patterns some (inr (omega arith)) (λ other inside apart. laid-others other inside)
+  pub HasPatterns-laid : (list : ℕ) → 0 < length items → HasPatterns old (old ++ (laid items ++ replicate more room)) list (length old + 1) items
+  HasPatterns-laid list some = record {
+    patterns = laid-patterns;
+    some = some;
+    number = inr (inl (omega arith));
+    others = λ other inside why. laid-others other inside;
+    closed = laid-closed;
+  }

@@ -1,16 +1,16 @@
 -- Lists of patterns in one vector of words.
-use Rattle.std.proofs.Common.{◌≡◌, ◌≢◌, ℕ, suc, ◌+◌, ◌-◌, ◌<◌, ◌≤◌, ◌⊎◌, Some, List, [], ◌∷◌, ◌++◌, length, get_or, take, drop, replicate, refl, sym, ap, ◌∙◌, inl, inr, arith}
+use Rattle.std.proofs.Common.{◌≡◌, ◌≢◌, ℕ, suc, ◌+◌, ◌-◌, ◌<◌, ◌≤◌, ◌⊎◌, Some, Bool, true, false, List, [], ◌∷◌, ◌++◌, length, get_or, take, drop, replicate, refl, sym, ap, ◌∙◌, inl, inr, arith}
 use Rattle.std.specs.List.{All, slice_get}
 use Rattle.std.proofs.lemmas.Option.{slice_get-get_or}
-use Rattle.std.proofs.lemmas.Bool.{cases_eq, cases_lt, lt-ltb, le-ltb}
+use Rattle.std.proofs.lemmas.Bool.{cases_eq, cases_lt, lt-ltb, le-ltb, ltb-true}
 use Rattle.std.proofs.lemmas.List.{get_or_past, get_or-take, get_or-drop, get_or_append_left, get_or-append-add, get_or-replicate, length-take-le, length-drop, length-append}
 use Rattle.std.proofs.lemmas.List.FromFn.{length-map-range_with_len, get_or-map-range_with_len}
 use Rattle.std.proofs.lemmas.List.Elements.{All-from_get_or}
 use Rattle.std.proofs.lemmas.Grind.{get_or_default_zero, same_number_lists}
 use Rattle.std.proofs.Math.Seq.{get_or-append_seam}
 use Rattle.aho_base.specs.Numbers.{greatest_index}
-use Rattle.aho_lists.specs.Lists.{PatternLists, list_at, IsList, IsListed}
-use Rattle.aho_lists.specs.Words.{room, length_mark, word_at, told, length_at, patterns_at, pattern_lists, laid, IsHeld, AreLaid, IsLengthened}
+use Rattle.aho_lists.specs.Lists.{PatternLists, list_at, closed_at, IsList, IsListed}
+use Rattle.aho_lists.specs.Words.{room, length_mark, word_at, told, length_at, patterns_at, pattern_lists, is_closed, closed_lists, pattern_store, laid, IsHeld, HasPatterns, AreLaid, IsLengthened}
 
 -- ---- the length that a word tells
 
@@ -18,7 +18,7 @@ told-below : (word : ℕ) → word < room → told word ≡ word - length_mark
 unfolding told
 told-below word below = rw (lt-ltb word room below) refl
 
-told-above : (word : ℕ) → room ≤ word → told word ≡ 0
+pub told-above : (word : ℕ) → room ≤ word → told word ≡ 0
 unfolding told
 told-above word above = rw (le-ltb word room above) refl
 
@@ -71,7 +71,7 @@ place_within words count place are some =
       | inr above ↦ absurd (
           let small = are.patterns place (place + told (word_at words place)) (omega arith) (omega arith) in
           omega (arith, small, get_or_past words (place + told (word_at words place)) room above)
-      )
+          )
     ]
 
 pub list_within : (words : List ℕ) (count list : ℕ) → AreLaid words count → 0 < length_at words list
@@ -114,9 +114,9 @@ pub patterns_at-past : (words : List ℕ) (list : ℕ) → length words < list �
 patterns_at-past words list past =
     patterns_at-none words list
     (
-      length_at-some words list (λ is. omega arith)
-      ∙ ap told (get_or_past words (list - 1) room (omega arith))
-      ∙ told-room
+    length_at-some words list (λ is. omega arith)
+    ∙ ap told (get_or_past words (list - 1) room (omega arith))
+    ∙ told-room
     )
 
 pub length-patterns_at : (words : List ℕ) (count list : ℕ) → AreLaid words count → length (patterns_at words list) ≡ length_at words list
@@ -140,8 +140,8 @@ pub patterns_at-small : (words : List ℕ) (count list : ℕ) → AreLaid words 
 patterns_at-small words count list are =
     All-from_get_or (λ (word : ℕ). word ≤ greatest_index) (patterns_at words list) 0
     (λ i below.
-      let within : i < length_at words list = omega (arith, below, length-patterns_at words count list are) in
-      omega (arith, get_or-patterns_at words count list i are within, pattern_small words count list i are within))
+    let within : i < length_at words list = omega (arith, below, length-patterns_at words count list are) in
+    omega (arith, get_or-patterns_at words count list i are within, pattern_small words count list i are within))
 
 -- the patterns are these, where so many are told and each stands at its place
 pub patterns_are : (words : List ℕ) (count list : ℕ) (items : List ℕ) → AreLaid words count → length_at words list ≡ length items
@@ -150,8 +150,8 @@ patterns_are words count list items are told_so each =
     same_number_lists (patterns_at words list) items
     (length-patterns_at words count list are ∙ told_so)
     (λ i below.
-      let within : i < length_at words list = omega (arith, below, length-patterns_at words count list are) in
-      get_or-patterns_at words count list i are within ∙ each i (omega (arith, within, told_so)))
+    let within : i < length_at words list = omega (arith, below, length-patterns_at words count list are) in
+    get_or-patterns_at words count list i are within ∙ each i (omega (arith, within, told_so)))
 
 -- where another store has the same length and the same words, the list has the same patterns
 pub same_patterns : (old new : List ℕ) (count now list : ℕ) → AreLaid old count → AreLaid new now → length_at new list ≡ length_at old list
@@ -159,8 +159,8 @@ pub same_patterns : (old new : List ℕ) (count now list : ℕ) → AreLaid old 
 same_patterns old new count now list are then same each =
     patterns_are new now list (patterns_at old list) then (same ∙ sym (length-patterns_at old count list are))
     (λ i below.
-      let within : i < length_at old list = omega (arith, below, length-patterns_at old count list are) in
-      each i within ∙ sym (get_or-patterns_at old count list i are within))
+    let within : i < length_at old list = omega (arith, below, length-patterns_at old count list are) in
+    each i within ∙ sym (get_or-patterns_at old count list i are within))
 
 -- ---- the lists by their numbers
 
@@ -188,21 +188,61 @@ held_of words list known some =
       | inr ne ↦ omega (arith, ne)
     ]
 
--- the store has the list, where the others have the patterns that they had
-pub is_listed : (old new : List ℕ) (list made : ℕ) (items : List ℕ) → patterns_at new made ≡ items → 0 < length items
-    → (made ≡ list) ⊎ (length old + 1 ≤ made) → ((other : ℕ) → other ≤ length old → other ≢ list → patterns_at new other ≡ patterns_at old other)
-    → IsListed (pattern_lists old) (pattern_lists new) list made items
-is_listed old new list made items listed some number others = record {
-  listed = list_at-pattern_lists new made ∙ listed;
-  known = λ none. absurd (omega (arith, some, ap length (sym (list_at-pattern_lists new made ∙ listed) ∙ none)));
-  number = number_of number;
-  others = λ other below ne.
-      list_at-pattern_lists new other ∙ others other (omega (arith, below, length-pattern_lists old)) ne ∙ sym (list_at-pattern_lists old other);
+-- ---- the closed ones
+
+pub is_closed-below : (words : List ℕ) (list : ℕ) → word_at words (list + length_at words list) < room → is_closed words list ≡ true
+unfolding is_closed
+is_closed-below words list below = lt-ltb (word_at words (list + length_at words list)) room below
+
+pub closed-below : (words : List ℕ) (list : ℕ) → is_closed words list ≡ true → word_at words (list + length_at words list) < room
+unfolding is_closed
+closed-below words list closed = ltb-true (word_at words (list + length_at words list)) room closed
+
+is_closed-past : (words : List ℕ) (list : ℕ) → length words ≤ list → is_closed words list ≡ false
+unfolding is_closed
+is_closed-past words list past =
+    le-ltb (word_at words (list + length_at words list)) room (omega (arith, get_or_past words (list + length_at words list) room (omega (arith, past))))
+
+length-closed_lists : (words : List ℕ) → length (closed_lists words) ≡ length words + 1
+unfolding closed_lists
+length-closed_lists words = length-map-range_with_len (is_closed words) 0 (length words + 1)
+
+closed_at-within : (words : List ℕ) (list : ℕ) → list < length words + 1 → closed_at (closed_lists words) list ≡ is_closed words list
+unfolding closed_lists
+closed_at-within words list below = get_or-map-range_with_len (is_closed words) 0 (length words + 1) list list false below (omega arith)
+
+pub closed_at-closed_lists : (words : List ℕ) (list : ℕ) → closed_at (closed_lists words) list ≡ is_closed words list
+closed_at-closed_lists words list =
+    elim (cases_lt list (length words + 1)) [
+      | inl below ↦ closed_at-within words list below
+      | inr above ↦ get_or_past (closed_lists words) list false (omega (arith, length-closed_lists words))
+          ∙ sym (is_closed-past words list (omega arith))
+    ]
+
+-- what is so of the words is so of the lists by their numbers
+pub is_listed : (old new : List ℕ) (count now limit list made : ℕ) (items : List ℕ) → HasPatterns old new list made items
+    → IsListed (pattern_store old count limit) (pattern_store new now limit) list made items
+is_listed old new count now limit list made items has = record {
+  listed = list_at-pattern_lists new made ∙ has.patterns;
+  known = λ none. absurd (omega (arith, has.some, ap length (sym (list_at-pattern_lists new made ∙ has.patterns) ∙ none)));
+  number = elim has.number [
+    | inl same ↦ inl same
+    | inr other ↦ elim other [
+      | inl past ↦ inr (inl (omega (arith, past, length-pattern_lists old)))
+      | inr closed ↦ inr (inr (closed_at-closed_lists new made ∙ closed))
+    ]
+  ];
+  others = λ other below why.
+      list_at-pattern_lists new other
+      ∙ has.others other (omega (arith, below, length-pattern_lists old)) (why_so other why)
+      ∙ sym (list_at-pattern_lists old other);
+  closed = λ other closed.
+      closed_at-closed_lists new other ∙ has.closed other (sym (closed_at-closed_lists old other) ∙ closed);
 }
   where
-    number_of : (made ≡ list) ⊎ (length old + 1 ≤ made) → (made ≡ list) ⊎ (length (pattern_lists old) ≤ made)
-    number_of (inl is) = inl is
-    number_of (inr past) = inr (omega (arith, past, length-pattern_lists old))
+    why_so : (other : ℕ) → (other ≢ list) ⊎ (closed_at (closed_lists old) other ≡ true) → (other ≢ list) ⊎ (is_closed old other ≡ true)
+    why_so other (inl apart) = inl apart
+    why_so other (inr closed) = inr (sym (closed_at-closed_lists old other) ∙ closed)
 
 -- ---- a store with no words
 
@@ -212,18 +252,11 @@ AreLaid-none = record {
   fewer = λ place. omega (arith, told-room);
 }
 
-pub pattern_lists-none : pattern_lists [] ≡ [] ∷ []
-unfolding pattern_lists
-pattern_lists-none = ap (λ (xs : List ℕ). xs ∷ []) (patterns_at-zero [])
-
--- what a store is seen as
-abbrev pub pattern_store : List (List ℕ) → ℕ → ℕ → PatternLists
-pattern_store lists count limit = record { lists = lists; count = count; limit = limit }
-
-pub same_pattern_store : {lists others : List (List ℕ)} {limit another : ℕ} (count : ℕ) → lists ≡ others → limit ≡ another
-    → pattern_store lists count limit ≡ pattern_store others count another
-same_pattern_store {lists} {others} {limit} {another} count same equal =
-    ap (λ (ls : List (List ℕ)). pattern_store ls count limit) same ∙ ap (pattern_store others count) equal
+pub pattern_store-none : (limit : ℕ) → let s : PatternLists = record { lists = [] ∷ []; closed = false ∷ []; count = 1; limit = limit } in pattern_store [] 1 limit ≡ s
+unfolding pattern_lists, closed_lists
+pattern_store-none limit =
+    ap (λ (xs : List ℕ). let s : PatternLists = record { lists = xs ∷ []; closed = is_closed [] 0 ∷ []; count = 1; limit = limit } in s) (patterns_at-zero [])
+    ∙ ap (λ (b : Bool). let s : PatternLists = record { lists = [] ∷ []; closed = b ∷ []; count = 1; limit = limit } in s) (is_closed-past [] 0 (omega arith))
 
 -- ---- a list by its number
 

@@ -3,7 +3,7 @@ use Rattle.std.specs.Prelude.{◌≡◌, ℕ, ◌+◌, ◌<◌, ◌⊎◌, nat_l
 use Rattle.aho_base.specs.declared.error.BuildError.{BuildError}
 use Rattle.aho_base.specs.declared.error.BuildError.TheVariants.{StateIDOverflow, OutOfMemory}
 
--- the refusal of an entry at this index: the limit, where the index is above it, else want of memory
+-- the refusal of an entry at this index: the limit, where the index is above it, else out of memory
 abbrev pub refusal_at : ℕ → ℕ → BuildError
 refusal_at limit index = if nat_lt limit index then StateIDOverflow (limit) (limit + 1) else OutOfMemory
 

@@ -1,8 +1,10 @@
 -- Lists of patterns in one vector of numbers, its words. A list is a word that tells its length, and behind it the patterns; room
--- may follow. A list's number is the place of its first pattern, and 0 that of the empty list.
-use Rattle.std.specs.Prelude.{◌≡◌, ◌≢◌, ℕ, zero, suc, ◌+◌, ◌-◌, ◌<◌, ◌≤◌, List, [], ◌∷◌, drop, length, map, nat_lt, if◌then◌else◌, slice_index_or, take}
+-- may follow. A list's number is the place of its first pattern, and 0 that of the empty list. A list behind which another word
+-- stands is closed: it cannot grow there.
+use Rattle.std.specs.Prelude.{◌≡◌, ◌≢◌, ◌⊎◌, ℕ, zero, suc, ◌+◌, ◌-◌, ◌<◌, ◌≤◌, Bool, true, List, [], ◌∷◌, drop, length, map, nat_lt, if◌then◌else◌, slice_index_or, take}
 use Rattle.std.specs.List.{range_with_len}
 use Rattle.aho_base.specs.Numbers.{greatest_index}
+use Rattle.aho_lists.specs.Lists.{PatternLists}
 
 -- the word of a place where nothing stands
 abbrev pub room : ℕ
@@ -31,6 +33,17 @@ patterns_at words list = take (length_at words list) (drop list words)
 -- the lists by their numbers
 unfoldable pub pattern_lists : List ℕ → List (List ℕ)
 pattern_lists words = map (patterns_at words) (range_with_len 0 (length words + 1))
+
+-- whether it is closed: no room is behind its last pattern
+unfoldable pub is_closed : List ℕ → ℕ → Bool
+is_closed words list = nat_lt (word_at words (list + length_at words list)) room
+
+unfoldable pub closed_lists : List ℕ → List Bool
+closed_lists words = map (is_closed words) (range_with_len 0 (length words + 1))
+
+-- what a store of these words is seen as
+abbrev pub pattern_store : List ℕ → ℕ → ℕ → PatternLists
+pattern_store words count limit = record { lists = pattern_lists words; closed = closed_lists words; count = count; limit = limit }
 
 -- a list as it is laid down
 abbrev pub laid : List ℕ → List ℕ
@@ -63,3 +76,17 @@ pub record IsLengthened (old : List ℕ) (list pattern : ℕ) (new : List ℕ) :
   pub added : word_at new (list + length_at old list) ≡ pattern
   pub others : (i : ℕ) → i ≢ list - 1 → i ≢ list + length_at old list → word_at new i ≡ word_at old i
   pub longer : length old ≤ length new
+
+-- the list of this number is closed: each word that is no room stays, and none tells another length
+pub record IsClosed (old : List ℕ) (list : ℕ) (new : List ℕ) : Type 0 where
+  pub closed : word_at new (list + length_at old list) < room
+  pub kept : (i : ℕ) → word_at old i < room → word_at new i ≡ word_at old i
+  pub lengths : (i : ℕ) → told (word_at new i) ≡ told (word_at old i)
+
+-- the list of this number has these patterns now, under this one: `IsListed` in words
+pub record HasPatterns (old new : List ℕ) (list made : ℕ) (items : List ℕ) : Type 0 where
+  pub patterns : patterns_at new made ≡ items
+  pub some : 0 < length items
+  pub number : (made ≡ list) ⊎ ((length old < made) ⊎ (is_closed new made ≡ true))
+  pub others : (other : ℕ) → other ≤ length old → (other ≢ list) ⊎ (is_closed old other ≡ true) → patterns_at new other ≡ patterns_at old other
+  pub closed : (other : ℕ) → is_closed old other ≡ true → is_closed new other ≡ true

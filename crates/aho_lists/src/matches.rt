@@ -3,8 +3,11 @@
 //! The patterns of a list stand side by side. A list that grows is moved to the end, unless there is room behind it; then there
 //! is room for as many patterns again. So a pattern is added in constant time, over many of them. A list's number, which its
 //! caller keeps, is the place of its first pattern; 0 is the number of the empty list.
+//!
+//! The empty list joined with another shares it: no pattern is copied. The list is closed then, which means that it is moved
+//! when one of its owners adds a pattern, and the others keep what they have.
 
-ghost use Rattle.std.specs.Prelude.{◌≡◌, ◌≤◌, ◌+◌, ◌<◌, ◌∷◌, ◌++◌, [], length, IfOk, IfErr, OnOk, OnErr, min, slice_get};
+ghost use Rattle.std.specs.Prelude.{◌≡◌, ◌≤◌, ◌+◌, ◌<◌, ◌∷◌, ◌++◌, [], false, length, IfOk, IfErr, OnOk, OnErr, min, slice_get};
 ghost use Rattle.std.specs.List.{All};
 ghost use Rattle.std.specs.Iterator.{YieldsFirst, item_count};
 ghost use Rattle.aho_base.specs.Numbers.{greatest_index};
@@ -32,15 +35,11 @@ pub struct MatchLists {
 
 impl Model for MatchLists {
     ghost use Rattle.aho_lists.specs.Lists.{PatternLists};
-    ghost use Rattle.aho_lists.specs.Words.{pattern_lists, AreStored};
+    ghost use Rattle.aho_lists.specs.Words.{pattern_store, AreStored};
 
     ghost Value = { PatternLists };
 
-    ghost view = { λ s. record {
-      lists = pattern_lists s.words.items;
-      count = s.count;
-      limit = s.limit;
-    } };
+    ghost view = { λ s. pattern_store s.words.items s.count s.limit };
 
     ghost invariant = { λ s. AreStored s.words.items s.count s.limit };
 }
@@ -48,7 +47,7 @@ impl Model for MatchLists {
 impl MatchLists {
     /// No lists yet, of indexes that are at most `limit`; a greater limit counts as `SmallIndex::MAX`. It takes no memory.
     pub fn new(alloc: Global, limit: usize) -> MatchLists
-        ensures empty { result ≡ record { lists = [] ∷ []; count = 1; limit = min limit greatest_index } }
+        ensures empty { result ≡ record { lists = [] ∷ []; closed = false ∷ []; count = 1; limit = min limit greatest_index } }
     {
         MatchLists {
             words: Vec::new(alloc),
@@ -79,11 +78,11 @@ impl MatchLists {
     ///
     /// # Errors
     ///
-    /// `StateIDOverflow` where one pattern more has an index above the limit; else want of memory. The store is then
+    /// `StateIDOverflow` where one pattern more has an index above the limit; else out of memory. The store is then
     /// unchanged.
     pub fn push(&mut self, list: u32, pattern: PatternID) -> Result<u32, BuildError>
         requires known { IsList self.old.lists list }
-        ensures listed { IfOk result (λ made. IsListed self.old.lists self.new.lists list made
+        ensures listed { IfOk result (λ made. IsListed self.old self.new list made
             (list_at self.old.lists list ++ pattern ∷ [])) }
         ensures limit { OnOk result (self.new.limit ≡ self.old.limit) }
         ensures counted { OnOk result (self.new.count ≡ self.old.count + 1) }
@@ -102,16 +101,17 @@ impl MatchLists {
         Ok(made)
     }
 
-    /// The patterns of the other list are added at the end of the list of this number. Answers the list's number then.
+    /// The patterns of the other list are added at the end of the list of this number. Answers the list's number then. Where
+    /// the list was empty, that is the number of the other one, which both share from then on.
     ///
     /// # Errors
     ///
-    /// `StateIDOverflow` where so many patterns more have an index above the limit; else want of memory. The store is then
+    /// `StateIDOverflow` where so many patterns more have an index above the limit; else out of memory. The store is then
     /// unchanged.
     pub fn join(&mut self, list: u32, other: u32) -> Result<u32, BuildError>
         requires known { IsList self.old.lists list }
         requires other { IsList self.old.lists other }
-        ensures listed { IfOk result (λ made. IsListed self.old.lists self.new.lists list made
+        ensures listed { IfOk result (λ made. IsListed self.old self.new list made
             (list_at self.old.lists list ++ list_at self.old.lists other)) }
         ensures limit { OnOk result (self.new.limit ≡ self.old.limit) }
         ensures counted { OnOk result
@@ -155,7 +155,7 @@ impl MatchLists {
     ///
     /// # Errors
     ///
-    /// Want of memory.
+    /// Out of memory.
     pub fn try_clone(&self, alloc: Global) -> Result<MatchLists, AllocError>
         ensures same { IfOk result (λ store. store ≡ self.now) }
     {

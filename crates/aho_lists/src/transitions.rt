@@ -115,7 +115,7 @@ impl TransitionLists {
     ///
     /// # Errors
     ///
-    /// `StateIDOverflow` where one entry more has an index above the limit; else want of memory. The store is then
+    /// `StateIDOverflow` where one entry more has an index above the limit; else out of memory. The store is then
     /// unchanged.
     pub fn set(&mut self, list: StateID, byte: u8, next: StateID) -> Result<StateID, BuildError>
         requires known { IsList self.old.lists list }
@@ -218,7 +218,7 @@ impl TransitionLists {
     ///
     /// # Errors
     ///
-    /// Want of memory.
+    /// Out of memory.
     pub fn try_clone(&self, alloc: Global) -> Result<TransitionLists, AllocError>
         ensures same { IfOk result (λ store. store ≡ self.now) }
     {

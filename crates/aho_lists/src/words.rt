@@ -1,12 +1,12 @@
 //! Lists of patterns in one vector of numbers, its words.
 //!
 //! A list is a word that tells its length, and behind it the patterns. Room for more of them may follow. A list's number is
-//! the place of its first pattern, and 0 that of the empty list.
+//! the place of its first pattern, and 0 that of the empty list. A list behind which another word stands is closed: it cannot
+//! grow there, so that more than one owner may keep its number.
 
 ghost use Rattle.std.specs.Prelude.{◌≡◌, ◌≢◌, ◌+◌, ◌-◌, ◌<◌, ◌≤◌, ◌∷◌, ◌++◌, [], ℕ, true, length, replicate, take, drop, IfOk, OnOk, OnErr};
 ghost use Rattle.aho_base.specs.Numbers.{greatest_index};
-ghost use Rattle.aho_lists.specs.Words.{word_at as the_word, room, length_at, patterns_at, laid, IsHeld, pattern_lists, AreLaid, IsPut, IsLengthened};
-ghost use Rattle.aho_lists.specs.Lists.{IsListed};
+ghost use Rattle.aho_lists.specs.Words.{word_at as the_word, room, length_at, patterns_at, laid, IsHeld, HasPatterns, AreLaid, IsPut, IsLengthened, IsClosed};
 
 use aho_base::search::PatternID;
 use std::alloc::AllocError;
@@ -68,12 +68,7 @@ fn begin(words: &mut Vec<u32>, list: u32, own: usize, len: usize) -> Result<(), 
 }
 
 /// A list stands once more at the end, with one pattern more and room for as many as it had.
-fn add_longer(
-    words: &mut Vec<u32>,
-    list: u32,
-    own: usize,
-    pattern: u32,
-) -> Result<(), AllocError>
+fn add_longer(words: &mut Vec<u32>, list: u32, own: usize, pattern: u32) -> Result<(), AllocError>
     requires within { list + own ≤ length words.old.items }
     requires len { own ≡ length_at words.old.items list }
     requires few { own + 1 ≤ greatest_index }
@@ -124,12 +119,7 @@ fn put(words: &mut Vec<u32>, place: usize, word: u32) -> Result<(), AllocError>
 }
 
 /// The list has one pattern more, at this place behind its last one.
-fn lengthen(
-    words: &mut Vec<u32>,
-    list: u32,
-    end: usize,
-    pattern: u32,
-) -> Result<(), AllocError>
+fn lengthen(words: &mut Vec<u32>, list: u32, end: usize, pattern: u32) -> Result<(), AllocError>
     requires some { list ≢ 0 }
     requires end { end ≡ list + length_at words.old.items list }
     requires within { end ≤ length words.old.items }
@@ -154,7 +144,7 @@ fn has_room(words: &[u32], list: u32, own: usize) -> bool
     word_at(words, list as usize + own) == ROOM
 }
 
-/// The number of a list that is added where there are so many words. A number above `u32::MAX` counts as want of memory.
+/// The number of a list that is added where there are so many words. A number above `u32::MAX` counts as out of memory.
 fn number_after(place: usize) -> Result<u32, AllocError>
     ensures number { IfOk result (λ made. made ≡ place + 1) }
 {
@@ -168,7 +158,7 @@ fn number_after(place: usize) -> Result<u32, AllocError>
 ///
 /// # Errors
 ///
-/// Want of memory. The words are then unchanged.
+/// Out of memory. The words are then unchanged.
 pub(crate) fn push_pattern(
     words: &mut Vec<u32>,
     list: u32,
@@ -176,8 +166,7 @@ pub(crate) fn push_pattern(
 ) -> Result<u32, AllocError>
     requires laid { (count : ℕ) × AreLaid words.old.items count × (count ≤ greatest_index) }
     requires held { IsHeld words.old.items list }
-    ensures listed { IfOk result (λ made.
-        IsListed (pattern_lists words.old.items) (pattern_lists words.new.items) list made
+    ensures listed { IfOk result (λ made. HasPatterns words.old.items words.new.items list made
         (patterns_at words.old.items list ++ pattern ∷ [])) }
     ensures laid { OnOk result ((count : ℕ) → AreLaid words.old.items count → count ≤ greatest_index
         → AreLaid words.new.items (count + 1)) }
@@ -198,29 +187,57 @@ pub(crate) fn push_pattern(
     Ok(made)
 }
 
-/// The patterns of the other list are added at the end of the list of this number. Answers the list's number then.
+/// Closes the list of this number: a word that is no room stands behind its last pattern.
+fn close(words: &mut Vec<u32>, list: u32, end: usize) -> Result<(), AllocError>
+    requires end { end ≡ list + length_at words.old.items list }
+    requires within { end ≤ length words.old.items }
+    ensures closed { OnOk result (IsClosed words.old.items list words.new.items) }
+    ensures unchanged { OnErr result (words.new.items ≡ words.old.items) }
+{
+    if word_at(words, end) < ROOM {
+        return Ok(());
+    }
+    put(words, end, LENGTH)
+}
+
+/// The empty list is from now on the list of this number, which has two owners then. Answers that number.
+fn share_patterns(words: &mut Vec<u32>, list: u32) -> Result<u32, AllocError>
+    requires laid { (count : ℕ) × AreLaid words.old.items count × (count ≤ greatest_index + 1) }
+    requires held { IsHeld words.old.items list }
+    requires some { list ≢ 0 }
+    ensures listed { IfOk result (λ made.
+        HasPatterns words.old.items words.new.items 0 made (patterns_at words.old.items list)) }
+    ensures laid { OnOk result ((count more : ℕ) → AreLaid words.old.items count → count ≤ more
+        → AreLaid words.new.items more) }
+    ensures unchanged { OnErr result (words.new.items ≡ words.old.items) }
+{
+    let own = len_at(words, list);
+    close(words, list, list as usize + own)?;
+    Ok(list)
+}
+
+/// The patterns of the other list are added at the end of the list of this number. Answers the list's number then. The empty
+/// list becomes the other one, which is closed.
 ///
 /// # Errors
 ///
-/// Want of memory. The words are then unchanged.
-pub(crate) fn join_patterns(
-    words: &mut Vec<u32>,
-    list: u32,
-    other: u32,
-) -> Result<u32, AllocError>
+/// Out of memory. The words are then unchanged.
+pub(crate) fn join_patterns(words: &mut Vec<u32>, list: u32, other: u32) -> Result<u32, AllocError>
     requires laid { (count : ℕ) × AreLaid words.old.items count
         × (count + length_at words.old.items other ≤ greatest_index + 1) }
     requires held { IsHeld words.old.items list }
     requires other { IsHeld words.old.items other }
     requires some { other ≢ 0 }
-    ensures listed { IfOk result (λ made.
-        IsListed (pattern_lists words.old.items) (pattern_lists words.new.items) list made
+    ensures listed { IfOk result (λ made. HasPatterns words.old.items words.new.items list made
         (patterns_at words.old.items list ++ patterns_at words.old.items other)) }
     ensures laid { OnOk result ((count : ℕ) → AreLaid words.old.items count
         → count + length_at words.old.items other ≤ greatest_index + 1
         → AreLaid words.new.items (count + length_at words.old.items other)) }
     ensures unchanged { OnErr result (words.new.items ≡ words.old.items) }
 {
+    if list == 0 {
+        return share_patterns(words, other);
+    }
     let own = len_at(words, list);
     let more = len_at(words, other);
     let place = words.len();

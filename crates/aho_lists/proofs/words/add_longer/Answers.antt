@@ -12,15 +12,15 @@ returns-clause-added c =
     let own = take c.args.own (drop c.args.list old) in
     let pushed = c.push.new.self.items in
     let all : pushed ≡ old ++ laid (patterns_at old c.args.list ++ c.args.pattern ∷ []) =
-        c.in_ok-push.ensures.items
-        ∙ ap (λ (ws : List ℕ). ws ++ c.args.pattern ∷ []) c.in_ok-begin.ensures.begun
-        ∙ begun-more old own (c.args.pattern ∷ []) (c.args.own + 1) (omega (arith, length-taken old c.args.list c.args.own c.requires.within))
-        ∙ ap (λ (xs : List ℕ). old ++ laid (xs ++ c.args.pattern ∷ [])) (patterns_at-taken old c.args.list c.args.own c.requires.len)
+    c.in_ok-push.ensures.items
+    ∙ ap (λ (ws : List ℕ). ws ++ c.args.pattern ∷ []) c.in_ok-begin.ensures.begun
+    ∙ begun-more old own (c.args.pattern ∷ []) (c.args.own + 1) (omega (arith, length-taken old c.args.list c.args.own c.requires.within))
+    ∙ ap (λ (xs : List ℕ). old ++ laid (xs ++ c.args.pattern ∷ [])) (patterns_at-taken old c.args.list c.args.own c.requires.len)
     in
     let behind : c.len-end.result + c.args.own - vec_len c.push.new.self ≡ c.args.own = omega arith in
     OnOk-made c.resize.result c.resize.new.self.items _ _ _ c.resize.ensures.items
     (
-      ap (λ (ws : List ℕ). ws ++ replicate (c.len-end.result + c.args.own - vec_len c.push.new.self) room) (take_all (c.len-end.result + c.args.own) pushed (omega arith))
-      ∙ ap (λ (n : ℕ). pushed ++ replicate n room) behind
-      ∙ ap (λ (ws : List ℕ). ws ++ replicate c.args.own room) all
+    ap (λ (ws : List ℕ). ws ++ replicate (c.len-end.result + c.args.own - vec_len c.push.new.self) room) (take_all (c.len-end.result + c.args.own) pushed (omega arith))
+    ∙ ap (λ (n : ℕ). pushed ++ replicate n room) behind
+    ∙ ap (λ (ws : List ℕ). ws ++ replicate c.args.own room) all
     )

@@ -1,11 +1,10 @@
 -- A list that is laid down at the end has the patterns of both.
 use Rattle.std.proofs.Common.{◌≡◌, ◌+◌, ◌<◌, ◌≤◌, List, [], ◌++◌, ℕ, length, get_or, replicate, sym, ap, subst, ◌∙◌, arith}
 use Rattle.aho_base.specs.Numbers.{greatest_index}
-use Rattle.aho_lists.specs.Lists.{IsListed}
-use Rattle.aho_lists.specs.Words.{room, laid, length_at, patterns_at, pattern_lists, AreLaid}
+use Rattle.aho_lists.specs.Words.{room, laid, length_at, patterns_at, HasPatterns, AreLaid}
 use Rattle.aho_lists.proofs.Patterns.{own_within, length_at-fewer, length-patterns_at}
 use Rattle.aho_lists.proofs.Laying.{joined-len, joined-small, laid-alone}
-use Rattle.aho_lists.proofs.PatternChanges.{AreLaid-laid, IsListed-laid}
+use Rattle.aho_lists.proofs.PatternChanges.{AreLaid-laid, HasPatterns-laid}
 use Rattle.aho_lists.proofs.words.join_patterns.Goals as goal
 
 pub add_joined-requires-clause-within : goal.add_joined-requires-clause-within
@@ -32,7 +31,7 @@ returns-clause-laid c count are few =
     let fewer = length_at-fewer old count c.args.list are in
     subst (λ (ws : List ℕ). AreLaid ws (count + length_at old c.args.other)) (sym (c.in-Ok.ensures.added ∙ laid-alone old items))
     (AreLaid-laid old count (count + length_at old c.args.other) items 0 are (omega arith) (omega arith) (omega arith)
-        (joined-small old count c.args.list c.args.other are))
+    (joined-small old count c.args.list c.args.other are))
 
 pub returns-clause-listed : goal.returns-clause-listed
 returns-clause-listed c =
@@ -43,7 +42,7 @@ returns-clause-listed c =
     let len = joined-len old count c.args.list c.args.other are in
     let fewer = length_at-fewer old count c.args.list are in
     let made : length old + 1 ≡ c.in_ok-made.made = omega (arith, c.in_ok-made.ensures.number) in
-    subst (λ (n : ℕ). IsListed (pattern_lists old) (pattern_lists c.add_joined.new.words.items) c.args.list n items) made
-    (subst (λ (ws : List ℕ). IsListed (pattern_lists old) (pattern_lists ws) c.args.list (length old + 1) items) (sym (c.in-Ok.ensures.added ∙ laid-alone old items))
-        (IsListed-laid old count (count + length_at old c.args.other) items 0 are (omega arith) (omega arith) (omega (arith, c.requires.laid.2))
-            (joined-small old count c.args.list c.args.other are) c.args.list (omega (arith, len, c.requires.other c.requires.some))))
+    subst (λ (n : ℕ). HasPatterns old c.add_joined.new.words.items c.args.list n items) made
+    (subst (λ (ws : List ℕ). HasPatterns old ws c.args.list (length old + 1) items) (sym (c.in-Ok.ensures.added ∙ laid-alone old items))
+    (HasPatterns-laid old count (count + length_at old c.args.other) items 0 are (omega arith) (omega arith) (omega (arith, c.requires.laid.2))
+    (joined-small old count c.args.list c.args.other are) c.args.list (omega (arith, len, c.requires.other c.requires.some))))

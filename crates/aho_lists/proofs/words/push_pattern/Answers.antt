@@ -1,11 +1,10 @@
 -- The list grows where it stands, or stands once more at the end.
 use Rattle.std.proofs.Common.{◌≡◌, ◌≢◌, ◌+◌, ◌<◌, ◌≤◌, List, [], ◌∷◌, ◌++◌, ℕ, length, get_or, replicate, sym, ap, subst, ◌∙◌, arith}
 use Rattle.aho_base.specs.Numbers.{greatest_index}
-use Rattle.aho_lists.specs.Lists.{IsListed}
-use Rattle.aho_lists.specs.Words.{room, laid, word_at, length_at, patterns_at, pattern_lists, AreLaid}
+use Rattle.aho_lists.specs.Words.{room, laid, word_at, length_at, patterns_at, HasPatterns, AreLaid}
 use Rattle.aho_lists.proofs.Patterns.{own_within, length_at-fewer, length-patterns_at, mark_at}
 use Rattle.aho_lists.proofs.Laying.{pushed-len, pushed-small, laid-grouped}
-use Rattle.aho_lists.proofs.PatternChanges.{AreLaid-laid, IsListed-laid, AreLaid-lengthened, IsListed-lengthened}
+use Rattle.aho_lists.proofs.PatternChanges.{AreLaid-laid, HasPatterns-laid, AreLaid-lengthened, HasPatterns-lengthened}
 use Rattle.aho_lists.proofs.words.push_pattern.Goals as goal
 
 pub has_room-requires : goal.has_room-requires
@@ -39,7 +38,7 @@ returns-then-has_room-clause-laid c count are few =
     let own = c.len_at-own.ensures.len ∙ ap (λ (ws : List ℕ). length_at ws c.args.list) c.deref.ensures.value in
     let found = c.has_room.ensures.room c.if-has_room.true in
     let free : word_at old (c.args.list + length_at old c.args.list) ≡ room =
-        ap (λ (n : ℕ). word_at old (c.args.list + n)) (sym own) ∙ ap (λ (ws : List ℕ). word_at ws (c.args.list + c.len_at-own.result)) (sym c.deref-2.ensures.value) ∙ found.1
+    ap (λ (n : ℕ). word_at old (c.args.list + n)) (sym own) ∙ ap (λ (ws : List ℕ). word_at ws (c.args.list + c.len_at-own.result)) (sym c.deref-2.ensures.value) ∙ found.1
     in
     AreLaid-lengthened old c.lengthen.new.words.items count c.args.list c.as_usize-pattern.result are few (c.requires.held found.0) free c.as_usize-pattern.ensures.bound c.in_ok-lengthen.ensures.lengthened
 
@@ -49,10 +48,10 @@ returns-then-has_room-clause-listed c =
     let own = c.len_at-own.ensures.len ∙ ap (λ (ws : List ℕ). length_at ws c.args.list) c.deref.ensures.value in
     let found = c.has_room.ensures.room c.if-has_room.true in
     let free : word_at old (c.args.list + length_at old c.args.list) ≡ room =
-        ap (λ (n : ℕ). word_at old (c.args.list + n)) (sym own) ∙ ap (λ (ws : List ℕ). word_at ws (c.args.list + c.len_at-own.result)) (sym c.deref-2.ensures.value) ∙ found.1
+    ap (λ (n : ℕ). word_at old (c.args.list + n)) (sym own) ∙ ap (λ (ws : List ℕ). word_at ws (c.args.list + c.len_at-own.result)) (sym c.deref-2.ensures.value) ∙ found.1
     in
-    let listed = IsListed-lengthened old c.lengthen.new.words.items c.requires.laid.0 c.args.list c.as_usize-pattern.result c.requires.laid.1 c.requires.laid.2 (c.requires.held found.0) free c.as_usize-pattern.ensures.bound c.in_ok-lengthen.ensures.lengthened in
-    subst (λ (p : ℕ). IsListed (pattern_lists old) (pattern_lists c.lengthen.new.words.items) c.args.list c.args.list (patterns_at old c.args.list ++ p ∷ [])) c.as_usize-pattern.ensures.value listed
+    let listed = HasPatterns-lengthened old c.lengthen.new.words.items c.requires.laid.0 c.args.list c.as_usize-pattern.result c.requires.laid.1 c.requires.laid.2 (c.requires.held found.0) free c.as_usize-pattern.ensures.bound c.in_ok-lengthen.ensures.lengthened in
+    subst (λ (p : ℕ). HasPatterns old c.lengthen.new.words.items c.args.list c.args.list (patterns_at old c.args.list ++ p ∷ [])) c.as_usize-pattern.ensures.value listed
 
 pub add_longer-requires-clause-within : goal.add_longer-requires-clause-within
 add_longer-requires-clause-within c =
@@ -72,7 +71,7 @@ returns-clause-laid c count are few =
     let fewer = length_at-fewer old count c.args.list are in
     subst (λ (ws : List ℕ). AreLaid ws (count + 1)) (sym (c.in-Ok.ensures.added ∙ laid-grouped old items c.len_at-own.result))
     (AreLaid-laid old count (count + 1) items c.len_at-own.result are (omega arith) (omega arith) (omega arith)
-        (pushed-small old count c.args.list c.as_usize-pattern.result are c.as_usize-pattern.ensures.bound))
+    (pushed-small old count c.args.list c.as_usize-pattern.result are c.as_usize-pattern.ensures.bound))
 
 pub returns-clause-listed : goal.returns-clause-listed
 returns-clause-listed c =
@@ -83,8 +82,8 @@ returns-clause-listed c =
     let len = pushed-len old count c.args.list c.as_usize-pattern.result are in
     let fewer = length_at-fewer old count c.args.list are in
     let made : length old + 1 ≡ c.in_ok-made.made = omega (arith, c.in_ok-made.ensures.number) in
-    subst (λ (p : ℕ). IsListed (pattern_lists old) (pattern_lists c.add_longer.new.words.items) c.args.list c.in_ok-made.made (patterns_at old c.args.list ++ p ∷ [])) c.as_usize-pattern.ensures.value
-    (subst (λ (n : ℕ). IsListed (pattern_lists old) (pattern_lists c.add_longer.new.words.items) c.args.list n items) made
-        (subst (λ (ws : List ℕ). IsListed (pattern_lists old) (pattern_lists ws) c.args.list (length old + 1) items) (sym (c.in-Ok.ensures.added ∙ laid-grouped old items c.len_at-own.result))
-            (IsListed-laid old count (count + 1) items c.len_at-own.result are (omega arith) (omega arith) (omega (arith, c.requires.laid.2))
-                (pushed-small old count c.args.list c.as_usize-pattern.result are c.as_usize-pattern.ensures.bound) c.args.list (omega (arith, len)))))
+    subst (λ (p : ℕ). HasPatterns old c.add_longer.new.words.items c.args.list c.in_ok-made.made (patterns_at old c.args.list ++ p ∷ [])) c.as_usize-pattern.ensures.value
+    (subst (λ (n : ℕ). HasPatterns old c.add_longer.new.words.items c.args.list n items) made
+    (subst (λ (ws : List ℕ). HasPatterns old ws c.args.list (length old + 1) items) (sym (c.in-Ok.ensures.added ∙ laid-grouped old items c.len_at-own.result))
+    (HasPatterns-laid old count (count + 1) items c.len_at-own.result are (omega arith) (omega arith) (omega (arith, c.requires.laid.2))
+    (pushed-small old count c.args.list c.as_usize-pattern.result are c.as_usize-pattern.ensures.bound) c.args.list (omega (arith, len)))))

@@ -27,9 +27,9 @@ invariant_of-result c =
     let words = c.self.inside.words.items in
     let count = c.len_at-count.ensures.len ∙ ap (λ (ws : List ℕ). length_at ws c.args.list) c.deref.ensures.value in
     let part : c.words_from.result.now ≡ patterns_at words c.args.list =
-        c.words_from.ensures.part
-        ∙ ap (λ (ws : List ℕ). take c.len_at-count.result (drop c.args.list ws)) c.deref-2.ensures.value
-        ∙ patterns_at-taken words c.args.list c.len_at-count.result count
+    c.words_from.ensures.part
+    ∙ ap (λ (ws : List ℕ). take c.len_at-count.result (drop c.args.list ws)) c.deref-2.ensures.value
+    ∙ patterns_at-taken words c.args.list c.len_at-count.result count
     in
     subst (λ (xs : List ℕ). All (λ (word : ℕ). word ≤ greatest_index) xs) (sym part) (patterns_at-small words c.self.inside.count c.args.list c.self.invariant.laid_down)
 
@@ -38,8 +38,8 @@ returns c =
     let words = c.self.inside.words.items in
     let count = c.len_at-count.ensures.len ∙ ap (λ (ws : List ℕ). length_at ws c.args.list) c.deref.ensures.value in
     let part : c.words_from.result.now ≡ patterns_at words c.args.list =
-        c.words_from.ensures.part
-        ∙ ap (λ (ws : List ℕ). take c.len_at-count.result (drop c.args.list ws)) c.deref-2.ensures.value
-        ∙ patterns_at-taken words c.args.list c.len_at-count.result count
+    c.words_from.ensures.part
+    ∙ ap (λ (ws : List ℕ). take c.len_at-count.result (drop c.args.list ws)) c.deref-2.ensures.value
+    ∙ patterns_at-taken words c.args.list c.len_at-count.result count
     in
     record { listed = rw (← c.self.view_is) (part ∙ sym (list_at-pattern_lists words c.args.list)) }

@@ -19,7 +19,7 @@ returns-then-more-eq0-clause-listed c =
     let words = c.self.inside.words.items in
     let more = c.len_at-more.ensures.len ∙ ap (λ (ws : List ℕ). length_at ws c.args.other) c.deref.ensures.value in
     let none : list_at c.args.self.now.lists c.args.other ≡ [] =
-        rw (← c.self.view_is) (list_at-pattern_lists words c.args.other ∙ patterns_at-none words c.args.other (sym more ∙ c.if-more-eq0.true))
+    rw (← c.self.view_is) (list_at-pattern_lists words c.args.other ∙ patterns_at-none words c.args.other (sym more ∙ c.if-more-eq0.true))
     in
     record {
       listed = sym (ap (λ (xs : List ℕ). list_at c.args.self.now.lists c.args.list ++ xs) none ∙ append-nil (list_at c.args.self.now.lists c.args.list));
@@ -33,7 +33,7 @@ returns-then-more-eq0-clause-counted c =
     let words = c.self.inside.words.items in
     let more = c.len_at-more.ensures.len ∙ ap (λ (ws : List ℕ). length_at ws c.args.other) c.deref.ensures.value in
     let len : length (list_at c.args.self.now.lists c.args.other) ≡ length_at words c.args.other =
-        rw (← c.self.view_is) (length-list_at words c.self.inside.count c.args.other c.self.invariant.laid_down)
+    rw (← c.self.view_is) (length-list_at words c.self.inside.count c.args.other c.self.invariant.laid_down)
     in
     omega (arith, len, more, c.if-more-eq0.true)
 
@@ -67,8 +67,8 @@ returns-clause-listed c =
     let new = pattern_lists c.join_patterns.new.words.items in
     rw (← c.self.view_is)
     (subst (λ (xs : List ℕ). IsListed (pattern_lists words) new c.args.list c.in-Ok.made (xs ++ list_at (pattern_lists words) c.args.other)) (sym (list_at-pattern_lists words c.args.list))
-        (subst (λ (xs : List ℕ). IsListed (pattern_lists words) new c.args.list c.in-Ok.made (patterns_at words c.args.list ++ xs)) (sym (list_at-pattern_lists words c.args.other))
-            c.in-Ok.ensures.listed))
+    (subst (λ (xs : List ℕ). IsListed (pattern_lists words) new c.args.list c.in-Ok.made (patterns_at words c.args.list ++ xs)) (sym (list_at-pattern_lists words c.args.other))
+    c.in-Ok.ensures.listed))
 
 pub returns-clause-counted : goal.returns-clause-counted
 returns-clause-counted c =

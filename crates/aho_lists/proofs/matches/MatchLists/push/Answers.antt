@@ -15,4 +15,4 @@ returns-clause-listed c =
     let words = c.self.inside.words.items in
     rw (← c.self.view_is)
     (subst (λ (xs : List ℕ). IsListed (pattern_lists words) (pattern_lists c.push_pattern.new.words.items) c.args.list c.in-Ok.made (xs ++ c.args.pattern ∷ []))
-        (sym (list_at-pattern_lists words c.args.list)) c.in-Ok.ensures.listed)
+    (sym (list_at-pattern_lists words c.args.list)) c.in-Ok.ensures.listed)
