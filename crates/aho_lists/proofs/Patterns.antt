@@ -253,7 +253,7 @@ AreLaid-none = record {
 }
 
 pub pattern_store-none : (limit : ℕ) → let s : PatternLists = record { lists = [] ∷ []; closed = false ∷ []; count = 1; limit = limit } in pattern_store [] 1 limit ≡ s
-unfolding pattern_lists, closed_lists
+unfolding pattern_lists closed_lists
 pattern_store-none limit =
     ap (λ (xs : List ℕ). let s : PatternLists = record { lists = xs ∷ []; closed = is_closed [] 0 ∷ []; count = 1; limit = limit } in s) (patterns_at-zero [])
     ∙ ap (λ (b : Bool). let s : PatternLists = record { lists = [] ∷ []; closed = b ∷ []; count = 1; limit = limit } in s) (is_closed-past [] 0 (omega arith))

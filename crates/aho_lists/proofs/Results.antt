@@ -31,3 +31,7 @@ out_of_memory_at limit index within = rw (le-ltb limit index within) refl
 pub IfOk-from : {X E : Type 0} {P Q : X → Type 0} {R : Type 0} (result : Result X E) → IfOk result P → OnOk result R → ((x : X) → P x → R → Q x) → IfOk result Q
 IfOk-from (Ok x) p r more = more x p r
 IfOk-from (Err e) p r more = tt
+
+pub IfOk-more : {X E : Type 0} {P Q : X → Type 0} (result : Result X E) → ((x : X) → P x → Q x) → IfOk result P → IfOk result Q
+IfOk-more (Ok x) more holds = more x holds
+IfOk-more (Err e) more holds = tt

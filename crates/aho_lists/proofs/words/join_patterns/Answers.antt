@@ -1,11 +1,28 @@
--- A list that is laid down at the end has the patterns of both.
+-- A list that is laid down at the end has the patterns of both, and so has one that is shared with the empty list.
 use Rattle.std.proofs.Common.{◌≡◌, ◌+◌, ◌<◌, ◌≤◌, List, [], ◌++◌, ℕ, length, get_or, replicate, sym, ap, subst, ◌∙◌, arith}
 use Rattle.aho_base.specs.Numbers.{greatest_index}
 use Rattle.aho_lists.specs.Words.{room, laid, length_at, patterns_at, HasPatterns, AreLaid}
 use Rattle.aho_lists.proofs.Patterns.{own_within, length_at-fewer, length-patterns_at}
 use Rattle.aho_lists.proofs.Laying.{joined-len, joined-small, laid-alone}
 use Rattle.aho_lists.proofs.PatternChanges.{AreLaid-laid, HasPatterns-laid}
+use Rattle.aho_lists.proofs.Results.{IfOk-more, OnOk-more}
+use Rattle.aho_lists.proofs.Closed.{HasPatterns-joined}
 use Rattle.aho_lists.proofs.words.join_patterns.Goals as goal
+
+pub share_patterns-requires-clause-laid : goal.share_patterns-requires-clause-laid
+share_patterns-requires-clause-laid c = (c.requires.laid.0, c.requires.laid.1, omega (arith, c.requires.laid.2))
+
+pub returns-then-list-eq0-clause-listed : goal.returns-then-list-eq0-clause-listed
+returns-then-list-eq0-clause-listed c =
+    IfOk-more c.share_patterns.result
+    (λ made has. HasPatterns-joined c.args.words.now.items c.share_patterns.new.words.items c.args.list made (patterns_at c.args.words.now.items c.args.other) c.if-list-eq0.true has)
+    c.share_patterns.ensures.listed
+
+pub returns-then-list-eq0-clause-laid : goal.returns-then-list-eq0-clause-laid
+returns-then-list-eq0-clause-laid c =
+    OnOk-more c.share_patterns.result
+    (λ more count are few. more count (count + length_at c.args.words.now.items c.args.other) are (omega arith))
+    c.share_patterns.ensures.laid
 
 pub add_joined-requires-clause-within : goal.add_joined-requires-clause-within
 add_joined-requires-clause-within c =

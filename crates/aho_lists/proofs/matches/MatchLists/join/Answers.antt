@@ -4,8 +4,8 @@ use Rattle.std.proofs.lemmas.List.{append-nil}
 use Rattle.aho_base.specs.declared.error.BuildError.TheVariants.{StateIDOverflow}
 use Rattle.aho_lists.specs.Lists.{list_at, IsList, IsListed}
 use Rattle.aho_lists.specs.Refusal.{IsRefusalOf}
-use Rattle.aho_lists.specs.Words.{length_at, patterns_at, pattern_lists, IsHeld, AreLaid}
-use Rattle.aho_lists.proofs.Patterns.{held_of, length_at-zero, length_at-fewer, length-list_at, list_at-pattern_lists, patterns_at-none}
+use Rattle.aho_lists.specs.Words.{length_at, patterns_at, pattern_lists, pattern_store, IsHeld, AreLaid}
+use Rattle.aho_lists.proofs.Patterns.{held_of, length_at-zero, length_at-fewer, length-list_at, list_at-pattern_lists, patterns_at-none, is_listed}
 use Rattle.aho_lists.proofs.matches.MatchLists.join.Goals as goal
 
 pub len_at-more-requires : goal.len_at-more-requires
@@ -25,7 +25,8 @@ returns-then-more-eq0-clause-listed c =
       listed = sym (ap (λ (xs : List ℕ). list_at c.args.self.now.lists c.args.list ++ xs) none ∙ append-nil (list_at c.args.self.now.lists c.args.list));
       known = c.requires.known;
       number = inl refl;
-      others = λ other below ne. refl;
+      others = λ other below why. refl;
+      closed = λ other closed. closed;
     }
 
 pub returns-then-more-eq0-clause-counted : goal.returns-then-more-eq0-clause-counted
@@ -64,11 +65,16 @@ join_patterns-requires-clause-some c is =
 pub returns-clause-listed : goal.returns-clause-listed
 returns-clause-listed c =
     let words = c.self.inside.words.items in
-    let new = pattern_lists c.join_patterns.new.words.items in
+    let new = c.join_patterns.new.words.items in
+    let count = c.self.inside.count in
+    let now = c.self.inside.count + c.len_at-more.result in
+    let limit = c.self.inside.limit in
+    let old_store = pattern_store words count limit in
+    let new_store = pattern_store new now limit in
     rw (← c.self.view_is)
-    (subst (λ (xs : List ℕ). IsListed (pattern_lists words) new c.args.list c.in-Ok.made (xs ++ list_at (pattern_lists words) c.args.other)) (sym (list_at-pattern_lists words c.args.list))
-    (subst (λ (xs : List ℕ). IsListed (pattern_lists words) new c.args.list c.in-Ok.made (patterns_at words c.args.list ++ xs)) (sym (list_at-pattern_lists words c.args.other))
-    c.in-Ok.ensures.listed))
+    (subst (λ (xs : List ℕ). IsListed old_store new_store c.args.list c.in-Ok.made (xs ++ list_at (pattern_lists words) c.args.other)) (sym (list_at-pattern_lists words c.args.list))
+        (subst (λ (xs : List ℕ). IsListed old_store new_store c.args.list c.in-Ok.made (patterns_at words c.args.list ++ xs)) (sym (list_at-pattern_lists words c.args.other))
+            (is_listed words new count now limit c.args.list c.in-Ok.made (patterns_at words c.args.list ++ patterns_at words c.args.other) c.in-Ok.ensures.listed)))
 
 pub returns-clause-counted : goal.returns-clause-counted
 returns-clause-counted c =

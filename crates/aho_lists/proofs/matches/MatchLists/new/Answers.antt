@@ -1,7 +1,8 @@
 -- No words are no lists.
-use Rattle.std.proofs.Common.{◌≡◌, ◌≤◌, ℕ, List, [], min, sym, ap, subst, ◌∙◌, arith}
-use Rattle.aho_lists.specs.Words.{pattern_lists, AreStored}
-use Rattle.aho_lists.proofs.Patterns.{AreLaid-none, pattern_lists-none, same_pattern_store}
+use Rattle.std.proofs.Common.{◌≡◌, ◌≤◌, ◌∷◌, false, ℕ, List, [], min, sym, ap, subst, ◌∙◌, arith}
+use Rattle.aho_lists.specs.Lists.{PatternLists}
+use Rattle.aho_lists.specs.Words.{pattern_store, AreStored}
+use Rattle.aho_lists.proofs.Patterns.{AreLaid-none, pattern_store-none}
 use Rattle.aho_lists.proofs.matches.MatchLists.new.Goals as goal
 
 pub invariant_of-result : goal.invariant_of-result
@@ -14,5 +15,8 @@ invariant_of-result c =
 
 pub returns : goal.returns
 returns c = record {
-  empty = same_pattern_store 1 (ap pattern_lists c.new.ensures.items ∙ pattern_lists-none) (c.min.ensures ∙ ap (min c.args.limit) c.as_usize.ensures.value);
+  empty =
+      ap (λ (ws : List ℕ). pattern_store ws 1 c.min.result) c.new.ensures.items
+      ∙ pattern_store-none c.min.result
+      ∙ ap (λ (n : ℕ). let s : PatternLists = record { lists = [] ∷ []; closed = false ∷ []; count = 1; limit = n } in s) (c.min.ensures ∙ ap (min c.args.limit) c.as_usize.ensures.value);
 }

@@ -1,0 +1,30 @@
+-- The list is closed, and the empty one becomes it.
+use Rattle.std.proofs.Common.{◌≡◌, ◌+◌, ◌<◌, ◌≤◌, List, ℕ, length, sym, ap, ◌∙◌, arith}
+use Rattle.aho_base.specs.Numbers.{greatest_index}
+use Rattle.aho_lists.specs.Words.{length_at, AreLaid}
+use Rattle.aho_lists.proofs.Patterns.{own_within, length_at-fewer}
+use Rattle.aho_lists.proofs.Closed.{AreLaid-closed, HasPatterns-closed}
+use Rattle.aho_lists.proofs.words.share_patterns.Goals as goal
+
+pub overflow_add-list : goal.overflow_add-list
+overflow_add-list c =
+    let own = c.len_at-own.ensures.len ∙ ap (λ (ws : List ℕ). length_at ws c.args.list) c.deref.ensures.value in
+    omega (arith, own, c.requires.laid.2, length_at-fewer c.args.words.now.items c.requires.laid.0 c.args.list c.requires.laid.1)
+
+pub close-requires-clause-end : goal.close-requires-clause-end
+close-requires-clause-end c =
+    let own = c.len_at-own.ensures.len ∙ ap (λ (ws : List ℕ). length_at ws c.args.list) c.deref.ensures.value in
+    omega (arith, own)
+
+pub close-requires-clause-within : goal.close-requires-clause-within
+close-requires-clause-within c =
+    let own = c.len_at-own.ensures.len ∙ ap (λ (ws : List ℕ). length_at ws c.args.list) c.deref.ensures.value in
+    omega (arith, own, own_within c.args.words.now.items c.requires.laid.0 c.args.list c.requires.laid.1 c.requires.held)
+
+pub returns-clause-listed : goal.returns-clause-listed
+returns-clause-listed c =
+    HasPatterns-closed c.args.words.now.items c.close.new.words.items c.requires.laid.0 c.args.list c.requires.laid.1 c.in_ok-close.ensures.closed (c.requires.held c.requires.some)
+
+pub returns-clause-laid : goal.returns-clause-laid
+returns-clause-laid c count more are within =
+    AreLaid-closed c.args.words.now.items c.close.new.words.items count c.args.list are c.in_ok-close.ensures.closed more within
