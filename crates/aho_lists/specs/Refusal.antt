@@ -7,6 +7,6 @@ use Rattle.aho_base.specs.declared.error.BuildError.TheVariants.{StateIDOverflow
 abbrev pub refusal_at : ℕ → ℕ → BuildError
 refusal_at limit index = if nat_lt limit index then StateIDOverflow (limit) (limit + 1) else OutOfMemory
 
--- why a store is not to have this many entries: they are more than the limit allows, or memory was wanted
+-- why a store is not to have this many entries: they are more than the limit allows, or there is no memory
 abbrev pub IsRefusalOf : ℕ → ℕ → BuildError → Type 0
 IsRefusalOf limit count error = (error ≡ OutOfMemory) ⊎ ((error ≡ StateIDOverflow limit (limit + 1)) × (limit + 1 < count))

@@ -1,26 +1,73 @@
 -- A table where a list of one state was changed, or its link.
-use Rattle.std.proofs.Common.{◌≡◌, ◌≢◌, ℕ, ◌+◌, ◌<◌, ◌≤◌, ◌⊎◌, List, [], ◌∷◌, ◌++◌, length, map, get_or, take, refl, sym, ap, subst, ◌∙◌, arith}
+use Rattle.std.proofs.Common.{◌≡◌, ◌≢◌, ℕ, ◌+◌, ◌<◌, ◌≤◌, ◌⊎◌, Bool, true, false, List, [], ◌∷◌, ◌++◌, length, map, get_or, take, refl, sym, ap, subst, ◌∙◌, inl, inr, arith}
 use Rattle.std.proofs.Math.ListN.{set, length-set}
 use Rattle.std.proofs.lemmas.List.{length-map, map-set, map-append, take-map, length_push, length-take, set-get_or, get_or_default}
 use Rattle.std.proofs.lemmas.List.Sums.{sum_by-append}
 use Rattle.std.proofs.Math.Seq.{take-append_seam}
-use Rattle.aho_lists.specs.Lists.{Lists, PatternLists, list_at, IsList}
+use Rattle.aho_lists.specs.Lists.{Lists, PatternLists, list_at, closed_at, IsList, IsListed}
 use Rattle.aho_table.specs.Table.{State, new_state, state_at, transitions_count, matches_count}
-use Rattle.aho_table.specs.Inside.{record_at, recorded_state, recorded_states, transition_numbers, match_numbers, AreNumbers, IsConsistent}
+use Rattle.aho_table.specs.Inside.{record_at, recorded_state, recorded_states, transition_numbers, match_numbers, IsNone, IsShared, AreNumbers, IsConsistent}
 use Rattle.aho_table.specs.declared.links.states.Record.{Record}
 use Rattle.aho_table.proofs.Numbers.{same_list, AreNumbers-set, AreNumbers-push, AreNumbers-take}
 use Rattle.aho_table.proofs.Records.{length-recorded_states, state_at-recorded_states, recorded_states-none, recorded_states-append, take-recorded_states, recorded_states-changed, transition_number, match_number}
 use Rattle.aho_table.proofs.States.{transitions_count-set, matches_count-set}
 
--- the list of one number has these items now, under this number
-pub record IsListChange {X : Type 0} (old new : List (List X)) (number made : ℕ) (items : List X) : Type 0 where
+-- the list of one number has these items now, under this number. `IsCommon` and `Still` tell, before and now, which numbers
+-- more than one state may have
+pub record IsListChange {X : Type 0} (IsCommon Still : ℕ → Type 0) (old new : List (List X)) (number made : ℕ) (items : List X) : Type 0 where
   pub some : 0 < length old
-  pub empty : list_at old 0 ≡ []
-  pub empty_still : list_at new 0 ≡ []
-  pub others : (other : ℕ) → other < length old → other ≢ number → list_at new other ≡ list_at old other
+  pub still : (other : ℕ) → IsCommon other → Still other
+  pub others : (other : ℕ) → other < length old → (other ≢ number) ⊎ IsCommon other → list_at new other ≡ list_at old other
   pub changed : list_at new made ≡ items
   pub known : IsList new made
-  pub fresh : (made ≡ number) ⊎ (length old ≤ made)
+  pub fresh : (made ≡ number) ⊎ ((length old ≤ made) ⊎ Still made)
+
+-- where no list is common but the empty one
+pub IsListChange-alone : {X : Type 0} (old new : List (List X)) (number made : ℕ) (items : List X) → 0 < length old → list_at old 0 ≡ [] → list_at new 0 ≡ []
+    → ((other : ℕ) → other < length old → other ≢ number → list_at new other ≡ list_at old other)
+    → list_at new made ≡ items → IsList new made → (made ≡ number) ⊎ (length old ≤ made) → IsListChange IsNone IsNone old new number made items
+IsListChange-alone {X = X} old new number made items some empty empty_still others changed known fresh = record {
+  some = some;
+  still = λ other none. none;
+  others = the_others;
+  changed = changed;
+  known = known;
+  fresh = the_fresh fresh;
+}
+  where
+    the_others : (other : ℕ) → other < length old → (other ≢ number) ⊎ IsNone other → list_at new other ≡ list_at old other
+    the_others other below (inl apart) = others other below apart
+    the_others other below (inr none) = ap (list_at new) none ∙ empty_still ∙ sym (ap (list_at old) none ∙ empty)
+
+    the_fresh : (made ≡ number) ⊎ (length old ≤ made) → (made ≡ number) ⊎ ((length old ≤ made) ⊎ IsNone made)
+    the_fresh (inl same) = inl same
+    the_fresh (inr past) = inr (inl past)
+
+-- and where closed ones are
+pub IsListChange-listed : (old new : PatternLists) (number made : ℕ) (items : List ℕ) → 0 < length old.lists → list_at old.lists 0 ≡ [] → list_at new.lists 0 ≡ []
+    → IsListed old new number made items → IsListChange (IsShared old.closed) (IsShared new.closed) old.lists new.lists number made items
+IsListChange-listed old new number made items some empty empty_still is = record {
+  some = some;
+  still = the_still;
+  others = the_others;
+  changed = is.listed;
+  known = is.known;
+  fresh = the_fresh is.number;
+}
+  where
+    the_still : (other : ℕ) → IsShared old.closed other → IsShared new.closed other
+    the_still other (inl none) = inl none
+    the_still other (inr closed) = inr (is.closed other closed)
+
+    the_others : (other : ℕ) → other < length old.lists → (other ≢ number) ⊎ IsShared old.closed other → list_at new.lists other ≡ list_at old.lists other
+    the_others other below (inl apart) = is.others other below (inl apart)
+    the_others other below (inr (inl none)) = ap (list_at new.lists) none ∙ empty_still ∙ sym (ap (list_at old.lists) none ∙ empty)
+    the_others other below (inr (inr closed)) = is.others other below (inr closed)
+
+    the_fresh : (made ≡ number) ⊎ ((length old.lists ≤ made) ⊎ (closed_at new.closed made ≡ true)) → (made ≡ number) ⊎ ((length old.lists ≤ made) ⊎ IsShared new.closed made)
+    the_fresh (inl same) = inl same
+    the_fresh (inr (inl past)) = inr (inl past)
+    the_fresh (inr (inr closed)) = inr (inr (inr closed))
 
 module _ (records : List Record) (sid : ℕ) (state : Record) (below : sid < length records) (read : state ≡ record_at records sid) where
   numbers_in : (number : Record → ℕ) → sid < length (map number records)
@@ -46,13 +93,14 @@ module _ (records : List Record) (sid : ℕ) (state : Record) (below : sid < len
 
   -- ---- a list of transitions
 
-  module _ (old new : List (List (ℕ × ℕ))) (made : ℕ) (items : List (ℕ × ℕ)) (are : AreNumbers (transition_numbers records) old) (change : IsListChange old new state.transitions made items) where
+  module _ (old new : List (List (ℕ × ℕ))) (made : ℕ) (items : List (ℕ × ℕ)) (are : AreNumbers IsNone (transition_numbers records) old) (change : IsListChange IsNone IsNone old new state.transitions made items) where
     number : get_or (transition_numbers records) sid 0 ≡ state.transitions
     number = transition_number records sid below ∙ ap (λ (r : Record). r.transitions) (sym read)
 
     same : (i : ℕ) → i < length (transition_numbers records) → i ≢ sid → list_at new (get_or (transition_numbers records) i 0) ≡ list_at old (get_or (transition_numbers records) i 0)
     same i inside ne =
-        same_list (transition_numbers records) old new sid i are change.some change.empty change.empty_still (λ other less apart. change.others other less (λ e. apart (e ∙ sym number)))
+        same_list IsNone (transition_numbers records) old new sid i are change.some
+        (λ other less why. change.others other less (subst (λ (n : ℕ). (other ≢ n) ⊎ IsNone other) number why))
         (numbers_in (λ (r : Record). r.transitions)) inside ne
 
     same_transitions : (i : ℕ) → i < length records → i ≢ sid → list_at new (record_at records i).transitions ≡ list_at old (record_at records i).transitions
@@ -61,10 +109,11 @@ module _ (records : List Record) (sid : ℕ) (state : Record) (below : sid < len
         ∙ same i (omega (arith, inside, length-map records (λ (r : Record). r.transitions))) ne
         ∙ ap (list_at old) (transition_number records i inside)
 
-    numbers-led : AreNumbers (transition_numbers (set records sid (record state { transitions = made }))) new
+    numbers-led : AreNumbers IsNone (transition_numbers (set records sid (record state { transitions = made }))) new
     numbers-led =
-        subst (λ (ns : List ℕ). AreNumbers ns new) (sym (map-set (λ (r : Record). r.transitions) records sid (record state { transitions = made })))
-        (AreNumbers-set (transition_numbers records) old new sid made are change.some same (numbers_in (λ (r : Record). r.transitions)) change.known (subst (λ (n : ℕ). (made ≡ n) ⊎ (length old ≤ made)) (sym number) change.fresh))
+        subst (λ (ns : List ℕ). AreNumbers IsNone ns new) (sym (map-set (λ (r : Record). r.transitions) records sid (record state { transitions = made })))
+        (AreNumbers-set IsNone IsNone (transition_numbers records) old new sid made are change.some change.still same (numbers_in (λ (r : Record). r.transitions)) change.known
+        (subst (λ (n : ℕ). (made ≡ n) ⊎ ((length old ≤ made) ⊎ IsNone made)) (sym number) change.fresh))
 
     pub states-led : (matches : List (List ℕ)) → recorded_states new matches (set records sid (record state { transitions = made }))
         ≡ set (recorded_states old matches records) sid (record (state_at (recorded_states old matches records) sid) { transitions = items })
@@ -76,7 +125,7 @@ module _ (records : List Record) (sid : ℕ) (state : Record) (below : sid < len
         ∙ sym (ap (λ (s : State). record s { transitions = items }) (the_state old matches)))
 
   pub IsConsistent-led : (transitions new : Lists (ℕ × ℕ)) (matches : PatternLists) (limit made : ℕ) (items : List (ℕ × ℕ)) → IsConsistent records transitions matches limit
-      → IsListChange transitions.lists new.lists state.transitions made items → new.limit ≡ transitions.limit
+      → IsListChange IsNone IsNone transitions.lists new.lists state.transitions made items → new.limit ≡ transitions.limit
       → length new.lists + length (list_at transitions.lists state.transitions) ≡ length transitions.lists + length items
       → IsConsistent (set records sid (record state { transitions = made })) new matches limit
   IsConsistent-led transitions new matches limit made items consistent change same counted =
@@ -91,7 +140,7 @@ module _ (records : List Record) (sid : ℕ) (state : Record) (below : sid < len
         transitions_limit = same ∙ consistent.transitions_limit;
         matches_limit = consistent.matches_limit;
         transition_lists = numbers-led transitions.lists new.lists made items consistent.transition_lists change;
-        match_lists = subst (λ (ns : List ℕ). AreNumbers ns matches.lists) (sym (match_numbers-kept (record state { transitions = made }) refl)) consistent.match_lists;
+        match_lists = subst (λ (ns : List ℕ). AreNumbers (IsShared matches.closed) ns matches.lists) (sym (match_numbers-kept (record state { transitions = made }) refl)) consistent.match_lists;
         transitions_are = omega (
           arith,
           counted,
@@ -110,13 +159,15 @@ module _ (records : List Record) (sid : ℕ) (state : Record) (below : sid < len
 
   -- ---- a list of patterns
 
-  module _ (old new : List (List ℕ)) (made : ℕ) (items : List ℕ) (are : AreNumbers (match_numbers records) old) (change : IsListChange old new state.matches made items) where
+  module _ (was now : List Bool) (old new : List (List ℕ)) (made : ℕ) (items : List ℕ) (are : AreNumbers (IsShared was) (match_numbers records) old)
+      (change : IsListChange (IsShared was) (IsShared now) old new state.matches made items) where
     match_number_is : get_or (match_numbers records) sid 0 ≡ state.matches
     match_number_is = match_number records sid below ∙ ap (λ (r : Record). r.matches) (sym read)
 
     same_list_at : (i : ℕ) → i < length (match_numbers records) → i ≢ sid → list_at new (get_or (match_numbers records) i 0) ≡ list_at old (get_or (match_numbers records) i 0)
     same_list_at i inside ne =
-        same_list (match_numbers records) old new sid i are change.some change.empty change.empty_still (λ other less apart. change.others other less (λ e. apart (e ∙ sym match_number_is)))
+        same_list (IsShared was) (match_numbers records) old new sid i are change.some
+        (λ other less why. change.others other less (subst (λ (n : ℕ). (other ≢ n) ⊎ IsShared was other) match_number_is why))
         (numbers_in (λ (r : Record). r.matches)) inside ne
 
     same_matches : (i : ℕ) → i < length records → i ≢ sid → list_at new (record_at records i).matches ≡ list_at old (record_at records i).matches
@@ -125,10 +176,11 @@ module _ (records : List Record) (sid : ℕ) (state : Record) (below : sid < len
         ∙ same_list_at i (omega (arith, inside, length-map records (λ (r : Record). r.matches))) ne
         ∙ ap (list_at old) (match_number records i inside)
 
-    numbers-listed : AreNumbers (match_numbers (set records sid (record state { matches = made }))) new
+    numbers-listed : AreNumbers (IsShared now) (match_numbers (set records sid (record state { matches = made }))) new
     numbers-listed =
-        subst (λ (ns : List ℕ). AreNumbers ns new) (sym (map-set (λ (r : Record). r.matches) records sid (record state { matches = made })))
-        (AreNumbers-set (match_numbers records) old new sid made are change.some same_list_at (numbers_in (λ (r : Record). r.matches)) change.known (subst (λ (n : ℕ). (made ≡ n) ⊎ (length old ≤ made)) (sym match_number_is) change.fresh))
+        subst (λ (ns : List ℕ). AreNumbers (IsShared now) ns new) (sym (map-set (λ (r : Record). r.matches) records sid (record state { matches = made })))
+        (AreNumbers-set (IsShared was) (IsShared now) (match_numbers records) old new sid made are change.some change.still same_list_at (numbers_in (λ (r : Record). r.matches)) change.known
+        (subst (λ (n : ℕ). (made ≡ n) ⊎ ((length old ≤ made) ⊎ IsShared now made)) (sym match_number_is) change.fresh))
 
     pub states-listed : (transitions : List (List (ℕ × ℕ))) → recorded_states transitions new (set records sid (record state { matches = made }))
         ≡ set (recorded_states transitions old records) sid (record (state_at (recorded_states transitions old records) sid) { matches = items })
@@ -140,12 +192,12 @@ module _ (records : List Record) (sid : ℕ) (state : Record) (below : sid < len
         ∙ sym (ap (λ (s : State). record s { matches = items }) (the_state transitions old)))
 
   pub IsConsistent-listed : (transitions : Lists (ℕ × ℕ)) (matches new : PatternLists) (limit made : ℕ) (items : List ℕ) → IsConsistent records transitions matches limit
-      → IsListChange matches.lists new.lists state.matches made items → new.limit ≡ matches.limit
+      → IsListChange (IsShared matches.closed) (IsShared new.closed) matches.lists new.lists state.matches made items → new.limit ≡ matches.limit
       → new.count + length (list_at matches.lists state.matches) ≡ matches.count + length items
       → IsConsistent (set records sid (record state { matches = made })) transitions new limit
   IsConsistent-listed transitions matches new limit made items consistent change same counted =
       let states : List State = recorded_states transitions.lists matches.lists records in
-      let listed = states-listed matches.lists new.lists made items consistent.match_lists change transitions.lists in
+      let listed = states-listed matches.closed new.closed matches.lists new.lists made items consistent.match_lists change transitions.lists in
       let row : State = record (state_at states sid) { matches = items } in
       let inside = count transitions.lists matches.lists in
       let old = get_or_default states sid (new_state 0) (state_at states sid) inside in
@@ -154,8 +206,8 @@ module _ (records : List Record) (sid : ℕ) (state : Record) (below : sid < len
         states_within = omega (arith, length-set records sid (record state { matches = made }), consistent.states_within);
         transitions_limit = consistent.transitions_limit;
         matches_limit = same ∙ consistent.matches_limit;
-        transition_lists = subst (λ (ns : List ℕ). AreNumbers ns transitions.lists) (sym (transition_numbers-kept (record state { matches = made }) refl)) consistent.transition_lists;
-        match_lists = numbers-listed matches.lists new.lists made items consistent.match_lists change;
+        transition_lists = subst (λ (ns : List ℕ). AreNumbers IsNone ns transitions.lists) (sym (transition_numbers-kept (record state { matches = made }) refl)) consistent.transition_lists;
+        match_lists = numbers-listed matches.closed new.closed matches.lists new.lists made items consistent.match_lists change;
         transitions_are = omega (
           arith,
           consistent.transitions_are,
@@ -193,8 +245,8 @@ module _ (records : List Record) (sid : ℕ) (state : Record) (below : sid < len
         states_within = omega (arith, length-set records sid (record state { fail = fail }), consistent.states_within);
         transitions_limit = consistent.transitions_limit;
         matches_limit = consistent.matches_limit;
-        transition_lists = subst (λ (ns : List ℕ). AreNumbers ns transitions.lists) (sym (transition_numbers-kept (record state { fail = fail }) refl)) consistent.transition_lists;
-        match_lists = subst (λ (ns : List ℕ). AreNumbers ns matches.lists) (sym (match_numbers-kept (record state { fail = fail }) refl)) consistent.match_lists;
+        transition_lists = subst (λ (ns : List ℕ). AreNumbers IsNone ns transitions.lists) (sym (transition_numbers-kept (record state { fail = fail }) refl)) consistent.transition_lists;
+        match_lists = subst (λ (ns : List ℕ). AreNumbers (IsShared matches.closed) ns matches.lists) (sym (match_numbers-kept (record state { fail = fail }) refl)) consistent.match_lists;
         transitions_are = omega (
           arith,
           consistent.transitions_are,
@@ -212,7 +264,7 @@ module _ (records : List Record) (sid : ℕ) (state : Record) (below : sid < len
 -- ---- no state, one state more, or one less
 
 pub IsConsistent-none : (transitions : Lists (ℕ × ℕ)) (matches : PatternLists) (limit : ℕ) → limit ≤ 2147483646
-    → transitions ≡ record { lists = [] ∷ []; limit = limit } → matches ≡ record { lists = [] ∷ []; count = 1; limit = limit } → IsConsistent [] transitions matches limit
+    → transitions ≡ record { lists = [] ∷ []; limit = limit } → matches ≡ record { lists = [] ∷ []; closed = false ∷ []; count = 1; limit = limit } → IsConsistent [] transitions matches limit
 IsConsistent-none transitions matches limit small is is' = record {
   small = small;
   states_within = omega arith;
@@ -233,12 +285,12 @@ IsConsistent-push records transitions matches limit last consistent room none no
       states_within = omega (arith, length_push records last);
       transitions_limit = consistent.transitions_limit;
       matches_limit = consistent.matches_limit;
-      transition_lists = subst (λ (ns : List ℕ). AreNumbers ns transitions.lists)
+      transition_lists = subst (λ (ns : List ℕ). AreNumbers IsNone ns transitions.lists)
           (sym (map-append (λ (r : Record). r.transitions) records (last ∷ []) ∙ ap (λ (n : ℕ). transition_numbers records ++ n ∷ []) none))
-          (AreNumbers-push (transition_numbers records) transitions.lists consistent.transition_lists);
-      match_lists = subst (λ (ns : List ℕ). AreNumbers ns matches.lists)
+          (AreNumbers-push IsNone (transition_numbers records) transitions.lists refl consistent.transition_lists);
+      match_lists = subst (λ (ns : List ℕ). AreNumbers (IsShared matches.closed) ns matches.lists)
           (sym (map-append (λ (r : Record). r.matches) records (last ∷ []) ∙ ap (λ (n : ℕ). match_numbers records ++ n ∷ []) none'))
-          (AreNumbers-push (match_numbers records) matches.lists consistent.match_lists);
+          (AreNumbers-push (IsShared matches.closed) (match_numbers records) matches.lists (inl refl) consistent.match_lists);
       transitions_are = omega (
         arith,
         consistent.transitions_are,
@@ -271,10 +323,10 @@ IsConsistent-first records transitions matches limit states depth count consiste
       states_within = omega (arith, length-take count records, consistent.states_within);
       transitions_limit = consistent.transitions_limit;
       matches_limit = consistent.matches_limit;
-      transition_lists = subst (λ (ns : List ℕ). AreNumbers ns transitions.lists) (take-map (λ (r : Record). r.transitions) count records)
-          (AreNumbers-take (transition_numbers records) transitions.lists count consistent.transition_lists);
-      match_lists = subst (λ (ns : List ℕ). AreNumbers ns matches.lists) (take-map (λ (r : Record). r.matches) count records)
-          (AreNumbers-take (match_numbers records) matches.lists count consistent.match_lists);
+      transition_lists = subst (λ (ns : List ℕ). AreNumbers IsNone ns transitions.lists) (take-map (λ (r : Record). r.transitions) count records)
+          (AreNumbers-take IsNone (transition_numbers records) transitions.lists count consistent.transition_lists);
+      match_lists = subst (λ (ns : List ℕ). AreNumbers (IsShared matches.closed) ns matches.lists) (take-map (λ (r : Record). r.matches) count records)
+          (AreNumbers-take (IsShared matches.closed) (match_numbers records) matches.lists count consistent.match_lists);
       transitions_are = omega (
         arith,
         consistent.transitions_are,

@@ -18,20 +18,21 @@ IsList-in lists number some known =
     ]
 
 -- where one list was changed, every other state has the list that it had
-pub same_list : {X : Type 0} (numbers : List ℕ) (old new : List (List X)) (sid i : ℕ) → AreNumbers numbers old → 0 < length old → list_at old 0 ≡ [] → list_at new 0 ≡ []
-    → ((other : ℕ) → other < length old → other ≢ get_or numbers sid 0 → list_at new other ≡ list_at old other)
+pub same_list : {X : Type 0} (IsCommon : ℕ → Type 0) (numbers : List ℕ) (old new : List (List X)) (sid i : ℕ) → AreNumbers IsCommon numbers old → 0 < length old
+    → ((other : ℕ) → other < length old → (other ≢ get_or numbers sid 0) ⊎ IsCommon other → list_at new other ≡ list_at old other)
     → sid < length numbers → i < length numbers → i ≢ sid → list_at new (get_or numbers i 0) ≡ list_at old (get_or numbers i 0)
-same_list numbers old new sid i are some empty empty' others below inside ne =
+same_list IsCommon numbers old new sid i are some others below inside ne =
     elim (cases_eq (get_or numbers i 0) (get_or numbers sid 0)) as (λ _. list_at new (get_or numbers i 0) ≡ list_at old (get_or numbers i 0)) [
-      | inl same ↦ (let zero = are.apart i sid inside below ne same in ap (list_at new) zero ∙ empty' ∙ sym (ap (list_at old) zero ∙ empty))
-      | inr other ↦ others (get_or numbers i 0) (IsList-in old (get_or numbers i 0) some (are.known i inside)) other
+      | inl same ↦ others (get_or numbers i 0) (IsList-in old (get_or numbers i 0) some (are.known i inside)) (inr (are.apart i sid inside below ne same))
+      | inr other ↦ others (get_or numbers i 0) (IsList-in old (get_or numbers i 0) some (are.known i inside)) (inl other)
     ]
 
--- the changed list has the number that it had, or a new one
-pub AreNumbers-set : {X : Type 0} (numbers : List ℕ) (old new : List (List X)) (sid made : ℕ) → AreNumbers numbers old → 0 < length old
+-- the changed list has the number that it had, a new one, or a common one
+pub AreNumbers-set : {X : Type 0} (IsCommon Still : ℕ → Type 0) (numbers : List ℕ) (old new : List (List X)) (sid made : ℕ) → AreNumbers IsCommon numbers old → 0 < length old
+    → ((number : ℕ) → IsCommon number → Still number)
     → ((i : ℕ) → i < length numbers → i ≢ sid → list_at new (get_or numbers i 0) ≡ list_at old (get_or numbers i 0))
-    → sid < length numbers → IsList new made → (made ≡ get_or numbers sid 0) ⊎ (length old ≤ made) → AreNumbers (set numbers sid made) new
-AreNumbers-set {X = X} numbers old new sid made are some same below known fresh =
+    → sid < length numbers → IsList new made → (made ≡ get_or numbers sid 0) ⊎ ((length old ≤ made) ⊎ Still made) → AreNumbers Still (set numbers sid made) new
+AreNumbers-set {X = X} IsCommon Still numbers old new sid made are some still same below known fresh =
     record { known = the_known; apart = the_apart }
   where
     this : get_or (set numbers sid made) sid 0 ≡ made
@@ -49,31 +50,36 @@ AreNumbers-set {X = X} numbers old new sid made are some same below known fresh 
       | inr ne ↦ subst (λ (n : ℕ). IsList new n) (sym (other i ne)) (λ none. are.known i (omega (arith, count)) (sym (same i (omega (arith, count)) ne) ∙ none))
     ]
 
-    -- no other state has the number of the changed list
-    alone : (i : ℕ) → i < length numbers → i ≢ sid → get_or numbers i 0 ≡ made → made ≡ 0
-    alone i inside ne is = elim fresh [
-      | inl old_number ↦ sym is ∙ are.apart i sid inside below ne (is ∙ old_number)
-      | inr above ↦ absurd (omega (arith, IsList-in old (get_or numbers i 0) some (are.known i inside)))
+    -- another state that has the number of the changed list
+    common : (i : ℕ) → i < length numbers → i ≢ sid → get_or numbers i 0 ≡ made → Still made
+    common i inside ne is = elim fresh as (λ _. Still made) [
+      | inl old_number ↦ subst Still is (still (get_or numbers i 0) (are.apart i sid inside below ne (is ∙ old_number)))
+      | inr more ↦ elim more as (λ _. Still made) [
+        | inl above ↦ absurd (omega (arith, IsList-in old (get_or numbers i 0) some (are.known i inside)))
+        | inr closed ↦ closed
+      ]
     ]
 
     the_apart : (i j : ℕ) → i < length (set numbers sid made) → j < length (set numbers sid made) → i ≢ j → get_or (set numbers sid made) i 0 ≡ get_or (set numbers sid made) j 0
-        → get_or (set numbers sid made) i 0 ≡ 0
-    the_apart i j inside inside' ne is = elim (cases_eq i sid) as (λ _. get_or (set numbers sid made) i 0 ≡ 0) [
+        → Still (get_or (set numbers sid made) i 0)
+    the_apart i j inside inside' ne is = elim (cases_eq i sid) as (λ _. Still (get_or (set numbers sid made) i 0)) [
       | inl here ↦
           (let number : get_or (set numbers sid made) i 0 ≡ made = ap (λ (n : ℕ). get_or (set numbers sid made) n 0) here ∙ this in
           let there : j ≢ sid = λ e. ne (here ∙ sym e) in
-          number ∙ alone j (omega (arith, count)) there (sym (other j there) ∙ sym is ∙ number))
-      | inr there ↦ elim (cases_eq j sid) as (λ _. get_or (set numbers sid made) i 0 ≡ 0) [
+          subst Still (sym number) (common j (omega (arith, count)) there (sym (other j there) ∙ sym is ∙ number)))
+      | inr there ↦ elim (cases_eq j sid) as (λ _. Still (get_or (set numbers sid made) i 0)) [
         | inl here ↦
             (let number : get_or (set numbers sid made) j 0 ≡ made = ap (λ (n : ℕ). get_or (set numbers sid made) n 0) here ∙ this in
-            is ∙ number ∙ alone i (omega (arith, count)) there (sym (other i there) ∙ is ∙ number))
-        | inr also ↦ other i there ∙ are.apart i j (omega (arith, count)) (omega (arith, count)) ne (sym (other i there) ∙ is ∙ other j also)
+            subst Still (sym (is ∙ number)) (common i (omega (arith, count)) there (sym (other i there) ∙ is ∙ number)))
+        | inr also ↦
+            subst Still (sym (other i there))
+            (still (get_or numbers i 0) (are.apart i j (omega (arith, count)) (omega (arith, count)) ne (sym (other i there) ∙ is ∙ other j also)))
       ]
     ]
 
 -- one state more has the empty list
-pub AreNumbers-push : {X : Type 0} (numbers : List ℕ) (lists : List (List X)) → AreNumbers numbers lists → AreNumbers (numbers ++ 0 ∷ []) lists
-AreNumbers-push {X = X} numbers lists are = record { known = the_known; apart = the_apart }
+pub AreNumbers-push : {X : Type 0} (IsCommon : ℕ → Type 0) (numbers : List ℕ) (lists : List (List X)) → IsCommon 0 → AreNumbers IsCommon numbers lists → AreNumbers IsCommon (numbers ++ 0 ∷ []) lists
+AreNumbers-push {X = X} IsCommon numbers lists none_common are = record { known = the_known; apart = the_apart }
   where
     old : (i : ℕ) → i < length numbers → get_or (numbers ++ 0 ∷ []) i 0 ≡ get_or numbers i 0
     old i below = get_or_append_left numbers (0 ∷ []) 0 i below
@@ -90,30 +96,33 @@ AreNumbers-push {X = X} numbers lists are = record { known = the_known; apart = 
       ]
     ]
 
-    inner : (i j : ℕ) → i < length numbers → j < length (numbers ++ 0 ∷ []) → i ≢ j → get_or (numbers ++ 0 ∷ []) i 0 ≡ get_or (numbers ++ 0 ∷ []) j 0 → get_or (numbers ++ 0 ∷ []) i 0 ≡ 0
-    inner i j inside below ne is = elim (cases_order j (length numbers)) [
-      | inl same ↦ is ∙ last j below (omega arith)
-      | inr apart ↦ elim apart [
-        | inl also ↦ old i inside ∙ are.apart i j inside also ne (sym (old i inside) ∙ is ∙ old j also)
-        | inr above ↦ is ∙ last j below (omega arith)
+    empty : (i : ℕ) → get_or (numbers ++ 0 ∷ []) i 0 ≡ 0 → IsCommon (get_or (numbers ++ 0 ∷ []) i 0)
+    empty i is = subst IsCommon (sym is) none_common
+
+    inner : (i j : ℕ) → i < length numbers → j < length (numbers ++ 0 ∷ []) → i ≢ j → get_or (numbers ++ 0 ∷ []) i 0 ≡ get_or (numbers ++ 0 ∷ []) j 0 → IsCommon (get_or (numbers ++ 0 ∷ []) i 0)
+    inner i j inside below ne is = elim (cases_order j (length numbers)) as (λ _. IsCommon (get_or (numbers ++ 0 ∷ []) i 0)) [
+      | inl same ↦ empty i (is ∙ last j below (omega arith))
+      | inr apart ↦ elim apart as (λ _. IsCommon (get_or (numbers ++ 0 ∷ []) i 0)) [
+        | inl also ↦ subst IsCommon (sym (old i inside)) (are.apart i j inside also ne (sym (old i inside) ∙ is ∙ old j also))
+        | inr above ↦ empty i (is ∙ last j below (omega arith))
       ]
     ]
 
     the_apart : (i j : ℕ) → i < length (numbers ++ 0 ∷ []) → j < length (numbers ++ 0 ∷ []) → i ≢ j → get_or (numbers ++ 0 ∷ []) i 0 ≡ get_or (numbers ++ 0 ∷ []) j 0
-        → get_or (numbers ++ 0 ∷ []) i 0 ≡ 0
-    the_apart i j below below' ne is = elim (cases_order i (length numbers)) [
-      | inl same ↦ last i below (omega arith)
-      | inr apart ↦ elim apart [
+        → IsCommon (get_or (numbers ++ 0 ∷ []) i 0)
+    the_apart i j below below' ne is = elim (cases_order i (length numbers)) as (λ _. IsCommon (get_or (numbers ++ 0 ∷ []) i 0)) [
+      | inl same ↦ empty i (last i below (omega arith))
+      | inr apart ↦ elim apart as (λ _. IsCommon (get_or (numbers ++ 0 ∷ []) i 0)) [
         | inl inside ↦ inner i j inside below' ne is
-        | inr above ↦ last i below (omega arith)
+        | inr above ↦ empty i (last i below (omega arith))
       ]
     ]
 
 -- and so have the first states alone
-pub AreNumbers-take : {X : Type 0} (numbers : List ℕ) (lists : List (List X)) (count : ℕ) → AreNumbers numbers lists → AreNumbers (take count numbers) lists
-AreNumbers-take {X = X} numbers lists count are = record {
+pub AreNumbers-take : {X : Type 0} (IsCommon : ℕ → Type 0) (numbers : List ℕ) (lists : List (List X)) (count : ℕ) → AreNumbers IsCommon numbers lists → AreNumbers IsCommon (take count numbers) lists
+AreNumbers-take {X = X} IsCommon numbers lists count are = record {
   known = λ i below. subst (λ (n : ℕ). IsList lists n) (sym (old i below)) (are.known i (in_all i below));
-  apart = λ i j below below' ne is. old i below ∙ are.apart i j (in_all i below) (in_all j below') ne (sym (old i below) ∙ is ∙ old j below');
+  apart = λ i j below below' ne is. subst IsCommon (sym (old i below)) (are.apart i j (in_all i below) (in_all j below') ne (sym (old i below) ∙ is ∙ old j below'));
 }
   where
     in_all : (i : ℕ) → i < length (take count numbers) → i < length numbers

@@ -5,7 +5,7 @@ use Rattle.std.proofs.lemmas.Bool.{cases_eq, cases_order}
 use Rattle.std.proofs.lemmas.List.{length-map, get_or-map, map-set, map-append, take-map, get_or_past, ext_get_or, get_or-set_same, get_or-set_other}
 use Rattle.aho_lists.specs.Lists.{Lists, PatternLists, list_at, IsList}
 use Rattle.aho_table.specs.Table.{State, new_state, state_at, IsRising, AllRising}
-use Rattle.aho_table.specs.Inside.{LimitedStates, record_at, recorded_state, recorded_states, transition_numbers, match_numbers, AreNumbers}
+use Rattle.aho_table.specs.Inside.{LimitedStates, record_at, recorded_state, recorded_states, transition_numbers, match_numbers, IsNone, IsShared, AreNumbers}
 use Rattle.aho_table.specs.declared.links.states.Record.{Record}
 
 module _ (transitions : List (List (ℕ × ℕ))) (matches : List (List ℕ)) where
@@ -117,10 +117,10 @@ module _ (records : List Record) (transitions : Lists (ℕ × ℕ)) (matches : P
         ap (λ (t : LimitedStates). state_at t.states sid) (sym view) ∙ state_at-recorded_states transitions.lists matches.lists records sid record_in
         ∙ ap (recorded_state transitions.lists matches.lists) (sym read_here)
 
-    pub transitions_known : AreNumbers (transition_numbers records) transitions.lists → IsList transitions.lists state.transitions
+    pub transitions_known : AreNumbers IsNone (transition_numbers records) transitions.lists → IsList transitions.lists state.transitions
     transitions_known are = subst (λ (n : ℕ). IsList transitions.lists n) (transition_number records sid record_in ∙ ap (λ (r : Record). r.transitions) (sym read_here))
         (are.known sid (omega (arith, record_in, length-map records (λ (r : Record). r.transitions))))
 
-    pub matches_known : AreNumbers (match_numbers records) matches.lists → IsList matches.lists state.matches
+    pub matches_known : AreNumbers (IsShared matches.closed) (match_numbers records) matches.lists → IsList matches.lists state.matches
     matches_known are = subst (λ (n : ℕ). IsList matches.lists n) (match_number records sid record_in ∙ ap (λ (r : Record). r.matches) (sym read_here))
         (are.known sid (omega (arith, record_in, length-map records (λ (r : Record). r.matches))))

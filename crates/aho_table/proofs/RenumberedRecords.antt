@@ -7,7 +7,7 @@ use Rattle.std.proofs.lemmas.List.Elements.{length_all_zip}
 use Rattle.aho_lists.specs.Lists.{Lists, PatternLists, list_at}
 use Rattle.aho_lists.specs.Renaming.{IsTransitionLed}
 use Rattle.aho_table.specs.Table.{State, new_state}
-use Rattle.aho_table.specs.Inside.{record_at, recorded_state, recorded_states, transition_numbers, AreNumbers, IsConsistent, IsLinkLed}
+use Rattle.aho_table.specs.Inside.{record_at, recorded_state, recorded_states, transition_numbers, IsNone, IsShared, AreNumbers, IsConsistent, IsLinkLed}
 use Rattle.aho_table.specs.Remapping.{transposed}
 use Rattle.aho_table.specs.Renaming.{IsRenamed}
 use Rattle.aho_table.specs.declared.links.states.Record.{Record}
@@ -26,19 +26,19 @@ module _ (records swapped : List Record) (a b : ℕ) (of_a : a < length records)
   moved i = swap-at (record { transitions = 0; matches = 0; fail = 1; depth = 0 }) records swapped a b of_a of_b is i
 
   -- numbers that change places with their records
-  AreNumbers-swapped : {X : Type 0} (number : Record → ℕ) (lists : List (List X)) (read : (rs : List Record) (i : ℕ) → i < length rs → get_or (map number rs) i 0 ≡ number (record_at rs i))
-      → AreNumbers (map number records) lists → AreNumbers (map number swapped) lists
-  AreNumbers-swapped {X = X} number lists read are = record {
+  AreNumbers-swapped : {X : Type 0} (IsCommon : ℕ → Type 0) (number : Record → ℕ) (lists : List (List X)) (read : (rs : List Record) (i : ℕ) → i < length rs → get_or (map number rs) i 0 ≡ number (record_at rs i))
+      → AreNumbers IsCommon (map number records) lists → AreNumbers IsCommon (map number swapped) lists
+  AreNumbers-swapped {X = X} IsCommon number lists read are = record {
     known = λ i below.
         let inside : i < length records = omega (arith, same_length, length-map swapped number) in
         subst (λ (n : ℕ). AreKnown n) (sym (at i inside)) (are.known (transposed a b i) (omega (arith, place i inside, length-map records number)));
     apart = λ i j below below' ne same.
         let inside : i < length records = omega (arith, same_length, length-map swapped number) in
         let inside' : j < length records = omega (arith, same_length, length-map swapped number) in
-        at i inside
-        ∙ are.apart (transposed a b i) (transposed a b j) (omega (arith, place i inside, length-map records number)) (omega (arith, place j inside', length-map records number))
+        subst IsCommon (sym (at i inside))
+        (are.apart (transposed a b i) (transposed a b j) (omega (arith, place i inside, length-map records number)) (omega (arith, place j inside', length-map records number))
         (λ e. ne (sym (transposed-twice a b i) ∙ ap (transposed a b) e ∙ transposed-twice a b j))
-        (sym (at i inside) ∙ same ∙ at j inside');
+        (sym (at i inside) ∙ same ∙ at j inside'));
   }
     where
       AreKnown : ℕ → Type 0
@@ -75,8 +75,8 @@ module _ (records swapped : List Record) (a b : ℕ) (of_a : a < length records)
         states_within = omega (arith, same_length, old.states_within);
         transitions_limit = old.transitions_limit;
         matches_limit = old.matches_limit;
-        transition_lists = AreNumbers-swapped (λ (r : Record). r.transitions) transitions.lists transition_number old.transition_lists;
-        match_lists = AreNumbers-swapped (λ (r : Record). r.matches) matches.lists match_number old.match_lists;
+        transition_lists = AreNumbers-swapped IsNone (λ (r : Record). r.transitions) transitions.lists transition_number old.transition_lists;
+        match_lists = AreNumbers-swapped (IsShared matches.closed) (λ (r : Record). r.matches) matches.lists match_number old.match_lists;
         transitions_are = old.transitions_are ∙ sym (transitions_count-swapped states now a b (omega arith) (omega arith) (recorded_states-swapped transitions.lists matches.lists));
         matches_are = old.matches_are ∙ sym (matches_count-swapped states now a b (omega arith) (omega arith) (recorded_states-swapped transitions.lists matches.lists));
       }
@@ -122,11 +122,11 @@ module _ (leads : ℕ → ℕ → Type 0) (before after : Lists (ℕ × ℕ)) (m
         states_within = omega (arith, length_all_zip (IsLinkLed leads) old new all, was.states_within);
         transitions_limit = same ∙ was.transitions_limit;
         matches_limit = was.matches_limit;
-        transition_lists = subst (λ (ns : List ℕ). AreNumbers ns after.lists) (same_numbers leads (λ (r : Record). r.transitions) (λ x y led. led.transitions) old new all) (record {
+        transition_lists = subst (λ (ns : List ℕ). AreNumbers IsNone ns after.lists) (same_numbers leads (λ (r : Record). r.transitions) (λ x y led. led.transitions) old new all) (record {
           known = λ i below none. was.transition_lists.known i below (none-led (IsTransitionLed leads) _ _ (lists (get_or (transition_numbers old) i 0)) none);
           apart = was.transition_lists.apart;
         });
-        match_lists = subst (λ (ns : List ℕ). AreNumbers ns matches.lists) (same_numbers leads (λ (r : Record). r.matches) (λ x y led. led.matches) old new all) was.match_lists;
+        match_lists = subst (λ (ns : List ℕ). AreNumbers (IsShared matches.closed) ns matches.lists) (same_numbers leads (λ (r : Record). r.matches) (λ x y led. led.matches) old new all) was.match_lists;
         transitions_are = count ∙ was.transitions_are ∙ sym (transitions_count-renamed leads states now renamed);
         matches_are = was.matches_are ∙ sym (matches_count-renamed leads states now renamed);
       }

@@ -1,7 +1,7 @@
 -- The inside of a table: what its records and its stores of lists make of its states, the classes of bytes, and the rows by them.
-use Rattle.std.specs.Prelude.{◌≡◌, ◌≢◌, ℕ, ◌+◌, ◌-◌, ◌<◌, ◌≤◌, ◌⊎◌, Bool, nat_lt, List, [], ◌∷◌, map, length, slice_index, slice_index_or}
+use Rattle.std.specs.Prelude.{◌≡◌, ◌≢◌, ℕ, ◌+◌, ◌-◌, ◌<◌, ◌≤◌, ◌⊎◌, Bool, true, nat_lt, List, [], ◌∷◌, map, length, slice_index, slice_index_or}
 use Rattle.aho_base.specs.Numbers.{greatest_index}
-use Rattle.aho_lists.specs.Lists.{Lists, PatternLists, list_at, IsList}
+use Rattle.aho_lists.specs.Lists.{Lists, PatternLists, list_at, closed_at, IsList}
 use Rattle.aho_lists.specs.Renaming.{IsLed}
 use Rattle.aho_table.specs.Alphabet.{class_of, class_count}
 use Rattle.aho_table.specs.Table.{State, state_at, transition_at, transitions_count, matches_count}
@@ -42,19 +42,26 @@ transition_numbers records = map (λ (state : Record). state.transitions) record
 abbrev pub match_numbers : List Record → List ℕ
 match_numbers records = map (λ (state : Record). state.matches) records
 
--- each number is that of a list, and no two are of one list, but of the empty one
-pub record AreNumbers {X : Type 0} (numbers : List ℕ) (lists : List (List X)) : Type 0 where
-  pub known : (i : ℕ) → i < length numbers → IsList lists (slice_index numbers i)
-  pub apart : (i j : ℕ) → i < length numbers → j < length numbers → i ≢ j → slice_index numbers i ≡ slice_index numbers j → slice_index numbers i ≡ 0
+-- the numbers that more than one state may have: that of the empty list, and of patterns that of a closed list too
+abbrev pub IsNone : ℕ → Type 0
+IsNone number = number ≡ 0
 
--- each state has lists of its own, and no store has others; no index is above the limit
+abbrev pub IsShared : List Bool → ℕ → Type 0
+IsShared closed number = (number ≡ 0) ⊎ (closed_at closed number ≡ true)
+
+-- each number is that of a list, and no two are of one list, but of a common one
+pub record AreNumbers {X : Type 0} (IsCommon : ℕ → Type 0) (numbers : List ℕ) (lists : List (List X)) : Type 0 where
+  pub known : (i : ℕ) → i < length numbers → IsList lists (slice_index numbers i)
+  pub apart : (i j : ℕ) → i < length numbers → j < length numbers → i ≢ j → slice_index numbers i ≡ slice_index numbers j → IsCommon (slice_index numbers i)
+
+-- each state has lists of its own, or shares one of patterns that is closed; no index is above the limit
 pub record IsConsistent (records : List Record) (transitions : Lists (ℕ × ℕ)) (matches : PatternLists) (limit : ℕ) : Type 0 where
   pub small : limit ≤ greatest_index
   pub states_within : length records ≤ limit + 1
   pub transitions_limit : transitions.limit ≡ limit
   pub matches_limit : matches.limit ≡ limit
-  pub transition_lists : AreNumbers (transition_numbers records) transitions.lists
-  pub match_lists : AreNumbers (match_numbers records) matches.lists
+  pub transition_lists : AreNumbers IsNone (transition_numbers records) transitions.lists
+  pub match_lists : AreNumbers (IsShared matches.closed) (match_numbers records) matches.lists
   pub transitions_are : length transitions.lists ≡ transitions_count (recorded_states transitions.lists matches.lists records)
   pub matches_are : matches.count ≡ matches_count (recorded_states transitions.lists matches.lists records)
 

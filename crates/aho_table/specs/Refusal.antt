@@ -5,7 +5,7 @@ use Rattle.aho_base.specs.declared.error.BuildError.TheVariants.{StateIDOverflow
 pub use Rattle.aho_lists.specs.Refusal.{refusal_at, IsRefusalOf}
 use Rattle.aho_table.specs.Table.{State, lists_byte, transitions_count}
 
--- the refusal of a row that starts at this index: the limit and the index, where it is above the limit, else want of memory
+-- the refusal of a row that starts at this index: the limit and the index, where it is above the limit, else out of memory
 abbrev pub row_refusal_at : ℕ → ℕ → BuildError
 row_refusal_at limit start = if nat_lt limit start then StateIDOverflow (limit) start else OutOfMemory
 

@@ -118,7 +118,7 @@ impl Table {
     ///
     /// # Errors
     ///
-    /// `StateIDOverflow` where that number is above the limit; else want of memory. The table is then unchanged.
+    /// `StateIDOverflow` where that number is above the limit; else out of memory. The table is then unchanged.
     pub fn add_state(&mut self, depth: SmallIndex) -> Result<StateID, BuildError>
         ensures number { IfOk result (λ sid. sid ≡ length self.old.states) }
         ensures added { OnOk result
@@ -144,7 +144,7 @@ impl Table {
     ///
     /// # Errors
     ///
-    /// `StateIDOverflow` where one transition more has an index above the limit; else want of memory. The table is then
+    /// `StateIDOverflow` where one transition more has an index above the limit; else out of memory. The table is then
     /// unchanged.
     pub fn set(&mut self, sid: StateID, byte: u8, next: StateID) -> Result<(), BuildError>
         requires added { sid < length self.old.states }
@@ -171,7 +171,7 @@ impl Table {
     ///
     /// # Errors
     ///
-    /// `StateIDOverflow` where one state more, or one transition more, has an index above the limit; else want of memory. The
+    /// `StateIDOverflow` where one state more, or one transition more, has an index above the limit; else out of memory. The
     /// table is then unchanged.
     pub fn follow_or_add(
         &mut self,
@@ -220,7 +220,7 @@ impl Table {
     ///
     /// # Errors
     ///
-    /// `StateIDOverflow` where one listed pattern more has an index above the limit; else want of memory. The table is then
+    /// `StateIDOverflow` where one listed pattern more has an index above the limit; else out of memory. The table is then
     /// unchanged.
     pub fn add_match(&mut self, sid: StateID, pattern: PatternID) -> Result<(), BuildError>
         requires added { sid < length self.old.states }
@@ -238,7 +238,7 @@ impl Table {
     ///
     /// # Errors
     ///
-    /// `StateIDOverflow` where so many listed patterns more have an index above the limit; else want of memory. The table is
+    /// `StateIDOverflow` where so many listed patterns more have an index above the limit; else out of memory. The table is
     /// then unchanged.
     pub fn append_matches(&mut self, sid: StateID, from: StateID) -> Result<(), BuildError>
         requires added { sid < length self.old.states }
@@ -278,7 +278,7 @@ impl Table {
     /// # Errors
     ///
     /// `StateIDOverflow` where the row would start above the limit: `requested` is that start, which is the count of
-    /// entries before it. Else want of memory. The table is then unchanged.
+    /// entries before it. Else out of memory. The table is then unchanged.
     pub fn add_row(&mut self, sid: StateID) -> Result<(), BuildError>
         requires added { sid < length self.old.states }
         requires alike { LeadsAlike self.old.classes (state_at self.old.states sid).transitions }
@@ -437,7 +437,7 @@ impl Table {
     ///
     /// # Errors
     ///
-    /// Want of memory.
+    /// Out of memory.
     pub fn try_clone(&self) -> Result<Table, AllocError>
         ensures same { IfOk result (λ table. table ≡ self.now) }
     {

@@ -86,7 +86,7 @@ impl Remapper {
     ///
     /// # Errors
     ///
-    /// Want of memory.
+    /// Out of memory.
     pub fn new<R: Remappable>(alloc: Global, r: &R) -> Result<Remapper, AllocError>
         ensures stay { IfOk result (λ places. places ≡ range_with_len 0 (length (R.states r.now))) }
     {

@@ -137,6 +137,30 @@ fn iterators_give_what_was_listed(rt: HostRuntime) {
     patterns_are_counted(&rt, &table, second);
 }
 
+// The state lists these patterns.
+fn lists_these(rt: &impl Abort, alloc: Global, table: &Table, sid: StateID, wanted: &[PatternID])
+    requires within { sid < length table.now.states }
+{
+    let patterns = iterated(rt, alloc, table, sid);
+    assert_same(rt, patterns.as_slice(), wanted);
+}
+
+// FAIL lists what DEAD lists, and then either of them one pattern more.
+#[test]
+fn states_share_a_list(rt: HostRuntime) {
+    let mut table = two_states(&rt, rt.alloc());
+    let (first, second) = (pattern(&rt, 7), pattern(&rt, 2));
+    table.add_match(DEAD, first).expect(&rt, "a pattern");
+    table.append_matches(FAIL, DEAD).expect(&rt, "a shared one");
+    lists_these(&rt, rt.alloc(), &table, FAIL, [first].as_slice());
+    table.add_match(DEAD, second).expect(&rt, "another pattern");
+    lists_these(&rt, rt.alloc(), &table, DEAD, [first, second].as_slice());
+    lists_these(&rt, rt.alloc(), &table, FAIL, [first].as_slice());
+    assert_same(&rt, table.matches_count(), 4);
+    assert_same(&rt, table.append_matches(DEAD, FAIL), Err(overflow()));
+    lists_these(&rt, rt.alloc(), &table, DEAD, [first, second].as_slice());
+}
+
 #[test]
 fn a_row_starts_within_the_limit(rt: HostRuntime) {
     let mut table = two_states(&rt, rt.alloc());

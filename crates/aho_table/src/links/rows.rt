@@ -69,7 +69,7 @@ impl Rows {
     ///
     /// # Errors
     ///
-    /// Want of memory. The rows are then unchanged.
+    /// Out of memory. The rows are then unchanged.
     pub(super) fn add(&mut self, transitions: Transitions<'_>) -> Result<(), AllocError>
         requires rising { IsRising transitions }
         requires alike { LeadsAlike self.old.classes transitions }

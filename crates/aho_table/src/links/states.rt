@@ -106,7 +106,7 @@ impl States {
     ///
     /// # Errors
     ///
-    /// `StateIDOverflow` where that number is above the limit; else want of memory. Nothing is then changed.
+    /// `StateIDOverflow` where that number is above the limit; else out of memory. Nothing is then changed.
     pub(super) fn add_state(&mut self, depth: SmallIndex) -> Result<StateID, BuildError>
         ensures number { IfOk result (λ sid. sid ≡ length self.old.states) }
         ensures added { OnOk result
@@ -139,7 +139,7 @@ impl States {
     ///
     /// # Errors
     ///
-    /// `StateIDOverflow` where one transition more has an index above the limit; else want of memory. Nothing is then
+    /// `StateIDOverflow` where one transition more has an index above the limit; else out of memory. Nothing is then
     /// changed.
     pub(super) fn set(&mut self, sid: StateID, byte: u8, next: StateID) -> Result<(), BuildError>
         requires added { sid < length self.old.states }
@@ -179,7 +179,7 @@ impl States {
     ///
     /// # Errors
     ///
-    /// `StateIDOverflow` where one listed pattern more has an index above the limit; else want of memory. Nothing is then
+    /// `StateIDOverflow` where one listed pattern more has an index above the limit; else out of memory. Nothing is then
     /// changed.
     pub(super) fn add_match(&mut self, sid: StateID, pattern: PatternID) -> Result<(), BuildError>
         requires added { sid < length self.old.states }
@@ -206,7 +206,7 @@ impl States {
     ///
     /// # Errors
     ///
-    /// `StateIDOverflow` where so many listed patterns more have an index above the limit; else want of memory. Nothing is
+    /// `StateIDOverflow` where so many listed patterns more have an index above the limit; else out of memory. Nothing is
     /// then changed.
     pub(super) fn append_matches(&mut self, sid: StateID, from: StateID) -> Result<(), BuildError>
         requires added { sid < length self.old.states }
@@ -375,7 +375,7 @@ impl States {
     ///
     /// # Errors
     ///
-    /// Want of memory.
+    /// Out of memory.
     pub(super) fn try_clone(&self) -> Result<States, AllocError>
         ensures same { IfOk result (λ states. states ≡ self.now) }
     {

@@ -4,10 +4,10 @@ use Rattle.std.proofs.Math.ListN.{set}
 use Rattle.aho_lists.specs.Lists.{list_at}
 use Rattle.aho_table.specs.Table.{State, state_at}
 use Rattle.std.proofs.lemmas.List.{length_push}
-use Rattle.aho_table.specs.Inside.{LimitedStates, recorded_states, IsConsistent}
+use Rattle.aho_table.specs.Inside.{LimitedStates, recorded_states, IsShared, IsConsistent}
 use Rattle.aho_table.specs.declared.links.states.Record.{Record}
 use Rattle.aho_table.proofs.Records.{read_in, read_is, read_here, matches_known, same_table}
-use Rattle.aho_table.proofs.Changes.{IsListChange, states-listed, IsConsistent-listed}
+use Rattle.aho_table.proofs.Changes.{IsListChange, IsListChange-listed, states-listed, IsConsistent-listed}
 use Rattle.aho_table.proofs.links.states.States.add_match.Goals as goal
 
 pub record_of-state-requires : goal.record_of-state-requires
@@ -22,17 +22,12 @@ push-requires c = record {
 pub replace-requires : goal.replace-requires
 replace-requires c = record { added = read_in c.self.inside.records.items c.self.inside.transitions c.self.inside.matches c.self.inside.limit c.args.sid c.args.self.now c.self.view_is c.requires.added c.self.inside.records.items refl }
 
-the_change : (c : goal.After-replace) → IsListChange c.self.inside.matches.lists c.push.new.self.lists c.record_of-state.result.matches c.in_ok-list.list
+the_change : (c : goal.After-replace) → IsListChange (IsShared c.self.inside.matches.closed) (IsShared c.push.new.self.closed) c.self.inside.matches.lists c.push.new.self.lists c.record_of-state.result.matches c.in_ok-list.list
     (list_at c.self.inside.matches.lists c.record_of-state.result.matches ++ c.args.pattern ∷ [])
-the_change c = record {
-  some = c.facts.ensures.some;
-  empty = c.facts.ensures.empty;
-  empty_still = c.facts-2.ensures.empty;
-  others = c.in_ok-list.ensures.listed.others;
-  changed = c.in_ok-list.ensures.listed.listed;
-  known = c.in_ok-list.ensures.listed.known;
-  fresh = c.in_ok-list.ensures.listed.number;
-}
+the_change c =
+    IsListChange-listed c.self.inside.matches c.push.new.self c.record_of-state.result.matches c.in_ok-list.list
+    (list_at c.self.inside.matches.lists c.record_of-state.result.matches ++ c.args.pattern ∷ [])
+    c.facts.ensures.some c.facts.ensures.empty c.facts-2.ensures.empty c.in_ok-list.ensures.listed
 
 pub invariant_of-self-2 : goal.invariant_of-self-2
 invariant_of-self-2 c =
@@ -57,7 +52,7 @@ returns-clause-listed c =
     ∙ states-listed c.self.inside.records.items c.args.sid c.record_of-state.result
     (read_in c.self.inside.records.items c.self.inside.transitions c.self.inside.matches c.self.inside.limit c.args.sid c.args.self.now c.self.view_is c.requires.added c.self.inside.records.items refl)
     (read_here c.self.inside.records.items c.self.inside.transitions c.self.inside.matches c.self.inside.limit c.args.sid c.args.self.now c.self.view_is c.requires.added c.deref.result.now c.deref.ensures.value c.record_of-state.result c.record_of-state.ensures.found)
-    c.self.inside.matches.lists c.push.new.self.lists c.in_ok-list.list
+    c.self.inside.matches.closed c.push.new.self.closed c.self.inside.matches.lists c.push.new.self.lists c.in_ok-list.list
     (list_at c.self.inside.matches.lists c.record_of-state.result.matches ++ c.args.pattern ∷ [])
     c.self.invariant.match_lists (the_change c) c.self.inside.transitions.lists
     ∙ ap (λ (t : LimitedStates). set t.states c.args.sid (record (state_at t.states c.args.sid) { matches = list_at c.self.inside.matches.lists c.record_of-state.result.matches ++ c.args.pattern ∷ [] })) c.self.view_is

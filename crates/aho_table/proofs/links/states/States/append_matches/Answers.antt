@@ -6,10 +6,10 @@ use Rattle.aho_lists.specs.Lists.{list_at}
 use Rattle.aho_lists.proofs.Results.{IfErr-given}
 use Rattle.aho_table.specs.Refusal.{IsRefusalOf}
 use Rattle.aho_table.specs.Table.{State, state_at, matches_in, matches_count}
-use Rattle.aho_table.specs.Inside.{LimitedStates, recorded_states, IsConsistent}
+use Rattle.aho_table.specs.Inside.{LimitedStates, recorded_states, IsShared, IsConsistent}
 use Rattle.aho_table.specs.declared.links.states.Record.{Record}
 use Rattle.aho_table.proofs.Records.{read_in, read_is, read_here, matches_known, same_table}
-use Rattle.aho_table.proofs.Changes.{IsListChange, states-listed, IsConsistent-listed}
+use Rattle.aho_table.proofs.Changes.{IsListChange, IsListChange-listed, states-listed, IsConsistent-listed}
 use Rattle.aho_table.proofs.Refusals.{IsRefusalOf-same}
 use Rattle.aho_table.proofs.links.states.States.append_matches.Goals as goal
 
@@ -34,7 +34,7 @@ returns-in_err-joined-clause-refused c =
     let other = ap (λ (s : State). length s.matches) (read_is c.self.inside.records.items c.self.inside.transitions c.self.inside.matches c.self.inside.limit c.args.from c.args.self.now c.self.view_is c.requires.from c.deref-2.result.now c.deref-2.ensures.value c.record_of-other.result c.record_of-other.ensures.found) in
     let count = ap (λ (t : LimitedStates). matches_count t.states) c.self.view_is in
     let size : c.self.inside.matches.count + length (list_at c.self.inside.matches.lists c.record_of-other.result.matches) ≡ matches_count c.args.self.now.states + length (matches_in c.args.self.now.states c.args.from) =
-        omega (arith, other, count, c.self.invariant.matches_are)
+    omega (arith, other, count, c.self.invariant.matches_are)
     in
     IfErr-given (IsRefusalOf c.args.self.now.limit (matches_count c.args.self.now.states + length (matches_in c.args.self.now.states c.args.from)))
     c.from_residual.result c.in_err-joined.field-0.0 c.from_residual.ensures.1
@@ -43,17 +43,12 @@ returns-in_err-joined-clause-refused c =
 pub replace-requires : goal.replace-requires
 replace-requires c = record { added = read_in c.self.inside.records.items c.self.inside.transitions c.self.inside.matches c.self.inside.limit c.args.sid c.args.self.now c.self.view_is c.requires.added c.self.inside.records.items refl }
 
-the_change : (c : goal.After-replace) → IsListChange c.self.inside.matches.lists c.join.new.self.lists c.record_of-state.result.matches c.in_ok-joined.joined
+the_change : (c : goal.After-replace) → IsListChange (IsShared c.self.inside.matches.closed) (IsShared c.join.new.self.closed) c.self.inside.matches.lists c.join.new.self.lists c.record_of-state.result.matches c.in_ok-joined.joined
     (list_at c.self.inside.matches.lists c.record_of-state.result.matches ++ list_at c.self.inside.matches.lists c.record_of-other.result.matches)
-the_change c = record {
-  some = c.facts.ensures.some;
-  empty = c.facts.ensures.empty;
-  empty_still = c.facts-2.ensures.empty;
-  others = c.in_ok-joined.ensures.listed.others;
-  changed = c.in_ok-joined.ensures.listed.listed;
-  known = c.in_ok-joined.ensures.listed.known;
-  fresh = c.in_ok-joined.ensures.listed.number;
-}
+the_change c =
+    IsListChange-listed c.self.inside.matches c.join.new.self c.record_of-state.result.matches c.in_ok-joined.joined
+    (list_at c.self.inside.matches.lists c.record_of-state.result.matches ++ list_at c.self.inside.matches.lists c.record_of-other.result.matches)
+    c.facts.ensures.some c.facts.ensures.empty c.facts-2.ensures.empty c.in_ok-joined.ensures.listed
 
 pub invariant_of-self-2 : goal.invariant_of-self-2
 invariant_of-self-2 c =
@@ -80,7 +75,7 @@ returns-clause-appended c =
     ∙ states-listed c.self.inside.records.items c.args.sid c.record_of-state.result
     (read_in c.self.inside.records.items c.self.inside.transitions c.self.inside.matches c.self.inside.limit c.args.sid c.args.self.now c.self.view_is c.requires.added c.self.inside.records.items refl)
     (read_here c.self.inside.records.items c.self.inside.transitions c.self.inside.matches c.self.inside.limit c.args.sid c.args.self.now c.self.view_is c.requires.added c.deref.result.now c.deref.ensures.value c.record_of-state.result c.record_of-state.ensures.found)
-    c.self.inside.matches.lists c.join.new.self.lists c.in_ok-joined.joined
+    c.self.inside.matches.closed c.join.new.self.closed c.self.inside.matches.lists c.join.new.self.lists c.in_ok-joined.joined
     (list_at c.self.inside.matches.lists c.record_of-state.result.matches ++ more)
     c.self.invariant.match_lists (the_change c) c.self.inside.transitions.lists
     ∙ ap (λ (t : LimitedStates). set t.states c.args.sid (record (state_at t.states c.args.sid) { matches = list_at c.self.inside.matches.lists c.record_of-state.result.matches ++ more })) c.self.view_is

@@ -1,5 +1,5 @@
 -- No states, and stores without lists.
-use Rattle.std.proofs.Common.{◌≡◌, ℕ, List, [], ◌∷◌, min, sym, ap, subst, ◌∙◌, arith}
+use Rattle.std.proofs.Common.{◌≡◌, ℕ, List, [], ◌∷◌, false, min, sym, ap, subst, ◌∙◌, arith}
 use Rattle.aho_lists.specs.Lists.{Lists, PatternLists}
 use Rattle.aho_table.specs.Inside.{recorded_states, IsConsistent}
 use Rattle.aho_table.specs.declared.links.states.Record.{Record}
@@ -16,7 +16,7 @@ invariant_of-result c =
     subst (λ (rs : List Record). IsConsistent rs c.new-2.result c.new-3.result c.min.result) (sym c.new.ensures.items)
     (IsConsistent-none c.new-2.result c.new-3.result c.min.result (omega arith)
     (c.new-2.ensures.empty ∙ ap (λ (n : ℕ). let s : Lists (ℕ × ℕ) = record { lists = [] ∷ []; limit = n } in s) (sym limit))
-    (c.new-3.ensures.empty ∙ ap (λ (n : ℕ). let s : PatternLists = record { lists = [] ∷ []; count = 1; limit = n } in s) (sym limit)))
+    (c.new-3.ensures.empty ∙ ap (λ (n : ℕ). let s : PatternLists = record { lists = [] ∷ []; closed = false ∷ []; count = 1; limit = n } in s) (sym limit)))
 
 pub returns : goal.returns
 returns c = record {

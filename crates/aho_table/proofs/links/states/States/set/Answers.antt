@@ -5,11 +5,11 @@ use Rattle.aho_lists.specs.Lists.{Lists, list_at}
 use Rattle.aho_lists.specs.TransitionList.{with_transition, lists_transition}
 use Rattle.aho_lists.proofs.Families.{set_transition_in-count, number_after-fresh}
 use Rattle.aho_table.specs.Table.{State, state_at, transitions_count}
-use Rattle.aho_table.specs.Inside.{LimitedStates, recorded_states, IsConsistent}
+use Rattle.aho_table.specs.Inside.{LimitedStates, recorded_states, IsNone, IsConsistent}
 use Rattle.aho_table.specs.declared.links.states.Record.{Record}
 use Rattle.aho_table.proofs.TransitionLists.{length-with_transition}
 use Rattle.aho_table.proofs.Records.{read_in, read_is, read_here, transitions_known, same_table}
-use Rattle.aho_table.proofs.Changes.{IsListChange, states-led, IsConsistent-led}
+use Rattle.aho_table.proofs.Changes.{IsListChange, IsListChange-alone, states-led, IsConsistent-led}
 use Rattle.aho_table.proofs.links.states.States.set.Goals as goal
 
 pub record_of-state-requires : goal.record_of-state-requires
@@ -29,17 +29,13 @@ returns-in_err-list-clause-there c listed =
 pub replace-requires : goal.replace-requires
 replace-requires c = record { added = read_in c.self.inside.records.items c.self.inside.transitions c.self.inside.matches c.self.inside.limit c.args.sid c.args.self.now c.self.view_is c.requires.added c.self.inside.records.items refl }
 
-the_change : (c : goal.After-replace) → IsListChange c.self.inside.transitions.lists c.set.new.self.lists c.record_of-state.result.transitions c.in_ok-list.list
+the_change : (c : goal.After-replace) → IsListChange IsNone IsNone c.self.inside.transitions.lists c.set.new.self.lists c.record_of-state.result.transitions c.in_ok-list.list
     (with_transition (list_at c.self.inside.transitions.lists c.record_of-state.result.transitions) c.args.byte c.args.next)
-the_change c = record {
-  some = c.facts.ensures.some;
-  empty = c.facts.ensures.empty;
-  empty_still = c.facts-2.ensures.empty;
-  others = c.in_ok-list.ensures.others;
-  changed = c.in_ok-list.ensures.changed;
-  known = c.in_ok-list.ensures.known;
-  fresh = number_after-fresh c.self.inside.transitions.lists c.record_of-state.result.transitions c.args.byte c.in_ok-list.list c.in_ok-list.ensures.number;
-}
+the_change c =
+    IsListChange-alone c.self.inside.transitions.lists c.set.new.self.lists c.record_of-state.result.transitions c.in_ok-list.list
+    (with_transition (list_at c.self.inside.transitions.lists c.record_of-state.result.transitions) c.args.byte c.args.next)
+    c.facts.ensures.some c.facts.ensures.empty c.facts-2.ensures.empty c.in_ok-list.ensures.others c.in_ok-list.ensures.changed c.in_ok-list.ensures.known
+    (number_after-fresh c.self.inside.transitions.lists c.record_of-state.result.transitions c.args.byte c.in_ok-list.list c.in_ok-list.ensures.number)
 
 pub invariant_of-self-2 : goal.invariant_of-self-2
 invariant_of-self-2 c =
