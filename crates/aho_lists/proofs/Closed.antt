@@ -1,7 +1,6 @@
 -- A list that is closed: it has what it had, and so has every other.
-use Rattle.std.proofs.Common.{◌≡◌, ◌≢◌, ℕ, ◌+◌, ◌-◌, ◌<◌, ◌≤◌, ◌⊎◌, true, List, [], ◌++◌, length, refl, sym, ap, subst, ◌∙◌, inl, inr, arith}
+use Rattle.std.proofs.Common.{◌≡◌, ℕ, ◌+◌, ◌-◌, ◌<◌, ◌≤◌, true, List, ◌++◌, sym, ap, subst, ◌∙◌, inl, inr, arith}
 use Rattle.std.proofs.lemmas.Bool.{cases_eq}
-use Rattle.aho_base.specs.Numbers.{greatest_index}
 use Rattle.aho_lists.specs.Words.{room, length_mark, word_at, told, length_at, patterns_at, is_closed, HasPatterns, AreLaid, IsPut, IsClosed}
 use Rattle.aho_lists.proofs.Patterns.{told-above, told-mark, length_at-zero, length_at-some, length-patterns_at, patterns_at-zero, pattern_small, same_patterns, is_closed-below, closed-below}
 

@@ -1,7 +1,7 @@
 -- A change of one list leaves the others.
 use Rattle.std.proofs.Common.{◌≡◌, ℕ, ◌+◌, ◌<◌, ◌≤◌, ◌≢◌, ◌⊎◌, Bool, true, false, cond, List, [], ◌∷◌, ◌++◌, length, refl, sym, ap, ◌∙◌, inl, inr, arith}
 use Rattle.std.proofs.lemmas.Bool.{cases_order}
-use Rattle.std.proofs.lemmas.List.{length-set, length_push, get_or_past, get_or-set_same, get_or-set_other, get_or_append_left, get_or_push}
+use Rattle.std.proofs.lemmas.List.{length-set, length_push, get_or_past, get_or-set_same, get_or-set_other, get_or_append_left}
 use Rattle.aho_lists.specs.Lists.{list_at, IsList, without}
 use Rattle.aho_lists.specs.TransitionList.{with_transition, lists_transition, is_above, room_for, number_after, set_transition_in}
 use Rattle.aho_lists.proofs.TransitionRuns.{with_transition-more, with_transition-same, with_transition-less, lists_transition-other, is_above-more, is_above-not}

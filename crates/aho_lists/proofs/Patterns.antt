@@ -1,16 +1,15 @@
 -- Lists of patterns in one vector of words.
-use Rattle.std.proofs.Common.{◌≡◌, ◌≢◌, ℕ, suc, ◌+◌, ◌-◌, ◌<◌, ◌≤◌, ◌⊎◌, Some, Bool, true, false, List, [], ◌∷◌, ◌++◌, length, get_or, take, drop, replicate, refl, sym, ap, ◌∙◌, inl, inr, arith}
+use Rattle.std.proofs.Common.{◌≡◌, ◌≢◌, ℕ, suc, ◌+◌, ◌-◌, ◌<◌, ◌≤◌, ◌⊎◌, Some, Bool, true, false, List, [], ◌∷◌, length, get_or, take, drop, refl, sym, ap, ◌∙◌, inl, inr, arith}
 use Rattle.std.specs.List.{All, slice_get}
 use Rattle.std.proofs.lemmas.Option.{slice_get-get_or}
 use Rattle.std.proofs.lemmas.Bool.{cases_eq, cases_lt, lt-ltb, le-ltb, ltb-true}
-use Rattle.std.proofs.lemmas.List.{get_or_past, get_or-take, get_or-drop, get_or_append_left, get_or-append-add, get_or-replicate, length-take-le, length-drop, length-append}
+use Rattle.std.proofs.lemmas.List.{get_or_past, get_or-take, get_or-drop, length-take-le, length-drop}
 use Rattle.std.proofs.lemmas.List.FromFn.{length-map-range_with_len, get_or-map-range_with_len}
 use Rattle.std.proofs.lemmas.List.Elements.{All-from_get_or}
 use Rattle.std.proofs.lemmas.Grind.{get_or_default_zero, same_number_lists}
-use Rattle.std.proofs.Math.Seq.{get_or-append_seam}
 use Rattle.aho_base.specs.Numbers.{greatest_index}
 use Rattle.aho_lists.specs.Lists.{PatternLists, list_at, closed_at, IsList, IsListed}
-use Rattle.aho_lists.specs.Words.{room, length_mark, word_at, told, length_at, patterns_at, pattern_lists, is_closed, closed_lists, pattern_store, laid, IsHeld, HasPatterns, AreLaid, IsLengthened}
+use Rattle.aho_lists.specs.Words.{room, length_mark, word_at, told, length_at, patterns_at, pattern_lists, is_closed, closed_lists, pattern_store, IsHeld, HasPatterns, AreLaid}
 
 -- ---- the length that a word tells
 

@@ -1,7 +1,7 @@
 -- Lists of patterns in one vector of numbers, its words. A list is a word that tells its length, and behind it the patterns; room
 -- may follow. A list's number is the place of its first pattern, and 0 that of the empty list. A list behind which another word
 -- stands is closed: it cannot grow there.
-use Rattle.std.specs.Prelude.{◌≡◌, ◌≢◌, ◌⊎◌, ℕ, zero, suc, ◌+◌, ◌-◌, ◌<◌, ◌≤◌, Bool, true, List, [], ◌∷◌, drop, length, map, nat_lt, if◌then◌else◌, slice_index_or, take}
+use Rattle.std.specs.Prelude.{◌≡◌, ◌≢◌, ◌⊎◌, ℕ, zero, suc, ◌+◌, ◌-◌, ◌<◌, ◌≤◌, Bool, true, List, ◌∷◌, drop, length, map, nat_lt, if◌then◌else◌, slice_index_or, take}
 use Rattle.std.specs.List.{range_with_len}
 use Rattle.aho_base.specs.Numbers.{greatest_index}
 use Rattle.aho_lists.specs.Lists.{PatternLists}

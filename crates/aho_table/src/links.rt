@@ -234,7 +234,7 @@ impl Table {
         self.states.add_match(sid, pattern)
     }
 
-    /// The state lists the patterns of another too, after its own.
+    /// The state lists the patterns of another too, after its own. Where it lists none of its own, no pattern is copied.
     ///
     /// # Errors
     ///

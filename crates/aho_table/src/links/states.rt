@@ -202,7 +202,7 @@ impl States {
         Ok(())
     }
 
-    /// The state lists the patterns of another too, after its own.
+    /// The state lists the patterns of another too, after its own. Where it lists none of its own, no pattern is copied.
     ///
     /// # Errors
     ///

@@ -1,5 +1,5 @@
 -- The patterns of the other list stand behind the own ones.
-use Rattle.std.proofs.Common.{◌≡◌, ◌+◌, List, ◌++◌, ◌∷◌, ℕ, length, take, drop, sym, ap, ◌∙◌, arith}
+use Rattle.std.proofs.Common.{◌+◌, List, ◌++◌, ◌∷◌, ℕ, take, drop, ap, ◌∙◌, arith}
 use Rattle.std.specs.Prelude.{slice_range}
 use Rattle.aho_lists.specs.Words.{length_mark, patterns_at, laid}
 use Rattle.aho_lists.proofs.Laying.{OnOk-made, slice-front, patterns_at-taken, length-taken, begun-more}

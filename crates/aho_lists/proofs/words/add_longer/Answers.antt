@@ -1,8 +1,8 @@
 -- The pattern stands behind the own ones, and room behind it.
-use Rattle.std.proofs.Common.{◌≡◌, ◌+◌, ◌-◌, List, [], ◌++◌, ◌∷◌, ℕ, length, take, drop, replicate, sym, ap, ◌∙◌, arith}
+use Rattle.std.proofs.Common.{◌≡◌, ◌+◌, ◌-◌, List, [], ◌++◌, ◌∷◌, ℕ, take, drop, replicate, ap, ◌∙◌, arith}
 use Rattle.std.specs.Prelude.{vec_len}
 use Rattle.std.proofs.lemmas.List.{take_all}
-use Rattle.aho_lists.specs.Words.{room, length_mark, patterns_at, laid}
+use Rattle.aho_lists.specs.Words.{room, patterns_at, laid}
 use Rattle.aho_lists.proofs.Laying.{OnOk-made, patterns_at-taken, length-taken, begun-more}
 use Rattle.aho_lists.proofs.words.add_longer.Goals as goal
 

@@ -1,6 +1,6 @@
 -- Where room was behind the last pattern, a word stands.
-use Rattle.std.proofs.Common.{◌≡◌, ◌+◌, ◌<◌, ◌≤◌, List, ℕ, length, sym, ap, ◌∙◌, arith}
-use Rattle.aho_lists.specs.Words.{room, length_mark, word_at, length_at, IsPut, IsClosed}
+use Rattle.std.proofs.Common.{◌≤◌, List, ℕ, ap, arith}
+use Rattle.aho_lists.specs.Words.{room, word_at}
 use Rattle.aho_lists.proofs.Results.{OnOk-more}
 use Rattle.aho_lists.proofs.Closed.{IsClosed-put}
 use Rattle.aho_lists.proofs.words.close.Goals as goal

@@ -1,8 +1,7 @@
 -- A list that is laid down at the end has the patterns of both, and so has one that is shared with the empty list.
-use Rattle.std.proofs.Common.{◌≡◌, ◌+◌, ◌<◌, ◌≤◌, List, [], ◌++◌, ℕ, length, get_or, replicate, sym, ap, subst, ◌∙◌, arith}
-use Rattle.aho_base.specs.Numbers.{greatest_index}
-use Rattle.aho_lists.specs.Words.{room, laid, length_at, patterns_at, HasPatterns, AreLaid}
-use Rattle.aho_lists.proofs.Patterns.{own_within, length_at-fewer, length-patterns_at}
+use Rattle.std.proofs.Common.{◌≡◌, ◌+◌, List, ◌++◌, ℕ, length, sym, ap, subst, ◌∙◌, arith}
+use Rattle.aho_lists.specs.Words.{length_at, patterns_at, HasPatterns, AreLaid}
+use Rattle.aho_lists.proofs.Patterns.{own_within, length_at-fewer}
 use Rattle.aho_lists.proofs.Laying.{joined-len, joined-small, laid-alone}
 use Rattle.aho_lists.proofs.PatternChanges.{AreLaid-laid, HasPatterns-laid}
 use Rattle.aho_lists.proofs.Results.{IfOk-more, OnOk-more}

@@ -1,9 +1,9 @@
 -- The word before a list tells its length.
-use Rattle.std.proofs.Common.{◌≡◌, ◌≢◌, ℕ, ◌+◌, ◌-◌, ◌<◌, ◌≤◌, List, length, get_or, sym, ap, ◌∙◌, inl, inr, arith}
+use Rattle.std.proofs.Common.{◌≡◌, ◌≢◌, ℕ, ◌+◌, ◌-◌, ◌<◌, List, length, get_or, sym, ap, ◌∙◌, inl, inr, arith}
 use Rattle.std.proofs.lemmas.Bool.{cases_lt}
 use Rattle.std.proofs.lemmas.List.{get_or_past}
 use Rattle.std.proofs.lemmas.Grind.{get_or_default_zero}
-use Rattle.aho_lists.specs.Words.{room, length_mark, word_at, told, length_at, IsHeld}
+use Rattle.aho_lists.specs.Words.{room, length_mark, word_at, told, length_at}
 use Rattle.aho_lists.proofs.Patterns.{told-some, told-room, length_at-zero, length_at-some}
 use Rattle.aho_lists.proofs.words.len_at.Goals as goal
 

@@ -1,8 +1,7 @@
 -- The list grows where it stands, or stands once more at the end.
-use Rattle.std.proofs.Common.{◌≡◌, ◌≢◌, ◌+◌, ◌<◌, ◌≤◌, List, [], ◌∷◌, ◌++◌, ℕ, length, get_or, replicate, sym, ap, subst, ◌∙◌, arith}
-use Rattle.aho_base.specs.Numbers.{greatest_index}
-use Rattle.aho_lists.specs.Words.{room, laid, word_at, length_at, patterns_at, HasPatterns, AreLaid}
-use Rattle.aho_lists.proofs.Patterns.{own_within, length_at-fewer, length-patterns_at, mark_at}
+use Rattle.std.proofs.Common.{◌≡◌, ◌+◌, List, [], ◌∷◌, ◌++◌, ℕ, length, sym, ap, subst, ◌∙◌, arith}
+use Rattle.aho_lists.specs.Words.{room, word_at, length_at, patterns_at, HasPatterns, AreLaid}
+use Rattle.aho_lists.proofs.Patterns.{own_within, length_at-fewer, mark_at}
 use Rattle.aho_lists.proofs.Laying.{pushed-len, pushed-small, laid-grouped}
 use Rattle.aho_lists.proofs.PatternChanges.{AreLaid-laid, HasPatterns-laid, AreLaid-lengthened, HasPatterns-lengthened}
 use Rattle.aho_lists.proofs.words.push_pattern.Goals as goal

@@ -1,7 +1,6 @@
 -- The list is closed, and the empty one becomes it.
-use Rattle.std.proofs.Common.{◌≡◌, ◌+◌, ◌<◌, ◌≤◌, List, ℕ, length, sym, ap, ◌∙◌, arith}
-use Rattle.aho_base.specs.Numbers.{greatest_index}
-use Rattle.aho_lists.specs.Words.{length_at, AreLaid}
+use Rattle.std.proofs.Common.{List, ℕ, ap, ◌∙◌, arith}
+use Rattle.aho_lists.specs.Words.{length_at}
 use Rattle.aho_lists.proofs.Patterns.{own_within, length_at-fewer}
 use Rattle.aho_lists.proofs.Closed.{AreLaid-closed, HasPatterns-closed}
 use Rattle.aho_lists.proofs.words.share_patterns.Goals as goal

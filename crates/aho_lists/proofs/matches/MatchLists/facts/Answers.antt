@@ -1,5 +1,5 @@
 -- What is true of every store.
-use Rattle.std.proofs.Common.{◌≡◌, ◌<◌, length, ◌∙◌, arith}
+use Rattle.std.proofs.Common.{◌∙◌, arith}
 use Rattle.aho_lists.proofs.Patterns.{length-pattern_lists, list_at-pattern_lists, patterns_at-zero}
 use Rattle.aho_lists.proofs.matches.MatchLists.facts.Goals as goal
 

@@ -1,5 +1,5 @@
 -- A walk begins at the first pattern of the list.
-use Rattle.std.proofs.Common.{◌≡◌, ◌+◌, ◌≤◌, ℕ, List, length, take, drop, sym, ap, subst, ◌∙◌, arith}
+use Rattle.std.proofs.Common.{◌≡◌, ◌≤◌, ℕ, List, length, take, drop, sym, ap, subst, ◌∙◌, arith}
 use Rattle.std.specs.List.{All}
 use Rattle.aho_base.specs.Numbers.{greatest_index}
 use Rattle.aho_lists.specs.Lists.{IsList}

@@ -1,10 +1,8 @@
 -- The patterns of the other list stand behind those of the list; where there are none the store is as it was.
-use Rattle.std.proofs.Common.{◌≡◌, ◌≢◌, ◌+◌, ◌<◌, ◌≤◌, ℕ, List, [], ◌++◌, length, sym, ap, subst, refl, inl, inr, ◌∙◌, arith}
+use Rattle.std.proofs.Common.{◌≡◌, ◌+◌, ℕ, List, [], ◌++◌, length, sym, ap, subst, refl, inl, inr, ◌∙◌, arith}
 use Rattle.std.proofs.lemmas.List.{append-nil}
-use Rattle.aho_base.specs.declared.error.BuildError.TheVariants.{StateIDOverflow}
 use Rattle.aho_lists.specs.Lists.{list_at, IsList, IsListed}
-use Rattle.aho_lists.specs.Refusal.{IsRefusalOf}
-use Rattle.aho_lists.specs.Words.{length_at, patterns_at, pattern_lists, pattern_store, IsHeld, AreLaid}
+use Rattle.aho_lists.specs.Words.{length_at, patterns_at, pattern_lists, pattern_store, IsHeld}
 use Rattle.aho_lists.proofs.Patterns.{held_of, length_at-zero, length_at-fewer, length-list_at, list_at-pattern_lists, patterns_at-none, is_listed}
 use Rattle.aho_lists.proofs.matches.MatchLists.join.Goals as goal
 
@@ -73,8 +71,8 @@ returns-clause-listed c =
     let new_store = pattern_store new now limit in
     rw (← c.self.view_is)
     (subst (λ (xs : List ℕ). IsListed old_store new_store c.args.list c.in-Ok.made (xs ++ list_at (pattern_lists words) c.args.other)) (sym (list_at-pattern_lists words c.args.list))
-        (subst (λ (xs : List ℕ). IsListed old_store new_store c.args.list c.in-Ok.made (patterns_at words c.args.list ++ xs)) (sym (list_at-pattern_lists words c.args.other))
-            (is_listed words new count now limit c.args.list c.in-Ok.made (patterns_at words c.args.list ++ patterns_at words c.args.other) c.in-Ok.ensures.listed)))
+    (subst (λ (xs : List ℕ). IsListed old_store new_store c.args.list c.in-Ok.made (patterns_at words c.args.list ++ xs)) (sym (list_at-pattern_lists words c.args.other))
+    (is_listed words new count now limit c.args.list c.in-Ok.made (patterns_at words c.args.list ++ patterns_at words c.args.other) c.in-Ok.ensures.listed)))
 
 pub returns-clause-counted : goal.returns-clause-counted
 returns-clause-counted c =

@@ -1,5 +1,5 @@
 -- The length that is told is that of the list.
-use Rattle.std.proofs.Common.{◌≡◌, ℕ, List, length, sym, ap, subst, ◌∙◌}
+use Rattle.std.proofs.Common.{ℕ, List, sym, ap, subst, ◌∙◌}
 use Rattle.aho_lists.specs.Lists.{IsList}
 use Rattle.aho_lists.specs.Words.{length_at, pattern_lists, IsHeld}
 use Rattle.aho_lists.proofs.Patterns.{held_of, length-list_at}

@@ -1,5 +1,5 @@
 -- No words are no lists.
-use Rattle.std.proofs.Common.{◌≡◌, ◌≤◌, ◌∷◌, false, ℕ, List, [], min, sym, ap, subst, ◌∙◌, arith}
+use Rattle.std.proofs.Common.{◌∷◌, false, ℕ, List, [], min, sym, ap, subst, ◌∙◌, arith}
 use Rattle.aho_lists.specs.Lists.{PatternLists}
 use Rattle.aho_lists.specs.Words.{pattern_store, AreStored}
 use Rattle.aho_lists.proofs.Patterns.{AreLaid-none, pattern_store-none}

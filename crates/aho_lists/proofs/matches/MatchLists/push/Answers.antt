@@ -1,6 +1,6 @@
 -- The pattern stands behind those of the list.
-use Rattle.std.proofs.Common.{◌≡◌, ℕ, List, [], ◌∷◌, ◌++◌, ◌+◌, sym, subst}
-use Rattle.aho_lists.specs.Lists.{list_at, IsList, IsListed}
+use Rattle.std.proofs.Common.{ℕ, List, [], ◌∷◌, ◌++◌, ◌+◌, sym, subst}
+use Rattle.aho_lists.specs.Lists.{IsList, IsListed}
 use Rattle.aho_lists.specs.Words.{patterns_at, pattern_lists, pattern_store}
 use Rattle.aho_lists.proofs.Patterns.{held_of, list_at-pattern_lists, is_listed}
 use Rattle.aho_lists.proofs.matches.MatchLists.push.Goals as goal
@@ -18,5 +18,5 @@ returns-clause-listed c =
     let limit = c.self.inside.limit in
     rw (← c.self.view_is)
     (subst (λ (xs : List ℕ). IsListed (pattern_store words count limit) (pattern_store new (count + 1) limit) c.args.list c.in-Ok.made (xs ++ c.args.pattern ∷ []))
-        (sym (list_at-pattern_lists words c.args.list))
-        (is_listed words new count (count + 1) limit c.args.list c.in-Ok.made (patterns_at words c.args.list ++ c.args.pattern ∷ []) c.in-Ok.ensures.listed))
+    (sym (list_at-pattern_lists words c.args.list))
+    (is_listed words new count (count + 1) limit c.args.list c.in-Ok.made (patterns_at words c.args.list ++ c.args.pattern ∷ []) c.in-Ok.ensures.listed))
