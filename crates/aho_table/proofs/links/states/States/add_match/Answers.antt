@@ -1,5 +1,5 @@
 -- The state's list is changed, and no other.
-use Rattle.std.proofs.Common.{ℕ, List, [], ◌∷◌, ◌++◌, length, refl, sym, ap, subst, ◌∙◌, arith}
+use Rattle.std.proofs.Common.{List, [], ◌∷◌, ◌++◌, refl, sym, ap, subst, ◌∙◌, arith}
 use Rattle.std.proofs.Math.ListN.{set}
 use Rattle.aho_lists.specs.Lists.{list_at}
 use Rattle.aho_table.specs.Table.{State, state_at}
