@@ -43,11 +43,13 @@ module _ (old new : List ℕ) (count list : ℕ) (are : AreLaid old count) (clos
       let below = closed-below old other closed in
       is_closed-below new other (omega (arith, below, closing.kept (other + length_at old other) below, ap (λ (n : ℕ). word_at new (other + n)) (same_len other)))
 
+  pub closed_now : is_closed new list ≡ true
+  closed_now = is_closed-below new list (omega (arith, closing.closed, ap (λ (n : ℕ). word_at new (list + n)) (same_len list)))
+
   pub HasPatterns-closed : 0 < length_at old list → HasPatterns old new 0 list (patterns_at old list)
   HasPatterns-closed some = record {
     patterns = same list;
     some = omega (arith, some, length-patterns_at old count list are);
-    number = inr (inr (is_closed-below new list (omega (arith, closing.closed, ap (λ (n : ℕ). word_at new (list + n)) (same_len list)))));
     others = λ other below why. same other;
     closed = stays;
   }

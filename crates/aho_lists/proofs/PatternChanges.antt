@@ -1,5 +1,5 @@
 -- A list of patterns that grows where it stands, and one that is laid down at the end.
-use Rattle.std.proofs.Common.{◌≡◌, ◌≢◌, ℕ, suc, ◌+◌, ◌-◌, ◌<◌, ◌≤◌, ◌⊎◌, true, List, [], ◌∷◌, ◌++◌, length, get_or, replicate, refl, sym, ap, ◌∙◌, inl, inr, arith}
+use Rattle.std.proofs.Common.{◌≡◌, ◌≢◌, ℕ, suc, ◌+◌, ◌-◌, ◌<◌, ◌≤◌, ◌⊎◌, true, List, [], ◌∷◌, ◌++◌, length, get_or, replicate, sym, ap, ◌∙◌, inl, inr, arith}
 use Rattle.std.proofs.lemmas.Bool.{cases_eq, cases_lt}
 use Rattle.std.proofs.lemmas.List.{get_or_past, get_or_append_left, get_or-append-add, get_or-replicate, length-replicate, length-append}
 use Rattle.std.proofs.lemmas.Grind.{get_or_default_zero}
@@ -132,7 +132,6 @@ module _ (old new : List ℕ) (count list pattern : ℕ) (are : AreLaid old coun
   HasPatterns-lengthened = record {
     patterns = patterns_are new (count + 1) list (patterns_at old list ++ pattern ∷ []) AreLaid-lengthened listed-len listed-each;
     some = omega (arith, length-append (patterns_at old list) (pattern ∷ []));
-    number = inl refl;
     others = λ other below why. others-kept other why;
     closed = others-closed;
   }
@@ -256,7 +255,6 @@ module _ (old : List ℕ) (count now : ℕ) (items : List ℕ) (more : ℕ) (are
   HasPatterns-laid list some = record {
     patterns = laid-patterns;
     some = some;
-    number = inr (inl (omega arith));
     others = λ other inside why. laid-others other inside;
     closed = laid-closed;
   }

@@ -8,7 +8,7 @@ use Rattle.std.proofs.lemmas.List.FromFn.{length-map-range_with_len, get_or-map-
 use Rattle.std.proofs.lemmas.List.Elements.{All-from_get_or}
 use Rattle.std.proofs.lemmas.Grind.{get_or_default_zero, same_number_lists}
 use Rattle.aho_base.specs.Numbers.{greatest_index}
-use Rattle.aho_lists.specs.Lists.{PatternLists, list_at, closed_at, IsList, IsListed}
+use Rattle.aho_lists.specs.Lists.{PatternLists, list_at, closed_at, IsList, IsListed, IsOwnNumber}
 use Rattle.aho_lists.specs.Words.{room, length_mark, word_at, told, length_at, patterns_at, pattern_lists, is_closed, closed_lists, pattern_store, IsHeld, HasPatterns, AreLaid}
 
 -- ---- the length that a word tells
@@ -224,13 +224,6 @@ pub is_listed : (old new : List ℕ) (count now limit list made : ℕ) (items : 
 is_listed old new count now limit list made items has = record {
   listed = list_at-pattern_lists new made ∙ has.patterns;
   known = λ none. absurd (omega (arith, has.some, ap length (sym (list_at-pattern_lists new made ∙ has.patterns) ∙ none)));
-  number = elim has.number [
-    | inl same ↦ inl same
-    | inr other ↦ elim other [
-      | inl past ↦ inr (inl (omega (arith, past, length-pattern_lists old)))
-      | inr closed ↦ inr (inr (closed_at-closed_lists new made ∙ closed))
-    ]
-  ];
   others = λ other below why.
       list_at-pattern_lists new other
       ∙ has.others other (omega (arith, below, length-pattern_lists old)) (why_so other why)
@@ -242,6 +235,13 @@ is_listed old new count now limit list made items has = record {
     why_so : (other : ℕ) → (other ≢ list) ⊎ (closed_at (closed_lists old) other ≡ true) → (other ≢ list) ⊎ (is_closed old other ≡ true)
     why_so other (inl apart) = inl apart
     why_so other (inr closed) = inr (sym (closed_at-closed_lists old other) ∙ closed)
+
+pub past_all : (words : List ℕ) (made : ℕ) → length words < made → length (pattern_lists words) ≤ made
+past_all words made past = omega (arith, past, length-pattern_lists words)
+
+pub own_number : (words : List ℕ) (list made : ℕ) → (made ≡ list) ⊎ (length words < made) → IsOwnNumber (pattern_lists words) list made
+own_number words list made (inl same) = inl same
+own_number words list made (inr past) = inr (past_all words made past)
 
 -- ---- a store with no words
 

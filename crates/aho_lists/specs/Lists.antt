@@ -32,12 +32,15 @@ pub record PatternLists : Type 0 where
 abbrev pub closed_at : List Bool → ℕ → Bool
 closed_at closed number = slice_index_or closed number false
 
--- the list of this number has other items now, under the same number, under one that no list had, or under that of a closed
--- list; every other list stays, and so does each that was closed
+-- the number is the list's own, or one that no list had
+abbrev pub IsOwnNumber : List (List ℕ) → ℕ → ℕ → Type 0
+IsOwnNumber lists list made = (made ≡ list) ⊎ (length lists ≤ made)
+
+-- the list of this number has other items now, under the number that was made; every other list stays, and so does each that
+-- was closed
 pub record IsListed (old new : PatternLists) (list made : ℕ) (items : List ℕ) : Type 0 where
   pub listed : list_at new.lists made ≡ items
   pub known : IsList new.lists made
-  pub number : (made ≡ list) ⊎ ((length old.lists ≤ made) ⊎ (closed_at new.closed made ≡ true))
   pub others : (other : ℕ) → other < length old.lists → (other ≢ list) ⊎ (closed_at old.closed other ≡ true)
       → list_at new.lists other ≡ list_at old.lists other
   pub closed : (other : ℕ) → closed_at old.closed other ≡ true → closed_at new.closed other ≡ true

@@ -87,6 +87,5 @@ pub record IsClosed (old : List ℕ) (list : ℕ) (new : List ℕ) : Type 0 wher
 pub record HasPatterns (old new : List ℕ) (list made : ℕ) (items : List ℕ) : Type 0 where
   pub patterns : patterns_at new made ≡ items
   pub some : 0 < length items
-  pub number : (made ≡ list) ⊎ ((length old < made) ⊎ (is_closed new made ≡ true))
   pub others : (other : ℕ) → other ≤ length old → (other ≢ list) ⊎ (is_closed old other ≡ true) → patterns_at new other ≡ patterns_at old other
   pub closed : (other : ℕ) → is_closed old other ≡ true → is_closed new other ≡ true

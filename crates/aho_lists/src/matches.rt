@@ -7,12 +7,12 @@
 //! The empty list joined with another shares it: no pattern is copied. The list is closed then, which means that it is moved
 //! when one of its owners adds a pattern, and the others keep what they have.
 
-ghost use Rattle.std.specs.Prelude.{◌≡◌, ◌≤◌, ◌+◌, ◌<◌, ◌∷◌, ◌++◌, [], false, length, IfOk, IfErr, OnOk, OnErr, min, slice_get};
+ghost use Rattle.std.specs.Prelude.{◌≡◌, ◌⊎◌, ◌≤◌, ◌+◌, ◌<◌, ◌∷◌, ◌++◌, [], true, false, length, IfOk, IfErr, OnOk, OnErr, min, slice_get};
 ghost use Rattle.std.specs.List.{All};
 ghost use Rattle.std.specs.Iterator.{YieldsFirst, item_count};
 ghost use Rattle.aho_base.specs.Numbers.{greatest_index};
 ghost use Rattle.aho_lists.specs.Refusal.{refusal_at, IsRefusalOf};
-ghost use Rattle.aho_lists.specs.Lists.{list_at, IsList, IsListed};
+ghost use Rattle.aho_lists.specs.Lists.{list_at, closed_at, IsList, IsListed, IsOwnNumber};
 
 use crate::places::overflow;
 use crate::words::{join_patterns, len_at, pattern_at, push_pattern, words_from};
@@ -84,6 +84,7 @@ impl MatchLists {
         requires known { IsList self.old.lists list }
         ensures listed { IfOk result (λ made. IsListed self.old self.new list made
             (list_at self.old.lists list ++ pattern ∷ [])) }
+        ensures number { IfOk result (λ made. IsOwnNumber self.old.lists list made) }
         ensures limit { OnOk result (self.new.limit ≡ self.old.limit) }
         ensures counted { OnOk result (self.new.count ≡ self.old.count + 1) }
         ensures within { OnOk result (self.new.count ≤ self.old.limit + 1) }
@@ -113,6 +114,8 @@ impl MatchLists {
         requires other { IsList self.old.lists other }
         ensures listed { IfOk result (λ made. IsListed self.old self.new list made
             (list_at self.old.lists list ++ list_at self.old.lists other)) }
+        ensures number { IfOk result (λ made. IsOwnNumber self.old.lists list made
+            ⊎ ((made ≡ other) × (closed_at self.new.closed made ≡ true))) }
         ensures limit { OnOk result (self.new.limit ≡ self.old.limit) }
         ensures counted { OnOk result
             (self.new.count ≡ self.old.count + length (list_at self.old.lists other)) }

@@ -4,9 +4,9 @@
 //! the place of its first pattern, and 0 that of the empty list. A list behind which another word stands is closed: it cannot
 //! grow there, so that more than one owner may keep its number.
 
-ghost use Rattle.std.specs.Prelude.{◌≡◌, ◌≢◌, ◌+◌, ◌-◌, ◌<◌, ◌≤◌, ◌∷◌, ◌++◌, [], ℕ, true, length, replicate, take, drop, IfOk, OnOk, OnErr};
+ghost use Rattle.std.specs.Prelude.{◌≡◌, ◌≢◌, ◌⊎◌, ◌+◌, ◌-◌, ◌<◌, ◌≤◌, ◌∷◌, ◌++◌, [], ℕ, true, length, replicate, take, drop, IfOk, OnOk, OnErr};
 ghost use Rattle.aho_base.specs.Numbers.{greatest_index};
-ghost use Rattle.aho_lists.specs.Words.{word_at as the_word, room, length_at, patterns_at, laid, IsHeld, HasPatterns, AreLaid, IsPut, IsLengthened, IsClosed};
+ghost use Rattle.aho_lists.specs.Words.{word_at as the_word, room, length_at, patterns_at, is_closed, laid, IsHeld, HasPatterns, AreLaid, IsPut, IsLengthened, IsClosed};
 
 use aho_base::search::PatternID;
 use std::alloc::AllocError;
@@ -168,6 +168,7 @@ pub(crate) fn push_pattern(
     requires held { IsHeld words.old.items list }
     ensures listed { IfOk result (λ made. HasPatterns words.old.items words.new.items list made
         (patterns_at words.old.items list ++ pattern ∷ [])) }
+    ensures number { IfOk result (λ made. (made ≡ list) ⊎ (length words.old.items < made)) }
     ensures laid { OnOk result ((count : ℕ) → AreLaid words.old.items count → count ≤ greatest_index
         → AreLaid words.new.items (count + 1)) }
     ensures unchanged { OnErr result (words.new.items ≡ words.old.items) }
@@ -207,6 +208,7 @@ fn share_patterns(words: &mut Vec<u32>, list: u32) -> Result<u32, AllocError>
     requires some { list ≢ 0 }
     ensures listed { IfOk result (λ made.
         HasPatterns words.old.items words.new.items 0 made (patterns_at words.old.items list)) }
+    ensures number { IfOk result (λ made. (made ≡ list) × (is_closed words.new.items made ≡ true)) }
     ensures laid { OnOk result ((count more : ℕ) → AreLaid words.old.items count → count ≤ more
         → AreLaid words.new.items more) }
     ensures unchanged { OnErr result (words.new.items ≡ words.old.items) }
@@ -230,6 +232,8 @@ pub(crate) fn join_patterns(words: &mut Vec<u32>, list: u32, other: u32) -> Resu
     requires some { other ≢ 0 }
     ensures listed { IfOk result (λ made. HasPatterns words.old.items words.new.items list made
         (patterns_at words.old.items list ++ patterns_at words.old.items other)) }
+    ensures number { IfOk result (λ made.
+        (length words.old.items < made) ⊎ ((made ≡ other) × (is_closed words.new.items made ≡ true))) }
     ensures laid { OnOk result ((count : ℕ) → AreLaid words.old.items count
         → count + length_at words.old.items other ≤ greatest_index + 1
         → AreLaid words.new.items (count + length_at words.old.items other)) }

@@ -4,7 +4,7 @@ use Rattle.std.proofs.Math.ListN.{set, length-set}
 use Rattle.std.proofs.lemmas.List.{length-map, map-set, map-append, take-map, length_push, length-take, set-get_or, get_or_default}
 use Rattle.std.proofs.lemmas.List.Sums.{sum_by-append}
 use Rattle.std.proofs.Math.Seq.{take-append_seam}
-use Rattle.aho_lists.specs.Lists.{Lists, PatternLists, list_at, closed_at, IsList, IsListed}
+use Rattle.aho_lists.specs.Lists.{Lists, PatternLists, list_at, closed_at, IsList, IsListed, IsOwnNumber}
 use Rattle.aho_table.specs.Table.{State, new_state, state_at, transitions_count, matches_count}
 use Rattle.aho_table.specs.Inside.{record_at, recorded_state, recorded_states, transition_numbers, match_numbers, IsNone, IsShared, AreNumbers, IsConsistent}
 use Rattle.aho_table.specs.declared.links.states.Record.{Record}
@@ -45,14 +45,15 @@ IsListChange-alone {X = X} old new number made items some empty empty_still othe
 
 -- and where closed ones are
 pub IsListChange-listed : (old new : PatternLists) (number made : ℕ) (items : List ℕ) → 0 < length old.lists → list_at old.lists 0 ≡ [] → list_at new.lists 0 ≡ []
-    → IsListed old new number made items → IsListChange (IsShared old.closed) (IsShared new.closed) old.lists new.lists number made items
-IsListChange-listed old new number made items some empty empty_still is = record {
+    → IsListed old new number made items → IsOwnNumber old.lists number made ⊎ (closed_at new.closed made ≡ true)
+    → IsListChange (IsShared old.closed) (IsShared new.closed) old.lists new.lists number made items
+IsListChange-listed old new number made items some empty empty_still is fresh = record {
   some = some;
   still = the_still;
   others = the_others;
   changed = is.listed;
   known = is.known;
-  fresh = the_fresh is.number;
+  fresh = the_fresh fresh;
 }
   where
     the_still : (other : ℕ) → IsShared old.closed other → IsShared new.closed other
@@ -64,10 +65,10 @@ IsListChange-listed old new number made items some empty empty_still is = record
     the_others other below (inr (inl none)) = ap (list_at new.lists) none ∙ empty_still ∙ sym (ap (list_at old.lists) none ∙ empty)
     the_others other below (inr (inr closed)) = is.others other below (inr closed)
 
-    the_fresh : (made ≡ number) ⊎ ((length old.lists ≤ made) ⊎ (closed_at new.closed made ≡ true)) → (made ≡ number) ⊎ ((length old.lists ≤ made) ⊎ IsShared new.closed made)
-    the_fresh (inl same) = inl same
-    the_fresh (inr (inl past)) = inr (inl past)
-    the_fresh (inr (inr closed)) = inr (inr (inr closed))
+    the_fresh : IsOwnNumber old.lists number made ⊎ (closed_at new.closed made ≡ true) → (made ≡ number) ⊎ ((length old.lists ≤ made) ⊎ IsShared new.closed made)
+    the_fresh (inl (inl same)) = inl same
+    the_fresh (inl (inr past)) = inr (inl past)
+    the_fresh (inr closed) = inr (inr (inr closed))
 
 module _ (records : List Record) (sid : ℕ) (state : Record) (below : sid < length records) (read : state ≡ record_at records sid) where
   numbers_in : (number : Record → ℕ) → sid < length (map number records)

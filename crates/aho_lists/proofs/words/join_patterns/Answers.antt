@@ -1,5 +1,5 @@
 -- A list that is laid down at the end has the patterns of both, and so has one that is shared with the empty list.
-use Rattle.std.proofs.Common.{◌≡◌, ◌+◌, List, ◌++◌, ℕ, length, sym, ap, subst, ◌∙◌, arith}
+use Rattle.std.proofs.Common.{◌≡◌, inl, inr, ◌+◌, List, ◌++◌, ℕ, length, sym, ap, subst, ◌∙◌, arith}
 use Rattle.aho_lists.specs.Words.{length_at, patterns_at, HasPatterns, AreLaid}
 use Rattle.aho_lists.proofs.Patterns.{own_within, length_at-fewer}
 use Rattle.aho_lists.proofs.Laying.{joined-len, joined-small, laid-alone}
@@ -22,6 +22,12 @@ returns-then-list-eq0-clause-laid c =
     OnOk-more c.share_patterns.result
     (λ more count are few. more count (count + length_at c.args.words.now.items c.args.other) are (omega arith))
     c.share_patterns.ensures.laid
+
+pub returns-then-list-eq0-clause-number : goal.returns-then-list-eq0-clause-number
+returns-then-list-eq0-clause-number c = IfOk-more c.share_patterns.result (λ made is. inr is) c.share_patterns.ensures.number
+
+pub returns-clause-number : goal.returns-clause-number
+returns-clause-number c = inl (omega (arith, c.in_ok-made.ensures.number))
 
 pub add_joined-requires-clause-within : goal.add_joined-requires-clause-within
 add_joined-requires-clause-within c =

@@ -1,5 +1,5 @@
 -- The list grows where it stands, or stands once more at the end.
-use Rattle.std.proofs.Common.{◌≡◌, ◌+◌, List, [], ◌∷◌, ◌++◌, ℕ, length, sym, ap, subst, ◌∙◌, arith}
+use Rattle.std.proofs.Common.{◌≡◌, inr, ◌+◌, List, [], ◌∷◌, ◌++◌, ℕ, length, sym, ap, subst, ◌∙◌, arith}
 use Rattle.aho_lists.specs.Words.{room, word_at, length_at, patterns_at, HasPatterns, AreLaid}
 use Rattle.aho_lists.proofs.Patterns.{own_within, length_at-fewer, mark_at}
 use Rattle.aho_lists.proofs.Laying.{pushed-len, pushed-small, laid-grouped}
@@ -86,3 +86,6 @@ returns-clause-listed c =
     (subst (λ (ws : List ℕ). HasPatterns old ws c.args.list (length old + 1) items) (sym (c.in-Ok.ensures.added ∙ laid-grouped old items c.len_at-own.result))
     (HasPatterns-laid old count (count + 1) items c.len_at-own.result are (omega arith) (omega arith) (omega (arith, c.requires.laid.2))
     (pushed-small old count c.args.list c.as_usize-pattern.result are c.as_usize-pattern.ensures.bound) c.args.list (omega (arith, len)))))
+
+pub returns-clause-number : goal.returns-clause-number
+returns-clause-number c = inr (omega (arith, c.in_ok-made.ensures.number))

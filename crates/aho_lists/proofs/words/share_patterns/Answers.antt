@@ -1,8 +1,8 @@
 -- The list is closed, and the empty one becomes it.
-use Rattle.std.proofs.Common.{List, ℕ, ap, ◌∙◌, arith}
+use Rattle.std.proofs.Common.{List, ℕ, refl, ap, ◌∙◌, arith}
 use Rattle.aho_lists.specs.Words.{length_at}
 use Rattle.aho_lists.proofs.Patterns.{own_within, length_at-fewer}
-use Rattle.aho_lists.proofs.Closed.{AreLaid-closed, HasPatterns-closed}
+use Rattle.aho_lists.proofs.Closed.{AreLaid-closed, HasPatterns-closed, closed_now}
 use Rattle.aho_lists.proofs.words.share_patterns.Goals as goal
 
 pub overflow_add-list : goal.overflow_add-list
@@ -27,3 +27,7 @@ returns-clause-listed c =
 pub returns-clause-laid : goal.returns-clause-laid
 returns-clause-laid c count more are within =
     AreLaid-closed c.args.words.now.items c.close.new.words.items count c.args.list are c.in_ok-close.ensures.closed more within
+
+pub returns-clause-number : goal.returns-clause-number
+returns-clause-number c =
+    (refl, closed_now c.args.words.now.items c.close.new.words.items c.requires.laid.0 c.args.list c.requires.laid.1 c.in_ok-close.ensures.closed)

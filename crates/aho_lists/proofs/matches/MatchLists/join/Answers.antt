@@ -1,9 +1,9 @@
 -- The patterns of the other list stand behind those of the list; where there are none the store is as it was.
-use Rattle.std.proofs.Common.{◌≡◌, ◌+◌, ℕ, List, [], ◌++◌, length, sym, ap, subst, refl, inl, inr, ◌∙◌, arith}
+use Rattle.std.proofs.Common.{◌≡◌, ◌⊎◌, ◌<◌, ◌+◌, true, ℕ, List, [], ◌++◌, length, sym, ap, subst, refl, inl, inr, ◌∙◌, arith}
 use Rattle.std.proofs.lemmas.List.{append-nil}
-use Rattle.aho_lists.specs.Lists.{list_at, IsList, IsListed}
-use Rattle.aho_lists.specs.Words.{length_at, patterns_at, pattern_lists, pattern_store, IsHeld}
-use Rattle.aho_lists.proofs.Patterns.{held_of, length_at-zero, length_at-fewer, length-list_at, list_at-pattern_lists, patterns_at-none, is_listed}
+use Rattle.aho_lists.specs.Lists.{list_at, closed_at, IsList, IsListed, IsOwnNumber}
+use Rattle.aho_lists.specs.Words.{length_at, patterns_at, pattern_lists, pattern_store, is_closed, closed_lists, IsHeld}
+use Rattle.aho_lists.proofs.Patterns.{held_of, length_at-zero, length_at-fewer, length-list_at, list_at-pattern_lists, patterns_at-none, is_listed, past_all, closed_at-closed_lists}
 use Rattle.aho_lists.proofs.matches.MatchLists.join.Goals as goal
 
 pub len_at-more-requires : goal.len_at-more-requires
@@ -22,7 +22,6 @@ returns-then-more-eq0-clause-listed c =
     record {
       listed = sym (ap (λ (xs : List ℕ). list_at c.args.self.now.lists c.args.list ++ xs) none ∙ append-nil (list_at c.args.self.now.lists c.args.list));
       known = c.requires.known;
-      number = inl refl;
       others = λ other below why. refl;
       closed = λ other closed. closed;
     }
@@ -73,6 +72,19 @@ returns-clause-listed c =
     (subst (λ (xs : List ℕ). IsListed old_store new_store c.args.list c.in-Ok.made (xs ++ list_at (pattern_lists words) c.args.other)) (sym (list_at-pattern_lists words c.args.list))
     (subst (λ (xs : List ℕ). IsListed old_store new_store c.args.list c.in-Ok.made (patterns_at words c.args.list ++ xs)) (sym (list_at-pattern_lists words c.args.other))
     (is_listed words new count now limit c.args.list c.in-Ok.made (patterns_at words c.args.list ++ patterns_at words c.args.other) c.in-Ok.ensures.listed)))
+
+-- the list's number is a new one, or that of the other list, which is closed
+number_of : (old new : List ℕ) (list other made : ℕ) → (length old < made) ⊎ ((made ≡ other) × (is_closed new made ≡ true))
+    → IsOwnNumber (pattern_lists old) list made ⊎ ((made ≡ other) × (closed_at (closed_lists new) made ≡ true))
+number_of old new list other made (inl past) = inl (inr (past_all old made past))
+number_of old new list other made (inr shared) = inr (shared.0, closed_at-closed_lists new made ∙ shared.1)
+
+pub returns-clause-number : goal.returns-clause-number
+returns-clause-number c =
+    rw (← c.self.view_is) (number_of c.self.inside.words.items c.join_patterns.new.words.items c.args.list c.args.other c.in-Ok.made c.in-Ok.ensures.number)
+
+pub returns-then-more-eq0-clause-number : goal.returns-then-more-eq0-clause-number
+returns-then-more-eq0-clause-number c = inl (inl refl)
 
 pub returns-clause-counted : goal.returns-clause-counted
 returns-clause-counted c =

@@ -2,7 +2,7 @@
 use Rattle.std.proofs.Common.{ℕ, List, [], ◌∷◌, ◌++◌, ◌+◌, sym, subst}
 use Rattle.aho_lists.specs.Lists.{IsList, IsListed}
 use Rattle.aho_lists.specs.Words.{patterns_at, pattern_lists, pattern_store}
-use Rattle.aho_lists.proofs.Patterns.{held_of, list_at-pattern_lists, is_listed}
+use Rattle.aho_lists.proofs.Patterns.{held_of, list_at-pattern_lists, is_listed, own_number}
 use Rattle.aho_lists.proofs.matches.MatchLists.push.Goals as goal
 
 pub push_pattern-requires-clause-held : goal.push_pattern-requires-clause-held
@@ -20,3 +20,6 @@ returns-clause-listed c =
     (subst (λ (xs : List ℕ). IsListed (pattern_store words count limit) (pattern_store new (count + 1) limit) c.args.list c.in-Ok.made (xs ++ c.args.pattern ∷ []))
     (sym (list_at-pattern_lists words c.args.list))
     (is_listed words new count (count + 1) limit c.args.list c.in-Ok.made (patterns_at words c.args.list ++ c.args.pattern ∷ []) c.in-Ok.ensures.listed))
+
+pub returns-clause-number : goal.returns-clause-number
+returns-clause-number c = rw (← c.self.view_is) (own_number c.self.inside.words.items c.args.list c.in-Ok.made c.in-Ok.ensures.number)

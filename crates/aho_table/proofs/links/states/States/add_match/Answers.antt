@@ -1,5 +1,5 @@
 -- The state's list is changed, and no other.
-use Rattle.std.proofs.Common.{List, [], ◌∷◌, ◌++◌, refl, sym, ap, subst, ◌∙◌, arith}
+use Rattle.std.proofs.Common.{List, [], ◌∷◌, ◌++◌, refl, inl, sym, ap, subst, ◌∙◌, arith}
 use Rattle.std.proofs.Math.ListN.{set}
 use Rattle.aho_lists.specs.Lists.{list_at}
 use Rattle.aho_table.specs.Table.{State, state_at}
@@ -27,7 +27,7 @@ the_change : (c : goal.After-replace) → IsListChange (IsShared c.self.inside.m
 the_change c =
     IsListChange-listed c.self.inside.matches c.push.new.self c.record_of-state.result.matches c.in_ok-list.list
     (list_at c.self.inside.matches.lists c.record_of-state.result.matches ++ c.args.pattern ∷ [])
-    c.facts.ensures.some c.facts.ensures.empty c.facts-2.ensures.empty c.in_ok-list.ensures.listed
+    c.facts.ensures.some c.facts.ensures.empty c.facts-2.ensures.empty c.in_ok-list.ensures.listed (inl c.in_ok-list.ensures.number)
 
 pub invariant_of-self-2 : goal.invariant_of-self-2
 invariant_of-self-2 c =

@@ -1,5 +1,5 @@
 -- The state's list is changed, and no other.
-use Rattle.std.proofs.Common.{◌≡◌, ◌+◌, List, ◌++◌, length, refl, sym, ap, subst, ◌∙◌, arith}
+use Rattle.std.proofs.Common.{◌≡◌, ◌⊎◌, ◌+◌, List, ◌++◌, length, refl, inl, inr, sym, ap, subst, ◌∙◌, arith}
 use Rattle.std.proofs.Math.ListN.{set}
 use Rattle.std.proofs.lemmas.List.{length-append}
 use Rattle.aho_lists.specs.Lists.{list_at}
@@ -43,12 +43,17 @@ returns-in_err-joined-clause-refused c =
 pub replace-requires : goal.replace-requires
 replace-requires c = record { added = read_in c.self.inside.records.items c.self.inside.transitions c.self.inside.matches c.self.inside.limit c.args.sid c.args.self.now c.self.view_is c.requires.added c.self.inside.records.items refl }
 
+or_closed : {Own Closed : Type 0} (made other : ℕ) → Own ⊎ ((made ≡ other) × Closed) → Own ⊎ Closed
+or_closed made other (inl own) = inl own
+or_closed made other (inr shared) = inr shared.1
+
 the_change : (c : goal.After-replace) → IsListChange (IsShared c.self.inside.matches.closed) (IsShared c.join.new.self.closed) c.self.inside.matches.lists c.join.new.self.lists c.record_of-state.result.matches c.in_ok-joined.joined
     (list_at c.self.inside.matches.lists c.record_of-state.result.matches ++ list_at c.self.inside.matches.lists c.record_of-other.result.matches)
 the_change c =
     IsListChange-listed c.self.inside.matches c.join.new.self c.record_of-state.result.matches c.in_ok-joined.joined
     (list_at c.self.inside.matches.lists c.record_of-state.result.matches ++ list_at c.self.inside.matches.lists c.record_of-other.result.matches)
     c.facts.ensures.some c.facts.ensures.empty c.facts-2.ensures.empty c.in_ok-joined.ensures.listed
+    (or_closed c.in_ok-joined.joined c.record_of-other.result.matches c.in_ok-joined.ensures.number)
 
 pub invariant_of-self-2 : goal.invariant_of-self-2
 invariant_of-self-2 c =
