@@ -1,5 +1,5 @@
 -- The state's list is changed, and no other.
-use Rattle.std.proofs.Common.{◌≡◌, ◌⊎◌, ◌+◌, List, ◌++◌, length, refl, inl, inr, sym, ap, subst, ◌∙◌, arith}
+use Rattle.std.proofs.Common.{◌≡◌, ◌⊎◌, ◌+◌, List, ℕ, ◌++◌, length, refl, inl, inr, sym, ap, subst, ◌∙◌, arith}
 use Rattle.std.proofs.Math.ListN.{set}
 use Rattle.std.proofs.lemmas.List.{length-append}
 use Rattle.aho_lists.specs.Lists.{list_at}
@@ -43,6 +43,7 @@ returns-in_err-joined-clause-refused c =
 pub replace-requires : goal.replace-requires
 replace-requires c = record { added = read_in c.self.inside.records.items c.self.inside.transitions c.self.inside.matches c.self.inside.limit c.args.sid c.args.self.now c.self.view_is c.requires.added c.self.inside.records.items refl }
 
+-- the joined list's number is its own or closed
 or_closed : {Own Closed : Type 0} (made other : ℕ) → Own ⊎ ((made ≡ other) × Closed) → Own ⊎ Closed
 or_closed made other (inl own) = inl own
 or_closed made other (inr shared) = inr shared.1
