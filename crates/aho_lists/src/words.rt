@@ -201,7 +201,8 @@ fn close(words: &mut Vec<u32>, list: u32, end: usize) -> Result<(), AllocError>
     put(words, end, LENGTH)
 }
 
-/// The empty list is from now on the list of this number, which has two owners then. Answers that number.
+/// An owner of the empty list gets the list of this number instead, which is closed, so that each owner keeps what it has.
+/// Answers the number.
 fn share_patterns(words: &mut Vec<u32>, list: u32) -> Result<u32, AllocError>
     requires laid { (count : ℕ) × AreLaid words.old.items count × (count ≤ greatest_index + 1) }
     requires held { IsHeld words.old.items list }

@@ -70,9 +70,7 @@ fn a_list_is_read_by_index(rt: HostRuntime) {
 #[test]
 fn patterns_stand_in_their_order(rt: HostRuntime) {
     let mut store = MatchLists::new(rt.alloc(), 3);
-    let list = store
-        .push(0, pattern(&rt, 4))
-        .expect(&rt, "a pattern");
+    let list = store.push(0, pattern(&rt, 4)).expect(&rt, "a pattern");
     let list = store.push(list, pattern(&rt, 2)).expect(&rt, "another");
     let list = store.push(list, pattern(&rt, 4)).expect(&rt, "a third");
     assert_eq!(rt; store.len(), 4);
@@ -86,38 +84,4 @@ fn patterns_stand_in_their_order(rt: HostRuntime) {
     assert_same(&rt, store.push(list, pattern(&rt, 1)), Err(overflow(3)));
     let clone = store.try_clone(rt.alloc()).expect(&rt, "memory");
     assert_eq!(rt; clone.len(), 4);
-}
-
-// Whether the list has these patterns.
-fn has(store: &MatchLists, list: u32, wanted: &[PatternID]) -> bool {
-    store.len_of(list) == wanted.len() && store.iter(list).eq(wanted.iter().copied())
-}
-
-#[test]
-fn patterns_are_shared(rt: HostRuntime) {
-    let (a, b, c) = (pattern(&rt, 4), pattern(&rt, 2), pattern(&rt, 9));
-    let mut store = MatchLists::new(rt.alloc(), 30);
-    let one = store.push(0, a).expect(&rt, "a pattern");
-    let two = store.join(0, one).expect(&rt, "a shared list");
-    let three = store.join(0, two).expect(&rt, "another");
-    assert_same(&rt, store.len(), 4);
-    assert_same(&rt, one, two);
-    let two = store.push(two, b).expect(&rt, "a pattern of the second");
-    assert!(rt; has(&store, one, &[a]));
-    assert!(rt; has(&store, two, &[a, b]));
-    let four = store.join(0, two).expect(&rt, "a shared list");
-    let two = store.push(two, c).expect(&rt, "and one more");
-    let one = store.push(one, c).expect(&rt, "a pattern of the first");
-    let one = store.push(one, b).expect(&rt, "a pattern of the first");
-    assert!(rt; has(&store, one, &[a, c, b]));
-    assert!(rt; has(&store, two, &[a, b, c]));
-    assert!(rt; has(&store, three, &[a]));
-    assert!(rt; has(&store, four, &[a, b]));
-    let three = store.join(three, two).expect(&rt, "joined");
-    let five = store.join(0, three).expect(&rt, "shared");
-    let three = store.push(three, a).expect(&rt, "and longer");
-    assert!(rt; has(&store, three, &[a, a, b, c, a]));
-    assert!(rt; has(&store, five, &[a, a, b, c]));
-    assert!(rt; has(&store, two, &[a, b, c]));
-    assert_same(&rt, store.len(), 18);
 }

@@ -145,20 +145,51 @@ fn lists_these(rt: &impl Abort, alloc: Global, table: &Table, sid: StateID, want
     assert_same(rt, patterns.as_slice(), wanted);
 }
 
-// FAIL lists what DEAD lists, and then either of them one pattern more.
+// A table of two states, where FAIL lists what DEAD lists.
+fn sharing(rt: &impl Abort, alloc: Global, shared: PatternID) -> Table
+    ensures two { length result.states ≡ 2 }
+{
+    let mut table = Table::new(alloc, 9).expect(rt, "an empty table");
+    table.add_state(index(rt, 0)).expect(rt, "a state");
+    table.add_state(index(rt, 1)).expect(rt, "another state");
+    table.add_match(DEAD, shared).expect(rt, "a pattern");
+    let appended = table.append_matches(FAIL, DEAD);
+    appended.expect(rt, "a shared list");
+    table
+}
+
+// One of them lists one pattern more, and then the other.
+fn owners_grow_apart(rt: &impl Abort, alloc: Global, one: StateID, other: StateID)
+    requires one { one < 2 }
+    requires other { other < 2 }
+{
+    let (first, second, third) = (pattern(rt, 7), pattern(rt, 2), pattern(rt, 5));
+    let mut table = sharing(rt, alloc, first);
+    table.add_match(one, second).expect(rt, "a pattern");
+    lists_these(rt, alloc, &table, one, [first, second].as_slice());
+    lists_these(rt, alloc, &table, other, [first].as_slice());
+    let added = table.add_match(other, third);
+    added.expect(rt, "another pattern");
+    lists_these(rt, alloc, &table, one, [first, second].as_slice());
+    lists_these(rt, alloc, &table, other, [first, third].as_slice());
+}
+
 #[test]
 fn states_share_a_list(rt: HostRuntime) {
-    let mut table = two_states(&rt, rt.alloc());
+    owners_grow_apart(&rt, rt.alloc(), DEAD, FAIL);
+    owners_grow_apart(&rt, rt.alloc(), FAIL, DEAD);
+}
+
+#[test]
+fn a_state_appends_what_it_shares(rt: HostRuntime) {
     let (first, second) = (pattern(&rt, 7), pattern(&rt, 2));
-    table.add_match(DEAD, first).expect(&rt, "a pattern");
-    table.append_matches(FAIL, DEAD).expect(&rt, "a shared one");
-    lists_these(&rt, rt.alloc(), &table, FAIL, [first].as_slice());
-    table.add_match(DEAD, second).expect(&rt, "another pattern");
-    lists_these(&rt, rt.alloc(), &table, DEAD, [first, second].as_slice());
-    lists_these(&rt, rt.alloc(), &table, FAIL, [first].as_slice());
-    assert_same(&rt, table.matches_count(), 4);
-    assert_same(&rt, table.append_matches(DEAD, FAIL), Err(overflow()));
-    lists_these(&rt, rt.alloc(), &table, DEAD, [first, second].as_slice());
+    let mut table = sharing(&rt, rt.alloc(), first);
+    let appended = table.append_matches(DEAD, FAIL);
+    appended.expect(&rt, "the list once more");
+    lists_these(&rt, rt.alloc(), &table, DEAD, [first, first].as_slice());
+    table.add_match(FAIL, second).expect(&rt, "a pattern");
+    lists_these(&rt, rt.alloc(), &table, DEAD, [first, first].as_slice());
+    lists_these(&rt, rt.alloc(), &table, FAIL, [first, second].as_slice());
 }
 
 #[test]
