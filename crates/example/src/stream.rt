@@ -1,0 +1,26 @@
+//! Searches of a stream.
+
+ghost use Rattle.std.specs.Prelude.{IfOk};
+ghost use Rattle.chromesquid.specs.Rules.{Answers, FindsSoFar, HasNoEmpty, IsBuiltFrom, No, Patterns};
+
+use anyhow::Result;
+use chromesquid::{AhoCorasick, Match, Source, StreamError};
+use std::alloc::{AllocError, Global};
+
+/// The first matches of what a source gives, and the errors between them.
+pub fn first_of<R: Source>(
+    alloc: Global,
+    searcher: &AhoCorasick,
+    source: &mut R,
+    count: usize,
+) -> Result<Vec<Result<Match, StreamError>>, AllocError>
+    requires no_empty { HasNoEmpty searcher.now }
+    requires starts { Answers searcher.now No }
+    ensures first { (p : Patterns) → IsBuiltFrom searcher.now p → IfOk result (λ found.
+        (left : R) × FindsSoFar R.Source p source.old left found.items) }
+{
+    searcher
+        .stream_find_iter(alloc, source)?
+        .take(count)
+        .collect(alloc)
+}
