@@ -35,7 +35,7 @@ pub run_of_accepted : {S : Type 0} (gives : S → Option (Bor (List ℕ)) → S 
     → OfAccepted gives state settings is_true → WholeRun gives state (λ run. is_true (patterns_of settings run.items))
 run_of_accepted gives state settings is_true accepted =
     let drained = accepted.1.0 in
-    let run = exit_by gives (accepted.0, drained.1.0) drained.0 drained.1.1 in
+    let run = exit_by gives (accepted.0, drained.1.1) drained.0 drained.1.2 in
     (run.0, run.1, run.2, subst (λ (items : List (Bor (List ℕ))). is_true (patterns_of settings items)) (sym run.3.0) accepted.2)
 
 module _ (state : Copied (Iter (Bor (List ℕ)))) (patterns : List (Bor (List ℕ))) (is : iter_rest (copied_source state) ≡ patterns) where

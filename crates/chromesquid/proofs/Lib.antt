@@ -2,3 +2,5 @@
 pub mod Built
 -- what the searcher of a slice is of, and why its build fails
 pub mod Builds
+-- what a replacement of a stream is of
+pub mod Replaced

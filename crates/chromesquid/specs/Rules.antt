@@ -20,6 +20,6 @@ pub use Rattle.aho_stream.specs.Replacing.{ReplacesStream}
 pub use Rattle.aho_stream.specs.StreamRun.{RefusesUntouched, RunsOver}
 pub use Rattle.chromesquid.specs.Building.{IsFailureOf}
 pub use Rattle.chromesquid.specs.Searcher.{Answers, HasEmpty, HasNoEmpty, IsBuiltFrom, Refuses, match_kind_of, memory_of, patterns_len_of}
-pub use Rattle.chromesquid.specs.Streams.{IsBegun, IsReplaced}
+pub use Rattle.chromesquid.specs.Streams.{IsBegun, IsReplaced, IsReplacedUpTo}
 pub use Rattle.chromesquid.specs.declared.kinds.AhoCorasickKind.TheVariants.{NoncontiguousNFA}
 pub use Rattle.chromesquid.specs.declared.kinds.StartKind.TheVariants.{Both, Unanchored}

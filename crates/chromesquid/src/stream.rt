@@ -13,8 +13,9 @@ ghost use Rattle.aho_devices.specs.Refusals.{IsFillRefusal, is_read_fault, is_wr
 ghost use Rattle.aho_stream.specs.After.{greatest_position};
 ghost use Rattle.aho_stream.specs.FindRuns.{FindsAlong, RunFindsAll, RunFindsFirst};
 ghost use Rattle.aho_stream.specs.Refills.{is_limit};
-ghost use Rattle.aho_stream.specs.Replacing.{BeginsStream, GaveAsMany, IsMakingRefusal, ReplacesStream, ReplacesStreamUpTo};
+ghost use Rattle.aho_stream.specs.Replacing.{GaveAsMany, IsMakingRefusal};
 ghost use Rattle.aho_stream.specs.StreamRun.{RefusesUntouched, RunsOver};
+ghost use Rattle.chromesquid.specs.Streams.{IsBegun, IsReplaced, IsReplacedUpTo};
 
 use crate::searcher::AhoCorasick;
 use aho_base::error::StreamError;
@@ -115,13 +116,13 @@ impl AhoCorasick {
         requires one_each { length replace_with.now ≡ patterns_len_of self.now }
         requires no_empty { HasNoEmpty self.now }
         requires starts { Answers self.now No }
-        ensures replaced { OnOk result (ReplacesStream ⟦<AhoCorasick as Automaton>⟧ R.Source W.Sink
-            self.now (pieces_of replace_with.now) source.old source.new sink.old sink.new) }
-        ensures begun { OnErr result (BeginsStream ⟦<AhoCorasick as Automaton>⟧ R.Source W.Sink
-            self.now (pieces_of replace_with.now) source.old source.new sink.old sink.new) }
-        ensures near { IfErr result (λ error. IsFillRefusal error →
-            ReplacesStreamUpTo ⟦<AhoCorasick as Automaton>⟧ R.Source W.Sink
-            self.now (pieces_of replace_with.now) source.old source.new sink.old sink.new) }
+        ensures replaced { (p : Patterns) → IsBuiltFrom self.now p → OnOk result (IsReplaced R.Source
+            W.Sink p (pieces_of replace_with.now) source.old source.new sink.old sink.new) }
+        ensures begun { (p : Patterns) → IsBuiltFrom self.now p → OnErr result (IsBegun R.Source
+            W.Sink p (pieces_of replace_with.now) source.old source.new sink.old sink.new) }
+        ensures near { (p : Patterns) → IsBuiltFrom self.now p → IfErr result (λ error.
+            IsFillRefusal error → IsReplacedUpTo R.Source W.Sink
+            p (pieces_of replace_with.now) source.old source.new sink.old sink.new) }
         ensures limit { is_limit result ≡ true →
             GaveAsMany R.Source source.old source.new greatest_position }
         ensures read_failed { R.failures source.new
@@ -152,13 +153,13 @@ impl AhoCorasick {
         replace_with: &[&[u8]],
     ) -> Result<(), StreamError>
         requires one_each { length replace_with.now ≡ patterns_len_of self.now }
-        ensures replaced { OnOk result (ReplacesStream ⟦<AhoCorasick as Automaton>⟧ R.Source W.Sink
-            self.now (pieces_of replace_with.now) source.old source.new sink.old sink.new) }
-        ensures begun { OnErr result (BeginsStream ⟦<AhoCorasick as Automaton>⟧ R.Source W.Sink
-            self.now (pieces_of replace_with.now) source.old source.new sink.old sink.new) }
-        ensures near { IfErr result (λ error. IsFillRefusal error →
-            ReplacesStreamUpTo ⟦<AhoCorasick as Automaton>⟧ R.Source W.Sink
-            self.now (pieces_of replace_with.now) source.old source.new sink.old sink.new) }
+        ensures replaced { (p : Patterns) → IsBuiltFrom self.now p → OnOk result (IsReplaced R.Source
+            W.Sink p (pieces_of replace_with.now) source.old source.new sink.old sink.new) }
+        ensures begun { (p : Patterns) → IsBuiltFrom self.now p → OnErr result (IsBegun R.Source
+            W.Sink p (pieces_of replace_with.now) source.old source.new sink.old sink.new) }
+        ensures near { (p : Patterns) → IsBuiltFrom self.now p → IfErr result (λ error.
+            IsFillRefusal error → IsReplacedUpTo R.Source W.Sink
+            p (pieces_of replace_with.now) source.old source.new sink.old sink.new) }
         ensures limit { is_limit result ≡ true →
             GaveAsMany R.Source source.old source.new greatest_position }
         ensures read_failed { R.failures source.new

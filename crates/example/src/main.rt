@@ -11,6 +11,8 @@ mod rewrite;
 mod search;
 mod settings;
 mod stream;
+mod stream_rewrite;
+mod tried;
 
 use anyhow::Result;
 use chromesquid::{FromRead, FromWrite};

@@ -22,3 +22,20 @@ where
 {
     searcher.replace_all_with(text, out, rewrite)
 }
+
+/// The same of bytes.
+pub fn append_rewritten_bytes<F>(
+    searcher: &AhoCorasick,
+    bytes: &[u8],
+    out: &mut Vec<u8>,
+    rewrite: F,
+) -> Result<(), AllocError>
+where
+    F: FnMut(&Match, &[u8], &mut Vec<u8>) -> Result<bool, AllocError>,
+    requires starts { Answers searcher.now No }
+    requires callable { F.IsAlwaysCallable rewrite }
+    ensures run { HoldsOfFinds (IsBuiltFrom searcher.now) bytes.now (λ ms.
+        RunsInMemory F.FnMut vec_items bytes.now ms rewrite out.old result out.new) }
+{
+    searcher.replace_all_with_bytes(bytes, out, rewrite)
+}

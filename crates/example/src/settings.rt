@@ -1,13 +1,17 @@
-//! A builder with all its settings.
+//! Builds with settings.
 
-ghost use Rattle.std.specs.Prelude.{◌≡◌, IfOk, true};
-ghost use Rattle.chromesquid.specs.Rules.{Answers, Both, IsBuiltFrom, LeftmostLongest, default_settings, patterns_of};
+ghost use Rattle.std.specs.Prelude.{◌≡◌, IfErr, IfOk};
+ghost use Rattle.chromesquid.specs.Rules.{Both, IsBuiltFrom, IsFailureOf, default_settings, patterns_of};
 
-use chromesquid::{AhoCorasick, AhoCorasickBuilder, BuildError, Limits, MatchKind, StartKind};
+use chromesquid::{AhoCorasick, AhoCorasickBuilder, BuildError, Limits, StartKind};
 use std::alloc::Global;
 
-/// A builder for patterns of strangers: short ones, and not too many.
-pub fn careful_builder() -> AhoCorasickBuilder {
+/// A searcher that takes little memory, for all searches. Long words are refused.
+pub fn small_searcher(alloc: Global, words: &[&[u8]]) -> Result<AhoCorasick, BuildError>
+    ensures of { IfOk result (λ searcher.
+        IsBuiltFrom searcher (patterns_of default_settings words.now)) }
+    ensures starts { IfOk result (λ searcher. searcher.start_kind ≡ Both) }
+{
     let limits = Limits {
         id: 1_000_000,
         pattern: 1_000,
@@ -16,14 +20,23 @@ pub fn careful_builder() -> AhoCorasickBuilder {
     AhoCorasick::builder()
         .start_kind(StartKind::Both)
         .prefilter(false)
-        .dense_depth(2)
+        .dense_depth(0)
         .limits(limits)
+        .build(alloc, words)
 }
 
-/// The searcher of these words.
+/// The searcher of words from an iterator.
 pub fn searcher_of(alloc: Global, words: &[&[u8]]) -> Result<AhoCorasick, BuildError>
-    ensures of { IfOk result (λ searcher. IsBuiltFrom searcher (patterns_of default_settings words.now)) }
-    ensures starts { IfOk result (λ searcher. searcher.start_kind ≡ Both) }
+    ensures of { IfOk result (λ searcher.
+        IsBuiltFrom searcher (patterns_of default_settings words.now)) }
 {
     AhoCorasick::new_from_iter(alloc, words.iter().copied())
+}
+
+/// The searcher of some words, and why there is none.
+pub fn searcher_or_reason(alloc: Global, words: &[&[u8]]) -> Result<AhoCorasick, BuildError>
+    ensures refused { IfErr result
+        (IsFailureOf default_settings (patterns_of default_settings words.now)) }
+{
+    AhoCorasick::new(alloc, words)
 }
