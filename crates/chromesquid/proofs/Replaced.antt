@@ -1,6 +1,6 @@
 -- What a replacement of a stream by a searcher is, of the patterns that the searcher was built from.
 use Rattle.std.proofs.Common.{◌≡◌, subst, ap, List, ℕ}
-use Rattle.std.specs.Prelude.{◌+◌, ◌≤◌, Result, Unit, IfErr, OnErr, OnOk, length}
+use Rattle.std.specs.Prelude.{◌+◌, ◌≤◌, Result, IfErr, OnErr, OnOk, length}
 use Rattle.std.proofs.lemmas.Result.{IfErr-weaker, on_err_weaker, on_ok_weaker}
 use Rattle.aho_base.specs.Patterns.{Patterns}
 use Rattle.aho_base.specs.declared.error.stream.StreamError.{StreamError}
