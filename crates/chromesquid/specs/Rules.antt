@@ -15,11 +15,8 @@ pub use Rattle.aho_build.specs.Items.{patterns_of}
 pub use Rattle.aho_build.specs.Refusals.{cause}
 pub use Rattle.aho_build.specs.Settings.{default_settings}
 pub use Rattle.aho_search.specs.Finding.{AreFirstFinds, HoldsOfFinds}
-pub use Rattle.aho_stream.specs.FindRuns.{FindsAll, FindsSoFar}
-pub use Rattle.aho_stream.specs.Replacing.{ReplacesStream}
-pub use Rattle.aho_stream.specs.StreamRun.{RefusesUntouched, RunsOver}
+pub use Rattle.aho_stream.specs.FindRuns.{is_limit_among}
+pub use Rattle.aho_stream.specs.StreamRun.{RefusesUntouched}
 pub use Rattle.chromesquid.specs.Building.{IsFailureOf}
 pub use Rattle.chromesquid.specs.Searcher.{Answers, HasEmpty, HasNoEmpty, IsBuiltFrom, Refuses, match_kind_of, memory_of, patterns_len_of}
-pub use Rattle.chromesquid.specs.Streams.{IsBegun, IsReplaced, IsReplacedUpTo}
-pub use Rattle.chromesquid.specs.declared.kinds.AhoCorasickKind.TheVariants.{NoncontiguousNFA}
-pub use Rattle.chromesquid.specs.declared.kinds.StartKind.TheVariants.{Both, Unanchored}
+pub use Rattle.chromesquid.specs.Streams.{FindsFirst, FindsWhole, IsBegun, IsReplaced, IsReplacedUpTo, IsStreamRun}

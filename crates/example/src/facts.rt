@@ -1,7 +1,7 @@
 //! What a searcher tells of its patterns.
 
 ghost use Rattle.std.specs.Prelude.{◌≡◌, IfOk, length, map, true};
-ghost use Rattle.chromesquid.specs.Rules.{Answers, HasNoEmpty, IsBuiltFrom, No, NoncontiguousNFA, Patterns, Standard, default_settings, longest, memory_for, patterns_of};
+ghost use Rattle.chromesquid.specs.Rules.{Answers, HasNoEmpty, IsBuiltFrom, No, Patterns, Standard, default_settings, longest, memory_for, patterns_of};
 
 use chromesquid::{AhoCorasick, AhoCorasickKind, BuildError, MatchKind, StartKind};
 use std::alloc::Global;

@@ -1,6 +1,6 @@
 //! All matches, those that overlap too.
 
-ghost use Rattle.std.specs.Prelude.{◌≡◌, IfOk, length};
+ghost use Rattle.std.specs.Prelude.{◌≡◌, IfOk, length, take};
 ghost use Rattle.chromesquid.specs.Rules.{Answers, IsBuiltFrom, No, Patterns, Standard, all_occurrences, match_kind_of};
 
 use chromesquid::{AhoCorasick, Match, MatchError};

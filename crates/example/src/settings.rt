@@ -1,7 +1,7 @@
 //! Builds with settings.
 
 ghost use Rattle.std.specs.Prelude.{◌≡◌, IfErr, IfOk};
-ghost use Rattle.chromesquid.specs.Rules.{Both, IsBuiltFrom, IsFailureOf, default_settings, patterns_of};
+ghost use Rattle.chromesquid.specs.Rules.{IsBuiltFrom, IsFailureOf, default_settings, patterns_of};
 
 use chromesquid::{AhoCorasick, AhoCorasickBuilder, BuildError, Limits, StartKind};
 use std::alloc::Global;
@@ -10,7 +10,7 @@ use std::alloc::Global;
 pub fn small_searcher(alloc: Global, words: &[&[u8]]) -> Result<AhoCorasick, BuildError>
     ensures of { IfOk result (λ searcher.
         IsBuiltFrom searcher (patterns_of default_settings words.now)) }
-    ensures starts { IfOk result (λ searcher. searcher.start_kind ≡ Both) }
+    ensures starts { IfOk result (λ searcher. searcher.start_kind ≡ StartKind.Both) }
 {
     let limits = Limits {
         id: 1_000_000,

@@ -1,9 +1,8 @@
 //! Searches of a stream.
 
 ghost use Rattle.std.specs.Prelude.{IfOk};
-ghost use Rattle.chromesquid.specs.Rules.{Answers, FindsSoFar, HasNoEmpty, IsBuiltFrom, No, Patterns};
+ghost use Rattle.chromesquid.specs.Rules.{Answers, FindsFirst, HasNoEmpty, IsBuiltFrom, No, Patterns};
 
-use anyhow::Result;
 use chromesquid::{AhoCorasick, Match, Source, StreamError};
 use std::alloc::{AllocError, Global};
 
@@ -17,7 +16,7 @@ pub fn first_of<R: Source>(
     requires no_empty { HasNoEmpty searcher.now }
     requires starts { Answers searcher.now No }
     ensures first { (p : Patterns) → IsBuiltFrom searcher.now p → IfOk result (λ found.
-        (left : R) × FindsSoFar R.Source p source.old left found.items) }
+        FindsFirst R.Source p source.old found.items) }
 {
     searcher
         .stream_find_iter(alloc, source)?

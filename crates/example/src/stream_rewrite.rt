@@ -1,9 +1,9 @@
 //! Replacement in a stream.
 
 ghost use Rattle.std.specs.Prelude.{◌≡◌, ◌⊎◌, OnOk, length};
-ghost use Rattle.chromesquid.specs.Rules.{Answers, HasNoEmpty, IsBuiltFrom, IsReplaced, No, Patterns, RefusesUntouched, RunsOver, patterns_len_of, pieces_of};
+ghost use Rattle.chromesquid.specs.Rules.{Answers, HasNoEmpty, IsBuiltFrom, IsReplaced, IsStreamRun, No, Patterns, RefusesUntouched, patterns_len_of, pieces_of};
 
-use chromesquid::{AhoCorasick, Automaton, Match, Sink, Source, StreamError};
+use chromesquid::{AhoCorasick, Match, Sink, Source, StreamError};
 use std::alloc::Global;
 
 /// Writes what the source gives to the sink, with a mask in the place of each match.
@@ -36,9 +36,9 @@ where
     requires no_empty { HasNoEmpty searcher.now }
     requires starts { Answers searcher.now No }
     requires callable { F.IsAlwaysCallable rewrite }
-    ensures runs { RefusesUntouched result StreamError.Memory source.old source.new sink.old sink.new
-        ⊎ RunsOver ⟦<AhoCorasick as Automaton>⟧ R.Source W.Sink searcher.now F.FnMut
-        source.old source.new rewrite sink.old result sink.new }
+    ensures runs { (p : Patterns) → IsBuiltFrom searcher.now p
+        → RefusesUntouched result StreamError.Memory source.old source.new sink.old sink.new
+        ⊎ IsStreamRun R.Source W.Sink p F.FnMut source.old source.new rewrite sink.old result sink.new }
 {
     searcher.stream_replace_all_with(alloc, source, sink, rewrite)
 }
