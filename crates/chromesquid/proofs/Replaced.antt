@@ -80,8 +80,10 @@ module _ {A R : Type 0} {steps : StreamFindIter A R → Option (Result Occurrenc
     (it : StreamFindIter A R) where
   -- the first matches of a stream, and all of them
   pub first_of : EachRunFrom steps it (RunFindsFirst S p source) → EachRunFrom steps it (λ run. FindsFirst S p source run.items)
-  first_of finds = λ run seen from. let first = finds run seen from in record { left = first.0; so_far = first.1 }
+  unfolding FindsFirst
+  first_of finds = λ run seen from. finds run seen from
 
   pub whole_of : EachRunFrom steps it (RunFindsAll S p source)
       → EachRunFrom steps it (λ run. run.whole ≡ true → is_limit_among run.items ≡ false → FindsWhole S p source run.items)
-  whole_of finds = λ run seen from whole none. let all = finds run seen from whole none in record { left = all.0; all = all.1 }
+  unfolding FindsWhole
+  whole_of finds = λ run seen from whole none. finds run seen from whole none

@@ -51,14 +51,12 @@ module _ {R W : Type 0} (S : SourceGhosts R) (K : SinkGhosts W) (p : Patterns) (
         → Appends (K.taken sink) (K.taken sink') (replaced_up_to bytes place 0 ms (piece_for pieces))
 
 -- these were the answers since a search of the source began: the matches among them are the first finds of what the source gave
-pub record FindsFirst {R : Type 0} (S : SourceGhosts R) (p : Patterns) (source : R) (items : List (Result Occurrence StreamError)) : Type 0 where
-  pub left : R
-  pub so_far : FindsSoFar S p source left items
+unfoldable pub FindsFirst : {R : Type 0} → SourceGhosts R → Patterns → R → List (Result Occurrence StreamError) → Type 0
+FindsFirst {R} S p source items = (left : R) × FindsSoFar S p source left items
 
 -- and these were all: the end of the source was seen, and the matches among them are all finds of what it gave
-pub record FindsWhole {R : Type 0} (S : SourceGhosts R) (p : Patterns) (source : R) (items : List (Result Occurrence StreamError)) : Type 0 where
-  pub left : R
-  pub all : FindsAll S p source left items
+unfoldable pub FindsWhole : {R : Type 0} → SourceGhosts R → Patterns → R → List (Result Occurrence StreamError) → Type 0
+FindsWhole {R} S p source items = (left : R) × FindsAll S p source left items
 
 -- a replacement of a stream with this closure and to this sink may end so: it is a run over the bytes given and any that may
 -- follow, where a refusal ends the run. At most as many of the given bytes are left out where the reading stopped as the longest
