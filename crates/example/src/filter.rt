@@ -1,27 +1,19 @@
 //! A keyword filter.
 
-ghost use Rattle.std.specs.Prelude.{◌≡◌, IfOk, Option, is_none, true};
-ghost use Rattle.chromesquid.specs.Rules.{Answers, IsAnswer, IsBuiltFrom, No, Occurrence, Patterns, default_settings, patterns_of, plain_search};
+ghost use Rattle.std.specs.Prelude.{◌≡◌, IfOk, Option, is_none};
+ghost use Rattle.chromesquid.specs.Rules.{IsAnswer, Occurrence, default_settings, patterns_of, plain_search};
 
 use chromesquid::{AhoCorasick, BuildError};
 use std::alloc::Global;
 
-/// Whether a line holds none of the words of a filter.
-pub fn passes(filter: &AhoCorasick, line: &str) -> bool
-    requires starts { Answers filter.now No }
-    ensures passes { (p : Patterns) → IsBuiltFrom filter.now p → (answer : Option Occurrence)
-        × IsAnswer p (record (plain_search line.now) { earliest = true }) answer × (result ≡ is_none answer) }
+/// Whether a text holds none of these words, whatever the case of their letters.
+pub fn passes(alloc: Global, words: &[&[u8]], text: &str) -> Result<bool, BuildError>
+    ensures passes { IfOk result (λ passes. (answer : Option Occurrence)
+        × IsAnswer (patterns_of (record default_settings { ignore_case = true }) words.now)
+        (record (plain_search text.now) { earliest = true }) answer × (passes ≡ is_none answer)) }
 {
-    !filter.is_match(line)
-}
-
-/// A filter of these words, whatever the case of their letters.
-pub fn filter_of(alloc: Global, words: &[&[u8]]) -> Result<AhoCorasick, BuildError>
-    ensures starts { IfOk result (λ filter. Answers filter No) }
-    ensures of { IfOk result (λ filter. IsBuiltFrom filter
-        (patterns_of (record default_settings { ignore_case = true }) words.now)) }
-{
-    AhoCorasick::builder()
+    let filter = AhoCorasick::builder()
         .ascii_case_insensitive(true)
-        .build(alloc, words)
+        .build(alloc, words)?;
+    Ok(!filter.is_match(text))
 }

@@ -1,27 +1,24 @@
-//! Four small programs: a search, a replacement, a lexer and a redacted stream.
+//! Small programs: a search, a replacement, a keyword filter, a lexer and a redactor.
 #![tactic(auto)]
 
-mod facts;
+mod callers;
 mod filter;
 mod lex;
 mod mask;
-mod overlaps;
 mod redact;
-mod rewrite;
 mod search;
-mod settings;
-mod stream;
-mod stream_rewrite;
-mod tried;
 
 use anyhow::Result;
 use chromesquid::{FromRead, FromWrite};
 
 fn main(rt: HostRuntime) -> Result<()> {
-    let words: [&[u8]; 2] = [b"samwise", b"sam"];
-    if let Some(found) = search::first_of(rt.alloc(), &words, b"samwise")? {
-        println!(rt; "{} at {}..{}", found.pattern().as_usize(), found.start(), found.end())?;
+    let words: [&[u8]; 2] = [b"fox", b"quick"];
+    if let Some(found) = search::first_of(rt.alloc(), &[b"samwise", b"sam"], b"samwise")? {
+        println!(rt; "{} at {}", found.pattern().as_usize(), found.start())?;
     }
+    let masked = mask::masked(rt.alloc(), &words, &["sloth", "slow"], "The quick fox.")?;
+    println!(rt; "{masked}")?;
+    println!(rt; "{}", filter::passes(rt.alloc(), &words, "Quick!")?)?;
     for token in lex::tokens(rt.alloc(), &[b"a", b"+"], b"a+a?a")? {
         println!(rt; "{} at {}", token.pattern().as_usize(), token.start())?;
     }

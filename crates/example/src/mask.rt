@@ -1,10 +1,10 @@
-//! Replacement in memory.
+//! A replacement in memory.
 
-ghost use Rattle.std.specs.Prelude.{◌≡◌, IfOk, List, None, length, string_bytes, vec_items};
-ghost use Rattle.chromesquid.specs.Rules.{Answers, AreFinds, HoldsOfFinds, IsBuiltFrom, No, Occurrence, default_settings, on_boundaries, patterns_len_of, patterns_of, pieces_of, plain_search, replaced};
+ghost use Rattle.std.specs.Prelude.{◌≡◌, IfOk, List, None, length, string_bytes};
+ghost use Rattle.chromesquid.specs.Rules.{AreFinds, Occurrence, default_settings, on_boundaries, patterns_of, pieces_of, plain_search, replaced};
 
 use chromesquid::{AhoCorasick, BuildError};
-use std::alloc::{AllocError, Global};
+use std::alloc::Global;
 
 /// A text with each of these words replaced by its mask.
 pub fn masked(
@@ -24,14 +24,4 @@ pub fn masked(
         Ok(masked) => Ok(masked),
         Err(_) => Err(BuildError::OutOfMemory),
     }
-}
-
-/// The bytes with each match replaced by the mask of its pattern.
-pub fn masked_bytes(alloc: Global, searcher: &AhoCorasick, masks: &[&[u8]], bytes: &[u8]) -> Result<Vec<u8>, AllocError>
-    requires starts { Answers searcher.now No }
-    requires one_each { length masks.now ≡ patterns_len_of searcher.now }
-    ensures masked { HoldsOfFinds (IsBuiltFrom searcher.now) bytes.now (λ ms. IfOk result
-        (λ masked. vec_items masked ≡ replaced bytes.now ms (pieces_of masks.now))) }
-{
-    searcher.replace_all_bytes(alloc, bytes, masks)
 }

@@ -1,11 +1,11 @@
-//! The calls that test their conditions.
+//! Searches that may be refused.
 
-ghost use Rattle.std.specs.Prelude.{◌≡◌, IfOk, None, OnOk, Ok, length, string_bytes};
-ghost use Rattle.chromesquid.specs.Rules.{AreFinds, HoldsOfFinds, IsAnswer, IsBuiltFrom, Patterns, RunsInMemory, default_settings, on_boundaries, patterns_len_of, patterns_of, pieces_of, plain_search, replaced};
+ghost use Rattle.std.specs.Prelude.{IfOk, None};
+ghost use Rattle.chromesquid.specs.Rules.{AreFinds, IsAnswer, IsBuiltFrom, Patterns};
 
 use anyhow::Result;
-use chromesquid::{AhoCorasick, Input, Match, MatchError, ReplaceError};
-use std::alloc::{AllocError, Global};
+use chromesquid::{AhoCorasick, Input, Match, MatchError};
+use std::alloc::Global;
 
 /// The match that a search finds.
 pub fn find(searcher: &AhoCorasick, input: Input<'_>) -> Result<Option<Match>, MatchError>

@@ -1,4 +1,4 @@
-//! Searches of a stream.
+//! The matches of a stream.
 
 ghost use Rattle.std.specs.Prelude.{IfOk};
 ghost use Rattle.chromesquid.specs.Rules.{Answers, FindsFirst, HasNoEmpty, IsBuiltFrom, No, Patterns};
@@ -6,7 +6,7 @@ ghost use Rattle.chromesquid.specs.Rules.{Answers, FindsFirst, HasNoEmpty, IsBui
 use chromesquid::{AhoCorasick, Match, Source, StreamError};
 use std::alloc::{AllocError, Global};
 
-/// The first matches of what a source gives, and the errors between them.
+/// The first answers of a search of what a source gives: matches, and errors between them.
 pub fn first_of<R: Source>(
     alloc: Global,
     searcher: &AhoCorasick,
@@ -18,8 +18,6 @@ pub fn first_of<R: Source>(
     ensures first { (p : Patterns) → IsBuiltFrom searcher.now p → IfOk result (λ found.
         FindsFirst R.Source p source.old found.items) }
 {
-    searcher
-        .stream_find_iter(alloc, source)?
-        .take(count)
-        .collect(alloc)
+    let matches = searcher.stream_find_iter(alloc, source)?;
+    matches.take(count).collect(alloc)
 }
