@@ -1,6 +1,6 @@
 //! A keyword filter.
 
-ghost use Rattle.std.specs.Prelude.{◌≡◌, IfOk, Option, is_none};
+ghost use Rattle.std.specs.Prelude.{◌≡◌, IfOk, Option, is_none, true};
 ghost use Rattle.chromesquid.specs.Rules.{IsAnswer, Occurrence, default_settings, patterns_of, plain_search};
 
 use chromesquid::{AhoCorasick, BuildError};

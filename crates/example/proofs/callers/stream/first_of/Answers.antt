@@ -10,6 +10,6 @@ returns g c = record {
       (λ found ran.
       let all = ran tt in
       let took = (c.take.ensures.runs all.0 all.0.seen all.1).1 in
-      subst (λ items. FindsFirst g.R.Source p c.args.source.now items) (sym (all.3.0 ∙ sym took.2.0.1)) (c.in_ok-stream_find_iter.ensures.first p built took.0 took.0.seen took.1))
+      subst (λ items. FindsFirst g.R.Source p c.args.source.now items) (sym (all.3.0 ∙ sym took.2.0.1)) (c.in_ok-matches.ensures.first p built took.0 took.0.seen took.1))
       c.collect.ensures.runs;
 }
