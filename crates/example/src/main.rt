@@ -18,7 +18,7 @@ fn main(rt: HostRuntime) -> Result<()> {
     }
     let masked = mask::masked(rt.alloc(), &words, &["sloth", "slow"], "The quick fox.")?;
     println!(rt; "{masked}")?;
-    println!(rt; "{}", filter::passes(rt.alloc(), &words, "Quick!")?)?;
+    println!(rt; "{}", filter::holds(rt.alloc(), &words, "Quick!")?)?;
     for token in lex::tokens(rt.alloc(), &[b"a", b"+"], b"a+a?a")? {
         println!(rt; "{} at {}", token.pattern().as_usize(), token.start())?;
     }
