@@ -4,6 +4,7 @@ use Rattle.std.specs.Prelude.{Err, Ok, map, length, if◌then◌else◌}
 use Rattle.std.proofs.lemmas.List.{length-map}
 use Rattle.std.proofs.lemmas.Simd.{map-map}
 use denote.Ref.{Bor}
+use Rattle.aho_base.specs.Laws.{longest, shortest}
 use Rattle.aho_base.specs.Patterns.{Patterns}
 use Rattle.aho_base.specs.declared.error.MatchErrorKind.TheVariants.{InvalidInputUnanchored}
 use Rattle.aho_base.specs.declared.search.Anchored.TheVariants.{No}
@@ -14,7 +15,7 @@ use Rattle.aho_build.specs.declared.settings.Settings.{Settings}
 use Rattle.aho_corasick.specs.Clones.{IsCloneOf}
 use Rattle.aho_corasick.specs.declared.noncontiguous.NFA.{NFA}
 use Rattle.aho_corasick.specs.contracts.noncontiguous.NFAAutomaton.TheImpl.{ghosts}
-use Rattle.chromesquid.specs.Searcher.{Answers, IsBuiltFrom, Refuses, Searcher, match_kind_of, patterns_len_of, refusal_of, start_by}
+use Rattle.chromesquid.specs.Searcher.{Answers, IsBuiltFrom, Refuses, Searcher, lengths_of, match_kind_of, patterns_len_of, refusal_of, start_by}
 
 -- it finds by its patterns' match kind
 pub kind-of : (p : Patterns) (nfa : NFA) → ghosts.is_of nfa p → ghosts.kind nfa ≡ p.kind
@@ -39,6 +40,13 @@ of_accepted gives state settings nfa searcher same is accepted =
 -- a searcher has as many patterns as it was built from
 pub count_of : (p : Patterns) (searcher : Searcher) → IsBuiltFrom searcher p → patterns_len_of searcher ≡ length p.words
 count_of p searcher built = ap length (lengths-of p searcher.automaton built.reads) ∙ length-map p.words length
+
+-- the shortest and the longest of its patterns
+pub shortest_of : (p : Patterns) (searcher : Searcher) → IsBuiltFrom searcher p → shortest (lengths_of searcher) ≡ shortest (map length p.words)
+shortest_of p searcher built = ap shortest (lengths-of p searcher.automaton built.reads)
+
+pub longest_of : (p : Patterns) (searcher : Searcher) → IsBuiltFrom searcher p → longest (lengths_of searcher) ≡ longest (map length p.words)
+longest_of p searcher built = ap longest (lengths-of p searcher.automaton built.reads)
 
 -- and finds by their match kind
 pub finds_by : (p : Patterns) (searcher : Searcher) → IsBuiltFrom searcher p → match_kind_of searcher ≡ p.kind

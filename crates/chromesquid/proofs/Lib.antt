@@ -1,2 +1,6 @@
 -- what an automaton's laws tell of its kind and its lengths
 pub mod Built
+-- what the searcher of a slice is of, and why its build fails
+pub mod Builds
+-- what a replacement of a stream is of
+pub mod Replaced

@@ -1,7 +1,10 @@
 -- What a searcher is seen as, and which patterns it was built from.
-use Rattle.std.specs.Prelude.{◌≡◌, ◌≤◌, ℕ, List, Bool, true, false, Result, Err, length, map, if◌then◌else◌}
+use Rattle.std.specs.Prelude.{◌≡◌, ◌≤◌, ℕ, List, Bool, true, false, Option, Result, Err, is_some, length, map, if◌then◌else◌}
+use Rattle.aho_base.specs.Answer.{IsAnswer}
 use Rattle.aho_base.specs.Laws.{shortest}
+use Rattle.aho_base.specs.Occurrence.{Occurrence}
 use Rattle.aho_base.specs.Patterns.{Patterns}
+use Rattle.aho_base.specs.Search.{Search}
 use Rattle.aho_build.specs.Settings.{default_settings}
 use Rattle.aho_build.specs.declared.settings.Settings.{Settings}
 use Rattle.aho_base.specs.declared.error.MatchErrorKind.{MatchErrorKind}
@@ -71,6 +74,12 @@ Refuses searcher anchored = allows searcher.start_kind anchored ≡ false
 -- a search of this anchoring begins in the automaton's start, or is refused
 abbrev pub start_by : Searcher → Anchored → Result ℕ MatchErrorKind
 start_by searcher anchored = if allows searcher.start_kind anchored then ghosts.start searcher.automaton anchored else Err (refusal_of anchored)
+
+-- whether a search finds a match is told so
+pub record TellsMatch (p : Patterns) (search : Search) (told : Bool) : Type 0 where
+  pub answer : Option Occurrence
+  pub answers : IsAnswer p search answer
+  pub is : told ≡ is_some answer
 
 -- how a searcher is built
 pub record Building : Type 0 where

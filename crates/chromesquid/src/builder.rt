@@ -1,9 +1,13 @@
 //! The settings of a searcher, and its build.
 
-ghost use Rattle.std.specs.Prelude.{◌≡◌, IfErr, IfOk, length, map};
+ghost use Rattle.std.specs.Prelude.{◌≡◌, IfErr, IfOk, None, length, map};
 ghost use Rattle.std.specs.Iterator.{IsFinite};
+ghost use Rattle.std.specs.Iterator.Runs.{WholeRun};
 ghost use Rattle.aho_base.specs.Patterns.{Patterns};
+ghost use Rattle.aho_build.specs.Automaton.{memory_for};
 ghost use Rattle.aho_build.specs.Items.{IsFailure, OfAccepted, patterns_of};
+ghost use Rattle.aho_build.specs.Refusals.{cause};
+ghost use Rattle.chromesquid.specs.Building.{IsFailureOf};
 
 use crate::kinds::StartKind;
 use crate::searcher::AhoCorasick;
@@ -45,12 +49,18 @@ impl Default for AhoCorasickBuilder {
 fn automaton_of(builder: &Builder, alloc: Global, patterns: &[&[u8]]) -> Result<NFA, BuildError>
     ensures of { IfOk result (λ nfa.
         ⟦<NFA as Automaton>⟧.is_of nfa (patterns_of builder.now patterns.now)) }
+    ensures memory { IfOk result (λ nfa. ⟦<NFA as Automaton>⟧.memory nfa
+        ≡ memory_for builder.now (patterns_of builder.now patterns.now)) }
+    ensures accepted { IfOk result (λ nfa.
+        cause builder.now (patterns_of builder.now patterns.now) ≡ None) }
+    ensures refused { IfErr result
+        (IsFailureOf builder.now (patterns_of builder.now patterns.now)) }
 {
     builder.build(alloc, patterns.iter().copied())
 }
 
 impl AhoCorasickBuilder {
-    ghost use Rattle.chromesquid.specs.Searcher.{IsBuiltFrom, default_building, lengths_of, match_kind_of, patterns_len_of};
+    ghost use Rattle.chromesquid.specs.Searcher.{IsBuiltFrom, default_building, lengths_of, match_kind_of, memory_of, patterns_len_of};
 
     /// Standard, with regard to case, for searches that are not anchored, with a prefilter where one can be held, dense rows
     /// up to depth 3, and the greatest limits.
@@ -77,6 +87,12 @@ impl AhoCorasickBuilder {
         ensures lengths { IfOk result (λ built.
             lengths_of built ≡ map (λ pattern. length pattern.now) patterns.now) }
         ensures count { IfOk result (λ built. patterns_len_of built ≡ length patterns.now) }
+        ensures memory { IfOk result (λ built. memory_of built
+            ≡ memory_for self.now.settings (patterns_of self.now.settings patterns.now)) }
+        ensures accepted { IfOk result (λ built.
+            cause self.now.settings (patterns_of self.now.settings patterns.now) ≡ None) }
+        ensures refused { IfErr result
+            (IsFailureOf self.now.settings (patterns_of self.now.settings patterns.now)) }
     {
         let automaton = automaton_of(&self.automaton, alloc, patterns)?;
         Ok(AhoCorasick::of_automaton(automaton, self.start_kind))
@@ -97,6 +113,8 @@ impl AhoCorasickBuilder {
         requires ends { IsFinite (I.remaining patterns) }
         ensures of { IfOk result (λ built.
             OfAccepted I.next_gives patterns self.now.settings (IsBuiltFrom built)) }
+        ensures runs { IfOk result (λ built. WholeRun I.next_gives patterns (λ run.
+            IsBuiltFrom built (patterns_of self.now.settings run.items))) }
         ensures match_kind { IfOk result (λ built. match_kind_of built ≡ self.now.settings.kind) }
         ensures start_kind { IfOk result (λ built. built.start_kind ≡ self.now.start_kind) }
         ensures refused { IfErr result (IsFailure I.next_gives patterns self.now.settings) }

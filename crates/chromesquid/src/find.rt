@@ -1,9 +1,8 @@
 //! Searches in memory.
 
-ghost use Rattle.std.specs.Prelude.{◌≡◌, ◌≢◌, ◌*◌, ◌<◌, ◌≤◌, IfErr, IfOk, IsOk, is_some, Option, Ok, Err, None, true, false, length};
+ghost use Rattle.std.specs.Prelude.{◌≡◌, ◌≢◌, ◌*◌, ◌<◌, ◌≤◌, IfErr, IfOk, IsOk, Ok, Err, None, true, false, length};
 ghost use Rattle.std.specs.Iterator.{UpTo};
 ghost use Rattle.aho_base.specs.Answer.{IsAnswer};
-ghost use Rattle.aho_base.specs.Occurrence.{Occurrence};
 ghost use Rattle.aho_base.specs.Patterns.{Patterns};
 ghost use Rattle.aho_base.specs.declared.error.MatchErrorKind.TheVariants.{InvalidInputAnchored, InvalidInputUnanchored, UnsupportedOverlapping};
 ghost use Rattle.aho_base.specs.declared.search.Anchored.TheVariants.{No, Yes};
@@ -30,7 +29,7 @@ pub type FindOverlappingIter<'a, 'h> = aho_search::automaton::FindOverlappingIte
 >;
 
 impl AhoCorasick {
-    ghost use Rattle.chromesquid.specs.Searcher.{Answers, IsBuiltFrom, Refuses, match_kind_of, patterns_len_of, refusal_of};
+    ghost use Rattle.chromesquid.specs.Searcher.{Answers, IsBuiltFrom, Refuses, TellsMatch, match_kind_of, patterns_len_of, refusal_of};
 
     /// The match that the search finds, none where there is none.
     ///
@@ -69,9 +68,7 @@ impl AhoCorasick {
     pub fn is_match<'h, I: Searchable<'h>>(&self, input: I) -> bool
         requires starts { Answers self.now (I.search input).anchored }
         ensures found { (p : Patterns) → IsBuiltFrom self.now p
-            → (answer : Option Occurrence)
-            × IsAnswer p (record (I.search input) { earliest = true }) answer
-            × (result ≡ is_some answer) }
+            → TellsMatch p (record (I.search input) { earliest = true }) result }
     {
         match Automaton::try_find(self.built(), &input.into_input().earliest(true)) {
             Ok(found) => found.is_some(),

@@ -1,13 +1,18 @@
 //! A searcher for some patterns.
 
-ghost use Rattle.std.specs.Prelude.{◌≡◌, ◌≤◌, IfErr, IfOk, length, map};
+ghost use Rattle.std.specs.Prelude.{◌≡◌, ◌≤◌, IfErr, IfOk, None, length, map};
 ghost use Rattle.std.specs.Iterator.{IsFinite};
+ghost use Rattle.std.specs.Iterator.Runs.{WholeRun};
 ghost use Rattle.aho_base.specs.Laws.{longest, shortest};
 ghost use Rattle.aho_base.specs.Numbers.{greatest_index};
 ghost use Rattle.aho_base.specs.Patterns.{Patterns};
 ghost use Rattle.aho_base.specs.declared.search.MatchKind.TheVariants.{Standard};
+ghost use Rattle.aho_build.specs.Automaton.{memory_for};
 ghost use Rattle.aho_build.specs.Items.{IsFailure, OfAccepted, patterns_of};
+ghost use Rattle.aho_build.specs.Refusals.{cause};
 ghost use Rattle.aho_build.specs.Settings.{default_settings};
+ghost use Rattle.chromesquid.specs.Building.{IsFailureOf};
+ghost use Rattle.chromesquid.specs.declared.kinds.AhoCorasickKind.TheVariants.{NoncontiguousNFA};
 ghost use Rattle.chromesquid.specs.declared.kinds.StartKind.TheVariants.{Unanchored};
 
 use crate::builder::AhoCorasickBuilder;
@@ -53,6 +58,12 @@ impl AhoCorasick {
         ensures lengths { IfOk result (λ built.
             lengths_of built ≡ map (λ pattern. length pattern.now) patterns.now) }
         ensures count { IfOk result (λ built. patterns_len_of built ≡ length patterns.now) }
+        ensures memory { IfOk result (λ built. memory_of built
+            ≡ memory_for default_settings (patterns_of default_settings patterns.now)) }
+        ensures accepted { IfOk result (λ built.
+            cause default_settings (patterns_of default_settings patterns.now) ≡ None) }
+        ensures refused { IfErr result
+            (IsFailureOf default_settings (patterns_of default_settings patterns.now)) }
     {
         AhoCorasickBuilder::new().build(alloc, patterns)
     }
@@ -70,6 +81,8 @@ impl AhoCorasick {
         requires ends { IsFinite (I.remaining patterns) }
         ensures of { IfOk result (λ built.
             OfAccepted I.next_gives patterns default_settings (IsBuiltFrom built)) }
+        ensures runs { IfOk result (λ built. WholeRun I.next_gives patterns (λ run.
+            IsBuiltFrom built (patterns_of default_settings run.items))) }
         ensures match_kind { IfOk result (λ built. match_kind_of built ≡ Standard) }
         ensures start_kind { IfOk result (λ built. built.start_kind ≡ Unanchored) }
         ensures refused { IfErr result (IsFailure I.next_gives patterns default_settings) }
@@ -138,15 +151,21 @@ impl AhoCorasick {
     }
 
     /// How many bytes the shortest pattern has; the greatest `usize` where there is no pattern.
+    #[tactic(auto, using(crate::proofs::Built::shortest_of))]
     pub fn min_pattern_len(&self) -> usize
         ensures shortest { result ≡ shortest (lengths_of self.now) }
+        ensures patterns { (p : Patterns) → IsBuiltFrom self.now p
+            → result ≡ shortest (map length p.words) }
     {
         Automaton::min_pattern_len(self)
     }
 
     /// How many bytes the longest pattern has; 0 where there is no pattern.
+    #[tactic(auto, using(crate::proofs::Built::longest_of))]
     pub fn max_pattern_len(&self) -> usize
         ensures longest { result ≡ longest (lengths_of self.now) }
+        ensures patterns { (p : Patterns) → IsBuiltFrom self.now p
+            → result ≡ longest (map length p.words) }
         ensures bound { result ≤ greatest_index }
     {
         Automaton::max_pattern_len(self)
@@ -176,7 +195,9 @@ impl AhoCorasick {
     }
 
     /// Which automaton searches.
-    pub fn kind(&self) -> AhoCorasickKind {
+    pub fn kind(&self) -> AhoCorasickKind
+        ensures kind { result ≡ NoncontiguousNFA }
+    {
         AhoCorasickKind::NoncontiguousNFA
     }
 }

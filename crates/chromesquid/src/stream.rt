@@ -1,7 +1,7 @@
 //! Searches and replacement in streams.
 
 ghost use Rattle.std.specs.Iterator.Runs.{EachRunFrom};
-ghost use Rattle.std.specs.Prelude.{◌⊎◌, ◌≡◌, ◌≢◌, Err, IfErr, IfOk, OnErr, OnOk, length, true};
+ghost use Rattle.std.specs.Prelude.{◌⊎◌, ◌≡◌, ◌≢◌, Err, IfErr, IfOk, OnErr, OnOk, false, length, true};
 ghost use Rattle.aho_base.specs.Patterns.{Patterns};
 ghost use Rattle.aho_base.specs.Replacement.{pieces_of};
 ghost use Rattle.aho_base.specs.declared.error.MatchErrorKind.{MatchErrorKind};
@@ -11,10 +11,11 @@ ghost use Rattle.aho_base.specs.declared.search.Anchored.TheVariants.{No};
 ghost use Rattle.aho_devices.specs.Counts.{counted};
 ghost use Rattle.aho_devices.specs.Refusals.{IsFillRefusal, is_read_fault, is_write_fault, is_write_of_nothing};
 ghost use Rattle.aho_stream.specs.After.{greatest_position};
-ghost use Rattle.aho_stream.specs.FindRuns.{FindsAlong, RunFindsAll, RunFindsFirst};
+ghost use Rattle.aho_stream.specs.FindRuns.{FindsAlong, is_limit_among};
 ghost use Rattle.aho_stream.specs.Refills.{is_limit};
-ghost use Rattle.aho_stream.specs.Replacing.{BeginsStream, GaveAsMany, IsMakingRefusal, ReplacesStream, ReplacesStreamUpTo};
-ghost use Rattle.aho_stream.specs.StreamRun.{RefusesUntouched, RunsOver};
+ghost use Rattle.aho_stream.specs.Replacing.{GaveAsMany, IsMakingRefusal};
+ghost use Rattle.aho_stream.specs.StreamRun.{RefusesUntouched};
+ghost use Rattle.chromesquid.specs.Streams.{FindsFirst, FindsWhole, IsBegun, IsReplaced, IsReplacedUpTo, IsStreamRun};
 
 use crate::searcher::AhoCorasick;
 use aho_base::error::StreamError;
@@ -50,10 +51,11 @@ impl AhoCorasick {
         ensures ready { IfOk result ⟦<StreamFindIter<'a, 'r, R> as Iterator>⟧.can_next }
         ensures first { (p : Patterns) → IsBuiltFrom self.entry.now p → IfOk result (λ it.
             EachRunFrom ⟦<StreamFindIter<'a, 'r, R> as Iterator>⟧.next_gives it
-            (RunFindsFirst R.Source p source.entry.now)) }
+            (λ run. FindsFirst R.Source p source.entry.now run.items)) }
         ensures finds { (p : Patterns) → IsBuiltFrom self.entry.now p → IfOk result (λ it.
-            EachRunFrom ⟦<StreamFindIter<'a, 'r, R> as Iterator>⟧.next_gives it
-            (RunFindsAll R.Source p source.entry.now)) }
+            EachRunFrom ⟦<StreamFindIter<'a, 'r, R> as Iterator>⟧.next_gives it (λ run.
+            run.whole ≡ true → is_limit_among run.items ≡ false
+            → FindsWhole R.Source p source.entry.now run.items)) }
         ensures along { (p : Patterns) → IsBuiltFrom self.entry.now p → IfOk result (λ it.
             FindsAlong R.Source ⟦<StreamFindIter<'a, 'r, R> as Iterator>⟧.next_gives p it) }
     {
@@ -84,10 +86,11 @@ impl AhoCorasick {
             → IfErr result (λ error. error ≡ StreamError.Memory) }
         ensures first { (p : Patterns) → IsBuiltFrom self.entry.now p → IfOk result (λ it.
             EachRunFrom ⟦<StreamFindIter<'a, 'r, R> as Iterator>⟧.next_gives it
-            (RunFindsFirst R.Source p source.entry.now)) }
+            (λ run. FindsFirst R.Source p source.entry.now run.items)) }
         ensures finds { (p : Patterns) → IsBuiltFrom self.entry.now p → IfOk result (λ it.
-            EachRunFrom ⟦<StreamFindIter<'a, 'r, R> as Iterator>⟧.next_gives it
-            (RunFindsAll R.Source p source.entry.now)) }
+            EachRunFrom ⟦<StreamFindIter<'a, 'r, R> as Iterator>⟧.next_gives it (λ run.
+            run.whole ≡ true → is_limit_among run.items ≡ false
+            → FindsWhole R.Source p source.entry.now run.items)) }
         ensures along { (p : Patterns) → IsBuiltFrom self.entry.now p → IfOk result (λ it.
             FindsAlong R.Source ⟦<StreamFindIter<'a, 'r, R> as Iterator>⟧.next_gives p it) }
     {
@@ -115,13 +118,13 @@ impl AhoCorasick {
         requires one_each { length replace_with.now ≡ patterns_len_of self.now }
         requires no_empty { HasNoEmpty self.now }
         requires starts { Answers self.now No }
-        ensures replaced { OnOk result (ReplacesStream ⟦<AhoCorasick as Automaton>⟧ R.Source W.Sink
-            self.now (pieces_of replace_with.now) source.old source.new sink.old sink.new) }
-        ensures begun { OnErr result (BeginsStream ⟦<AhoCorasick as Automaton>⟧ R.Source W.Sink
-            self.now (pieces_of replace_with.now) source.old source.new sink.old sink.new) }
-        ensures near { IfErr result (λ error. IsFillRefusal error →
-            ReplacesStreamUpTo ⟦<AhoCorasick as Automaton>⟧ R.Source W.Sink
-            self.now (pieces_of replace_with.now) source.old source.new sink.old sink.new) }
+        ensures replaced { (p : Patterns) → IsBuiltFrom self.now p → OnOk result (IsReplaced R.Source
+            W.Sink p (pieces_of replace_with.now) source.old source.new sink.old sink.new) }
+        ensures begun { (p : Patterns) → IsBuiltFrom self.now p → OnErr result (IsBegun R.Source
+            W.Sink p (pieces_of replace_with.now) source.old source.new sink.old sink.new) }
+        ensures near { (p : Patterns) → IsBuiltFrom self.now p → IfErr result (λ error.
+            IsFillRefusal error → IsReplacedUpTo R.Source W.Sink
+            p (pieces_of replace_with.now) source.old source.new sink.old sink.new) }
         ensures limit { is_limit result ≡ true →
             GaveAsMany R.Source source.old source.new greatest_position }
         ensures read_failed { R.failures source.new
@@ -152,13 +155,13 @@ impl AhoCorasick {
         replace_with: &[&[u8]],
     ) -> Result<(), StreamError>
         requires one_each { length replace_with.now ≡ patterns_len_of self.now }
-        ensures replaced { OnOk result (ReplacesStream ⟦<AhoCorasick as Automaton>⟧ R.Source W.Sink
-            self.now (pieces_of replace_with.now) source.old source.new sink.old sink.new) }
-        ensures begun { OnErr result (BeginsStream ⟦<AhoCorasick as Automaton>⟧ R.Source W.Sink
-            self.now (pieces_of replace_with.now) source.old source.new sink.old sink.new) }
-        ensures near { IfErr result (λ error. IsFillRefusal error →
-            ReplacesStreamUpTo ⟦<AhoCorasick as Automaton>⟧ R.Source W.Sink
-            self.now (pieces_of replace_with.now) source.old source.new sink.old sink.new) }
+        ensures replaced { (p : Patterns) → IsBuiltFrom self.now p → OnOk result (IsReplaced R.Source
+            W.Sink p (pieces_of replace_with.now) source.old source.new sink.old sink.new) }
+        ensures begun { (p : Patterns) → IsBuiltFrom self.now p → OnErr result (IsBegun R.Source
+            W.Sink p (pieces_of replace_with.now) source.old source.new sink.old sink.new) }
+        ensures near { (p : Patterns) → IsBuiltFrom self.now p → IfErr result (λ error.
+            IsFillRefusal error → IsReplacedUpTo R.Source W.Sink
+            p (pieces_of replace_with.now) source.old source.new sink.old sink.new) }
         ensures limit { is_limit result ≡ true →
             GaveAsMany R.Source source.old source.new greatest_position }
         ensures read_failed { R.failures source.new
@@ -199,8 +202,9 @@ impl AhoCorasick {
         requires no_empty { HasNoEmpty self.now }
         requires starts { Answers self.now No }
         requires callable { F.IsAlwaysCallable replace_with }
-        ensures runs { RefusesUntouched result StreamError.Memory source.old source.new sink.old sink.new
-            ⊎ RunsOver ⟦<AhoCorasick as Automaton>⟧ R.Source W.Sink self.now F.FnMut
+        ensures runs { (p : Patterns) → IsBuiltFrom self.now p
+            → RefusesUntouched result StreamError.Memory source.old source.new sink.old sink.new
+            ⊎ IsStreamRun R.Source W.Sink p F.FnMut
             source.old source.new replace_with sink.old result sink.new }
     {
         self.try_stream_replace_all_with(alloc, source, sink, replace_with)
@@ -223,9 +227,9 @@ impl AhoCorasick {
     where
         F: FnMut(&Match, &[u8], &mut W) -> Result<(), StreamError>,
         requires callable { F.IsAlwaysCallable replace_with }
-        ensures runs { HasNoEmpty self.now → Answers self.now No
+        ensures runs { (p : Patterns) → IsBuiltFrom self.now p → HasNoEmpty self.now → Answers self.now No
             → RefusesUntouched result StreamError.Memory source.old source.new sink.old sink.new
-            ⊎ RunsOver ⟦<AhoCorasick as Automaton>⟧ R.Source W.Sink self.now F.FnMut
+            ⊎ IsStreamRun R.Source W.Sink p F.FnMut
             source.old source.new replace_with sink.old result sink.new }
         ensures empty { HasEmpty self.now
             → RefusesUntouched result (StreamError.Match UnsupportedEmpty)

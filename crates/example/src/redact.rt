@@ -1,22 +1,24 @@
-//! A redacted stream.
+//! A redactor: a stream with a mask in the place of each secret.
 
 ghost use Rattle.std.specs.Prelude.{◌≡◌, OnOk, length};
-ghost use Rattle.chromesquid.specs.Rules.{ReplacesStream, patterns_len_of, pieces_of};
+ghost use Rattle.chromesquid.specs.Rules.{IsReplaced, default_settings, patterns_of, pieces_of};
 
-use chromesquid::{AhoCorasick, Automaton, Sink, Source, StreamError};
+use anyhow::Result;
+use chromesquid::{AhoCorasick, Sink, Source};
 use std::alloc::Global;
 
-/// Writes what the source gives to the sink, with a mask in the place of each match.
+/// Writes what the source gives to the sink, with its mask in the place of each secret.
 pub fn redact<R: Source, W: Sink>(
     alloc: Global,
-    searcher: &AhoCorasick,
+    secrets: &[&[u8]],
     masks: &[&[u8]],
     source: &mut R,
     sink: &mut W,
-) -> Result<(), StreamError>
-    requires one_each { length masks.now ≡ patterns_len_of searcher.now }
-    ensures redacted { OnOk result (ReplacesStream ⟦<AhoCorasick as Automaton>⟧ R.Source W.Sink
-        searcher.now (pieces_of masks.now) source.old source.new sink.old sink.new) }
+) -> Result<()>
+    requires one_each { length masks.now ≡ length secrets.now }
+    ensures redacted { OnOk result (IsReplaced R.Source W.Sink (patterns_of default_settings secrets.now)
+        (pieces_of masks.now) source.old source.new sink.old sink.new) }
 {
-    searcher.try_stream_replace_all(alloc, source, sink, masks)
+    let searcher = AhoCorasick::new(alloc, secrets)?;
+    Ok(searcher.try_stream_replace_all(alloc, source, sink, masks)?)
 }

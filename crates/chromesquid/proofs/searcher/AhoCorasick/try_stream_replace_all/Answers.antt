@@ -1,4 +1,5 @@
 use Rattle.chromesquid.proofs.Built.{start_answered, start_refused}
+use Rattle.chromesquid.proofs.Replaced.{begun_of, near_of, replaced_of}
 use Rattle.chromesquid.proofs.searcher.AhoCorasick.try_stream_replace_all.Goals as goal
 
 pub returns-clause-refused : goal.returns-clause-refused
@@ -7,3 +8,18 @@ returns-clause-refused g c = rw (← c.built.ensures.same) (λ none refuses. c.t
 pub returns-clause-answered : goal.returns-clause-answered
 returns-clause-answered g c =
     rw (← c.built.ensures.same) (λ reason none answers. let start = start_answered c.built.result.now answers in c.try_stream_replace_all.ensures.suits start.0 reason none start.1)
+
+pub returns-clause-replaced : goal.returns-clause-replaced
+returns-clause-replaced g c =
+    rw (← c.built.ensures.same)
+    (λ p built. replaced_of _ _ c.built.result.now _ _ _ _ _ _ p built c.try_stream_replace_all.ensures.replaced)
+
+pub returns-clause-begun : goal.returns-clause-begun
+returns-clause-begun g c =
+    rw (← c.built.ensures.same)
+    (λ p built. begun_of _ _ c.built.result.now _ _ _ _ _ _ p built c.try_stream_replace_all.ensures.begun)
+
+pub returns-clause-near : goal.returns-clause-near
+returns-clause-near g c =
+    rw (← c.built.ensures.same)
+    (λ p built. near_of _ _ c.built.result.now _ _ _ _ _ _ p built c.try_stream_replace_all.ensures.near)

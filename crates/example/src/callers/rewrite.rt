@@ -1,0 +1,24 @@
+//! Replacement by a closure.
+
+ghost use Rattle.std.specs.Prelude.{string_bytes};
+ghost use Rattle.chromesquid.specs.Rules.{Answers, HoldsOfFinds, IsBuiltFrom, No, RunsInMemory, on_boundaries};
+
+use chromesquid::{AhoCorasick, Match};
+use std::alloc::AllocError;
+
+/// Appends a text to another, with what the closure appends in the place of each match.
+pub fn append_rewritten<F>(
+    searcher: &AhoCorasick,
+    text: &str,
+    out: &mut String,
+    rewrite: F,
+) -> Result<(), AllocError>
+where
+    F: FnMut(&Match, &str, &mut String) -> Result<bool, AllocError>,
+    requires starts { Answers searcher.now No }
+    requires callable { F.IsAlwaysCallable rewrite }
+    ensures run { HoldsOfFinds (IsBuiltFrom searcher.now) text.now (λ ms.
+        RunsInMemory F.FnMut string_bytes text.now (on_boundaries text.now ms) rewrite out.old result out.new) }
+{
+    searcher.replace_all_with(text, out, rewrite)
+}

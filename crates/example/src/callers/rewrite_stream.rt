@@ -1,0 +1,27 @@
+//! Replacement in a stream by a closure.
+
+ghost use Rattle.std.specs.Prelude.{◌⊎◌};
+ghost use Rattle.chromesquid.specs.Rules.{Answers, HasNoEmpty, IsBuiltFrom, IsStreamRun, No, Patterns, RefusesUntouched};
+
+use chromesquid::{AhoCorasick, Match, Sink, Source, StreamError};
+use std::alloc::Global;
+
+/// Writes what the source gives to the sink, with what the closure writes in the place of each match.
+pub fn rewrite_stream<R: Source, W: Sink, F>(
+    alloc: Global,
+    searcher: &AhoCorasick,
+    source: &mut R,
+    sink: &mut W,
+    rewrite: F,
+) -> Result<(), StreamError>
+where
+    F: FnMut(&Match, &[u8], &mut W) -> Result<(), StreamError>,
+    requires no_empty { HasNoEmpty searcher.now }
+    requires starts { Answers searcher.now No }
+    requires callable { F.IsAlwaysCallable rewrite }
+    ensures runs { (p : Patterns) → IsBuiltFrom searcher.now p
+        → RefusesUntouched result StreamError.Memory source.old source.new sink.old sink.new
+        ⊎ IsStreamRun R.Source W.Sink p F.FnMut source.old source.new rewrite sink.old result sink.new }
+{
+    searcher.stream_replace_all_with(alloc, source, sink, rewrite)
+}

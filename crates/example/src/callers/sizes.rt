@@ -1,0 +1,30 @@
+//! How large a searcher is, and which automaton searches.
+
+ghost use Rattle.std.specs.Prelude.{◌≡◌, IfOk, length, map, true};
+ghost use Rattle.chromesquid.specs.Rules.{IsBuiltFrom, Patterns, default_settings, longest, memory_for, patterns_of};
+
+use chromesquid::{AhoCorasick, AhoCorasickKind, BuildError};
+use std::alloc::Global;
+
+/// How many bytes to keep of a text that comes in pieces, so that no match is cut.
+pub fn kept(searcher: &AhoCorasick) -> usize
+    ensures kept { (p : Patterns) → IsBuiltFrom searcher.now p
+        → result ≡ longest (map length p.words) }
+{
+    searcher.max_pattern_len()
+}
+
+/// How many bytes a searcher for these words takes.
+pub fn bytes_for(alloc: Global, words: &[&[u8]]) -> Result<usize, BuildError>
+    ensures bytes { IfOk result (λ bytes.
+        bytes ≡ memory_for default_settings (patterns_of default_settings words.now)) }
+{
+    Ok(AhoCorasick::new(alloc, words)?.memory_usage())
+}
+
+/// Whether it is a trie with failure links.
+pub fn is_trie(searcher: &AhoCorasick) -> bool
+    ensures trie { result ≡ true }
+{
+    searcher.kind() == AhoCorasickKind::NoncontiguousNFA
+}
