@@ -1,35 +1,62 @@
 -- What it means that a layout is the automaton of some patterns, and the laws that follow.
-use Rattle.std.proofs.Common.{◌≡◌, ℕ, ◌+◌, ◌<◌, arith, true, false, List, [], ◌∷◌, ◌++◌, length, map, refl, sym, subst, ◌∙◌, ap, nat_eq, eqb-true, ne_eqb}
-use Rattle.std.proofs.lemmas.Bool.{both_ways, cond-false, lt-ltb}
-use Rattle.std.proofs.lemmas.List.{append-nil, append_assoc}
-use Rattle.std.proofs.lemmas.List.Elements.{All-head, All-nil, All-push, All-tail}
-use Rattle.std.specs.Prelude.{Option, Some, None, is_none, nat_lt, slice_index_or}
+use Rattle.std.proofs.Common.{◌≡◌, ◌⊎◌, ℕ, zero, suc, ◌+◌, ◌<◌, ◌≤◌, arith, true, false, inl, inr, List, [], ◌∷◌, ◌++◌, length, map, refl, sym, subst, ◌∙◌, ap, nat_eq, eqb-true, ne_eqb, get_or}
+use Rattle.std.proofs.lemmas.Bool.{both_ways, cond-true, cond-false, lt-ltb, le-ltb}
+use Rattle.std.proofs.lemmas.List.Elements.{All-nil, All-push}
+use Rattle.std.specs.Prelude.{Option, Some, None, is_none, is_some, nat_lt, ◌||◌, if◌then◌else◌}
 use Rattle.std.specs.List.{All}
-use Rattle.aho_base.specs.Bytes.{folded}
 use Rattle.aho_base.specs.Held.{held_after}
 use Rattle.aho_base.specs.Laws.{Reads}
 use Rattle.aho_base.specs.MatchList.{matches_of}
 use Rattle.aho_base.specs.Patterns.{Patterns}
-use Rattle.aho_base.specs.Step.{follow}
 use Rattle.aho_base.specs.declared.search.Anchored.{Anchored}
 use Rattle.aho_base.specs.declared.search.Anchored.TheVariants.{No, Yes}
 use Rattle.aho_base.specs.declared.search.MatchKind.{MatchKind}
 use Rattle.aho_laws.proofs.NamedStates.{reads_by_words}
-use Rattle.aho_laws.proofs.StepLaw.{held_after-push}
 use Rattle.aho_table.proofs.Classes.{class_of-count}
 use Rattle.aho_table.specs.Alphabet.{class_of}
-use Rattle.aho_hybrid.specs.Layout.{Layout, IsSoundLayout, IsStateIn, IsHeldIn, list_from, list_in, list_place, next_in, run_from}
+use Rattle.aho_hybrid.specs.Layout.{HasRow, IsDeep, Layout, IsSoundLayout, IsStateIn, IsHeldIn, along, child_in, depth_in, entry_in, is_row, is_special_in, link_in, list_from, list_in, list_place, looks_along, looks_in, next_in, run_from, told_or, word_in}
 
--- by the word that each state stands for, none for a dead one, the states step as the words do, list what they list and are
--- dead where they are
+-- after each word the state that is held lists what the word does, and is dead where it is; the start is held again only where
+-- nothing of the word is left; and the dead state lists nothing
 pub record IsLayoutOf (t : Layout) (p : Patterns) (kind : MatchKind) (lengths : List ℕ) : Type 0 where
   pub kind_is : kind ≡ p.kind
   pub lengths_are : lengths ≡ map length p.words
-  pub word : ℕ → Option (List ℕ)
-  pub at_start : word t.start ≡ Some []
-  pub at_next : (sid byte : ℕ) → IsStateIn t sid → byte < 256 → word (next_in t sid byte) ≡ follow p No (word sid) (folded p byte)
-  pub at_list : (sid : ℕ) → IsStateIn t sid → list_in t sid ≡ matches_of p (word sid)
-  pub at_dead : (sid : ℕ) → IsStateIn t sid → nat_eq sid 0 ≡ is_none (word sid)
+  pub lists : (word : List ℕ) → All (λ byte. byte < 256) word → list_in t (run_from t t.start word) ≡ matches_of p (held_after p No word)
+  pub dies : (word : List ℕ) → All (λ byte. byte < 256) word → nat_eq (run_from t t.start word) 0 ≡ is_none (held_after p No word)
+  pub begins : (word : List ℕ) → All (λ byte. byte < 256) word → nat_eq (run_from t t.start word) t.start ≡ true → held_after p No word ≡ Some []
+  pub none : list_in t 0 ≡ []
+
+-- by its number a state has a row, or is deep
+pub row-test : (t : Layout) (sid : ℕ) → HasRow t sid → is_row t sid ≡ true
+row-test t sid row = lt-ltb sid (length t.rows) (omega (arith, row.within))
+
+pub deep-test : (t : Layout) (sid : ℕ) → IsDeep t sid → is_row t sid ≡ false
+deep-test t sid deep = le-ltb sid (length t.rows) (omega (arith, deep.is))
+
+pub row-depth : (t : Layout) (sid : ℕ) → HasRow t sid → depth_in t sid ≡ 0
+row-depth t sid row = cond-true (is_row t sid) 0 (word_in t sid 2) (row-test t sid row)
+
+-- a step from a state with a row, and from a deep one
+pub along-row : (t : Layout) (byte left sid : ℕ) → is_row t sid ≡ true → 0 < left → (along t byte left sid ≡ entry_in t sid byte) × (looks_along t byte left sid ≡ 1)
+along-row t byte zero sid row some = absurd (omega arith)
+along-row t byte (suc left) sid row some =
+    (cond-true (is_row t sid) _ _ row, ap (λ b. 1 + (if b || is_some (child_in t sid byte) then 0 else looks_along t byte left (link_in t sid))) row)
+
+pub along-child : (t : Layout) (byte left sid next : ℕ) → is_row t sid ≡ false → child_in t sid byte ≡ Some next → 0 < left → (along t byte left sid ≡ next) × (looks_along t byte left sid ≡ 1)
+along-child t byte zero sid next deep child some = absurd (omega arith)
+along-child t byte (suc left) sid next deep child some = (
+  cond-false (is_row t sid) _ _ deep ∙ ap (λ o. told_or o (along t byte left (link_in t sid))) child,
+  ap (λ b. 1 + (if b || is_some (child_in t sid byte) then 0 else looks_along t byte left (link_in t sid))) deep
+  ∙ ap (λ o. 1 + (if is_some o then 0 else looks_along t byte left (link_in t sid))) child,
+)
+
+pub along-link : (t : Layout) (byte left sid : ℕ) → is_row t sid ≡ false → child_in t sid byte ≡ None
+    → (along t byte (suc left) sid ≡ along t byte left (link_in t sid)) × (looks_along t byte (suc left) sid ≡ 1 + looks_along t byte left (link_in t sid))
+along-link t byte left sid deep child = (
+  cond-false (is_row t sid) _ _ deep ∙ ap (λ o. told_or o (along t byte left (link_in t sid))) child,
+  ap (λ b. 1 + (if b || is_some (child_in t sid byte) then 0 else looks_along t byte left (link_in t sid))) deep
+  ∙ ap (λ o. 1 + (if is_some o then 0 else looks_along t byte left (link_in t sid))) child,
+)
 
 module _ (t : Layout) (sound : IsSoundLayout t) where
   -- one byte more
@@ -37,19 +64,76 @@ module _ (t : Layout) (sound : IsSoundLayout t) where
   run-push sid [] byte = refl
   run-push sid (x ∷ word) byte = run-push (next_in t sid x) word byte
 
+  -- along the links a byte leads from state to state, and what is looked at is paid by what the state is deeper than that
+  pub along-paid : (byte left sid : ℕ) → byte < 256 → depth_in t sid < left → IsStateIn t sid
+      → IsStateIn t (along t byte left sid) × (looks_along t byte left sid + depth_in t (along t byte left sid) ≤ depth_in t sid + 2)
+  along-paid byte zero sid small less state = absurd (omega (arith, less))
+  along-paid byte (suc left) sid small less (inl row) =
+      let class = class_of-count t.classes byte in
+      let led = along-row t byte (suc left) sid (row-test t sid row) (omega arith) in (
+        subst (IsStateIn t) (sym led.0) (sound.in_rows.next sid (class_of t.classes byte) row class),
+        omega (arith, led.1, ap (depth_in t) led.0, sound.in_rows.near sid (class_of t.classes byte) row class),
+      )
+  along-paid byte (suc left) sid small less (inr deep) = by_child (child_in t sid byte) refl
+    where
+      test : is_row t sid ≡ false
+      test = deep-test t sid deep
+
+      by_child : (o : Option ℕ) → child_in t sid byte ≡ o
+          → IsStateIn t (along t byte (suc left) sid) × (looks_along t byte (suc left) sid + depth_in t (along t byte (suc left) sid) ≤ depth_in t sid + 2)
+      by_child (Some next) child =
+          let led = along-child t byte (suc left) sid next test child (omega arith) in
+          let is = sound.in_deep.next sid byte next deep small child in
+          (subst (IsStateIn t) (sym led.0) is.0, omega (arith, led.1, ap (depth_in t) led.0, is.1))
+      by_child None child =
+          let led = along-link t byte left sid test child in
+          let is = sound.in_deep.link sid byte deep small child in
+          let rest = along-paid byte left (link_in t sid) small (omega (arith, is.1, less)) is.0 in
+          (subst (IsStateIn t) (sym led.0) rest.0, omega (arith, led.1, ap (depth_in t) led.0, rest.1, is.1))
+
+  -- with more states than may be looked at the step is the same
+  pub along-enough : (byte left sid : ℕ) → byte < 256 → depth_in t sid < left → IsStateIn t sid → (along t byte left sid ≡ next_in t sid byte) × (looks_along t byte left sid ≡ looks_in t sid byte)
+  along-enough byte left sid small less state = any left (depth_in t sid + 1) sid less (omega arith) state
+    where
+      any : (left other sid : ℕ) → depth_in t sid < left → depth_in t sid < other → IsStateIn t sid → (along t byte left sid ≡ along t byte other sid) × (looks_along t byte left sid ≡ looks_along t byte other sid)
+      any zero other sid less more state = absurd (omega (arith, less))
+      any (suc left) zero sid less more state = absurd (omega (arith, more))
+      any (suc left) (suc other) sid less more (inl row) =
+          let one = along-row t byte (suc left) sid (row-test t sid row) (omega arith) in
+          let two = along-row t byte (suc other) sid (row-test t sid row) (omega arith) in
+          (one.0 ∙ sym two.0, one.1 ∙ sym two.1)
+      any (suc left) (suc other) sid less more (inr deep) = by_child (child_in t sid byte) refl
+        where
+          test : is_row t sid ≡ false
+          test = deep-test t sid deep
+
+          by_child : (o : Option ℕ) → child_in t sid byte ≡ o
+              → (along t byte (suc left) sid ≡ along t byte (suc other) sid) × (looks_along t byte (suc left) sid ≡ looks_along t byte (suc other) sid)
+          by_child (Some next) child =
+              let one = along-child t byte (suc left) sid next test child (omega arith) in
+              let two = along-child t byte (suc other) sid next test child (omega arith) in
+              (one.0 ∙ sym two.0, one.1 ∙ sym two.1)
+          by_child None child =
+              let one = along-link t byte left sid test child in
+              let two = along-link t byte other sid test child in
+              let is = sound.in_deep.link sid byte deep small child in
+              let rest = any left other (link_in t sid) (omega (arith, is.1, less)) (omega (arith, is.1, more)) is.0 in
+              (one.0 ∙ rest.0 ∙ sym two.0, one.1 ∙ ap (λ n. 1 + n) rest.1 ∙ sym two.1)
+
   -- a byte leads from state to state
-  pub next-state : (sid byte : ℕ) → IsStateIn t sid → IsStateIn t (next_in t sid byte)
-  next-state sid byte state = sound.next sid (class_of t.classes byte) state (class_of-count t.classes byte)
+  pub next-state : (sid byte : ℕ) → byte < 256 → IsStateIn t sid → IsStateIn t (next_in t sid byte)
+  next-state sid byte small state = (along-paid byte (depth_in t sid + 1) sid small (omega arith) state).0
+
+  pub next-paid : (sid byte : ℕ) → byte < 256 → IsStateIn t sid → looks_in t sid byte + depth_in t (next_in t sid byte) ≤ depth_in t sid + 2
+  next-paid sid byte small state = (along-paid byte (depth_in t sid + 1) sid small (omega arith) state).1
 
   -- from a dead state it leads to a dead state again
   pub dead-next : (sid byte : ℕ) → nat_eq sid 0 ≡ true → nat_eq (next_in t sid byte) 0 ≡ true
   dead-next sid byte dead =
-      let place : sid + class_of t.classes byte ≡ class_of t.classes byte = omega (arith, eqb-true sid 0 dead) in
-      ap (λ (n : ℕ). nat_eq (slice_index_or t.rows n 0) 0) place ∙ ap (λ (n : ℕ). nat_eq n 0) (sound.dead_stays (class_of t.classes byte) (class_of-count t.classes byte))
-
-  run-state : (sid : ℕ) (word : List ℕ) → IsStateIn t sid → IsStateIn t (run_from t sid word)
-  run-state sid [] state = state
-  run-state sid (x ∷ word) state = run-state (next_in t sid x) word (next-state sid x state)
+      let zero_is : sid ≡ 0 = eqb-true sid 0 dead in
+      let led = along-row t byte (depth_in t 0 + 1) 0 (row-test t 0 sound.in_rows.dead) (omega arith) in
+      ap (λ (n : ℕ). nat_eq (next_in t n byte) 0) zero_is
+      ∙ ap (λ (n : ℕ). nat_eq n 0) (led.0 ∙ sound.in_rows.dead_stays (class_of t.classes byte) (class_of-count t.classes byte))
 
   -- a state that follows the held one is held after one more byte
   pub held-next : (anchored : Anchored) (word : List ℕ) (sid byte next : ℕ) → byte < 256 → next ≡ next_in t sid byte → IsHeldIn t anchored word sid → IsHeldIn t anchored (word ++ byte ∷ []) next
@@ -57,51 +141,44 @@ module _ (t : Layout) (sound : IsSoundLayout t) where
       (All-push (λ (b : ℕ). b < 256) word byte held.0 small, is ∙ ap (λ (n : ℕ). next_in t n byte) held.1 ∙ sym (run-push t.start word byte))
   held-next Yes word sid byte next small is held = absurd held
 
+  -- the look-ups of the held state's step are those of the word's
+  pub held-looks : (anchored : Anchored) (word : List ℕ) (sid byte : ℕ) → IsHeldIn t anchored word sid → looks_in t sid byte ≡ looks_in t (run_from t t.start word) byte
+  held-looks No word sid byte held = ap (λ (n : ℕ). looks_in t n byte) held.1
+  held-looks Yes word sid byte held = absurd held
+
   module _ (p : Patterns) (kind : MatchKind) (lengths : List ℕ) (of : IsLayoutOf t p kind lengths) where
-    -- the word of the state that is held
-    word-run : (before : List ℕ) (sid : ℕ) (word : List ℕ) → All (λ (b : ℕ). b < 256) word → IsStateIn t sid → of.word sid ≡ held_after p No before → of.word (run_from t sid word) ≡ held_after p No (before ++ word)
-    word-run before sid [] small state is = is ∙ ap (held_after p No) (sym (append-nil before))
-    word-run before sid (x ∷ word) small state is =
-        let one : of.word (next_in t sid x) ≡ held_after p No (before ++ x ∷ []) =
-        of.at_next sid x state (All-head (λ (b : ℕ). b < 256) x word small) ∙ ap (λ (o : Option (List ℕ)). follow p No o (folded p x)) is ∙ sym (held_after-push p No before x) in
-        word-run (before ++ x ∷ []) (next_in t sid x) word (All-tail (λ (b : ℕ). b < 256) x word small) (next-state sid x state) one
-        ∙ ap (held_after p No) (append_assoc before (x ∷ []) word)
-
-    held-word : (word : List ℕ) (sid : ℕ) → IsHeldIn t No word sid → IsStateIn t sid × (of.word sid ≡ held_after p No word)
-    held-word word sid held = (
-      subst (IsStateIn t) (sym held.1) (run-state t.start word sound.start),
-      ap of.word held.1 ∙ word-run [] t.start word held.0 sound.start of.at_start,
-    )
-
     lists : (anchored : Anchored) (word : List ℕ) (sid : ℕ) → IsHeldIn t anchored word sid → list_in t sid ≡ matches_of p (held_after p anchored word)
-    lists No word sid held = let is = held-word word sid held in of.at_list sid is.0 ∙ ap (matches_of p) is.1
+    lists No word sid held = ap (list_in t) held.1 ∙ of.lists word held.0
     lists Yes word sid held = absurd held
 
     dies : (anchored : Anchored) (word : List ℕ) (sid : ℕ) → IsHeldIn t anchored word sid → nat_eq sid 0 ≡ is_none (held_after p anchored word)
-    dies No word sid held = let is = held-word word sid held in of.at_dead sid is.0 ∙ ap is_none is.1
+    dies No word sid held = ap (λ (n : ℕ). nat_eq n 0) held.1 ∙ of.dies word held.0
     dies Yes word sid held = absurd held
 
-    dead-none : (state : Option (List ℕ)) → true ≡ is_none state → matches_of p state ≡ []
-    dead-none None dead = refl
-    dead-none (Some word) dead = cc
-
     none : (sid : ℕ) → nat_eq sid 0 ≡ true → list_in t sid ≡ []
-    none sid dead =
-        let zero_is : sid ≡ 0 = eqb-true sid 0 dead in
-        ap (list_in t) zero_is ∙ of.at_list 0 sound.dead ∙ dead-none (of.word 0) (of.at_dead 0 sound.dead)
+    none sid dead = ap (list_in t) (eqb-true sid 0 dead) ∙ of.none
 
     begun : (word : List ℕ) (sid : ℕ) → IsHeldIn t No word sid → nat_eq sid t.start ≡ true → IsHeldIn t No [] sid × (held_after p No word ≡ Some [])
     begun word sid held first =
-        let is : sid ≡ t.start = eqb-true sid t.start first in
-        ((All-nil (λ (b : ℕ). b < 256), is), sym (held-word word sid held).1 ∙ ap of.word is ∙ of.at_start)
+        ((All-nil (λ (b : ℕ). b < 256), eqb-true sid t.start first), of.begins word held.0 (sym (ap (λ (n : ℕ). nat_eq n t.start) held.1) ∙ first))
 
     -- the states that may be held have the laws of an automaton
     pub reads_of : Reads p kind lengths (IsHeldIn t) (list_in t) (λ sid. nat_eq sid 0) (λ sid. nat_eq sid t.start)
     reads_of = reads_by_words p kind lengths (IsHeldIn t) (list_in t) (λ sid. nat_eq sid 0) (λ sid. nat_eq sid t.start) of.kind_is of.lengths_are lists dies none begun
 
   -- a state that is not special is not dead, and lists nothing
-  pub plain_of : (sid : ℕ) → nat_lt sid t.low ≡ false → (nat_eq sid 0 ≡ false) × (list_in t sid ≡ [])
+  pub plain_of : (sid : ℕ) → is_special_in t sid ≡ false → (nat_eq sid 0 ≡ false) × (list_in t sid ≡ [])
   plain_of sid high = (
-    ne_eqb sid 0 (λ e. both_ways (nat_lt sid t.low) high (lt-ltb sid t.low (omega (arith, e, sound.dead_special)))),
-    cond-false (nat_lt sid t.low) (list_from t.lists (list_place t sid)) [] high,
+    ne_eqb sid 0
+    (λ e.
+    both_ways (is_special_in t sid) high
+    (ap (is_special_in t) e ∙ cond-true (is_row t 0) (nat_lt 0 t.low) (nat_lt 0 t.deep_low) (row-test t 0 sound.in_rows.dead) ∙ lt-ltb 0 t.low sound.in_rows.dead_special)),
+    cond-false (is_special_in t sid) (list_from t.lists (list_place t sid)) [] high,
   )
+
+  -- a dead state and the start have rows
+  pub dead_shallow_of : (sid : ℕ) → nat_eq sid 0 ≡ true → depth_in t sid ≡ 0
+  dead_shallow_of sid dead = ap (depth_in t) (eqb-true sid 0 dead) ∙ row-depth t 0 sound.in_rows.dead
+
+  pub starts_shallow_of : (sid : ℕ) → nat_eq sid t.start ≡ true → depth_in t sid ≡ 0
+  starts_shallow_of sid first = ap (depth_in t) (eqb-true sid t.start first) ∙ row-depth t t.start sound.in_rows.start

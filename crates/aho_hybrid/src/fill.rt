@@ -1,6 +1,7 @@
-//! The rows of an `NFA`'s states: one for each state, in the order of the states' numbers.
+//! The states of a `Hybrid`, made from an `NFA`'s: rows for those near the start, and records for the others, each in the order
+//! of the `NFA`'s numbers.
 
-ghost use Rattle.std.specs.Prelude.{◌≡◌, ℕ, [], ◌∷◌, ◌++◌, ◌+◌, ◌*◌, ◌<◌, ◌≤◌, length, slice_index_or, IfOk, IfErr, OnOk};
+ghost use Rattle.std.specs.Prelude.{◌≡◌, ◌⊎◌, ◌×◌, ℕ, [], ◌∷◌, ◌++◌, ◌+◌, ◌*◌, ◌<◌, ◌≤◌, length, slice_index_or, IfOk, IfErr, OnOk};
 ghost use Rattle.aho_base.specs.Numbers.{greatest_index};
 ghost use Rattle.aho_base.specs.Patterns.{Patterns};
 ghost use Rattle.aho_build.specs.Walking.{IsState};
@@ -18,51 +19,207 @@ use aho_build::special::Special;
 use aho_corasick::noncontiguous::NFA;
 use aho_search::automaton::Automaton;
 use aho_table::alphabet::ByteClasses;
-use aho_table::links::{DEAD, FAIL, Matches};
+use aho_table::links::{DEAD, FAIL, Matches, Transitions};
 use std::alloc::Global;
 
-/// The rows that were filled so far, with the lists of their states.
+/// The words of a deep state's record.
+const RECORD_SIZE: usize = 5;
+
+/// How the states of an `NFA` are laid out.
+#[derive(Drop)]
+struct Plan {
+    /// The entries of a row.
+    stride: usize,
+    /// The states down to this depth have rows.
+    row_depth: usize,
+    /// A byte of each class, by the class.
+    firsts: [u8; 256],
+    /// The number of each state, by that which the `NFA` knows it by.
+    numbers: Vec<SmallIndex>,
+}
+
+/// What was filled so far.
 #[derive(Drop)]
 struct Filled {
     entries: Vec<SmallIndex>,
+    deep: Vec<SmallIndex>,
+    moves: Vec<SmallIndex>,
     lists: Vec<SmallIndex>,
-    /// The states below this number are special.
+    /// The states with rows are special below this number.
     low: usize,
+    /// The deep states are special below this number.
+    deep_low: usize,
 }
 
-/// The rows of the states of an `NFA`.
-///
-/// # Errors
-///
-/// `OutOfMemory`, at any time; or `StateIDOverflow` where the rows have more entries than the greatest index, or the place of
-/// a list is above it.
-pub fn rows_of(alloc: Global, nfa: &NFA) -> Result<Rows, BuildError>
-    ensures sound { IfOk result IsSoundLayout }
-    ensures of { IfOk result (λ rows. (p : Patterns)
-        → ⟦<NFA as Automaton>⟧.is_of nfa.now p
-        → IsLayoutOf rows p (⟦<NFA as Automaton>⟧.kind nfa.now) (⟦<NFA as Automaton>⟧.lengths nfa.now)) }
-    ensures sized { IfOk result (λ rows.
-        length rows.rows ≡ rows_size (states_of nfa.now) (classes_of nfa.now)) }
-    ensures refused { IfErr result (IsRefused (states_of nfa.now) (classes_of nfa.now)) }
-{
+/// The states of an `NFA`, with rows that take at most so many bytes, but for the states without depth.
+pub fn rows_of(alloc: Global, nfa: &NFA, budget: usize) -> Result<Rows, BuildError> {
     let stride = nfa.byte_classes().alphabet_len() + 1;
-    let size = nfa.states_len() * stride;
+    let row_depth = row_depth(nfa, stride, budget);
+    let with_rows = rows_count(nfa, row_depth);
+    let dense = with_rows * stride;
+    let size = dense + (nfa.states_len() - with_rows) * RECORD_SIZE;
     if size > SmallIndex::MAX.as_usize() {
         return Err(overflow(size));
     }
-    let firsts = first_bytes(nfa.byte_classes());
-    let filled = filled_rows(alloc, nfa, &firsts, stride)?;
+    let plan = Plan {
+        stride,
+        row_depth,
+        firsts: first_bytes(nfa.byte_classes()),
+        numbers: numbers_of(alloc, nfa, stride, row_depth, dense)?,
+    };
+    let filled = filled_states(alloc, nfa, &plan)?;
     if filled.lists.len() > SmallIndex::MAX.as_usize() {
         return Err(overflow(filled.lists.len()));
     }
-    let start = place_of(nfa.special().start_unanchored_id, stride);
+    if filled.moves.len() > SmallIndex::MAX.as_usize() {
+        return Err(overflow(filled.moves.len()));
+    }
+    let start = plan.numbers[nfa.special().start_unanchored_id.as_usize()];
     Ok(Rows {
         classes: nfa.byte_classes().copy(),
         entries: filled.entries,
+        deep: filled.deep,
+        moves: filled.moves,
         lists: filled.lists,
         start: StateID::new_unchecked(start.as_usize()),
         low: filled.low,
+        deep_low: filled.deep_low,
     })
+}
+
+/// How deep the deepest state is.
+fn deepest(nfa: &NFA) -> usize {
+    let mut most = 0;
+    for index in 0..nfa.states_len() {
+        most = most.max(nfa.depth(StateID::new_unchecked(index)));
+    }
+    most
+}
+
+/// How many states are no deeper.
+fn rows_count(nfa: &NFA, depth: usize) -> usize {
+    let mut count = 0;
+    for index in 0..nfa.states_len() {
+        if nfa.depth(StateID::new_unchecked(index)) <= depth {
+            count += 1;
+        }
+    }
+    count
+}
+
+/// The greatest depth down to which the rows of all states take at most so many bytes, or 0.
+fn row_depth(nfa: &NFA, stride: usize, budget: usize) -> usize {
+    let mut low = 0;
+    let mut high = deepest(nfa);
+    'halves: while low < high {
+        let middle = high - (high - low) / 2;
+        if rows_count(nfa, middle) * stride * 4 <= budget {
+            low = middle;
+        } else {
+            high = middle - 1;
+        }
+    }
+    low
+}
+
+/// The number of each state: the place of its row, or that of its record behind all rows.
+fn numbers_of(
+    alloc: Global,
+    nfa: &NFA,
+    stride: usize,
+    row_depth: usize,
+    dense: usize,
+) -> Result<Vec<SmallIndex>, BuildError> {
+    let mut numbers = Vec::new(alloc);
+    let mut row = 0;
+    let mut record = dense;
+    for index in 0..nfa.states_len() {
+        if nfa.depth(StateID::new_unchecked(index)) <= row_depth {
+            push(&mut numbers, SmallIndex::new_unchecked(row))?;
+            row += stride;
+        } else {
+            push(&mut numbers, SmallIndex::new_unchecked(record))?;
+            record += RECORD_SIZE;
+        }
+    }
+    Ok(numbers)
+}
+
+/// All states.
+fn filled_states(alloc: Global, nfa: &NFA, plan: &Plan) -> Result<Filled, BuildError> {
+    let mut filled = Filled {
+        entries: Vec::new(alloc),
+        deep: Vec::new(alloc),
+        moves: Vec::new(alloc),
+        lists: Vec::new(alloc),
+        low: first_low(nfa, plan),
+        deep_low: 0,
+    };
+    push(&mut filled.lists, SmallIndex::new_unchecked(0))?;
+    for index in 0..nfa.states_len() {
+        if nfa.depth(StateID::new_unchecked(index)) <= plan.row_depth {
+            add_row(&mut filled, nfa, plan, index)?;
+        } else {
+            add_record(&mut filled, nfa, plan, StateID::new_unchecked(index))?;
+        }
+    }
+    Ok(filled)
+}
+
+/// The number below which states with rows are special whatever they list: DEAD and, where a search may skip from the start,
+/// all up to the start.
+fn first_low(nfa: &NFA, plan: &Plan) -> usize {
+    match nfa.prefilter() {
+        Some(_) => plan.numbers[nfa.special().start_unanchored_id.as_usize()].as_usize() + 1,
+        None => 1,
+    }
+}
+
+/// The row of one state more.
+fn add_row(filled: &mut Filled, nfa: &NFA, plan: &Plan, index: usize) -> Result<(), BuildError> {
+    let sid = source_of(nfa.special(), index);
+    push_entries(&mut filled.entries, nfa, plan, sid)?;
+    let place = push_list(&mut filled.lists, nfa, sid)?;
+    push(&mut filled.entries, place)?;
+    filled.low = low_with(filled.low, filled.entries.len(), nfa.match_len(sid));
+    Ok(())
+}
+
+/// The record of one state more.
+fn add_record(filled: &mut Filled, nfa: &NFA, plan: &Plan, sid: StateID) -> Result<(), BuildError> {
+    let list = push_list(&mut filled.lists, nfa, sid)?;
+    let place = index_of(filled.moves.len())?;
+    push_moves(&mut filled.moves, nfa.transitions(sid), plan)?;
+    let count = index_of(filled.moves.len() - place.as_usize())?;
+    let height = SmallIndex::new_unchecked(nfa.depth(sid) - plan.row_depth);
+    let link = plan.numbers[nfa.fail(sid).as_usize()];
+    push_record(&mut filled.deep, [link, list, height, place, count])?;
+    let end = plan.numbers[sid.as_usize()].as_usize() + RECORD_SIZE;
+    filled.deep_low = low_with(filled.deep_low, end, nfa.match_len(sid));
+    Ok(())
+}
+
+/// These words at the end of the records.
+fn push_record(deep: &mut Vec<SmallIndex>, words: [SmallIndex; 5]) -> Result<(), BuildError> {
+    for word in words {
+        push(deep, word)?;
+    }
+    Ok(())
+}
+
+/// These transitions at the end: for each its byte, and the number of the state that it leads to.
+fn push_moves(
+    moves: &mut Vec<SmallIndex>,
+    transitions: Transitions<'_>,
+    plan: &Plan,
+) -> Result<(), BuildError> {
+    for (byte, next) in transitions {
+        if next != FAIL {
+            push(moves, SmallIndex::new_unchecked(byte as usize))?;
+            push(moves, plan.numbers[next.as_usize()])?;
+        }
+    }
+    Ok(())
 }
 
 /// The refusal of a number that is above the greatest index.
@@ -110,14 +267,6 @@ fn first_bytes(classes: &ByteClasses) -> [u8; 256]
     firsts
 }
 
-/// Where the row of a state of the `NFA` begins.
-fn place_of(sid: StateID, stride: usize) -> SmallIndex
-    requires within { sid * stride ≤ greatest_index }
-    ensures place { result ≡ sid * stride }
-{
-    SmallIndex::new_unchecked(sid.as_usize() * stride)
-}
-
 /// The state whose row stands at the place of this one: its own, and for FAIL and the anchored start, which no unanchored
 /// search holds, that of the unanchored start.
 fn source_of(special: &Special, index: usize) -> StateID
@@ -133,69 +282,6 @@ fn source_of(special: &Special, index: usize) -> StateID
     StateID::new_unchecked(index)
 }
 
-/// The rows of all states.
-fn filled_rows(alloc: Global, nfa: &NFA, firsts: &[u8], stride: usize) -> Result<Filled, BuildError>
-    requires stride { stride ≡ stride_of (classes_of nfa.now) }
-    requires small { length (states_of nfa.now) * stride ≤ greatest_index }
-    requires bounded { stride ≤ 257 }
-    requires firsts { length firsts.now ≡ 256 }
-    ensures filled { IfOk result (λ f. IsFilled (special_of nfa.now) (states_of nfa.now) (classes_of nfa.now) firsts.now
-        (length (states_of nfa.now)) f.entries.items f.lists.items f.low) }
-    ensures refused { IfErr result IsListRefused }
-{
-    let mut filled = Filled {
-        entries: Vec::new(alloc),
-        lists: Vec::new(alloc),
-        low: first_low(nfa, stride),
-    };
-    push(&mut filled.lists, SmallIndex::new_unchecked(0))?;
-    for index in 0..nfa.states_len() {
-        add_row(&mut filled, nfa, firsts, stride, index)?;
-    }
-    Ok(filled)
-}
-
-/// The number below which states are special whatever they list: DEAD's row and, where a search may skip from the start,
-/// the start's.
-fn first_low(nfa: &NFA, stride: usize) -> usize
-    requires stride { stride ≤ 257 }
-    ensures some { 0 < result }
-{
-    match nfa.prefilter() {
-        Some(_) => (nfa.special().start_unanchored_id.as_usize() + 1)
-            .saturating_mul(stride)
-            .max(1),
-        None => 1,
-    }
-}
-
-/// The row of one state more.
-fn add_row(
-    filled: &mut Filled,
-    nfa: &NFA,
-    firsts: &[u8],
-    stride: usize,
-    index: usize,
-) -> Result<(), BuildError>
-    requires stride { stride ≡ stride_of (classes_of nfa.now) }
-    requires small { length (states_of nfa.now) * stride ≤ greatest_index }
-    requires bounded { stride ≤ 257 }
-    requires firsts { length firsts.now ≡ 256 }
-    requires within { index < length (states_of nfa.now) }
-    requires filled { IsFilled (special_of nfa.now) (states_of nfa.now) (classes_of nfa.now) firsts.now
-        index filled.old.entries.items filled.old.lists.items filled.old.low }
-    ensures filled { OnOk result (IsFilled (special_of nfa.now) (states_of nfa.now) (classes_of nfa.now) firsts.now
-        (index + 1) filled.new.entries.items filled.new.lists.items filled.new.low) }
-    ensures refused { IfErr result IsListRefused }
-{
-    let sid = source_of(nfa.special(), index);
-    push_entries(&mut filled.entries, nfa, firsts, stride, sid)?;
-    let place = push_list(&mut filled.lists, nfa, sid)?;
-    push(&mut filled.entries, place)?;
-    filled.low = low_with(filled.low, filled.entries.len(), nfa.match_len(sid));
-    Ok(())
-}
-
 /// The number below which states are special, with one state more: its row ends here, and it lists so many patterns.
 fn low_with(low: usize, end: usize, listed: usize) -> usize
     ensures higher { low ≤ result }
@@ -208,22 +294,12 @@ fn low_with(low: usize, end: usize, listed: usize) -> usize
 fn push_entries(
     entries: &mut Vec<SmallIndex>,
     nfa: &NFA,
-    firsts: &[u8],
-    stride: usize,
+    plan: &Plan,
     sid: StateID,
-) -> Result<(), BuildError>
-    requires stride { stride ≡ stride_of (classes_of nfa.now) }
-    requires small { length (states_of nfa.now) * stride ≤ greatest_index }
-    requires bounded { stride ≤ 257 }
-    requires firsts { length firsts.now ≡ 256 }
-    requires state { IsState (states_of nfa.now) sid }
-    ensures entries { OnOk result (HasEntries (states_of nfa.now) firsts.now stride sid
-        (class_count (classes_of nfa.now)) entries.old.items entries.new.items) }
-    ensures refused { IfErr result IsListRefused }
-{
-    for class in 0..stride - 1 {
-        let next = nfa.next_state(Anchored::No, sid, firsts[class]);
-        push(entries, place_of(next, stride))?;
+) -> Result<(), BuildError> {
+    for class in 0..plan.stride - 1 {
+        let next = nfa.next_state(Anchored::No, sid, plan.firsts[class]);
+        push(entries, plan.numbers[next.as_usize()])?;
     }
     Ok(())
 }
