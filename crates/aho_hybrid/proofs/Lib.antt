@@ -1,5 +1,5 @@
 pub mod Alike
 pub mod Firsts
 pub mod Listed
-pub mod Filling
-pub mod Made
+pub mod Moves
+pub mod Counting

@@ -9,6 +9,9 @@ use Rattle.aho_build.specs.Walking.{IsState, step_in}
 use Rattle.aho_build.specs.declared.special.Special.{Special}
 use Rattle.aho_table.specs.Alphabet.{class_of, class_count}
 use Rattle.aho_table.specs.Table.{State, dead_id, fail_id, fail_in, depth_in, matches_in, state_at}
+use Rattle.aho_corasick.specs.ReadOut.{classes_of, special_of, states_of}
+use Rattle.aho_corasick.specs.declared.noncontiguous.NFA.{NFA}
+use Rattle.aho_hybrid.specs.declared.fill.Filled.{Filled}
 use Rattle.aho_hybrid.specs.Layout.{Layout, stride_of, record_size}
 
 -- ---- which states have rows, and how the states are numbered
@@ -89,16 +92,39 @@ pub record AreFirst (classes : List Bool) (firsts : List ℕ) : Type 0 where
   pub sized : length firsts ≡ 256
   pub of_class : (byte : ℕ) → byte < 256 → class_of classes (slice_index_or firsts (class_of classes byte) 0) ≡ class_of classes byte
 
--- what the states are made of: the states that are read out, the borders, a byte for each class, and how deep states have rows
+-- what the states are made of: the states that are read out, the borders, a byte for each class, the number of each state, and how
+-- deep states have rows
 pub record Parts : Type 0 where
   pub special : Special
   pub states : List State
   pub classes : List Bool
   pub firsts : List ℕ
+  pub numbers : List ℕ
   pub row_depth : ℕ
 
+abbrev pub parts_of : NFA → List ℕ → List ℕ → ℕ → Parts
+parts_of nfa firsts numbers row_depth = record {
+  special = special_of nfa;
+  states = states_of nfa;
+  classes = classes_of nfa;
+  firsts = firsts;
+  numbers = numbers;
+  row_depth = row_depth;
+}
+
+-- the numbers are those of the states, and the entries of a row are as many as there are classes, and one
+pub record IsPlan (plan : Parts) (stride : ℕ) : Type 0 where
+  pub stride_is : stride ≡ stride_of plan.classes
+  pub bounded : stride ≤ 257
+  pub sized : length plan.firsts ≡ 256
+  pub numbered : AreNumbers plan.row_depth plan.states plan.classes (length plan.states) plan.numbers
+
+-- the number of a state, and 0 where there is none
+abbrev pub number_at : List ℕ → ℕ → ℕ
+number_at numbers sid = slice_index_or numbers sid 0
+
 abbrev pub number_in : Parts → ℕ → ℕ
-number_in plan sid = number_of plan.row_depth plan.states plan.classes sid
+number_in plan sid = number_at plan.numbers sid
 
 -- the state whose row stands at the place of this one: for FAIL and the anchored start it is the unanchored start
 abbrev pub source_in : Special → ℕ → ℕ
@@ -157,10 +183,13 @@ pub record AreRows (plan : Parts) (count : ℕ) (entries lists : List ℕ) (low 
 -- ---- records
 
 -- the transitions of a state, those that lead on: for each its byte, and the number of the state that it leads to
-abbrev pub flat : (ℕ → ℕ) → List (ℕ × ℕ) → List ℕ
-flat number [] = []
-flat number (transition ∷ transitions) =
-    if nat_eq transition.1 fail_id then flat number transitions else transition.0 ∷ number transition.1 ∷ flat number transitions
+abbrev pub flat : List ℕ → List (ℕ × ℕ) → List ℕ
+flat numbers [] = []
+flat numbers (transition ∷ transitions) =
+    if nat_eq transition.1 fail_id then flat numbers transitions else transition.0 ∷ number_at numbers transition.1 ∷ flat numbers transitions
+
+abbrev pub moves_of : Parts → ℕ → List ℕ
+moves_of plan sid = flat plan.numbers (state_at plan.states sid).transitions
 
 -- these words stand at this place
 pub record IsPartAt (words : List ℕ) (place : ℕ) (part : List ℕ) : Type 0 where
@@ -171,11 +200,11 @@ pub record IsPartAt (words : List ℕ) (place : ℕ) (part : List ℕ) : Type 0 
 
 -- the record of a deep state: its words, where they begin
 pub record IsRecord (plan : Parts) (sid : ℕ) (deep : List ℕ) (at : ℕ) (moves lists : List ℕ) : Type 0 where
-  pub link : slice_index_or deep at 0 ≡ number_in plan (fail_in plan.states sid)
+  pub link : slice_index_or deep (at + 0) 0 ≡ number_in plan (fail_in plan.states sid)
   pub listed : IsListAt lists (slice_index_or deep (at + 1) 0) (matches_in plan.states sid)
   pub height : slice_index_or deep (at + 2) 0 + plan.row_depth ≡ depth_in plan.states sid
-  pub moves_at : IsPartAt moves (slice_index_or deep (at + 3) 0) (flat (number_in plan) (state_at plan.states sid).transitions)
-  pub moves_size : slice_index_or deep (at + 4) 0 ≡ length (flat (number_in plan) (state_at plan.states sid).transitions)
+  pub moves_at : IsPartAt moves (slice_index_or deep (at + 3) 0) (moves_of plan sid)
+  pub moves_size : slice_index_or deep (at + 4) 0 ≡ length (moves_of plan sid)
 
 -- the records of the states below the count
 pub record AreRecords (plan : Parts) (count : ℕ) (deep moves lists : List ℕ) (deep_low : ℕ) : Type 0 where
@@ -184,6 +213,6 @@ pub record AreRecords (plan : Parts) (count : ℕ) (deep moves lists : List ℕ)
   pub others : (i : ℕ) → i < count → IsDeepState plan i → deep_low ≤ number_in plan i → matches_in plan.states i ≡ []
 
 -- the states below the count
-pub record IsFilled (plan : Parts) (count : ℕ) (entries deep moves lists : List ℕ) (low deep_low : ℕ) : Type 0 where
-  pub rows : AreRows plan count entries lists low
-  pub records : AreRecords plan count deep moves lists deep_low
+pub record IsFilled (plan : Parts) (count : ℕ) (filled : Filled) : Type 0 where
+  pub rows : AreRows plan count filled.entries.items filled.lists.items filled.low
+  pub records : AreRecords plan count filled.deep.items filled.moves.items filled.lists.items filled.deep_low

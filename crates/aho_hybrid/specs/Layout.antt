@@ -1,5 +1,5 @@
 -- How the states of a `Hybrid` lie in memory, and what is read there.
-use Rattle.std.specs.Prelude.{◌≡◌, ◌⊎◌, ℕ, zero, suc, ◌+◌, ◌-◌, ◌<◌, ◌≤◌, ◌%◌, Bool, List, [], ◌∷◌, length, take, drop, nat_eq, nat_lt, slice_index_or, if◌then◌else◌, Result, Ok, Err, Option, Some, None, is_some, ◌*◌}
+use Rattle.std.specs.Prelude.{◌≡◌, ◌||◌, ℕ, zero, suc, ◌+◌, ◌-◌, ◌<◌, ◌≤◌, ◌%◌, Bool, true, false, List, [], ◌∷◌, length, take, drop, nat_eq, nat_lt, slice_index_or, if◌then◌else◌, Result, Ok, Err, Option, Some, None, is_some, ◌*◌}
 use Rattle.std.specs.List.{All}
 use Rattle.aho_base.specs.Numbers.{greatest_index}
 use Rattle.aho_base.specs.declared.error.MatchErrorKind.{MatchErrorKind}
@@ -41,16 +41,17 @@ HasRow t sid = IsRow (stride_of t.classes) (length t.rows) sid
 
 -- a deep state by the place of its record, counted on from the end of the rows
 pub record IsDeep (t : Layout) (sid : ℕ) : Type 0 where
-  pub at : ℕ
-  pub is : sid ≡ length t.rows + at * record_size
-  pub within : at * record_size + record_size ≤ length t.deep
-
-abbrev pub IsStateIn : Layout → ℕ → Type 0
-IsStateIn t sid = HasRow t sid ⊎ IsDeep t sid
+  pub behind : length t.rows ≤ sid
+  pub record_of : IsRow record_size (length t.deep) (sid - length t.rows)
 
 -- whether the number is below those of the deep states
 abbrev pub is_row : Layout → ℕ → Bool
 is_row t sid = nat_lt sid (length t.rows)
+
+-- the number is that of a state
+pub record IsStateIn (t : Layout) (sid : ℕ) : Type 0 where
+  pub with_row : is_row t sid ≡ true → HasRow t sid
+  pub without_row : is_row t sid ≡ false → IsDeep t sid
 
 -- where a row leads
 abbrev pub entry_in : Layout → ℕ → ℕ → ℕ

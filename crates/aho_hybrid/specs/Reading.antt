@@ -1,6 +1,6 @@
 -- What it means that a layout is the automaton of some patterns, and the laws that follow.
 use Rattle.std.proofs.Common.{◌≡◌, ◌⊎◌, ℕ, zero, suc, ◌+◌, ◌<◌, ◌≤◌, arith, true, false, inl, inr, List, [], ◌∷◌, ◌++◌, length, map, refl, sym, subst, ◌∙◌, ap, nat_eq, eqb-true, ne_eqb, get_or}
-use Rattle.std.proofs.lemmas.Bool.{both_ways, cond-true, cond-false, lt-ltb, le-ltb}
+use Rattle.std.proofs.lemmas.Bool.{both_ways, cases_Bool, cond-true, cond-false, lt-ltb, le-ltb}
 use Rattle.std.proofs.lemmas.List.Elements.{All-nil, All-push}
 use Rattle.std.specs.Prelude.{Option, Some, None, is_none, is_some, nat_lt, ◌||◌, if◌then◌else◌}
 use Rattle.std.specs.List.{All}
@@ -31,10 +31,23 @@ pub row-test : (t : Layout) (sid : ℕ) → HasRow t sid → is_row t sid ≡ tr
 row-test t sid row = lt-ltb sid (length t.rows) (omega (arith, row.within))
 
 pub deep-test : (t : Layout) (sid : ℕ) → IsDeep t sid → is_row t sid ≡ false
-deep-test t sid deep = le-ltb sid (length t.rows) (omega (arith, deep.is))
+deep-test t sid deep = le-ltb sid (length t.rows) deep.behind
 
 pub row-depth : (t : Layout) (sid : ℕ) → HasRow t sid → depth_in t sid ≡ 0
 row-depth t sid row = cond-true (is_row t sid) 0 (word_in t sid 2) (row-test t sid row)
+
+pub state-cases : (t : Layout) (sid : ℕ) → IsStateIn t sid → HasRow t sid ⊎ IsDeep t sid
+state-cases t sid state =
+    elim (cases_Bool (is_row t sid)) [
+      | inl row ↦ inl (state.with_row row)
+      | inr deep ↦ inr (state.without_row deep)
+    ]
+
+pub state-of_row : (t : Layout) (sid : ℕ) → HasRow t sid → IsStateIn t sid
+state-of_row t sid row = record { with_row = λ e. row; without_row = λ e. absurd (both_ways (is_row t sid) e (row-test t sid row)); }
+
+pub state-of_deep : (t : Layout) (sid : ℕ) → IsDeep t sid → IsStateIn t sid
+state-of_deep t sid deep = record { with_row = λ e. absurd (both_ways (is_row t sid) (deep-test t sid deep) e); without_row = λ e. deep; }
 
 -- a step from a state with a row, and from a deep one
 pub along-row : (t : Layout) (byte left sid : ℕ) → is_row t sid ≡ true → 0 < left → (along t byte left sid ≡ entry_in t sid byte) × (looks_along t byte left sid ≡ 1)
@@ -64,61 +77,79 @@ module _ (t : Layout) (sound : IsSoundLayout t) where
   run-push sid [] byte = refl
   run-push sid (x ∷ word) byte = run-push (next_in t sid x) word byte
 
-  -- along the links a byte leads from state to state, and what is looked at is paid by what the state is deeper than that
-  pub along-paid : (byte left sid : ℕ) → byte < 256 → depth_in t sid < left → IsStateIn t sid
-      → IsStateIn t (along t byte left sid) × (looks_along t byte left sid + depth_in t (along t byte left sid) ≤ depth_in t sid + 2)
-  along-paid byte zero sid small less state = absurd (omega (arith, less))
-  along-paid byte (suc left) sid small less (inl row) =
+  -- what a step along the links is to keep
+  abbrev IsPaidAlong : ℕ → ℕ → ℕ → Type 0
+  IsPaidAlong byte left sid = IsStateIn t (along t byte left sid) × (looks_along t byte left sid + depth_in t (along t byte left sid) ≤ depth_in t sid + 2)
+
+  paid-step : (byte left sid : ℕ) → byte < 256 → depth_in t sid < left + 1 → HasRow t sid ⊎ IsDeep t sid → (o : Option ℕ) → child_in t sid byte ≡ o
+      → ((next : ℕ) → depth_in t next < left → IsStateIn t next → IsPaidAlong byte left next) → IsPaidAlong byte (suc left) sid
+  paid-step byte left sid small less (inl row) o child rest =
       let class = class_of-count t.classes byte in
       let led = along-row t byte (suc left) sid (row-test t sid row) (omega arith) in (
         subst (IsStateIn t) (sym led.0) (sound.in_rows.next sid (class_of t.classes byte) row class),
         omega (arith, led.1, ap (depth_in t) led.0, sound.in_rows.near sid (class_of t.classes byte) row class),
       )
-  along-paid byte (suc left) sid small less (inr deep) = by_child (child_in t sid byte) refl
-    where
-      test : is_row t sid ≡ false
-      test = deep-test t sid deep
+  paid-step byte left sid small less (inr deep) (Some next) child rest =
+      let led = along-child t byte (suc left) sid next (deep-test t sid deep) child (omega arith) in
+      let is = sound.in_deep.next sid byte next deep small child in
+      (subst (IsStateIn t) (sym led.0) is.0, omega (arith, led.1, ap (depth_in t) led.0, is.1))
+  paid-step byte left sid small less (inr deep) None child rest =
+      let led = along-link t byte left sid (deep-test t sid deep) child in
+      let is = sound.in_deep.link sid byte deep small child in
+      let further = rest (link_in t sid) (omega (arith, is.1, less)) is.0 in
+      (subst (IsStateIn t) (sym led.0) further.0, omega (arith, led.1, ap (depth_in t) led.0, further.1, is.1))
 
-      by_child : (o : Option ℕ) → child_in t sid byte ≡ o
-          → IsStateIn t (along t byte (suc left) sid) × (looks_along t byte (suc left) sid + depth_in t (along t byte (suc left) sid) ≤ depth_in t sid + 2)
-      by_child (Some next) child =
-          let led = along-child t byte (suc left) sid next test child (omega arith) in
-          let is = sound.in_deep.next sid byte next deep small child in
-          (subst (IsStateIn t) (sym led.0) is.0, omega (arith, led.1, ap (depth_in t) led.0, is.1))
-      by_child None child =
-          let led = along-link t byte left sid test child in
-          let is = sound.in_deep.link sid byte deep small child in
-          let rest = along-paid byte left (link_in t sid) small (omega (arith, is.1, less)) is.0 in
-          (subst (IsStateIn t) (sym led.0) rest.0, omega (arith, led.1, ap (depth_in t) led.0, rest.1, is.1))
+  -- along the links a byte leads from state to state, and what is looked at is paid by what the state is deeper than that
+  pub along-paid : (byte left sid : ℕ) → byte < 256 → depth_in t sid < left → IsStateIn t sid → IsPaidAlong byte left sid
+  along-paid byte zero sid small less state = absurd (omega (arith, less))
+  along-paid byte (suc left) sid small less state =
+      paid-step byte left sid small (omega (arith, less)) (state-cases t sid state) (child_in t sid byte) refl (λ next near is. along-paid byte left next small near is)
 
   -- with more states than may be looked at the step is the same
-  pub along-enough : (byte left sid : ℕ) → byte < 256 → depth_in t sid < left → IsStateIn t sid → (along t byte left sid ≡ next_in t sid byte) × (looks_along t byte left sid ≡ looks_in t sid byte)
-  along-enough byte left sid small less state = any left (depth_in t sid + 1) sid less (omega arith) state
-    where
-      any : (left other sid : ℕ) → depth_in t sid < left → depth_in t sid < other → IsStateIn t sid → (along t byte left sid ≡ along t byte other sid) × (looks_along t byte left sid ≡ looks_along t byte other sid)
-      any zero other sid less more state = absurd (omega (arith, less))
-      any (suc left) zero sid less more state = absurd (omega (arith, more))
-      any (suc left) (suc other) sid less more (inl row) =
-          let one = along-row t byte (suc left) sid (row-test t sid row) (omega arith) in
-          let two = along-row t byte (suc other) sid (row-test t sid row) (omega arith) in
-          (one.0 ∙ sym two.0, one.1 ∙ sym two.1)
-      any (suc left) (suc other) sid less more (inr deep) = by_child (child_in t sid byte) refl
-        where
-          test : is_row t sid ≡ false
-          test = deep-test t sid deep
+  abbrev AreAlike : ℕ → ℕ → ℕ → ℕ → Type 0
+  AreAlike byte left other sid = (along t byte left sid ≡ along t byte other sid) × (looks_along t byte left sid ≡ looks_along t byte other sid)
 
-          by_child : (o : Option ℕ) → child_in t sid byte ≡ o
-              → (along t byte (suc left) sid ≡ along t byte (suc other) sid) × (looks_along t byte (suc left) sid ≡ looks_along t byte (suc other) sid)
-          by_child (Some next) child =
-              let one = along-child t byte (suc left) sid next test child (omega arith) in
-              let two = along-child t byte (suc other) sid next test child (omega arith) in
-              (one.0 ∙ sym two.0, one.1 ∙ sym two.1)
-          by_child None child =
-              let one = along-link t byte left sid test child in
-              let two = along-link t byte other sid test child in
-              let is = sound.in_deep.link sid byte deep small child in
-              let rest = any left other (link_in t sid) (omega (arith, is.1, less)) (omega (arith, is.1, more)) is.0 in
-              (one.0 ∙ rest.0 ∙ sym two.0, one.1 ∙ ap (λ n. 1 + n) rest.1 ∙ sym two.1)
+  alike-step : (byte left other sid : ℕ) → byte < 256 → depth_in t sid < left + 1 → depth_in t sid < other + 1 → HasRow t sid ⊎ IsDeep t sid → (o : Option ℕ) → child_in t sid byte ≡ o
+      → ((next : ℕ) → depth_in t next < left → depth_in t next < other → IsStateIn t next → AreAlike byte left other next) → AreAlike byte (suc left) (suc other) sid
+  alike-step byte left other sid small less more (inl row) o child rest =
+      let one = along-row t byte (suc left) sid (row-test t sid row) (omega arith) in
+      let two = along-row t byte (suc other) sid (row-test t sid row) (omega arith) in
+      (one.0 ∙ sym two.0, one.1 ∙ sym two.1)
+  alike-step byte left other sid small less more (inr deep) (Some next) child rest =
+      let one = along-child t byte (suc left) sid next (deep-test t sid deep) child (omega arith) in
+      let two = along-child t byte (suc other) sid next (deep-test t sid deep) child (omega arith) in
+      (one.0 ∙ sym two.0, one.1 ∙ sym two.1)
+  alike-step byte left other sid small less more (inr deep) None child rest =
+      let one = along-link t byte left sid (deep-test t sid deep) child in
+      let two = along-link t byte other sid (deep-test t sid deep) child in
+      let is = sound.in_deep.link sid byte deep small child in
+      let further = rest (link_in t sid) (omega (arith, is.1, less)) (omega (arith, is.1, more)) is.0 in
+      (one.0 ∙ further.0 ∙ sym two.0, one.1 ∙ ap (λ (n : ℕ). 1 + n) further.1 ∙ sym two.1)
+
+  along-alike : (byte left other sid : ℕ) → byte < 256 → depth_in t sid < left → depth_in t sid < other → IsStateIn t sid → AreAlike byte left other sid
+  along-alike byte zero other sid small less more state = absurd (omega (arith, less))
+  along-alike byte (suc left) zero sid small less more state = absurd (omega (arith, more))
+  along-alike byte (suc left) (suc other) sid small less more state =
+      alike-step byte left other sid small (omega (arith, less)) (omega (arith, more)) (state-cases t sid state) (child_in t sid byte) refl
+      (λ next near nearer is. along-alike byte left other next small near nearer is)
+
+  -- one link down
+  pub linked-step : (sid byte : ℕ) → byte < 256 → IsDeep t sid → child_in t sid byte ≡ None
+      → (next_in t sid byte ≡ next_in t (link_in t sid) byte) × (looks_in t sid byte ≡ 1 + looks_in t (link_in t sid) byte)
+  linked-step sid byte small deep child =
+      let led = along-link t byte (depth_in t sid) sid (deep-test t sid deep) child in
+      let is = sound.in_deep.link sid byte deep small child in
+      let alike = along-alike byte (depth_in t sid) (depth_in t (link_in t sid) + 1) (link_in t sid) small (omega (arith, is.1)) (omega arith) is.0 in
+      (fuel ∙ led.0 ∙ alike.0, looks_fuel ∙ led.1 ∙ ap (λ (n : ℕ). 1 + n) alike.1)
+    where
+      one_more : depth_in t sid + 1 ≡ suc (depth_in t sid)
+      one_more = omega arith
+
+      fuel : next_in t sid byte ≡ along t byte (suc (depth_in t sid)) sid
+      fuel = ap (λ (n : ℕ). along t byte n sid) one_more
+
+      looks_fuel : looks_in t sid byte ≡ looks_along t byte (suc (depth_in t sid)) sid
+      looks_fuel = ap (λ (n : ℕ). looks_along t byte n sid) one_more
 
   -- a byte leads from state to state
   pub next-state : (sid byte : ℕ) → byte < 256 → IsStateIn t sid → IsStateIn t (next_in t sid byte)
@@ -133,7 +164,10 @@ module _ (t : Layout) (sound : IsSoundLayout t) where
       let zero_is : sid ≡ 0 = eqb-true sid 0 dead in
       let led = along-row t byte (depth_in t 0 + 1) 0 (row-test t 0 sound.in_rows.dead) (omega arith) in
       ap (λ (n : ℕ). nat_eq (next_in t n byte) 0) zero_is
-      ∙ ap (λ (n : ℕ). nat_eq n 0) (led.0 ∙ sound.in_rows.dead_stays (class_of t.classes byte) (class_of-count t.classes byte))
+      ∙ ap (λ (n : ℕ). nat_eq n 0) (led.0 ∙ ap (λ (n : ℕ). get_or t.rows n 0) (first (class_of t.classes byte)) ∙ sound.in_rows.dead_stays (class_of t.classes byte) (class_of-count t.classes byte))
+    where
+      first : (class : ℕ) → 0 + class ≡ class
+      first class = omega arith
 
   -- a state that follows the held one is held after one more byte
   pub held-next : (anchored : Anchored) (word : List ℕ) (sid byte next : ℕ) → byte < 256 → next ≡ next_in t sid byte → IsHeldIn t anchored word sid → IsHeldIn t anchored (word ++ byte ∷ []) next

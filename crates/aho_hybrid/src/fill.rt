@@ -1,7 +1,7 @@
 //! The states of a `Hybrid`, made from an `NFA`'s: rows for those near the start, and records for the others, each in the order
 //! of the `NFA`'s numbers.
 
-ghost use Rattle.std.specs.Prelude.{◌≡◌, ◌⊎◌, ◌×◌, ℕ, [], ◌∷◌, ◌++◌, ◌+◌, ◌*◌, ◌<◌, ◌≤◌, length, slice_index_or, IfOk, IfErr, OnOk};
+ghost use Rattle.std.specs.Prelude.{◌≡◌, ◌⊎◌, ℕ, [], ◌∷◌, ◌++◌, ◌+◌, ◌*◌, ◌<◌, ◌≤◌, length, slice_index_or, IfOk, IfErr, OnOk};
 ghost use Rattle.aho_base.specs.Numbers.{greatest_index};
 ghost use Rattle.aho_base.specs.Patterns.{Patterns};
 ghost use Rattle.aho_build.specs.Walking.{IsState};
@@ -10,7 +10,7 @@ ghost use Rattle.aho_table.specs.Alphabet.{class_of, class_count};
 ghost use Rattle.aho_table.specs.Table.{matches_in};
 ghost use Rattle.aho_hybrid.specs.Layout.{IsSoundLayout, stride_of};
 ghost use Rattle.aho_hybrid.specs.Reading.{IsLayoutOf};
-ghost use Rattle.aho_hybrid.specs.Filled.{AreFirst, HasEntries, IsFilled, IsListAt, IsListRefused, IsPlaced, IsRefused, IsTooLarge, rows_size, source_in};
+ghost use Rattle.aho_hybrid.specs.Filled.{AreFirst, AreNumbers, HasEntries, HasSizes, IsDeepState, IsFilled, IsListAt, IsListRefused, IsPlaced, IsPlan, IsRefused, IsRowDepth, IsShallow, IsTooLarge, deep_count, flat, number_at, parts_of, rows_count, rows_size, source_in, states_size};
 
 use crate::rows::Rows;
 use aho_base::error::BuildError;
@@ -52,7 +52,16 @@ struct Filled {
 }
 
 /// The states of an `NFA`, with rows that take at most so many bytes, but for the states without depth.
-pub fn rows_of(alloc: Global, nfa: &NFA, budget: usize) -> Result<Rows, BuildError> {
+pub fn rows_of(alloc: Global, nfa: &NFA, budget: usize) -> Result<Rows, BuildError>
+    ensures sound { IfOk result IsSoundLayout }
+    ensures of { IfOk result (λ rows. (p : Patterns)
+        → ⟦<NFA as Automaton>⟧.is_of nfa.now p
+        → IsLayoutOf rows p (⟦<NFA as Automaton>⟧.kind nfa.now) (⟦<NFA as Automaton>⟧.lengths nfa.now)) }
+    ensures sized { IfOk result (λ rows. (row_depth : ℕ)
+        × IsRowDepth (states_of nfa.now) (classes_of nfa.now) budget row_depth
+        × HasSizes (states_of nfa.now) (classes_of nfa.now) row_depth rows) }
+    ensures refused { IfErr result (IsRefused (states_of nfa.now) (classes_of nfa.now) budget) }
+{
     let stride = nfa.byte_classes().alphabet_len() + 1;
     let row_depth = row_depth(nfa, stride, budget);
     let with_rows = rows_count(nfa, row_depth);
@@ -74,7 +83,7 @@ pub fn rows_of(alloc: Global, nfa: &NFA, budget: usize) -> Result<Rows, BuildErr
     if filled.moves.len() > SmallIndex::MAX.as_usize() {
         return Err(overflow(filled.moves.len()));
     }
-    let start = plan.numbers[nfa.special().start_unanchored_id.as_usize()];
+    let start = number_at(&plan.numbers, nfa.special().start_unanchored_id);
     Ok(Rows {
         classes: nfa.byte_classes().copy(),
         entries: filled.entries,
@@ -88,7 +97,9 @@ pub fn rows_of(alloc: Global, nfa: &NFA, budget: usize) -> Result<Rows, BuildErr
 }
 
 /// How deep the deepest state is.
-fn deepest(nfa: &NFA) -> usize {
+fn deepest(nfa: &NFA) -> usize
+    ensures deepest { deep_count result (states_of nfa.now) ≡ 0 }
+{
     let mut most = 0;
     for index in 0..nfa.states_len() {
         most = most.max(nfa.depth(StateID::new_unchecked(index)));
@@ -97,7 +108,10 @@ fn deepest(nfa: &NFA) -> usize {
 }
 
 /// How many states are no deeper.
-fn rows_count(nfa: &NFA, depth: usize) -> usize {
+fn rows_count(nfa: &NFA, depth: usize) -> usize
+    ensures count { result ≡ rows_count depth (states_of nfa.now) }
+    ensures bound { result ≤ length (states_of nfa.now) }
+{
     let mut count = 0;
     for index in 0..nfa.states_len() {
         if nfa.depth(StateID::new_unchecked(index)) <= depth {
@@ -108,7 +122,11 @@ fn rows_count(nfa: &NFA, depth: usize) -> usize {
 }
 
 /// The greatest depth down to which the rows of all states take at most so many bytes, or 0.
-fn row_depth(nfa: &NFA, stride: usize, budget: usize) -> usize {
+fn row_depth(nfa: &NFA, stride: usize, budget: usize) -> usize
+    requires stride { stride ≡ stride_of (classes_of nfa.now) }
+    requires bounded { stride ≤ 257 }
+    ensures depth { IsRowDepth (states_of nfa.now) (classes_of nfa.now) budget result }
+{
     let mut low = 0;
     let mut high = deepest(nfa);
     'halves: while low < high {
@@ -129,7 +147,14 @@ fn numbers_of(
     stride: usize,
     row_depth: usize,
     dense: usize,
-) -> Result<Vec<SmallIndex>, BuildError> {
+) -> Result<Vec<SmallIndex>, BuildError>
+    requires stride { stride ≡ stride_of (classes_of nfa.now) }
+    requires dense { dense ≡ rows_size row_depth (states_of nfa.now) (classes_of nfa.now) }
+    requires small { states_size row_depth (states_of nfa.now) (classes_of nfa.now) ≤ greatest_index }
+    ensures numbers { IfOk result (λ numbers. AreNumbers row_depth (states_of nfa.now) (classes_of nfa.now)
+        (length (states_of nfa.now)) numbers.items) }
+    ensures refused { IfErr result IsListRefused }
+{
     let mut numbers = Vec::new(alloc);
     let mut row = 0;
     let mut record = dense;
@@ -146,7 +171,11 @@ fn numbers_of(
 }
 
 /// All states.
-fn filled_states(alloc: Global, nfa: &NFA, plan: &Plan) -> Result<Filled, BuildError> {
+fn filled_states(alloc: Global, nfa: &NFA, plan: &Plan) -> Result<Filled, BuildError>
+    requires plan { IsPlan (parts_of nfa.now plan.now.firsts plan.now.numbers.items plan.now.row_depth) plan.now.stride }
+    ensures filled { IfOk result (IsFilled (parts_of nfa.now plan.now.firsts plan.now.numbers.items plan.now.row_depth) (length (states_of nfa.now))) }
+    ensures refused { IfErr result IsListRefused }
+{
     let mut filled = Filled {
         entries: Vec::new(alloc),
         deep: Vec::new(alloc),
@@ -168,15 +197,25 @@ fn filled_states(alloc: Global, nfa: &NFA, plan: &Plan) -> Result<Filled, BuildE
 
 /// The number below which states with rows are special whatever they list: DEAD and, where a search may skip from the start,
 /// all up to the start.
-fn first_low(nfa: &NFA, plan: &Plan) -> usize {
+fn first_low(nfa: &NFA, plan: &Plan) -> usize
+    requires plan { IsPlan (parts_of nfa.now plan.now.firsts plan.now.numbers.items plan.now.row_depth) plan.now.stride }
+    ensures some { 0 < result }
+{
     match nfa.prefilter() {
-        Some(_) => plan.numbers[nfa.special().start_unanchored_id.as_usize()].as_usize() + 1,
+        Some(_) => number_at(&plan.numbers, nfa.special().start_unanchored_id).as_usize() + 1,
         None => 1,
     }
 }
 
 /// The row of one state more.
-fn add_row(filled: &mut Filled, nfa: &NFA, plan: &Plan, index: usize) -> Result<(), BuildError> {
+fn add_row(filled: &mut Filled, nfa: &NFA, plan: &Plan, index: usize) -> Result<(), BuildError>
+    requires plan { IsPlan (parts_of nfa.now plan.now.firsts plan.now.numbers.items plan.now.row_depth) plan.now.stride }
+    requires within { index < length (states_of nfa.now) }
+    requires shallow { IsShallow (parts_of nfa.now plan.now.firsts plan.now.numbers.items plan.now.row_depth) index }
+    requires filled { IsFilled (parts_of nfa.now plan.now.firsts plan.now.numbers.items plan.now.row_depth) index filled.old }
+    ensures filled { OnOk result (IsFilled (parts_of nfa.now plan.now.firsts plan.now.numbers.items plan.now.row_depth) (index + 1) filled.new) }
+    ensures refused { IfErr result IsListRefused }
+{
     let sid = source_of(nfa.special(), index);
     push_entries(&mut filled.entries, nfa, plan, sid)?;
     let place = push_list(&mut filled.lists, nfa, sid)?;
@@ -186,37 +225,76 @@ fn add_row(filled: &mut Filled, nfa: &NFA, plan: &Plan, index: usize) -> Result<
 }
 
 /// The record of one state more.
-fn add_record(filled: &mut Filled, nfa: &NFA, plan: &Plan, sid: StateID) -> Result<(), BuildError> {
+fn add_record(filled: &mut Filled, nfa: &NFA, plan: &Plan, sid: StateID) -> Result<(), BuildError>
+    requires plan { IsPlan (parts_of nfa.now plan.now.firsts plan.now.numbers.items plan.now.row_depth) plan.now.stride }
+    requires within { sid < length (states_of nfa.now) }
+    requires deep { IsDeepState (parts_of nfa.now plan.now.firsts plan.now.numbers.items plan.now.row_depth) sid }
+    requires filled { IsFilled (parts_of nfa.now plan.now.firsts plan.now.numbers.items plan.now.row_depth) sid filled.old }
+    ensures filled { OnOk result (IsFilled (parts_of nfa.now plan.now.firsts plan.now.numbers.items plan.now.row_depth) (sid + 1) filled.new) }
+    ensures refused { IfErr result IsListRefused }
+{
     let list = push_list(&mut filled.lists, nfa, sid)?;
     let place = index_of(filled.moves.len())?;
-    push_moves(&mut filled.moves, nfa.transitions(sid), plan)?;
-    let count = index_of(filled.moves.len() - place.as_usize())?;
-    let height = SmallIndex::new_unchecked(nfa.depth(sid) - plan.row_depth);
-    let link = plan.numbers[nfa.fail(sid).as_usize()];
-    push_record(&mut filled.deep, [link, list, height, place, count])?;
+    push_moves(&mut filled.moves, nfa.transitions(sid), &plan.numbers)?;
+    let record = Record {
+        link: number_at(&plan.numbers, nfa.fail(sid)),
+        list,
+        height: SmallIndex::new_unchecked(nfa.depth(sid) - plan.row_depth),
+        place,
+        count: index_of(filled.moves.len() - place.as_usize())?,
+    };
+    push_record(&mut filled.deep, record)?;
     let end = plan.numbers[sid.as_usize()].as_usize() + RECORD_SIZE;
     filled.deep_low = low_with(filled.deep_low, end, nfa.match_len(sid));
     Ok(())
 }
 
-/// These words at the end of the records.
-fn push_record(deep: &mut Vec<SmallIndex>, words: [SmallIndex; 5]) -> Result<(), BuildError> {
-    for word in words {
-        push(deep, word)?;
+/// The words of a record.
+#[derive(Clone, Copy)]
+struct Record {
+    link: SmallIndex,
+    list: SmallIndex,
+    height: SmallIndex,
+    place: SmallIndex,
+    count: SmallIndex,
+}
+
+/// This record at the end of the records.
+fn push_record(deep: &mut Vec<SmallIndex>, record: Record) -> Result<(), BuildError>
+    ensures pushed { OnOk result (deep.new.items
+        ≡ deep.old.items ++ record.link ∷ record.list ∷ record.height ∷ record.place ∷ record.count ∷ []) }
+    ensures refused { IfErr result IsListRefused }
+{
+    push(deep, record.link)?;
+    push(deep, record.list)?;
+    push(deep, record.height)?;
+    push(deep, record.place)?;
+    push(deep, record.count)
+}
+
+/// The number of this state, and 0 where there is none.
+fn number_at(numbers: &[SmallIndex], sid: StateID) -> SmallIndex
+    ensures number { result ≡ number_at numbers.now sid }
+{
+    match numbers.get(sid.as_usize()) {
+        Some(number) => *number,
+        None => SmallIndex::new_unchecked(0),
     }
-    Ok(())
 }
 
 /// These transitions at the end: for each its byte, and the number of the state that it leads to.
 fn push_moves(
     moves: &mut Vec<SmallIndex>,
     transitions: Transitions<'_>,
-    plan: &Plan,
-) -> Result<(), BuildError> {
+    numbers: &[SmallIndex],
+) -> Result<(), BuildError>
+    ensures pushed { OnOk result (moves.new.items ≡ moves.old.items ++ flat numbers.now transitions.entry) }
+    ensures refused { IfErr result IsListRefused }
+{
     for (byte, next) in transitions {
         if next != FAIL {
             push(moves, SmallIndex::new_unchecked(byte as usize))?;
-            push(moves, plan.numbers[next.as_usize()])?;
+            push(moves, number_at(numbers, next))?;
         }
     }
     Ok(())
@@ -296,10 +374,15 @@ fn push_entries(
     nfa: &NFA,
     plan: &Plan,
     sid: StateID,
-) -> Result<(), BuildError> {
+) -> Result<(), BuildError>
+    requires plan { IsPlan (parts_of nfa.now plan.now.firsts plan.now.numbers.items plan.now.row_depth) plan.now.stride }
+    requires state { IsState (states_of nfa.now) sid }
+    ensures entries { OnOk result (HasEntries (parts_of nfa.now plan.now.firsts plan.now.numbers.items plan.now.row_depth) sid (class_count (classes_of nfa.now)) entries.old.items entries.new.items) }
+    ensures refused { IfErr result IsListRefused }
+{
     for class in 0..plan.stride - 1 {
         let next = nfa.next_state(Anchored::No, sid, plan.firsts[class]);
-        push(entries, plan.numbers[next.as_usize()])?;
+        push(entries, number_at(&plan.numbers, next))?;
     }
     Ok(())
 }

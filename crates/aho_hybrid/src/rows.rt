@@ -210,12 +210,10 @@ impl Rows {
 fn child_of(moves: &[SmallIndex], byte: u8) -> Option<StateID>
     ensures child { result ≡ child_of moves.now byte }
 {
-    let mut at = 0;
-    'moves: while at + 1 < moves.len() {
-        if moves[at].as_usize() == byte as usize {
-            return Some(StateID::new_unchecked(moves[at + 1].as_usize()));
+    for index in 0..moves.len() / 2 {
+        if moves[2 * index].as_usize() == byte as usize {
+            return Some(StateID::new_unchecked(moves[2 * index + 1].as_usize()));
         }
-        at += 2;
     }
     None
 }
