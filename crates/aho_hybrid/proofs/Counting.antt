@@ -1,11 +1,11 @@
 -- How many states of a list have rows, and how many are deep: by how far the list was read.
-use Rattle.std.proofs.Common.{◌≡◌, ◌⊎◌, inl, inr, ℕ, zero, suc, ◌+◌, ◌-◌, ◌<◌, ◌≤◌, Bool, true, false, List, length, take, refl, sym, ap, arith}
+use Rattle.std.proofs.Common.{◌≡◌, ◌⊎◌, inl, inr, ℕ, zero, suc, ◌+◌, ◌-◌, ◌<◌, ◌≤◌, Bool, true, false, List, length, take, refl, sym, ap, ◌∙◌, arith}
 use Rattle.std.specs.Prelude.{not}
 use Rattle.std.specs.List.{count_by}
-use Rattle.std.proofs.lemmas.Bool.{cases_Bool, cases_order}
+use Rattle.std.proofs.lemmas.Bool.{cases_Bool, cases_order, le-ltb}
 use Rattle.std.proofs.lemmas.List.{take_all}
 use Rattle.std.proofs.lemmas.List.Sums.{count_by_more_no, count_by_more_yes}
-use Rattle.aho_table.specs.Table.{State, new_state, state_at}
+use Rattle.aho_table.specs.Table.{State, depth_in, new_state, state_at}
 use Rattle.aho_hybrid.specs.Filled.{deep_count, is_deep, is_shallow, rows_count}
 
 -- ---- of any kind of states
@@ -128,3 +128,13 @@ module _ (row_depth : ℕ) (states : List State) where
   unfolding deep_count
   deep-of_number n below =
       numbered (is_deep row_depth) states n (length states) (omega arith) (omega (arith, below, ap (count_by (is_deep row_depth)) (take_all (length states) states (omega arith))))
+
+  -- where no state is deeper there is no deep one
+  pub none-deep : ((i : ℕ) → i < length states → depth_in states i ≤ row_depth) → deep_count row_depth states ≡ 0
+  none-deep most = sym deep-all ∙ below (length states) (omega arith)
+    where
+      below : (i : ℕ) → i ≤ length states → deep_below i ≡ 0
+      below zero within = deep-first
+      below (suc i) within =
+          let one_more : suc i ≡ i + 1 = omega arith in
+          ap deep_below one_more ∙ (row-more i (omega (arith, within)) (le-ltb row_depth (depth_in states i) (most i (omega (arith, within))))).1 ∙ below i (omega (arith, within))

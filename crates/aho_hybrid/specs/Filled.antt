@@ -8,7 +8,7 @@ use Rattle.aho_base.specs.declared.search.Anchored.TheVariants.{No}
 use Rattle.aho_build.specs.Walking.{IsState, step_in}
 use Rattle.aho_build.specs.declared.special.Special.{Special}
 use Rattle.aho_table.specs.Alphabet.{class_of, class_count}
-use Rattle.aho_table.specs.Table.{State, dead_id, fail_id, fail_in, depth_in, matches_in, state_at}
+use Rattle.aho_table.specs.Table.{IsRising, State, dead_id, fail_id, fail_in, depth_in, matches_in, state_at}
 use Rattle.aho_corasick.specs.ReadOut.{classes_of, special_of, states_of}
 use Rattle.aho_corasick.specs.declared.noncontiguous.NFA.{NFA}
 use Rattle.aho_hybrid.specs.declared.fill.Filled.{Filled}
@@ -41,7 +41,7 @@ states_size row_depth states classes = rows_size row_depth states classes + deep
 -- the greatest depth down to which rows take at most so many bytes, or 0
 pub record IsRowDepth (states : List State) (classes : List Bool) (budget row_depth : ℕ) : Type 0 where
   pub fits : 0 < row_depth → rows_size row_depth states classes * 4 ≤ budget
-  pub greatest : (depth : ℕ) → depth ≡ row_depth + 1 → 0 < deep_count row_depth states → budget < rows_size depth states classes * 4
+  pub greatest : 0 < deep_count row_depth states → budget < rows_size (row_depth + 1) states classes * 4
 
 -- the bytes that the rows of `from_nfa` may take
 abbrev pub default_budget : ℕ
@@ -188,9 +188,6 @@ flat numbers [] = []
 flat numbers (transition ∷ transitions) =
     if nat_eq transition.1 fail_id then flat numbers transitions else transition.0 ∷ number_at numbers transition.1 ∷ flat numbers transitions
 
-abbrev pub moves_of : Parts → ℕ → List ℕ
-moves_of plan sid = flat plan.numbers (state_at plan.states sid).transitions
-
 -- these words stand at this place
 pub record IsPartAt (words : List ℕ) (place : ℕ) (part : List ℕ) : Type 0 where
   pub before : List ℕ
@@ -198,19 +195,30 @@ pub record IsPartAt (words : List ℕ) (place : ℕ) (part : List ℕ) : Type 0 
   pub whole : words ≡ before ++ (part ++ after)
   pub place_is : length before ≡ place
 
+-- the state whose row or record stands at the place of this one
+abbrev pub source_of : Parts → ℕ → ℕ
+source_of plan sid = source_in plan.special sid
+
+abbrev pub transitions_of : Parts → ℕ → List (ℕ × ℕ)
+transitions_of plan sid = (state_at plan.states (source_of plan sid)).transitions
+
+abbrev pub moves_of : Parts → ℕ → List ℕ
+moves_of plan sid = flat plan.numbers (transitions_of plan sid)
+
 -- the record of a deep state: its words, where they begin
 pub record IsRecord (plan : Parts) (sid : ℕ) (deep : List ℕ) (at : ℕ) (moves lists : List ℕ) : Type 0 where
-  pub link : slice_index_or deep (at + 0) 0 ≡ number_in plan (fail_in plan.states sid)
-  pub listed : IsListAt lists (slice_index_or deep (at + 1) 0) (matches_in plan.states sid)
+  pub link : slice_index_or deep (at + 0) 0 ≡ number_in plan (fail_in plan.states (source_of plan sid))
+  pub listed : IsListAt lists (slice_index_or deep (at + 1) 0) (matches_in plan.states (source_of plan sid))
   pub height : slice_index_or deep (at + 2) 0 + plan.row_depth ≡ depth_in plan.states sid
   pub moves_at : IsPartAt moves (slice_index_or deep (at + 3) 0) (moves_of plan sid)
   pub moves_size : slice_index_or deep (at + 4) 0 ≡ length (moves_of plan sid)
+  pub rising : IsRising (transitions_of plan sid)
 
 -- the records of the states below the count
 pub record AreRecords (plan : Parts) (count : ℕ) (deep moves lists : List ℕ) (deep_low : ℕ) : Type 0 where
   pub sized : length deep ≡ record_at plan.row_depth plan.states count
   pub records : (i : ℕ) → i < count → IsDeepState plan i → IsRecord plan i deep (record_at plan.row_depth plan.states i) moves lists
-  pub others : (i : ℕ) → i < count → IsDeepState plan i → deep_low ≤ number_in plan i → matches_in plan.states i ≡ []
+  pub others : (i : ℕ) → i < count → IsDeepState plan i → deep_low ≤ number_in plan i → matches_in plan.states (source_of plan i) ≡ []
 
 -- the states below the count
 pub record IsFilled (plan : Parts) (count : ℕ) (filled : Filled) : Type 0 where

@@ -159,6 +159,7 @@ pub record IsSoundLayout (t : Layout) : Type 0 where
   pub listed : (sid : ℕ) → IsStateIn t sid → list_place t sid + slice_index_or t.lists (list_place t sid) 0 < length t.lists
   pub small : length t.rows + length t.deep ≤ greatest_index
   pub small_lists : length t.lists ≤ greatest_index + 1
+  pub small_moves : length t.moves ≤ greatest_index
 
 -- the bytes of the entries, the records, the transitions, the lists and the lengths of patterns, by stated sizes, and what a
 -- prefilter holds

@@ -1,16 +1,16 @@
 //! The states of a `Hybrid`, made from an `NFA`'s: rows for those near the start, and records for the others, each in the order
 //! of the `NFA`'s numbers.
 
-ghost use Rattle.std.specs.Prelude.{◌≡◌, ◌⊎◌, ℕ, [], ◌∷◌, ◌++◌, ◌+◌, ◌*◌, ◌<◌, ◌≤◌, length, slice_index_or, IfOk, IfErr, OnOk};
+ghost use Rattle.std.specs.Prelude.{◌≡◌, ◌⊎◌, ℕ, [], ◌∷◌, ◌++◌, ◌+◌, ◌*◌, ◌<◌, ◌≤◌, length, slice_index_or, if◌then◌else◌, IfOk, IfErr, OnOk};
 ghost use Rattle.aho_base.specs.Numbers.{greatest_index};
 ghost use Rattle.aho_base.specs.Patterns.{Patterns};
 ghost use Rattle.aho_build.specs.Walking.{IsState};
 ghost use Rattle.aho_corasick.specs.ReadOut.{states_of, special_of, classes_of};
 ghost use Rattle.aho_table.specs.Alphabet.{class_of, class_count};
-ghost use Rattle.aho_table.specs.Table.{matches_in};
+ghost use Rattle.aho_table.specs.Table.{matches_in, state_at};
 ghost use Rattle.aho_hybrid.specs.Layout.{IsSoundLayout, stride_of};
 ghost use Rattle.aho_hybrid.specs.Reading.{IsLayoutOf};
-ghost use Rattle.aho_hybrid.specs.Filled.{AreFirst, AreNumbers, HasEntries, HasSizes, IsDeepState, IsFilled, IsListAt, IsListRefused, IsPlaced, IsPlan, IsRefused, IsRowDepth, IsShallow, IsTooLarge, deep_count, flat, number_at, parts_of, rows_count, rows_size, source_in, states_size};
+ghost use Rattle.aho_hybrid.specs.Filled.{AreFirst, AreNumbers, HasEntries, HasSizes, IsDeepState, IsFilled, IsListAt, IsListRefused, IsPlaced, IsPlan, IsRefused, IsRowDepth, IsShallow, IsTooLarge, deep_count, flat, is_deep, number_at, parts_of, rows_count, rows_size, source_in, states_size};
 
 use crate::rows::Rows;
 use aho_base::error::BuildError;
@@ -96,6 +96,22 @@ pub fn rows_of(alloc: Global, nfa: &NFA, budget: usize) -> Result<Rows, BuildErr
     })
 }
 
+/// Whether a state is deeper.
+fn is_deep(nfa: &NFA, index: usize, depth: usize) -> bool
+    requires within { index < length (states_of nfa.now) }
+    requires small { index ≤ greatest_index }
+    ensures deep { result ≡ is_deep depth (state_at (states_of nfa.now) index) }
+{
+    nfa.depth(StateID::new_unchecked(index)) > depth
+}
+
+/// The first of two numbers, or the second.
+fn either(first: bool, one: usize, other: usize) -> usize
+    ensures either { result ≡ (if first then one else other) }
+{
+    if first { one } else { other }
+}
+
 /// How deep the deepest state is.
 fn deepest(nfa: &NFA) -> usize
     ensures deepest { deep_count result (states_of nfa.now) ≡ 0 }
@@ -111,12 +127,11 @@ fn deepest(nfa: &NFA) -> usize
 fn rows_count(nfa: &NFA, depth: usize) -> usize
     ensures count { result ≡ rows_count depth (states_of nfa.now) }
     ensures bound { result ≤ length (states_of nfa.now) }
+    ensures small { length (states_of nfa.now) ≤ greatest_index + 1 }
 {
     let mut count = 0;
     for index in 0..nfa.states_len() {
-        if nfa.depth(StateID::new_unchecked(index)) <= depth {
-            count += 1;
-        }
+        count = either(is_deep(nfa, index, depth), count, count + 1);
     }
     count
 }
@@ -149,6 +164,7 @@ fn numbers_of(
     dense: usize,
 ) -> Result<Vec<SmallIndex>, BuildError>
     requires stride { stride ≡ stride_of (classes_of nfa.now) }
+    requires bounded { stride ≤ 257 }
     requires dense { dense ≡ rows_size row_depth (states_of nfa.now) (classes_of nfa.now) }
     requires small { states_size row_depth (states_of nfa.now) (classes_of nfa.now) ≤ greatest_index }
     ensures numbers { IfOk result (λ numbers. AreNumbers row_depth (states_of nfa.now) (classes_of nfa.now)
@@ -159,13 +175,11 @@ fn numbers_of(
     let mut row = 0;
     let mut record = dense;
     for index in 0..nfa.states_len() {
-        if nfa.depth(StateID::new_unchecked(index)) <= row_depth {
-            push(&mut numbers, SmallIndex::new_unchecked(row))?;
-            row += stride;
-        } else {
-            push(&mut numbers, SmallIndex::new_unchecked(record))?;
-            record += RECORD_SIZE;
-        }
+        let deep = is_deep(nfa, index, row_depth);
+        let number = SmallIndex::new_unchecked(either(deep, record, row));
+        push(&mut numbers, number)?;
+        row = either(deep, row, row + stride);
+        record = either(deep, record + RECORD_SIZE, record);
     }
     Ok(numbers)
 }
@@ -186,11 +200,7 @@ fn filled_states(alloc: Global, nfa: &NFA, plan: &Plan) -> Result<Filled, BuildE
     };
     push(&mut filled.lists, SmallIndex::new_unchecked(0))?;
     for index in 0..nfa.states_len() {
-        if nfa.depth(StateID::new_unchecked(index)) <= plan.row_depth {
-            add_row(&mut filled, nfa, plan, index)?;
-        } else {
-            add_record(&mut filled, nfa, plan, StateID::new_unchecked(index))?;
-        }
+        add_state(&mut filled, nfa, plan, index)?;
     }
     Ok(filled)
 }
@@ -207,10 +217,27 @@ fn first_low(nfa: &NFA, plan: &Plan) -> usize
     }
 }
 
+/// One state more.
+fn add_state(filled: &mut Filled, nfa: &NFA, plan: &Plan, index: usize) -> Result<(), BuildError>
+    requires plan { IsPlan (parts_of nfa.now plan.now.firsts plan.now.numbers.items plan.now.row_depth) plan.now.stride }
+    requires within { index < length (states_of nfa.now) }
+    requires small { index ≤ greatest_index }
+    requires filled { IsFilled (parts_of nfa.now plan.now.firsts plan.now.numbers.items plan.now.row_depth) index filled.old }
+    ensures filled { OnOk result (IsFilled (parts_of nfa.now plan.now.firsts plan.now.numbers.items plan.now.row_depth) (index + 1) filled.new) }
+    ensures refused { IfErr result IsListRefused }
+{
+    if is_deep(nfa, index, plan.row_depth) {
+        add_record(filled, nfa, plan, index)
+    } else {
+        add_row(filled, nfa, plan, index)
+    }
+}
+
 /// The row of one state more.
 fn add_row(filled: &mut Filled, nfa: &NFA, plan: &Plan, index: usize) -> Result<(), BuildError>
     requires plan { IsPlan (parts_of nfa.now plan.now.firsts plan.now.numbers.items plan.now.row_depth) plan.now.stride }
     requires within { index < length (states_of nfa.now) }
+    requires small { index ≤ greatest_index }
     requires shallow { IsShallow (parts_of nfa.now plan.now.firsts plan.now.numbers.items plan.now.row_depth) index }
     requires filled { IsFilled (parts_of nfa.now plan.now.firsts plan.now.numbers.items plan.now.row_depth) index filled.old }
     ensures filled { OnOk result (IsFilled (parts_of nfa.now plan.now.firsts plan.now.numbers.items plan.now.row_depth) (index + 1) filled.new) }
@@ -225,26 +252,29 @@ fn add_row(filled: &mut Filled, nfa: &NFA, plan: &Plan, index: usize) -> Result<
 }
 
 /// The record of one state more.
-fn add_record(filled: &mut Filled, nfa: &NFA, plan: &Plan, sid: StateID) -> Result<(), BuildError>
+fn add_record(filled: &mut Filled, nfa: &NFA, plan: &Plan, index: usize) -> Result<(), BuildError>
     requires plan { IsPlan (parts_of nfa.now plan.now.firsts plan.now.numbers.items plan.now.row_depth) plan.now.stride }
-    requires within { sid < length (states_of nfa.now) }
-    requires deep { IsDeepState (parts_of nfa.now plan.now.firsts plan.now.numbers.items plan.now.row_depth) sid }
-    requires filled { IsFilled (parts_of nfa.now plan.now.firsts plan.now.numbers.items plan.now.row_depth) sid filled.old }
-    ensures filled { OnOk result (IsFilled (parts_of nfa.now plan.now.firsts plan.now.numbers.items plan.now.row_depth) (sid + 1) filled.new) }
+    requires within { index < length (states_of nfa.now) }
+    requires small { index ≤ greatest_index }
+    requires deep { IsDeepState (parts_of nfa.now plan.now.firsts plan.now.numbers.items plan.now.row_depth) index }
+    requires filled { IsFilled (parts_of nfa.now plan.now.firsts plan.now.numbers.items plan.now.row_depth) index filled.old }
+    ensures filled { OnOk result (IsFilled (parts_of nfa.now plan.now.firsts plan.now.numbers.items plan.now.row_depth) (index + 1) filled.new) }
     ensures refused { IfErr result IsListRefused }
 {
+    let own = StateID::new_unchecked(index);
+    let sid = source_of(nfa.special(), index);
     let list = push_list(&mut filled.lists, nfa, sid)?;
     let place = index_of(filled.moves.len())?;
     push_moves(&mut filled.moves, nfa.transitions(sid), &plan.numbers)?;
     let record = Record {
         link: number_at(&plan.numbers, nfa.fail(sid)),
         list,
-        height: SmallIndex::new_unchecked(nfa.depth(sid) - plan.row_depth),
+        height: SmallIndex::new_unchecked(nfa.depth(own) - plan.row_depth),
         place,
         count: index_of(filled.moves.len() - place.as_usize())?,
     };
     push_record(&mut filled.deep, record)?;
-    let end = plan.numbers[sid.as_usize()].as_usize() + RECORD_SIZE;
+    let end = number_at(&plan.numbers, own).as_usize() + 1;
     filled.deep_low = low_with(filled.deep_low, end, nfa.match_len(sid));
     Ok(())
 }
@@ -260,16 +290,16 @@ struct Record {
 }
 
 /// This record at the end of the records.
-fn push_record(deep: &mut Vec<SmallIndex>, record: Record) -> Result<(), BuildError>
+fn push_record(deep: &mut Vec<SmallIndex>, words: Record) -> Result<(), BuildError>
     ensures pushed { OnOk result (deep.new.items
-        ≡ deep.old.items ++ record.link ∷ record.list ∷ record.height ∷ record.place ∷ record.count ∷ []) }
+        ≡ deep.old.items ++ words.link ∷ words.list ∷ words.height ∷ words.place ∷ words.count ∷ []) }
     ensures refused { IfErr result IsListRefused }
 {
-    push(deep, record.link)?;
-    push(deep, record.list)?;
-    push(deep, record.height)?;
-    push(deep, record.place)?;
-    push(deep, record.count)
+    push(deep, words.link)?;
+    push(deep, words.list)?;
+    push(deep, words.height)?;
+    push(deep, words.place)?;
+    push(deep, words.count)
 }
 
 /// The number of this state, and 0 where there is none.
@@ -292,12 +322,27 @@ fn push_moves(
     ensures refused { IfErr result IsListRefused }
 {
     for (byte, next) in transitions {
-        if next != FAIL {
-            push(moves, SmallIndex::new_unchecked(byte as usize))?;
-            push(moves, number_at(numbers, next))?;
-        }
+        push_move(moves, byte, next, numbers)?;
     }
     Ok(())
+}
+
+/// This transition at the end, if it leads on.
+fn push_move(
+    moves: &mut Vec<SmallIndex>,
+    byte: u8,
+    next: StateID,
+    numbers: &[SmallIndex],
+) -> Result<(), BuildError>
+    ensures pushed { OnOk result (moves.new.items
+        ≡ moves.old.items ++ flat numbers.now ((byte, next) ∷ [])) }
+    ensures refused { IfErr result IsListRefused }
+{
+    if next == FAIL {
+        return Ok(());
+    }
+    push(moves, SmallIndex::new_unchecked(byte as usize))?;
+    push(moves, number_at(numbers, next))
 }
 
 /// The refusal of a number that is above the greatest index.

@@ -1,0 +1,37 @@
+-- The numbers of the states, given one after another.
+use Rattle.std.proofs.Common.{◌≡◌, ℕ, ◌+◌, ◌*◌, ◌<◌, ◌≤◌, Bool, List, [], ◌∷◌, ◌++◌, length, get_or, sym, ap, ◌∙◌, inl, inr, arith}
+use Rattle.std.proofs.Math.Nat.{mul-le-mul_right}
+use Rattle.std.proofs.lemmas.Bool.{cases_Bool, cond-false, cond-true}
+use Rattle.std.proofs.lemmas.List.{get_or_append_left, get_or_push, length_push}
+use Rattle.aho_base.specs.Numbers.{greatest_index}
+use Rattle.aho_table.specs.Table.{State, state_at}
+use Rattle.aho_hybrid.specs.Filled.{AreNumbers, is_deep, number_of, states_size}
+use Rattle.aho_hybrid.specs.Layout.{stride_of}
+use Rattle.aho_hybrid.proofs.Counting.{deep-all, deep-before, deep-first, rows-all, rows-first, rows-grow}
+use Rattle.aho_hybrid.proofs.Filling.{below-or-last}
+
+module _ (row_depth : ℕ) (states : List State) (classes : List Bool) where
+  pub numbers-none : AreNumbers row_depth states classes 0 []
+  numbers-none = record { sized = omega arith; number = λ sid below. absurd (omega (arith, below)); }
+
+  -- one number more
+  pub number-added : (count number : ℕ) (old new : List ℕ) → AreNumbers row_depth states classes count old → number ≡ number_of row_depth states classes count → new ≡ old ++ number ∷ []
+      → AreNumbers row_depth states classes (count + 1) new
+  number-added count number old new are value is = record {
+    sized = ap (λ (l : List ℕ). length l) is ∙ length_push old number ∙ ap (λ (n : ℕ). n + 1) are.sized;
+    number = below-or-last (λ (n : ℕ). get_or new n 0 ≡ number_of row_depth states classes n) count
+        (λ n less. ap (λ (l : List ℕ). get_or l n 0) is ∙ get_or_append_left old (number ∷ []) 0 n (omega (arith, less, are.sized)) ∙ are.number n less)
+        (ap (λ (l : List ℕ). get_or l count 0) is ∙ get_or_push old number 0 count are.sized ∙ value);
+  }
+
+  -- the numbers are indices, where all words are
+  pub number-small : (sid : ℕ) → sid < length states → states_size row_depth states classes ≤ greatest_index → number_of row_depth states classes sid ≤ greatest_index
+  number-small sid below small =
+      elim (cases_Bool (is_deep row_depth (state_at states sid))) [
+        | inl deep ↦
+            omega
+            (arith, cond-true (is_deep row_depth (state_at states sid)) _ _ deep, deep-before row_depth states sid (length states) below (omega arith) deep, deep-all row_depth states, small)
+        | inr shallow ↦
+            omega
+            (arith, cond-false (is_deep row_depth (state_at states sid)) _ _ shallow, mul-le-mul_right (stride_of classes) (rows-grow row_depth states sid (length states) (omega (arith, below)) (omega arith)), ap (λ (n : ℕ). n * stride_of classes) (rows-all row_depth states), small)
+      ]
