@@ -113,6 +113,10 @@ module _ (row_depth : ℕ) (states : List State) where
   unfolding rows_count
   rows-grow i j order within = grows (is_shallow row_depth) states i j order within
 
+  pub deep-grow : (i j : ℕ) → i ≤ j → j ≤ length states → deep_below i ≤ deep_below j
+  unfolding deep_count
+  deep-grow i j order within = grows (is_deep row_depth) states i j order within
+
   -- each row is that of a state, and so is each record
   pub row-of_number : (n : ℕ) → n < rows_count row_depth states → (i : ℕ) × (i < length states) × (is_deep row_depth (state_at states i) ≡ false) × (rows_below i ≡ n)
   unfolding rows_count

@@ -221,10 +221,10 @@ module _ (plan : Parts) where
         kept : (n : ℕ) → n < length deep → get_or deep' n 0 ≡ get_or deep n 0
         kept n below = ap (λ (l : List ℕ). get_or l n 0) is ∙ get_or_append_left deep (link ∷ list ∷ height ∷ place ∷ size ∷ []) 0 n below
 
-        words = last-words deep (record_at plan.row_depth plan.states count) link list height place size deep' filled.sized is
-
         last : IsRecord plan count deep' (record_at plan.row_depth plan.states count) moves' lists'
-        last = record {
+        last =
+          let words = last-words deep (record_at plan.row_depth plan.states count) link list height place size deep' filled.sized is in
+          record {
           link = words.0 ∙ link_is;
           listed = subst (λ (n : ℕ). IsListAt lists' n (matches_in plan.states (source_of plan count))) (sym words.1) placed.listed;
           height = ap (λ (n : ℕ). n + plan.row_depth) words.2 ∙ height_is;

@@ -1,13 +1,13 @@
 -- The numbers of the states, given one after another.
-use Rattle.std.proofs.Common.{◌≡◌, ℕ, ◌+◌, ◌*◌, ◌<◌, ◌≤◌, Bool, List, [], ◌∷◌, ◌++◌, length, get_or, sym, ap, ◌∙◌, inl, inr, arith}
+use Rattle.std.proofs.Common.{◌≡◌, ℕ, ◌+◌, ◌*◌, ◌<◌, ◌≤◌, Bool, true, false, List, [], ◌∷◌, ◌++◌, length, get_or, sym, ap, ◌∙◌, inl, inr, arith}
 use Rattle.std.proofs.Math.Nat.{mul-le-mul_right}
 use Rattle.std.proofs.lemmas.Bool.{cases_Bool, cond-false, cond-true}
 use Rattle.std.proofs.lemmas.List.{get_or_append_left, get_or_push, length_push}
 use Rattle.aho_base.specs.Numbers.{greatest_index}
 use Rattle.aho_table.specs.Table.{State, state_at}
-use Rattle.aho_hybrid.specs.Filled.{AreNumbers, is_deep, number_of, states_size}
+use Rattle.aho_hybrid.specs.Filled.{AreNumbers, is_deep, number_of, record_at, row_at, rows_size, states_size}
 use Rattle.aho_hybrid.specs.Layout.{stride_of}
-use Rattle.aho_hybrid.proofs.Counting.{deep-all, deep-before, deep-first, rows-all, rows-first, rows-grow}
+use Rattle.aho_hybrid.proofs.Counting.{deep-all, deep-before, deep-first, deep-grow, rows-all, rows-first, rows-grow}
 use Rattle.aho_hybrid.proofs.Filling.{below-or-last}
 
 module _ (row_depth : ℕ) (states : List State) (classes : List Bool) where
@@ -30,8 +30,23 @@ module _ (row_depth : ℕ) (states : List State) (classes : List Bool) where
       elim (cases_Bool (is_deep row_depth (state_at states sid))) [
         | inl deep ↦
             omega
-            (arith, cond-true (is_deep row_depth (state_at states sid)) _ _ deep, deep-before row_depth states sid (length states) below (omega arith) deep, deep-all row_depth states, small)
+            (arith, deep_is deep, deep-before row_depth states sid (length states) below (omega arith) deep, deep-all row_depth states, small)
         | inr shallow ↦
             omega
-            (arith, cond-false (is_deep row_depth (state_at states sid)) _ _ shallow, mul-le-mul_right (stride_of classes) (rows-grow row_depth states sid (length states) (omega (arith, below)) (omega arith)), ap (λ (n : ℕ). n * stride_of classes) (rows-all row_depth states), small)
+            (arith, row_is shallow, mul-le-mul_right (stride_of classes) (rows-grow row_depth states sid (length states) (omega (arith, below)) (omega arith)), ap (λ (n : ℕ). n * stride_of classes) (rows-all row_depth states), small)
       ]
+    where
+      deep_is : is_deep row_depth (state_at states sid) ≡ true → number_of row_depth states classes sid ≡ rows_size row_depth states classes + record_at row_depth states sid
+      deep_is deep = cond-true (is_deep row_depth (state_at states sid)) (rows_size row_depth states classes + record_at row_depth states sid) (row_at row_depth states classes sid) deep
+
+      row_is : is_deep row_depth (state_at states sid) ≡ false → number_of row_depth states classes sid ≡ row_at row_depth states classes sid
+      row_is shallow = cond-false (is_deep row_depth (state_at states sid)) (rows_size row_depth states classes + record_at row_depth states sid) (row_at row_depth states classes sid) shallow
+
+  -- and so are the places of the next row and record
+  pub places-small : (count : ℕ) → count ≤ length states → states_size row_depth states classes ≤ greatest_index
+      → (row_at row_depth states classes count ≤ greatest_index) × (rows_size row_depth states classes + record_at row_depth states count ≤ greatest_index)
+  places-small count within small = (
+    omega
+    (arith, mul-le-mul_right (stride_of classes) (rows-grow row_depth states count (length states) within (omega arith)), ap (λ (n : ℕ). n * stride_of classes) (rows-all row_depth states), small),
+    omega (arith, deep-grow row_depth states count (length states) within (omega arith), deep-all row_depth states, small),
+  )

@@ -7,7 +7,7 @@ use Rattle.std.proofs.lemmas.List.Elements.{All-head, All-tail}
 use Rattle.aho_base.specs.declared.search.Anchored.TheVariants.{No}
 use Rattle.aho_build.proofs.StepResults.{along-taken}
 use Rattle.aho_build.specs.Walking.{IsSound, IsState, links_left, step_along}
-use Rattle.aho_lists.proofs.TransitionRuns.{transition_at-other, transition_at-same}
+use Rattle.aho_table.proofs.TransitionLists.{transition_at-other, transition_at-same}
 use Rattle.aho_table.specs.Table.{IsRising, State, depth_in, fail_id, fail_in, next_in, transition_at}
 use Rattle.aho_hybrid.specs.Filled.{flat, number_at}
 use Rattle.aho_hybrid.specs.Layout.{child_of}
