@@ -142,3 +142,17 @@ module _ (row_depth : ℕ) (states : List State) where
       below (suc i) within =
           let one_more : suc i ≡ i + 1 = omega arith in
           ap deep_below one_more ∙ (row-more i (omega (arith, within)) (le-ltb row_depth (depth_in states i) (most i (omega (arith, within))))).1 ∙ below i (omega (arith, within))
+
+  -- each state has a row or is deep
+  pub rows-and-deep : rows_count row_depth states + deep_count row_depth states ≡ length states
+  rows-and-deep = omega (arith, rows-all, deep-all, each (length states) (omega arith))
+    where
+      each : (i : ℕ) → i ≤ length states → rows_below i + deep_below i ≡ i
+      each zero within = omega (arith, rows-first, deep-first)
+      each (suc i) within =
+          let one_more : suc i ≡ i + 1 = omega arith in
+          let rest = each i (omega (arith, within)) in
+          elim (cases_Bool (is_deep row_depth (state_at states i))) [
+            | inl deep ↦ let more = deep-more i (omega (arith, within)) deep in omega (arith, rest, more.0, more.1, ap rows_below one_more, ap deep_below one_more)
+            | inr shallow ↦ let more = row-more i (omega (arith, within)) shallow in omega (arith, rest, more.0, more.1, ap rows_below one_more, ap deep_below one_more)
+          ]

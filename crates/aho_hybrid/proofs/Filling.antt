@@ -4,6 +4,7 @@ use Rattle.std.proofs.Math.Nat.{mul_comm}
 use Rattle.std.proofs.lemmas.Bool.{both_ways, cases_eq}
 use Rattle.std.proofs.lemmas.List.{append-nil, append_assoc, get_or-append_right, get_or_append_left, get_or_push, length-append, length_push}
 use Rattle.std.proofs.lemmas.Nat.{mul-add-lt}
+use Rattle.aho_base.specs.Numbers.{greatest_index}
 use Rattle.aho_table.specs.Alphabet.{class_count}
 use Rattle.aho_table.specs.Table.{IsRising, State, depth_in, fail_in, matches_in, state_at}
 use Rattle.aho_hybrid.specs.Filled.{AreRecords, AreRows, HasEntries, IsDeepState, IsListAt, IsPartAt, IsPlaced, IsRecord, IsShallow, IsStep, Parts, leads_in, moves_of, number_in, row_in, record_at, source_in, source_of, transitions_of}
@@ -170,6 +171,7 @@ module _ (plan : Parts) where
     moves_at = subst (λ (n : ℕ). IsPartAt moves' n (moves_of plan i)) (sym (kept (at + 3) (omega (arith, inside)))) (parts (get_or deep (at + 3) 0) (moves_of plan i) is.moves_at);
     moves_size = kept (at + 4) (omega (arith, inside)) ∙ is.moves_size;
     rising = is.rising;
+    depth_small = is.depth_small;
   }
 
   module _ (count : ℕ) (deep moves lists : List ℕ) (deep_low : ℕ) (filled : AreRecords plan count deep moves lists deep_low) where
@@ -198,10 +200,10 @@ module _ (plan : Parts) where
     pub record-added : (deep' moves' lists' : List ℕ) (deep_low' link list height place size : ℕ) → count < length plan.states → IsDeepState plan count
         → deep' ≡ deep ++ link ∷ list ∷ height ∷ place ∷ size ∷ [] → link ≡ number_in plan (fail_in plan.states (source_of plan count))
         → IsPlaced (matches_in plan.states (source_of plan count)) list lists lists' → height + plan.row_depth ≡ depth_in plan.states count
-        → moves' ≡ moves ++ moves_of plan count → place ≡ length moves → size ≡ length (moves_of plan count) → IsRising (transitions_of plan count)
+        → moves' ≡ moves ++ moves_of plan count → place ≡ length moves → size ≡ length (moves_of plan count) → IsRising (transitions_of plan count) → depth_in plan.states count ≤ greatest_index
         → deep_low ≤ deep_low' → (deep_low' ≤ number_in plan count → matches_in plan.states (source_of plan count) ≡ [])
         → AreRecords plan (count + 1) deep' moves' lists' deep_low'
-    record-added deep' moves' lists' deep_low' link list height place size here own is link_is placed height_is moved place_is size_is rising higher none = record {
+    record-added deep' moves' lists' deep_low' link list height place size here own is link_is placed height_is moved place_is size_is rising depth_small higher none = record {
       sized =
           ap (λ (l : List ℕ). length l) is ∙ length-append deep (link ∷ list ∷ height ∷ place ∷ size ∷ []) ∙ omega (arith, filled.sized)
           ∙ ap (λ (n : ℕ). n * record_size) (sym (deep-more plan.row_depth plan.states count here own).1);
@@ -232,6 +234,7 @@ module _ (plan : Parts) where
               (record { before = moves; after = []; whole = moved ∙ ap (λ (l : List ℕ). moves ++ l) (sym (append-nil (moves_of plan count))); place_is = sym place_is });
           moves_size = words.4 ∙ size_is;
           rising = rising;
+          depth_small = depth_small;
         }
 
   -- ---- before the first

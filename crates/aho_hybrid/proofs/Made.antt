@@ -352,7 +352,24 @@ module _ (plan : Parts) (words : ℕ) (planned : IsPlan plan words) (filled : Fi
         (λ i below.
         let at = place-of i below in
         subst (λ (m : ℕ). m + get_or layout.lists m 0 < length layout.lists) (sym at.1) (within-at layout.lists at.0 (matches_in plan.states (source_of plan i)) at.2));
+    shallow = by-state (λ (m : ℕ). height_in layout m ≤ greatest_index) (λ i below. shallow i below);
     small = small;
     small_lists = small_lists;
     small_moves = small_moves;
   }
+    where
+      shallow : (i : ℕ) → i < count → height_in layout (number_in plan i) ≤ greatest_index
+      shallow i below =
+          elim (cases_Bool (is_deep plan.row_depth (state_at plan.states i))) [
+            | inl deep ↦ omega (arith, height-deep i below deep, (record-of i below deep).depth_small)
+            | inr own ↦ omega (arith, height-row i below own)
+          ]
+
+-- two layouts are one where their borders and starts are
+pub same-layout : (rows deep moves lists : List ℕ) (classes classes' : List Bool) (start start' low deep_low : ℕ) → classes ≡ classes' → start ≡ start'
+    → let one : Layout = record { rows = rows; deep = deep; moves = moves; lists = lists; classes = classes; start = start; low = low; deep_low = deep_low } in
+    let other : Layout = record { rows = rows; deep = deep; moves = moves; lists = lists; classes = classes'; start = start'; low = low; deep_low = deep_low } in
+    one ≡ other
+same-layout rows deep moves lists classes classes' start start' low deep_low classes_are start_is =
+    ap (λ (cs : List Bool). record { rows = rows; deep = deep; moves = moves; lists = lists; classes = cs; start = start; low = low; deep_low = deep_low }) classes_are
+    ∙ ap (λ (n : ℕ). record { rows = rows; deep = deep; moves = moves; lists = lists; classes = classes'; start = n; low = low; deep_low = deep_low }) start_is

@@ -1,13 +1,13 @@
 -- The numbers of the states, given one after another.
-use Rattle.std.proofs.Common.{◌≡◌, ℕ, ◌+◌, ◌*◌, ◌<◌, ◌≤◌, Bool, true, false, List, [], ◌∷◌, ◌++◌, length, get_or, sym, ap, ◌∙◌, inl, inr, arith}
+use Rattle.std.proofs.Common.{◌≡◌, ℕ, ◌+◌, ◌-◌, ◌*◌, ◌<◌, ◌≤◌, Bool, true, false, List, [], ◌∷◌, ◌++◌, length, get_or, sym, ap, ◌∙◌, inl, inr, arith}
 use Rattle.std.proofs.Math.Nat.{mul-le-mul_right}
 use Rattle.std.proofs.lemmas.Bool.{cases_Bool, cond-false, cond-true}
 use Rattle.std.proofs.lemmas.List.{get_or_append_left, get_or_push, length_push}
 use Rattle.aho_base.specs.Numbers.{greatest_index}
 use Rattle.aho_table.specs.Table.{State, state_at}
-use Rattle.aho_hybrid.specs.Filled.{AreNumbers, is_deep, number_of, record_at, row_at, rows_size, states_size}
+use Rattle.aho_hybrid.specs.Filled.{AreNumbers, is_deep, number_of, record_at, row_at, rows_count, rows_size, states_size}
 use Rattle.aho_hybrid.specs.Layout.{stride_of}
-use Rattle.aho_hybrid.proofs.Counting.{deep-all, deep-before, deep-first, deep-grow, rows-all, rows-first, rows-grow}
+use Rattle.aho_hybrid.proofs.Counting.{deep-all, deep-before, deep-first, deep-grow, rows-all, rows-and-deep, rows-first, rows-grow}
 use Rattle.aho_hybrid.proofs.Filling.{below-or-last}
 
 module _ (row_depth : ℕ) (states : List State) (classes : List Bool) where
@@ -50,3 +50,10 @@ module _ (row_depth : ℕ) (states : List State) (classes : List Bool) where
     (arith, mul-le-mul_right (stride_of classes) (rows-grow row_depth states count (length states) within (omega arith)), ap (λ (n : ℕ). n * stride_of classes) (rows-all row_depth states), small),
     omega (arith, deep-grow row_depth states count (length states) within (omega arith), deep-all row_depth states, small),
   )
+
+  -- the size of all, from the counts
+  pub size-of : (with_rows all stride : ℕ) → with_rows ≡ rows_count row_depth states → all ≡ length states → stride ≡ stride_of classes
+      → with_rows * stride + (all - with_rows) * 5 ≡ states_size row_depth states classes
+  size-of with_rows all stride rows_are all_are stride_is =
+      omega
+      (arith, ap (λ (n : ℕ). n * stride) rows_are, ap (λ (n : ℕ). rows_count row_depth states * n) stride_is, rows-and-deep row_depth states, rows_are, all_are)

@@ -213,6 +213,7 @@ pub record IsRecord (plan : Parts) (sid : ℕ) (deep : List ℕ) (at : ℕ) (mov
   pub moves_at : IsPartAt moves (slice_index_or deep (at + 3) 0) (moves_of plan sid)
   pub moves_size : slice_index_or deep (at + 4) 0 ≡ length (moves_of plan sid)
   pub rising : IsRising (transitions_of plan sid)
+  pub depth_small : depth_in plan.states sid ≤ greatest_index
 
 -- the records of the states below the count
 pub record AreRecords (plan : Parts) (count : ℕ) (deep moves lists : List ℕ) (deep_low : ℕ) : Type 0 where

@@ -157,6 +157,8 @@ pub record IsSoundLayout (t : Layout) : Type 0 where
   pub in_deep : IsSoundDeep t
   -- a state's list stands within the lists
   pub listed : (sid : ℕ) → IsStateIn t sid → list_place t sid + slice_index_or t.lists (list_place t sid) 0 < length t.lists
+  -- how deep it is is an index
+  pub shallow : (sid : ℕ) → IsStateIn t sid → depth_in t sid ≤ greatest_index
   pub small : length t.rows + length t.deep ≤ greatest_index
   pub small_lists : length t.lists ≤ greatest_index + 1
   pub small_moves : length t.moves ≤ greatest_index

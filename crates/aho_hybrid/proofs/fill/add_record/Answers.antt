@@ -45,6 +45,7 @@ returns-clause-filled c =
           c.requires.within c.requires.deep c.in_ok-push_record.ensures.pushed link placed
           (omega (arith, c.new_unchecked.ensures.value, depth, deeper)) moved place_is size
           (subst IsRising listed c.transitions.ensures.rising)
+          (omega (arith, depth, c.depth.ensures.bound))
           c.low_with-filled.ensures.higher
           (λ past.
           ap (matches_in plan.states) (sym source)
