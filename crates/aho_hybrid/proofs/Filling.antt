@@ -1,18 +1,19 @@
--- Rows that are filled one after another.
-use Rattle.std.proofs.Common.{◌≡◌, ℕ, ◌+◌, ◌*◌, ◌<◌, ◌≤◌, Bool, List, [], ◌∷◌, ◌++◌, length, get_or, refl, sym, ap, subst, ◌∙◌, inl, inr, arith}
+-- Rows and records that are filled one after another.
+use Rattle.std.proofs.Common.{◌≡◌, ◌⊎◌, ℕ, ◌+◌, ◌-◌, ◌*◌, ◌<◌, ◌≤◌, Bool, true, false, List, [], ◌∷◌, ◌++◌, length, get_or, refl, sym, ap, subst, ◌∙◌, inl, inr, arith}
 use Rattle.std.proofs.Math.Nat.{mul_comm}
-use Rattle.std.proofs.lemmas.Bool.{cases_eq}
-use Rattle.std.proofs.lemmas.List.{get_or_append_left, get_or_push, length_push}
+use Rattle.std.proofs.lemmas.Bool.{both_ways, cases_eq}
+use Rattle.std.proofs.lemmas.List.{append-nil, append_assoc, get_or-append_right, get_or_append_left, get_or_push, length-append, length_push}
 use Rattle.std.proofs.lemmas.Nat.{mul-add-lt}
-use Rattle.aho_build.specs.declared.special.Special.{Special}
+use Rattle.aho_base.specs.Numbers.{greatest_index}
 use Rattle.aho_table.specs.Alphabet.{class_count}
-use Rattle.aho_table.specs.Table.{State, matches_in}
-use Rattle.aho_hybrid.specs.Filled.{HasEntries, IsFilled, IsListAt, IsPlaced, IsStep, leads_in, source_in}
-use Rattle.aho_hybrid.specs.Layout.{stride_of}
-use Rattle.aho_hybrid.proofs.Listed.{list-grows}
+use Rattle.aho_table.specs.Table.{IsRising, State, depth_in, fail_in, matches_in, state_at}
+use Rattle.aho_hybrid.specs.Filled.{AreRecords, AreRows, HasEntries, IsDeepState, IsListAt, IsPartAt, IsPlaced, IsRecord, IsShallow, IsStep, Parts, leads_in, moves_of, number_in, row_in, record_at, source_in, source_of, transitions_of}
+use Rattle.aho_hybrid.specs.Layout.{record_size, stride_of}
+use Rattle.aho_hybrid.proofs.Counting.{deep-before, deep-first, deep-more, deep_below, row-before, row-more, rows-first, rows_below}
+use Rattle.aho_hybrid.proofs.Listed.{list-grows, part-grows}
 
 -- what holds below a count and at it holds below the next
-below-or-last : (P : ℕ → Type 0) (count : ℕ) → ((i : ℕ) → i < count → P i) → P count → (i : ℕ) → i < count + 1 → P i
+pub below-or-last : (P : ℕ → Type 0) (count : ℕ) → ((i : ℕ) → i < count → P i) → P count → (i : ℕ) → i < count + 1 → P i
 below-or-last P count below last i within =
     elim (cases_eq i count) [
       | inl same ↦ subst P (sym same) last
@@ -24,80 +25,237 @@ pub in-row : (i column count stride : ℕ) → i < count → column < stride →
 in-row i column count stride below within = omega (arith, mul-add-lt i stride column count below within, mul_comm stride count)
 
 -- one entry more
-pub entry-added : (states : List State) (firsts : List ℕ) (stride sid class entry : ℕ) (old mid new : List ℕ) → HasEntries states firsts stride sid class old mid → new ≡ mid ++ entry ∷ []
-    → entry ≡ leads_in states firsts sid class * stride → IsStep states sid (get_or firsts class 0) → HasEntries states firsts stride sid (class + 1) old new
-entry-added states firsts stride sid class entry old mid new has is value step = record {
+pub entry-added : (plan : Parts) (sid class entry : ℕ) (old mid new : List ℕ) → HasEntries plan sid class old mid → new ≡ mid ++ entry ∷ []
+    → entry ≡ number_in plan (leads_in plan sid class) → IsStep plan.states sid (get_or plan.firsts class 0) → HasEntries plan sid (class + 1) old new
+entry-added plan sid class entry old mid new has is value step = record {
   sized = ap (λ (l : List ℕ). length l) is ∙ length_push mid entry ∙ omega (arith, has.sized);
   same = λ i below. kept i (omega (arith, below, has.sized)) ∙ has.same i below;
-  entry = below-or-last (λ (n : ℕ). get_or new (length old + n) 0 ≡ leads_in states firsts sid n * stride) class (λ n below. kept (length old + n) (omega (arith, below, has.sized)) ∙ has.entry n below)
+  entry = below-or-last (λ (n : ℕ). get_or new (length old + n) 0 ≡ number_in plan (leads_in plan sid n)) class (λ n below. kept (length old + n) (omega (arith, below, has.sized)) ∙ has.entry n below)
       (ap (λ (l : List ℕ). get_or l (length old + class) 0) is ∙ get_or_push mid entry 0 (length old + class) has.sized ∙ value);
-  step = below-or-last (λ (n : ℕ). IsStep states sid (get_or firsts n 0)) class has.step step;
+  step = below-or-last (λ (n : ℕ). IsStep plan.states sid (get_or plan.firsts n 0)) class has.step step;
 }
   where
     kept : (i : ℕ) → i < length mid → get_or new i 0 ≡ get_or mid i 0
     kept i below = ap (λ (l : List ℕ). get_or l i 0) is ∙ get_or_append_left mid (entry ∷ []) 0 i below
 
-pub no-entries : (states : List State) (firsts : List ℕ) (stride sid : ℕ) (old : List ℕ) → HasEntries states firsts stride sid 0 old old
-no-entries states firsts stride sid old = record {
+pub no-entries : (plan : Parts) (sid : ℕ) (old : List ℕ) → HasEntries plan sid 0 old old
+no-entries plan sid old = record {
   sized = omega arith;
   same = λ i below. refl;
   entry = λ class below. absurd (omega (arith, below));
   step = λ class below. absurd (omega (arith, below));
 }
 
--- before the first row
-pub none-filled : (special : Special) (states : List State) (classes : List Bool) (firsts : List ℕ) (low : ℕ) → 0 < low → IsFilled special states classes firsts 0 [] (0 ∷ []) low
-none-filled special states classes firsts low some = record {
-  sized = omega arith;
-  entry = λ i class below. absurd (omega (arith, below));
-  step = λ i class below. absurd (omega (arith, below));
-  listed = λ i below. absurd (omega (arith, below));
-  others = λ i below. absurd (omega (arith, below));
-  empty = record { before = []; after = []; whole = refl; place_is = refl };
-  some = some;
-}
-
-module _ (special : Special) (states : List State) (classes : List Bool) (firsts : List ℕ) (count : ℕ) (entries lists : List ℕ) (low : ℕ)
-    (filled : IsFilled special states classes firsts count entries lists low) where
+module _ (plan : Parts) where
   abbrev stride : ℕ
-  stride = stride_of classes
+  stride = stride_of plan.classes
 
-  abbrev source : ℕ
-  source = source_in special count
+  abbrev rows_at : ℕ → ℕ
+  rows_at i = rows_below plan.row_depth plan.states i
 
-  -- one row more
-  pub row-added : (mid new lists' : List ℕ) (low' place : ℕ) → HasEntries states firsts stride source (class_count classes) entries mid → new ≡ mid ++ place ∷ []
-      → IsPlaced (matches_in states source) place lists lists' → low ≤ low' → (low' ≤ count * stride → matches_in states source ≡ [])
-      → IsFilled special states classes firsts (count + 1) new lists' low'
-  row-added mid new lists' low' place has is placed higher none = record {
-    sized = ap (λ (l : List ℕ). length l) is ∙ length_push mid place ∙ omega (arith, has.sized, filled.sized, one_more);
-    entry = λ i class below within.
-        below-or-last (λ (n : ℕ). get_or new (n * stride + class) 0 ≡ leads_in states firsts (source_in special n) class * stride) count
-        (λ n less. old (n * stride + class) (omega (arith, in-row n class count stride less (omega (arith, within)), filled.sized)) ∙ filled.entry n class less within)
-        (ap (λ (n : ℕ). get_or new (n + class) 0) (sym filled.sized) ∙ kept (length entries + class) (omega (arith, within, has.sized)) ∙ has.entry class within)
-        i below;
-    step = λ i class below within. below-or-last (λ (n : ℕ). IsStep states (source_in special n) (get_or firsts class 0)) count (λ n less. filled.step n class less within) (has.step class within) i below;
-    listed = below-or-last (λ (n : ℕ). IsListAt lists' (get_or new (n * stride + class_count classes) 0) (matches_in states (source_in special n))) count
-        (λ n less.
-        subst (λ (m : ℕ). IsListAt lists' m (matches_in states (source_in special n))) (sym (old (n * stride + class_count classes) (omega (arith, in-row n (class_count classes) count stride less (omega arith), filled.sized))))
-        (grown (get_or entries (n * stride + class_count classes) 0) (matches_in states (source_in special n)) (filled.listed n less)))
-        (subst (λ (m : ℕ). IsListAt lists' m (matches_in states source)) (sym last) placed.listed);
-    others = below-or-last (λ (n : ℕ). low' ≤ n * stride → matches_in states (source_in special n) ≡ []) count (λ n less past. filled.others n less (omega (arith, higher, past))) none;
-    empty = grown 0 [] filled.empty;
-    some = omega (arith, filled.some, higher);
+  abbrev deep_at : ℕ → ℕ
+  deep_at i = deep_below plan.row_depth plan.states i
+
+  -- ---- rows
+
+  -- the state after the rows of others has none
+  pub rows-passed : (count : ℕ) (entries lists lists' more : List ℕ) (low : ℕ) → count < length plan.states → IsDeepState plan count → lists' ≡ lists ++ more
+      → AreRows plan count entries lists low → AreRows plan (count + 1) entries lists' low
+  rows-passed count entries lists lists' more low within deep grown filled = record {
+    sized = filled.sized ∙ ap (λ (n : ℕ). n * stride) (sym (deep-more plan.row_depth plan.states count within deep).0);
+    entry = λ i class below shallow. filled.entry i class (less i below shallow) shallow;
+    step = λ i class below shallow. filled.step i class (less i below shallow) shallow;
+    listed = λ i below shallow.
+        subst (λ (l : List ℕ). IsListAt l (get_or entries (row_in plan i + class_count plan.classes) 0) (matches_in plan.states (source_in plan.special i))) (sym grown)
+        (list-grows lists more (get_or entries (row_in plan i + class_count plan.classes) 0) (matches_in plan.states (source_in plan.special i)) (filled.listed i (less i below shallow) shallow));
+    others = λ i below shallow past. filled.others i (less i below shallow) shallow past;
+    empty = subst (λ (l : List ℕ). IsListAt l 0 []) (sym grown) (list-grows lists more 0 [] filled.empty);
+    some = filled.some;
   }
     where
-      one_more : (count + 1) * stride ≡ count * stride + stride
-      one_more = omega arith
+      less : (i : ℕ) → i < count + 1 → IsShallow plan i → i < count
+      less i below shallow =
+          elim (cases_eq i count) [
+            | inl same ↦ absurd (both_ways _ (subst (IsShallow plan) same shallow) deep)
+            | inr other ↦ omega (arith, other, below)
+          ]
 
-      kept : (i : ℕ) → i < length mid → get_or new i 0 ≡ get_or mid i 0
-      kept i below = ap (λ (l : List ℕ). get_or l i 0) is ∙ get_or_append_left mid (place ∷ []) 0 i below
+  -- one row more
+  module _ (count : ℕ) (entries lists : List ℕ) (low : ℕ) (filled : AreRows plan count entries lists low) where
+    abbrev source : ℕ
+    source = source_in plan.special count
 
-      old : (i : ℕ) → i < length entries → get_or new i 0 ≡ get_or entries i 0
-      old i below = kept i (omega (arith, below, has.sized)) ∙ has.same i below
+    pub row-added : (mid new lists' : List ℕ) (low' place : ℕ) → count < length plan.states → IsShallow plan count
+        → HasEntries plan source (class_count plan.classes) entries mid → new ≡ mid ++ place ∷ []
+        → IsPlaced (matches_in plan.states source) place lists lists' → low ≤ low' → (low' ≤ row_in plan count → matches_in plan.states source ≡ [])
+        → AreRows plan (count + 1) new lists' low'
+    row-added mid new lists' low' place here own has is placed higher none = record {
+      sized =
+          ap (λ (l : List ℕ). length l) is ∙ length_push mid place ∙ omega (arith, has.sized, filled.sized, one_more)
+          ∙ ap (λ (n : ℕ). n * stride) (sym (row-more plan.row_depth plan.states count here own).0);
+      entry = λ i class below shallow within.
+          below-or-last (λ (n : ℕ). IsShallow plan n → get_or new (row_in plan n + class) 0 ≡ number_in plan (leads_in plan (source_in plan.special n) class)) count
+          (λ n less is_row. old (row_in plan n + class) (inside n class less is_row (omega (arith, within))) ∙ filled.entry n class less is_row within)
+          (λ is_row. ap (λ (n : ℕ). get_or new (n + class) 0) (sym filled.sized) ∙ kept (length entries + class) (omega (arith, within, has.sized)) ∙ has.entry class within)
+          i below shallow;
+      step = λ i class below shallow within.
+          below-or-last (λ (n : ℕ). IsShallow plan n → IsStep plan.states (source_in plan.special n) (get_or plan.firsts class 0)) count
+          (λ n less is_row. filled.step n class less is_row within) (λ is_row. has.step class within) i below shallow;
+      listed = λ i below shallow.
+          below-or-last (λ (n : ℕ). IsShallow plan n → IsListAt lists' (get_or new (row_in plan n + class_count plan.classes) 0) (matches_in plan.states (source_in plan.special n))) count
+          (λ n less is_row.
+          subst (λ (m : ℕ). IsListAt lists' m (matches_in plan.states (source_in plan.special n))) (sym (old (row_in plan n + class_count plan.classes) (inside n (class_count plan.classes) less is_row (omega arith))))
+          (grown (get_or entries (row_in plan n + class_count plan.classes) 0) (matches_in plan.states (source_in plan.special n)) (filled.listed n less is_row)))
+          (λ is_row. subst (λ (m : ℕ). IsListAt lists' m (matches_in plan.states source)) (sym last) placed.listed) i below shallow;
+      others = λ i below shallow.
+          below-or-last (λ (n : ℕ). IsShallow plan n → low' ≤ row_in plan n → matches_in plan.states (source_in plan.special n) ≡ []) count
+          (λ n less is_row past. filled.others n less is_row (omega (arith, higher, past))) (λ is_row. none) i below shallow;
+      empty = grown 0 [] filled.empty;
+      some = omega (arith, filled.some, higher);
+    }
+      where
+        one_more : (rows_at count + 1) * stride ≡ rows_at count * stride + stride
+        one_more = omega arith
 
-      last : get_or new (count * stride + class_count classes) 0 ≡ place
-      last = ap (λ (l : List ℕ). get_or l (count * stride + class_count classes) 0) is ∙ get_or_push mid place 0 (count * stride + class_count classes) (has.sized ∙ ap (λ (n : ℕ). n + class_count classes) filled.sized)
+        inside : (i column : ℕ) → i < count → IsShallow plan i → column < stride → row_in plan i + column < length entries
+        inside i column less shallow within =
+            omega (arith, in-row (rows_at i) column (rows_at count) stride (row-before plan.row_depth plan.states i count less (omega (arith, here)) shallow) within, filled.sized)
 
-      grown : (at : ℕ) (list : List ℕ) → IsListAt lists at list → IsListAt lists' at list
-      grown at list listed = subst (λ (l : List ℕ). IsListAt l at list) (sym placed.grown) (list-grows lists placed.more at list listed)
+        kept : (i : ℕ) → i < length mid → get_or new i 0 ≡ get_or mid i 0
+        kept i below = ap (λ (l : List ℕ). get_or l i 0) is ∙ get_or_append_left mid (place ∷ []) 0 i below
+
+        old : (i : ℕ) → i < length entries → get_or new i 0 ≡ get_or entries i 0
+        old i below = kept i (omega (arith, below, has.sized)) ∙ has.same i below
+
+        last : get_or new (row_in plan count + class_count plan.classes) 0 ≡ place
+        last =
+            ap (λ (l : List ℕ). get_or l (row_in plan count + class_count plan.classes) 0) is
+            ∙ get_or_push mid place 0 (row_in plan count + class_count plan.classes) (has.sized ∙ ap (λ (n : ℕ). n + class_count plan.classes) filled.sized)
+
+        grown : (at : ℕ) (list : List ℕ) → IsListAt lists at list → IsListAt lists' at list
+        grown at list listed = subst (λ (l : List ℕ). IsListAt l at list) (sym placed.grown) (list-grows lists placed.more at list listed)
+
+  -- ---- records
+
+  -- the words of a record, which stands behind others
+  pub last-words : (old : List ℕ) (at a b c d e : ℕ) (new : List ℕ) → length old ≡ at → new ≡ old ++ a ∷ b ∷ c ∷ d ∷ e ∷ []
+      → (get_or new (at + 0) 0 ≡ a) × (get_or new (at + 1) 0 ≡ b) × (get_or new (at + 2) 0 ≡ c) × (get_or new (at + 3) 0 ≡ d) × (get_or new (at + 4) 0 ≡ e)
+  last-words old at a b c d e new sized is = (
+    word 0,
+    word 1,
+    word 2,
+    word 3,
+    word 4,
+  )
+    where
+      shift : (m : ℕ) (n : ℕ) → m + n - m ≡ n
+      shift m n = omega arith
+
+      word : (n : ℕ) → get_or new (at + n) 0 ≡ get_or (a ∷ b ∷ c ∷ d ∷ e ∷ []) n 0
+      word n =
+          ap (λ (l : List ℕ). get_or l (at + n) 0) is
+          ∙ ap (λ (m : ℕ). get_or (old ++ a ∷ b ∷ c ∷ d ∷ e ∷ []) (m + n) 0) (sym sized)
+          ∙ get_or-append_right old (a ∷ b ∷ c ∷ d ∷ e ∷ []) (length old) (length old + n) 0 refl (omega arith)
+          ∙ ap (λ (m : ℕ). get_or (a ∷ b ∷ c ∷ d ∷ e ∷ []) m 0) (shift (length old) n)
+
+  -- a record stays where it is when more comes behind
+  record-grows : (i at : ℕ) (deep deep' moves moves' lists lists' : List ℕ) → at + record_size ≤ length deep
+      → ((n : ℕ) → n < length deep → get_or deep' n 0 ≡ get_or deep n 0)
+      → ((place : ℕ) (part : List ℕ) → IsPartAt moves place part → IsPartAt moves' place part)
+      → ((place : ℕ) (list : List ℕ) → IsListAt lists place list → IsListAt lists' place list)
+      → IsRecord plan i deep at moves lists → IsRecord plan i deep' at moves' lists'
+  record-grows i at deep deep' moves moves' lists lists' inside kept parts grown is = record {
+    link = kept (at + 0) (omega (arith, inside)) ∙ is.link;
+    listed = subst (λ (n : ℕ). IsListAt lists' n (matches_in plan.states (source_of plan i))) (sym (kept (at + 1) (omega (arith, inside)))) (grown (get_or deep (at + 1) 0) (matches_in plan.states (source_of plan i)) is.listed);
+    height = ap (λ (n : ℕ). n + plan.row_depth) (kept (at + 2) (omega (arith, inside))) ∙ is.height;
+    moves_at = subst (λ (n : ℕ). IsPartAt moves' n (moves_of plan i)) (sym (kept (at + 3) (omega (arith, inside)))) (parts (get_or deep (at + 3) 0) (moves_of plan i) is.moves_at);
+    moves_size = kept (at + 4) (omega (arith, inside)) ∙ is.moves_size;
+    rising = is.rising;
+    depth_small = is.depth_small;
+  }
+
+  module _ (count : ℕ) (deep moves lists : List ℕ) (deep_low : ℕ) (filled : AreRecords plan count deep moves lists deep_low) where
+    inside : (i : ℕ) → i < count → count ≤ length plan.states → IsDeepState plan i → record_at plan.row_depth plan.states i + record_size ≤ length deep
+    inside i less within is_deep = omega (arith, deep-before plan.row_depth plan.states i count less within is_deep, filled.sized)
+
+    -- the state after the records of others has a row
+    pub records-passed : (lists' more : List ℕ) → count < length plan.states → IsShallow plan count → lists' ≡ lists ++ more → AreRecords plan (count + 1) deep moves lists' deep_low
+    records-passed lists' more within shallow grown = record {
+      sized = filled.sized ∙ ap (λ (n : ℕ). n * record_size) (sym (row-more plan.row_depth plan.states count within shallow).1);
+      records = λ i below is_deep.
+          record-grows i (record_at plan.row_depth plan.states i) deep deep moves moves lists lists' (inside i (less i below is_deep) (omega (arith, within)) is_deep) (λ n small. refl) (λ place part at. at)
+          (λ place list at. subst (λ (l : List ℕ). IsListAt l place list) (sym grown) (list-grows lists more place list at))
+          (filled.records i (less i below is_deep) is_deep);
+      others = λ i below is_deep past. filled.others i (less i below is_deep) is_deep past;
+    }
+      where
+        less : (i : ℕ) → i < count + 1 → IsDeepState plan i → i < count
+        less i below is_deep =
+            elim (cases_eq i count) [
+              | inl same ↦ absurd (both_ways _ shallow (subst (IsDeepState plan) same is_deep))
+              | inr other ↦ omega (arith, other, below)
+            ]
+
+    -- one record more
+    pub record-added : (deep' moves' lists' : List ℕ) (deep_low' link list height place size : ℕ) → count < length plan.states → IsDeepState plan count
+        → deep' ≡ deep ++ link ∷ list ∷ height ∷ place ∷ size ∷ [] → link ≡ number_in plan (fail_in plan.states (source_of plan count))
+        → IsPlaced (matches_in plan.states (source_of plan count)) list lists lists' → height + plan.row_depth ≡ depth_in plan.states count
+        → moves' ≡ moves ++ moves_of plan count → place ≡ length moves → size ≡ length (moves_of plan count) → IsRising (transitions_of plan count) → depth_in plan.states count ≤ greatest_index
+        → deep_low ≤ deep_low' → (deep_low' ≤ number_in plan count → matches_in plan.states (source_of plan count) ≡ [])
+        → AreRecords plan (count + 1) deep' moves' lists' deep_low'
+    record-added deep' moves' lists' deep_low' link list height place size here own is link_is placed height_is moved place_is size_is rising depth_small higher none = record {
+      sized =
+          ap (λ (l : List ℕ). length l) is ∙ length-append deep (link ∷ list ∷ height ∷ place ∷ size ∷ []) ∙ omega (arith, filled.sized)
+          ∙ ap (λ (n : ℕ). n * record_size) (sym (deep-more plan.row_depth plan.states count here own).1);
+      records = λ i below is_deep.
+          below-or-last (λ (n : ℕ). IsDeepState plan n → IsRecord plan n deep' (record_at plan.row_depth plan.states n) moves' lists') count
+          (λ n less deep_too.
+          record-grows n (record_at plan.row_depth plan.states n) deep deep' moves moves' lists lists' (inside n less (omega (arith, here)) deep_too) kept
+          (λ place part at. subst (λ (l : List ℕ). IsPartAt l place part) (sym moved) (part-grows moves (moves_of plan count) place part at))
+          (λ place list at. subst (λ (l : List ℕ). IsListAt l place list) (sym placed.grown) (list-grows lists placed.more place list at))
+          (filled.records n less deep_too))
+          (λ deep_too. last) i below is_deep;
+      others = λ i below is_deep.
+          below-or-last (λ (n : ℕ). IsDeepState plan n → deep_low' ≤ number_in plan n → matches_in plan.states (source_of plan n) ≡ []) count
+          (λ n less deep_too past. filled.others n less deep_too (omega (arith, higher, past))) (λ deep_too. none) i below is_deep;
+    }
+      where
+        kept : (n : ℕ) → n < length deep → get_or deep' n 0 ≡ get_or deep n 0
+        kept n below = ap (λ (l : List ℕ). get_or l n 0) is ∙ get_or_append_left deep (link ∷ list ∷ height ∷ place ∷ size ∷ []) 0 n below
+
+        last : IsRecord plan count deep' (record_at plan.row_depth plan.states count) moves' lists'
+        last =
+          let words = last-words deep (record_at plan.row_depth plan.states count) link list height place size deep' filled.sized is in
+          record {
+          link = words.0 ∙ link_is;
+          listed = subst (λ (n : ℕ). IsListAt lists' n (matches_in plan.states (source_of plan count))) (sym words.1) placed.listed;
+          height = ap (λ (n : ℕ). n + plan.row_depth) words.2 ∙ height_is;
+          moves_at = subst (λ (n : ℕ). IsPartAt moves' n (moves_of plan count)) (sym words.3)
+              (record { before = moves; after = []; whole = moved ∙ ap (λ (l : List ℕ). moves ++ l) (sym (append-nil (moves_of plan count))); place_is = sym place_is });
+          moves_size = words.4 ∙ size_is;
+          rising = rising;
+          depth_small = depth_small;
+        }
+
+  -- ---- before the first
+
+  pub rows-none : (low : ℕ) → 0 < low → AreRows plan 0 [] (0 ∷ []) low
+  rows-none low some = record {
+    sized = sym (ap (λ (n : ℕ). n * stride) (rows-first plan.row_depth plan.states) ∙ nothing);
+    entry = λ i class below. absurd (omega (arith, below));
+    step = λ i class below. absurd (omega (arith, below));
+    listed = λ i below. absurd (omega (arith, below));
+    others = λ i below. absurd (omega (arith, below));
+    empty = record { before = []; after = []; whole = refl; place_is = refl };
+    some = some;
+  }
+    where
+      nothing : 0 * stride ≡ 0
+      nothing = omega arith
+
+  pub records-none : (lists : List ℕ) → AreRecords plan 0 [] [] lists 0
+  records-none lists = record {
+    sized = sym (ap (λ (n : ℕ). n * record_size) (deep-first plan.row_depth plan.states));
+    records = λ i below. absurd (omega (arith, below));
+    others = λ i below. absurd (omega (arith, below));
+  }

@@ -1,5 +1,10 @@
 pub mod Alike
 pub mod Firsts
 pub mod Listed
+pub mod Moves
+pub mod Counting
+pub mod Stepping
 pub mod Filling
+pub mod Numbering
 pub mod Made
+pub mod Meant

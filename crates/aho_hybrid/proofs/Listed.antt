@@ -1,8 +1,8 @@
 -- Lists that stand in one vector, each behind its length.
-use Rattle.std.proofs.Common.{◌≡◌, ℕ, ◌+◌, ◌<◌, List, [], ◌∷◌, ◌++◌, length, get_or, take, drop, sym, ap, ◌∙◌, arith}
-use Rattle.std.proofs.Math.Seq.{drop-append-add, get_or-append_seam, take-append_seam}
+use Rattle.std.proofs.Common.{◌≡◌, ℕ, ◌+◌, ◌<◌, ◌≤◌, List, [], ◌∷◌, ◌++◌, length, get_or, take, drop, sym, ap, ◌∙◌, arith}
+use Rattle.std.proofs.Math.Seq.{drop-append-add, drop-append_seam, get_or-append_seam, take-append_seam}
 use Rattle.std.proofs.lemmas.List.{append-nil, append_assoc, length-append}
-use Rattle.aho_hybrid.specs.Filled.{IsListAt, IsPlaced}
+use Rattle.aho_hybrid.specs.Filled.{IsListAt, IsPartAt, IsPlaced}
 use Rattle.aho_hybrid.specs.Layout.{list_from}
 
 -- a list stays where it is when more comes behind
@@ -47,3 +47,26 @@ module _ (lists : List ℕ) (place : ℕ) (list : List ℕ) (at : IsListAt lists
   pub within-at : place + get_or lists place 0 < length lists
   within-at =
       omega (arith, length-at, at.place_is, ap (λ (l : List ℕ). length l) at.whole, length-append at.before (length list ∷ (list ++ at.after)), length-append list at.after)
+
+-- ---- words that stand in one vector, without a length
+
+pub part-grows : (words more : List ℕ) (place : ℕ) (part : List ℕ) → IsPartAt words place part → IsPartAt (words ++ more) place part
+part-grows words more place part at = record {
+  before = at.before;
+  after = at.after ++ more;
+  whole = ap (λ (l : List ℕ). l ++ more) at.whole ∙ append_assoc at.before (part ++ at.after) more ∙ ap (λ (l : List ℕ). at.before ++ l) (append_assoc part at.after more);
+  place_is = at.place_is;
+}
+
+module _ (words : List ℕ) (place : ℕ) (part : List ℕ) (at : IsPartAt words place part) where
+  -- what is read there
+  pub part-at : take (length part) (drop place words) ≡ part
+  part-at =
+      ap (λ (l : List ℕ). take (length part) (drop place l)) at.whole
+      ∙ ap (λ (n : ℕ). take (length part) (drop n (at.before ++ (part ++ at.after)))) (sym at.place_is)
+      ∙ ap (take (length part)) (drop-append_seam at.before (part ++ at.after))
+      ∙ take-append_seam part at.after
+
+  pub part-within : place + length part ≤ length words
+  part-within =
+      omega (arith, at.place_is, ap (λ (l : List ℕ). length l) at.whole, length-append at.before (part ++ at.after), length-append part at.after)

@@ -1,222 +1,375 @@
--- The rows of all states of an automaton that is read out are an automaton of the same patterns.
-use Rattle.std.proofs.Common.{◌≡◌, ◌≢◌, ℕ, ◌+◌, ◌*◌, ◌<◌, ◌≤◌, ◌/◌, ◌||◌, Bool, false, cond, List, [], length, map, get_or, nat_eq, refl, sym, ap, subst, ◌∙◌, inl, inr, arith, ne_eqb}
-use Rattle.std.specs.Prelude.{Option, Some, None, is_none, nat_lt}
+-- The states that were laid out are an automaton of the same patterns: what is read of them by numbers alone.
+use Rattle.std.proofs.Common.{◌≡◌, ◌≢◌, ◌⊎◌, ℕ, ◌+◌, ◌-◌, ◌*◌, ◌<◌, ◌≤◌, ◌/◌, ◌||◌, Bool, true, false, cond, List, [], ◌∷◌, length, take, drop, get_or, nat_eq, refl, sym, ap, subst, ◌∙◌, inl, inr, arith, ne_eqb, eq-eqb}
+use Rattle.std.specs.Prelude.{Option, Some, None, nat_lt}
 use Rattle.std.proofs.Math.Nat.{mul-le-mul_right, mul-mod_left}
-use Rattle.std.proofs.lemmas.Bool.{cases_Bool, cases_eq, cond-true, cond-false}
+use Rattle.std.proofs.lemmas.Bool.{cases_Bool, cases_eq, cond-true, cond-false, le-ltb, lt-ltb}
 use Rattle.std.proofs.lemmas.Bool.Decides.{nat_tests}
-use Rattle.std.proofs.lemmas.Nat.{div-add-mod', div-mul-add}
-use Rattle.aho_base.specs.Bytes.{folded}
-use Rattle.aho_base.specs.MatchList.{matches_of}
+use Rattle.std.proofs.lemmas.Nat.{div-add-mod'}
 use Rattle.aho_base.specs.Numbers.{greatest_index}
-use Rattle.aho_base.specs.Patterns.{Patterns}
-use Rattle.aho_base.specs.Step.{follow}
-use Rattle.aho_base.specs.declared.search.Anchored.TheVariants.{No}
-use Rattle.aho_base.specs.declared.search.MatchKind.{MatchKind}
-use Rattle.aho_build.proofs.AutomatonStates.{held-dead, held-lists}
-use Rattle.aho_build.proofs.LinkedNodes.{IsNamed, named-ne_dead, named-state, state-named}
-use Rattle.aho_build.proofs.NamesOfTries.{name_at-below}
-use Rattle.aho_build.specs.Automaton.{IsAutomaton}
-use Rattle.aho_build.specs.Dense.{HasBorders}
-use Rattle.aho_build.specs.StateNames.{IsStateOf, name_at}
 use Rattle.aho_build.specs.Walking.{AreStarts, IsSound, IsState, links_left, step_in}
-use Rattle.aho_build.specs.declared.special.Special.{Special}
-use Rattle.aho_table.proofs.Classes.{class_of-count}
-use Rattle.aho_table.specs.Alphabet.{class_count, class_of}
-use Rattle.aho_table.specs.Table.{State, matches_in}
-use Rattle.aho_hybrid.proofs.Alike.{follows, step-alike}
+use Rattle.aho_table.specs.Alphabet.{class_count}
+use Rattle.aho_table.specs.Table.{State, depth_in, fail_in, matches_in, next_in, state_at}
+use Rattle.aho_hybrid.proofs.Counting.{deep-all, deep-before, deep-of_number, deep_below, row-before, row-of_number, rows-all, rows-first, rows_below}
 use Rattle.aho_hybrid.proofs.Filling.{in-row}
-use Rattle.aho_hybrid.proofs.Listed.{list-at, within-at}
-use Rattle.aho_hybrid.specs.Filled.{AreFirst, IsFilled, leads_in, source_in}
-use Rattle.aho_hybrid.specs.Layout.{IsRow, IsSoundLayout, Layout, list_from, list_in, stride_of}
-use Rattle.aho_hybrid.specs.Reading.{IsLayoutOf}
+use Rattle.aho_hybrid.proofs.Listed.{part-at, part-within, within-at}
+use Rattle.aho_hybrid.proofs.Stepping.{flat-child, link-depth, step-near, told, told-none, told-some}
+use Rattle.aho_hybrid.specs.declared.fill.Filled.{Filled}
+use Rattle.aho_hybrid.specs.Filled.{IsDeepState, IsFilled, IsListAt, IsPlan, IsRecord, IsShallow, Parts, deep_count, is_deep, leads_in, moves_of, number_in, record_at, row_in, rows_count, rows_size, source_of, transitions_of}
+use Rattle.aho_hybrid.specs.Layout.{HasRow, IsDeep, IsRow, IsSoundDeep, IsSoundLayout, IsSoundRows, IsStateIn, Layout, child_in, child_of, depth_in as height_in, is_row, link_in, list_place, record_size, stride_of, word_in}
+use Rattle.aho_hybrid.specs.Reading.{deep-test, row-depth, row-test, state-cases, state-of_deep, state-of_row}
 
--- the state of a row, by the row's number
-source-dead : (special : Special) → source_in special 0 ≡ 0
-source-dead special = refl
+module _ (plan : Parts) (words : ℕ) (planned : IsPlan plan words) (filled : Filled) (done : IsFilled plan (length plan.states) filled)
+    (starts : AreStarts plan.special plan.states) (sound : IsSound plan.states) where
+  abbrev pub count : ℕ
+  count = length plan.states
 
--- two layouts are one where their borders and starts are
-pub same-layout : (rows lists : List ℕ) (classes classes' : List Bool) (start start' low : ℕ) → classes ≡ classes' → start ≡ start'
-    → let one : Layout = record { rows = rows; lists = lists; classes = classes; start = start; low = low } in
-    let other : Layout = record { rows = rows; lists = lists; classes = classes'; start = start'; low = low } in
-    one ≡ other
-same-layout rows lists classes classes' start start' low classes_are start_is =
-    ap (λ (cs : List Bool). record { rows = rows; lists = lists; classes = cs; start = start; low = low }) classes_are
-    ∙ ap (λ (n : ℕ). record { rows = rows; lists = lists; classes = classes'; start = n; low = low }) start_is
-
-module _ (special : Special) (states : List State) (classes : List Bool) (firsts entries lists : List ℕ) (low : ℕ)
-    (filled : IsFilled special states classes firsts (length states) entries lists low) (starts : AreStarts special states) where
   abbrev stride : ℕ
-  stride = stride_of classes
+  stride = stride_of plan.classes
 
-  abbrev root : ℕ
-  root = special.start_unanchored_id
+  abbrev pub root : ℕ
+  root = plan.special.start_unanchored_id
 
   abbrev pub layout : Layout
-  layout = record { rows = entries; lists = lists; classes = classes; start = root * stride; low = low }
-
-  -- each row is one of a state, and each state has one
-  row-of : (i : ℕ) → i < length states → IsRow stride (length entries) (i * stride)
-  row-of i below = record {
-    whole = mul-mod_left i stride;
-    within = omega (arith, in-row i (class_count classes) (length states) stride below (omega arith), filled.sized);
+  layout = record {
+    rows = filled.entries.items;
+    deep = filled.deep.items;
+    moves = filled.moves.items;
+    lists = filled.lists.items;
+    classes = plan.classes;
+    start = number_in plan root;
+    low = filled.low;
+    deep_low = filled.deep_low;
   }
 
-  row-number : (sid : ℕ) → IsRow stride (length entries) sid → sid / stride * stride ≡ sid
-  row-number sid row = omega (arith, div-add-mod' sid stride, row.whole)
+  abbrev rows_at : ℕ → ℕ
+  rows_at i = rows_below plan.row_depth plan.states i
 
-  row-below : (sid : ℕ) → IsRow stride (length entries) sid → sid / stride < length states
-  row-below sid row =
-      elim (cases_Bool (nat_lt (sid / stride) (length states))) [
-        | inl below ↦ grind (arith, nat_tests)
-        | inr past ↦
-            let least : length states ≤ sid / stride = grind (arith, nat_tests) in
-            absurd (omega (arith, mul-le-mul_right stride least, row-number sid row, row.within, filled.sized))
+  abbrev deep_at : ℕ → ℕ
+  deep_at i = deep_below plan.row_depth plan.states i
+
+  -- ---- the numbers of states
+
+  pub dense : length layout.rows ≡ rows_size plan.row_depth plan.states plan.classes
+  dense = done.rows.sized ∙ ap (λ (m : ℕ). m * stride) (rows-all plan.row_depth plan.states)
+
+  pub deep-size : length layout.deep ≡ deep_count plan.row_depth plan.states * record_size
+  deep-size = done.records.sized ∙ ap (λ (m : ℕ). m * record_size) (deep-all plan.row_depth plan.states)
+
+  pub number-row : (i : ℕ) → i < count → IsShallow plan i → number_in plan i ≡ row_in plan i
+  number-row i below shallow = planned.numbered.number i below ∙ cond-false (is_deep plan.row_depth (state_at plan.states i)) _ _ shallow
+
+  pub number-deep : (i : ℕ) → i < count → IsDeepState plan i → number_in plan i ≡ length layout.rows + record_at plan.row_depth plan.states i
+  number-deep i below deep =
+      planned.numbered.number i below
+      ∙ cond-true (is_deep plan.row_depth (state_at plan.states i)) _ _ deep
+      ∙ ap (λ (m : ℕ). m + record_at plan.row_depth plan.states i) (sym dense)
+
+  place-deep : (i : ℕ) → i < count → IsDeepState plan i → number_in plan i - length layout.rows ≡ record_at plan.row_depth plan.states i
+  place-deep i below deep = omega (arith, number-deep i below deep)
+
+  pub row-of : (i : ℕ) → i < count → IsShallow plan i → HasRow layout (number_in plan i)
+  row-of i below shallow = subst (HasRow layout) (sym (number-row i below shallow)) here
+    where
+      here : HasRow layout (row_in plan i)
+      here = record {
+        whole = mul-mod_left (rows_at i) stride;
+        within = omega (arith, in-row (rows_at i) (class_count plan.classes) (rows_at count) stride (row-before plan.row_depth plan.states i count below (omega arith) shallow) (omega arith), done.rows.sized);
+      }
+
+  pub deep-of : (i : ℕ) → i < count → IsDeepState plan i → IsDeep layout (number_in plan i)
+  deep-of i below deep = record {
+    behind = omega (arith, number-deep i below deep);
+    record_of = subst (IsRow record_size (length layout.deep)) (sym (place-deep i below deep)) here;
+  }
+    where
+      here : IsRow record_size (length layout.deep) (record_at plan.row_depth plan.states i)
+      here = record {
+        whole = mul-mod_left (deep_at i) record_size;
+        within = omega (arith, deep-before plan.row_depth plan.states i count below (omega arith) deep, done.records.sized);
+      }
+
+  pub state-of : (i : ℕ) → i < count → IsStateIn layout (number_in plan i)
+  state-of i below =
+      elim (cases_Bool (is_deep plan.row_depth (state_at plan.states i))) [
+        | inl deep ↦ state-of_deep layout (number_in plan i) (deep-of i below deep)
+        | inr shallow ↦ state-of_row layout (number_in plan i) (row-of i below shallow)
       ]
 
-  row-divided : (i : ℕ) → i * stride / stride ≡ i
-  row-divided i = ap (λ (n : ℕ). n / stride) (omega arith) ∙ div-mul-add i stride 0 (omega arith)
+  -- what holds of the numbers of states holds of all numbers of states
+  by-row : (P : ℕ → Type 0) → ((i : ℕ) → i < count → IsShallow plan i → P (number_in plan i)) → (sid : ℕ) → HasRow layout sid → P sid
+  by-row P holds sid row =
+      let number : sid / stride * stride ≡ sid = omega (arith, div-add-mod' sid stride, row.whole) in
+      let found = row-of_number plan.row_depth plan.states (sid / stride) (below number) in
+      subst P (number-row found.0 found.1 found.2 ∙ ap (λ (m : ℕ). m * stride) found.3 ∙ number) (holds found.0 found.1 found.2)
+    where
+      below : sid / stride * stride ≡ sid → sid / stride < rows_count plan.row_depth plan.states
+      below number =
+          elim (cases_Bool (nat_lt (sid / stride) (rows_count plan.row_depth plan.states))) [
+            | inl less ↦ grind (arith, nat_tests)
+            | inr past ↦
+                let least : rows_count plan.row_depth plan.states ≤ sid / stride = grind (arith, nat_tests) in
+                absurd (omega (arith, mul-le-mul_right stride least, number, row.within, dense))
+          ]
 
-  -- by a row's number, what holds of the rows of states holds of all
-  by-number : (P : ℕ → Type 0) → ((i : ℕ) → i < length states → P (i * stride)) → (sid : ℕ) → IsRow stride (length entries) sid → P sid
-  by-number P holds sid row = subst P (row-number sid row) (holds (sid / stride) (row-below sid row))
+  by-deep : (P : ℕ → Type 0) → ((i : ℕ) → i < count → IsDeepState plan i → P (number_in plan i)) → (sid : ℕ) → IsDeep layout sid → P sid
+  by-deep P holds sid deep =
+      let at : ℕ = (sid - length layout.rows) / record_size in
+      let number : at * record_size ≡ sid - length layout.rows = omega (arith, div-add-mod' (sid - length layout.rows) record_size, deep.record_of.whole) in
+      let below : at < deep_count plan.row_depth plan.states = omega (arith, number, deep.record_of.within, deep-size) in
+      let found = deep-of_number plan.row_depth plan.states at below in
+      subst P
+      (number-deep found.0 found.1 found.2 ∙ ap (λ (m : ℕ). length layout.rows + m * record_size) found.3 ∙ omega (arith, number, deep.behind))
+      (holds found.0 found.1 found.2)
 
-  none : (n : ℕ) → 0 * n ≡ 0
-  none n = omega arith
+  by-state : (P : ℕ → Type 0) → ((i : ℕ) → i < count → P (number_in plan i)) → (sid : ℕ) → IsStateIn layout sid → P sid
+  by-state P holds sid state =
+      elim (state-cases layout sid state) [
+        | inl row ↦ by-row P (λ i below shallow. holds i below) sid row
+        | inr deep ↦ by-deep P (λ i below is_deep. holds i below) sid deep
+      ]
 
-  first : (class : ℕ) → class ≡ 0 * stride + class
-  first class = omega arith
+  -- ---- how deep they are
 
-  pub sound-layout : length entries ≤ greatest_index → length lists ≤ greatest_index + 1 → 0 < length states → IsSoundLayout layout
-  sound-layout small small_lists some = record {
-    dead = subst (IsRow stride (length entries)) (none stride) (row-of 0 some);
-    start = row-of root starts.unanchored.state.0;
+  word-of : (i index : ℕ) → i < count → IsDeepState plan i → word_in layout (number_in plan i) index ≡ get_or layout.deep (record_at plan.row_depth plan.states i + index) 0
+  word-of i index below deep = ap (λ (m : ℕ). get_or layout.deep (m + index) 0) (place-deep i below deep)
+
+  record-of : (i : ℕ) → i < count → IsDeepState plan i → IsRecord plan i layout.deep (record_at plan.row_depth plan.states i) layout.moves layout.lists
+  record-of i below deep = done.records.records i below deep
+
+  height-row : (i : ℕ) → i < count → IsShallow plan i → height_in layout (number_in plan i) ≡ 0
+  height-row i below shallow = row-depth layout (number_in plan i) (row-of i below shallow)
+
+  height-deep : (i : ℕ) → i < count → IsDeepState plan i → height_in layout (number_in plan i) + plan.row_depth ≡ depth_in plan.states i
+  height-deep i below deep =
+      ap (λ (m : ℕ). m + plan.row_depth)
+      (cond-false (is_row layout (number_in plan i)) 0 (word_in layout (number_in plan i) 2) (deep-test layout (number_in plan i) (deep-of i below deep)) ∙ word-of i 2 below deep)
+      ∙ (record-of i below deep).height
+
+  deep-deeper : (i : ℕ) → IsDeepState plan i → plan.row_depth < depth_in plan.states i
+  deep-deeper i deep = grind (arith, nat_tests)
+
+  row-shallow : (i : ℕ) → IsShallow plan i → depth_in plan.states i ≤ plan.row_depth
+  row-shallow i shallow = grind (arith, nat_tests)
+
+  height-most : (i most : ℕ) → i < count → depth_in plan.states i ≤ most + plan.row_depth → height_in layout (number_in plan i) ≤ most
+  height-most i most below near =
+      elim (cases_Bool (is_deep plan.row_depth (state_at plan.states i))) [
+        | inl deep ↦ omega (arith, height-deep i below deep, near)
+        | inr shallow ↦ omega (arith, height-row i below shallow)
+      ]
+
+  pub dead-shallow : IsShallow plan 0
+  dead-shallow = le-ltb plan.row_depth (depth_in plan.states 0) (omega (arith, sound.dead_depth))
+
+  pub root-shallow : IsShallow plan root
+  root-shallow = le-ltb plan.row_depth (depth_in plan.states root) (omega (arith, starts.unanchored.depth))
+
+  height-less : (i j : ℕ) → i < count → j < count → IsDeepState plan j → (i ≡ 0) ⊎ (depth_in plan.states i < depth_in plan.states j) → height_in layout (number_in plan i) < height_in layout (number_in plan j)
+  height-less i j below within deep_too (inl dead) =
+      omega (arith, height-row i below (subst (IsShallow plan) (sym dead) dead-shallow), height-deep j within deep_too, deep-deeper j deep_too)
+  height-less i j below within deep_too (inr less) =
+      elim (cases_Bool (is_deep plan.row_depth (state_at plan.states i))) [
+        | inl deep ↦ omega (arith, height-deep i below deep, height-deep j within deep_too, less)
+        | inr shallow ↦ omega (arith, height-row i below shallow, height-deep j within deep_too, deep-deeper j deep_too)
+      ]
+
+  -- ---- the states that stand there
+
+  source-cases : (i : ℕ) → (source_of plan i ≡ 0) ⊎ ((source_of plan i ≡ root) ⊎ ((source_of plan i ≡ i) × (i ≢ 1)))
+  source-cases i =
+      elim (cases_eq i 0) [
+        | inl dead ↦ inl (ap (source_of plan) dead)
+        | inr alive ↦
+            elim (cases_Bool (nat_eq i 1 || nat_eq i plan.special.start_anchored_id)) [
+              | inl other ↦
+                  inr
+                  (inl
+                  (cond-false {A = ℕ} (nat_eq i 0) 0 (cond (nat_eq i 1 || nat_eq i plan.special.start_anchored_id) root i) (ne_eqb i 0 alive)
+                  ∙ cond-true {A = ℕ} (nat_eq i 1 || nat_eq i plan.special.start_anchored_id) root i other))
+              | inr own ↦
+                  inr
+                  (inr
+                  (cond-false {A = ℕ} (nat_eq i 0) 0 (cond (nat_eq i 1 || nat_eq i plan.special.start_anchored_id) root i) (ne_eqb i 0 alive)
+                  ∙ cond-false {A = ℕ} (nat_eq i 1 || nat_eq i plan.special.start_anchored_id) root i own, λ e. grind (arith, nat_tests)))
+            ]
+      ]
+
+  source-state : (i : ℕ) → i < count → IsState plan.states (source_of plan i)
+  source-state i below =
+      elim (source-cases i) [
+        | inl dead ↦ subst (IsState plan.states) (sym dead) sound.dead_state
+        | inr alive ↦
+            elim alive [
+              | inl first ↦ subst (IsState plan.states) (sym first) starts.unanchored.state
+              | inr own ↦ subst (IsState plan.states) (sym own.0) (below, own.1)
+            ]
+      ]
+
+  source-depth : (i : ℕ) → depth_in plan.states (source_of plan i) ≤ depth_in plan.states i
+  source-depth i =
+      elim (source-cases i) [
+        | inl dead ↦ omega (arith, ap (depth_in plan.states) dead, sound.dead_depth)
+        | inr alive ↦
+            elim alive [
+              | inl first ↦ omega (arith, ap (depth_in plan.states) first, starts.unanchored.depth)
+              | inr own ↦ omega (arith, ap (depth_in plan.states) own.0)
+            ]
+      ]
+
+  -- ---- rows
+
+  pub number-dead : number_in plan 0 ≡ 0
+  number-dead = number-row 0 sound.dead_state.0 dead-shallow ∙ ap (λ (m : ℕ). m * stride) (rows-first plan.row_depth plan.states) ∙ none
+    where
+      none : 0 * stride ≡ 0
+      none = omega arith
+
+  pub entry-of : (i class : ℕ) → i < count → IsShallow plan i → class < class_count plan.classes → get_or layout.rows (number_in plan i + class) 0 ≡ number_in plan (leads_in plan (source_of plan i) class)
+  entry-of i class below shallow within = ap (λ (m : ℕ). get_or layout.rows (m + class) 0) (number-row i below shallow) ∙ done.rows.entry i class below shallow within
+
+  sound-rows : IsSoundRows layout
+  sound-rows = record {
+    dead = subst (HasRow layout) number-dead (row-of 0 sound.dead_state.0 dead-shallow);
+    start = row-of root starts.unanchored.state.0 root-shallow;
     next = λ sid class row within.
-        by-number (λ (n : ℕ). IsRow stride (length entries) (get_or entries (n + class) 0))
-        (λ i below. subst (IsRow stride (length entries)) (sym (filled.entry i class below within)) (row-of (leads_in states firsts (source_in special i) class) (filled.step i class below within).state.0))
+        by-row (λ (m : ℕ). IsStateIn layout (get_or layout.rows (m + class) 0))
+        (λ i below shallow. subst (IsStateIn layout) (sym (entry-of i class below shallow within)) (state-of (leads_in plan (source_of plan i) class) (done.rows.step i class below shallow within).state.0))
+        sid row;
+    near = λ sid class row within.
+        by-row (λ (m : ℕ). height_in layout (get_or layout.rows (m + class) 0) ≤ 1)
+        (λ i below shallow. subst (λ (m : ℕ). height_in layout m ≤ 1) (sym (entry-of i class below shallow within)) (near i class below shallow within))
         sid row;
     dead_stays = λ class within.
-        ap (λ (n : ℕ). get_or entries n 0) (first class) ∙ filled.entry 0 class some within ∙ ap (λ (n : ℕ). n * stride) ((filled.step 0 class some within).dead_stays refl) ∙ none stride;
-    dead_special = filled.some;
-    listed = by-number (λ (n : ℕ). get_or entries (n + class_count classes) 0 + get_or lists (get_or entries (n + class_count classes) 0) 0 < length lists)
-        (λ i below. within-at lists (get_or entries (i * stride + class_count classes) 0) (matches_in states (source_in special i)) (filled.listed i below));
+        ap (λ (m : ℕ). get_or layout.rows m 0) (first class)
+        ∙ entry-of 0 class sound.dead_state.0 dead-shallow within
+        ∙ ap (number_in plan) ((done.rows.step 0 class sound.dead_state.0 dead-shallow within).dead_stays refl)
+        ∙ number-dead;
+    dead_special = done.rows.some;
+  }
+    where
+      first : (class : ℕ) → class ≡ number_in plan 0 + class
+      first class = omega (arith, number-dead)
+
+      near : (i class : ℕ) → i < count → IsShallow plan i → class < class_count plan.classes → height_in layout (number_in plan (leads_in plan (source_of plan i) class)) ≤ 1
+      near i class below shallow within =
+          let step = done.rows.step i class below shallow within in
+          height-most (leads_in plan (source_of plan i) class) 1 step.state.0
+          (omega
+          (arith, step-near plan.states sound (get_or plan.firsts class 0) (links_left plan.states (source_of plan i) + 1) (source_of plan i) step.small (source-state i below), source-depth i, row-shallow i shallow))
+
+  -- ---- records
+
+  pub child-of : (i byte : ℕ) → i < count → IsDeepState plan i → child_in layout (number_in plan i) byte ≡ told plan.numbers (next_in plan.states (source_of plan i) byte)
+  child-of i byte below deep =
+      let is = record-of i below deep in
+      let at : ℕ = get_or layout.deep (record_at plan.row_depth plan.states i + 3) 0 in
+      ap (λ (m : ℕ). child_of (take m (drop (word_in layout (number_in plan i) 3) layout.moves)) byte) (word-of i 4 below deep ∙ is.moves_size)
+      ∙ ap (λ (m : ℕ). child_of (take (length (moves_of plan i)) (drop m layout.moves)) byte) (word-of i 3 below deep)
+      ∙ ap (λ (l : List ℕ). child_of l byte) (part-at layout.moves at (moves_of plan i) is.moves_at)
+      ∙ flat-child plan.numbers byte (transitions_of plan i) is.rising
+
+  pub link-of : (i : ℕ) → i < count → IsDeepState plan i → link_in layout (number_in plan i) ≡ number_in plan (fail_in plan.states (source_of plan i))
+  link-of i below deep = word-of i 0 below deep ∙ (record-of i below deep).link
+
+  next-of : (i byte next : ℕ) → i < count → IsDeepState plan i → byte < 256 → child_in layout (number_in plan i) byte ≡ Some next
+      → IsStateIn layout next × (height_in layout next ≤ height_in layout (number_in plan i) + 1)
+  next-of i byte next below deep small child =
+      let source : ℕ = source_of plan i in
+      let leads : ℕ = next_in plan.states source byte in
+      elim (cases_eq leads 1) [
+        | inl none ↦ let clash : None ≡ Some next = sym (told-none plan.numbers leads none) ∙ sym (child-of i byte below deep) ∙ child in absurd (cc)
+        | inr some ↦
+            let both : Some (number_in plan leads) ≡ Some next = sym (told-some plan.numbers leads some) ∙ sym (child-of i byte below deep) ∙ child in
+            let is : number_in plan leads ≡ next = cc in
+            let state = sound.next_state source byte (source-state i below) small some in
+            let near = sound.next_depth source byte (source-state i below) small some in (
+              subst (IsStateIn layout) is (state-of leads state.0),
+              omega
+              (arith, ap (height_in layout) is, height-most leads (height_in layout (number_in plan i) + 1) state.0 (omega (arith, near, source-depth i, height-deep i below deep))),
+            )
+      ]
+
+  linked-of : (i byte : ℕ) → i < count → IsDeepState plan i → byte < 256 → child_in layout (number_in plan i) byte ≡ None
+      → IsStateIn layout (link_in layout (number_in plan i)) × (height_in layout (link_in layout (number_in plan i)) < height_in layout (number_in plan i))
+  linked-of i byte below deep small child =
+      let source : ℕ = source_of plan i in
+      let leads : ℕ = next_in plan.states source byte in
+      elim (cases_eq leads 1) [
+        | inr some ↦ let clash : Some (number_in plan leads) ≡ None = sym (told-some plan.numbers leads some) ∙ sym (child-of i byte below deep) ∙ child in absurd (cc)
+        | inl none ↦
+            let state = sound.fail_state source byte (source-state i below) small none in
+            let nearer = link-depth plan.states sound source (fail_in plan.states source) (sound.fail_nearer source byte (source-state i below) small none) in
+            let is = link-of i below deep in (
+              subst (IsStateIn layout) (sym is) (state-of (fail_in plan.states source) state.0),
+              omega (arith, ap (height_in layout) is, height-less (fail_in plan.states source) i state.0 below deep (deeper i source (source-depth i) nearer)),
+            )
+      ]
+    where
+      deeper : (i source : ℕ) → depth_in plan.states source ≤ depth_in plan.states i → (fail_in plan.states source ≡ 0) ⊎ (depth_in plan.states (fail_in plan.states source) < depth_in plan.states source)
+          → (fail_in plan.states source ≡ 0) ⊎ (depth_in plan.states (fail_in plan.states source) < depth_in plan.states i)
+      deeper i source most (inl dead) = inl dead
+      deeper i source most (inr less) = inr (omega (arith, less, most))
+
+  sound-deep : IsSoundDeep layout
+  sound-deep = record {
+    moves = by-deep (λ (m : ℕ). word_in layout m 3 + word_in layout m 4 ≤ length layout.moves) (λ i below deep. inside i below deep);
+    next = λ sid byte next deep small child.
+        by-deep (λ (m : ℕ). child_in layout m byte ≡ Some next → IsStateIn layout next × (height_in layout next ≤ height_in layout m + 1))
+        (λ i below is_deep. next-of i byte next below is_deep small) sid deep child;
+    link = λ sid byte deep small child.
+        by-deep (λ (m : ℕ). child_in layout m byte ≡ None → IsStateIn layout (link_in layout m) × (height_in layout (link_in layout m) < height_in layout m))
+        (λ i below is_deep. linked-of i byte below is_deep small) sid deep child;
+  }
+    where
+      inside : (i : ℕ) → i < count → IsDeepState plan i → word_in layout (number_in plan i) 3 + word_in layout (number_in plan i) 4 ≤ length layout.moves
+      inside i below deep =
+          let is = record-of i below deep in
+          omega (arith, word-of i 3 below deep, word-of i 4 below deep, is.moves_size, part-within layout.moves (get_or layout.deep (record_at plan.row_depth plan.states i + 3) 0) (moves_of plan i) is.moves_at)
+
+  -- ---- lists
+
+  pub place-of : (i : ℕ) → i < count → (place : ℕ) × (list_place layout (number_in plan i) ≡ place) × IsListAt layout.lists place (matches_in plan.states (source_of plan i))
+  place-of i below =
+      elim (cases_Bool (is_deep plan.row_depth (state_at plan.states i))) [
+        | inl deep ↦ (
+            get_or layout.deep (record_at plan.row_depth plan.states i + 1) 0,
+            cond-false (is_row layout (number_in plan i)) _ _ (deep-test layout (number_in plan i) (deep-of i below deep)) ∙ word-of i 1 below deep,
+            (record-of i below deep).listed,
+          )
+        | inr shallow ↦ (
+            get_or layout.rows (row_in plan i + class_count plan.classes) 0,
+            cond-true (is_row layout (number_in plan i)) _ _ (row-test layout (number_in plan i) (row-of i below shallow))
+            ∙ ap (λ (m : ℕ). get_or layout.rows (m + class_count plan.classes) 0) (number-row i below shallow),
+            done.rows.listed i below shallow,
+          )
+      ]
+
+  pub sound-layout : length layout.rows + length layout.deep ≤ greatest_index → length layout.lists ≤ greatest_index + 1 → length layout.moves ≤ greatest_index → IsSoundLayout layout
+  sound-layout small small_lists small_moves = record {
+    in_rows = sound-rows;
+    in_deep = sound-deep;
+    listed = by-state (λ (m : ℕ). list_place layout m + get_or layout.lists (list_place layout m) 0 < length layout.lists)
+        (λ i below.
+        let at = place-of i below in
+        subst (λ (m : ℕ). m + get_or layout.lists m 0 < length layout.lists) (sym at.1) (within-at layout.lists at.0 (matches_in plan.states (source_of plan i)) at.2));
+    shallow = by-state (λ (m : ℕ). height_in layout m ≤ greatest_index) (λ i below. shallow i below);
     small = small;
     small_lists = small_lists;
+    small_moves = small_moves;
   }
+    where
+      shallow : (i : ℕ) → i < count → height_in layout (number_in plan i) ≤ greatest_index
+      shallow i below =
+          elim (cases_Bool (is_deep plan.row_depth (state_at plan.states i))) [
+            | inl deep ↦ omega (arith, height-deep i below deep, (record-of i below deep).depth_small)
+            | inr own ↦ omega (arith, height-row i below own)
+          ]
 
-  module _ (p : Patterns) (names : List (Option (List ℕ))) (a : IsAutomaton special p names states) (sound : IsSound states) (borders : HasBorders p classes) (first : AreFirst classes firsts) where
-    -- the word of a row
-    abbrev word_of : ℕ → Option (List ℕ)
-    word_of sid = name_at names (source_in special (sid / stride))
-
-    -- which is DEAD's or that of a state with a name
-    source-named : (i : ℕ) → i < length states → IsNamed names (source_in special i)
-    source-named i below =
-        elim (cases_eq i 0) [
-          | inl dead ↦ subst (λ (n : ℕ). IsNamed names (source_in special n)) (sym dead) (inl refl)
-          | inr alive ↦
-              elim (cases_Bool (nat_eq i 1 || nat_eq i special.start_anchored_id)) [
-                | inl other ↦
-                    subst (IsNamed names)
-                    (sym (cond-false {A = ℕ} (nat_eq i 0) 0 (cond (nat_eq i 1 || nat_eq i special.start_anchored_id) root i) (ne_eqb i 0 alive) ∙ cond-true {A = ℕ} (nat_eq i 1 || nat_eq i special.start_anchored_id) root i other))
-                    (inr ([], a.nodes.root))
-                | inr own ↦
-                    subst (IsNamed names)
-                    (sym (cond-false {A = ℕ} (nat_eq i 0) 0 (cond (nat_eq i 1 || nat_eq i special.start_anchored_id) root i) (ne_eqb i 0 alive) ∙ cond-false {A = ℕ} (nat_eq i 1 || nat_eq i special.start_anchored_id) root i own))
-                    (inr (a.complete i below alive (λ e. grind (arith, nat_tests)) (λ e. grind (arith, nat_tests))))
-              ]
-        ]
-
-    -- a state that is held by words has its own row
-    own-row : (state : Option (List ℕ)) (sid : ℕ) → IsStateOf names state sid → source_in special sid ≡ sid
-    own-row None sid dead = ap (source_in special) dead ∙ sym dead
-    own-row (Some word) sid named =
-        cond-false {A = ℕ} (nat_eq sid 0) 0 (cond (nat_eq sid 1 || nat_eq sid special.start_anchored_id) root sid) (ne_eqb sid 0 (named-ne_dead root p names states a.nodes sid word named))
-        ∙ cond-false {A = ℕ} (nat_eq sid 1 || nat_eq sid special.start_anchored_id) root sid neither
-      where
-        not_fail : sid ≢ 1
-        not_fail e = let clash : None ≡ Some word = sym a.nodes.fail ∙ sym (ap (name_at names) e) ∙ named in cc
-
-        not_anchored : sid ≢ special.start_anchored_id
-        not_anchored e = let clash : None ≡ Some word = sym a.anchored.unnamed ∙ sym (ap (name_at names) e) ∙ named in cc
-
-        neither : (nat_eq sid 1 || nat_eq sid special.start_anchored_id) ≡ false
-        neither = ap (λ (b : Bool). b || nat_eq sid special.start_anchored_id) (ne_eqb sid 1 not_fail) ∙ ne_eqb sid special.start_anchored_id not_anchored
-
-    source-held : (i : ℕ) → i < length states → IsStateOf names (name_at names (source_in special i)) (source_in special i)
-    source-held i below = named-state root p names states a.nodes (name_at names (source_in special i)) (source_in special i) (source-named i below) refl
-
-    source-state : (i : ℕ) → i < length states → IsState states (source_in special i)
-    source-state i below = named-is (source_in special i) (source-named i below)
-      where
-        named-is : (sid : ℕ) → IsNamed names sid → IsState states sid
-        named-is sid (inl dead) = subst (IsState states) (sym dead) sound.dead_state
-        named-is sid (inr word) =
-            (omega (arith, a.nodes.sized, name_at-below names sid word.0 word.1), λ e. (let clash : None ≡ Some word.0 = sym a.nodes.fail ∙ sym (ap (name_at names) e) ∙ word.1 in cc))
-
-    -- a byte leads from row to row as from word to word
-    next-word : (i byte : ℕ) → i < length states → byte < 256 → word_of (get_or entries (i * stride + class_of classes byte) 0) ≡ follow p No (word_of (i * stride)) (folded p byte)
-    next-word i byte below small =
-        let class : ℕ = class_of classes byte in
-        let source : ℕ = source_in special i in
-        let within = class_of-count classes byte in
-        let step = filled.step i class below within in
-        let next : ℕ = leads_in states firsts source class in
-        let same : step_in states No source (get_or firsts class 0) ≡ step_in states No source byte =
-        step-alike special p names states a classes borders (get_or firsts class 0) byte step.small small (first.of_class byte small) (links_left states source + 1) source (source-named i below) in
-        let held : IsStateOf names (follow p No (name_at names source) (folded p byte)) next =
-        subst (IsStateOf names (follow p No (name_at names source) (folded p byte))) (sym same)
-        (follows special p names states a sound byte (links_left states source + 1) source (name_at names source) small (omega arith) (source-state i below) (source-held i below)) in
-        ap word_of (filled.entry i class below within)
-        ∙ ap (λ (n : ℕ). name_at names (source_in special n)) (row-divided next)
-        ∙ ap (name_at names) (own-row (follow p No (name_at names source) (folded p byte)) next held)
-        ∙ (state-named root p names states a.nodes (follow p No (name_at names source) (folded p byte)) next held).1
-        ∙ ap (λ (n : ℕ). follow p No (name_at names (source_in special n)) (folded p byte)) (sym (row-divided i))
-
-    list-word : (i : ℕ) → i < length states → list_in layout (i * stride) ≡ matches_of p (word_of (i * stride))
-    list-word i below =
-        let source : ℕ = source_in special i in
-        let place : ℕ = get_or entries (i * stride + class_count classes) 0 in
-        let by_name : matches_in states source ≡ matches_of p (word_of (i * stride)) =
-        held-lists special p names states a No (name_at names source) source (source-held i below)
-        ∙ ap (λ (n : ℕ). matches_of p (name_at names (source_in special n))) (sym (row-divided i)) in
-        elim (cases_Bool (nat_lt (i * stride) low)) [
-          | inl lower ↦ cond-true (nat_lt (i * stride) low) (list_from lists place) [] lower ∙ list-at lists place (matches_in states source) (filled.listed i below) ∙ by_name
-          | inr higher ↦ cond-false (nat_lt (i * stride) low) (list_from lists place) [] higher ∙ sym (filled.others i below (grind (arith, nat_tests))) ∙ by_name
-        ]
-
-    dead-word : (i : ℕ) → i < length states → nat_eq (i * stride) 0 ≡ is_none (word_of (i * stride))
-    dead-word i below =
-        let source : ℕ = source_in special i in
-        same_test i
-        ∙ held-dead special p names states a No (name_at names source) source (source-held i below)
-        ∙ ap (λ (n : ℕ). is_none (name_at names (source_in special n))) (sym (row-divided i))
-      where
-        other : (i : ℕ) → i ≢ 0 → source_in special i ≢ 0
-        other i alive e =
-            elim (cases_Bool (nat_eq i 1 || nat_eq i special.start_anchored_id)) [
-              | inl instead ↦
-                  named-ne_dead root p names states a.nodes root [] a.nodes.root
-                  (sym (cond-false {A = ℕ} (nat_eq i 0) 0 (cond (nat_eq i 1 || nat_eq i special.start_anchored_id) root i) (ne_eqb i 0 alive) ∙ cond-true {A = ℕ} (nat_eq i 1 || nat_eq i special.start_anchored_id) root i instead) ∙ e)
-              | inr own ↦
-                  alive
-                  (sym (cond-false {A = ℕ} (nat_eq i 0) 0 (cond (nat_eq i 1 || nat_eq i special.start_anchored_id) root i) (ne_eqb i 0 alive) ∙ cond-false {A = ℕ} (nat_eq i 1 || nat_eq i special.start_anchored_id) root i own) ∙ e)
-            ]
-
-        same_test : (i : ℕ) → nat_eq (i * stride) 0 ≡ nat_eq (source_in special i) 0
-        same_test i =
-            elim (cases_eq i 0) [
-              | inl dead ↦ subst (λ (n : ℕ). nat_eq (n * stride) 0 ≡ nat_eq (source_in special n) 0) (sym dead) (ap (λ (n : ℕ). nat_eq n 0) (none stride))
-              | inr alive ↦ ne_eqb (i * stride) 0 (λ e. alive (omega (arith, in-row 0 0 i stride (omega (arith, alive)) (omega arith), e))) ∙ sym (ne_eqb (source_in special i) 0 (other i alive))
-            ]
-
-    pub layout-of : (kind : MatchKind) (lengths : List ℕ) → kind ≡ p.kind → lengths ≡ map length p.words → IsLayoutOf layout p kind lengths
-    layout-of kind lengths kind_is lengths_are = record {
-      kind_is = kind_is;
-      lengths_are = lengths_are;
-      word = word_of;
-      at_start = ap (λ (n : ℕ). name_at names (source_in special n)) (row-divided root) ∙ ap (name_at names) (own-row (Some []) root a.nodes.root) ∙ a.nodes.root;
-      at_next = λ sid byte row small.
-          by-number (λ (n : ℕ). word_of (get_or entries (n + class_of classes byte) 0) ≡ follow p No (word_of n) (folded p byte)) (λ i below. next-word i byte below small) sid row;
-      at_list = by-number (λ (n : ℕ). list_in layout n ≡ matches_of p (word_of n)) list-word;
-      at_dead = by-number (λ (n : ℕ). nat_eq n 0 ≡ is_none (word_of n)) dead-word;
-    }
+-- two layouts are one where their borders and starts are
+pub same-layout : (rows deep moves lists : List ℕ) (classes classes' : List Bool) (start start' low deep_low : ℕ) → classes ≡ classes' → start ≡ start'
+    → let one : Layout = record { rows = rows; deep = deep; moves = moves; lists = lists; classes = classes; start = start; low = low; deep_low = deep_low } in
+    let other : Layout = record { rows = rows; deep = deep; moves = moves; lists = lists; classes = classes'; start = start'; low = low; deep_low = deep_low } in
+    one ≡ other
+same-layout rows deep moves lists classes classes' start start' low deep_low classes_are start_is =
+    ap (λ (cs : List Bool). record { rows = rows; deep = deep; moves = moves; lists = lists; classes = cs; start = start; low = low; deep_low = deep_low }) classes_are
+    ∙ ap (λ (n : ℕ). record { rows = rows; deep = deep; moves = moves; lists = lists; classes = classes'; start = n; low = low; deep_low = deep_low }) start_is

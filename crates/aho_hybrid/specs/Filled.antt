@@ -1,5 +1,6 @@
--- The rows of the states of an automaton that is read out, as they are filled.
-use Rattle.std.specs.Prelude.{◌≡◌, ◌⊎◌, ℕ, ◌+◌, ◌*◌, ◌<◌, ◌≤◌, ◌||◌, Bool, List, [], ◌∷◌, ◌++◌, length, nat_eq, slice_index_or, if◌then◌else◌}
+-- The states of an automaton that is read out, as they are laid out.
+use Rattle.std.specs.Prelude.{◌≡◌, ◌⊎◌, ℕ, ◌+◌, ◌-◌, ◌*◌, ◌<◌, ◌≤◌, ◌||◌, Bool, not, false, true, List, [], ◌∷◌, ◌++◌, length, take, nat_eq, nat_lt, slice_index_or, if◌then◌else◌}
+use Rattle.std.specs.List.{count_by}
 use Rattle.aho_base.specs.Numbers.{greatest_index}
 use Rattle.aho_base.specs.declared.error.BuildError.{BuildError}
 use Rattle.aho_base.specs.declared.error.BuildError.TheVariants.{StateIDOverflow, OutOfMemory}
@@ -7,8 +8,68 @@ use Rattle.aho_base.specs.declared.search.Anchored.TheVariants.{No}
 use Rattle.aho_build.specs.Walking.{IsState, step_in}
 use Rattle.aho_build.specs.declared.special.Special.{Special}
 use Rattle.aho_table.specs.Alphabet.{class_of, class_count}
-use Rattle.aho_table.specs.Table.{State, dead_id, fail_id, matches_in}
-use Rattle.aho_hybrid.specs.Layout.{stride_of}
+use Rattle.aho_table.specs.Table.{IsRising, State, dead_id, fail_id, fail_in, depth_in, matches_in, state_at}
+use Rattle.aho_corasick.specs.ReadOut.{classes_of, special_of, states_of}
+use Rattle.aho_corasick.specs.declared.noncontiguous.NFA.{NFA}
+use Rattle.aho_hybrid.specs.declared.fill.Filled.{Filled}
+use Rattle.aho_hybrid.specs.Layout.{Layout, stride_of, record_size}
+
+-- ---- which states have rows, and how the states are numbered
+
+-- whether a state is deep: deeper than the states with rows
+abbrev pub is_deep : ℕ → State → Bool
+is_deep row_depth state = nat_lt row_depth state.depth
+
+abbrev pub is_shallow : ℕ → State → Bool
+is_shallow row_depth state = not (is_deep row_depth state)
+
+-- how many states have rows
+unfoldable pub rows_count : ℕ → List State → ℕ
+rows_count row_depth states = count_by (is_shallow row_depth) states
+
+unfoldable pub deep_count : ℕ → List State → ℕ
+deep_count row_depth states = count_by (is_deep row_depth) states
+
+-- the entries of all rows: for each state one for each class, and one for its list
+abbrev pub rows_size : ℕ → List State → List Bool → ℕ
+rows_size row_depth states classes = rows_count row_depth states * stride_of classes
+
+-- the words of all rows and records
+abbrev pub states_size : ℕ → List State → List Bool → ℕ
+states_size row_depth states classes = rows_size row_depth states classes + deep_count row_depth states * record_size
+
+-- the greatest depth down to which rows take at most so many bytes, or 0
+pub record IsRowDepth (states : List State) (classes : List Bool) (budget row_depth : ℕ) : Type 0 where
+  pub fits : 0 < row_depth → rows_size row_depth states classes * 4 ≤ budget
+  pub greatest : 0 < deep_count row_depth states → budget < rows_size (row_depth + 1) states classes * 4
+
+-- the bytes that the rows of `from_nfa` may take
+abbrev pub default_budget : ℕ
+default_budget = 327680
+
+-- the rows and the records are those of all states
+pub record HasSizes (states : List State) (classes : List Bool) (row_depth : ℕ) (t : Layout) : Type 0 where
+  pub rows : length t.rows ≡ rows_size row_depth states classes
+  pub deep : length t.deep ≡ deep_count row_depth states * record_size
+
+-- where the row of a state begins, and where the record of a deep one does
+abbrev pub row_at : ℕ → List State → List Bool → ℕ → ℕ
+row_at row_depth states classes sid = rows_count row_depth (take sid states) * stride_of classes
+
+abbrev pub record_at : ℕ → List State → ℕ → ℕ
+record_at row_depth states sid = deep_count row_depth (take sid states) * record_size
+
+-- the number of a state
+abbrev pub number_of : ℕ → List State → List Bool → ℕ → ℕ
+number_of row_depth states classes sid =
+    if is_deep row_depth (state_at states sid) then rows_size row_depth states classes + record_at row_depth states sid else row_at row_depth states classes sid
+
+-- the numbers of the states below the count
+pub record AreNumbers (row_depth : ℕ) (states : List State) (classes : List Bool) (count : ℕ) (numbers : List ℕ) : Type 0 where
+  pub sized : length numbers ≡ count
+  pub number : (sid : ℕ) → sid < count → slice_index_or numbers sid 0 ≡ number_of row_depth states classes sid
+
+-- ---- what is refused
 
 -- an index is above the greatest
 abbrev pub IsTooLarge : ℕ → BuildError → Type 0
@@ -18,26 +79,60 @@ IsTooLarge index error = (greatest_index < index) × (error ≡ StateIDOverflow 
 abbrev pub IsListRefused : BuildError → Type 0
 IsListRefused error = (error ≡ OutOfMemory) ⊎ ((place : ℕ) × IsTooLarge place error)
 
--- the entries of all rows: for each state one for each class, and one for its list
-abbrev pub rows_size : List State → List Bool → ℕ
-rows_size states classes = length states * stride_of classes
+-- why the states are refused: memory was wanted, they have more words than there are indices, or else the lists have
+abbrev pub IsRefused : List State → List Bool → ℕ → BuildError → Type 0
+IsRefused states classes budget error =
+    (error ≡ OutOfMemory)
+    ⊎ ((row_depth : ℕ) × IsRowDepth states classes budget row_depth × (IsTooLarge (states_size row_depth states classes) error ⊎ ((states_size row_depth states classes ≤ greatest_index) × IsListRefused error)))
 
--- why rows are refused: memory was wanted, they have more entries than there are indices, or else the lists have
-abbrev pub IsRefused : List State → List Bool → BuildError → Type 0
-IsRefused states classes error = (error ≡ OutOfMemory) ⊎ IsTooLarge (rows_size states classes) error ⊎ ((rows_size states classes ≤ greatest_index) × IsListRefused error)
+-- ---- rows
 
 -- a byte of each class stands at the class's place
 pub record AreFirst (classes : List Bool) (firsts : List ℕ) : Type 0 where
   pub sized : length firsts ≡ 256
   pub of_class : (byte : ℕ) → byte < 256 → class_of classes (slice_index_or firsts (class_of classes byte) 0) ≡ class_of classes byte
 
+-- what the states are made of: the states that are read out, the borders, a byte for each class, the number of each state, and how
+-- deep states have rows
+pub record Parts : Type 0 where
+  pub special : Special
+  pub states : List State
+  pub classes : List Bool
+  pub firsts : List ℕ
+  pub numbers : List ℕ
+  pub row_depth : ℕ
+
+abbrev pub parts_of : NFA → List ℕ → List ℕ → ℕ → Parts
+parts_of nfa firsts numbers row_depth = record {
+  special = special_of nfa;
+  states = states_of nfa;
+  classes = classes_of nfa;
+  firsts = firsts;
+  numbers = numbers;
+  row_depth = row_depth;
+}
+
+-- the numbers are those of the states, and the entries of a row are as many as there are classes, and one
+pub record IsPlan (plan : Parts) (stride : ℕ) : Type 0 where
+  pub stride_is : stride ≡ stride_of plan.classes
+  pub bounded : stride ≤ 257
+  pub sized : length plan.firsts ≡ 256
+  pub numbered : AreNumbers plan.row_depth plan.states plan.classes (length plan.states) plan.numbers
+
+-- the number of a state, and 0 where there is none
+abbrev pub number_at : List ℕ → ℕ → ℕ
+number_at numbers sid = slice_index_or numbers sid 0
+
+abbrev pub number_in : Parts → ℕ → ℕ
+number_in plan sid = number_at plan.numbers sid
+
 -- the state whose row stands at the place of this one: for FAIL and the anchored start it is the unanchored start
 abbrev pub source_in : Special → ℕ → ℕ
 source_in special index = if nat_eq index dead_id then dead_id else if nat_eq index fail_id || nat_eq index special.start_anchored_id then special.start_unanchored_id else index
 
--- the entry of a class: where the row begins of the state to which a byte of the class leads
-abbrev pub leads_in : List State → List ℕ → ℕ → ℕ → ℕ
-leads_in states firsts sid class = step_in states No sid (slice_index_or firsts class 0)
+-- the state to which a byte of the class leads
+abbrev pub leads_in : Parts → ℕ → ℕ → ℕ
+leads_in plan sid class = step_in plan.states No sid (slice_index_or plan.firsts class 0)
 
 -- a byte leads from the state to a state, and from DEAD to DEAD
 pub record IsStep (states : List State) (sid byte : ℕ) : Type 0 where
@@ -46,11 +141,11 @@ pub record IsStep (states : List State) (sid byte : ℕ) : Type 0 where
   pub dead_stays : sid ≡ dead_id → step_in states No sid byte ≡ dead_id
 
 -- entries of the first classes were added
-pub record HasEntries (states : List State) (firsts : List ℕ) (stride sid count : ℕ) (old new : List ℕ) : Type 0 where
+pub record HasEntries (plan : Parts) (sid count : ℕ) (old new : List ℕ) : Type 0 where
   pub sized : length new ≡ length old + count
   pub same : (i : ℕ) → i < length old → slice_index_or new i 0 ≡ slice_index_or old i 0
-  pub entry : (class : ℕ) → class < count → slice_index_or new (length old + class) 0 ≡ leads_in states firsts sid class * stride
-  pub step : (class : ℕ) → class < count → IsStep states sid (slice_index_or firsts class 0)
+  pub entry : (class : ℕ) → class < count → slice_index_or new (length old + class) 0 ≡ number_in plan (leads_in plan sid class)
+  pub step : (class : ℕ) → class < count → IsStep plan.states sid (slice_index_or plan.firsts class 0)
 
 -- at this place the list stands: its length, and then its patterns
 pub record IsListAt (lists : List ℕ) (place : ℕ) (list : List ℕ) : Type 0 where
@@ -65,12 +160,68 @@ pub record IsPlaced (list : List ℕ) (place : ℕ) (old new : List ℕ) : Type 
   pub grown : new ≡ old ++ more
   pub listed : IsListAt new place list
 
+abbrev pub row_in : Parts → ℕ → ℕ
+row_in plan sid = row_at plan.row_depth plan.states plan.classes sid
+
+abbrev pub IsShallow : Parts → ℕ → Type 0
+IsShallow plan sid = is_deep plan.row_depth (state_at plan.states sid) ≡ false
+
+abbrev pub IsDeepState : Parts → ℕ → Type 0
+IsDeepState plan sid = is_deep plan.row_depth (state_at plan.states sid) ≡ true
+
 -- the rows of the states below the count
-pub record IsFilled (special : Special) (states : List State) (classes : List Bool) (firsts : List ℕ) (count : ℕ) (entries lists : List ℕ) (low : ℕ) : Type 0 where
-  pub sized : length entries ≡ count * stride_of classes
-  pub entry : (i class : ℕ) → i < count → class < class_count classes → slice_index_or entries (i * stride_of classes + class) 0 ≡ leads_in states firsts (source_in special i) class * stride_of classes
-  pub step : (i class : ℕ) → i < count → class < class_count classes → IsStep states (source_in special i) (slice_index_or firsts class 0)
-  pub listed : (i : ℕ) → i < count → IsListAt lists (slice_index_or entries (i * stride_of classes + class_count classes) 0) (matches_in states (source_in special i))
-  pub others : (i : ℕ) → i < count → low ≤ i * stride_of classes → matches_in states (source_in special i) ≡ []
+pub record AreRows (plan : Parts) (count : ℕ) (entries lists : List ℕ) (low : ℕ) : Type 0 where
+  pub sized : length entries ≡ row_in plan count
+  pub entry : (i class : ℕ) → i < count → IsShallow plan i → class < class_count plan.classes
+      → slice_index_or entries (row_in plan i + class) 0 ≡ number_in plan (leads_in plan (source_in plan.special i) class)
+  pub step : (i class : ℕ) → i < count → IsShallow plan i → class < class_count plan.classes → IsStep plan.states (source_in plan.special i) (slice_index_or plan.firsts class 0)
+  pub listed : (i : ℕ) → i < count → IsShallow plan i → IsListAt lists (slice_index_or entries (row_in plan i + class_count plan.classes) 0) (matches_in plan.states (source_in plan.special i))
+  pub others : (i : ℕ) → i < count → IsShallow plan i → low ≤ row_in plan i → matches_in plan.states (source_in plan.special i) ≡ []
   pub empty : IsListAt lists 0 []
   pub some : 0 < low
+
+-- ---- records
+
+-- the transitions of a state, those that lead on: for each its byte, and the number of the state that it leads to
+abbrev pub flat : List ℕ → List (ℕ × ℕ) → List ℕ
+flat numbers [] = []
+flat numbers (transition ∷ transitions) =
+    if nat_eq transition.1 fail_id then flat numbers transitions else transition.0 ∷ number_at numbers transition.1 ∷ flat numbers transitions
+
+-- these words stand at this place
+pub record IsPartAt (words : List ℕ) (place : ℕ) (part : List ℕ) : Type 0 where
+  pub before : List ℕ
+  pub after : List ℕ
+  pub whole : words ≡ before ++ (part ++ after)
+  pub place_is : length before ≡ place
+
+-- the state whose row or record stands at the place of this one
+abbrev pub source_of : Parts → ℕ → ℕ
+source_of plan sid = source_in plan.special sid
+
+abbrev pub transitions_of : Parts → ℕ → List (ℕ × ℕ)
+transitions_of plan sid = (state_at plan.states (source_of plan sid)).transitions
+
+abbrev pub moves_of : Parts → ℕ → List ℕ
+moves_of plan sid = flat plan.numbers (transitions_of plan sid)
+
+-- the record of a deep state: its words, where they begin
+pub record IsRecord (plan : Parts) (sid : ℕ) (deep : List ℕ) (at : ℕ) (moves lists : List ℕ) : Type 0 where
+  pub link : slice_index_or deep (at + 0) 0 ≡ number_in plan (fail_in plan.states (source_of plan sid))
+  pub listed : IsListAt lists (slice_index_or deep (at + 1) 0) (matches_in plan.states (source_of plan sid))
+  pub height : slice_index_or deep (at + 2) 0 + plan.row_depth ≡ depth_in plan.states sid
+  pub moves_at : IsPartAt moves (slice_index_or deep (at + 3) 0) (moves_of plan sid)
+  pub moves_size : slice_index_or deep (at + 4) 0 ≡ length (moves_of plan sid)
+  pub rising : IsRising (transitions_of plan sid)
+  pub depth_small : depth_in plan.states sid ≤ greatest_index
+
+-- the records of the states below the count
+pub record AreRecords (plan : Parts) (count : ℕ) (deep moves lists : List ℕ) (deep_low : ℕ) : Type 0 where
+  pub sized : length deep ≡ record_at plan.row_depth plan.states count
+  pub records : (i : ℕ) → i < count → IsDeepState plan i → IsRecord plan i deep (record_at plan.row_depth plan.states i) moves lists
+  pub others : (i : ℕ) → i < count → IsDeepState plan i → deep_low ≤ number_in plan i → matches_in plan.states (source_of plan i) ≡ []
+
+-- the states below the count
+pub record IsFilled (plan : Parts) (count : ℕ) (filled : Filled) : Type 0 where
+  pub rows : AreRows plan count filled.entries.items filled.lists.items filled.low
+  pub records : AreRecords plan count filled.deep.items filled.moves.items filled.lists.items filled.deep_low

@@ -1,5 +1,5 @@
--- How the states of an automaton with rows lie in memory, and what is read there.
-use Rattle.std.specs.Prelude.{◌≡◌, ℕ, ◌+◌, ◌<◌, ◌≤◌, ◌%◌, Bool, List, [], ◌∷◌, length, take, drop, nat_lt, slice_index_or, if◌then◌else◌, Result, Ok, Err, Option, ◌*◌}
+-- How the states of a `Hybrid` lie in memory, and what is read there.
+use Rattle.std.specs.Prelude.{◌≡◌, ◌||◌, ℕ, zero, suc, ◌+◌, ◌-◌, ◌<◌, ◌≤◌, ◌%◌, Bool, true, false, List, [], ◌∷◌, length, take, drop, nat_eq, nat_lt, slice_index_or, if◌then◌else◌, Result, Ok, Err, Option, Some, None, is_some, ◌*◌}
 use Rattle.std.specs.List.{All}
 use Rattle.aho_base.specs.Numbers.{greatest_index}
 use Rattle.aho_base.specs.declared.error.MatchErrorKind.{MatchErrorKind}
@@ -10,30 +10,98 @@ use Rattle.aho_prefilter.specs.Prefilter.{prefilter_bytes}
 use Rattle.aho_prefilter.specs.declared.prefilter.Searcher.{Searcher}
 use Rattle.aho_table.specs.Alphabet.{class_of, class_count}
 
--- the rows, one behind the other; the lists of patterns; the borders between the classes of bytes; the start; and the number
--- below which the states are special
+-- the rows, one behind the other; the records of the deep states, and their transitions; the lists of patterns; the borders
+-- between the classes of bytes; the start; and the numbers below which the states with rows and the deep ones are special
 pub record Layout : Type 0 where
   pub rows : List ℕ
+  pub deep : List ℕ
+  pub moves : List ℕ
   pub lists : List ℕ
   pub classes : List Bool
   pub start : ℕ
   pub low : ℕ
+  pub deep_low : ℕ
 
 -- the entries of a row: where each class of bytes leads, and one more that says where the state's list stands
 abbrev pub stride_of : List Bool → ℕ
 stride_of classes = class_count classes + 1
 
--- a state is numbered by the place where its row begins
+-- the words of a deep state's record: its link, the place of its list, its depth below the rows, and the place and the count
+-- of the words of its transitions
+abbrev pub record_size : ℕ
+record_size = 5
+
+-- a state with a row is numbered by the place where its row begins
 pub record IsRow (stride size sid : ℕ) : Type 0 where
   pub whole : sid % stride ≡ 0
   pub within : sid + stride ≤ size
 
-abbrev pub IsStateIn : Layout → ℕ → Type 0
-IsStateIn t sid = IsRow (stride_of t.classes) (length t.rows) sid
+abbrev pub HasRow : Layout → ℕ → Type 0
+HasRow t sid = IsRow (stride_of t.classes) (length t.rows) sid
 
--- where a byte leads
+-- a deep state by the place of its record, counted on from the end of the rows
+pub record IsDeep (t : Layout) (sid : ℕ) : Type 0 where
+  pub behind : length t.rows ≤ sid
+  pub record_of : IsRow record_size (length t.deep) (sid - length t.rows)
+
+-- whether the number is below those of the deep states
+abbrev pub is_row : Layout → ℕ → Bool
+is_row t sid = nat_lt sid (length t.rows)
+
+-- the number is that of a state
+pub record IsStateIn (t : Layout) (sid : ℕ) : Type 0 where
+  pub with_row : is_row t sid ≡ true → HasRow t sid
+  pub without_row : is_row t sid ≡ false → IsDeep t sid
+
+-- where a row leads
+abbrev pub entry_in : Layout → ℕ → ℕ → ℕ
+entry_in t sid byte = slice_index_or t.rows (sid + class_of t.classes byte) 0
+
+-- a word of a deep state's record
+abbrev pub word_in : Layout → ℕ → ℕ → ℕ
+word_in t sid index = slice_index_or t.deep (sid - length t.rows + index) 0
+
+abbrev pub link_in : Layout → ℕ → ℕ
+link_in t sid = word_in t sid 0
+
+-- how deep a state is below the rows: 0 for a state that has one
+abbrev pub depth_in : Layout → ℕ → ℕ
+depth_in t sid = if is_row t sid then 0 else word_in t sid 2
+
+-- transitions are bytes, each with the state that it leads to: the first of a byte
+abbrev pub child_of : List ℕ → ℕ → Option ℕ
+child_of [] byte = None
+child_of (key ∷ []) byte = None
+child_of (key ∷ next ∷ moves) byte = if nat_eq key byte then Some next else child_of moves byte
+
+-- the transitions of a deep state
+abbrev pub moves_in : Layout → ℕ → List ℕ
+moves_in t sid = take (word_in t sid 4) (drop (word_in t sid 3) t.moves)
+
+abbrev pub child_in : Layout → ℕ → ℕ → Option ℕ
+child_in t sid byte = child_of (moves_in t sid) byte
+
+-- the state that is told, or else this one
+abbrev pub told_or : Option ℕ → ℕ → ℕ
+told_or None other = other
+told_or (Some sid) other = sid
+
+-- where a byte leads, where so many states may be looked at: down the links to the first state that takes it
+abbrev pub along : Layout → ℕ → ℕ → ℕ → ℕ
+along t byte zero sid = 0
+along t byte (suc left) sid = if is_row t sid then entry_in t sid byte else told_or (child_in t sid byte) (along t byte left (link_in t sid))
+
+-- how many states are looked at
+abbrev pub looks_along : Layout → ℕ → ℕ → ℕ → ℕ
+looks_along t byte zero sid = 0
+looks_along t byte (suc left) sid = 1 + (if is_row t sid || is_some (child_in t sid byte) then 0 else looks_along t byte left (link_in t sid))
+
+-- where a byte leads, and the look-ups that this takes
 abbrev pub next_in : Layout → ℕ → ℕ → ℕ
-next_in t sid byte = slice_index_or t.rows (sid + class_of t.classes byte) 0
+next_in t sid byte = along t byte (depth_in t sid + 1) sid
+
+abbrev pub looks_in : Layout → ℕ → ℕ → ℕ
+looks_in t sid byte = looks_along t byte (depth_in t sid + 1) sid
 
 -- the list that stands here: its length, and then its patterns
 abbrev pub list_from : List ℕ → ℕ → List ℕ
@@ -41,11 +109,15 @@ list_from lists place = take (slice_index_or lists place 0) (drop (place + 1) li
 
 -- where the list of a state stands
 abbrev pub list_place : Layout → ℕ → ℕ
-list_place t sid = slice_index_or t.rows (sid + class_count t.classes) 0
+list_place t sid = if is_row t sid then slice_index_or t.rows (sid + class_count t.classes) 0 else word_in t sid 1
+
+-- whether a search has to look at the state
+abbrev pub is_special_in : Layout → ℕ → Bool
+is_special_in t sid = if is_row t sid then nat_lt sid t.low else nat_lt sid t.deep_low
 
 -- what a state lists: only special ones list a pattern
 abbrev pub list_in : Layout → ℕ → List ℕ
-list_in t sid = if nat_lt sid t.low then list_from t.lists (list_place t sid) else []
+list_in t sid = if is_special_in t sid then list_from t.lists (list_place t sid) else []
 
 -- the state after a word, from a state on
 abbrev pub run_from : Layout → ℕ → List ℕ → ℕ
@@ -61,18 +133,37 @@ abbrev pub start_in : Layout → Anchored → Result ℕ MatchErrorKind
 start_in t No = Ok t.start
 start_in t Yes = Err InvalidInputAnchored
 
--- each entry of a row leads to a state, and the state 0 leads to itself by every byte
-pub record IsSoundLayout (t : Layout) : Type 0 where
-  pub dead : IsStateIn t 0
-  pub start : IsStateIn t t.start
-  pub next : (sid class : ℕ) → IsStateIn t sid → class < class_count t.classes → IsStateIn t (slice_index_or t.rows (sid + class) 0)
+-- the look-ups of the byte that follows a word
+abbrev pub lookups_in : Layout → List ℕ → ℕ → ℕ
+lookups_in t word byte = looks_in t (run_from t t.start word) byte
+
+-- each entry of a row leads to a state, one below the rows at most, and the state 0 leads to itself by every byte
+pub record IsSoundRows (t : Layout) : Type 0 where
+  pub dead : HasRow t 0
+  pub start : HasRow t t.start
+  pub next : (sid class : ℕ) → HasRow t sid → class < class_count t.classes → IsStateIn t (slice_index_or t.rows (sid + class) 0)
+  pub near : (sid class : ℕ) → HasRow t sid → class < class_count t.classes → depth_in t (slice_index_or t.rows (sid + class) 0) ≤ 1
   pub dead_stays : (class : ℕ) → class < class_count t.classes → slice_index_or t.rows class 0 ≡ 0
   pub dead_special : 0 < t.low
-  -- a state's list stands within the lists, where it has one
-  pub listed : (sid : ℕ) → IsStateIn t sid → list_place t sid + slice_index_or t.lists (list_place t sid) 0 < length t.lists
-  pub small : length t.rows ≤ greatest_index
-  pub small_lists : length t.lists ≤ greatest_index + 1
 
--- the bytes of the entries, the lists and the lengths of patterns, by stated sizes, and what a prefilter holds
+-- a transition of a deep state leads to a state, one deeper at most; a link is followed only to one less deep
+pub record IsSoundDeep (t : Layout) : Type 0 where
+  pub moves : (sid : ℕ) → IsDeep t sid → word_in t sid 3 + word_in t sid 4 ≤ length t.moves
+  pub next : (sid byte next : ℕ) → IsDeep t sid → byte < 256 → child_in t sid byte ≡ Some next → IsStateIn t next × (depth_in t next ≤ depth_in t sid + 1)
+  pub link : (sid byte : ℕ) → IsDeep t sid → byte < 256 → child_in t sid byte ≡ None → IsStateIn t (link_in t sid) × (depth_in t (link_in t sid) < depth_in t sid)
+
+pub record IsSoundLayout (t : Layout) : Type 0 where
+  pub in_rows : IsSoundRows t
+  pub in_deep : IsSoundDeep t
+  -- a state's list stands within the lists
+  pub listed : (sid : ℕ) → IsStateIn t sid → list_place t sid + slice_index_or t.lists (list_place t sid) 0 < length t.lists
+  -- how deep it is is an index
+  pub shallow : (sid : ℕ) → IsStateIn t sid → depth_in t sid ≤ greatest_index
+  pub small : length t.rows + length t.deep ≤ greatest_index
+  pub small_lists : length t.lists ≤ greatest_index + 1
+  pub small_moves : length t.moves ≤ greatest_index
+
+-- the bytes of the entries, the records, the transitions, the lists and the lengths of patterns, by stated sizes, and what a
+-- prefilter holds
 abbrev pub memory_in : Layout → List ℕ → Option Searcher → ℕ
-memory_in t lengths prefilter = 4 * (length t.rows + length t.lists + length lengths) + prefilter_bytes prefilter
+memory_in t lengths prefilter = 4 * (length t.rows + length t.deep + length t.moves + length t.lists + length lengths) + prefilter_bytes prefilter

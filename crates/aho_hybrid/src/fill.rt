@@ -1,15 +1,16 @@
-//! The rows of an `NFA`'s states: one for each state, in the order of the states' numbers.
+//! The states of a `Hybrid`, made from an `NFA`'s: rows for those near the start, and records for the others, each in the order
+//! of the `NFA`'s numbers.
 
-ghost use Rattle.std.specs.Prelude.{◌≡◌, ℕ, [], ◌∷◌, ◌++◌, ◌+◌, ◌*◌, ◌<◌, ◌≤◌, length, slice_index_or, IfOk, IfErr, OnOk};
+ghost use Rattle.std.specs.Prelude.{◌≡◌, ◌⊎◌, ℕ, [], ◌∷◌, ◌++◌, ◌+◌, ◌*◌, ◌<◌, ◌≤◌, length, slice_index_or, if◌then◌else◌, IfOk, IfErr, OnOk};
 ghost use Rattle.aho_base.specs.Numbers.{greatest_index};
 ghost use Rattle.aho_base.specs.Patterns.{Patterns};
 ghost use Rattle.aho_build.specs.Walking.{IsState};
 ghost use Rattle.aho_corasick.specs.ReadOut.{states_of, special_of, classes_of};
 ghost use Rattle.aho_table.specs.Alphabet.{class_of, class_count};
-ghost use Rattle.aho_table.specs.Table.{matches_in};
+ghost use Rattle.aho_table.specs.Table.{matches_in, state_at};
 ghost use Rattle.aho_hybrid.specs.Layout.{IsSoundLayout, stride_of};
 ghost use Rattle.aho_hybrid.specs.Reading.{IsLayoutOf};
-ghost use Rattle.aho_hybrid.specs.Filled.{AreFirst, HasEntries, IsFilled, IsListAt, IsListRefused, IsPlaced, IsRefused, IsTooLarge, rows_size, source_in};
+ghost use Rattle.aho_hybrid.specs.Filled.{AreFirst, AreNumbers, HasEntries, HasSizes, IsDeepState, IsFilled, IsListAt, IsListRefused, IsPlaced, IsPlan, IsRefused, IsRowDepth, IsShallow, IsTooLarge, deep_count, flat, is_deep, number_at, parts_of, rows_count, rows_size, source_in, states_size};
 
 use crate::rows::Rows;
 use aho_base::error::BuildError;
@@ -18,51 +19,330 @@ use aho_build::special::Special;
 use aho_corasick::noncontiguous::NFA;
 use aho_search::automaton::Automaton;
 use aho_table::alphabet::ByteClasses;
-use aho_table::links::{DEAD, FAIL, Matches};
+use aho_table::links::{DEAD, FAIL, Matches, Transitions};
 use std::alloc::Global;
 
-/// The rows that were filled so far, with the lists of their states.
+/// The words of a deep state's record.
+const RECORD_SIZE: usize = 5;
+
+/// How the states of an `NFA` are laid out.
+#[derive(Drop)]
+struct Plan {
+    /// The entries of a row.
+    stride: usize,
+    /// The states down to this depth have rows.
+    row_depth: usize,
+    /// A byte of each class, by the class.
+    firsts: [u8; 256],
+    /// The number of each state, by that which the `NFA` knows it by.
+    numbers: Vec<SmallIndex>,
+}
+
+/// What was filled so far.
 #[derive(Drop)]
 struct Filled {
     entries: Vec<SmallIndex>,
+    deep: Vec<SmallIndex>,
+    moves: Vec<SmallIndex>,
     lists: Vec<SmallIndex>,
-    /// The states below this number are special.
+    /// The states with rows are special below this number.
     low: usize,
+    /// The deep states are special below this number.
+    deep_low: usize,
 }
 
-/// The rows of the states of an `NFA`.
-///
-/// # Errors
-///
-/// `OutOfMemory`, at any time; or `StateIDOverflow` where the rows have more entries than the greatest index, or the place of
-/// a list is above it.
-pub fn rows_of(alloc: Global, nfa: &NFA) -> Result<Rows, BuildError>
+/// The states of an `NFA`, with rows that take at most so many bytes, but for the states without depth.
+pub fn rows_of(alloc: Global, nfa: &NFA, budget: usize) -> Result<Rows, BuildError>
     ensures sound { IfOk result IsSoundLayout }
     ensures of { IfOk result (λ rows. (p : Patterns)
         → ⟦<NFA as Automaton>⟧.is_of nfa.now p
         → IsLayoutOf rows p (⟦<NFA as Automaton>⟧.kind nfa.now) (⟦<NFA as Automaton>⟧.lengths nfa.now)) }
-    ensures sized { IfOk result (λ rows.
-        length rows.rows ≡ rows_size (states_of nfa.now) (classes_of nfa.now)) }
-    ensures refused { IfErr result (IsRefused (states_of nfa.now) (classes_of nfa.now)) }
+    ensures sized { IfOk result (λ rows. (row_depth : ℕ)
+        × IsRowDepth (states_of nfa.now) (classes_of nfa.now) budget row_depth
+        × HasSizes (states_of nfa.now) (classes_of nfa.now) row_depth rows) }
+    ensures refused { IfErr result (IsRefused (states_of nfa.now) (classes_of nfa.now) budget) }
 {
     let stride = nfa.byte_classes().alphabet_len() + 1;
-    let size = nfa.states_len() * stride;
+    let row_depth = row_depth(nfa, stride, budget);
+    let with_rows = rows_count(nfa, row_depth);
+    let dense = with_rows * stride;
+    let size = dense + (nfa.states_len() - with_rows) * RECORD_SIZE;
     if size > SmallIndex::MAX.as_usize() {
         return Err(overflow(size));
     }
-    let firsts = first_bytes(nfa.byte_classes());
-    let filled = filled_rows(alloc, nfa, &firsts, stride)?;
+    let plan = Plan {
+        stride,
+        row_depth,
+        firsts: first_bytes(nfa.byte_classes()),
+        numbers: numbers_of(alloc, nfa, stride, row_depth, dense)?,
+    };
+    let filled = filled_states(alloc, nfa, &plan)?;
     if filled.lists.len() > SmallIndex::MAX.as_usize() {
         return Err(overflow(filled.lists.len()));
     }
-    let start = place_of(nfa.special().start_unanchored_id, stride);
+    if filled.moves.len() > SmallIndex::MAX.as_usize() {
+        return Err(overflow(filled.moves.len()));
+    }
+    let start = number_at(&plan.numbers, nfa.special().start_unanchored_id);
     Ok(Rows {
         classes: nfa.byte_classes().copy(),
         entries: filled.entries,
+        deep: filled.deep,
+        moves: filled.moves,
         lists: filled.lists,
         start: StateID::new_unchecked(start.as_usize()),
         low: filled.low,
+        deep_low: filled.deep_low,
     })
+}
+
+/// Whether a state is deeper.
+fn is_deep(nfa: &NFA, index: usize, depth: usize) -> bool
+    requires within { index < length (states_of nfa.now) }
+    requires small { index ≤ greatest_index }
+    ensures deep { result ≡ is_deep depth (state_at (states_of nfa.now) index) }
+{
+    nfa.depth(StateID::new_unchecked(index)) > depth
+}
+
+/// The first of two numbers, or the second.
+fn either(first: bool, one: usize, other: usize) -> usize
+    ensures either { result ≡ (if first then one else other) }
+{
+    if first { one } else { other }
+}
+
+/// How deep the deepest state is.
+fn deepest(nfa: &NFA) -> usize
+    ensures deepest { deep_count result (states_of nfa.now) ≡ 0 }
+{
+    let mut most = 0;
+    for index in 0..nfa.states_len() {
+        most = most.max(nfa.depth(StateID::new_unchecked(index)));
+    }
+    most
+}
+
+/// How many states are no deeper.
+fn rows_count(nfa: &NFA, depth: usize) -> usize
+    ensures count { result ≡ rows_count depth (states_of nfa.now) }
+    ensures bound { result ≤ length (states_of nfa.now) }
+    ensures small { length (states_of nfa.now) ≤ greatest_index + 1 }
+{
+    let mut count = 0;
+    for index in 0..nfa.states_len() {
+        count = either(is_deep(nfa, index, depth), count, count + 1);
+    }
+    count
+}
+
+/// The greatest depth down to which the rows of all states take at most so many bytes, or 0.
+fn row_depth(nfa: &NFA, stride: usize, budget: usize) -> usize
+    requires stride { stride ≡ stride_of (classes_of nfa.now) }
+    requires bounded { stride ≤ 257 }
+    ensures depth { IsRowDepth (states_of nfa.now) (classes_of nfa.now) budget result }
+{
+    let mut low = 0;
+    let mut high = deepest(nfa);
+    'halves: while low < high {
+        let middle = high - (high - low) / 2;
+        if rows_count(nfa, middle) * stride * 4 <= budget {
+            low = middle;
+        } else {
+            high = middle - 1;
+        }
+    }
+    low
+}
+
+/// The number of each state: the place of its row, or that of its record behind all rows.
+fn numbers_of(
+    alloc: Global,
+    nfa: &NFA,
+    stride: usize,
+    row_depth: usize,
+    dense: usize,
+) -> Result<Vec<SmallIndex>, BuildError>
+    requires stride { stride ≡ stride_of (classes_of nfa.now) }
+    requires bounded { stride ≤ 257 }
+    requires dense { dense ≡ rows_size row_depth (states_of nfa.now) (classes_of nfa.now) }
+    requires small { states_size row_depth (states_of nfa.now) (classes_of nfa.now) ≤ greatest_index }
+    ensures numbers { IfOk result (λ numbers. AreNumbers row_depth (states_of nfa.now) (classes_of nfa.now)
+        (length (states_of nfa.now)) numbers.items) }
+    ensures refused { IfErr result IsListRefused }
+{
+    let mut numbers = Vec::new(alloc);
+    let mut row = 0;
+    let mut record = dense;
+    for index in 0..nfa.states_len() {
+        let deep = is_deep(nfa, index, row_depth);
+        let number = SmallIndex::new_unchecked(either(deep, record, row));
+        push(&mut numbers, number)?;
+        row = either(deep, row, row + stride);
+        record = either(deep, record + RECORD_SIZE, record);
+    }
+    Ok(numbers)
+}
+
+/// All states.
+fn filled_states(alloc: Global, nfa: &NFA, plan: &Plan) -> Result<Filled, BuildError>
+    requires plan { IsPlan (parts_of nfa.now plan.now.firsts plan.now.numbers.items plan.now.row_depth) plan.now.stride }
+    ensures filled { IfOk result (IsFilled (parts_of nfa.now plan.now.firsts plan.now.numbers.items plan.now.row_depth) (length (states_of nfa.now))) }
+    ensures refused { IfErr result IsListRefused }
+{
+    let mut filled = Filled {
+        entries: Vec::new(alloc),
+        deep: Vec::new(alloc),
+        moves: Vec::new(alloc),
+        lists: Vec::new(alloc),
+        low: first_low(nfa, plan),
+        deep_low: 0,
+    };
+    push(&mut filled.lists, SmallIndex::new_unchecked(0))?;
+    for index in 0..nfa.states_len() {
+        add_state(&mut filled, nfa, plan, index)?;
+    }
+    Ok(filled)
+}
+
+/// The number below which states with rows are special whatever they list: DEAD and, where a search may skip from the start,
+/// all up to the start.
+fn first_low(nfa: &NFA, plan: &Plan) -> usize
+    requires plan { IsPlan (parts_of nfa.now plan.now.firsts plan.now.numbers.items plan.now.row_depth) plan.now.stride }
+    ensures some { 0 < result }
+{
+    match nfa.prefilter() {
+        Some(_) => number_at(&plan.numbers, nfa.special().start_unanchored_id).as_usize() + 1,
+        None => 1,
+    }
+}
+
+/// One state more.
+fn add_state(filled: &mut Filled, nfa: &NFA, plan: &Plan, index: usize) -> Result<(), BuildError>
+    requires plan { IsPlan (parts_of nfa.now plan.now.firsts plan.now.numbers.items plan.now.row_depth) plan.now.stride }
+    requires within { index < length (states_of nfa.now) }
+    requires small { index ≤ greatest_index }
+    requires filled { IsFilled (parts_of nfa.now plan.now.firsts plan.now.numbers.items plan.now.row_depth) index filled.old }
+    ensures filled { OnOk result (IsFilled (parts_of nfa.now plan.now.firsts plan.now.numbers.items plan.now.row_depth) (index + 1) filled.new) }
+    ensures refused { IfErr result IsListRefused }
+{
+    if is_deep(nfa, index, plan.row_depth) {
+        add_record(filled, nfa, plan, index)
+    } else {
+        add_row(filled, nfa, plan, index)
+    }
+}
+
+/// The row of one state more.
+fn add_row(filled: &mut Filled, nfa: &NFA, plan: &Plan, index: usize) -> Result<(), BuildError>
+    requires plan { IsPlan (parts_of nfa.now plan.now.firsts plan.now.numbers.items plan.now.row_depth) plan.now.stride }
+    requires within { index < length (states_of nfa.now) }
+    requires small { index ≤ greatest_index }
+    requires shallow { IsShallow (parts_of nfa.now plan.now.firsts plan.now.numbers.items plan.now.row_depth) index }
+    requires filled { IsFilled (parts_of nfa.now plan.now.firsts plan.now.numbers.items plan.now.row_depth) index filled.old }
+    ensures filled { OnOk result (IsFilled (parts_of nfa.now plan.now.firsts plan.now.numbers.items plan.now.row_depth) (index + 1) filled.new) }
+    ensures refused { IfErr result IsListRefused }
+{
+    let sid = source_of(nfa.special(), index);
+    push_entries(&mut filled.entries, nfa, plan, sid)?;
+    let place = push_list(&mut filled.lists, nfa, sid)?;
+    push(&mut filled.entries, place)?;
+    filled.low = low_with(filled.low, filled.entries.len(), nfa.match_len(sid));
+    Ok(())
+}
+
+/// The record of one state more.
+fn add_record(filled: &mut Filled, nfa: &NFA, plan: &Plan, index: usize) -> Result<(), BuildError>
+    requires plan { IsPlan (parts_of nfa.now plan.now.firsts plan.now.numbers.items plan.now.row_depth) plan.now.stride }
+    requires within { index < length (states_of nfa.now) }
+    requires small { index ≤ greatest_index }
+    requires deep { IsDeepState (parts_of nfa.now plan.now.firsts plan.now.numbers.items plan.now.row_depth) index }
+    requires filled { IsFilled (parts_of nfa.now plan.now.firsts plan.now.numbers.items plan.now.row_depth) index filled.old }
+    ensures filled { OnOk result (IsFilled (parts_of nfa.now plan.now.firsts plan.now.numbers.items plan.now.row_depth) (index + 1) filled.new) }
+    ensures refused { IfErr result IsListRefused }
+{
+    let own = StateID::new_unchecked(index);
+    let sid = source_of(nfa.special(), index);
+    let list = push_list(&mut filled.lists, nfa, sid)?;
+    let place = index_of(filled.moves.len())?;
+    push_moves(&mut filled.moves, nfa.transitions(sid), &plan.numbers)?;
+    let record = Record {
+        link: number_at(&plan.numbers, nfa.fail(sid)),
+        list,
+        height: SmallIndex::new_unchecked(nfa.depth(own) - plan.row_depth),
+        place,
+        count: index_of(filled.moves.len() - place.as_usize())?,
+    };
+    push_record(&mut filled.deep, record)?;
+    let end = number_at(&plan.numbers, own).as_usize() + 1;
+    filled.deep_low = low_with(filled.deep_low, end, nfa.match_len(sid));
+    Ok(())
+}
+
+/// The words of a record.
+#[derive(Clone, Copy)]
+struct Record {
+    link: SmallIndex,
+    list: SmallIndex,
+    height: SmallIndex,
+    place: SmallIndex,
+    count: SmallIndex,
+}
+
+/// This record at the end of the records.
+fn push_record(deep: &mut Vec<SmallIndex>, words: Record) -> Result<(), BuildError>
+    ensures pushed { OnOk result (deep.new.items
+        ≡ deep.old.items ++ words.link ∷ words.list ∷ words.height ∷ words.place ∷ words.count ∷ []) }
+    ensures refused { IfErr result IsListRefused }
+{
+    push(deep, words.link)?;
+    push(deep, words.list)?;
+    push(deep, words.height)?;
+    push(deep, words.place)?;
+    push(deep, words.count)
+}
+
+/// The number of this state, and 0 where there is none.
+fn number_at(numbers: &[SmallIndex], sid: StateID) -> SmallIndex
+    ensures number { result ≡ number_at numbers.now sid }
+{
+    match numbers.get(sid.as_usize()) {
+        Some(number) => *number,
+        None => SmallIndex::new_unchecked(0),
+    }
+}
+
+/// These transitions at the end: for each its byte, and the number of the state that it leads to.
+fn push_moves(
+    moves: &mut Vec<SmallIndex>,
+    transitions: Transitions<'_>,
+    numbers: &[SmallIndex],
+) -> Result<(), BuildError>
+    ensures pushed { OnOk result (moves.new.items ≡ moves.old.items ++ flat numbers.now transitions.entry) }
+    ensures refused { IfErr result IsListRefused }
+{
+    for (byte, next) in transitions {
+        push_move(moves, byte, next, numbers)?;
+    }
+    Ok(())
+}
+
+/// This transition at the end, if it leads on.
+fn push_move(
+    moves: &mut Vec<SmallIndex>,
+    byte: u8,
+    next: StateID,
+    numbers: &[SmallIndex],
+) -> Result<(), BuildError>
+    ensures pushed { OnOk result (moves.new.items
+        ≡ moves.old.items ++ flat numbers.now ((byte, next) ∷ [])) }
+    ensures refused { IfErr result IsListRefused }
+{
+    if next == FAIL {
+        return Ok(());
+    }
+    push(moves, SmallIndex::new_unchecked(byte as usize))?;
+    push(moves, number_at(numbers, next))
 }
 
 /// The refusal of a number that is above the greatest index.
@@ -110,14 +390,6 @@ fn first_bytes(classes: &ByteClasses) -> [u8; 256]
     firsts
 }
 
-/// Where the row of a state of the `NFA` begins.
-fn place_of(sid: StateID, stride: usize) -> SmallIndex
-    requires within { sid * stride ≤ greatest_index }
-    ensures place { result ≡ sid * stride }
-{
-    SmallIndex::new_unchecked(sid.as_usize() * stride)
-}
-
 /// The state whose row stands at the place of this one: its own, and for FAIL and the anchored start, which no unanchored
 /// search holds, that of the unanchored start.
 fn source_of(special: &Special, index: usize) -> StateID
@@ -133,69 +405,6 @@ fn source_of(special: &Special, index: usize) -> StateID
     StateID::new_unchecked(index)
 }
 
-/// The rows of all states.
-fn filled_rows(alloc: Global, nfa: &NFA, firsts: &[u8], stride: usize) -> Result<Filled, BuildError>
-    requires stride { stride ≡ stride_of (classes_of nfa.now) }
-    requires small { length (states_of nfa.now) * stride ≤ greatest_index }
-    requires bounded { stride ≤ 257 }
-    requires firsts { length firsts.now ≡ 256 }
-    ensures filled { IfOk result (λ f. IsFilled (special_of nfa.now) (states_of nfa.now) (classes_of nfa.now) firsts.now
-        (length (states_of nfa.now)) f.entries.items f.lists.items f.low) }
-    ensures refused { IfErr result IsListRefused }
-{
-    let mut filled = Filled {
-        entries: Vec::new(alloc),
-        lists: Vec::new(alloc),
-        low: first_low(nfa, stride),
-    };
-    push(&mut filled.lists, SmallIndex::new_unchecked(0))?;
-    for index in 0..nfa.states_len() {
-        add_row(&mut filled, nfa, firsts, stride, index)?;
-    }
-    Ok(filled)
-}
-
-/// The number below which states are special whatever they list: DEAD's row and, where a search may skip from the start,
-/// the start's.
-fn first_low(nfa: &NFA, stride: usize) -> usize
-    requires stride { stride ≤ 257 }
-    ensures some { 0 < result }
-{
-    match nfa.prefilter() {
-        Some(_) => (nfa.special().start_unanchored_id.as_usize() + 1)
-            .saturating_mul(stride)
-            .max(1),
-        None => 1,
-    }
-}
-
-/// The row of one state more.
-fn add_row(
-    filled: &mut Filled,
-    nfa: &NFA,
-    firsts: &[u8],
-    stride: usize,
-    index: usize,
-) -> Result<(), BuildError>
-    requires stride { stride ≡ stride_of (classes_of nfa.now) }
-    requires small { length (states_of nfa.now) * stride ≤ greatest_index }
-    requires bounded { stride ≤ 257 }
-    requires firsts { length firsts.now ≡ 256 }
-    requires within { index < length (states_of nfa.now) }
-    requires filled { IsFilled (special_of nfa.now) (states_of nfa.now) (classes_of nfa.now) firsts.now
-        index filled.old.entries.items filled.old.lists.items filled.old.low }
-    ensures filled { OnOk result (IsFilled (special_of nfa.now) (states_of nfa.now) (classes_of nfa.now) firsts.now
-        (index + 1) filled.new.entries.items filled.new.lists.items filled.new.low) }
-    ensures refused { IfErr result IsListRefused }
-{
-    let sid = source_of(nfa.special(), index);
-    push_entries(&mut filled.entries, nfa, firsts, stride, sid)?;
-    let place = push_list(&mut filled.lists, nfa, sid)?;
-    push(&mut filled.entries, place)?;
-    filled.low = low_with(filled.low, filled.entries.len(), nfa.match_len(sid));
-    Ok(())
-}
-
 /// The number below which states are special, with one state more: its row ends here, and it lists so many patterns.
 fn low_with(low: usize, end: usize, listed: usize) -> usize
     ensures higher { low ≤ result }
@@ -208,22 +417,17 @@ fn low_with(low: usize, end: usize, listed: usize) -> usize
 fn push_entries(
     entries: &mut Vec<SmallIndex>,
     nfa: &NFA,
-    firsts: &[u8],
-    stride: usize,
+    plan: &Plan,
     sid: StateID,
 ) -> Result<(), BuildError>
-    requires stride { stride ≡ stride_of (classes_of nfa.now) }
-    requires small { length (states_of nfa.now) * stride ≤ greatest_index }
-    requires bounded { stride ≤ 257 }
-    requires firsts { length firsts.now ≡ 256 }
+    requires plan { IsPlan (parts_of nfa.now plan.now.firsts plan.now.numbers.items plan.now.row_depth) plan.now.stride }
     requires state { IsState (states_of nfa.now) sid }
-    ensures entries { OnOk result (HasEntries (states_of nfa.now) firsts.now stride sid
-        (class_count (classes_of nfa.now)) entries.old.items entries.new.items) }
+    ensures entries { OnOk result (HasEntries (parts_of nfa.now plan.now.firsts plan.now.numbers.items plan.now.row_depth) sid (class_count (classes_of nfa.now)) entries.old.items entries.new.items) }
     ensures refused { IfErr result IsListRefused }
 {
-    for class in 0..stride - 1 {
-        let next = nfa.next_state(Anchored::No, sid, firsts[class]);
-        push(entries, place_of(next, stride))?;
+    for class in 0..plan.stride - 1 {
+        let next = nfa.next_state(Anchored::No, sid, plan.firsts[class]);
+        push(entries, number_at(&plan.numbers, next))?;
     }
     Ok(())
 }

@@ -1,6 +1,6 @@
 //! The automaton.
 
-ghost use Rattle.std.specs.Prelude.{◌≡◌, ◌+◌, ◌<◌, ◌≤◌, ◌^◌, length, IfOk, IfErr};
+ghost use Rattle.std.specs.Prelude.{◌≡◌, ◌+◌, ◌<◌, ◌≤◌, ◌^◌, ℕ, length, IfOk, IfErr};
 ghost use Rattle.std.specs.Option.{option_map};
 ghost use Rattle.aho_base.specs.Laws.{shortest, longest};
 ghost use Rattle.aho_base.specs.Numbers.{greatest_index};
@@ -17,7 +17,10 @@ use aho_prefilter::prefilter::Prefilter;
 use aho_search::automaton::Automaton;
 use std::alloc::{AllocError, Global};
 
-/// The stated bytes of an entry of a row or a list, and of a pattern's length.
+/// How many bytes the rows of `from_nfa` take at most, but for those of the states without depth.
+pub const DEFAULT_BUDGET: usize = 320 * 1024;
+
+/// The stated bytes of a word of the states, and of a pattern's length.
 const ENTRY_BYTES: usize = 4;
 
 /// An automaton that is made from an `NFA` by what it tells of its states.
@@ -40,29 +43,46 @@ impl Hybrid {
     ghost use Rattle.aho_base.specs.Patterns.{Patterns};
     ghost use Rattle.aho_corasick.specs.Clones.{IsCloneOf};
     ghost use Rattle.aho_corasick.specs.ReadOut.{classes_of, states_of};
-    ghost use Rattle.aho_hybrid.specs.Filled.{IsRefused, rows_size};
+    ghost use Rattle.aho_hybrid.specs.Filled.{HasSizes, IsRefused, IsRowDepth, default_budget};
 
-    /// The automaton of all that the `NFA` is of.
+    /// The automaton of all that the `NFA` is of, with rows of at most `DEFAULT_BUDGET` bytes.
     ///
     /// # Errors
     ///
-    /// `OutOfMemory`, at any time; or `StateIDOverflow` where the rows have more entries than the greatest index, or the place
-    /// of a list is above it.
+    /// As those of `with_budget`.
     pub fn from_nfa(alloc: Global, nfa: &NFA) -> Result<Hybrid, BuildError>
         ensures of { IfOk result (λ made. (p : Patterns)
             → ⟦<NFA as Automaton>⟧.is_of nfa.now p → ⟦<Hybrid as Automaton>⟧.is_of made p) }
-        ensures rows { IfOk result (λ made.
-            length made.rows.rows ≡ rows_size (states_of nfa.now) (classes_of nfa.now)) }
         ensures held { IfOk result (λ made.
             ⟦<Hybrid as Automaton>⟧.prefilter made ≡ ⟦<NFA as Automaton>⟧.prefilter nfa.now) }
-        ensures refused { IfErr result (IsRefused (states_of nfa.now) (classes_of nfa.now)) }
+        ensures sized { IfOk result (λ made. (row_depth : ℕ)
+            × IsRowDepth (states_of nfa.now) (classes_of nfa.now) default_budget row_depth
+            × HasSizes (states_of nfa.now) (classes_of nfa.now) row_depth made.rows) }
+        ensures refused { IfErr result
+            (IsRefused (states_of nfa.now) (classes_of nfa.now) default_budget) }
+    {
+        Hybrid::with_budget(alloc, nfa, DEFAULT_BUDGET)
+    }
+
+    /// The automaton of all that the `NFA` is of. The states down to some depth have rows: the greatest depth with which the
+    /// rows take at most so many bytes, or 0.
+    pub fn with_budget(alloc: Global, nfa: &NFA, budget: usize) -> Result<Hybrid, BuildError>
+        ensures of { IfOk result (λ made. (p : Patterns)
+            → ⟦<NFA as Automaton>⟧.is_of nfa.now p → ⟦<Hybrid as Automaton>⟧.is_of made p) }
+        ensures held { IfOk result (λ made.
+            ⟦<Hybrid as Automaton>⟧.prefilter made ≡ ⟦<NFA as Automaton>⟧.prefilter nfa.now) }
+        ensures sized { IfOk result (λ made. (row_depth : ℕ)
+            × IsRowDepth (states_of nfa.now) (classes_of nfa.now) budget row_depth
+            × HasSizes (states_of nfa.now) (classes_of nfa.now) row_depth made.rows) }
+        ensures refused { IfErr result
+            (IsRefused (states_of nfa.now) (classes_of nfa.now) budget) }
     {
         let Ok(pattern_lens) = Vec::from_slice(alloc, nfa.pattern_lens()) else {
             return Err(BuildError::OutOfMemory);
         };
         Ok(Hybrid {
             match_kind: nfa.match_kind(),
-            rows: rows_of(alloc, nfa)?,
+            rows: rows_of(alloc, nfa, budget)?,
             pattern_lens,
             min_pattern_len: nfa.min_pattern_len(),
             max_pattern_len: nfa.max_pattern_len(),
@@ -90,11 +110,11 @@ impl Hybrid {
 }
 
 impl Automaton for Hybrid {
-    ghost use Rattle.std.specs.Prelude.{ℕ, IfSome, nat_eq, nat_lt, refl};
+    ghost use Rattle.std.specs.Prelude.{ℕ, IfSome, nat_eq};
     ghost use Rattle.aho_base.specs.Patterns.{Patterns};
     ghost use Rattle.aho_prefilter.specs.Prefilter.{IsPrefilterOf};
-    ghost use Rattle.aho_hybrid.specs.Layout.{IsStateIn, IsHeldIn, next_in, list_in, start_in, memory_in};
-    ghost use Rattle.aho_hybrid.specs.Reading.{IsLayoutOf, reads_of, plain_of};
+    ghost use Rattle.aho_hybrid.specs.Layout.{IsStateIn, IsHeldIn, depth_in, is_special_in, lookups_in, next_in, list_in, start_in, memory_in};
+    ghost use Rattle.aho_hybrid.specs.Reading.{IsLayoutOf, reads_of, plain_of, dead_shallow_of, starts_shallow_of};
 
     ghost is_of = { λ h p. IsLayoutOf h.rows p h.match_kind h.pattern_lens.items
         × IfSome h.prefilter (λ searcher. IsPrefilterOf searcher p) };
@@ -111,15 +131,15 @@ impl Automaton for Hybrid {
 
     ghost dead = { λ h sid. nat_eq sid 0 };
 
-    ghost special = { λ h sid. nat_lt sid h.rows.low };
+    ghost special = { λ h sid. is_special_in h.rows sid };
 
     ghost starts = { λ h sid. nat_eq sid h.rows.start };
 
-    ghost depth = { λ h sid. 0 };
+    ghost depth = { λ h sid. depth_in h.rows sid };
 
     ghost next = { λ h anchored sid byte. next_in h.rows sid byte };
 
-    ghost lookups = { λ h p anchored word byte. 1 };
+    ghost lookups = { λ h p anchored word byte. lookups_in h.rows word byte };
 
     ghost start = { λ h anchored. start_in h.rows anchored };
 
@@ -135,13 +155,13 @@ impl Automaton for Hybrid {
     }
 
     fn next_state(&self, _anchored: Anchored, sid: StateID, byte: u8) -> StateID {
-        self.rows.next(sid, byte)
+        let mut work = Work::new();
+        self.rows.step(sid, byte, &mut work)
     }
 
     #[inline(always)]
     fn step(&self, _anchored: Anchored, sid: StateID, byte: u8, work: &mut Work) -> StateID {
-        work.tick();
-        self.rows.next(sid, byte)
+        self.rows.step(sid, byte, work)
     }
 
     fn is_special(&self, sid: StateID) -> bool {
@@ -193,7 +213,8 @@ impl Automaton for Hybrid {
     }
 
     fn memory_usage(&self) -> usize {
-        ENTRY_BYTES * (self.rows.entries.len() + self.rows.lists.len() + self.pattern_lens.len())
+        let states = self.rows.entries.len() + self.rows.deep.len() + self.rows.moves.len();
+        ENTRY_BYTES * (states + self.rows.lists.len() + self.pattern_lens.len())
             + bytes_of(&self.prefilter)
     }
 
@@ -201,9 +222,9 @@ impl Automaton for Hybrid {
 
     ghost plain = { λ h sid valid. plain_of h.rows h.sound sid };
 
-    ghost dead_shallow = { λ h sid valid dead. refl };
+    ghost dead_shallow = { λ h sid valid. dead_shallow_of h.rows h.sound sid };
 
-    ghost starts_shallow = { λ h sid valid starts. refl };
+    ghost starts_shallow = { λ h sid valid. starts_shallow_of h.rows h.sound sid };
 
     ghost prefilters = { λ h p of. of.1 };
 }

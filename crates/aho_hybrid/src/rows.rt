@@ -1,24 +1,33 @@
-//! Rows: for each state an entry for each class of bytes, so that a step is one look, and one more for the state's list.
+//! The states of a `Hybrid`. Those near the start have rows: an entry for each class of bytes, so that a step is one look, and
+//! one more for the state's list. Deeper ones have records: a link, and a transition for each byte that they take.
 
-ghost use Rattle.std.specs.Prelude.{◌≡◌, ◌+◌, ◌*◌, ◌<◌, ◌≤◌, length, nat_lt, slice_get, Some, IfOk};
+ghost use Rattle.std.specs.Prelude.{◌≡◌, ◌+◌, ◌*◌, ◌<◌, ◌≤◌, ◌^◌, length, nat_lt, slice_get, take, drop, Some, IfOk};
 ghost use Rattle.aho_base.specs.Numbers.{greatest_index};
-ghost use Rattle.aho_hybrid.specs.Layout.{IsSoundLayout, IsStateIn, next_in, list_in, list_place};
+ghost use Rattle.aho_hybrid.specs.Layout.{HasRow, IsDeep, IsSoundLayout, IsStateIn, child_in, child_of, depth_in, link_in, next_in, list_in, list_place, looks_in, is_special_in, entry_in, record_size, word_in};
 
-use aho_base::search::{PatternID, SmallIndex, StateID};
+use aho_base::search::{PatternID, SmallIndex, StateID, Work};
 use aho_table::alphabet::ByteClasses;
 use std::alloc::AllocError;
 use std::marker::Model;
 
-/// The rows of all states, one behind the other. A state's number is the place where its row begins.
+/// The states. One with a row is numbered by the place where its row begins, and a deeper one by the place of its record, counted
+/// on from the end of the rows.
 #[derive(Drop)]
 pub struct Rows {
     pub(crate) classes: ByteClasses,
     pub(crate) entries: Vec<SmallIndex>,
+    /// For each deep state five words: its link, the place of its list, its height above the rows, and the place and the number
+    /// of the words of its transitions.
+    pub(crate) deep: Vec<SmallIndex>,
+    /// For each transition of a deep state its byte, and the state that it leads to.
+    pub(crate) moves: Vec<SmallIndex>,
     /// For each list its length, and then its patterns.
     pub(crate) lists: Vec<SmallIndex>,
     pub(crate) start: StateID,
-    /// The states below this number are special.
+    /// The states with rows are special below this number.
     pub(crate) low: usize,
+    /// The deep states are special below this number.
+    pub(crate) deep_low: usize,
 }
 
 impl Model for Rows {
@@ -28,15 +37,18 @@ impl Model for Rows {
 
     ghost view = { λ r. record {
       rows = r.entries.items;
+      deep = r.deep.items;
+      moves = r.moves.items;
       lists = r.lists.items;
       classes = r.classes;
       start = r.start;
       low = r.low;
+      deep_low = r.deep_low;
     } };
 }
 
 impl Rows {
-    /// The same rows once more.
+    /// The same states once more.
     ///
     /// # Errors
     ///
@@ -47,9 +59,12 @@ impl Rows {
         Ok(Rows {
             classes: self.classes.copy(),
             entries: self.entries.clone()?,
+            deep: self.deep.clone()?,
+            moves: self.moves.clone()?,
             lists: self.lists.clone()?,
             start: self.start,
             low: self.low,
+            deep_low: self.deep_low,
         })
     }
 
@@ -60,24 +75,96 @@ impl Rows {
         self.start
     }
 
-    /// Where the byte leads.
+    /// Where the byte leads, with the look-ups added to the work: one where the state has a row.
     #[inline(always)]
-    pub fn next(&self, sid: StateID, byte: u8) -> StateID
+    pub fn step(&self, sid: StateID, byte: u8, work: &mut Work) -> StateID
         requires sound { IsSoundLayout self.now }
         requires state { IsStateIn self.now sid }
+        requires room { work.old + depth_in self.now sid + 2 < 2 ^ 128 }
         ensures next { result ≡ next_in self.now sid byte }
-        ensures state { IsStateIn self.now result }
+        ensures counted { work.new ≡ work.old + looks_in self.now sid byte }
+    {
+        if sid.as_usize() < self.entries.len() {
+            work.tick();
+            return self.row_entry(sid, byte);
+        }
+        self.deep_step(sid, byte, work)
+    }
+
+    /// Where the byte leads from a state with a row.
+    #[inline(always)]
+    fn row_entry(&self, sid: StateID, byte: u8) -> StateID
+        requires sound { IsSoundLayout self.now }
+        requires row { HasRow self.now sid }
+        ensures entry { result ≡ entry_in self.now sid byte }
     {
         let entry = self.entries[sid.as_usize() + self.classes.get(byte) as usize];
         StateID::new_unchecked(entry.as_usize())
     }
 
+    /// Where the byte leads from a deep state: down the links until a state takes it.
+    fn deep_step(&self, from: StateID, byte: u8, work: &mut Work) -> StateID
+        requires sound { IsSoundLayout self.now }
+        requires state { IsStateIn self.now from }
+        requires room { work.old + depth_in self.now from + 2 < 2 ^ 128 }
+        ensures next { result ≡ next_in self.now from byte }
+        ensures counted { work.new ≡ work.old + looks_in self.now from byte }
+    {
+        let mut sid = from;
+        'links: loop {
+            work.tick();
+            if sid.as_usize() < self.entries.len() {
+                return self.row_entry(sid, byte);
+            }
+            if let Some(next) = self.child(sid, byte) {
+                return next;
+            }
+            sid = self.link(sid);
+        }
+    }
+
+    /// A word of a deep state's record.
+    #[inline(always)]
+    fn word(&self, sid: StateID, index: usize) -> usize
+        requires deep { IsDeep self.now sid }
+        requires within { index < record_size }
+        ensures word { result ≡ word_in self.now sid index }
+        ensures bound { result ≤ greatest_index }
+    {
+        self.deep[sid.as_usize() - self.entries.len() + index].as_usize()
+    }
+
+    /// The link of a deep state.
+    #[inline(always)]
+    fn link(&self, sid: StateID) -> StateID
+        requires deep { IsDeep self.now sid }
+        ensures link { result ≡ link_in self.now sid }
+    {
+        StateID::new_unchecked(self.word(sid, 0))
+    }
+
+    /// Where a deep state's own transition for the byte leads, if it has one.
+    #[inline(always)]
+    fn child(&self, sid: StateID, byte: u8) -> Option<StateID>
+        requires sound { IsSoundLayout self.now }
+        requires deep { IsDeep self.now sid }
+        ensures child { result ≡ child_in self.now sid byte }
+    {
+        let place = self.word(sid, 3);
+        let count = self.word(sid, 4);
+        child_of(&self.moves[place..place + count], byte)
+    }
+
     /// Whether a search has to look at the state.
     #[inline(always)]
     pub fn is_special(&self, sid: StateID) -> bool
-        ensures special { result ≡ nat_lt sid self.now.low }
+        ensures special { result ≡ is_special_in self.now sid }
     {
-        sid.as_usize() < self.low
+        if sid.as_usize() < self.entries.len() {
+            sid.as_usize() < self.low
+        } else {
+            sid.as_usize() < self.deep_low
+        }
     }
 
     /// Where the list of a state stands.
@@ -87,7 +174,11 @@ impl Rows {
         ensures place { result ≡ list_place self.now sid }
         ensures bound { result ≤ greatest_index }
     {
-        self.entries[sid.as_usize() + self.classes.alphabet_len()].as_usize()
+        if sid.as_usize() < self.entries.len() {
+            self.entries[sid.as_usize() + self.classes.alphabet_len()].as_usize()
+        } else {
+            self.word(sid, 1)
+        }
     }
 
     /// How many patterns the state lists.
@@ -112,4 +203,17 @@ impl Rows {
         let pattern = self.lists[self.list_place(sid) + 1 + index];
         PatternID::new_unchecked(pattern.as_usize())
     }
+}
+
+/// Where the first of these transitions for the byte leads: they are bytes, each with the state behind it.
+#[inline(always)]
+fn child_of(moves: &[SmallIndex], byte: u8) -> Option<StateID>
+    ensures child { result ≡ child_of moves.now byte }
+{
+    for index in 0..moves.len() / 2 {
+        if moves[2 * index].as_usize() == byte as usize {
+            return Some(StateID::new_unchecked(moves[2 * index + 1].as_usize()));
+        }
+    }
+    None
 }

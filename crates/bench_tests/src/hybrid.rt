@@ -32,7 +32,7 @@ fn hybrid_of(
     ensures of { (p : Patterns) × ⟦<Hybrid as Automaton>⟧.is_of result p }
 {
     let nfa = nfa_with(rt, alloc, words, kind, ignore_case, prefilter, 1);
-    Hybrid::from_nfa(alloc, &nfa).expect(rt, "an automaton")
+    Hybrid::with_budget(alloc, &nfa, 300).expect(rt, "an automaton")
 }
 
 /// The unanchored searches of a span answer what the plain program does.

@@ -1,11 +1,12 @@
 -- The clone has equal rows, equal lengths and an equal prefilter.
-use Rattle.std.proofs.Common.{◌≡◌, ℕ, List, Option, Bool, rules, nat_eq, nat_lt, sym, ap, subst, ◌∙◌}
+use Rattle.std.proofs.Common.{◌≡◌, ℕ, List, Option, Bool, rules, nat_eq, sym, ap, subst, ◌∙◌}
 use Rattle.std.specs.List.{each_same}
 use Rattle.std.specs.Prelude.{IfSome}
+use Rattle.aho_base.specs.Patterns.{Patterns}
 use Rattle.aho_base.specs.declared.search.Anchored.{Anchored}
 use Rattle.aho_prefilter.specs.Prefilter.{IsPrefilterOf}
 use Rattle.aho_prefilter.specs.declared.prefilter.Searcher.{Searcher}
-use Rattle.aho_hybrid.specs.Layout.{IsHeldIn, IsStateIn, Layout, list_in, memory_in, next_in, start_in}
+use Rattle.aho_hybrid.specs.Layout.{IsHeldIn, IsStateIn, Layout, depth_in, is_special_in, list_in, lookups_in, memory_in, next_in, start_in}
 use Rattle.aho_hybrid.specs.Reading.{IsLayoutOf}
 use Rattle.aho_hybrid.proofs.hybrid.Hybrid.try_clone.Goals as goal
 
@@ -15,7 +16,7 @@ returns c =
     let rows : c.in_ok-try_clone.field-0 ≡ own.rows = c.in_ok-try_clone.ensures.same in
     let lens : c.in_ok-clone.field-0.items ≡ own.pattern_lens.items = each_same own.pattern_lens.items c.in_ok-clone.field-0.items c.in_ok-clone.ensures.cases.0 in
     let held : c.in_ok-copy_of.field-0 ≡ own.prefilter = c.in_ok-copy_of.ensures.same in
-    let special : Layout → ℕ → Bool = λ t sid. nat_lt sid t.low in
+    let looks : Layout → Patterns → Anchored → List ℕ → ℕ → ℕ = λ t p anchored. lookups_in t in
     let starts : Layout → ℕ → Bool = λ t sid. nat_eq sid t.start in
     let next : Layout → Anchored → ℕ → ℕ → ℕ = λ t anchored. next_in t in
     record {
@@ -36,11 +37,11 @@ returns c =
         same_lengths = lens;
         same_list = ap list_in rows;
         same_dead = search rules;
-        same_special = ap special rows;
+        same_special = ap is_special_in rows;
         same_starts = ap starts rows;
-        same_depth = search rules;
+        same_depth = ap depth_in rows;
         same_next = ap next rows;
-        same_lookups = search rules;
+        same_lookups = ap looks rows;
         same_start = ap start_in rows;
         same_memory =
             ap (λ (t : Layout). memory_in t c.in_ok-clone.field-0.items c.in_ok-copy_of.field-0) rows

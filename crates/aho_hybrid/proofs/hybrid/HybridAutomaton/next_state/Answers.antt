@@ -1,10 +1,20 @@
-use Rattle.aho_hybrid.specs.Reading.{dead-next, held-next}
-use Rattle.std.proofs.Common.{◌∙◌, ap, arith, nat_eq}
+use Rattle.aho_hybrid.specs.Layout.{IsStateIn, depth_in}
+use Rattle.aho_hybrid.specs.Reading.{dead-next, held-next, next-paid, next-state}
+use Rattle.std.proofs.Common.{◌≡◌, ◌<◌, ◌∙◌, ℕ, ap, arith, nat_eq, subst, sym}
 use Rattle.aho_hybrid.proofs.hybrid.HybridAutomaton.next_state.Goals as goal
+
+pub step-requires-clause-room : goal.step-requires-clause-room
+step-requires-clause-room c = omega (arith, c.new-work.ensures.none, c.args.self.now.sound.shallow c.args.sid c.requires.valid)
+
+pub returns-clause-valid : goal.returns-clause-valid
+returns-clause-valid c =
+    let rows = c.args.self.now.rows in
+    let small : c.args.byte < 256 = omega (arith, c.ranges.byte) in
+    subst (IsStateIn rows) (sym c.step.ensures.next) (next-state rows c.args.self.now.sound c.args.sid c.args.byte small c.requires.valid)
 
 pub returns-clause-goes_on : goal.returns-clause-goes_on
 returns-clause-goes_on c p of word held =
-    held-next c.args.self.now.rows c.args.self.now.sound c.args._anchored word c.args.sid c.args.byte c.next.result (omega (arith, c.ranges.byte)) c.next.ensures.next held
+    held-next c.args.self.now.rows c.args.self.now.sound c.args._anchored word c.args.sid c.args.byte c.step.result (omega (arith, c.ranges.byte)) c.step.ensures.next held
 
 pub returns-clause-dead_stays : goal.returns-clause-dead_stays
-returns-clause-dead_stays c dead = ap (λ n. nat_eq n 0) c.next.ensures.next ∙ dead-next c.args.self.now.rows c.args.self.now.sound c.args.sid c.args.byte dead
+returns-clause-dead_stays c dead = ap (λ (n : ℕ). nat_eq n 0) c.step.ensures.next ∙ dead-next c.args.self.now.rows c.args.self.now.sound c.args.sid c.args.byte dead

@@ -1,0 +1,243 @@
+-- The states that were laid out are an automaton of the same patterns: what they stand for.
+use Rattle.std.proofs.Common.{◌≡◌, ◌≢◌, ◌⊎◌, ℕ, zero, suc, ◌+◌, ◌*◌, ◌<◌, ◌≤◌, ◌||◌, Bool, true, false, cond, List, [], ◌∷◌, ◌++◌, length, map, get_or, nat_eq, refl, sym, ap, subst, ◌∙◌, inl, inr, arith, ne_eqb, eq-eqb, eqb-true, append_assoc}
+use Rattle.std.specs.Prelude.{Option, Some, None, is_none, nat_lt}
+use Rattle.std.specs.List.{All}
+use Rattle.std.proofs.lemmas.Bool.{cases_Bool, cases_eq, cases_order, cond-true, cond-false, le-ltb}
+use Rattle.std.proofs.lemmas.Bool.Decides.{nat_tests}
+use Rattle.std.proofs.lemmas.List.{append-nil}
+use Rattle.std.proofs.lemmas.List.Elements.{All-head, All-tail}
+use Rattle.aho_base.specs.Bytes.{folded}
+use Rattle.aho_base.specs.Held.{held_after}
+use Rattle.aho_base.specs.MatchList.{matches_of}
+use Rattle.aho_base.specs.Patterns.{Patterns}
+use Rattle.aho_base.specs.Step.{follow}
+use Rattle.aho_base.specs.declared.search.Anchored.TheVariants.{No}
+use Rattle.aho_base.specs.declared.search.MatchKind.{MatchKind}
+use Rattle.aho_build.proofs.AutomatonStates.{held-dead, held-failed, held-lists, held-taken}
+use Rattle.aho_build.proofs.LinkedNodes.{named-ne_dead, named-state, state-named}
+use Rattle.aho_build.proofs.NamesOfTries.{name_at-below}
+use Rattle.aho_build.specs.Automaton.{IsAutomaton}
+use Rattle.aho_build.specs.Dense.{HasBorders}
+use Rattle.aho_build.specs.StateNames.{IsStateOf, name_at}
+use Rattle.aho_build.specs.Walking.{AreStarts, IsSound, IsState, links_left, step_in}
+use Rattle.aho_laws.proofs.StepLaw.{held_after-push}
+use Rattle.aho_table.proofs.Classes.{class_of-count}
+use Rattle.aho_table.specs.Alphabet.{class_count, class_of}
+use Rattle.aho_table.specs.Table.{State, depth_in, fail_in, matches_in, next_in, state_at}
+use Rattle.aho_hybrid.proofs.Alike.{follows, step-alike}
+use Rattle.aho_hybrid.proofs.Counting.{row-before, rows_below}
+use Rattle.aho_hybrid.proofs.Filling.{in-row}
+use Rattle.aho_hybrid.proofs.Listed.{list-at}
+use Rattle.aho_hybrid.proofs.Made.{child-of, deep-of, dense, entry-of, layout, link-of, number-dead, number-deep, number-row, place-of, root-shallow, row-of, sound-layout, state-of}
+use Rattle.aho_hybrid.proofs.Stepping.{told-none, told-some}
+use Rattle.aho_hybrid.specs.declared.fill.Filled.{Filled}
+use Rattle.aho_hybrid.specs.Filled.{AreFirst, IsDeepState, IsFilled, IsPlan, IsShallow, Parts, is_deep, leads_in, number_in, row_in, source_of}
+use Rattle.aho_hybrid.specs.Layout.{IsSoundLayout, Layout, along, child_in, depth_in as height_in, entry_in, is_row, is_special_in, link_in, list_from, list_in, list_place, next_in as led_in, run_from, stride_of}
+use Rattle.aho_hybrid.specs.Reading.{IsLayoutOf, along-child, along-link, along-row, deep-test, row-test}
+
+module _ (plan : Parts) (words : ℕ) (planned : IsPlan plan words) (filled : Filled) (done : IsFilled plan (length plan.states) filled)
+    (starts : AreStarts plan.special plan.states) (sound : IsSound plan.states) (soundly : IsSoundLayout (layout plan words planned filled done starts sound))
+    (first : AreFirst plan.classes plan.firsts)
+    (p : Patterns) (names : List (Option (List ℕ))) (a : IsAutomaton plan.special p names plan.states) (borders : HasBorders p plan.classes) where
+  abbrev t : Layout
+  t = layout plan words planned filled done starts sound
+
+  abbrev start : ℕ
+  start = plan.special.start_unanchored_id
+
+  abbrev size : ℕ
+  size = length plan.states
+
+  -- ---- the states of words
+
+  -- they are there
+  of-state : (state : Option (List ℕ)) (s : ℕ) → IsStateOf names state s → IsState plan.states s
+  of-state None s dead = subst (IsState plan.states) (sym dead) sound.dead_state
+  of-state (Some word) s named =
+      (omega (arith, a.nodes.sized, name_at-below names s word named), λ e. (let clash : None ≡ Some word = sym a.nodes.fail ∙ sym (ap (name_at names) e) ∙ named in cc))
+
+  -- and stand at their own places
+  own-place : (state : Option (List ℕ)) (s : ℕ) → IsStateOf names state s → source_of plan s ≡ s
+  own-place None s dead = ap (source_of plan) dead ∙ sym dead
+  own-place (Some word) s named =
+      cond-false {A = ℕ} (nat_eq s 0) 0 (cond (nat_eq s 1 || nat_eq s plan.special.start_anchored_id) start s) (ne_eqb s 0 (named-ne_dead start p names plan.states a.nodes s word named))
+      ∙ cond-false {A = ℕ} (nat_eq s 1 || nat_eq s plan.special.start_anchored_id) start s neither
+    where
+      not_fail : s ≢ 1
+      not_fail e = let clash : None ≡ Some word = sym a.nodes.fail ∙ sym (ap (name_at names) e) ∙ named in cc
+
+      not_anchored : s ≢ plan.special.start_anchored_id
+      not_anchored e = let clash : None ≡ Some word = sym a.anchored.unnamed ∙ sym (ap (name_at names) e) ∙ named in cc
+
+      neither : (nat_eq s 1 || nat_eq s plan.special.start_anchored_id) ≡ false
+      neither = ap (λ (b : Bool). b || nat_eq s plan.special.start_anchored_id) (ne_eqb s 1 not_fail) ∙ ne_eqb s plan.special.start_anchored_id not_anchored
+
+  -- the number is that of a state of the word, or of none
+  abbrev Stands : Option (List ℕ) → ℕ → Type 0
+  Stands state sid = (s : ℕ) × (sid ≡ number_in plan s) × IsStateOf names state s
+
+  -- ---- where a byte leads
+
+  from-row : (byte left s : ℕ) (state : Option (List ℕ)) → byte < 256 → IsStateOf names state s → 0 < left → IsShallow plan s → Stands (follow p No state (folded p byte)) (along t byte left (number_in plan s))
+  from-row byte left s state small is some shallow =
+      let class : ℕ = class_of plan.classes byte in
+      let within = class_of-count plan.classes byte in
+      let below = (of-state state s is).0 in
+      let step = done.rows.step s class below shallow within in
+      let own = own-place state s is in
+      let led = along-row t byte left (number_in plan s) (row-test t (number_in plan s) (row-of plan words planned filled done starts sound s below shallow)) some in
+      let named = (state-named start p names plan.states a.nodes state s is).0 in
+      let same : step_in plan.states No s (get_or plan.firsts class 0) ≡ step_in plan.states No s byte =
+      step-alike plan.special p names plan.states a plan.classes borders (get_or plan.firsts class 0) byte step.small small (first.of_class byte small) (links_left plan.states s + 1) s named in (
+        step_in plan.states No s byte,
+        led.0 ∙ entry-of plan words planned filled done starts sound s class below shallow within ∙ ap (λ (n : ℕ). number_in plan (leads_in plan n class)) own ∙ ap (number_in plan) same,
+        follows plan.special p names plan.states a sound byte (links_left plan.states s + 1) s state small (omega arith) (of-state state s is) is,
+      )
+
+  from-deep : (byte left s : ℕ) (state : Option (List ℕ)) → byte < 256 → IsStateOf names state s → height_in t (number_in plan s) < left + 1 → IsDeepState plan s
+      → ((further : Option (List ℕ)) (next : ℕ) → IsStateOf names further next → height_in t (number_in plan next) < left → Stands (follow p No further (folded p byte)) (along t byte left (number_in plan next)))
+      → Stands (follow p No state (folded p byte)) (along t byte (suc left) (number_in plan s))
+  from-deep byte left s state small is less deep rest =
+      let below = (of-state state s is).0 in
+      let own = own-place state s is in
+      let sid : ℕ = number_in plan s in
+      let is_deep_too = deep-of plan words planned filled done starts sound s below deep in
+      let test = deep-test t sid is_deep_too in
+      let child = child-of plan words planned filled done starts sound s byte below deep in
+      let leads : next_in plan.states (source_of plan s) byte ≡ next_in plan.states s byte = ap (λ (n : ℕ). next_in plan.states n byte) own in
+      elim (cases_eq (next_in plan.states s byte) 1) [
+        | inr some ↦
+            let taken = child ∙ told-some plan.numbers (next_in plan.states (source_of plan s) byte) (λ e. some (sym leads ∙ e)) in
+            let led = along-child t byte (suc left) sid (number_in plan (next_in plan.states (source_of plan s) byte)) test taken (omega arith) in
+            (next_in plan.states s byte, led.0 ∙ ap (number_in plan) leads, (held-taken plan.special p names plan.states a No state s byte small is some).0)
+        | inl none ↦
+            let missing : child_in t sid byte ≡ None = child ∙ told-none plan.numbers (next_in plan.states (source_of plan s) byte) (leads ∙ none) in
+            let led = along-link t byte left sid test missing in
+            let link : link_in t sid ≡ number_in plan (fail_in plan.states s) = link-of plan words planned filled done starts sound s below deep ∙ ap (λ (n : ℕ). number_in plan (fail_in plan.states n)) own in
+            let further = held-failed plan.special p names plan.states a No state s byte refl small is none in
+            let nearer = (soundly.in_deep.link sid byte is_deep_too small missing).1 in
+            let there = rest further.0 (fail_in plan.states s) further.1 (omega (arith, ap (height_in t) link, nearer, less)) in (
+              there.0,
+              led.0 ∙ ap (along t byte left) link ∙ there.1,
+              subst (λ (o : Option (List ℕ)). IsStateOf names o there.0) (sym further.2) there.2,
+            )
+      ]
+
+  -- along the links a byte leads as it leads from word to word
+  stands-along : (byte left s : ℕ) (state : Option (List ℕ)) → byte < 256 → IsStateOf names state s → height_in t (number_in plan s) < left → Stands (follow p No state (folded p byte)) (along t byte left (number_in plan s))
+  stands-along byte zero s state small is less = absurd (omega (arith, less))
+  stands-along byte (suc left) s state small is less =
+      elim (cases_Bool (is_deep plan.row_depth (state_at plan.states s))) [
+        | inr shallow ↦ from-row byte (suc left) s state small is (omega arith) shallow
+        | inl deep ↦ from-deep byte left s state small is (omega (arith, less)) deep (λ further next named near. stands-along byte left next further small named near)
+      ]
+
+  stands-next : (byte sid : ℕ) (state : Option (List ℕ)) → byte < 256 → Stands state sid → Stands (follow p No state (folded p byte)) (led_in t sid byte)
+  stands-next byte sid state small stands =
+      subst (λ (n : ℕ). Stands (follow p No state (folded p byte)) (led_in t n byte)) (sym stands.1)
+      (stands-along byte (height_in t (number_in plan stands.0) + 1) stands.0 state small stands.2 (omega arith))
+
+  stands-run : (before word : List ℕ) (sid : ℕ) → All (λ (b : ℕ). b < 256) word → Stands (held_after p No before) sid → Stands (held_after p No (before ++ word)) (run_from t sid word)
+  stands-run before [] sid small stands = subst (λ (w : List ℕ). Stands (held_after p No w) sid) (sym (append-nil before)) stands
+  stands-run before (x ∷ word) sid small stands =
+      let byte = All-head (λ (b : ℕ). b < 256) x word small in
+      let next = stands-next x sid (held_after p No before) byte stands in
+      let pushed = subst (λ (o : Option (List ℕ)). Stands o (led_in t sid x)) (sym (held_after-push p No before x)) next in
+      subst (λ (w : List ℕ). Stands (held_after p No w) (run_from t (led_in t sid x) word)) (append_assoc before (x ∷ []) word)
+      (stands-run (before ++ x ∷ []) word (led_in t sid x) (All-tail (λ (b : ℕ). b < 256) x word small) pushed)
+
+  stands-word : (word : List ℕ) → All (λ (b : ℕ). b < 256) word → Stands (held_after p No word) (run_from t t.start word)
+  stands-word word small = stands-run [] word t.start small (start, refl, a.nodes.root)
+
+  -- ---- what they list, and which is dead or the start
+
+  lists-own : (s : ℕ) → s < size → source_of plan s ≡ s → list_in t (number_in plan s) ≡ matches_in plan.states s
+  lists-own s below own =
+      let at = place-of plan words planned filled done starts sound s below in
+      let there : list_from t.lists (list_place t (number_in plan s)) ≡ matches_in plan.states s =
+      ap (list_from t.lists) at.1 ∙ list-at t.lists at.0 (matches_in plan.states (source_of plan s)) at.2 ∙ ap (matches_in plan.states) own in
+      elim (cases_Bool (is_special_in t (number_in plan s))) [
+        | inl special ↦ cond-true (is_special_in t (number_in plan s)) (list_from t.lists (list_place t (number_in plan s))) [] special ∙ there
+        | inr plain ↦
+            cond-false (is_special_in t (number_in plan s)) (list_from t.lists (list_place t (number_in plan s))) [] plain
+            ∙ sym (ap (matches_in plan.states) (sym own) ∙ unlisted plain)
+      ]
+    where
+      unlisted : is_special_in t (number_in plan s) ≡ false → matches_in plan.states (source_of plan s) ≡ []
+      unlisted plain =
+          elim (cases_Bool (is_deep plan.row_depth (state_at plan.states s))) [
+            | inl deep ↦
+                let test = deep-test t (number_in plan s) (deep-of plan words planned filled done starts sound s below deep) in
+                let high : nat_lt (number_in plan s) t.deep_low ≡ false = sym (cond-false (is_row t (number_in plan s)) (nat_lt (number_in plan s) t.low) (nat_lt (number_in plan s) t.deep_low) test) ∙ plain in
+                done.records.others s below deep (grind (arith, nat_tests))
+            | inr shallow ↦
+                let test = row-test t (number_in plan s) (row-of plan words planned filled done starts sound s below shallow) in
+                let high : nat_lt (number_in plan s) t.low ≡ false = sym (cond-true (is_row t (number_in plan s)) (nat_lt (number_in plan s) t.low) (nat_lt (number_in plan s) t.deep_low) test) ∙ plain in
+                let same = number-row plan words planned filled done starts sound s below shallow in
+                done.rows.others s below shallow (grind (arith, nat_tests))
+          ]
+
+  stands-lists : (state : Option (List ℕ)) (sid : ℕ) → Stands state sid → list_in t sid ≡ matches_of p state
+  stands-lists state sid stands =
+      ap (list_in t) stands.1
+      ∙ lists-own stands.0 (of-state state stands.0 stands.2).0 (own-place state stands.0 stands.2)
+      ∙ held-lists plan.special p names plan.states a No state stands.0 stands.2
+
+  -- two states of which one has a row have different numbers
+  apart : (s r : ℕ) → s < size → r < size → IsShallow plan r → number_in plan s ≡ number_in plan r → s ≡ r
+  apart s r below within shallow same =
+      let at = number-row plan words planned filled done starts sound r within shallow in
+      let inside = (row-of plan words planned filled done starts sound r within shallow).within in
+      elim (cases_Bool (is_deep plan.row_depth (state_at plan.states s))) [
+        | inl deep ↦ absurd (omega (arith, number-deep plan words planned filled done starts sound s below deep, inside, same))
+        | inr own ↦
+            let is = number-row plan words planned filled done starts sound s below own in
+            elim (cases_order s r) [
+              | inl equal ↦ equal
+              | inr other ↦
+                  elim other [
+                    | inl before ↦
+                        absurd
+                        (omega
+                        (arith, in-row (rows_below plan.row_depth plan.states s) 0 (rows_below plan.row_depth plan.states r) (stride_of plan.classes) (row-before plan.row_depth plan.states s r before (omega (arith, within)) own) (omega arith), is, at, same))
+                    | inr behind ↦
+                        absurd
+                        (omega
+                        (arith, in-row (rows_below plan.row_depth plan.states r) 0 (rows_below plan.row_depth plan.states s) (stride_of plan.classes) (row-before plan.row_depth plan.states r s behind (omega (arith, below)) shallow) (omega arith), is, at, same))
+                  ]
+            ]
+      ]
+
+  dead-apart : (s : ℕ) → s < size → nat_eq (number_in plan s) 0 ≡ nat_eq s 0
+  dead-apart s below =
+      let zero_at = number-dead plan words planned filled done starts sound in
+      elim (cases_eq s 0) [
+        | inl dead ↦ ap (λ (n : ℕ). nat_eq (number_in plan n) 0) dead ∙ ap (λ (n : ℕ). nat_eq n 0) zero_at ∙ sym (ap (λ (n : ℕ). nat_eq n 0) dead)
+        | inr alive ↦
+            ne_eqb (number_in plan s) 0
+            (λ e. alive (apart s 0 below sound.dead_state.0 (le-ltb plan.row_depth (depth_in plan.states 0) (omega (arith, sound.dead_depth))) (e ∙ sym zero_at)))
+            ∙ sym (ne_eqb s 0 alive)
+      ]
+
+  stands-dies : (state : Option (List ℕ)) (sid : ℕ) → Stands state sid → nat_eq sid 0 ≡ is_none state
+  stands-dies state sid stands =
+      ap (λ (n : ℕ). nat_eq n 0) stands.1
+      ∙ dead-apart stands.0 (of-state state stands.0 stands.2).0
+      ∙ held-dead plan.special p names plan.states a No state stands.0 stands.2
+
+  stands-begins : (state : Option (List ℕ)) (sid : ℕ) → Stands state sid → nat_eq sid t.start ≡ true → state ≡ Some []
+  stands-begins state sid stands same =
+      let number : number_in plan stands.0 ≡ number_in plan start = sym stands.1 ∙ eqb-true sid t.start same in
+      let is : stands.0 ≡ start =
+      apart stands.0 start (of-state state stands.0 stands.2).0 starts.unanchored.state.0 (root-shallow plan words planned filled done starts sound) number in
+      sym (state-named start p names plan.states a.nodes state stands.0 stands.2).1 ∙ ap (name_at names) is ∙ a.nodes.root
+
+  pub layout-of : (kind : MatchKind) (lengths : List ℕ) → kind ≡ p.kind → lengths ≡ map length p.words → IsLayoutOf t p kind lengths
+  layout-of kind lengths kind_is lengths_are = record {
+    kind_is = kind_is;
+    lengths_are = lengths_are;
+    lists = λ word small. stands-lists (held_after p No word) (run_from t t.start word) (stands-word word small);
+    dies = λ word small. stands-dies (held_after p No word) (run_from t t.start word) (stands-word word small);
+    begins = λ word small same. stands-begins (held_after p No word) (run_from t t.start word) (stands-word word small) same;
+    none = stands-lists None 0 (0, sym (number-dead plan words planned filled done starts sound), refl);
+  }

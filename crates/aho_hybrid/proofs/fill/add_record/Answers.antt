@@ -1,0 +1,54 @@
+use Rattle.std.proofs.Common.{◌≡◌, ◌≤◌, ◌<◌, ◌+◌, ◌-◌, ◌*◌, ◌∙◌, ℕ, List, [], ◌∷◌, ◌++◌, length, get_or, arith, ap, subst, sym}
+use Rattle.std.proofs.lemmas.List.{length-append, length_push, nil_from_length}
+use Rattle.aho_build.specs.declared.special.Special.{Special}
+use Rattle.aho_corasick.specs.ReadOut.{classes_of, special_of, states_of}
+use Rattle.aho_table.specs.Alphabet.{class_count}
+use Rattle.aho_table.specs.Table.{IsRising, depth_in, fail_in, matches_in, state_at}
+use Rattle.aho_hybrid.specs.Layout.{stride_of}
+use Rattle.aho_hybrid.specs.Filled.{HasEntries, IsPlaced, Parts, flat, moves_of, number_at, number_in, parts_of, row_in, source_in, source_of, transitions_of}
+use Rattle.aho_hybrid.proofs.Filling.{record-added, rows-passed}
+use Rattle.std.proofs.lemmas.Bool.{ltb-true}
+use Rattle.aho_hybrid.proofs.fill.add_record.Goals as goal
+
+pub returns-clause-filled : goal.returns-clause-filled
+returns-clause-filled c =
+    let nfa = c.args.nfa.now in
+    let plan : Parts = parts_of nfa c.args.plan.now.firsts c.args.plan.now.numbers.items c.args.plan.now.row_depth in
+    let index = c.args.index in
+    let old = c.args.filled.now in
+    let list = c.in_ok-list.list in
+    let place = c.in_ok-place.place in
+    let source : c.source_of-sid.result ≡ source_of plan index = c.source_of-sid.ensures.source ∙ ap (λ (s : Special). source_in s index) c.special.ensures.special in
+    let placed : IsPlaced (matches_in plan.states (source_of plan index)) list old.lists.items c.push_list.new.lists.items =
+    subst (λ (n : ℕ). IsPlaced (matches_in plan.states n) list old.lists.items c.push_list.new.lists.items) source c.in_ok-list.ensures.placed in
+    let link : c.number_at.result ≡ number_in plan (fail_in plan.states (source_of plan index)) =
+    c.number_at.ensures.number ∙ ap (λ (l : List ℕ). number_at l c.fail.result) c.deref-2.ensures.value
+    ∙ ap (number_in plan) (c.fail.ensures.fail ∙ ap (fail_in plan.states) source) in
+    let listed : c.transitions.result ≡ transitions_of plan index = c.transitions.ensures.listed ∙ ap (λ (n : ℕ). (state_at plan.states n).transitions) source in
+    let moved : c.push_moves.new.moves.items ≡ old.moves.items ++ moves_of plan index =
+    c.in_ok-push_moves.ensures.pushed
+    ∙ ap (λ (l : List ℕ). old.moves.items ++ flat l c.transitions.result) c.deref.ensures.value
+    ∙ ap (λ (ts : List (ℕ × ℕ)). old.moves.items ++ flat plan.numbers ts) listed in
+    let longer : length c.push_moves.new.moves.items ≡ length old.moves.items + length (moves_of plan index) =
+    ap (λ (l : List ℕ). length l) moved ∙ length-append old.moves.items (moves_of plan index) in
+    let place_is : place ≡ length old.moves.items = omega (arith, c.in_ok-place.ensures.value, c.len.ensures, old.moves.ok.0) in
+    let size : c.in_ok-index_of.field-0 ≡ length (moves_of plan index) =
+    omega (arith, c.in_ok-index_of.ensures.value, c.len-2.ensures, c.push_moves.new.moves.ok.0, c.as_usize.ensures.value, longer, place_is) in
+    let deeper : plan.row_depth < depth_in plan.states index = ltb-true plan.row_depth (depth_in plan.states index) c.requires.deep in
+    let depth : c.depth.result ≡ depth_in plan.states index = c.depth.ensures.depth ∙ ap (depth_in plan.states) c.new_unchecked-own.ensures.value in
+    let number : c.number_at-2.result ≡ number_in plan index =
+    c.number_at-2.ensures.number ∙ ap (λ (l : List ℕ). number_at l c.new_unchecked-own.result) c.deref-3.ensures.value ∙ ap (number_in plan) c.new_unchecked-own.ensures.value in
+    record {
+      rows = rows-passed plan index old.entries.items old.lists.items c.push_list.new.lists.items placed.more old.low c.requires.within c.requires.deep placed.grown c.requires.filled.rows;
+      records = record-added plan index old.deep.items old.moves.items old.lists.items old.deep_low c.requires.filled.records
+          c.push_record.new.deep.items c.push_moves.new.moves.items c.push_list.new.lists.items c.low_with-filled.result c.number_at.result list c.new_unchecked.result place c.in_ok-index_of.field-0
+          c.requires.within c.requires.deep c.in_ok-push_record.ensures.pushed link placed
+          (omega (arith, c.new_unchecked.ensures.value, depth, deeper)) moved place_is size
+          (subst IsRising listed c.transitions.ensures.rising)
+          (omega (arith, depth, c.depth.ensures.bound))
+          c.low_with-filled.ensures.higher
+          (λ past.
+          ap (matches_in plan.states) (sym source)
+          ∙ nil_from_length (matches_in plan.states c.source_of-sid.result)
+          (sym c.match_len.ensures.len ∙ c.low_with-filled.ensures.past (omega (arith, past, number, c.as_usize-end.ensures.value))));
+    }
