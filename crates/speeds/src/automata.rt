@@ -5,6 +5,7 @@ ghost use Rattle.aho_build.specs.Items.{patterns_of};
 ghost use Rattle.aho_build.specs.Settings.{default_settings};
 ghost use Rattle.aho_prefilter.specs.Prefilter.{IsPrefilterOf};
 
+use aho_base::error::BuildError;
 use aho_base::search::MatchKind;
 use aho_corasick::noncontiguous::{Builder, NFA};
 use aho_prefilter::prefilter::{PackedBuilder, Prefilter};
@@ -33,11 +34,10 @@ fn builder_of(kind: MatchKind, ignore_case: bool, prefilter: bool, depth: usize)
     } }
 {
     let mut builder = NFA::builder();
-    builder
-        .match_kind(kind)
-        .ascii_case_insensitive(ignore_case)
-        .prefilter(prefilter)
-        .dense_depth(depth);
+    builder.match_kind(kind);
+    builder.ascii_case_insensitive(ignore_case);
+    builder.prefilter(prefilter);
+    builder.dense_depth(depth);
     builder
 }
 
@@ -49,12 +49,11 @@ pub(crate) fn automaton_of(
     ignore_case: bool,
     prefilter: bool,
     depth: usize,
-) -> Result<NFA>
+) -> Result<NFA, BuildError>
     ensures of { IfOk result (λ nfa. ⟦<NFA as Automaton>⟧.is_of nfa
         (patterns_of (record default_settings { kind = kind; ignore_case = ignore_case }) lines.now)) }
 {
-    let builder = builder_of(kind, ignore_case, prefilter, depth);
-    Ok(builder.build(alloc, lines.iter().copied())?)
+    builder_of(kind, ignore_case, prefilter, depth).build(alloc, lines.iter().copied())
 }
 
 /// The prefilter of these lines where it may be a packed search, if there is one.

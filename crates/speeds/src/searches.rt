@@ -7,6 +7,7 @@ ghost use Rattle.aho_build.specs.Settings.{default_settings};
 
 use crate::automata::{automaton_of, lines_of, packed_of};
 use crate::trial::{Searched, Skips, Trial};
+use aho_base::error::MatchError;
 use aho_base::search::Input;
 use aho_corasick::noncontiguous::NFA;
 use aho_hybrid::hybrid::Hybrid;
@@ -113,7 +114,7 @@ fn searched<R: CpuClock, A: Automaton>(
     let mut least = Duration::MAX;
     for _ in 0..times {
         let begun = rt.process_cpu_time()?;
-        seen = seen_in(automaton, text);
+        seen = seen_in(automaton, text)?;
         least = least.min(rt.process_cpu_time()?.saturating_sub(begun));
     }
     Ok(Report {
@@ -125,16 +126,16 @@ fn searched<R: CpuClock, A: Automaton>(
 }
 
 /// Searches a text once.
-fn seen_in<A: Automaton>(automaton: &A, text: &[u8]) -> Seen
+fn seen_in<A: Automaton>(automaton: &A, text: &[u8]) -> Result<Seen, MatchError>
     requires of { (p : Patterns) × A.is_of automaton.now p }
 {
     let mut seen = Seen { matches: 0, sum: 0 };
-    for m in automaton.try_find_iter(Input::new(text)).unwrap() {
+    for m in automaton.try_find_iter(Input::new(text))? {
         let places = (m.end() as u64)
             .wrapping_mul(7)
             .wrapping_add(m.start() as u64);
         seen.matches = seen.matches.wrapping_add(1);
         seen.sum = seen.sum.wrapping_mul(31).wrapping_add(places);
     }
-    seen
+    Ok(seen)
 }
