@@ -492,7 +492,7 @@ impl Random {
     }
 
     /// A number below this one.
-    fn below(&mut self, bound: usize) -> usize
+    pub(crate) fn below(&mut self, bound: usize) -> usize
         requires some { 0 < bound }
         ensures below { result < bound }
     {

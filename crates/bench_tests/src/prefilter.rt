@@ -5,8 +5,9 @@ ghost use Rattle.aho_base.specs.Numbers.{greatest_index};
 
 use crate::asserts::{assert_in, assert_same, assert_same_in};
 use crate::inputs::{KINDS, Random};
-use aho_base::search::{Input, Match, PatternID, Span};
-use aho_prefilter::prefilter::{Candidate, Prefilter, PrefilterBuilder};
+use aho_base::search::{Input, Match, MatchKind, PatternID, Span};
+use aho_prefilter::prefilter::{Candidate, PackedBuilder, Prefilter, PrefilterBuilder};
+use bench::callers::{automaton_of, find_by, packed_prefilter_of};
 use bench::pattern_set::PatternSet;
 use bench::plain::plain;
 use std::alloc::{AllocError, Global};
@@ -20,6 +21,19 @@ fn prefilter_of(
     ignore_case: bool,
 ) -> Result<Option<Prefilter>, AllocError> {
     let mut builder = PrefilterBuilder::new(alloc, ignore_case);
+    for pattern in patterns {
+        builder.add(pattern)?;
+    }
+    builder.build()
+}
+
+/// The prefilter for these patterns where it may be a packed search, if there is one.
+fn packed_of(
+    alloc: Global,
+    patterns: &[&[u8]],
+    ignore_case: bool,
+) -> Result<Option<Prefilter>, AllocError> {
+    let mut builder = PackedBuilder::new(alloc, ignore_case);
     for pattern in patterns {
         builder.add(pattern)?;
     }
@@ -256,6 +270,93 @@ fn look_at_spans(
 fn random_patterns_have_candidates(rt: HostRuntime) -> Result<(), Fail> {
     for alphabet in [b"aAb".as_slice(), b"abcd", b"a1@["] {
         look_at_random(&rt, rt.alloc(), alphabet)?;
+    }
+    Ok(())
+}
+
+/// For how many patterns a packed search is held.
+fn are_held_packed(alloc: Global, count: usize) -> Result<bool, AllocError> {
+    let mut builder = PackedBuilder::new(alloc, false);
+    for number in 0..count {
+        builder.add(&[number as u8, 1])?;
+    }
+    Ok(builder.build()?.is_some())
+}
+
+#[test]
+fn a_packed_search_is_held_for_a_hundred(rt: HostRuntime) -> Result<(), Fail> {
+    assert!(&rt; are_held_packed(rt.alloc(), 100)?);
+    assert!(&rt; !are_held_packed(rt.alloc(), 101)?);
+    assert!(&rt; packed_of(rt.alloc(), &[], true)?.is_none());
+    let short: [&[u8]; 4] = [b"ab", b"cd", b"ef", b"g"];
+    assert!(&rt; packed_of(rt.alloc(), &short, false)?.is_none());
+    let four = packed_of(rt.alloc(), &short[..2], true)?;
+    let held = four.expect(&rt, "a prefilter");
+    let candidate = held.find_in(b"xxCD", Span { start: 0, end: 4 });
+    assert_same(&rt, candidate.into_option(), Some(2));
+    Ok(())
+}
+
+/// That the search of both cases answers alike with a packed search and by the plain program.
+fn look_at_answer(
+    rt: &impl Abort,
+    alloc: Global,
+    words: &[&[u8]],
+    haystack: &[u8],
+) -> Result<(), Fail> {
+    let nfa = automaton_of(alloc, words)?;
+    let held = packed_prefilter_of(alloc, words)?;
+    assert!(rt; words.len() <= PatternID::MAX.as_usize());
+    let patterns = PatternSet::new(words, MatchKind::LeftmostFirst, true);
+    if let Some(prefilter) = held {
+        let found = find_by(&nfa, &prefilter, haystack).expect(rt, "an answer");
+        let best = plain(&patterns, &Input::new(haystack));
+        assert_same_in(rt, (words, haystack), found, best);
+    }
+    Ok(())
+}
+
+/// Looks at random patterns of some bytes in a haystack that has several blocks.
+fn look_at_packed(
+    rt: &impl Abort,
+    alloc: Global,
+    random: &mut Random,
+    words: &[&[u8]],
+    bytes: &[u8],
+) -> Result<(), Fail> {
+    assert!(rt; words.len() <= PatternID::MAX.as_usize());
+    for ignore_case in [false, true] {
+        let Some(prefilter) = packed_of(alloc, words, ignore_case)? else {
+            return Ok(());
+        };
+        for _ in 0..4 {
+            let haystack = random.range(bytes, 60);
+            let start = random.below(haystack.len() + 1);
+            let end = haystack.len();
+            let (whole, part) = (Span { start: 0, end }, Span { start, end });
+            look_at_span(rt, &prefilter, words, ignore_case, haystack, whole);
+            look_at_span(rt, &prefilter, words, ignore_case, haystack, part);
+            look_at_answer(rt, alloc, words, haystack)?;
+        }
+    }
+    Ok(())
+}
+
+#[test]
+fn random_patterns_have_packed_candidates(rt: HostRuntime) -> Result<(), Fail> {
+    let alphabet = b"aAbBcCdDeEfFgGhH@`[{";
+    let mut random = Random::new();
+    for _ in 0..60 {
+        let mut bytes = [0; 90];
+        random.fill(&mut bytes, alphabet);
+        let mut words = Vec::new(rt.alloc());
+        for _ in 0..8 {
+            let word = random.range(&bytes, 6);
+            if word.len() >= 2 {
+                words.push(word)?;
+            }
+        }
+        look_at_packed(&rt, rt.alloc(), &mut random, &words, &bytes)?;
     }
     Ok(())
 }
