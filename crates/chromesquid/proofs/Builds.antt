@@ -5,11 +5,9 @@ use Rattle.std.proofs.iter.Yields.{copies, fronts}
 use Rattle.std.proofs.lemmas.Iterator.{YieldsList, YieldsList-from_slice, items_from_drains}
 use Rattle.std.proofs.lemmas.Iterator.Consumers.{YieldsList-from_copied}
 use Rattle.std.proofs.lemmas.List.{map-append, map-id}
-use Rattle.std.proofs.lemmas.Result.{IfErr-weaker, IfOk-weaker}
 use Rattle.std.specs.Iterator.{AlwaysYields, Drains, Yields}
 use Rattle.std.specs.Iterator.Adapters.{copied_source}
 use Rattle.std.specs.Iterator.Runs.{WholeRun}
-use Rattle.std.specs.Prelude.{Result, IfErr, IfOk}
 use Rattle.std.specs.Slice.Iter.{iter_rest}
 use Rattle.std.specs.declared.iter.Copied.{Copied}
 use denote.Ref.{Bor}
@@ -51,9 +49,10 @@ module _ (state : Copied (Iter (Bor (List ℕ)))) (patterns : List (Bor (List �
     pub of_slice : (is_true : Patterns → Type 0) → OfAccepted (copies fronts) state settings is_true
         → is_true (patterns_of settings patterns) × (cause settings (patterns_of settings patterns) ≡ None)
     of_slice is_true accepted =
-        let all = drained_all accepted.0 accepted.1.0 in
-        (subst (λ (items : List (Bor (List ℕ))). is_true (patterns_of settings items)) all accepted.2,
-        subst (λ (items : List (Bor (List ℕ))). cause settings (patterns_of settings items) ≡ None) all accepted.1.1)
+        let all = drained_all accepted.0 accepted.1.0 in (
+          subst (λ (items : List (Bor (List ℕ))). is_true (patterns_of settings items)) all accepted.2,
+          subst (λ (items : List (Bor (List ℕ))). cause settings (patterns_of settings items) ≡ None) all accepted.1.1,
+        )
 
     -- what the first items of the slice met is the cause for all of them
     cause_of_first : (items : List (Bor (List ℕ))) (refused : Growth) → HasYielded (copies fronts) state items → IsFirstRefused settings items refused

@@ -71,9 +71,12 @@ run_of S K searcher calls source source' closure sink result sink' p built over 
       limit = over.limit;
       run = λ bytes ms may finds. over.run p bytes ms built may finds;
       near = λ stopped.
-          let near = over.near stopped in
-          (near.0, near.1, subst (λ (ns : List ℕ). length over.given ≤ near.0 + kept_for ns) (lengths-of p searcher.automaton built.reads) near.2,
-          λ bytes ms may finds. near.3 p bytes ms built may finds);
+          let near = over.near stopped in (
+            near.0,
+            near.1,
+            subst (λ (ns : List ℕ). length over.given ≤ near.0 + kept_for ns) (lengths-of p searcher.automaton built.reads) near.2,
+            λ bytes ms may finds. near.3 p bytes ms built may finds,
+          );
     }
 
 module _ {A R : Type 0} {steps : StreamFindIter A R → Option (Result Occurrence StreamError) → StreamFindIter A R → Type 0} (S : SourceGhosts R) (p : Patterns) (source : R)

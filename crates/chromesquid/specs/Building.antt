@@ -1,5 +1,5 @@
 -- Why a build of some patterns fails.
-use Rattle.std.specs.Prelude.{Option, Some, ◌≡◌, ◌⊎◌}
+use Rattle.std.specs.Prelude.{Some, ◌≡◌, ◌⊎◌}
 use Rattle.aho_base.specs.Patterns.{Patterns}
 use Rattle.aho_base.specs.declared.error.BuildError.{BuildError}
 use Rattle.aho_base.specs.declared.error.BuildError.TheVariants.{OutOfMemory}

@@ -1,5 +1,5 @@
 -- What a searcher is seen as, and which patterns it was built from.
-use Rattle.std.specs.Prelude.{◌≡◌, ◌≤◌, ℕ, List, Bool, true, false, Option, Result, Err, is_some, length, map, if◌then◌else◌}
+use Rattle.std.specs.Prelude.{◌≡◌, ◌≤◌, ℕ, List, Bool, true, false, Option, Result, Err, is_some, length, if◌then◌else◌}
 use Rattle.aho_base.specs.Answer.{IsAnswer}
 use Rattle.aho_base.specs.Laws.{shortest}
 use Rattle.aho_base.specs.Occurrence.{Occurrence}

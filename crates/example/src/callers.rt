@@ -1,4 +1,4 @@
-//! A caller of each further call.
+//! Callers of further calls.
 
 pub mod builds;
 pub mod conditions;

@@ -1,4 +1,3 @@
-use Rattle.std.proofs.Common.{sym, subst}
 use Rattle.chromesquid.proofs.automaton.AhoCorasickAutomaton.step.Goals as goal
 
 pub returns-clause-goes_on : goal.returns-clause-goes_on
