@@ -10,7 +10,6 @@ ghost use Rattle.aho_base.specs.Patterns.{Patterns};
 
 use aho_base::search::{Input, MatchKind};
 use aho_corasick::noncontiguous::{Builder, NFA};
-use aho_hybrid::hybrid::Hybrid;
 use aho_search::automaton::Automaton;
 use anyhow::{Context, Result, bail};
 use std::alloc::Global;
@@ -22,8 +21,8 @@ fn main(rt: HostRuntime) -> Result<()> {
     for word in env::args(&rt)?.skip(1) {
         words.push(word)?;
     }
-    let [engine, kind, case, prefilter, depth, times, patterns, text] = words.as_slice() else {
-        println!(rt; "usage: speeds ENGINE KIND CASE PREFILTER DEPTH TIMES PATTERNS TEXT")?;
+    let [kind, case, prefilter, depth, times, patterns, text] = words.as_slice() else {
+        println!(rt; "usage: speeds KIND CASE PREFILTER DEPTH TIMES PATTERNS TEXT")?;
         return Ok(());
     };
     let mut builder = Builder::new();
@@ -38,22 +37,6 @@ fn main(rt: HostRuntime) -> Result<()> {
     let begun = rt.process_cpu_time()?;
     let nfa = builder.build(rt.alloc(), lines.iter().copied())?;
     let built = rt.process_cpu_time()?.saturating_sub(begun);
-    if engine.as_str() != "n" {
-        let budget = engine.parse::<usize>().context("reading ENGINE")?;
-        let begun = rt.process_cpu_time()?;
-        let hybrid = Hybrid::with_budget(rt.alloc(), &nfa, budget)?;
-        let made = rt.process_cpu_time()?.saturating_sub(begun);
-        let (seen, least) = searched(&rt, &hybrid, &text, times)?;
-        println!(rt;
-            "{:.9} {:.9} {} {} {}",
-            made.as_secs_f64(),
-            least.as_secs_f64(),
-            seen.matches,
-            seen.sum,
-            hybrid.memory_usage()
-        )?;
-        return Ok(());
-    }
     let (seen, least) = searched(&rt, &nfa, &text, times)?;
     println!(rt;
         "{:.9} {:.9} {} {} {}",
@@ -104,8 +87,8 @@ struct Seen {
 }
 
 /// Searches a text so many times: what was seen last, and the least time of a search.
-fn searched<R: CpuClock, A: Automaton>(rt: &R, nfa: &A, text: &[u8], times: u32) -> Result<(Seen, Duration)>
-    requires of { (p : Patterns) × A.is_of nfa.now p }
+fn searched<R: CpuClock>(rt: &R, nfa: &NFA, text: &[u8], times: u32) -> Result<(Seen, Duration)>
+    requires of { (p : Patterns) × ⟦<NFA as Automaton>⟧.is_of nfa.now p }
 {
     let mut seen = Seen { matches: 0, sum: 0 };
     let mut least = Duration::MAX;
@@ -118,8 +101,8 @@ fn searched<R: CpuClock, A: Automaton>(rt: &R, nfa: &A, text: &[u8], times: u32)
 }
 
 /// Searches a text once.
-fn seen_in<A: Automaton>(nfa: &A, text: &[u8]) -> Seen
-    requires of { (p : Patterns) × A.is_of nfa.now p }
+fn seen_in(nfa: &NFA, text: &[u8]) -> Seen
+    requires of { (p : Patterns) × ⟦<NFA as Automaton>⟧.is_of nfa.now p }
 {
     let mut seen = Seen { matches: 0, sum: 0 };
     for m in nfa.try_find_iter(Input::new(text)).unwrap() {
