@@ -1,5 +1,4 @@
-//! An automaton with a row for each state, made from what an `NFA` tells: what it answers, lists and costs, and its own
-//! calls.
+//! An automaton with rows near the start, made from what an `NFA` tells: what it answers, lists and costs, and its own calls.
 
 ghost use Rattle.std.specs.Prelude.{◌+◌, ◌<◌, ◌≤◌, length};
 ghost use Rattle.aho_base.specs.Patterns.{Patterns};
@@ -20,7 +19,10 @@ use std::alloc::{AllocError, Global};
 use std::process::Abort;
 use std::test::Fail;
 
-/// The automaton of these patterns, with a row for each state.
+/// Bytes for rows: for those of the states without depth alone, for some, and for all.
+const BUDGETS: [usize; 3] = [0, 300, usize::MAX];
+
+/// The automaton of these patterns, with rows of so many bytes at most.
 fn hybrid_of(
     rt: &impl Abort,
     alloc: Global,
@@ -28,11 +30,12 @@ fn hybrid_of(
     kind: MatchKind,
     ignore_case: bool,
     prefilter: bool,
+    budget: usize,
 ) -> Hybrid
     ensures of { (p : Patterns) × ⟦<Hybrid as Automaton>⟧.is_of result p }
 {
     let nfa = nfa_with(rt, alloc, words, kind, ignore_case, prefilter, 1);
-    Hybrid::with_budget(alloc, &nfa, 300).expect(rt, "an automaton")
+    Hybrid::with_budget(alloc, &nfa, budget).expect(rt, "an automaton")
 }
 
 /// The unanchored searches of a span answer what the plain program does.
@@ -137,9 +140,11 @@ fn search_range(
 ) -> Result<(), AllocError> {
     assert!(rt; words.len() <= PatternID::MAX.as_usize());
     let patterns = PatternSet::new(words, kind, ignore_case);
-    for prefilter in [false, true] {
-        let hybrid = hybrid_of(rt, alloc, words, kind, ignore_case, prefilter);
-        search(rt, alloc, &patterns, &hybrid, haystack)?;
+    for budget in BUDGETS {
+        for prefilter in [false, true] {
+            let hybrid = hybrid_of(rt, alloc, words, kind, ignore_case, prefilter, budget);
+            search(rt, alloc, &patterns, &hybrid, haystack)?;
+        }
     }
     Ok(())
 }
@@ -213,11 +218,36 @@ fn lookups_of<A: Automaton>(automaton: &A, haystack: &[u8]) -> Result<u128, Matc
 }
 
 #[test]
-fn a_byte_is_looked_up_once(rt: HostRuntime) -> Result<(), Fail> {
+fn a_byte_is_looked_up_once_by_rows(rt: HostRuntime) -> Result<(), Fail> {
     let words: [&[u8]; 2] = [b"aaab", b"aab"];
-    let hybrid = hybrid_of(&rt, rt.alloc(), &words, MatchKind::Standard, false, false);
+    let hybrid = hybrid_of(
+        &rt,
+        rt.alloc(),
+        &words,
+        MatchKind::Standard,
+        false,
+        false,
+        usize::MAX,
+    );
     assert_same(&rt, lookups_of(&hybrid, b"aaaaaaaa")?, 8);
     assert_same(&rt, lookups_of(&hybrid, b"aaaab")?, 5);
+    Ok(())
+}
+
+#[test]
+fn a_link_is_one_look_up_more(rt: HostRuntime) -> Result<(), Fail> {
+    let words: [&[u8]; 2] = [b"aaab", b"aab"];
+    let hybrid = hybrid_of(
+        &rt,
+        rt.alloc(),
+        &words,
+        MatchKind::Standard,
+        false,
+        false,
+        0,
+    );
+    assert_same(&rt, lookups_of(&hybrid, b"aaaaaaaa")?, 13);
+    assert_same(&rt, lookups_of(&hybrid, b"aaaab")?, 6);
     Ok(())
 }
 
@@ -244,25 +274,46 @@ fn tells<A: Automaton>(rt: &impl Abort, automaton: &A) {
     assert!(rt; automaton.prefilter().is_none());
     let refusal = automaton.start_state(Anchored::Yes).err();
     assert_same(rt, refusal, Some(MatchError::invalid_input_anchored()));
-    // Nine states with entries for five classes and a list, 6 entries of lists, and two lengths.
-    assert_same(rt, automaton.memory_usage(), 4 * (9 * 6 + 6 + 2));
 }
 
-#[test]
-fn it_is_made_from_what_is_told(rt: HostRuntime) -> Result<(), Fail> {
-    let (alloc, words): (Global, [&[u8]; 2]) = (rt.alloc(), [b"abc", b"bc"]);
-    let hybrid = hybrid_of(&rt, alloc, &words, MatchKind::Standard, false, false);
-    tells(&rt, &hybrid);
-    leads(&rt, alloc, &hybrid)?;
-    Ok(())
-}
-
-#[test]
-fn a_clone_tells_the_same(rt: HostRuntime) -> Result<(), Fail> {
-    let (alloc, words): (Global, [&[u8]; 2]) = (rt.alloc(), [b"abc", b"bc"]);
-    let hybrid = hybrid_of(&rt, alloc, &words, MatchKind::Standard, false, false);
+/// An automaton of these words, with rows of so many bytes at most, takes so much memory, and so does its clone.
+fn made(
+    rt: &impl Abort,
+    alloc: Global,
+    words: &[&[u8]],
+    budget: usize,
+    bytes: usize,
+) -> Result<(), AllocError> {
+    let hybrid = hybrid_of(rt, alloc, words, MatchKind::Standard, false, false, budget);
+    assert_same(rt, hybrid.memory_usage(), bytes);
+    tells(rt, &hybrid);
+    leads(rt, alloc, &hybrid)?;
     let clone = hybrid.try_clone()?;
-    tells(&rt, &clone);
-    leads(&rt, alloc, &clone)?;
-    Ok(())
+    assert_same(rt, clone.memory_usage(), bytes);
+    tells(rt, &clone);
+    leads(rt, alloc, &clone)
+}
+
+#[test]
+fn it_is_made_with_rows_for_all_states(rt: HostRuntime) -> Result<(), Fail> {
+    // Nine states with entries for five classes and a list, 6 entries of lists, and two lengths.
+    Ok(made(
+        &rt,
+        rt.alloc(),
+        &[b"abc", b"bc"],
+        usize::MAX,
+        4 * (9 * 6 + 6 + 2),
+    )?)
+}
+
+#[test]
+fn it_is_made_with_rows_for_the_states_without_depth(rt: HostRuntime) -> Result<(), Fail> {
+    // Four states with such entries, five records of five words, three transitions, 6 entries of lists, and two lengths.
+    Ok(made(
+        &rt,
+        rt.alloc(),
+        &[b"abc", b"bc"],
+        0,
+        4 * (4 * 6 + 5 * 5 + 3 * 2 + 6 + 2),
+    )?)
 }
