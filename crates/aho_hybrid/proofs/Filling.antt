@@ -225,17 +225,17 @@ module _ (plan : Parts) where
 
         last : IsRecord plan count deep' (record_at plan.row_depth plan.states count) moves' lists'
         last =
-          let words = last-words deep (record_at plan.row_depth plan.states count) link list height place size deep' filled.sized is in
-          record {
-          link = words.0 ∙ link_is;
-          listed = subst (λ (n : ℕ). IsListAt lists' n (matches_in plan.states (source_of plan count))) (sym words.1) placed.listed;
-          height = ap (λ (n : ℕ). n + plan.row_depth) words.2 ∙ height_is;
-          moves_at = subst (λ (n : ℕ). IsPartAt moves' n (moves_of plan count)) (sym words.3)
-              (record { before = moves; after = []; whole = moved ∙ ap (λ (l : List ℕ). moves ++ l) (sym (append-nil (moves_of plan count))); place_is = sym place_is });
-          moves_size = words.4 ∙ size_is;
-          rising = rising;
-          depth_small = depth_small;
-        }
+            let words = last-words deep (record_at plan.row_depth plan.states count) link list height place size deep' filled.sized is in
+            record {
+              link = words.0 ∙ link_is;
+              listed = subst (λ (n : ℕ). IsListAt lists' n (matches_in plan.states (source_of plan count))) (sym words.1) placed.listed;
+              height = ap (λ (n : ℕ). n + plan.row_depth) words.2 ∙ height_is;
+              moves_at = subst (λ (n : ℕ). IsPartAt moves' n (moves_of plan count)) (sym words.3)
+                  (record { before = moves; after = []; whole = moved ∙ ap (λ (l : List ℕ). moves ++ l) (sym (append-nil (moves_of plan count))); place_is = sym place_is });
+              moves_size = words.4 ∙ size_is;
+              rising = rising;
+              depth_small = depth_small;
+            }
 
   -- ---- before the first
 

@@ -188,9 +188,11 @@ module _ (plan : Parts) (words : ℕ) (planned : IsPlan plan words) (filled : Fi
                   ∙ cond-true {A = ℕ} (nat_eq i 1 || nat_eq i plan.special.start_anchored_id) root i other))
               | inr own ↦
                   inr
-                  (inr
-                  (cond-false {A = ℕ} (nat_eq i 0) 0 (cond (nat_eq i 1 || nat_eq i plan.special.start_anchored_id) root i) (ne_eqb i 0 alive)
-                  ∙ cond-false {A = ℕ} (nat_eq i 1 || nat_eq i plan.special.start_anchored_id) root i own, λ e. grind (arith, nat_tests)))
+                  (inr (
+                    cond-false {A = ℕ} (nat_eq i 0) 0 (cond (nat_eq i 1 || nat_eq i plan.special.start_anchored_id) root i) (ne_eqb i 0 alive)
+                        ∙ cond-false {A = ℕ} (nat_eq i 1 || nat_eq i plan.special.start_anchored_id) root i own,
+                    λ e. grind (arith, nat_tests),
+                  ))
             ]
       ]
 
@@ -285,7 +287,7 @@ module _ (plan : Parts) (words : ℕ) (planned : IsPlan plan words) (filled : Fi
             let near = sound.next_depth source byte (source-state i below) small some in (
               subst (IsStateIn layout) is (state-of leads state.0),
               omega
-              (arith, ap (height_in layout) is, height-most leads (height_in layout (number_in plan i) + 1) state.0 (omega (arith, near, source-depth i, height-deep i below deep))),
+                  (arith, ap (height_in layout) is, height-most leads (height_in layout (number_in plan i) + 1) state.0 (omega (arith, near, source-depth i, height-deep i below deep))),
             )
       ]
 
@@ -332,16 +334,16 @@ module _ (plan : Parts) (words : ℕ) (planned : IsPlan plan words) (filled : Fi
   place-of i below =
       elim (cases_Bool (is_deep plan.row_depth (state_at plan.states i))) [
         | inl deep ↦ (
-            get_or layout.deep (record_at plan.row_depth plan.states i + 1) 0,
-            cond-false (is_row layout (number_in plan i)) _ _ (deep-test layout (number_in plan i) (deep-of i below deep)) ∙ word-of i 1 below deep,
-            (record-of i below deep).listed,
-          )
+          get_or layout.deep (record_at plan.row_depth plan.states i + 1) 0,
+          cond-false (is_row layout (number_in plan i)) _ _ (deep-test layout (number_in plan i) (deep-of i below deep)) ∙ word-of i 1 below deep,
+          (record-of i below deep).listed,
+        )
         | inr shallow ↦ (
-            get_or layout.rows (row_in plan i + class_count plan.classes) 0,
-            cond-true (is_row layout (number_in plan i)) _ _ (row-test layout (number_in plan i) (row-of i below shallow))
-            ∙ ap (λ (m : ℕ). get_or layout.rows (m + class_count plan.classes) 0) (number-row i below shallow),
-            done.rows.listed i below shallow,
-          )
+          get_or layout.rows (row_in plan i + class_count plan.classes) 0,
+          cond-true (is_row layout (number_in plan i)) _ _ (row-test layout (number_in plan i) (row-of i below shallow))
+              ∙ ap (λ (m : ℕ). get_or layout.rows (m + class_count plan.classes) 0) (number-row i below shallow),
+          done.rows.listed i below shallow,
+        )
       ]
 
   pub sound-layout : length layout.rows + length layout.deep ≤ greatest_index → length layout.lists ≤ greatest_index + 1 → length layout.moves ≤ greatest_index → IsSoundLayout layout

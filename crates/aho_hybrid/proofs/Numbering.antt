@@ -12,7 +12,7 @@ use Rattle.aho_hybrid.proofs.Filling.{below-or-last}
 
 module _ (row_depth : ℕ) (states : List State) (classes : List Bool) where
   pub numbers-none : AreNumbers row_depth states classes 0 []
-  numbers-none = record { sized = omega arith; number = λ sid below. absurd (omega (arith, below)); }
+  numbers-none = record { sized = omega arith; number = λ sid below. absurd (omega (arith, below)) }
 
   -- one number more
   pub number-added : (count number : ℕ) (old new : List ℕ) → AreNumbers row_depth states classes count old → number ≡ number_of row_depth states classes count → new ≡ old ++ number ∷ []
@@ -47,7 +47,7 @@ module _ (row_depth : ℕ) (states : List State) (classes : List Bool) where
       → (row_at row_depth states classes count ≤ greatest_index) × (rows_size row_depth states classes + record_at row_depth states count ≤ greatest_index)
   places-small count within small = (
     omega
-    (arith, mul-le-mul_right (stride_of classes) (rows-grow row_depth states count (length states) within (omega arith)), ap (λ (n : ℕ). n * stride_of classes) (rows-all row_depth states), small),
+        (arith, mul-le-mul_right (stride_of classes) (rows-grow row_depth states count (length states) within (omega arith)), ap (λ (n : ℕ). n * stride_of classes) (rows-all row_depth states), small),
     omega (arith, deep-grow row_depth states count (length states) within (omega arith), deep-all row_depth states, small),
   )
 
