@@ -1,12 +1,12 @@
 -- Rows and records that are filled one after another.
-use Rattle.std.proofs.Common.{◌≡◌, ◌⊎◌, ℕ, ◌+◌, ◌-◌, ◌*◌, ◌<◌, ◌≤◌, Bool, true, false, List, [], ◌∷◌, ◌++◌, length, get_or, refl, sym, ap, subst, ◌∙◌, inl, inr, arith}
+use Rattle.std.proofs.Common.{◌≡◌, ℕ, ◌+◌, ◌-◌, ◌*◌, ◌<◌, ◌≤◌, List, [], ◌∷◌, ◌++◌, length, get_or, refl, sym, ap, subst, ◌∙◌, inl, inr, arith}
 use Rattle.std.proofs.Math.Nat.{mul_comm}
 use Rattle.std.proofs.lemmas.Bool.{both_ways, cases_eq}
-use Rattle.std.proofs.lemmas.List.{append-nil, append_assoc, get_or-append_right, get_or_append_left, get_or_push, length-append, length_push}
+use Rattle.std.proofs.lemmas.List.{append-nil, get_or-append_right, get_or_append_left, get_or_push, length-append, length_push}
 use Rattle.std.proofs.lemmas.Nat.{mul-add-lt}
 use Rattle.aho_base.specs.Numbers.{greatest_index}
 use Rattle.aho_table.specs.Alphabet.{class_count}
-use Rattle.aho_table.specs.Table.{IsRising, State, depth_in, fail_in, matches_in, state_at}
+use Rattle.aho_table.specs.Table.{IsRising, depth_in, fail_in, matches_in}
 use Rattle.aho_hybrid.specs.Filled.{AreRecords, AreRows, HasEntries, IsDeepState, IsListAt, IsPartAt, IsPlaced, IsRecord, IsShallow, IsStep, Parts, leads_in, moves_of, number_in, row_in, record_at, source_in, source_of, transitions_of}
 use Rattle.aho_hybrid.specs.Layout.{record_size, stride_of}
 use Rattle.aho_hybrid.proofs.Counting.{deep-before, deep-first, deep-more, deep_below, row-before, row-more, rows-first, rows_below}

@@ -1,14 +1,14 @@
 -- The states that were laid out are an automaton of the same patterns: what is read of them by numbers alone.
-use Rattle.std.proofs.Common.{◌≡◌, ◌≢◌, ◌⊎◌, ℕ, ◌+◌, ◌-◌, ◌*◌, ◌<◌, ◌≤◌, ◌/◌, ◌||◌, Bool, true, false, cond, List, [], ◌∷◌, length, take, drop, get_or, nat_eq, refl, sym, ap, subst, ◌∙◌, inl, inr, arith, ne_eqb, eq-eqb}
-use Rattle.std.specs.Prelude.{Option, Some, None, nat_lt}
+use Rattle.std.proofs.Common.{◌≡◌, ◌≢◌, ◌⊎◌, ℕ, ◌+◌, ◌-◌, ◌*◌, ◌<◌, ◌≤◌, ◌/◌, ◌||◌, Bool, cond, List, length, take, drop, get_or, nat_eq, refl, sym, ap, subst, ◌∙◌, inl, inr, arith, ne_eqb}
+use Rattle.std.specs.Prelude.{Some, None, nat_lt}
 use Rattle.std.proofs.Math.Nat.{mul-le-mul_right, mul-mod_left}
-use Rattle.std.proofs.lemmas.Bool.{cases_Bool, cases_eq, cond-true, cond-false, le-ltb, lt-ltb}
+use Rattle.std.proofs.lemmas.Bool.{cases_Bool, cases_eq, cond-true, cond-false, le-ltb}
 use Rattle.std.proofs.lemmas.Bool.Decides.{nat_tests}
 use Rattle.std.proofs.lemmas.Nat.{div-add-mod'}
 use Rattle.aho_base.specs.Numbers.{greatest_index}
-use Rattle.aho_build.specs.Walking.{AreStarts, IsSound, IsState, links_left, step_in}
+use Rattle.aho_build.specs.Walking.{AreStarts, IsSound, IsState, links_left}
 use Rattle.aho_table.specs.Alphabet.{class_count}
-use Rattle.aho_table.specs.Table.{State, depth_in, fail_in, matches_in, next_in, state_at}
+use Rattle.aho_table.specs.Table.{depth_in, fail_in, matches_in, next_in, state_at}
 use Rattle.aho_hybrid.proofs.Counting.{deep-all, deep-before, deep-of_number, deep_below, row-before, row-of_number, rows-all, rows-first, rows_below}
 use Rattle.aho_hybrid.proofs.Filling.{in-row}
 use Rattle.aho_hybrid.proofs.Listed.{part-at, part-within, within-at}

@@ -1,5 +1,5 @@
 -- The states of an automaton that is read out, as they are laid out.
-use Rattle.std.specs.Prelude.{◌≡◌, ◌⊎◌, ℕ, ◌+◌, ◌-◌, ◌*◌, ◌<◌, ◌≤◌, ◌||◌, Bool, not, false, true, List, [], ◌∷◌, ◌++◌, length, take, nat_eq, nat_lt, slice_index_or, if◌then◌else◌}
+use Rattle.std.specs.Prelude.{◌≡◌, ◌⊎◌, ℕ, ◌+◌, ◌*◌, ◌<◌, ◌≤◌, ◌||◌, Bool, not, false, true, List, [], ◌∷◌, ◌++◌, length, take, nat_eq, nat_lt, slice_index_or, if◌then◌else◌}
 use Rattle.std.specs.List.{count_by}
 use Rattle.aho_base.specs.Numbers.{greatest_index}
 use Rattle.aho_base.specs.declared.error.BuildError.{BuildError}

@@ -1,15 +1,13 @@
-use Rattle.std.proofs.Common.{◌≡◌, ◌⊎◌, ◌≤◌, ◌<◌, ◌+◌, ◌-◌, ◌*◌, ◌∙◌, ℕ, Bool, List, length, arith, ap, inl, inr, refl, subst, sym}
+use Rattle.std.proofs.Common.{◌≡◌, ◌+◌, ◌∙◌, ℕ, Bool, List, arith, ap, inl, inr, subst, sym}
 use Rattle.std.proofs.Math.Nat.{mul-le-mul_right}
-use Rattle.aho_base.specs.declared.error.BuildError.{BuildError}
 use Rattle.aho_build.proofs.StoppedBuilds.{IfErr-given}
 use Rattle.aho_build.specs.declared.special.Special.{Special}
 use Rattle.aho_corasick.specs.ReadOut.{classes_of, special_of, states_of}
-use Rattle.aho_corasick.specs.declared.noncontiguous.NFA.{NFA}
 use Rattle.aho_table.specs.Alphabet.{class_count}
-use Rattle.aho_hybrid.specs.Filled.{AreFirst, AreNumbers, IsListRefused, IsPlan, IsRefused, IsRowDepth, IsTooLarge, Parts, number_at, number_in, parts_of, states_size}
+use Rattle.aho_hybrid.specs.Filled.{AreFirst, IsPlan, IsRefused, IsTooLarge, Parts, number_at, number_in, parts_of}
 use Rattle.aho_hybrid.specs.Layout.{IsSoundLayout, Layout, stride_of}
 use Rattle.aho_hybrid.specs.Reading.{IsLayoutOf}
-use Rattle.aho_hybrid.proofs.Made.{deep-size, dense, layout, same-layout, sound-layout}
+use Rattle.aho_hybrid.proofs.Made.{deep-size, dense, same-layout, sound-layout}
 use Rattle.aho_hybrid.proofs.Meant.{layout-of}
 use Rattle.aho_hybrid.proofs.Numbering.{size-of}
 use Rattle.aho_hybrid.proofs.fill.rows_of.Goals as goal
