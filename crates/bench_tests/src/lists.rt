@@ -70,7 +70,9 @@ fn a_list_is_read_by_index(rt: HostRuntime) {
 #[test]
 fn patterns_stand_in_their_order(rt: HostRuntime) {
     let mut store = MatchLists::new(rt.alloc(), 3);
-    let list = store.push(0, pattern(&rt, 4)).expect(&rt, "a pattern");
+    let list = store
+        .push(0, pattern(&rt, 4))
+        .expect(&rt, "a pattern");
     let list = store.push(list, pattern(&rt, 2)).expect(&rt, "another");
     let list = store.push(list, pattern(&rt, 4)).expect(&rt, "a third");
     assert_eq!(rt; store.len(), 4);
