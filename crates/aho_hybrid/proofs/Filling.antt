@@ -1,12 +1,12 @@
 -- Rows and records that are filled one after another.
-use Rattle.std.proofs.Common.{◌≡◌, ◌⊎◌, ℕ, ◌+◌, ◌-◌, ◌*◌, ◌<◌, ◌≤◌, Bool, true, false, List, [], ◌∷◌, ◌++◌, length, get_or, refl, sym, ap, subst, ◌∙◌, inl, inr, arith}
+use Rattle.std.proofs.Common.{◌≡◌, ℕ, ◌+◌, ◌-◌, ◌*◌, ◌<◌, ◌≤◌, List, [], ◌∷◌, ◌++◌, length, get_or, refl, sym, ap, subst, ◌∙◌, inl, inr, arith}
 use Rattle.std.proofs.Math.Nat.{mul_comm}
 use Rattle.std.proofs.lemmas.Bool.{both_ways, cases_eq}
-use Rattle.std.proofs.lemmas.List.{append-nil, append_assoc, get_or-append_right, get_or_append_left, get_or_push, length-append, length_push}
+use Rattle.std.proofs.lemmas.List.{append-nil, get_or-append_right, get_or_append_left, get_or_push, length-append, length_push}
 use Rattle.std.proofs.lemmas.Nat.{mul-add-lt}
 use Rattle.aho_base.specs.Numbers.{greatest_index}
 use Rattle.aho_table.specs.Alphabet.{class_count}
-use Rattle.aho_table.specs.Table.{IsRising, State, depth_in, fail_in, matches_in, state_at}
+use Rattle.aho_table.specs.Table.{IsRising, depth_in, fail_in, matches_in}
 use Rattle.aho_hybrid.specs.Filled.{AreRecords, AreRows, HasEntries, IsDeepState, IsListAt, IsPartAt, IsPlaced, IsRecord, IsShallow, IsStep, Parts, leads_in, moves_of, number_in, row_in, record_at, source_in, source_of, transitions_of}
 use Rattle.aho_hybrid.specs.Layout.{record_size, stride_of}
 use Rattle.aho_hybrid.proofs.Counting.{deep-before, deep-first, deep-more, deep_below, row-before, row-more, rows-first, rows_below}
@@ -225,17 +225,17 @@ module _ (plan : Parts) where
 
         last : IsRecord plan count deep' (record_at plan.row_depth plan.states count) moves' lists'
         last =
-          let words = last-words deep (record_at plan.row_depth plan.states count) link list height place size deep' filled.sized is in
-          record {
-          link = words.0 ∙ link_is;
-          listed = subst (λ (n : ℕ). IsListAt lists' n (matches_in plan.states (source_of plan count))) (sym words.1) placed.listed;
-          height = ap (λ (n : ℕ). n + plan.row_depth) words.2 ∙ height_is;
-          moves_at = subst (λ (n : ℕ). IsPartAt moves' n (moves_of plan count)) (sym words.3)
-              (record { before = moves; after = []; whole = moved ∙ ap (λ (l : List ℕ). moves ++ l) (sym (append-nil (moves_of plan count))); place_is = sym place_is });
-          moves_size = words.4 ∙ size_is;
-          rising = rising;
-          depth_small = depth_small;
-        }
+            let words = last-words deep (record_at plan.row_depth plan.states count) link list height place size deep' filled.sized is in
+            record {
+              link = words.0 ∙ link_is;
+              listed = subst (λ (n : ℕ). IsListAt lists' n (matches_in plan.states (source_of plan count))) (sym words.1) placed.listed;
+              height = ap (λ (n : ℕ). n + plan.row_depth) words.2 ∙ height_is;
+              moves_at = subst (λ (n : ℕ). IsPartAt moves' n (moves_of plan count)) (sym words.3)
+                  (record { before = moves; after = []; whole = moved ∙ ap (λ (l : List ℕ). moves ++ l) (sym (append-nil (moves_of plan count))); place_is = sym place_is });
+              moves_size = words.4 ∙ size_is;
+              rising = rising;
+              depth_small = depth_small;
+            }
 
   -- ---- before the first
 

@@ -1,14 +1,14 @@
 -- The states that were laid out are an automaton of the same patterns: what is read of them by numbers alone.
-use Rattle.std.proofs.Common.{◌≡◌, ◌≢◌, ◌⊎◌, ℕ, ◌+◌, ◌-◌, ◌*◌, ◌<◌, ◌≤◌, ◌/◌, ◌||◌, Bool, true, false, cond, List, [], ◌∷◌, length, take, drop, get_or, nat_eq, refl, sym, ap, subst, ◌∙◌, inl, inr, arith, ne_eqb, eq-eqb}
-use Rattle.std.specs.Prelude.{Option, Some, None, nat_lt}
+use Rattle.std.proofs.Common.{◌≡◌, ◌≢◌, ◌⊎◌, ℕ, ◌+◌, ◌-◌, ◌*◌, ◌<◌, ◌≤◌, ◌/◌, ◌||◌, Bool, cond, List, length, take, drop, get_or, nat_eq, refl, sym, ap, subst, ◌∙◌, inl, inr, arith, ne_eqb}
+use Rattle.std.specs.Prelude.{Some, None, nat_lt}
 use Rattle.std.proofs.Math.Nat.{mul-le-mul_right, mul-mod_left}
-use Rattle.std.proofs.lemmas.Bool.{cases_Bool, cases_eq, cond-true, cond-false, le-ltb, lt-ltb}
+use Rattle.std.proofs.lemmas.Bool.{cases_Bool, cases_eq, cond-true, cond-false, le-ltb}
 use Rattle.std.proofs.lemmas.Bool.Decides.{nat_tests}
 use Rattle.std.proofs.lemmas.Nat.{div-add-mod'}
 use Rattle.aho_base.specs.Numbers.{greatest_index}
-use Rattle.aho_build.specs.Walking.{AreStarts, IsSound, IsState, links_left, step_in}
+use Rattle.aho_build.specs.Walking.{AreStarts, IsSound, IsState, links_left}
 use Rattle.aho_table.specs.Alphabet.{class_count}
-use Rattle.aho_table.specs.Table.{State, depth_in, fail_in, matches_in, next_in, state_at}
+use Rattle.aho_table.specs.Table.{depth_in, fail_in, matches_in, next_in, state_at}
 use Rattle.aho_hybrid.proofs.Counting.{deep-all, deep-before, deep-of_number, deep_below, row-before, row-of_number, rows-all, rows-first, rows_below}
 use Rattle.aho_hybrid.proofs.Filling.{in-row}
 use Rattle.aho_hybrid.proofs.Listed.{part-at, part-within, within-at}
@@ -188,9 +188,11 @@ module _ (plan : Parts) (words : ℕ) (planned : IsPlan plan words) (filled : Fi
                   ∙ cond-true {A = ℕ} (nat_eq i 1 || nat_eq i plan.special.start_anchored_id) root i other))
               | inr own ↦
                   inr
-                  (inr
-                  (cond-false {A = ℕ} (nat_eq i 0) 0 (cond (nat_eq i 1 || nat_eq i plan.special.start_anchored_id) root i) (ne_eqb i 0 alive)
-                  ∙ cond-false {A = ℕ} (nat_eq i 1 || nat_eq i plan.special.start_anchored_id) root i own, λ e. grind (arith, nat_tests)))
+                  (inr (
+                    cond-false {A = ℕ} (nat_eq i 0) 0 (cond (nat_eq i 1 || nat_eq i plan.special.start_anchored_id) root i) (ne_eqb i 0 alive)
+                        ∙ cond-false {A = ℕ} (nat_eq i 1 || nat_eq i plan.special.start_anchored_id) root i own,
+                    λ e. grind (arith, nat_tests),
+                  ))
             ]
       ]
 
@@ -285,7 +287,7 @@ module _ (plan : Parts) (words : ℕ) (planned : IsPlan plan words) (filled : Fi
             let near = sound.next_depth source byte (source-state i below) small some in (
               subst (IsStateIn layout) is (state-of leads state.0),
               omega
-              (arith, ap (height_in layout) is, height-most leads (height_in layout (number_in plan i) + 1) state.0 (omega (arith, near, source-depth i, height-deep i below deep))),
+                  (arith, ap (height_in layout) is, height-most leads (height_in layout (number_in plan i) + 1) state.0 (omega (arith, near, source-depth i, height-deep i below deep))),
             )
       ]
 
@@ -332,16 +334,16 @@ module _ (plan : Parts) (words : ℕ) (planned : IsPlan plan words) (filled : Fi
   place-of i below =
       elim (cases_Bool (is_deep plan.row_depth (state_at plan.states i))) [
         | inl deep ↦ (
-            get_or layout.deep (record_at plan.row_depth plan.states i + 1) 0,
-            cond-false (is_row layout (number_in plan i)) _ _ (deep-test layout (number_in plan i) (deep-of i below deep)) ∙ word-of i 1 below deep,
-            (record-of i below deep).listed,
-          )
+          get_or layout.deep (record_at plan.row_depth plan.states i + 1) 0,
+          cond-false (is_row layout (number_in plan i)) _ _ (deep-test layout (number_in plan i) (deep-of i below deep)) ∙ word-of i 1 below deep,
+          (record-of i below deep).listed,
+        )
         | inr shallow ↦ (
-            get_or layout.rows (row_in plan i + class_count plan.classes) 0,
-            cond-true (is_row layout (number_in plan i)) _ _ (row-test layout (number_in plan i) (row-of i below shallow))
-            ∙ ap (λ (m : ℕ). get_or layout.rows (m + class_count plan.classes) 0) (number-row i below shallow),
-            done.rows.listed i below shallow,
-          )
+          get_or layout.rows (row_in plan i + class_count plan.classes) 0,
+          cond-true (is_row layout (number_in plan i)) _ _ (row-test layout (number_in plan i) (row-of i below shallow))
+              ∙ ap (λ (m : ℕ). get_or layout.rows (m + class_count plan.classes) 0) (number-row i below shallow),
+          done.rows.listed i below shallow,
+        )
       ]
 
   pub sound-layout : length layout.rows + length layout.deep ≤ greatest_index → length layout.lists ≤ greatest_index + 1 → length layout.moves ≤ greatest_index → IsSoundLayout layout

@@ -1,5 +1,5 @@
 -- The states that were laid out are an automaton of the same patterns: what they stand for.
-use Rattle.std.proofs.Common.{◌≡◌, ◌≢◌, ◌⊎◌, ℕ, zero, suc, ◌+◌, ◌*◌, ◌<◌, ◌≤◌, ◌||◌, Bool, true, false, cond, List, [], ◌∷◌, ◌++◌, length, map, get_or, nat_eq, refl, sym, ap, subst, ◌∙◌, inl, inr, arith, ne_eqb, eq-eqb, eqb-true, append_assoc}
+use Rattle.std.proofs.Common.{◌≡◌, ◌≢◌, ℕ, zero, suc, ◌+◌, ◌<◌, ◌||◌, Bool, true, false, cond, List, [], ◌∷◌, ◌++◌, length, map, get_or, nat_eq, refl, sym, ap, subst, ◌∙◌, inl, inr, arith, ne_eqb, eqb-true, append_assoc}
 use Rattle.std.specs.Prelude.{Option, Some, None, is_none, nat_lt}
 use Rattle.std.specs.List.{All}
 use Rattle.std.proofs.lemmas.Bool.{cases_Bool, cases_eq, cases_order, cond-true, cond-false, le-ltb}
@@ -14,7 +14,7 @@ use Rattle.aho_base.specs.Step.{follow}
 use Rattle.aho_base.specs.declared.search.Anchored.TheVariants.{No}
 use Rattle.aho_base.specs.declared.search.MatchKind.{MatchKind}
 use Rattle.aho_build.proofs.AutomatonStates.{held-dead, held-failed, held-lists, held-taken}
-use Rattle.aho_build.proofs.LinkedNodes.{named-ne_dead, named-state, state-named}
+use Rattle.aho_build.proofs.LinkedNodes.{named-ne_dead, state-named}
 use Rattle.aho_build.proofs.NamesOfTries.{name_at-below}
 use Rattle.aho_build.specs.Automaton.{IsAutomaton}
 use Rattle.aho_build.specs.Dense.{HasBorders}
@@ -22,17 +22,17 @@ use Rattle.aho_build.specs.StateNames.{IsStateOf, name_at}
 use Rattle.aho_build.specs.Walking.{AreStarts, IsSound, IsState, links_left, step_in}
 use Rattle.aho_laws.proofs.StepLaw.{held_after-push}
 use Rattle.aho_table.proofs.Classes.{class_of-count}
-use Rattle.aho_table.specs.Alphabet.{class_count, class_of}
-use Rattle.aho_table.specs.Table.{State, depth_in, fail_in, matches_in, next_in, state_at}
+use Rattle.aho_table.specs.Alphabet.{class_of}
+use Rattle.aho_table.specs.Table.{depth_in, fail_in, matches_in, next_in, state_at}
 use Rattle.aho_hybrid.proofs.Alike.{follows, step-alike}
 use Rattle.aho_hybrid.proofs.Counting.{row-before, rows_below}
 use Rattle.aho_hybrid.proofs.Filling.{in-row}
 use Rattle.aho_hybrid.proofs.Listed.{list-at}
-use Rattle.aho_hybrid.proofs.Made.{child-of, deep-of, dense, entry-of, layout, link-of, number-dead, number-deep, number-row, place-of, root-shallow, row-of, sound-layout, state-of}
+use Rattle.aho_hybrid.proofs.Made.{child-of, deep-of, entry-of, layout, link-of, number-dead, number-deep, number-row, place-of, root-shallow, row-of}
 use Rattle.aho_hybrid.proofs.Stepping.{told-none, told-some}
 use Rattle.aho_hybrid.specs.declared.fill.Filled.{Filled}
-use Rattle.aho_hybrid.specs.Filled.{AreFirst, IsDeepState, IsFilled, IsPlan, IsShallow, Parts, is_deep, leads_in, number_in, row_in, source_of}
-use Rattle.aho_hybrid.specs.Layout.{IsSoundLayout, Layout, along, child_in, depth_in as height_in, entry_in, is_row, is_special_in, link_in, list_from, list_in, list_place, next_in as led_in, run_from, stride_of}
+use Rattle.aho_hybrid.specs.Filled.{AreFirst, IsDeepState, IsFilled, IsPlan, IsShallow, Parts, is_deep, leads_in, number_in, source_of}
+use Rattle.aho_hybrid.specs.Layout.{IsSoundLayout, Layout, along, child_in, depth_in as height_in, is_row, is_special_in, link_in, list_from, list_in, list_place, next_in as led_in, run_from, stride_of}
 use Rattle.aho_hybrid.specs.Reading.{IsLayoutOf, along-child, along-link, along-row, deep-test, row-test}
 
 module _ (plan : Parts) (words : ℕ) (planned : IsPlan plan words) (filled : Filled) (done : IsFilled plan (length plan.states) filled)

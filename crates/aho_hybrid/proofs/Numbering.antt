@@ -1,5 +1,5 @@
 -- The numbers of the states, given one after another.
-use Rattle.std.proofs.Common.{◌≡◌, ℕ, ◌+◌, ◌-◌, ◌*◌, ◌<◌, ◌≤◌, Bool, true, false, List, [], ◌∷◌, ◌++◌, length, get_or, sym, ap, ◌∙◌, inl, inr, arith}
+use Rattle.std.proofs.Common.{◌≡◌, ℕ, ◌+◌, ◌-◌, ◌*◌, ◌<◌, ◌≤◌, Bool, true, false, List, [], ◌∷◌, ◌++◌, length, get_or, ap, ◌∙◌, inl, inr, arith}
 use Rattle.std.proofs.Math.Nat.{mul-le-mul_right}
 use Rattle.std.proofs.lemmas.Bool.{cases_Bool, cond-false, cond-true}
 use Rattle.std.proofs.lemmas.List.{get_or_append_left, get_or_push, length_push}
@@ -7,12 +7,12 @@ use Rattle.aho_base.specs.Numbers.{greatest_index}
 use Rattle.aho_table.specs.Table.{State, state_at}
 use Rattle.aho_hybrid.specs.Filled.{AreNumbers, is_deep, number_of, record_at, row_at, rows_count, rows_size, states_size}
 use Rattle.aho_hybrid.specs.Layout.{stride_of}
-use Rattle.aho_hybrid.proofs.Counting.{deep-all, deep-before, deep-first, deep-grow, rows-all, rows-and-deep, rows-first, rows-grow}
+use Rattle.aho_hybrid.proofs.Counting.{deep-all, deep-before, deep-grow, rows-all, rows-and-deep, rows-grow}
 use Rattle.aho_hybrid.proofs.Filling.{below-or-last}
 
 module _ (row_depth : ℕ) (states : List State) (classes : List Bool) where
   pub numbers-none : AreNumbers row_depth states classes 0 []
-  numbers-none = record { sized = omega arith; number = λ sid below. absurd (omega (arith, below)); }
+  numbers-none = record { sized = omega arith; number = λ sid below. absurd (omega (arith, below)) }
 
   -- one number more
   pub number-added : (count number : ℕ) (old new : List ℕ) → AreNumbers row_depth states classes count old → number ≡ number_of row_depth states classes count → new ≡ old ++ number ∷ []
@@ -47,7 +47,7 @@ module _ (row_depth : ℕ) (states : List State) (classes : List Bool) where
       → (row_at row_depth states classes count ≤ greatest_index) × (rows_size row_depth states classes + record_at row_depth states count ≤ greatest_index)
   places-small count within small = (
     omega
-    (arith, mul-le-mul_right (stride_of classes) (rows-grow row_depth states count (length states) within (omega arith)), ap (λ (n : ℕ). n * stride_of classes) (rows-all row_depth states), small),
+        (arith, mul-le-mul_right (stride_of classes) (rows-grow row_depth states count (length states) within (omega arith)), ap (λ (n : ℕ). n * stride_of classes) (rows-all row_depth states), small),
     omega (arith, deep-grow row_depth states count (length states) within (omega arith), deep-all row_depth states, small),
   )
 

@@ -1,5 +1,5 @@
 -- The states of an automaton that is read out, as they are laid out.
-use Rattle.std.specs.Prelude.{◌≡◌, ◌⊎◌, ℕ, ◌+◌, ◌-◌, ◌*◌, ◌<◌, ◌≤◌, ◌||◌, Bool, not, false, true, List, [], ◌∷◌, ◌++◌, length, take, nat_eq, nat_lt, slice_index_or, if◌then◌else◌}
+use Rattle.std.specs.Prelude.{◌≡◌, ◌⊎◌, ℕ, ◌+◌, ◌*◌, ◌<◌, ◌≤◌, ◌||◌, Bool, not, false, true, List, [], ◌∷◌, ◌++◌, length, take, nat_eq, nat_lt, slice_index_or, if◌then◌else◌}
 use Rattle.std.specs.List.{count_by}
 use Rattle.aho_base.specs.Numbers.{greatest_index}
 use Rattle.aho_base.specs.declared.error.BuildError.{BuildError}
@@ -12,6 +12,7 @@ use Rattle.aho_table.specs.Table.{IsRising, State, dead_id, fail_id, fail_in, de
 use Rattle.aho_corasick.specs.ReadOut.{classes_of, special_of, states_of}
 use Rattle.aho_corasick.specs.declared.noncontiguous.NFA.{NFA}
 use Rattle.aho_hybrid.specs.declared.fill.Filled.{Filled}
+use Rattle.aho_hybrid.specs.declared.fill.Plan.{Plan}
 use Rattle.aho_hybrid.specs.Layout.{Layout, stride_of, record_size}
 
 -- ---- which states have rows, and how the states are numbered
@@ -111,6 +112,9 @@ parts_of nfa firsts numbers row_depth = record {
   numbers = numbers;
   row_depth = row_depth;
 }
+
+abbrev pub plan_of : NFA → Plan → Parts
+plan_of nfa plan = parts_of nfa plan.firsts plan.numbers.items plan.row_depth
 
 -- the numbers are those of the states, and the entries of a row are as many as there are classes, and one
 pub record IsPlan (plan : Parts) (stride : ℕ) : Type 0 where

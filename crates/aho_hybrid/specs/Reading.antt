@@ -44,10 +44,10 @@ state-cases t sid state =
     ]
 
 pub state-of_row : (t : Layout) (sid : ℕ) → HasRow t sid → IsStateIn t sid
-state-of_row t sid row = record { with_row = λ e. row; without_row = λ e. absurd (both_ways (is_row t sid) e (row-test t sid row)); }
+state-of_row t sid row = record { with_row = λ e. row; without_row = λ e. absurd (both_ways (is_row t sid) e (row-test t sid row)) }
 
 pub state-of_deep : (t : Layout) (sid : ℕ) → IsDeep t sid → IsStateIn t sid
-state-of_deep t sid deep = record { with_row = λ e. absurd (both_ways (is_row t sid) (deep-test t sid deep) e); without_row = λ e. deep; }
+state-of_deep t sid deep = record { with_row = λ e. absurd (both_ways (is_row t sid) (deep-test t sid deep) e); without_row = λ e. deep }
 
 -- a step from a state with a row, and from a deep one
 pub along-row : (t : Layout) (byte left sid : ℕ) → is_row t sid ≡ true → 0 < left → (along t byte left sid ≡ entry_in t sid byte) × (looks_along t byte left sid ≡ 1)
@@ -60,7 +60,7 @@ along-child t byte zero sid next deep child some = absurd (omega arith)
 along-child t byte (suc left) sid next deep child some = (
   cond-false (is_row t sid) _ _ deep ∙ ap (λ o. told_or o (along t byte left (link_in t sid))) child,
   ap (λ b. 1 + (if b || is_some (child_in t sid byte) then 0 else looks_along t byte left (link_in t sid))) deep
-  ∙ ap (λ o. 1 + (if is_some o then 0 else looks_along t byte left (link_in t sid))) child,
+      ∙ ap (λ o. 1 + (if is_some o then 0 else looks_along t byte left (link_in t sid))) child,
 )
 
 pub along-link : (t : Layout) (byte left sid : ℕ) → is_row t sid ≡ false → child_in t sid byte ≡ None
@@ -68,7 +68,7 @@ pub along-link : (t : Layout) (byte left sid : ℕ) → is_row t sid ≡ false �
 along-link t byte left sid deep child = (
   cond-false (is_row t sid) _ _ deep ∙ ap (λ o. told_or o (along t byte left (link_in t sid))) child,
   ap (λ b. 1 + (if b || is_some (child_in t sid byte) then 0 else looks_along t byte left (link_in t sid))) deep
-  ∙ ap (λ o. 1 + (if is_some o then 0 else looks_along t byte left (link_in t sid))) child,
+      ∙ ap (λ o. 1 + (if is_some o then 0 else looks_along t byte left (link_in t sid))) child,
 )
 
 module _ (t : Layout) (sound : IsSoundLayout t) where
@@ -204,9 +204,9 @@ module _ (t : Layout) (sound : IsSoundLayout t) where
   pub plain_of : (sid : ℕ) → is_special_in t sid ≡ false → (nat_eq sid 0 ≡ false) × (list_in t sid ≡ [])
   plain_of sid high = (
     ne_eqb sid 0
-    (λ e.
-    both_ways (is_special_in t sid) high
-    (ap (is_special_in t) e ∙ cond-true (is_row t 0) (nat_lt 0 t.low) (nat_lt 0 t.deep_low) (row-test t 0 sound.in_rows.dead) ∙ lt-ltb 0 t.low sound.in_rows.dead_special)),
+        (λ e.
+        both_ways (is_special_in t sid) high
+        (ap (is_special_in t) e ∙ cond-true (is_row t 0) (nat_lt 0 t.low) (nat_lt 0 t.deep_low) (row-test t 0 sound.in_rows.dead) ∙ lt-ltb 0 t.low sound.in_rows.dead_special)),
     cond-false (is_special_in t sid) (list_from t.lists (list_place t sid)) [] high,
   )
 

@@ -1,5 +1,5 @@
-//! The states of a `Hybrid`, made from an `NFA`'s: rows for those near the start, and records for the others, each in the order
-//! of the `NFA`'s numbers.
+//! The states of a `Hybrid`, made from an `NFA`'s: rows for those near the start, and records for the others, each in the
+//! order of the `NFA`'s numbers.
 
 ghost use Rattle.std.specs.Prelude.{◌≡◌, ◌⊎◌, ℕ, [], ◌∷◌, ◌++◌, ◌+◌, ◌*◌, ◌<◌, ◌≤◌, length, slice_index_or, if◌then◌else◌, IfOk, IfErr, OnOk};
 ghost use Rattle.aho_base.specs.Numbers.{greatest_index};
@@ -10,7 +10,7 @@ ghost use Rattle.aho_table.specs.Alphabet.{class_of, class_count};
 ghost use Rattle.aho_table.specs.Table.{matches_in, state_at};
 ghost use Rattle.aho_hybrid.specs.Layout.{IsSoundLayout, stride_of};
 ghost use Rattle.aho_hybrid.specs.Reading.{IsLayoutOf};
-ghost use Rattle.aho_hybrid.specs.Filled.{AreFirst, AreNumbers, HasEntries, HasSizes, IsDeepState, IsFilled, IsListAt, IsListRefused, IsPlaced, IsPlan, IsRefused, IsRowDepth, IsShallow, IsTooLarge, deep_count, flat, is_deep, number_at, parts_of, rows_count, rows_size, source_in, states_size};
+ghost use Rattle.aho_hybrid.specs.Filled.{AreFirst, AreNumbers, HasEntries, HasSizes, IsDeepState, IsFilled, IsListAt, IsListRefused, IsPlaced, IsPlan, IsRefused, IsRowDepth, IsShallow, IsTooLarge, deep_count, flat, is_deep, number_at, plan_of, rows_count, rows_size, source_in, states_size};
 
 use crate::rows::Rows;
 use aho_base::error::BuildError;
@@ -51,7 +51,13 @@ struct Filled {
     deep_low: usize,
 }
 
-/// The states of an `NFA`, with rows that take at most so many bytes, but for the states without depth.
+/// The states of an `NFA`. Those down to some depth have rows: the greatest depth with which the rows take at most so
+/// many bytes, or 0.
+///
+/// # Errors
+///
+/// `OutOfMemory`, at any time; or `StateIDOverflow` where rows and records have more words than there are indices, or the
+/// place of a list or of a transition is above the greatest.
 pub fn rows_of(alloc: Global, nfa: &NFA, budget: usize) -> Result<Rows, BuildError>
     ensures sound { IfOk result IsSoundLayout }
     ensures of { IfOk result (λ rows. (p : Patterns)
@@ -167,8 +173,8 @@ fn numbers_of(
     requires bounded { stride ≤ 257 }
     requires dense { dense ≡ rows_size row_depth (states_of nfa.now) (classes_of nfa.now) }
     requires small { states_size row_depth (states_of nfa.now) (classes_of nfa.now) ≤ greatest_index }
-    ensures numbers { IfOk result (λ numbers. AreNumbers row_depth (states_of nfa.now) (classes_of nfa.now)
-        (length (states_of nfa.now)) numbers.items) }
+    ensures numbers { IfOk result (λ numbers. AreNumbers row_depth (states_of nfa.now)
+        (classes_of nfa.now) (length (states_of nfa.now)) numbers.items) }
     ensures refused { IfErr result IsListRefused }
 {
     let mut numbers = Vec::new(alloc);
@@ -186,8 +192,8 @@ fn numbers_of(
 
 /// All states.
 fn filled_states(alloc: Global, nfa: &NFA, plan: &Plan) -> Result<Filled, BuildError>
-    requires plan { IsPlan (parts_of nfa.now plan.now.firsts plan.now.numbers.items plan.now.row_depth) plan.now.stride }
-    ensures filled { IfOk result (IsFilled (parts_of nfa.now plan.now.firsts plan.now.numbers.items plan.now.row_depth) (length (states_of nfa.now))) }
+    requires plan { IsPlan (plan_of nfa.now plan.now) plan.now.stride }
+    ensures filled { IfOk result (IsFilled (plan_of nfa.now plan.now) (length (states_of nfa.now))) }
     ensures refused { IfErr result IsListRefused }
 {
     let mut filled = Filled {
@@ -208,7 +214,7 @@ fn filled_states(alloc: Global, nfa: &NFA, plan: &Plan) -> Result<Filled, BuildE
 /// The number below which states with rows are special whatever they list: DEAD and, where a search may skip from the start,
 /// all up to the start.
 fn first_low(nfa: &NFA, plan: &Plan) -> usize
-    requires plan { IsPlan (parts_of nfa.now plan.now.firsts plan.now.numbers.items plan.now.row_depth) plan.now.stride }
+    requires plan { IsPlan (plan_of nfa.now plan.now) plan.now.stride }
     ensures some { 0 < result }
 {
     match nfa.prefilter() {
@@ -219,11 +225,11 @@ fn first_low(nfa: &NFA, plan: &Plan) -> usize
 
 /// One state more.
 fn add_state(filled: &mut Filled, nfa: &NFA, plan: &Plan, index: usize) -> Result<(), BuildError>
-    requires plan { IsPlan (parts_of nfa.now plan.now.firsts plan.now.numbers.items plan.now.row_depth) plan.now.stride }
+    requires plan { IsPlan (plan_of nfa.now plan.now) plan.now.stride }
     requires within { index < length (states_of nfa.now) }
     requires small { index ≤ greatest_index }
-    requires filled { IsFilled (parts_of nfa.now plan.now.firsts plan.now.numbers.items plan.now.row_depth) index filled.old }
-    ensures filled { OnOk result (IsFilled (parts_of nfa.now plan.now.firsts plan.now.numbers.items plan.now.row_depth) (index + 1) filled.new) }
+    requires filled { IsFilled (plan_of nfa.now plan.now) index filled.old }
+    ensures filled { OnOk result (IsFilled (plan_of nfa.now plan.now) (index + 1) filled.new) }
     ensures refused { IfErr result IsListRefused }
 {
     if is_deep(nfa, index, plan.row_depth) {
@@ -235,12 +241,12 @@ fn add_state(filled: &mut Filled, nfa: &NFA, plan: &Plan, index: usize) -> Resul
 
 /// The row of one state more.
 fn add_row(filled: &mut Filled, nfa: &NFA, plan: &Plan, index: usize) -> Result<(), BuildError>
-    requires plan { IsPlan (parts_of nfa.now plan.now.firsts plan.now.numbers.items plan.now.row_depth) plan.now.stride }
+    requires plan { IsPlan (plan_of nfa.now plan.now) plan.now.stride }
     requires within { index < length (states_of nfa.now) }
     requires small { index ≤ greatest_index }
-    requires shallow { IsShallow (parts_of nfa.now plan.now.firsts plan.now.numbers.items plan.now.row_depth) index }
-    requires filled { IsFilled (parts_of nfa.now plan.now.firsts plan.now.numbers.items plan.now.row_depth) index filled.old }
-    ensures filled { OnOk result (IsFilled (parts_of nfa.now plan.now.firsts plan.now.numbers.items plan.now.row_depth) (index + 1) filled.new) }
+    requires shallow { IsShallow (plan_of nfa.now plan.now) index }
+    requires filled { IsFilled (plan_of nfa.now plan.now) index filled.old }
+    ensures filled { OnOk result (IsFilled (plan_of nfa.now plan.now) (index + 1) filled.new) }
     ensures refused { IfErr result IsListRefused }
 {
     let sid = source_of(nfa.special(), index);
@@ -253,12 +259,12 @@ fn add_row(filled: &mut Filled, nfa: &NFA, plan: &Plan, index: usize) -> Result<
 
 /// The record of one state more.
 fn add_record(filled: &mut Filled, nfa: &NFA, plan: &Plan, index: usize) -> Result<(), BuildError>
-    requires plan { IsPlan (parts_of nfa.now plan.now.firsts plan.now.numbers.items plan.now.row_depth) plan.now.stride }
+    requires plan { IsPlan (plan_of nfa.now plan.now) plan.now.stride }
     requires within { index < length (states_of nfa.now) }
     requires small { index ≤ greatest_index }
-    requires deep { IsDeepState (parts_of nfa.now plan.now.firsts plan.now.numbers.items plan.now.row_depth) index }
-    requires filled { IsFilled (parts_of nfa.now plan.now.firsts plan.now.numbers.items plan.now.row_depth) index filled.old }
-    ensures filled { OnOk result (IsFilled (parts_of nfa.now plan.now.firsts plan.now.numbers.items plan.now.row_depth) (index + 1) filled.new) }
+    requires deep { IsDeepState (plan_of nfa.now plan.now) index }
+    requires filled { IsFilled (plan_of nfa.now plan.now) index filled.old }
+    ensures filled { OnOk result (IsFilled (plan_of nfa.now plan.now) (index + 1) filled.new) }
     ensures refused { IfErr result IsListRefused }
 {
     let own = StateID::new_unchecked(index);
@@ -420,9 +426,10 @@ fn push_entries(
     plan: &Plan,
     sid: StateID,
 ) -> Result<(), BuildError>
-    requires plan { IsPlan (parts_of nfa.now plan.now.firsts plan.now.numbers.items plan.now.row_depth) plan.now.stride }
+    requires plan { IsPlan (plan_of nfa.now plan.now) plan.now.stride }
     requires state { IsState (states_of nfa.now) sid }
-    ensures entries { OnOk result (HasEntries (parts_of nfa.now plan.now.firsts plan.now.numbers.items plan.now.row_depth) sid (class_count (classes_of nfa.now)) entries.old.items entries.new.items) }
+    ensures entries { OnOk result (HasEntries (plan_of nfa.now plan.now) sid
+        (class_count (classes_of nfa.now)) entries.old.items entries.new.items) }
     ensures refused { IfErr result IsListRefused }
 {
     for class in 0..plan.stride - 1 {

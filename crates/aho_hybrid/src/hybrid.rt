@@ -66,6 +66,11 @@ impl Hybrid {
 
     /// The automaton of all that the `NFA` is of. The states down to some depth have rows: the greatest depth with which the
     /// rows take at most so many bytes, or 0.
+    ///
+    /// # Errors
+    ///
+    /// `OutOfMemory`, at any time; or `StateIDOverflow` where its states have more words than there are indices, or the place of
+    /// a list or of a transition is above the greatest.
     pub fn with_budget(alloc: Global, nfa: &NFA, budget: usize) -> Result<Hybrid, BuildError>
         ensures of { IfOk result (λ made. (p : Patterns)
             → ⟦<NFA as Automaton>⟧.is_of nfa.now p → ⟦<Hybrid as Automaton>⟧.is_of made p) }

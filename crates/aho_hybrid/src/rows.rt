@@ -1,5 +1,5 @@
-//! The states of a `Hybrid`. Those near the start have rows: an entry for each class of bytes, so that a step is one look, and
-//! one more for the state's list. Deeper ones have records: a link, and a transition for each byte that they take.
+//! The states of a `Hybrid`. Those near the start have rows: an entry for each class of bytes, so that a step is one look,
+//! and one more for the state's list. Deeper ones have records: a link, and a transition for each byte that they take.
 
 ghost use Rattle.std.specs.Prelude.{◌≡◌, ◌+◌, ◌*◌, ◌<◌, ◌≤◌, ◌^◌, length, nat_lt, slice_get, take, drop, Some, IfOk};
 ghost use Rattle.aho_base.specs.Numbers.{greatest_index};
@@ -10,14 +10,14 @@ use aho_table::alphabet::ByteClasses;
 use std::alloc::AllocError;
 use std::marker::Model;
 
-/// The states. One with a row is numbered by the place where its row begins, and a deeper one by the place of its record, counted
-/// on from the end of the rows.
+/// The states. One with a row is numbered by the place where its row begins, and a deeper one by the place of its record,
+/// counted on from the end of the rows.
 #[derive(Drop)]
 pub struct Rows {
     pub(crate) classes: ByteClasses,
     pub(crate) entries: Vec<SmallIndex>,
-    /// For each deep state five words: its link, the place of its list, its height above the rows, and the place and the number
-    /// of the words of its transitions.
+    /// For each deep state five words: its link, the place of its list, how deep it is below the rows, and the place and the
+    /// number of the words of its transitions.
     pub(crate) deep: Vec<SmallIndex>,
     /// For each transition of a deep state its byte, and the state that it leads to.
     pub(crate) moves: Vec<SmallIndex>,

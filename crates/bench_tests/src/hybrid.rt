@@ -19,8 +19,8 @@ use std::alloc::{AllocError, Global};
 use std::process::Abort;
 use std::test::Fail;
 
-/// Bytes for rows: for those of the states without depth alone, for some, and for all.
-const BUDGETS: [usize; 3] = [0, 300, usize::MAX];
+/// Bytes for rows: for those of the states without depth alone, for some, and for all; and whether there is a prefilter.
+const SETTINGS: [(usize, bool); 3] = [(0, false), (300, true), (usize::MAX, false)];
 
 /// The automaton of these patterns, with rows of so many bytes at most.
 fn hybrid_of(
@@ -129,7 +129,7 @@ fn search<A: Automaton>(
     Ok(())
 }
 
-/// Searches a range of these bytes for these words, with a prefilter and without one.
+/// Searches a range of these bytes for these words, with several budgets, with a prefilter and without one.
 fn search_range(
     rt: &impl Abort,
     alloc: Global,
@@ -140,21 +140,19 @@ fn search_range(
 ) -> Result<(), AllocError> {
     assert!(rt; words.len() <= PatternID::MAX.as_usize());
     let patterns = PatternSet::new(words, kind, ignore_case);
-    for budget in BUDGETS {
-        for prefilter in [false, true] {
-            let hybrid = hybrid_of(rt, alloc, words, kind, ignore_case, prefilter, budget);
-            search(rt, alloc, &patterns, &hybrid, haystack)?;
-        }
+    for (budget, prefilter) in SETTINGS {
+        let hybrid = hybrid_of(rt, alloc, words, kind, ignore_case, prefilter, budget);
+        search(rt, alloc, &patterns, &hybrid, haystack)?;
     }
     Ok(())
 }
 
-/// Searches ranges of random bytes of an alphabet for ranges of them, 40 times.
+/// Searches ranges of random bytes of an alphabet for ranges of them, 20 times.
 fn search_random(rt: &impl Abort, alloc: Global, alphabet: &[u8]) -> Result<(), AllocError>
     requires some { 0 < length alphabet.now }
 {
     let mut random = Random::new();
-    for _ in 0..40 {
+    for _ in 0..20 {
         let mut bytes = [0; 40];
         random.fill(&mut bytes, alphabet);
         let words = random.ranges(alloc, &bytes)?;

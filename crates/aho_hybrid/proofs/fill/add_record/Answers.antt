@@ -1,11 +1,8 @@
-use Rattle.std.proofs.Common.{◌≡◌, ◌≤◌, ◌<◌, ◌+◌, ◌-◌, ◌*◌, ◌∙◌, ℕ, List, [], ◌∷◌, ◌++◌, length, get_or, arith, ap, subst, sym}
-use Rattle.std.proofs.lemmas.List.{length-append, length_push, nil_from_length}
+use Rattle.std.proofs.Common.{◌≡◌, ◌<◌, ◌+◌, ◌∙◌, ℕ, List, ◌++◌, length, arith, ap, subst, sym}
+use Rattle.std.proofs.lemmas.List.{length-append, nil_from_length}
 use Rattle.aho_build.specs.declared.special.Special.{Special}
-use Rattle.aho_corasick.specs.ReadOut.{classes_of, special_of, states_of}
-use Rattle.aho_table.specs.Alphabet.{class_count}
 use Rattle.aho_table.specs.Table.{IsRising, depth_in, fail_in, matches_in, state_at}
-use Rattle.aho_hybrid.specs.Layout.{stride_of}
-use Rattle.aho_hybrid.specs.Filled.{HasEntries, IsPlaced, Parts, flat, moves_of, number_at, number_in, parts_of, row_in, source_in, source_of, transitions_of}
+use Rattle.aho_hybrid.specs.Filled.{IsPlaced, Parts, flat, moves_of, number_at, number_in, parts_of, source_in, source_of, transitions_of}
 use Rattle.aho_hybrid.proofs.Filling.{record-added, rows-passed}
 use Rattle.std.proofs.lemmas.Bool.{ltb-true}
 use Rattle.aho_hybrid.proofs.fill.add_record.Goals as goal

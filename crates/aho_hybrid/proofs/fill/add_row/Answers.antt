@@ -1,11 +1,9 @@
-use Rattle.std.proofs.Common.{◌≡◌, ◌≤◌, ◌<◌, ◌+◌, ◌-◌, ◌*◌, ◌∙◌, ℕ, List, [], ◌∷◌, ◌++◌, length, get_or, arith, ap, subst, sym}
-use Rattle.std.proofs.lemmas.List.{length-append, length_push, nil_from_length}
+use Rattle.std.proofs.Common.{◌≡◌, ◌+◌, ◌∙◌, ℕ, List, [], ◌∷◌, ◌++◌, length, arith, ap, subst, sym}
+use Rattle.std.proofs.lemmas.List.{length_push, nil_from_length}
 use Rattle.aho_build.specs.declared.special.Special.{Special}
-use Rattle.aho_corasick.specs.ReadOut.{classes_of, special_of, states_of}
 use Rattle.aho_table.specs.Alphabet.{class_count}
-use Rattle.aho_table.specs.Table.{IsRising, depth_in, fail_in, matches_in, state_at}
-use Rattle.aho_hybrid.specs.Layout.{stride_of}
-use Rattle.aho_hybrid.specs.Filled.{HasEntries, IsPlaced, Parts, flat, moves_of, number_at, number_in, parts_of, row_in, source_in, source_of, transitions_of}
+use Rattle.aho_table.specs.Table.{matches_in}
+use Rattle.aho_hybrid.specs.Filled.{HasEntries, IsPlaced, Parts, parts_of, row_in, source_in, source_of}
 use Rattle.aho_hybrid.proofs.Filling.{records-passed, row-added}
 use Rattle.aho_hybrid.proofs.fill.add_row.Goals as goal
 

@@ -1,4 +1,4 @@
-use Rattle.std.proofs.Common.{◌≡◌, ℕ, length, arith}
+use Rattle.std.proofs.Common.{◌≡◌, length, arith}
 use Rattle.aho_corasick.specs.ReadOut.{states_of}
 use Rattle.aho_hybrid.proofs.Counting.{none-deep}
 use Rattle.aho_hybrid.proofs.fill.deepest.Goals as goal

@@ -15,7 +15,7 @@ loop-index-init c =
     let records : AreRecords plan 0 c.new-2.result.items c.new-3.result.items c.push.new.list.items 0 =
     subst (λ (l : List ℕ). AreRecords plan 0 l c.new-3.result.items c.push.new.list.items 0) (sym c.new-2.ensures.items)
     (subst (λ (l : List ℕ). AreRecords plan 0 [] l c.push.new.list.items 0) (sym c.new-3.ensures.items) (records-none plan c.push.new.list.items)) in
-    record { rows = rows; records = records; }
+    record { rows = rows; records = records }
 
 pub returns-clause-filled : goal.returns-clause-filled
 returns-clause-filled c =

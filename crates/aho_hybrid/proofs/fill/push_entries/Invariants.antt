@@ -1,4 +1,3 @@
-use Rattle.aho_corasick.specs.ReadOut.{states_of}
 use Rattle.aho_hybrid.specs.Filled.{HasEntries, parts_of}
 use Rattle.aho_hybrid.proofs.fill.push_entries.Given as goal
 

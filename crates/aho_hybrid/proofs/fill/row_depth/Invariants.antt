@@ -1,4 +1,4 @@
-use Rattle.std.proofs.Common.{ℕ, ◌+◌, ◌-◌, ◌*◌, ◌<◌, ◌≤◌}
+use Rattle.std.proofs.Common.{◌+◌, ◌-◌, ◌*◌, ◌<◌, ◌≤◌}
 use Rattle.aho_corasick.specs.ReadOut.{classes_of, states_of}
 use Rattle.aho_hybrid.specs.Filled.{deep_count, rows_size}
 use Rattle.aho_hybrid.proofs.fill.row_depth.Given as goal

@@ -8,7 +8,7 @@ use Rattle.aho_hybrid.proofs.Counting.{deep-more, row-more, rows-all, rows-first
 use Rattle.aho_hybrid.proofs.fill.rows_count.Goals as goal
 
 pub loop-index-init : goal.loop-index-init
-loop-index-init c = record { counted = sym (rows-first c.args.depth (states_of c.args.nfa.now)); bound = omega arith; }
+loop-index-init c = record { counted = sym (rows-first c.args.depth (states_of c.args.nfa.now)); bound = omega arith }
 
 pub loop-index-preserved : goal.loop-index-preserved
 loop-index-preserved c =
@@ -20,11 +20,11 @@ loop-index-preserved c =
       | inl deep ↦
           let is : c.either-count.result ≡ count = c.either-count.ensures.either ∙ ap (λ (b : Bool). if b then count else count + 1) (c.is_deep.ensures.deep ∙ deep) in
           let more = deep-more c.args.depth states index (omega (arith, within)) deep in
-          record { counted = is ∙ c.loop-index.invariant.counted ∙ sym more.0; bound = omega (arith, is, c.loop-index.invariant.bound); }
+          record { counted = is ∙ c.loop-index.invariant.counted ∙ sym more.0; bound = omega (arith, is, c.loop-index.invariant.bound) }
       | inr shallow ↦
           let is : c.either-count.result ≡ count + 1 = c.either-count.ensures.either ∙ ap (λ (b : Bool). if b then count else count + 1) (c.is_deep.ensures.deep ∙ shallow) in
           let more = row-more c.args.depth states index (omega (arith, within)) shallow in
-          record { counted = is ∙ ap (λ (n : ℕ). n + 1) c.loop-index.invariant.counted ∙ sym more.0; bound = omega (arith, is, c.loop-index.invariant.bound); }
+          record { counted = is ∙ ap (λ (n : ℕ). n + 1) c.loop-index.invariant.counted ∙ sym more.0; bound = omega (arith, is, c.loop-index.invariant.bound) }
     ]
 
 pub returns : goal.returns

@@ -4,4 +4,4 @@ use Rattle.aho_hybrid.specs.Filled.{rows_count}
 use Rattle.aho_hybrid.proofs.fill.rows_count.Given as goal
 
 abbrev pub invariant-loop-index : goal.invariant-loop-index
-invariant-loop-index l = record { counted : l.count ≡ rows_count l.depth (take l.index (states_of l.nfa)); bound : l.count ≤ l.index; }
+invariant-loop-index l = record { counted : l.count ≡ rows_count l.depth (take l.index (states_of l.nfa)); bound : l.count ≤ l.index }

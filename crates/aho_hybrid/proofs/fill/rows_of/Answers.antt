@@ -1,15 +1,13 @@
-use Rattle.std.proofs.Common.{◌≡◌, ◌⊎◌, ◌≤◌, ◌<◌, ◌+◌, ◌-◌, ◌*◌, ◌∙◌, ℕ, Bool, List, length, arith, ap, inl, inr, refl, subst, sym}
+use Rattle.std.proofs.Common.{◌≡◌, ◌+◌, ◌∙◌, ℕ, Bool, List, arith, ap, inl, inr, subst, sym}
 use Rattle.std.proofs.Math.Nat.{mul-le-mul_right}
-use Rattle.aho_base.specs.declared.error.BuildError.{BuildError}
 use Rattle.aho_build.proofs.StoppedBuilds.{IfErr-given}
 use Rattle.aho_build.specs.declared.special.Special.{Special}
 use Rattle.aho_corasick.specs.ReadOut.{classes_of, special_of, states_of}
-use Rattle.aho_corasick.specs.declared.noncontiguous.NFA.{NFA}
 use Rattle.aho_table.specs.Alphabet.{class_count}
-use Rattle.aho_hybrid.specs.Filled.{AreFirst, AreNumbers, IsListRefused, IsPlan, IsRefused, IsRowDepth, IsTooLarge, Parts, number_at, number_in, parts_of, states_size}
+use Rattle.aho_hybrid.specs.Filled.{AreFirst, IsPlan, IsRefused, IsTooLarge, Parts, number_at, number_in, parts_of}
 use Rattle.aho_hybrid.specs.Layout.{IsSoundLayout, Layout, stride_of}
 use Rattle.aho_hybrid.specs.Reading.{IsLayoutOf}
-use Rattle.aho_hybrid.proofs.Made.{deep-size, dense, layout, same-layout, sound-layout}
+use Rattle.aho_hybrid.proofs.Made.{deep-size, dense, same-layout, sound-layout}
 use Rattle.aho_hybrid.proofs.Meant.{layout-of}
 use Rattle.aho_hybrid.proofs.Numbering.{size-of}
 use Rattle.aho_hybrid.proofs.fill.rows_of.Goals as goal
@@ -39,9 +37,12 @@ returns-in_err-numbers_of-clause-refused c =
     let stride : c.alphabet_len-stride.result + 1 ≡ stride_of (classes_of nfa) = ap (λ (n : ℕ). n + 1) (c.alphabet_len-stride.ensures.len ∙ ap class_count c.byte_classes.ensures.classes) in
     let size = size-of c.row_depth-row_depth.result (states_of nfa) (classes_of nfa) c.rows_count-with_rows.result c.states_len.result (c.alphabet_len-stride.result + 1) c.rows_count-with_rows.ensures.count c.states_len.ensures.len stride in
     IfErr-given (IsRefused (states_of nfa) (classes_of nfa) c.args.budget) c.from_residual.result c.in_err-numbers_of.field-0.0 c.from_residual.ensures.1
-    (inr
-    (c.row_depth-row_depth.result, c.row_depth-row_depth.ensures.depth, inr
-    (omega (arith, size, c.if-size-as_usize.false, c.as_usize.ensures.value), c.in_err-numbers_of.ensures.refused)))
+    (inr (
+      c.row_depth-row_depth.result,
+      c.row_depth-row_depth.ensures.depth,
+      inr
+          (omega (arith, size, c.if-size-as_usize.false, c.as_usize.ensures.value), c.in_err-numbers_of.ensures.refused),
+    ))
 
 pub returns-in_err-filled-clause-refused : goal.returns-in_err-filled-clause-refused
 returns-in_err-filled-clause-refused c =
@@ -49,27 +50,36 @@ returns-in_err-filled-clause-refused c =
     let stride : c.alphabet_len-stride.result + 1 ≡ stride_of (classes_of nfa) = ap (λ (n : ℕ). n + 1) (c.alphabet_len-stride.ensures.len ∙ ap class_count c.byte_classes.ensures.classes) in
     let size = size-of c.row_depth-row_depth.result (states_of nfa) (classes_of nfa) c.rows_count-with_rows.result c.states_len.result (c.alphabet_len-stride.result + 1) c.rows_count-with_rows.ensures.count c.states_len.ensures.len stride in
     IfErr-given (IsRefused (states_of nfa) (classes_of nfa) c.args.budget) c.from_residual-in_err-filled.result c.in_err-filled.field-0.0 c.from_residual-in_err-filled.ensures.1
-    (inr
-    (c.row_depth-row_depth.result, c.row_depth-row_depth.ensures.depth, inr
-    (omega (arith, size, c.if-size-as_usize.false, c.as_usize.ensures.value), c.in_err-filled.ensures.refused)))
+    (inr (
+      c.row_depth-row_depth.result,
+      c.row_depth-row_depth.ensures.depth,
+      inr
+          (omega (arith, size, c.if-size-as_usize.false, c.as_usize.ensures.value), c.in_err-filled.ensures.refused),
+    ))
 
 pub returns-then-len-as_usize-clause-refused : goal.returns-then-len-as_usize-clause-refused
 returns-then-len-as_usize-clause-refused c =
     let nfa = c.args.nfa.now in
     let stride : c.alphabet_len-stride.result + 1 ≡ stride_of (classes_of nfa) = ap (λ (n : ℕ). n + 1) (c.alphabet_len-stride.ensures.len ∙ ap class_count c.byte_classes.ensures.classes) in
     let size = size-of c.row_depth-row_depth.result (states_of nfa) (classes_of nfa) c.rows_count-with_rows.result c.states_len.result (c.alphabet_len-stride.result + 1) c.rows_count-with_rows.ensures.count c.states_len.ensures.len stride in
-    inr
-    (c.row_depth-row_depth.result, c.row_depth-row_depth.ensures.depth, inr
-    (omega (arith, size, c.if-size-as_usize.false, c.as_usize.ensures.value), inr (c.len-then-len-as_usize.result, c.overflow-then-len-as_usize.ensures.refused)))
+    inr (
+      c.row_depth-row_depth.result,
+      c.row_depth-row_depth.ensures.depth,
+      inr
+          (omega (arith, size, c.if-size-as_usize.false, c.as_usize.ensures.value), inr (c.len-then-len-as_usize.result, c.overflow-then-len-as_usize.ensures.refused)),
+    )
 
 pub returns-then-len-as_usize-2-clause-refused : goal.returns-then-len-as_usize-2-clause-refused
 returns-then-len-as_usize-2-clause-refused c =
     let nfa = c.args.nfa.now in
     let stride : c.alphabet_len-stride.result + 1 ≡ stride_of (classes_of nfa) = ap (λ (n : ℕ). n + 1) (c.alphabet_len-stride.ensures.len ∙ ap class_count c.byte_classes.ensures.classes) in
     let size = size-of c.row_depth-row_depth.result (states_of nfa) (classes_of nfa) c.rows_count-with_rows.result c.states_len.result (c.alphabet_len-stride.result + 1) c.rows_count-with_rows.ensures.count c.states_len.ensures.len stride in
-    inr
-    (c.row_depth-row_depth.result, c.row_depth-row_depth.ensures.depth, inr
-    (omega (arith, size, c.if-size-as_usize.false, c.as_usize.ensures.value), inr (c.len-then-len-as_usize-2.result, c.overflow-then-len-as_usize-2.ensures.refused)))
+    inr (
+      c.row_depth-row_depth.result,
+      c.row_depth-row_depth.ensures.depth,
+      inr
+          (omega (arith, size, c.if-size-as_usize.false, c.as_usize.ensures.value), inr (c.len-then-len-as_usize-2.result, c.overflow-then-len-as_usize-2.ensures.refused)),
+    )
 
 pub returns-clause-sound : goal.returns-clause-sound
 returns-clause-sound c =

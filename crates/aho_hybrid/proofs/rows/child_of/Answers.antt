@@ -1,7 +1,7 @@
 use Rattle.std.proofs.Common.{◌≡◌, ◌∙◌, ◌+◌, ◌*◌, ◌<◌, ◌≤◌, ℕ, length, drop, get_or, refl, sym, ap, arith}
 use Rattle.std.proofs.lemmas.List.{get_or_read_under}
 use Rattle.aho_hybrid.specs.Layout.{child_of}
-use Rattle.aho_hybrid.proofs.Moves.{child-end, child-here, child-next}
+use Rattle.aho_hybrid.proofs.Moves.{child-end, child-next}
 use Rattle.aho_hybrid.proofs.rows.child_of.Goals as goal
 
 pub loop-index-preserved : goal.loop-index-preserved

@@ -1,6 +1,6 @@
-use Rattle.aho_hybrid.specs.Layout.{IsStateIn, depth_in}
-use Rattle.aho_hybrid.specs.Reading.{dead-next, held-next, next-paid, next-state}
-use Rattle.std.proofs.Common.{◌≡◌, ◌<◌, ◌∙◌, ℕ, ap, arith, nat_eq, subst, sym}
+use Rattle.aho_hybrid.specs.Layout.{IsStateIn}
+use Rattle.aho_hybrid.specs.Reading.{dead-next, held-next, next-state}
+use Rattle.std.proofs.Common.{◌<◌, ◌∙◌, ℕ, ap, arith, nat_eq, subst, sym}
 use Rattle.aho_hybrid.proofs.hybrid.HybridAutomaton.next_state.Goals as goal
 
 pub step-requires-clause-room : goal.step-requires-clause-room

@@ -1,6 +1,6 @@
 use Rattle.aho_hybrid.specs.Layout.{IsStateIn, depth_in}
 use Rattle.aho_hybrid.specs.Reading.{dead-next, held-next, next-paid, next-state}
-use Rattle.std.proofs.Common.{◌≡◌, ◌<◌, ◌∙◌, ℕ, ap, arith, nat_eq, subst, sym}
+use Rattle.std.proofs.Common.{◌<◌, ◌∙◌, ℕ, ap, arith, nat_eq, subst, sym}
 use Rattle.aho_hybrid.proofs.hybrid.HybridAutomaton.step.Goals as goal
 
 pub returns-clause-valid : goal.returns-clause-valid

@@ -1,8 +1,8 @@
-use Rattle.std.proofs.Common.{◌≡◌, ◌∙◌, ◌+◌, ◌<◌, ◌≤◌, ℕ, false, length, nat_lt, sym, ap, subst, arith}
+use Rattle.std.proofs.Common.{◌≡◌, ◌∙◌, ◌+◌, ◌<◌, ◌≤◌, ℕ, length, sym, ap, subst, arith}
 use Rattle.std.specs.Prelude.{Some, None}
 use Rattle.std.proofs.lemmas.Bool.{le-ltb}
-use Rattle.aho_hybrid.specs.Layout.{IsDeep, IsStateIn, Layout, child_in, depth_in, is_row, link_in, looks_in, next_in}
-use Rattle.aho_hybrid.specs.Reading.{along-child, deep-test, linked-step}
+use Rattle.aho_hybrid.specs.Layout.{IsDeep, IsStateIn, Layout, child_in, depth_in, link_in, looks_in, next_in}
+use Rattle.aho_hybrid.specs.Reading.{along-child, linked-step}
 use Rattle.aho_hybrid.proofs.rows.Rows.deep_step.Goals as goal
 
 pub returns-in-Some-clause-counted : goal.returns-in-Some-clause-counted

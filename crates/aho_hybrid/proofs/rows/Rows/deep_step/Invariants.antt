@@ -1,5 +1,5 @@
 -- The step from the state that is looked at now leads where the whole step does, and its look-ups are those still to come.
-use Rattle.std.proofs.Common.{◌≡◌, ℕ, ◌+◌, ◌≤◌}
+use Rattle.std.proofs.Common.{◌≡◌, ◌+◌, ◌≤◌}
 use Rattle.aho_hybrid.specs.Layout.{IsStateIn, depth_in, looks_in, next_in}
 use Rattle.aho_hybrid.proofs.rows.Rows.deep_step.Given as goal
 
