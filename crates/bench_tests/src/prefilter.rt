@@ -274,11 +274,11 @@ fn random_patterns_have_candidates(rt: HostRuntime) -> Result<(), Fail> {
     Ok(())
 }
 
-/// For how many patterns a packed search is held.
-fn are_held_packed(alloc: Global, count: usize) -> Result<bool, AllocError> {
+/// Whether a packed search is held for so many patterns.
+fn are_held_packed(alloc: Global, count: u8) -> Result<bool, AllocError> {
     let mut builder = PackedBuilder::new(alloc, false);
     for number in 0..count {
-        builder.add(&[number as u8, 1])?;
+        builder.add(&[number, 1])?;
     }
     Ok(builder.build()?.is_some())
 }
