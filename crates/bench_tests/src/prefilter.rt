@@ -311,7 +311,7 @@ fn look_at_answer(
     if let Some(prefilter) = held {
         let found = find_by(&nfa, &prefilter, haystack).expect(rt, "an answer");
         let best = plain(&patterns, &Input::new(haystack));
-        assert_same_in(rt, (words, haystack), found, best);
+        assert_same_in(rt, &patterns, found, best);
     }
     Ok(())
 }
