@@ -10,7 +10,9 @@ pub mod replace;
 pub mod searcher;
 pub mod stream;
 
-pub use aho_base::error::{BuildError, Fault, MatchError, ReplaceError, StreamError};
+pub use aho_base::error::{
+    BuildError, Fault, MatchError, MatchErrorKind, ReplaceError, StreamError,
+};
 pub use aho_base::search::{Anchored, Input, Match, MatchKind, PatternID, Span};
 pub use aho_corasick::noncontiguous::Limits;
 pub use aho_devices::adapters::{FromRead, FromWrite};

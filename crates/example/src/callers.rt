@@ -12,3 +12,6 @@ pub mod settings;
 pub mod sizes;
 pub mod stream;
 pub mod tried;
+pub mod tried_masks;
+pub mod tried_rewrites;
+pub mod tried_streams;
