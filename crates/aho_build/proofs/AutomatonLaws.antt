@@ -60,6 +60,12 @@ reads_of p kind lengths special states of =
     let root = start-root special p of.names states by (held_after p No w) sid (h of.names by) start in
     ((λ names automaton. ap (name_at names) root.0 ∙ automaton.nodes.root), root.1))
 
+-- a state that is held after some bytes is held after any others that lead to the same state of the words
+pub alike_of : (p : Patterns) (special : Special) (states : List State) (anchored : Anchored) (word other : List ℕ) (sid : ℕ) → IsHeld p special states anchored word sid
+    → held_after p anchored other ≡ held_after p anchored word → IsHeld p special states anchored other sid
+alike_of p special states anchored word other sid h same = λ names automaton.
+    subst (λ (o : Option (List ℕ)). IsHeldAs special anchored names o sid) (sym same) (h names automaton)
+
 -- a start is held before the first byte
 pub begins_of : (p : Patterns) (special : Special) (states : List State) (anchored : Anchored) → IsHeld p special states anchored [] (start_of special anchored)
 begins_of p special states anchored = λ names automaton. held-start special p names states automaton anchored

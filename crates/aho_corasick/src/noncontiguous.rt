@@ -165,13 +165,14 @@ impl Automaton for NFA {
     ghost use Rattle.aho_base.specs.Bytes.{folded};
     ghost use Rattle.aho_base.specs.Held.{held_after};
     ghost use Rattle.aho_base.specs.Patterns.{Patterns};
+    ghost use Rattle.aho_base.specs.declared.search.Anchored.TheVariants.{No};
     ghost use Rattle.aho_base.specs.Step.{lookups};
     ghost use Rattle.aho_build.specs.Dense.{HasBorders};
     ghost use Rattle.aho_build.specs.Automaton.{IsOf, IsHeld, start_of, is_special_in, is_start_in, memory_of};
     ghost use Rattle.aho_prefilter.specs.Prefilter.{IsPrefilterOf};
     ghost use Rattle.aho_table.specs.Table.{dead_id, depth_in, matches_in};
     ghost use Rattle.aho_build.specs.Walking.{IsState, step_in};
-    ghost use Rattle.aho_build.proofs.AutomatonLaws.{reads_of, plain_of, dead_shallow_of, starts_shallow_of};
+    ghost use Rattle.aho_build.proofs.AutomatonLaws.{alike_of, reads_of, plain_of, dead_shallow_of, starts_shallow_of};
 
     ghost is_of = { λ n p. IsOf p n.match_kind n.pattern_lens.items n.special n.table.states
         × IfSome n.prefilter (λ searcher. IsPrefilterOf searcher p)
@@ -281,6 +282,9 @@ impl Automaton for NFA {
     }
 
     ghost laws = { λ n p of. reads_of p n.match_kind n.pattern_lens.items n.special n.table.states of.0 };
+
+    ghost alike = { λ n p word other sid of.
+        alike_of p n.special n.table.states No word other sid };
 
     ghost plain = { λ n sid valid. plain_of (is_some n.prefilter) n.special n.table.states sid };
 

@@ -5,8 +5,9 @@ use Rattle.std.specs.List.{All}
 use Rattle.std.proofs.lemmas.Bool.{cases_Bool, cases_eq, cases_order, cond-true, cond-false, le-ltb}
 use Rattle.std.proofs.lemmas.Bool.Decides.{nat_tests}
 use Rattle.std.proofs.lemmas.List.{append-nil}
-use Rattle.std.proofs.lemmas.List.Elements.{All-head, All-tail}
-use Rattle.aho_base.specs.Bytes.{folded}
+use Rattle.std.proofs.lemmas.List.Elements.{All-head, All-map, All-tail, All-weaker}
+use Rattle.aho_base.specs.Bytes.{folded, folded_word}
+use Rattle.aho_base.specs.Failure.{state_after}
 use Rattle.aho_base.specs.Held.{held_after}
 use Rattle.aho_base.specs.MatchList.{matches_of}
 use Rattle.aho_base.specs.Patterns.{Patterns}
@@ -16,11 +17,13 @@ use Rattle.aho_base.specs.declared.search.MatchKind.{MatchKind}
 use Rattle.aho_build.proofs.AutomatonStates.{held-dead, held-failed, held-lists, held-taken}
 use Rattle.aho_build.proofs.LinkedNodes.{named-ne_dead, state-named}
 use Rattle.aho_build.proofs.NamesOfTries.{name_at-below}
+use Rattle.aho_build.proofs.OneWordMore.{folded-small}
 use Rattle.aho_build.specs.Automaton.{IsAutomaton}
 use Rattle.aho_build.specs.Dense.{HasBorders}
 use Rattle.aho_build.specs.StateNames.{IsStateOf, name_at}
 use Rattle.aho_build.specs.Walking.{AreStarts, IsSound, IsState, links_left, step_in}
-use Rattle.aho_laws.proofs.StepLaw.{held_after-push}
+use Rattle.aho_laws.proofs.Starts.{live_start}
+use Rattle.aho_laws.proofs.StepLaw.{held_after-push, state-of_node}
 use Rattle.aho_table.proofs.Classes.{class_of-count}
 use Rattle.aho_table.specs.Alphabet.{class_of}
 use Rattle.aho_table.specs.Table.{depth_in, fail_in, matches_in, next_in, state_at}
@@ -32,8 +35,13 @@ use Rattle.aho_hybrid.proofs.Made.{child-of, deep-of, entry-of, layout, link-of,
 use Rattle.aho_hybrid.proofs.Stepping.{told-none, told-some}
 use Rattle.aho_hybrid.specs.declared.fill.Filled.{Filled}
 use Rattle.aho_hybrid.specs.Filled.{AreFirst, IsDeepState, IsFilled, IsPlan, IsShallow, Parts, is_deep, leads_in, number_in, source_of}
-use Rattle.aho_hybrid.specs.Layout.{IsSoundLayout, Layout, along, child_in, depth_in as height_in, is_row, is_special_in, link_in, list_from, list_in, list_place, next_in as led_in, run_from, stride_of}
+use Rattle.aho_hybrid.specs.Layout.{IsSoundLayout, Layout, along, child_in, depth_in as height_in, is_row, is_special_in, link_in, list_from, list_in, list_place, next_in as led_in, run_from, standing_in, stride_of}
 use Rattle.aho_hybrid.specs.Reading.{IsLayoutOf, along-child, along-link, along-row, deep-test, row-test}
+
+-- what holds of all holds of those behind some
+All-behind : (front word : List ℕ) → All (λ (b : ℕ). b < 256) (front ++ word) → All (λ (b : ℕ). b < 256) word
+All-behind [] word all = all
+All-behind (x ∷ front) word all = All-behind front word (All-tail (λ (b : ℕ). b < 256) x (front ++ word) all)
 
 module _ (plan : Parts) (words : ℕ) (planned : IsPlan plan words) (filled : Filled) (done : IsFilled plan (length plan.states) filled)
     (starts : AreStarts plan.special plan.states) (sound : IsSound plan.states) (soundly : IsSoundLayout (layout plan words planned filled done starts sound))
@@ -149,6 +157,28 @@ module _ (plan : Parts) (words : ℕ) (planned : IsPlan plan words) (filled : Fi
   stands-word : (word : List ℕ) → All (λ (b : ℕ). b < 256) word → Stands (held_after p No word) (run_from t t.start word)
   stands-word word small = stands-run [] word t.start small (start, refl, a.nodes.root)
 
+  -- a state of the words has one place, to which its own word leads
+  one-place : (state : Option (List ℕ)) (s r : ℕ) → IsStateOf names state s → IsStateOf names state r → s ≡ r
+  one-place None s r one two = one ∙ sym two
+  one-place (Some word) s r one two = a.nodes.unique s r word one two
+
+  own-word : (word node : List ℕ) → All (λ (b : ℕ). b < 256) word → held_after p No word ≡ Some node → All (λ (b : ℕ). b < 256) node
+  own-word word node small is =
+      let folds = All-map (λ (b : ℕ). b < 256) (folded p) word (All-weaker (λ (b : ℕ). b < 256) (λ b. folded p b < 256) (folded-small p) word small) in
+      let front = live_start p (folded_word p word) node is in
+      All-behind front.0 node (subst (All (λ (b : ℕ). b < 256)) front.1 folds)
+
+  stands-there : (word : List ℕ) → All (λ (b : ℕ). b < 256) word → (state : Option (List ℕ)) → held_after p No word ≡ state → run_from t t.start word ≡ standing_in t state
+  stands-there word small None is =
+      let one = subst (λ (o : Option (List ℕ)). Stands o (run_from t t.start word)) is (stands-word word small) in
+      one.1 ∙ ap (number_in plan) one.2 ∙ number-dead plan words planned filled done starts sound
+  stands-there word small (Some node) is =
+      let one = subst (λ (o : Option (List ℕ)). Stands o (run_from t t.start word)) is (stands-word word small) in
+      let node_is = a.nodes.words one.0 node one.2 in
+      let again : held_after p No node ≡ Some node = ap (state_after p) node_is.1 ∙ state-of_node p node node_is.0 in
+      let two = subst (λ (o : Option (List ℕ)). Stands o (run_from t t.start node)) again (stands-word node (own-word word node small is)) in
+      one.1 ∙ ap (number_in plan) (one-place (Some node) one.0 two.0 one.2 two.2) ∙ sym two.1
+
   -- ---- what they list, and which is dead or the start
 
   lists-own : (s : ℕ) → s < size → source_of plan s ≡ s → list_in t (number_in plan s) ≡ matches_in plan.states s
@@ -239,5 +269,6 @@ module _ (plan : Parts) (words : ℕ) (planned : IsPlan plan words) (filled : Fi
     lists = λ word small. stands-lists (held_after p No word) (run_from t t.start word) (stands-word word small);
     dies = λ word small. stands-dies (held_after p No word) (run_from t t.start word) (stands-word word small);
     begins = λ word small same. stands-begins (held_after p No word) (run_from t t.start word) (stands-word word small) same;
+    stands = λ word small. stands-there word small (held_after p No word) refl;
     none = stands-lists None 0 (0, sym (number-dead plan words planned filled done starts sound), refl);
   }

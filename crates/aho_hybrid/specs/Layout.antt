@@ -1,7 +1,9 @@
 -- How the states of a `Hybrid` lie in memory, and what is read there.
 use Rattle.std.specs.Prelude.{◌≡◌, ◌||◌, ℕ, zero, suc, ◌+◌, ◌-◌, ◌<◌, ◌≤◌, ◌%◌, Bool, true, false, List, [], ◌∷◌, length, take, drop, nat_eq, nat_lt, slice_index_or, if◌then◌else◌, Result, Ok, Err, Option, Some, None, is_some, ◌*◌}
 use Rattle.std.specs.List.{All}
+use Rattle.aho_base.specs.Held.{held_after}
 use Rattle.aho_base.specs.Numbers.{greatest_index}
+use Rattle.aho_base.specs.Patterns.{Patterns}
 use Rattle.aho_base.specs.declared.error.MatchErrorKind.{MatchErrorKind}
 use Rattle.aho_base.specs.declared.error.MatchErrorKind.TheVariants.{InvalidInputAnchored}
 use Rattle.aho_base.specs.declared.search.Anchored.{Anchored}
@@ -124,18 +126,27 @@ abbrev pub run_from : Layout → ℕ → List ℕ → ℕ
 run_from t sid [] = sid
 run_from t sid (byte ∷ word) = run_from t (next_in t sid byte) word
 
+-- where a state of the words stands: where its own word leads, and at 0 if it is the dead one
+abbrev pub standing_in : Layout → Option (List ℕ) → ℕ
+standing_in t None = 0
+standing_in t (Some word) = run_from t t.start word
+
+-- some bytes lead the words to the state to which this one leads them
+abbrev pub IsReached : Patterns → List ℕ → Type 0
+IsReached p word = (bytes : List ℕ) × All (λ byte. byte < 256) bytes × (held_after p No bytes ≡ held_after p No word)
+
 -- the state that an unanchored search holds after a word; there is no other search
-abbrev pub IsHeldIn : Layout → Anchored → List ℕ → ℕ → Type 0
-IsHeldIn t No word sid = All (λ byte. byte < 256) word × (sid ≡ run_from t t.start word)
-IsHeldIn t Yes word sid = ⊥
+abbrev pub IsHeldIn : Layout → Patterns → Anchored → List ℕ → ℕ → Type 0
+IsHeldIn t p No word sid = IsReached p word × (sid ≡ standing_in t (held_after p No word))
+IsHeldIn t p Yes word sid = ⊥
 
 abbrev pub start_in : Layout → Anchored → Result ℕ MatchErrorKind
 start_in t No = Ok t.start
 start_in t Yes = Err InvalidInputAnchored
 
 -- the look-ups of the byte that follows a word
-abbrev pub lookups_in : Layout → List ℕ → ℕ → ℕ
-lookups_in t word byte = looks_in t (run_from t t.start word) byte
+abbrev pub lookups_in : Layout → Patterns → List ℕ → ℕ → ℕ
+lookups_in t p word byte = looks_in t (standing_in t (held_after p No word)) byte
 
 -- each entry of a row leads to a state, one below the rows at most, and the state 0 leads to itself by every byte
 pub record IsSoundRows (t : Layout) : Type 0 where

@@ -4,26 +4,30 @@ use Rattle.std.proofs.lemmas.Bool.{both_ways, cases_Bool, cond-true, cond-false,
 use Rattle.std.proofs.lemmas.List.Elements.{All-nil, All-push}
 use Rattle.std.specs.Prelude.{Option, Some, None, is_none, is_some, nat_lt, ◌||◌, if◌then◌else◌}
 use Rattle.std.specs.List.{All}
+use Rattle.aho_base.specs.Bytes.{folded}
 use Rattle.aho_base.specs.Held.{held_after}
 use Rattle.aho_base.specs.Laws.{Reads}
 use Rattle.aho_base.specs.MatchList.{matches_of}
 use Rattle.aho_base.specs.Patterns.{Patterns}
+use Rattle.aho_base.specs.Step.{follow}
 use Rattle.aho_base.specs.declared.search.Anchored.{Anchored}
 use Rattle.aho_base.specs.declared.search.Anchored.TheVariants.{No, Yes}
 use Rattle.aho_base.specs.declared.search.MatchKind.{MatchKind}
 use Rattle.aho_laws.proofs.NamedStates.{reads_by_words}
+use Rattle.aho_laws.proofs.StepLaw.{held_after-push}
 use Rattle.aho_table.proofs.Classes.{class_of-count}
 use Rattle.aho_table.specs.Alphabet.{class_of}
-use Rattle.aho_hybrid.specs.Layout.{HasRow, IsDeep, Layout, IsSoundLayout, IsStateIn, IsHeldIn, along, child_in, depth_in, entry_in, is_row, is_special_in, link_in, list_from, list_in, list_place, looks_along, looks_in, next_in, run_from, told_or, word_in}
+use Rattle.aho_hybrid.specs.Layout.{HasRow, IsDeep, Layout, IsSoundLayout, IsReached, IsStateIn, IsHeldIn, along, child_in, depth_in, entry_in, is_row, is_special_in, link_in, list_from, list_in, list_place, looks_along, looks_in, lookups_in, next_in, run_from, standing_in, told_or, word_in}
 
 -- after each word the state that is held lists what the word does, and is dead where it is; the start is held again only where
--- nothing of the word is left; and the dead state lists nothing
+-- nothing of the word is left; it stands where the word's state does; and the dead state lists nothing
 pub record IsLayoutOf (t : Layout) (p : Patterns) (kind : MatchKind) (lengths : List ℕ) : Type 0 where
   pub kind_is : kind ≡ p.kind
   pub lengths_are : lengths ≡ map length p.words
   pub lists : (word : List ℕ) → All (λ byte. byte < 256) word → list_in t (run_from t t.start word) ≡ matches_of p (held_after p No word)
   pub dies : (word : List ℕ) → All (λ byte. byte < 256) word → nat_eq (run_from t t.start word) 0 ≡ is_none (held_after p No word)
   pub begins : (word : List ℕ) → All (λ byte. byte < 256) word → nat_eq (run_from t t.start word) t.start ≡ true → held_after p No word ≡ Some []
+  pub stands : (word : List ℕ) → All (λ byte. byte < 256) word → run_from t t.start word ≡ standing_in t (held_after p No word)
   pub none : list_in t 0 ≡ []
 
 -- by its number a state has a row, or is deep
@@ -169,36 +173,52 @@ module _ (t : Layout) (sound : IsSoundLayout t) where
       first : (class : ℕ) → 0 + class ≡ class
       first class = omega arith
 
-  -- a state that follows the held one is held after one more byte
-  pub held-next : (anchored : Anchored) (word : List ℕ) (sid byte next : ℕ) → byte < 256 → next ≡ next_in t sid byte → IsHeldIn t anchored word sid → IsHeldIn t anchored (word ++ byte ∷ []) next
-  held-next No word sid byte next small is held =
-      (All-push (λ (b : ℕ). b < 256) word byte held.0 small, is ∙ ap (λ (n : ℕ). next_in t n byte) held.1 ∙ sym (run-push t.start word byte))
-  held-next Yes word sid byte next small is held = absurd held
-
-  -- the look-ups of the held state's step are those of the word's
-  pub held-looks : (anchored : Anchored) (word : List ℕ) (sid byte : ℕ) → IsHeldIn t anchored word sid → looks_in t sid byte ≡ looks_in t (run_from t t.start word) byte
-  held-looks No word sid byte held = ap (λ (n : ℕ). looks_in t n byte) held.1
-  held-looks Yes word sid byte held = absurd held
-
   module _ (p : Patterns) (kind : MatchKind) (lengths : List ℕ) (of : IsLayoutOf t p kind lengths) where
-    lists : (anchored : Anchored) (word : List ℕ) (sid : ℕ) → IsHeldIn t anchored word sid → list_in t sid ≡ matches_of p (held_after p anchored word)
-    lists No word sid held = ap (list_in t) held.1 ∙ of.lists word held.0
+    -- the held state is the one to which the bytes lead that reach it
+    held-run : (word : List ℕ) (sid : ℕ) (reached : IsReached p word) → sid ≡ standing_in t (held_after p No word) → sid ≡ run_from t t.start reached.0
+    held-run word sid (bytes, small, same) is = is ∙ ap (standing_in t) (sym same) ∙ sym (of.stands bytes small)
+
+    -- a state that follows the held one is held after one more byte
+    pub held-next : (anchored : Anchored) (word : List ℕ) (sid byte next : ℕ) → byte < 256 → next ≡ next_in t sid byte → IsHeldIn t p anchored word sid → IsHeldIn t p anchored (word ++ byte ∷ []) next
+    held-next No word sid byte next small is ((bytes, all_small, same), stands) =
+        let longer = All-push (λ (b : ℕ). b < 256) bytes byte all_small small in
+        let reached : held_after p No (bytes ++ byte ∷ []) ≡ held_after p No (word ++ byte ∷ []) =
+        held_after-push p No bytes byte ∙ ap (λ (o : Option (List ℕ)). follow p No o (folded p byte)) same ∙ sym (held_after-push p No word byte) in (
+          (bytes ++ byte ∷ [], longer, reached),
+          is ∙ ap (λ (n : ℕ). next_in t n byte) (held-run word sid (bytes, all_small, same) stands) ∙ sym (run-push t.start bytes byte)
+              ∙ of.stands (bytes ++ byte ∷ []) longer ∙ ap (standing_in t) reached,
+        )
+    held-next Yes word sid byte next small is held = absurd held
+
+    lists : (anchored : Anchored) (word : List ℕ) (sid : ℕ) → IsHeldIn t p anchored word sid → list_in t sid ≡ matches_of p (held_after p anchored word)
+    lists No word sid (reached, is) = ap (list_in t) (held-run word sid reached is) ∙ of.lists reached.0 reached.1 ∙ ap (matches_of p) reached.2
     lists Yes word sid held = absurd held
 
-    dies : (anchored : Anchored) (word : List ℕ) (sid : ℕ) → IsHeldIn t anchored word sid → nat_eq sid 0 ≡ is_none (held_after p anchored word)
-    dies No word sid held = ap (λ (n : ℕ). nat_eq n 0) held.1 ∙ of.dies word held.0
+    dies : (anchored : Anchored) (word : List ℕ) (sid : ℕ) → IsHeldIn t p anchored word sid → nat_eq sid 0 ≡ is_none (held_after p anchored word)
+    dies No word sid (reached, is) = ap (λ (n : ℕ). nat_eq n 0) (held-run word sid reached is) ∙ of.dies reached.0 reached.1 ∙ ap is_none reached.2
     dies Yes word sid held = absurd held
 
     none : (sid : ℕ) → nat_eq sid 0 ≡ true → list_in t sid ≡ []
     none sid dead = ap (list_in t) (eqb-true sid 0 dead) ∙ of.none
 
-    begun : (word : List ℕ) (sid : ℕ) → IsHeldIn t No word sid → nat_eq sid t.start ≡ true → IsHeldIn t No [] sid × (held_after p No word ≡ Some [])
-    begun word sid held first =
-        ((All-nil (λ (b : ℕ). b < 256), eqb-true sid t.start first), of.begins word held.0 (sym (ap (λ (n : ℕ). nat_eq n t.start) held.1) ∙ first))
+    begun : (word : List ℕ) (sid : ℕ) → IsHeldIn t p No word sid → nat_eq sid t.start ≡ true → IsHeldIn t p No [] sid × (held_after p No word ≡ Some [])
+    begun word sid (reached, is) first = (
+      (([], All-nil (λ (b : ℕ). b < 256), refl), eqb-true sid t.start first),
+      sym reached.2 ∙ of.begins reached.0 reached.1 (sym (ap (λ (n : ℕ). nat_eq n t.start) (held-run word sid reached is)) ∙ first),
+    )
 
     -- the states that may be held have the laws of an automaton
-    pub reads_of : Reads p kind lengths (IsHeldIn t) (list_in t) (λ sid. nat_eq sid 0) (λ sid. nat_eq sid t.start)
-    reads_of = reads_by_words p kind lengths (IsHeldIn t) (list_in t) (λ sid. nat_eq sid 0) (λ sid. nat_eq sid t.start) of.kind_is of.lengths_are lists dies none begun
+    pub reads_of : Reads p kind lengths (IsHeldIn t p) (list_in t) (λ sid. nat_eq sid 0) (λ sid. nat_eq sid t.start)
+    reads_of = reads_by_words p kind lengths (IsHeldIn t p) (list_in t) (λ sid. nat_eq sid 0) (λ sid. nat_eq sid t.start) of.kind_is of.lengths_are lists dies none begun
+
+  -- a state that is held after some bytes is held after any others that lead to the same state of the words
+  pub alike_of : (p : Patterns) (word other : List ℕ) (sid : ℕ) → IsHeldIn t p No word sid → held_after p No other ≡ held_after p No word → IsHeldIn t p No other sid
+  alike_of p word other sid ((bytes, small, reached), is) same = ((bytes, small, reached ∙ sym same), is ∙ ap (standing_in t) (sym same))
+
+  -- the look-ups of the held state's step are those of the word's
+  pub held-looks : (p : Patterns) (anchored : Anchored) (word : List ℕ) (sid byte : ℕ) → IsHeldIn t p anchored word sid → looks_in t sid byte ≡ lookups_in t p word byte
+  held-looks p No word sid byte held = ap (λ (n : ℕ). looks_in t n byte) held.1
+  held-looks p Yes word sid byte held = absurd held
 
   -- a state that is not special is not dead, and lists nothing
   pub plain_of : (sid : ℕ) → is_special_in t sid ≡ false → (nat_eq sid 0 ≡ false) × (list_in t sid ≡ [])

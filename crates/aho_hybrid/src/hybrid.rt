@@ -119,12 +119,12 @@ impl Automaton for Hybrid {
     ghost use Rattle.aho_base.specs.Patterns.{Patterns};
     ghost use Rattle.aho_prefilter.specs.Prefilter.{IsPrefilterOf};
     ghost use Rattle.aho_hybrid.specs.Layout.{IsStateIn, IsHeldIn, depth_in, is_special_in, lookups_in, next_in, list_in, start_in, memory_in};
-    ghost use Rattle.aho_hybrid.specs.Reading.{IsLayoutOf, reads_of, plain_of, dead_shallow_of, starts_shallow_of};
+    ghost use Rattle.aho_hybrid.specs.Reading.{IsLayoutOf, alike_of, reads_of, plain_of, dead_shallow_of, starts_shallow_of};
 
     ghost is_of = { λ h p. IsLayoutOf h.rows p h.match_kind h.pattern_lens.items
         × IfSome h.prefilter (λ searcher. IsPrefilterOf searcher p) };
 
-    ghost held = { λ h p anchored word sid. IsHeldIn h.rows anchored word sid };
+    ghost held = { λ h p anchored word sid. IsHeldIn h.rows p anchored word sid };
 
     ghost valid = { λ h sid. IsStateIn h.rows sid };
 
@@ -144,7 +144,7 @@ impl Automaton for Hybrid {
 
     ghost next = { λ h anchored sid byte. next_in h.rows sid byte };
 
-    ghost lookups = { λ h p anchored word byte. lookups_in h.rows word byte };
+    ghost lookups = { λ h p anchored word byte. lookups_in h.rows p word byte };
 
     ghost start = { λ h anchored. start_in h.rows anchored };
 
@@ -224,6 +224,8 @@ impl Automaton for Hybrid {
     }
 
     ghost laws = { λ h p of. reads_of h.rows h.sound p h.match_kind h.pattern_lens.items of.0 };
+
+    ghost alike = { λ h p word other sid of. alike_of h.rows h.sound p word other sid };
 
     ghost plain = { λ h sid valid. plain_of h.rows h.sound sid };
 

@@ -10,6 +10,7 @@ ghost use Rattle.std.specs.Iterator.{UpTo};
 ghost use Rattle.std.specs.Option.{option_map};
 ghost use Rattle.aho_base.specs.Answer.{IsAnswer};
 ghost use Rattle.aho_base.specs.ClosureRun.{RunsInMemory};
+ghost use Rattle.aho_base.specs.Held.{held_after};
 ghost use Rattle.aho_base.specs.Laws.{Reads, longest, shortest};
 ghost use Rattle.aho_base.specs.Numbers.{greatest_index};
 ghost use Rattle.aho_base.specs.Overlapping.{overlapping};
@@ -199,6 +200,11 @@ pub trait Automaton {
     /// there, a dead state is final, and what ends after a start that is held again starts there or later.
     ghost laws: { (a : Self) (p : Patterns) → is_of a p →
         Reads p (kind a) (lengths a) (held a p) (list a) (dead a) (starts a) };
+
+    /// A state that is held after some bytes is held after any others that lead to the same state of the words.
+    ghost alike: { (a : Self) (p : Patterns) (word other : List ℕ) (sid : ℕ) → is_of a p →
+        held a p No word sid → held_after p No other ≡ held_after p No word →
+        held a p No other sid };
 
     /// A state that is not special is not dead, and lists no pattern.
     ghost plain: { (a : Self) (sid : ℕ) → valid a sid → special a sid ≡ false →

@@ -1,12 +1,12 @@
 -- What a call has read, and what its answer tells.
 use Rattle.std.proofs.Common.{◌≡◌, ◌≢◌, ℕ, ◌+◌, ◌<◌, ◌≤◌, ◌⊎◌, ◌&&◌, ◌||◌, inl, inr, min, Bool, true, false, List, [], ◌∷◌, ◌++◌, length, refl, sym, ◌∙◌, ap, subst, arith, append_assoc, append-nil, length-append}
 use Rattle.std.specs.Prelude.{OnErr, Option, Some, None, Result, Ok, Err, is_none, slice_range}
-use Rattle.std.specs.Io.KnownBytes.{Consumes}
 use Rattle.std.proofs.KnownBytes.{Consumes-nil, Consumes-trans}
 use Rattle.aho_base.specs.Patterns.{Patterns}
 use Rattle.aho_base.specs.declared.error.stream.StreamError.{StreamError}
 use Rattle.aho_base.specs.declared.error.stream.StreamError.TheVariants.{Match as Refused, Read as ReadFault, Write, WriteZero, Memory, PositionLimit}
 use Rattle.aho_base.specs.Answer.{IsAnswer}
+use Rattle.aho_base.specs.Held.{held_after}
 use Rattle.aho_base.specs.Laws.{BestAfter, Reads}
 use Rattle.aho_base.specs.Occurrence.{Occurrence}
 use Rattle.aho_base.specs.declared.search.Anchored.TheVariants.{No}
@@ -15,6 +15,7 @@ use Rattle.aho_base.specs.declared.search.MatchKind.TheVariants.{Standard}
 use Rattle.aho_devices.specs.Buffer.{Buffered}
 use Rattle.aho_devices.specs.Counts.{counted}
 use Rattle.aho_devices.specs.Refusals.{IsFillRefusal}
+use Rattle.aho_search.proofs.Places.{moved_option}
 use Rattle.aho_search.specs.declared.automaton.Automaton.{Ghosts}
 use Rattle.aho_stream.specs.After.{IsAfter, is_settled, search_from, word_of}
 use Rattle.aho_stream.specs.Chunks.{Advances, AllTold, DiesAt, Fills, FillsNothing, ReadsOn, Tells, TellsEnd, TellsError, TellsFault, TellsNone, ends_between, tells_error}
@@ -22,7 +23,8 @@ use Rattle.aho_stream.specs.Refills.{Refills, is_limit}
 use Rattle.aho_stream.specs.declared.progress.StreamProgress.{StreamProgress}
 use Rattle.aho_stream.specs.declared.progress.StreamPiece.{StreamPiece}
 use Rattle.aho_stream.proofs.Deaths.{lives}
-use Rattle.aho_stream.proofs.NextMatches.{found_at_end}
+use Rattle.aho_stream.proofs.NextMatches.{answer_sooner, found_at_end}
+use Rattle.aho_stream.proofs.PassedOver.{held_apart}
 use Rattle.aho_stream.proofs.Walks.{unsettled_none}
 
 -- nothing was told since
@@ -173,17 +175,28 @@ module _ {S : Type 0} (A : Ghosts S) (automaton : S) where
         prompt = subst (λ (failed : Bool). FillsNothing s s' same.reads.bytes failed ⊎ Fills A automaton lookups s s' same.reads.bytes failed) (sym no_error) same.prompt;
       }
 
+-- where all was walked, the best of it is the answer from the end of the last match on
+all_answered : {S : Type 0} (A : Ghosts S) (automaton : S) (p : Patterns) (lookups : ℕ) (s : StreamProgress) (given : List ℕ) → IsAfter A automaton p lookups s given → s.walked ≡ length given
+    → (found : Option Occurrence) → BestAfter p No (word_of s given) found → IsAnswer p (search_from s.from given) (moved_option s.origin found)
+all_answered A automaton p lookups s given a all found best =
+    let same = append-nil given in
+    subst (λ (bytes : List ℕ). IsAnswer p (search_from s.from bytes) (moved_option s.origin found)) same
+    (answer_sooner p given [] s.from s.origin (moved_option s.origin found) a.from_origin a.apart
+    (subst (λ (bytes : List ℕ). IsAnswer p (search_from s.origin bytes) (moved_option s.origin found)) (sym same) (found_at_end p given s.origin s.walked found a.origin_walked all best)))
+
 -- where all was walked and no match in hand is settled, all was told that these bytes settle
 pub all_told : {S : Type 0} (A : Ghosts S) (automaton : S) (p : Patterns) {kind : MatchKind} {lengths : List ℕ} {list : ℕ → List ℕ} {dead : ℕ → Bool} → Reads p kind lengths (A.held automaton p) list dead (A.starts automaton)
+    → ((word other : List ℕ) (sid : ℕ) → A.held automaton p No word sid → held_after p No other ≡ held_after p No word → A.held automaton p No other sid)
     → (lookups : ℕ) (s : StreamProgress) (given : List ℕ) → IsAfter A automaton p lookups s given → is_settled kind (dead s.sid) s.in_hand ≡ false → s.walked ≡ s.read → s.read ≤ s.reported + s.buffer.least
     → ((is_none s.in_hand && A.starts automaton s.sid) ≡ true → s.read ≤ s.reported) → AllTold A automaton p s given
-all_told A automaton p {kind} {lengths} {list} {dead} laws lookups s given a going walked near start = record {
+all_told A automaton p {kind} {lengths} {list} {dead} laws alike lookups s given a going walked near start = record {
   none = λ standard. answer_none (unsettled_none kind (dead s.sid) s.in_hand going (laws.kind_is ∙ standard));
-  alive = λ leftmost. lives laws given s.from s.walked s.sid leftmost a.held_is s.in_hand going a.best_is all;
+  alive = λ leftmost. lives laws given s.from s.origin s.walked s.sid a.from_origin a.apart leftmost a.held_is s.in_hand a.origin_walked going a.best_is all;
   near = omega (arith, near, a.count);
   start = (
     s.sid,
-    subst (λ (end : ℕ). A.held automaton p No (slice_range given s.from end) s.sid) all a.held_is,
+    alike (word_of s given) (slice_range given s.from (length given)) s.sid a.held_is
+        (held_apart p given s.from s.origin a.from_origin (omega (arith, a.origin_walked, all)) a.apart ∙ sym (ap (λ (end : ℕ). held_after p No (slice_range given s.origin end)) all)),
     λ is_start none. omega (arith, start (ap (λ (found : Option Occurrence). is_none found && A.starts automaton s.sid) (no_match s.in_hand a.best_is none) ∙ is_start), a.reported_walked, walked, a.count),
   );
 }
@@ -191,22 +204,19 @@ all_told A automaton p {kind} {lengths} {list} {dead} laws lookups s given a goi
     all : s.walked ≡ length given
     all = walked ∙ a.count
 
-    ordered : s.from ≤ s.walked
-    ordered = omega (arith, a.from_reported, a.reported_walked)
-
     answer_none : s.in_hand ≡ None → IsAnswer p (search_from s.from given) None
-    answer_none free = found_at_end p given s.from s.walked None ordered all (subst (BestAfter p No (word_of s given)) free a.best_is)
+    answer_none free = all_answered A automaton p lookups s given a all None (subst (BestAfter p No (word_of s given)) free a.best_is)
 
     no_match : (found : Option Occurrence) → BestAfter p No (word_of s given) found → IsAnswer p (search_from s.from given) None → found ≡ None
     no_match None best none = refl
-    no_match (Some m) best none = let answer = found_at_end p given s.from s.walked (Some m) ordered all best in absurd (none _ answer.0)
+    no_match (Some m) best none = let is = all_answered A automaton p lookups s given a all (Some m) best in absurd (none _ is.0)
 
 -- nothing that is still to be told occurs in what was given, and all of it was walked
 pub end_told : {S : Type 0} (A : Ghosts S) (automaton : S) (p : Patterns) (lookups : ℕ) (s s' : StreamProgress) (given : List ℕ)
     → IsAfter A automaton p lookups s' given → ((p.kind ≡ Standard) ⊎ (s'.ended ≡ true) → s'.in_hand ≡ None) → s'.walked ≡ s'.read → TellsNone s s'
     → ((s'.ended ≡ true) × (s'.read ≤ s'.reported)) ⊎ (s.refused ≡ true) → TellsEnd p s s' given
 end_told A automaton p lookups s s' given a free walked still over = record {
-  none = λ why. found_at_end p given s'.from s'.walked None (omega (arith, a.from_reported, a.reported_walked)) (walked ∙ a.count) (subst (BestAfter p No (word_of s' given)) (free why) a.best_is);
+  none = λ why. all_answered A automaton p lookups s' given a (walked ∙ a.count) None (subst (BestAfter p No (word_of s' given)) (free why) a.best_is);
   over = elim over [ inl (ended, all) ↦ inl (ended, omega (arith, all, a.reported_walked, a.walked_read, a.count)) | inr refused ↦ inr refused ];
   still = still;
 }

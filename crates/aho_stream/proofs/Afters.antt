@@ -1,16 +1,21 @@
 -- How each move of an iterator over a stream keeps what is known of how far it has come.
 use Rattle.std.proofs.Common.{◌≡◌, ℕ, ◌+◌, ◌-◌, ◌*◌, ◌^◌, ◌<◌, ◌≤◌, inl, inr, Bool, true, false, List, [], ◌++◌, length, take, map, refl, sym, ◌∙◌, ap, subst, arith, append_assoc, length-append}
 use Rattle.std.specs.Prelude.{Option, Some, None, IfSome, slice_range}
+use Rattle.std.proofs.lemmas.Bool.{cases_lt}
 use Rattle.aho_base.specs.Answer.{IsAnswer}
-use Rattle.aho_base.specs.Laws.{BestAfter, longest, shortest}
+use Rattle.aho_base.specs.Laws.{BestAfter, Reads, longest, shortest}
 use Rattle.aho_base.specs.Occurrence.{Occurrence}
+use Rattle.aho_base.specs.Occurs.{Occurs}
 use Rattle.aho_base.specs.Patterns.{Patterns}
 use Rattle.aho_base.specs.declared.search.Anchored.{Anchored}
 use Rattle.aho_base.specs.declared.search.Anchored.TheVariants.{No}
+use Rattle.aho_base.specs.declared.search.MatchKind.{MatchKind}
 use Rattle.aho_base.specs.declared.search.MatchKind.TheVariants.{Standard}
 use Rattle.aho_devices.specs.Buffer.{Buffered, capacity_for}
 use Rattle.std.proofs.Math.Nat.{le-mul_of_pos_right}
-use Rattle.aho_search.proofs.Places.{length_part, no_part, part_join, part_of_part}
+use Rattle.aho_prefilter.specs.Candidate.{NoneStartsBefore}
+use Rattle.aho_search.proofs.Origins.{skipped}
+use Rattle.aho_search.proofs.Places.{into_part, length_part, moved_back, narrowed, no_part, part_join, part_of_part}
 use Rattle.aho_search.specs.declared.automaton.Automaton.{Ghosts}
 use Rattle.aho_stream.specs.After.{IsAfter, IsInHand, MayFollow, kept_for, search_from, word_of}
 use Rattle.aho_stream.specs.Refills.{Refills}
@@ -19,11 +24,14 @@ use Rattle.aho_stream.specs.declared.progress.StreamProgress.{StreamProgress}
 use Rattle.aho_stream.specs.declared.settle.Walked.{Walked}
 use Rattle.aho_stream.proofs.GivenBytes.{part_stays}
 use Rattle.aho_stream.proofs.NextMatches.{none_in_nothing}
-use Rattle.aho_stream.proofs.PatternLengths.{occurs_some}
+use Rattle.aho_stream.proofs.PatternLengths.{occurs_short, occurs_some}
 
--- what a match of some bytes pays for
-more_paid : (most from end : ℕ) → 1 ≤ end → most * from + most ≤ most * (from + end)
-more_paid most from end some = omega (arith, le-mul_of_pos_right most some)
+-- what a match pays for that ends later
+more_paid : (most from end : ℕ) → from + 1 ≤ end → most * from + most ≤ most * end
+more_paid most from end later =
+    let there : from + (end - from) ≡ end = omega (arith, later) in
+    let some : 1 ≤ end - from = omega (arith, later) in
+    subst (λ (x : ℕ). most * from + most ≤ most * x) there (omega (arith, le-mul_of_pos_right most some))
 
 module _ {S : Type 0} (A : Ghosts S) (automaton : S) (p : Patterns) where
   abbrev lengths : List ℕ
@@ -42,15 +50,15 @@ module _ {S : Type 0} (A : Ghosts S) (automaton : S) (p : Patterns) where
   After lookups s given = IsAfter A automaton p lookups s given
 
   -- a match stays in hand where the walk stays
-  in_hand_same : (s t : StreamProgress) → t.from ≡ s.from → t.walked ≡ s.walked → (found : Option Occurrence) → IsInHand p.kind (longest lengths) s found → IsInHand p.kind (longest lengths) t found
-  in_hand_same s t from walked None i = tt
-  in_hand_same s t from walked (Some m) i = (omega (arith, i.0, from, walked), omega (arith, i.1, from, walked), λ standard. omega (arith, i.2 standard, from, walked))
+  in_hand_same : (s t : StreamProgress) → t.origin ≡ s.origin → t.walked ≡ s.walked → (found : Option Occurrence) → IsInHand p.kind (longest lengths) s found → IsInHand p.kind (longest lengths) t found
+  in_hand_same s t origin walked None i = tt
+  in_hand_same s t origin walked (Some m) i = (omega (arith, i.0, origin, walked), omega (arith, i.1, origin, walked), λ standard. omega (arith, i.2 standard, origin, walked))
 
   -- before the first byte
   pub after_made : (lookups : ℕ) (buffer : Buffered) (start limit : ℕ) → lookups ≡ 0 → lengths ≡ map length p.words
       → 1 ≤ shortest lengths → longest lengths < 2 ^ 64 → valid start → depth start ≡ 0 → held No [] start
       → limit < 2 ^ 63 → buffer.least ≡ kept_for lengths → buffer.size ≡ capacity_for (kept_for lengths) → buffer.bytes ≡ []
-      → After lookups (record { buffer = buffer; read = 0; limit = limit; from = 0; told = 0; reported = 0; walked = 0; position = 0; sid = start; start = start; in_hand = None; ended = false; refused = false }) []
+      → After lookups (record { buffer = buffer; read = 0; limit = limit; from = 0; origin = 0; told = 0; reported = 0; walked = 0; position = 0; sid = start; start = start; in_hand = None; ended = false; refused = false }) []
   after_made lookups buffer start limit none are no_empty sized is_state shallow is_held bounded least size empty = record {
     no_empty = no_empty;
     sized = sized;
@@ -67,10 +75,13 @@ module _ {S : Type 0} (A : Ghosts S) (automaton : S) (p : Patterns) where
     kept = omega arith;
     told_reported = omega arith;
     from_reported = omega arith;
+    from_origin = omega arith;
+    origin_walked = omega arith;
     reported_walked = omega arith;
     walked_read = omega arith;
     position = omega arith;
-    once = λ standard. refl;
+    apart = λ more m o. omega arith;
+    once = λ standard. omega arith;
     paid = omega (arith, none, shallow);
     is_state = is_state;
     held_is = subst (λ (w : List ℕ). held No w start) (sym (no_part [] 0)) is_held;
@@ -98,9 +109,12 @@ module _ {S : Type 0} (A : Ghosts S) (automaton : S) (p : Patterns) where
     kept = omega (arith, a.kept, a.told_reported);
     told_reported = omega arith;
     from_reported = a.from_reported;
+    from_origin = a.from_origin;
+    origin_walked = a.origin_walked;
     reported_walked = a.reported_walked;
     walked_read = a.walked_read;
     position = a.position;
+    apart = a.apart;
     once = a.once;
     paid = a.paid;
     is_state = a.is_state;
@@ -112,10 +126,10 @@ module _ {S : Type 0} (A : Ghosts S) (automaton : S) (p : Patterns) where
   }
 
   -- what was walked, after some bytes more
-  word_more : (s : StreamProgress) (given : List ℕ) (count : ℕ) → s.from ≤ s.walked → s.walked + count ≤ s.read → s.read ≤ length given
-      → slice_range given s.from (s.walked + count) ≡ word_of s given ++ take count (slice_range given s.walked s.read)
+  word_more : (s : StreamProgress) (given : List ℕ) (count : ℕ) → s.origin ≤ s.walked → s.walked + count ≤ s.read → s.read ≤ length given
+      → slice_range given s.origin (s.walked + count) ≡ word_of s given ++ take count (slice_range given s.walked s.read)
   word_more s given count ordered within all =
-      part_join given s.from s.walked (s.walked + count) ordered (omega arith)
+      part_join given s.origin s.walked (s.walked + count) ordered (omega arith)
       ∙ ap (λ (xs : List ℕ). word_of s given ++ xs)
       (sym (part_of_part given s.walked s.read 0 count s.walked (s.walked + count) (omega arith) (omega arith) (omega arith) within)
       ∙ (let same : count - 0 ≡ count = omega arith in ap (λ (n : ℕ). take n (slice_range given s.walked s.read)) same))
@@ -127,7 +141,7 @@ module _ {S : Type 0} (A : Ghosts S) (automaton : S) (p : Patterns) where
       → WalksOn p lengths held (word_of s given) (slice_range given s.walked s.read) walked
       → After lookups' (record s { walked = s.walked + walked.count; position = s.position + walked.count; sid = walked.sid; in_hand = walked.found }) given
   after_walked lookups lookups' s given walked a unrefused within is_state paid walks =
-      let ordered : s.from ≤ s.walked = omega (arith, a.from_reported, a.reported_walked) in
+      let ordered : s.origin ≤ s.walked = a.origin_walked in
       let all : s.read ≤ length given = omega (arith, a.count) in
       let more = word_more s given walked.count ordered within all in
       let best = subst (λ (w : List ℕ). BestAfter p No w walked.found) (sym more) walks.best_is in
@@ -147,9 +161,12 @@ module _ {S : Type 0} (A : Ghosts S) (automaton : S) (p : Patterns) where
         kept = a.kept;
         told_reported = a.told_reported;
         from_reported = a.from_reported;
+        from_origin = a.from_origin;
+        origin_walked = omega (arith, a.origin_walked);
         reported_walked = omega (arith, a.reported_walked);
         walked_read = within;
         position = omega (arith, a.position);
+        apart = a.apart;
         once = λ standard. omega (arith, a.once standard);
         paid = omega (arith, paid, a.paid);
         is_state = is_state;
@@ -160,21 +177,85 @@ module _ {S : Type 0} (A : Ghosts S) (automaton : S) (p : Patterns) where
         stopped = λ e. cc;
       }
     where
-      long : s.from ≤ s.walked → s.walked ≤ length given → length (word_of s given) ≡ s.walked - s.from
-      long ordered within = length_part given s.from s.walked within
+      long : s.origin ≤ s.walked → s.walked ≤ length given → length (word_of s given) ≡ s.walked - s.origin
+      long ordered within = length_part given s.origin s.walked within
 
-      found_in_hand : (found : Option Occurrence) → BestAfter p No (slice_range given s.from (s.walked + walked.count)) found
+      found_in_hand : (found : Option Occurrence) → BestAfter p No (slice_range given s.origin (s.walked + walked.count)) found
           → IfSome found (λ m. length (word_of s given) + walked.count ≤ m.start + longest lengths + 1) → (p.kind ≡ Standard → IfSome found (λ m. length (word_of s given) + walked.count ≤ m.end))
           → IsInHand p.kind (longest lengths) (record s { walked = s.walked + walked.count; position = s.position + walked.count; sid = walked.sid; in_hand = walked.found }) found
       found_in_hand None best near ends = tt
       found_in_hand (Some m) best near ends =
-          let ordered : s.from ≤ s.walked = omega (arith, a.from_reported, a.reported_walked) in
+          let ordered : s.origin ≤ s.walked = a.origin_walked in
           let size = long ordered (omega (arith, within, a.count)) in
-          let whole = length_part given s.from (s.walked + walked.count) (omega (arith, within, a.count)) in (
+          let whole = length_part given s.origin (s.walked + walked.count) (omega (arith, within, a.count)) in (
             omega (arith, best.0.before_end, whole, ordered),
             omega (arith, near, size, ordered),
             λ standard. omega (arith, ends standard, size, ordered),
           )
+
+  -- bytes were passed over in which nothing begins, in a start with nothing in hand. What begins there would end in what was read
+  pub after_passed : {kind : MatchKind} {list : ℕ → List ℕ} {dead starts : ℕ → Bool} → Reads p kind lengths held list dead starts
+      → (lookups : ℕ) (s : StreamProgress) (given : List ℕ) (count : ℕ) → After lookups s given → s.refused ≡ false → s.in_hand ≡ None → starts s.sid ≡ true
+      → NoneStartsBefore p (slice_range given s.walked s.read) 0 (length (slice_range given s.walked s.read)) count
+      → count ≤ (length (slice_range given s.walked s.read) + 1) - s.buffer.least
+      → After lookups (record s { origin = s.walked + count; walked = s.walked + count }) given
+  after_passed laws lookups s given count a unrefused free is_start none few = record {
+    no_empty = a.no_empty;
+    sized = a.sized;
+    start_is = a.start_is;
+    start_shallow = a.start_shallow;
+    start_held = a.start_held;
+    count = a.count;
+    limited = a.limited;
+    bounded = a.bounded;
+    least = a.least;
+    size = a.size;
+    enough = a.enough;
+    last = a.last;
+    kept = a.kept;
+    told_reported = a.told_reported;
+    from_reported = a.from_reported;
+    from_origin = omega (arith, a.from_origin, a.origin_walked);
+    origin_walked = omega arith;
+    reported_walked = omega (arith, a.reported_walked);
+    walked_read = omega (arith, few, long, a.least, a.walked_read);
+    position = omega (arith, a.position);
+    apart = λ more.
+        let h = given ++ more in
+        let longer : length h ≡ length given + length more = length-append given more in
+        let same : slice_range h s.origin s.walked ≡ word_of s given = part_stays given more s.origin s.walked a.origin_walked (omega (arith, a.walked_read, a.count)) in
+        let held_here : held No (slice_range h s.origin s.walked) s.sid = subst (λ (w : List ℕ). held No w s.sid) (sym same) a.held_is in
+        let none_here : BestAfter p No (slice_range h s.origin s.walked) None = subst (λ (w : List ℕ). BestAfter p No w None) (sym same) (subst (BestAfter p No (word_of s given)) free a.best_is) in
+        skipped p h s.from s.origin (length h) a.from_origin s.walked (s.walked + count) s.sid held a.origin_walked (omega (arith, longer, a.walked_read, a.count)) (omega arith) (a.apart more)
+        (λ v n. laws.start_apart (slice_range h s.origin s.walked) v s.sid n held_here is_start)
+        (λ n o. begins_later more n o)
+        (record { held_now = held_here; part = None; is = refl; part_best = none_here });
+    once = λ standard. omega (arith, a.once standard);
+    paid = a.paid;
+    is_state = a.is_state;
+    held_is = subst (λ (w : List ℕ). held No w s.sid) (sym (no_part given (s.walked + count))) (laws.start_again (word_of s given) s.sid a.held_is is_start);
+    best_is = subst (λ (best : Option Occurrence). BestAfter p No (slice_range given (s.walked + count) (s.walked + count)) best) (sym free) (none_in_nothing p lengths laws.lengths_are a.no_empty _ (no_part given (s.walked + count)));
+    in_hand_is = subst (λ (best : Option Occurrence). IsInHand p.kind (longest lengths) (record s { origin = s.walked + count; walked = s.walked + count }) best) (sym free) tt;
+    clear = a.clear;
+    stopped = λ e. cc;
+  }
+    where
+      long : length (slice_range given s.walked s.read) ≡ s.read - s.walked
+      long = length_part given s.walked s.read (omega (arith, a.count))
+
+      begins_later : (more : List ℕ) (n : Occurrence) → Occurs p No (given ++ more) s.walked (length (given ++ more)) n → s.walked + count ≤ n.start
+      begins_later more n o = elim (cases_lt n.start (s.walked + count)) [
+        | inl early ↦
+            (let h = given ++ more in
+            let within : s.read ≤ length given = omega (arith, a.count) in
+            let ends : n.end ≤ s.read = omega (arith, early, few, long, a.least, a.walked_read, occurs_short p lengths laws.lengths_are n o) in
+            let same : slice_range h s.walked s.read ≡ slice_range given s.walked s.read = part_stays given more s.walked s.read a.walked_read within in
+            let here = into_part p No h s.walked s.read n (narrowed p No h s.walked s.read (length h) n ends o) in
+            let there : Occurs p No (slice_range given s.walked s.read) 0 (length (slice_range given s.walked s.read)) (moved_back s.walked n) =
+            subst (λ (x : ℕ). Occurs p No (slice_range given s.walked s.read) 0 x (moved_back s.walked n)) (sym long) (subst (λ (w : List ℕ). Occurs p No w 0 (s.read - s.walked) (moved_back s.walked n)) same here) in
+            omega (arith, none (moved_back s.walked n) there, o.after_start))
+        | inr ge ↦ ge
+      ]
 
   -- bytes were reported, up to a place that no further match starts before
   pub after_reported : (lookups : ℕ) (s : StreamProgress) (given : List ℕ) (end : ℕ) → After lookups s given → s.reported ≤ end → end ≤ s.walked
@@ -196,9 +277,12 @@ module _ {S : Type 0} (A : Ghosts S) (automaton : S) (p : Patterns) where
     kept = omega (arith, a.kept, a.told_reported);
     told_reported = later;
     from_reported = omega (arith, a.from_reported);
+    from_origin = a.from_origin;
+    origin_walked = a.origin_walked;
     reported_walked = within;
     walked_read = a.walked_read;
     position = a.position;
+    apart = a.apart;
     once = a.once;
     paid = a.paid;
     is_state = a.is_state;
@@ -211,8 +295,8 @@ module _ {S : Type 0} (A : Ghosts S) (automaton : S) (p : Patterns) where
 
   -- the match in hand was given
   pub after_given : (lookups : ℕ) (s : StreamProgress) (given : List ℕ) (m : Occurrence) → After lookups s given → lengths ≡ map length p.words → s.in_hand ≡ Some m
-      → s.reported ≤ s.from + m.start → s.refused ≡ false
-      → After lookups (record s { told = s.from + m.start; reported = s.from + m.end; from = s.from + m.end; walked = s.from + m.end; sid = s.start; in_hand = None }) given
+      → s.reported ≤ s.origin + m.start → s.refused ≡ false
+      → After lookups (record s { told = s.origin + m.start; reported = s.origin + m.end; from = s.origin + m.end; origin = s.origin + m.end; walked = s.origin + m.end; sid = s.start; in_hand = None }) given
   after_given lookups s given m a are in_hand starts unrefused =
       let i = subst (IsInHand p.kind (longest lengths) s) in_hand a.in_hand_is in
       let some : m.start + 1 ≤ m.end = let best = subst (BestAfter p No (word_of s given)) in_hand a.best_is in occurs_some p lengths are m best.0 a.no_empty in
@@ -232,14 +316,17 @@ module _ {S : Type 0} (A : Ghosts S) (automaton : S) (p : Patterns) where
         kept = omega (arith, a.kept, a.told_reported, starts);
         told_reported = omega (arith, some);
         from_reported = omega arith;
+        from_origin = omega arith;
+        origin_walked = omega arith;
         reported_walked = omega arith;
         walked_read = omega (arith, i.0, a.walked_read);
-        position = omega (arith, a.position, i.1, some, more_paid (longest lengths) s.from m.end (omega (arith, some)));
+        position = omega (arith, a.position, i.1, some, more_paid (longest lengths) s.from (s.origin + m.end) (omega (arith, some, a.from_origin)));
+        apart = λ more n o. o.after_start;
         once = λ standard. omega (arith, a.once standard, i.0, i.2 standard);
         paid = omega (arith, a.paid, a.start_shallow);
         is_state = a.start_is;
-        held_is = subst (λ (w : List ℕ). held No w s.start) (sym (no_part given (s.from + m.end))) a.start_held;
-        best_is = none_in_nothing p lengths are a.no_empty _ (no_part given (s.from + m.end));
+        held_is = subst (λ (w : List ℕ). held No w s.start) (sym (no_part given (s.origin + m.end))) a.start_held;
+        best_is = none_in_nothing p lengths are a.no_empty _ (no_part given (s.origin + m.end));
         in_hand_is = tt;
         clear = λ more n follows answer. answer.0.after_start;
         stopped = λ e. cc;
@@ -268,9 +355,12 @@ module _ {S : Type 0} (A : Ghosts S) (automaton : S) (p : Patterns) where
         kept = omega (arith, refills.kept, refills.count, a.kept, near, told);
         told_reported = a.told_reported;
         from_reported = a.from_reported;
+        from_origin = a.from_origin;
+        origin_walked = a.origin_walked;
         reported_walked = a.reported_walked;
         walked_read = omega (arith, refills.count, a.walked_read);
         position = a.position;
+        apart = λ more. subst (λ (bytes : List ℕ). NoneStartsBefore p bytes s.from (length bytes) s.origin) (sym (append_assoc given refills.bytes more)) (a.apart (refills.bytes ++ more));
         once = a.once;
         paid = a.paid;
         is_state = a.is_state;
@@ -282,5 +372,5 @@ module _ {S : Type 0} (A : Ghosts S) (automaton : S) (p : Patterns) where
         stopped = λ e. (let r = refused e in (omega (arith, walked, r.0, refills.limited, refills.count), r.1, free));
       })
     where
-      same : slice_range (given ++ refills.bytes) s.from s.walked ≡ word_of s given
-      same = part_stays given refills.bytes s.from s.walked (omega (arith, a.from_reported, a.reported_walked)) (omega (arith, a.walked_read, a.count))
+      same : slice_range (given ++ refills.bytes) s.origin s.walked ≡ word_of s given
+      same = part_stays given refills.bytes s.origin s.walked a.origin_walked (omega (arith, a.walked_read, a.count))

@@ -13,7 +13,7 @@ use Rattle.aho_base.specs.Iteration.{AreFinds, IsNextFind}
 use Rattle.aho_base.specs.Laws.{shortest}
 use Rattle.aho_base.specs.Occurrence.{Occurrence}
 use Rattle.aho_base.specs.Patterns.{Patterns}
-use Rattle.aho_base.specs.Search.{Search, plain_search}
+use Rattle.aho_base.specs.Search.{Search}
 use Rattle.aho_devices.specs.Counts.{counted}
 use Rattle.aho_devices.specs.declared.device.Source.{Ghosts as SourceGhosts}
 use Rattle.aho_search.specs.Finding.{AreFirstFinds}
@@ -24,7 +24,6 @@ use Rattle.aho_stream.specs.FindRuns.{FindsAll, FindsAlong, FindsSoFar, is_limit
 use Rattle.aho_stream.specs.Finds.{Finds, FindsError, FindsNext}
 use Rattle.aho_stream.specs.Iterators.{HasGiven, automaton_of, lookups_of}
 use Rattle.aho_stream.specs.Refills.{is_limit}
-use Rattle.aho_stream.specs.Replacing.{SourceGave}
 use Rattle.aho_stream.specs.declared.chunks.StreamChunkIter.{StreamChunkIter}
 use Rattle.aho_stream.specs.declared.finds.StreamFindIter.{StreamFindIter}
 use Rattle.aho_stream.specs.declared.progress.StreamProgress.{StreamProgress}

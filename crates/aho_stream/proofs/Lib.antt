@@ -1,6 +1,7 @@
--- The bytes given, and how long what occurs in them is.
+-- The bytes given, how long what occurs in them is, and bytes in which nothing begins.
 mod GivenBytes
 mod PatternLengths
+mod PassedOver
 -- One byte more: the next match, whatever follows, and where a state dies.
 mod NextMatches
 mod Walks

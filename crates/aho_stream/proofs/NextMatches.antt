@@ -16,8 +16,9 @@ use Rattle.aho_base.specs.declared.search.MatchKind.TheVariants.{Standard}
 use Rattle.aho_laws.proofs.Answers.{IsAnswer-unique}
 use Rattle.aho_laws.proofs.Kept.{other_than_standard}
 use Rattle.aho_laws.proofs.Stands.{best_starts}
+use Rattle.aho_search.proofs.Origins.{answer_from_origin}
 use Rattle.aho_search.proofs.Places.{best_in_whole, into_part, length_part, moved, moved_option, moved_back, part_join, widened, narrowed}
-use Rattle.aho_stream.specs.After.{MayFollow, search_from}
+use Rattle.aho_stream.specs.After.{MayFollow, NothingBegins, search_from}
 use Rattle.aho_stream.proofs.GivenBytes.{part_stays}
 use Rattle.aho_stream.proofs.PatternLengths.{occurs_some, occurs_short}
 
@@ -108,6 +109,19 @@ module _ (p : Patterns) (given more : List ℕ) (from walked : ℕ) (ordered : f
       (subst (λ (w : List ℕ). Occurs p No w 0 (end - from) (moved_back from m)) joined (into_part p No h from end m answer.0)) in
       let apart = laws.start_apart word rest sid (moved_back from m) (subst (λ (w : List ℕ). held No w sid) (sym same_word) is_held) is_start here (omega (arith, long, ends_later m none answer)) in
       omega (arith, apart, long, answer.0.after_start)
+
+-- where nothing begins before an origin, the answer from there is the answer, and the other way round
+pub answer_sooner : (p : Patterns) (given more : List ℕ) (from origin : ℕ) (answer : Option Occurrence) → from ≤ origin → NothingBegins p given from origin
+    → IsAnswer p (search_from origin (given ++ more)) answer → IsAnswer p (search_from from (given ++ more)) answer
+answer_sooner p given more from origin answer before apart = answer_from_origin p (given ++ more) from origin (length (given ++ more)) before false answer (apart more)
+
+pub answer_later : (p : Patterns) (given more : List ℕ) (from origin : ℕ) (m : Occurrence) → from ≤ origin → NothingBegins p given from origin
+    → IsAnswer p (search_from from (given ++ more)) (Some m) → IsAnswer p (search_from origin (given ++ more)) (Some m)
+answer_later p given more from origin m before apart answer =
+    let o = answer.0 in (
+      record { numbered = o.numbered; after_start = apart more m o; before_end = o.before_end; sized = o.sized; same = o.same; admitted = λ y. cc },
+      λ n other. answer.1 n (record { numbered = other.numbered; after_start = omega (arith, before, other.after_start); before_end = other.before_end; sized = other.sized; same = other.same; admitted = λ y. cc }),
+    )
 
 -- the answer of what was walked where nothing follows
 pub found_at_end : (p : Patterns) (given : List ℕ) (from walked : ℕ) (best : Option Occurrence) → from ≤ walked → walked ≡ length given → BestAfter p No (slice_range given from walked) best → IsAnswer p (search_from from given) (moved_option from best)

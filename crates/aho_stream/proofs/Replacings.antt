@@ -6,7 +6,6 @@ use Rattle.std.proofs.KnownBytes.{Appends-kept, Appends-nil, Appends-trans, Cons
 use Rattle.std.proofs.lemmas.List.{take-append-drop}
 use Rattle.aho_base.specs.declared.error.stream.StreamError.{StreamError}
 use Rattle.aho_base.specs.declared.error.stream.StreamError.TheVariants.{Match as Refused, Read, Write, WriteZero, Memory, PositionLimit}
-use Rattle.aho_base.specs.declared.search.Anchored.{Anchored}
 use Rattle.aho_base.specs.Answer.{IsAnswer}
 use Rattle.aho_base.specs.Iteration.{AreFinds}
 use Rattle.aho_base.specs.Occurrence.{Occurrence}
@@ -16,7 +15,7 @@ use Rattle.aho_devices.specs.Counts.{AppendsBeginning, counted}
 use Rattle.aho_devices.specs.declared.device.Sink.{Ghosts as SinkGhosts}
 use Rattle.aho_devices.specs.declared.device.Source.{Ghosts as SourceGhosts}
 use Rattle.aho_search.specs.declared.automaton.Automaton.{Ghosts}
-use Rattle.aho_stream.specs.After.{IsAfter, MayFollow, kept_for, search_from}
+use Rattle.aho_stream.specs.After.{IsAfter, MayFollow, search_from}
 use Rattle.aho_stream.specs.Chunks.{Advances, ReadsOn, Tells, TellsEnd, TellsError, TellsFault, ends_between}
 use Rattle.aho_stream.specs.Refills.{is_limit}
 use Rattle.aho_stream.specs.Replacing.{GaveAsMany, MayBe, SourceGave, BeginsStream, ReplacesStream, ReplacesStreamUpTo, chunk_bytes, piece_for}

@@ -21,7 +21,7 @@ use Rattle.aho_stream.specs.declared.progress.StreamPiece.TheVariants.{NonMatch,
 use Rattle.aho_stream.proofs.Afters.{after_given, after_reported}
 use Rattle.aho_stream.proofs.PatternLengths.{occurs_some}
 use Rattle.aho_stream.proofs.Deaths.{dies}
-use Rattle.aho_stream.proofs.NextMatches.{MayFollow-nothing, answers_together, ends_later, found_at_end, found_dead, found_first, nothing_follows, starts_behind, starts_near, starts_near_found}
+use Rattle.aho_stream.proofs.NextMatches.{MayFollow-nothing, answer_later, answer_sooner, answers_together, ends_later, found_at_end, found_dead, found_first, nothing_follows, starts_behind, starts_near, starts_near_found}
 use Rattle.aho_stream.proofs.Walks.{near_unsettled, unsettled_leftmost, why_settled}
 
 module _ {S : Type 0} (A : Ghosts S) (automaton : S) (p : Patterns) where
@@ -78,16 +78,17 @@ module _ {S : Type 0} (A : Ghosts S) (automaton : S) (p : Patterns) where
           let none = nothing_follows s.ended more ends follows in
           let long : length (given ++ more) ≡ length given = ap (λ (xs : List ℕ). length (given ++ xs)) none ∙ ap length (append-nil given) in
           let none_walked = subst (BestAfter p No (word_of s given)) (free ends) a.best_is in
-          absurd (omega (arith, ends_later p given more s.from s.walked ordered within m none_walked answer, answer.0.before_end, long, walked, a.count)),
+          absurd (omega (arith, ends_later p given more s.origin s.walked a.origin_walked within m none_walked (later more m answer), answer.0.before_end, long, walked, a.count)),
     )
     | inr goes ↦ by_hand s.in_hand going a.best_is (open_end goes)
   ]
     where
-      ordered : s.from ≤ s.walked
-      ordered = omega (arith, a.from_reported, a.reported_walked)
-
       within : s.walked ≤ length given
       within = omega (arith, a.walked_read, a.count)
+
+      -- the search from where it began answers the same
+      later : (more : List ℕ) (m : Occurrence) → IsAnswer p (search_from s.from (given ++ more)) (Some m) → IsAnswer p (search_from s.origin (given ++ more)) (Some m)
+      later more m answer = answer_later p given more s.from s.origin m a.from_origin a.apart answer
 
       behind : end ≡ s.walked - s.buffer.least → ((more : List ℕ) (m : Occurrence) → IsAnswer p (search_from s.from (given ++ more)) (Some m) → s.walked ≤ m.start + longest lengths) → (end ≤ s.walked) × IsClearTo s given end
       behind at near = (omega (arith, at), λ more m follows answer. omega (arith, at, a.least, near more m answer))
@@ -96,29 +97,30 @@ module _ {S : Type 0} (A : Ghosts S) (automaton : S) (p : Patterns) where
           → MatchBool (is_none found && starts s.sid) (end ≡ s.walked) (end ≡ s.walked - s.buffer.least) → (end ≤ s.walked) × IsClearTo s given end
       by_hand None going none at_end = elim (cases_Bool (starts s.sid)) [
         | inl start ↦ (let at : end ≡ s.walked = subst (λ (b : Bool). MatchBool b (end ≡ s.walked) (end ≡ s.walked - s.buffer.least)) start at_end in
-            (omega (arith, at), λ more m follows answer. omega (arith, at, starts_behind p given more s.from s.walked ordered within laws s.sid m a.held_is start none answer)))
+            (omega (arith, at), λ more m follows answer. omega (arith, at, starts_behind p given more s.origin s.walked a.origin_walked within laws s.sid m a.held_is start none (later more m answer))))
         | inr other ↦ behind (subst (λ (b : Bool). MatchBool b (end ≡ s.walked) (end ≡ s.walked - s.buffer.least)) other at_end)
-            (λ more m answer. starts_near p given more s.from s.walked ordered within lengths m laws.lengths_are none answer)
+            (λ more m answer. starts_near p given more s.origin s.walked a.origin_walked within lengths m laws.lengths_are none (later more m answer))
       ]
       by_hand (Some best) going is_best at_end =
           let leftmost = (unsettled_leftmost kind (dead s.sid) best going).0 in
-          let size = length_part given s.from s.walked within in
+          let size = length_part given s.origin s.walked within in
           let near = near_unsettled laws (word_of s given) s.sid best a.held_is going is_best in
-          behind at_end (λ more m answer. starts_near_found p given more s.from s.walked ordered within lengths best m laws.lengths_are (λ e. leftmost (laws.kind_is ∙ e)) is_best (omega (arith, near, size, ordered)) answer)
+          behind at_end (λ more m answer. starts_near_found p given more s.origin s.walked a.origin_walked within lengths best m laws.lengths_are (λ e. leftmost (laws.kind_is ∙ e)) is_best (omega (arith, near, size, a.origin_walked)) (later more m answer))
 
   -- the match in hand is in what was walked
-  pub in_hand_within : (lookups : ℕ) (s : StreamProgress) (given : List ℕ) (m : Occurrence) → After lookups s given → s.in_hand ≡ Some m → (m.start ≤ m.end) × (s.from + m.end ≤ s.walked)
+  pub in_hand_within : (lookups : ℕ) (s : StreamProgress) (given : List ℕ) (m : Occurrence) → After lookups s given → s.in_hand ≡ Some m → (m.start ≤ m.end) × (s.origin + m.end ≤ s.walked)
   in_hand_within lookups s given m a in_hand =
       let best = subst (BestAfter p No (word_of s given)) in_hand a.best_is in
       (omega (arith, best.0.sized), (subst (IsInHand p.kind (longest lengths) s) in_hand a.in_hand_is).0)
 
   module _ {kind : MatchKind} {list : ℕ → List ℕ} {dead starts : ℕ → Bool} (laws : Reads p kind lengths held list dead starts) (lookups : ℕ) (s : StreamProgress) (given : List ℕ) (m : Occurrence) (a : After lookups s given)
       (in_hand : s.in_hand ≡ Some m) (due : (s.ended || is_settled kind (dead s.sid) s.in_hand) ≡ true) (walked : is_settled kind (dead s.sid) s.in_hand ≡ false → s.walked ≡ s.read) where
-    ordered : s.from ≤ s.walked
-    ordered = omega (arith, a.from_reported, a.reported_walked)
-
     within : s.walked ≤ length given
     within = omega (arith, a.walked_read, a.count)
+
+    -- the answer of the search from where it began is that from the end of the last match
+    sooner : (more : List ℕ) (answer : Option Occurrence) → IsAnswer p (search_from s.origin (given ++ more)) answer → IsAnswer p (search_from s.from (given ++ more)) answer
+    sooner more answer is = answer_sooner p given more s.from s.origin answer a.from_origin a.apart is
 
     best : BestAfter p No (word_of s given) (Some m)
     best = subst (BestAfter p No (word_of s given)) in_hand a.best_is
@@ -129,24 +131,24 @@ module _ {S : Type 0} (A : Ghosts S) (automaton : S) (p : Patterns) where
         (sym (ap (λ (b : Bool). s.ended || b) unsettled ∙ or-false s.ended) ∙ due, walked unsettled ∙ a.count)
 
     -- under Standard it is settled as it ends where the walk stands, else as the state is dead
-    settled_answers : (more : List ℕ) → is_settled kind (dead s.sid) (Some m) ≡ true → IsAnswer p (search_from s.from (given ++ more)) (Some (moved s.from m))
+    settled_answers : (more : List ℕ) → is_settled kind (dead s.sid) (Some m) ≡ true → IsAnswer p (search_from s.from (given ++ more)) (Some (moved s.origin m))
     settled_answers more settled = elim (why_settled kind (dead s.sid) m settled) [
       | inl standard ↦
           (let i = subst (IsInHand p.kind (longest lengths) s) in_hand a.in_hand_is in
           let is : p.kind ≡ Standard = sym laws.kind_is ∙ standard in
-          found_first p given more s.from s.walked ordered within m is (omega (arith, i.0, i.2 is)) best)
-      | inr died ↦ found_dead p given more s.from s.walked ordered within laws s.sid m a.held_is died best
+          sooner more (Some (moved s.origin m)) (found_first p given more s.origin s.walked a.origin_walked within m is (omega (arith, i.0, i.2 is)) best))
+      | inr died ↦ sooner more (Some (moved s.origin m)) (found_dead p given more s.origin s.walked a.origin_walked within laws s.sid m a.held_is died best)
     ]
 
     -- a match that is given is the next one
-    pub in_hand_answers : (more : List ℕ) → MayFollow s.ended more → IsAnswer p (search_from s.from (given ++ more)) (Some (moved s.from m))
+    pub in_hand_answers : (more : List ℕ) → MayFollow s.ended more → IsAnswer p (search_from s.from (given ++ more)) (Some (moved s.origin m))
     in_hand_answers more follows = elim (cases_Bool (is_settled kind (dead s.sid) (Some m))) [
       | inl settled ↦ settled_answers more settled
       | inr going ↦
           (let last = is_last going in
           let none = nothing_follows s.ended more last.0 follows in
-          subst (λ (bytes : List ℕ). IsAnswer p (search_from s.from bytes) (Some (moved s.from m))) (sym (ap (λ (xs : List ℕ). given ++ xs) none ∙ append-nil given))
-          (found_at_end p given s.from s.walked (Some m) ordered last.1 best))
+          sooner more (Some (moved s.origin m)) (subst (λ (bytes : List ℕ). IsAnswer p (search_from s.origin bytes) (Some (moved s.origin m))) (sym (ap (λ (xs : List ℕ). given ++ xs) none ∙ append-nil given))
+          (found_at_end p given s.origin s.walked (Some m) a.origin_walked last.1 best)))
     ]
 
     -- before the end was seen a leftmost kind gives it only where the state is dead
@@ -155,27 +157,27 @@ module _ {S : Type 0} (A : Ghosts S) (automaton : S) (p : Patterns) where
         let settled : is_settled kind (dead s.sid) (Some m) ≡ true = sym (ap (is_settled kind (dead s.sid)) in_hand) ∙ sym (ap (λ (b : Bool). b || is_settled kind (dead s.sid) s.in_hand) goes) ∙ due in
         elim (why_settled kind (dead s.sid) m settled) [
           | inl standard ↦ absurd (leftmost (sym laws.kind_is ∙ standard))
-          | inr died ↦ (s.walked, dies laws given s.from s.walked s.sid leftmost a.held_is ordered within died)
+          | inr died ↦ (length given, dies laws given s.from s.origin s.walked s.sid a.from_origin a.apart leftmost a.held_is a.origin_walked within died)
         ]
 
     -- so the bytes up to its start are outside of every match
-    pub gap_clear : IsClearTo s given (s.from + m.start)
+    pub gap_clear : IsClearTo s given (s.origin + m.start)
     gap_clear more n follows answer =
-        let same = answers_together p given more s.from (moved s.from m) n (in_hand_answers more follows) answer in
+        let same = answers_together p given more s.from (moved s.origin m) n (in_hand_answers more follows) answer in
         omega (arith, ap (λ (x : Occurrence). x.start) same)
 
     -- nothing behind its start was reported
-    unreported : s.reported ≤ s.from + m.start
-    unreported = a.clear [] (moved s.from m) (MayFollow-nothing s.ended) (in_hand_answers [] (MayFollow-nothing s.ended))
+    unreported : s.reported ≤ s.origin + m.start
+    unreported = a.clear [] (moved s.origin m) (MayFollow-nothing s.ended) (in_hand_answers [] (MayFollow-nothing s.ended))
 
     -- and it is told
-    pub match_told : (s' : StreamProgress) (told : Occurrence) → s.refused ≡ false → s.from + m.start ≤ s.reported → told ≡ moved s.from m
-        → s' ≡ record s { told = s.from + m.start; reported = s.from + m.end; from = s.from + m.end; walked = s.from + m.end; sid = s.start; in_hand = None }
+    pub match_told : (s' : StreamProgress) (told : Occurrence) → s.refused ≡ false → s.origin + m.start ≤ s.reported → told ≡ moved s.origin m
+        → s' ≡ record s { told = s.origin + m.start; reported = s.origin + m.end; from = s.origin + m.end; origin = s.origin + m.end; walked = s.origin + m.end; sid = s.start; in_hand = None }
         → After lookups s' given × TellsMatch p s s' given told
     match_told s' told unrefused reached is moves = (
       subst (λ (t : StreamProgress). After lookups t given) (sym moves) (after_given A automaton p lookups s given m a laws.lengths_are in_hand unreported unrefused),
       subst (λ (x : Occurrence). TellsMatch p s s' given x) (sym is)
-          (subst (λ (t : StreamProgress). TellsMatch p s t given (moved s.from m)) (sym moves)
+          (subst (λ (t : StreamProgress). TellsMatch p s t given (moved s.origin m)) (sym moves)
           (record {
             answer = in_hand_answers;
             settled = in_hand_died;

@@ -4,12 +4,11 @@ use Rattle.std.specs.Prelude.{Option, Some, None, Result, Ok, Err, slice_range}
 use Rattle.std.specs.Borrow.{Bor, MutBor}
 use Rattle.std.specs.Fn.{Mut}
 use Rattle.std.specs.Io.KnownBytes.{Appends}
-use Rattle.std.proofs.KnownBytes.{Appends-trans, Consumes-nil}
+use Rattle.std.proofs.KnownBytes.{Appends-trans}
 use Rattle.std.proofs.Math.Seq.{take-add}
 use Rattle.std.proofs.lemmas.List.{take-take, drop-drop, length-append}
 use Rattle.aho_base.specs.declared.error.stream.StreamError.{StreamError}
 use Rattle.aho_base.specs.declared.error.stream.StreamError.TheVariants.{Match as Refused, Read, Write, WriteZero, Memory, PositionLimit}
-use Rattle.aho_base.specs.declared.search.Anchored.{Anchored}
 use Rattle.aho_base.specs.Answer.{IsAnswer}
 use Rattle.aho_base.specs.ClosureRun.{CalledOn}
 use Rattle.aho_base.specs.Iteration.{AreFinds}
@@ -22,7 +21,7 @@ use Rattle.aho_devices.specs.declared.device.Sink.{Ghosts as SinkGhosts}
 use Rattle.aho_devices.specs.declared.device.Source.{Ghosts as SourceGhosts}
 use Rattle.aho_search.proofs.Places.{length_part}
 use Rattle.aho_search.specs.declared.automaton.Automaton.{Ghosts}
-use Rattle.aho_stream.specs.After.{IsAfter, MayFollow, greatest_position, kept_for, search_from}
+use Rattle.aho_stream.specs.After.{IsAfter, MayFollow, greatest_position, search_from}
 use Rattle.aho_stream.specs.Chunks.{Advances, Tells, TellsError, TellsFault, TellsMatch, TellsPlain, ends_between, tells_read_fault}
 use Rattle.aho_stream.specs.Replacing.{MayBe, SourceGave}
 use Rattle.aho_stream.specs.StreamRun.{RunsOver}

@@ -1,6 +1,6 @@
 -- What is known after one byte more of a stream.
-use Rattle.std.proofs.Common.{◌≡◌, ◌≢◌, ℕ, ◌+◌, ◌<◌, ◌≤◌, ◌⊎◌, inl, inr, Bool, true, false, List, [], ◌∷◌, ◌++◌, length, take, get_or, refl, sym, ◌∙◌, ap, subst, arith, append_assoc, length-append}
-use Rattle.std.specs.Prelude.{Option, Some, None, IfSome}
+use Rattle.std.proofs.Common.{◌≡◌, ◌≢◌, ℕ, ◌+◌, ◌<◌, ◌≤◌, ◌⊎◌, ◌&&◌, inl, inr, Bool, true, false, List, [], ◌∷◌, ◌++◌, length, take, get_or, refl, sym, ◌∙◌, ap, subst, arith, append_assoc, length-append}
+use Rattle.std.specs.Prelude.{Option, Some, None, IfSome, is_none}
 use Rattle.std.proofs.lemmas.List.{take_more, length-take}
 use Rattle.aho_base.specs.Laws.{BestAfter, Reads, better, longest, told}
 use Rattle.aho_base.specs.Occurrence.{Occurrence}
@@ -41,6 +41,11 @@ unsettled_none kind dead None e standard = refl
 unsettled_none Standard dead (Some m) e standard = cc
 unsettled_none LeftmostFirst dead (Some m) e standard = cc
 unsettled_none LeftmostLongest dead (Some m) e standard = cc
+
+-- where a search is as at its beginning, no match is in hand, and the state is a start
+pub at_beginning : (best : Option Occurrence) (start : Bool) → (is_none best && start) ≡ true → (best ≡ None) × (start ≡ true)
+at_beginning None start e = (refl, e)
+at_beginning (Some m) start e = cc
 
 -- so what a state tells is better than it
 better_unsettled : (kind : MatchKind) (dead : Bool) (best : Option Occurrence) (m : Occurrence) → is_settled kind dead best ≡ false → better kind best (Some m) ≡ Some m

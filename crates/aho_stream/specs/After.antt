@@ -5,10 +5,10 @@ use Rattle.aho_base.specs.Laws.{BestAfter, first_is_answer, longest, shortest}
 use Rattle.aho_base.specs.Occurrence.{Occurrence}
 use Rattle.aho_base.specs.Patterns.{Patterns}
 use Rattle.aho_base.specs.Search.{Search}
-use Rattle.aho_base.specs.declared.search.Anchored.{Anchored}
 use Rattle.aho_base.specs.declared.search.Anchored.TheVariants.{No}
 use Rattle.aho_base.specs.declared.search.MatchKind.{MatchKind}
 use Rattle.aho_base.specs.declared.search.MatchKind.TheVariants.{Standard}
+use Rattle.aho_prefilter.specs.Candidate.{NoneStartsBefore}
 use Rattle.aho_devices.specs.Buffer.{Buffered, capacity_for}
 use Rattle.aho_search.specs.declared.automaton.Automaton.{Ghosts}
 use Rattle.aho_stream.specs.declared.progress.StreamProgress.{StreamProgress}
@@ -38,9 +38,9 @@ EndsIn bytes last = (gone : List ℕ) × (bytes ≡ gone ++ last)
 abbrev pub ForGiven : StreamProgress → (List ℕ → Type 0) → Type 0
 ForGiven s says = (given : List ℕ) → length given ≡ s.read → EndsIn given s.buffer.bytes → says given
 
--- what was walked since the end of the last match
+-- what was walked since the search under way began
 abbrev pub word_of : StreamProgress → List ℕ → List ℕ
-word_of s given = slice_range given s.from s.walked
+word_of s given = slice_range given s.origin s.walked
 
 -- whether a match in hand is given: under Standard at once, under the leftmost kinds where the state is dead
 abbrev pub is_settled : MatchKind → Bool → Option Occurrence → Bool
@@ -78,6 +78,7 @@ fresh buffer start limit = record {
   read = 0;
   limit = limit;
   from = 0;
+  origin = 0;
   told = 0;
   reported = 0;
   walked = 0;
@@ -93,29 +94,42 @@ fresh buffer start limit = record {
 abbrev pub reported_to : StreamProgress → ℕ → StreamProgress
 reported_to s end = record s { told = s.reported; reported = end }
 
--- a match was given, by its places from the end of the last one: the next search begins at its end
+-- a match was given, by its places from where its search began: the next search begins at its end
 abbrev pub given_on : StreamProgress → Occurrence → StreamProgress
 given_on s m = record s {
-  told = s.from + m.start;
-  reported = s.from + m.end;
-  from = s.from + m.end;
-  walked = s.from + m.end;
+  told = s.origin + m.start;
+  reported = s.origin + m.end;
+  from = s.origin + m.end;
+  origin = s.origin + m.end;
+  walked = s.origin + m.end;
   sid = s.start;
   in_hand = None;
 }
 
--- the walk alone went on
+-- so many bytes were passed over, and not walked: the search under way begins behind them
+abbrev pub passed_on : StreamProgress → ℕ → StreamProgress
+passed_on s count = record s { origin = s.walked + count; walked = s.walked + count }
+
+-- bytes alone were passed over, if any
+abbrev pub OnlyPasses : StreamProgress → StreamProgress → Type 0
+OnlyPasses s s' = s' ≡ record s { origin = s'.origin; walked = s'.walked }
+
+-- the walk alone went on, and the search under way may begin later
 abbrev pub OnlyWalks : StreamProgress → StreamProgress → Type 0
-OnlyWalks s s' = s' ≡ record s { walked = s'.walked; position = s'.position; sid = s'.sid; in_hand = s'.in_hand }
+OnlyWalks s s' = s' ≡ record s { origin = s'.origin; walked = s'.walked; position = s'.position; sid = s'.sid; in_hand = s'.in_hand }
 
 -- a match in hand lies in what was walked. The walk stands at its end under Standard, and else at most one byte farther from
 -- its start than the longest pattern is long
 abbrev pub IsInHand : MatchKind → ℕ → StreamProgress → Option Occurrence → Type 0
 IsInHand kind most s None = Unit {0}
-IsInHand kind most s (Some m) = (s.from + m.end ≤ s.walked) × (s.walked ≤ s.from + m.start + most + 1) × (kind ≡ Standard → s.walked ≤ s.from + m.end)
+IsInHand kind most s (Some m) = (s.origin + m.end ≤ s.walked) × (s.walked ≤ s.origin + m.start + most + 1) × (kind ≡ Standard → s.walked ≤ s.origin + m.end)
+
+-- between two places of these bytes nothing begins that occurs, whatever bytes follow
+abbrev pub NothingBegins : Patterns → List ℕ → ℕ → ℕ → Type 0
+NothingBegins p bytes from place = (more : List ℕ) → NoneStartsBefore p (bytes ++ more) from (length (bytes ++ more)) place
 
 -- the search of a stream by this automaton has come so far, once these bytes were given and these look-ups were made. Places
--- count from the first byte given, those of a match in hand from the end of the last match
+-- count from the first byte given, those of a match in hand from where the search under way began
 pub record IsAfter {S : Type 0} (A : Ghosts S) (automaton : S) (p : Patterns) (lookups : ℕ) (s : StreamProgress) (given : List ℕ) : Type 0 where
   pub no_empty : 1 ≤ shortest (A.lengths automaton)
   pub sized : longest (A.lengths automaton) < 2 ^ 64
@@ -135,14 +149,18 @@ pub record IsAfter {S : Type 0} (A : Ghosts S) (automaton : S) (p : Patterns) (l
   -- the order of the places
   pub told_reported : s.told ≤ s.reported
   pub from_reported : s.from ≤ s.reported
+  pub from_origin : s.from ≤ s.origin
+  pub origin_walked : s.origin ≤ s.walked
   pub reported_walked : s.reported ≤ s.walked
   pub walked_read : s.walked ≤ s.read
-  -- under Standard each byte was walked once, and else with each match as many again as the longest pattern has, at most; two
-  -- look-ups for each pay for all
+  -- under Standard each byte was walked once at most, and else with each match as many again as the longest pattern has, at
+  -- most; two look-ups for each pay for all
   pub position : s.position ≤ s.walked + longest (A.lengths automaton) * s.from
-  pub once : p.kind ≡ Standard → s.position ≡ s.walked
+  pub once : p.kind ≡ Standard → s.position ≤ s.walked
   pub paid : lookups + A.depth automaton s.sid ≤ 2 * s.position
-  -- what is held there, and the best of what was walked
+  -- between the last match and where the search under way began nothing begins
+  pub apart : NothingBegins p given s.from s.origin
+  -- what is held there, and the best of what was walked from there on
   pub is_state : A.valid automaton s.sid
   pub held_is : A.held automaton p No (word_of s given) s.sid
   pub best_is : BestAfter p No (word_of s given) s.in_hand

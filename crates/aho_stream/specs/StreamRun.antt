@@ -1,5 +1,5 @@
 -- What the replacement of a stream by a closure does.
-use Rattle.std.specs.Prelude.{◌≡◌, ℕ, ◌+◌, ◌≤◌, ◌&&◌, Bool, true, List, [], ◌∷◌, take, nat_lt, if◌then◌else◌, Option, None, Result, Ok, Err, IfErr, MatchBool, OnErr, OnOk, length}
+use Rattle.std.specs.Prelude.{◌≡◌, ℕ, ◌+◌, ◌≤◌, ◌&&◌, Bool, true, List, [], ◌∷◌, take, nat_lt, if◌then◌else◌, None, Result, Ok, Err, IfErr, MatchBool, OnErr, OnOk, length}
 use Rattle.std.specs.Borrow.{Bor, MutBor}
 use Rattle.std.specs.Fn.{Mut}
 use Rattle.std.specs.Io.KnownBytes.{Appends}

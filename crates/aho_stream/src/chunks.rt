@@ -284,7 +284,8 @@ impl<'a, 'r, A: Automaton, R: Source> StreamChunkIter<'a, 'r, A, R> {
     }
 
     /// How many bytes the automaton walked, each time that it walked them: under `Standard` each byte that was given once at
-    /// most, under the leftmost kinds once and as many times again as the longest pattern has bytes.
+    /// most, under the leftmost kinds once and as many times again as the longest pattern has bytes. Bytes that were skipped
+    /// by a prefilter were not walked.
     pub fn position(&self) -> u128
         ensures position { result ≡ self.now.progress.position }
         ensures bounded { (p : Patterns) (given : List ℕ)

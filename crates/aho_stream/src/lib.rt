@@ -9,4 +9,5 @@ mod pieces;
 pub mod progress;
 pub mod replace;
 mod settle;
+mod skip;
 pub mod start;

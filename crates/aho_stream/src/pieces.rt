@@ -1,13 +1,97 @@
 //! The next chunk of what was read: the walk up to where it is settled, and what it tells.
 
-ghost use Rattle.std.specs.Prelude.{◌≡◌, ◌+◌, ◌≤◌, None, Some, IfSome, true, false};
+ghost use Rattle.std.specs.Prelude.{◌≡◌, ◌≢◌, ◌+◌, ◌<◌, ◌≤◌, None, Some, IfSome, true, false};
 ghost use Rattle.aho_stream.specs.After.{IsDue, IsOutside, IsUnderWay, IsUnsettled, OnlyWalks, ReportsAtStart, StaysAfter};
 ghost use Rattle.aho_stream.specs.Chunks.{TellsNext};
 
 use crate::progress::{StreamPiece, StreamProgress};
 use crate::settle::{is_settled, walk_on};
+use crate::skip::{is_at_beginning, skip};
 use aho_base::search::Match;
+use aho_search::find::{PATIENCE, patience_after};
 use aho_search::walk::Walk;
+
+/// Walks on over what was read and not walked yet, until the match in hand is settled or, where it may wait, in a start with
+/// nothing in hand.
+#[inline(always)]
+fn walk_further<W: Walk>(walk: &mut W, progress: &mut StreamProgress, may_wait: bool)
+    requires after { IsUnderWay W.Of.Automaton (W.of walk.old) (W.lookups walk.old) progress.old }
+    requires open { progress.old.refused ≡ false }
+    requires unsettled { IsUnsettled W.Of.Automaton (W.of walk.old) progress.old }
+    ensures after { StaysAfter W.Of.Automaton (W.of walk.old)
+        (W.lookups walk.old) progress.old (W.lookups walk.new) progress.new }
+    ensures all { may_wait ≡ false → IsUnsettled W.Of.Automaton (W.of walk.old) progress.new
+        → progress.new.walked ≡ progress.new.read }
+    ensures on { progress.old.walked ≤ progress.new.walked }
+    ensures further { progress.old.walked < progress.old.read
+        → progress.old.walked < progress.new.walked }
+    ensures same { W.of walk.new ≡ W.of walk.old }
+    ensures others { OnlyWalks progress.old progress.new }
+{
+    let at = (progress.walked - progress.origin) as usize;
+    let bytes = progress.bytes(progress.walked, progress.read);
+    let walked = walk_on(walk, bytes, at, progress.sid, progress.in_hand, may_wait);
+    progress.walked += walked.count as u64;
+    progress.position += walked.count as u128;
+    progress.sid = walked.sid;
+    progress.in_hand = walked.found;
+}
+
+/// The patience with which a search begins: none where no prefilter is held.
+fn first_patience<W: Walk>(walk: &W) -> usize {
+    match walk.prefilter() {
+        Some(_) => PATIENCE,
+        None => 0,
+    }
+}
+
+/// Whether a walk may wait for a candidate: there is patience left, and what is left of the bytes read is as long as a match
+/// may be.
+fn may_wait(progress: &StreamProgress, patience: usize) -> bool
+    requires walked { progress.now.walked ≤ progress.now.read }
+{
+    patience > 0 && progress.read - progress.walked >= progress.buffer.min_buffer_len() as u64
+}
+
+/// Whether all that was read was walked, or the match in hand is settled.
+fn is_searched<W: Walk>(walk: &W, progress: &StreamProgress) -> bool
+    requires valid { W.Of.valid (W.of walk.now) progress.now.sid }
+    ensures all { result ≡ true → IsUnsettled W.Of.Automaton (W.of walk.now) progress.now
+        → progress.now.walked ≡ progress.now.read }
+    ensures left { result ≡ false → progress.now.walked ≢ progress.now.read }
+    ensures unsettled { result ≡ false → IsUnsettled W.Of.Automaton (W.of walk.now) progress.now }
+{
+    if progress.walked == progress.read {
+        return true;
+    }
+    is_settled(walk, progress.sid, &progress.in_hand)
+}
+
+/// Walks on over what was read and not walked yet, until the match in hand is settled. It skips to the next candidate in each
+/// start with nothing in hand, as long as the patience of a search lasts.
+#[inline(always)]
+fn search_skipping<W: Walk>(walk: &mut W, progress: &mut StreamProgress)
+    requires after { IsUnderWay W.Of.Automaton (W.of walk.old) (W.lookups walk.old) progress.old }
+    requires open { progress.old.refused ≡ false }
+    requires unsettled { IsUnsettled W.Of.Automaton (W.of walk.old) progress.old }
+    ensures after { StaysAfter W.Of.Automaton (W.of walk.old)
+        (W.lookups walk.old) progress.old (W.lookups walk.new) progress.new }
+    ensures all { IsUnsettled W.Of.Automaton (W.of walk.old) progress.new
+        → progress.new.walked ≡ progress.new.read }
+    ensures same { W.of walk.new ≡ W.of walk.old }
+    ensures others { OnlyWalks progress.old progress.new }
+{
+    let mut patience = first_patience(walk);
+    loop {
+        let skipped = skip(walk, progress);
+        patience = patience_after(patience, skipped);
+        let waits = may_wait(progress, patience);
+        walk_further(walk, progress, waits);
+        if is_searched(walk, progress) {
+            return;
+        }
+    }
+}
 
 /// Walks on over what was read and not walked yet, until the match in hand is settled.
 fn search<W: Walk>(walk: &mut W, progress: &mut StreamProgress)
@@ -23,13 +107,7 @@ fn search<W: Walk>(walk: &mut W, progress: &mut StreamProgress)
     if is_settled(walk, progress.sid, &progress.in_hand) {
         return;
     }
-    let at = (progress.walked - progress.from) as usize;
-    let bytes = progress.bytes(progress.walked, progress.read);
-    let walked = walk_on(walk, bytes, at, progress.sid, progress.in_hand);
-    progress.walked += walked.count as u64;
-    progress.position += walked.count as u128;
-    progress.sid = walked.sid;
-    progress.in_hand = walked.found;
+    search_skipping(walk, progress);
 }
 
 /// The place up to which bytes are outside of every match, where all that was read was walked and a match in hand is not
@@ -46,7 +124,7 @@ fn outside<W: Walk>(walk: &W, progress: &StreamProgress) -> u64
     if progress.ended {
         return progress.read;
     }
-    if progress.in_hand.is_none() && walk.is_start(progress.sid) {
+    if is_at_beginning(walk, progress) {
         return progress.walked;
     }
     progress
@@ -95,7 +173,7 @@ fn piece<W: Walk>(walk: &W, progress: &mut StreamProgress) -> Option<StreamPiece
         let end = outside(walk, progress);
         return progress.report(end);
     };
-    let start = progress.from + m.start() as u64;
+    let start = progress.origin + m.start() as u64;
     match progress.report(start) {
         Some(piece) => Some(piece),
         None => Some(StreamPiece::Match {

@@ -4,7 +4,7 @@ ghost use Rattle.std.specs.Prelude.{◌≡◌, ◌+◌, ◌<◌, ◌≤◌, ◌^
 ghost use Rattle.aho_devices.specs.Counts.{counted};
 ghost use Rattle.aho_devices.specs.Buffer.{saw_end};
 ghost use Rattle.aho_devices.specs.Refusals.{is_read_fault, IsFillRefusal};
-ghost use Rattle.aho_stream.specs.After.{EndsIn, ForGiven, fresh, given_on, reported_to};
+ghost use Rattle.aho_stream.specs.After.{EndsIn, ForGiven, fresh, given_on, passed_on, reported_to};
 ghost use Rattle.aho_stream.specs.Chunks.{match_told};
 ghost use Rattle.aho_stream.specs.Refills.{GainsFew, Refills, is_limit};
 ghost use Rattle.aho_stream.specs.declared.progress.StreamPiece.TheVariants.{NonMatch};
@@ -49,19 +49,21 @@ pub struct StreamProgress {
     pub(crate) limit: u64,
     /// The end of the last match told.
     pub(crate) from: u64,
+    /// Where the search under way begins: the end of the last match told, or a later place before which nothing begins.
+    pub(crate) origin: u64,
     /// The start of the last chunk told.
     pub(crate) told: u64,
     /// The end of the last chunk told.
     pub(crate) reported: u64,
     /// The place up to which the automaton walked.
     pub(crate) walked: u64,
-    /// How many bytes it walked in all.
+    /// How many bytes it walked in all: what was skipped is not among them.
     pub(crate) position: u128,
-    /// The state that is held after the bytes from `from` to `walked`.
+    /// The state that is held after the bytes from `origin` to `walked`.
     pub(crate) sid: StateID,
     /// The state in which each search begins.
     pub(crate) start: StateID,
-    /// The best match in these bytes, which was not told yet. Its places count from `from`.
+    /// The best match in these bytes, which was not told yet. Its places count from `origin`.
     pub(crate) in_hand: Option<Match>,
     /// Whether the end of the stream was seen.
     pub(crate) ended: bool,
@@ -79,6 +81,7 @@ impl StreamProgress {
             read: 0,
             limit,
             from: 0,
+            origin: 0,
             told: 0,
             reported: 0,
             walked: 0,
@@ -118,22 +121,32 @@ impl StreamProgress {
         Some(StreamPiece::NonMatch)
     }
 
+    /// Passes over so many bytes that were not walked: the search under way begins behind them.
+    pub(crate) fn pass(&mut self, count: usize)
+        requires room { self.old.walked + count < 2 ^ 64 }
+        ensures moved { self.new ≡ passed_on self.old count }
+    {
+        self.walked += count as u64;
+        self.origin = self.walked;
+    }
+
     /// Tells a match in hand: the next search begins at its end.
     pub(crate) fn give(&mut self, m: Match) -> Match
         requires ordered { m.start ≤ m.end }
-        requires room { self.old.from + m.end < 2 ^ 64 }
+        requires room { self.old.origin + m.end < 2 ^ 64 }
         ensures placed { result ≡ record {
           pattern = m.pattern;
-          start = self.old.from + m.start;
-          end = self.old.from + m.end;
+          start = self.old.origin + m.start;
+          end = self.old.origin + m.end;
         } }
         ensures moved { self.new ≡ given_on self.old m }
     {
-        let start = self.from + m.start() as u64;
-        let end = self.from + m.end() as u64;
+        let start = self.origin + m.start() as u64;
+        let end = self.origin + m.end() as u64;
         self.told = start;
         self.reported = end;
         self.from = end;
+        self.origin = end;
         self.walked = end;
         self.sid = self.start;
         self.in_hand = None;

@@ -1,6 +1,6 @@
 //! The walk over the bytes of a stream, from where it stands up to where the next match is known.
 
-ghost use Rattle.std.specs.Prelude.{◌≡◌, ◌+◌, ◌*◌, ◌<◌, ◌≤◌, ◌^◌, None, false, length};
+ghost use Rattle.std.specs.Prelude.{◌≡◌, ◌+◌, ◌*◌, ◌<◌, ◌≤◌, ◌^◌, None, false, true, length};
 ghost use Rattle.aho_base.specs.Laws.{Fits, better};
 ghost use Rattle.aho_base.specs.declared.search.MatchKind.TheVariants.{Standard};
 ghost use Rattle.aho_stream.specs.After.{settles};
@@ -51,14 +51,30 @@ fn better_at<W: Walk>(walk: &W, sid: StateID, at: usize, best: Option<Match>) ->
     }
 }
 
+/// Whether a walk ends in a state: the match in hand is settled or, where it may wait, none is in hand and the state is a start.
+fn ends_in<W: Walk>(walk: &W, may_wait: bool, sid: StateID, in_hand: &Option<Match>) -> bool
+    requires valid { W.Of.valid (W.of walk.now) sid }
+    ensures settled { result ≡ true → may_wait ≡ false
+        → settles W.Of.Automaton (W.of walk.now) sid in_hand.now ≡ true }
+    ensures going { result ≡ false
+        → settles W.Of.Automaton (W.of walk.now) sid in_hand.now ≡ false }
+{
+    if may_wait && in_hand.is_none() {
+        return walk.is_start(sid);
+    }
+    is_settled(walk, sid, in_hand)
+}
+
 /// Walks over bytes until the match in hand is settled, from a state that is held after `at` bytes of which it is the best
-/// match.
+/// match. Where it may wait, it ends as well in the first start that it is led to with nothing in hand.
+#[inline(always)]
 pub fn walk_on<W: Walk>(
     walk: &mut W,
     bytes: &[u8],
     at: usize,
     sid: StateID,
     in_hand: Option<Match>,
+    may_wait: bool,
 ) -> Walked
     requires unsettled { settles W.Of.Automaton (W.of walk.old) sid in_hand ≡ false }
     requires valid { W.Of.valid (W.of walk.old) sid }
@@ -69,8 +85,10 @@ pub fn walk_on<W: Walk>(
     ensures walks { WalksFrom W.Of.Automaton (W.of walk.old) at sid in_hand bytes.now result }
     ensures valid { W.Of.valid (W.of walk.old) result.sid }
     ensures within { result.count ≤ length bytes.now }
-    ensures all { settles W.Of.Automaton (W.of walk.old) result.sid result.found ≡ false
+    ensures all { may_wait ≡ false
+        → settles W.Of.Automaton (W.of walk.old) result.sid result.found ≡ false
         → result.count ≡ length bytes.now }
+    ensures some { 0 < length bytes.now → 0 < result.count }
     ensures same { W.of walk.new ≡ W.of walk.old }
     ensures cost { W.lookups walk.new + W.Of.depth (W.of walk.old) result.sid
         ≤ W.lookups walk.old + W.Of.depth (W.of walk.old) sid + 2 * result.count }
@@ -81,7 +99,7 @@ pub fn walk_on<W: Walk>(
         sid = walk.step(Anchored::No, sid, bytes[count]);
         if walk.is_special(sid) {
             found = better_at(walk, sid, at + count + 1, found);
-            if is_settled(walk, sid, &found) {
+            if ends_in(walk, may_wait, sid, &found) {
                 return Walked {
                     count: count + 1,
                     sid,

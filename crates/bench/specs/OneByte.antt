@@ -4,6 +4,7 @@ use Rattle.std.specs.Prelude.{Option, Some, is_none, Result, Ok, Err, if◌then�
 use Rattle.aho_laws.proofs.NamedStates.{HeldBy, held_by_step, reads_by_names}
 use Rattle.aho_base.specs.Bytes.{folded}
 use Rattle.aho_base.specs.Failure.{is_cut, state_after}
+use Rattle.aho_base.specs.Held.{held_after}
 use Rattle.aho_base.specs.Laws.{Reads}
 use Rattle.aho_base.specs.MatchList.{matches_of, own_matches}
 use Rattle.aho_base.specs.Patterns.{Patterns}
@@ -104,6 +105,10 @@ reads_byte byte =
 -- the laws, whatever the patterns are called
 pub reads_one : (byte : ℕ) (p : Patterns) → p ≡ one_pattern byte → Reads p Standard (1 ∷ []) (IsHeldByOne byte p) list_of (λ sid. false) is_start_of_one
 reads_one byte p of = subst (λ (q : Patterns). Reads q Standard (1 ∷ []) (IsHeldByOne byte q) list_of (λ sid. false) is_start_of_one) (sym of) (reads_byte byte)
+
+-- a state that is held after some bytes is held after any others that lead to the same state of the words
+pub alike_one : (byte : ℕ) (p : Patterns) (word other : List ℕ) (sid : ℕ) → IsHeldByOne byte p No word sid → held_after p No other ≡ held_after p No word → IsHeldByOne byte p No other sid
+alike_one byte p word other sid held same = (held.0, held.1 ∙ sym same)
 
 -- a state that follows is held after one more byte
 pub held-next : (byte : ℕ) (p : Patterns) (anchored : Anchored) (word : List ℕ) (x sid next : ℕ) → p ≡ one_pattern byte → next ≡ next_of byte x → IsHeldByOne byte p anchored word sid → IsHeldByOne byte p anchored (word ++ x ∷ []) next

@@ -35,7 +35,7 @@ impl OneByte {
 impl Automaton for OneByte {
     ghost use Rattle.std.specs.Prelude.{◌≡◌, ℕ, [], ◌∷◌, ◌<◌, true, false, refl, None};
     ghost use Rattle.aho_base.specs.declared.search.MatchKind.TheVariants.{Standard};
-    ghost use Rattle.bench.specs.OneByte.{IsHeldByOne, all_special, is_start_of_one, list_of, next_of, one_pattern, reads_one, start_of_one};
+    ghost use Rattle.bench.specs.OneByte.{IsHeldByOne, alike_one, all_special, is_start_of_one, list_of, next_of, one_pattern, reads_one, start_of_one};
 
     ghost is_of = { λ one p. p ≡ one_pattern one };
 
@@ -140,6 +140,8 @@ impl Automaton for OneByte {
     }
 
     ghost laws = { λ one p of. reads_one one p of };
+
+    ghost alike = { λ one p word other sid of. alike_one one p word other sid };
 
     ghost plain = { λ one sid valid. all_special sid };
 

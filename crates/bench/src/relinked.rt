@@ -144,10 +144,11 @@ impl Automaton for Relinked {
     ghost use Rattle.aho_base.specs.Bytes.{folded};
     ghost use Rattle.aho_base.specs.Held.{held_after};
     ghost use Rattle.aho_base.specs.Patterns.{Patterns};
+    ghost use Rattle.aho_base.specs.declared.search.Anchored.TheVariants.{No};
     ghost use Rattle.aho_base.specs.Step.{lookups};
     ghost use Rattle.aho_build.specs.Automaton.{IsOf, IsHeld, start_of, is_special_in, is_start_in, memory_of};
     ghost use Rattle.aho_build.specs.Walking.{IsState, step_in};
-    ghost use Rattle.aho_build.proofs.AutomatonLaws.{reads_of, plain_of, dead_shallow_of, starts_shallow_of};
+    ghost use Rattle.aho_build.proofs.AutomatonLaws.{alike_of, reads_of, plain_of, dead_shallow_of, starts_shallow_of};
     ghost use Rattle.aho_table.specs.Table.{dead_id, depth_in, matches_in};
 
     ghost is_of = { λ r p. IsOf p r.match_kind r.pattern_lens.items r.special r.table.states };
@@ -250,6 +251,9 @@ impl Automaton for Relinked {
     }
 
     ghost laws = { λ r p of. reads_of p r.match_kind r.pattern_lens.items r.special r.table.states of };
+
+    ghost alike = { λ r p word other sid of.
+        alike_of p r.special r.table.states No word other sid };
 
     ghost plain = { λ r sid valid. plain_of false r.special r.table.states sid };
 

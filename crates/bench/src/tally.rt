@@ -142,6 +142,8 @@ impl<A: Automaton> Automaton for Tally<A> {
 
     ghost laws = { λ a. A.laws a.automaton };
 
+    ghost alike = { λ a. A.alike a.automaton };
+
     ghost plain = { λ a. A.plain a.automaton };
 
     ghost dead_shallow = { λ a. A.dead_shallow a.automaton };

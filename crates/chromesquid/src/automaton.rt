@@ -10,7 +10,8 @@ use aho_search::automaton::Automaton;
 
 impl Automaton for AhoCorasick {
     ghost use Rattle.std.specs.Prelude.{is_some};
-    ghost use Rattle.aho_build.proofs.AutomatonLaws.{reads_of, plain_of, dead_shallow_of, starts_shallow_of};
+    ghost use Rattle.aho_base.specs.declared.search.Anchored.TheVariants.{No};
+    ghost use Rattle.aho_build.proofs.AutomatonLaws.{alike_of, reads_of, plain_of, dead_shallow_of, starts_shallow_of};
     ghost use Rattle.chromesquid.specs.Searcher.{IsBuiltFrom, start_by};
 
     ghost is_of = { λ s p. IsBuiltFrom s p };
@@ -114,6 +115,9 @@ impl Automaton for AhoCorasick {
 
     ghost laws = { λ s p built. reads_of p s.automaton.match_kind s.automaton.pattern_lens.items
         s.automaton.special s.automaton.table.states built.reads.0 };
+
+    ghost alike = { λ s p word other sid built.
+        alike_of p s.automaton.special s.automaton.table.states No word other sid };
 
     ghost plain = { λ s sid valid. plain_of (is_some s.automaton.prefilter) s.automaton.special
         s.automaton.table.states sid };

@@ -3,7 +3,7 @@
 ghost use Rattle.aho_base.specs.Patterns.{Patterns};
 
 use crate::asserts::{assert_in, assert_same, assert_same_in};
-use crate::automata::{nfa_of, state_after};
+use crate::automata::{nfa_holding, nfa_of, state_after};
 use crate::scripted::{ScriptedSource, Turn};
 use crate::stream_finds::{ONE_BYTE, Told, found_of, told_under};
 use crate::streams::{Numbers, behind, written};
@@ -256,17 +256,18 @@ impl Stream {
     }
 }
 
-/// A random stream tells the matches of plain iteration, however it is cut and whatever fails, and those that are settled
-/// where a limit is met.
+/// A random stream tells the matches of plain iteration, however it is cut, whatever fails and with a prefilter or without, and
+/// those that are settled where a limit is met.
 fn is_searched_as_plainly(
     rt: &impl Abort,
     alloc: Global,
     words: &[&[u8]],
     kind: MatchKind,
     stream: &Stream,
+    prefilter: bool,
 ) -> Result<(), Fail> {
     assert!(rt; words.len() <= PatternID::MAX.as_usize());
-    let nfa = nfa_of(rt, alloc, words, kind, false);
+    let nfa = nfa_holding(rt, alloc, words, kind, prefilter);
     let patterns = PatternSet::new(words, kind, false);
     let wanted = found_under(rt, alloc, &nfa, &patterns, &stream.given, stream.limit)?;
     let (told, faults) = stream.told(alloc, &nfa)?;
@@ -280,7 +281,9 @@ fn is_searched_as_plainly(
 }
 
 /// The patterns of random streams.
-const SETS: [&[&[u8]]; 3] = [
+const SETS: [&[&[u8]]; 5] = [
+    &[b"aab"],
+    &[b"ab", b"ac", b"adc"],
     &[b"ab", b"bca", b"c", b"abcb"],
     &[b"abcd", b"ab", b"bcd", b"c", b"dab"],
     &[b"a", b"aa", b"aaa", b"baa", b"b", b"cab"],
@@ -294,9 +297,10 @@ fn are_searched_as_plainly(
     kind: MatchKind,
     numbers: &mut Numbers,
 ) -> Result<(), Fail> {
-    for _ in 0..40 {
+    for _ in 0..8 {
         let stream = Stream::new(alloc, numbers)?;
-        is_searched_as_plainly(rt, alloc, words, kind, &stream)?;
+        is_searched_as_plainly(rt, alloc, words, kind, &stream, true)?;
+        is_searched_as_plainly(rt, alloc, words, kind, &stream, false)?;
     }
     Ok(())
 }

@@ -1,11 +1,12 @@
-//! Streams over an automaton that is made from what another one tells: with them it does what that one does.
+//! Streams over an automaton that is made from what another one tells, and over one that holds a prefilter: with them each does
+//! what the other one does.
 
 ghost use Rattle.aho_base.specs.Patterns.{Patterns};
 
-use crate::asserts::{assert_same, assert_same_in};
-use crate::automata::{nfa_of, relinked_of};
+use crate::asserts::{assert_in, assert_same, assert_same_in};
+use crate::automata::{nfa_holding, nfa_of, relinked_of};
 use crate::scripted::{ScriptedSink, ScriptedSource, Turn};
-use crate::stream_finds::told_under;
+use crate::stream_finds::{Told, told_under};
 use aho_base::error::StreamError;
 use aho_base::search::MatchKind;
 use aho_devices::write::write_whole;
@@ -62,6 +63,11 @@ const STREAMS: &[Stream] = &[
         patterns: &[b"aaab"],
         pieces: &[b"x"],
         given: b"aaaaaaaa",
+    },
+    Stream {
+        patterns: &[b"aab"],
+        pieces: &[b"x"],
+        given: b"xaaaabaxaaabaab.....aab",
     },
     Stream {
         patterns: &[b"samwise", b"sam", b"wise"],
@@ -152,7 +158,18 @@ fn replaces_the_same<A: Automaton, B: Automaton>(
     Ok(())
 }
 
-/// One automaton tells of a stream what another one does, whatever its limit.
+/// As many look-ups are made and bytes walked as is wanted or, where the first automaton alone skips, no fewer.
+fn costs_the_same(rt: &impl Abort, given: &[u8], told: &Told, wanted: &Told, skips: bool) {
+    if skips {
+        assert_in(rt, &given, wanted.lookups <= told.lookups);
+        assert_in(rt, &given, wanted.position <= told.position);
+    } else {
+        assert_same_in(rt, &given, told.lookups, wanted.lookups);
+        assert_same_in(rt, &given, told.position, wanted.position);
+    }
+}
+
+/// One automaton tells of a stream what another one does, which holds no prefilter, whatever its limit.
 fn tells_the_same<A: Automaton, B: Automaton>(
     rt: &impl Abort,
     alloc: Global,
@@ -170,13 +187,13 @@ fn tells_the_same<A: Automaton, B: Automaton>(
         let mut source = ScriptedSource::new(stream.given, reads);
         let told = told_under(alloc, second, &mut source, limit)?;
         assert_same_in(rt, &limit, told.items.as_slice(), wanted.items.as_slice());
-        assert_same_in(rt, &stream.given, told.lookups, wanted.lookups);
-        assert_same_in(rt, &stream.given, told.position, wanted.position);
+        let skips = first.prefilter().is_some();
+        costs_the_same(rt, stream.given, &told, &wanted, skips);
     }
     Ok(())
 }
 
-/// One automaton does with a stream what another one does.
+/// One automaton does with a stream what another one does, which holds no prefilter.
 fn does_the_same<A: Automaton, B: Automaton>(
     rt: &impl Abort,
     alloc: Global,
@@ -203,9 +220,34 @@ fn does_the_same<A: Automaton, B: Automaton>(
 #[test]
 fn streams_are_searched_and_replaced_alike(rt: HostRuntime) -> Result<(), Fail> {
     for stream in STREAMS {
-        let nfa = nfa_of(&rt, rt.alloc(), stream.patterns, MatchKind::Standard, false);
-        let relinked = relinked_of(&rt, rt.alloc(), &nfa);
-        does_the_same(&rt, rt.alloc(), &nfa, &relinked, stream)?;
+        let plain = nfa_holding(&rt, rt.alloc(), stream.patterns, MatchKind::Standard, false);
+        let relinked = relinked_of(&rt, rt.alloc(), &plain);
+        does_the_same(&rt, rt.alloc(), &plain, &relinked, stream)?;
+    }
+    Ok(())
+}
+
+/// The automaton of a stream's patterns does with a prefilter what it does without.
+fn prefilter_changes_nothing(
+    rt: &impl Abort,
+    alloc: Global,
+    stream: &Stream,
+    kind: MatchKind,
+) -> Result<(), Fail> {
+    let nfa = nfa_holding(rt, alloc, stream.patterns, kind, true);
+    let plain = nfa_holding(rt, alloc, stream.patterns, kind, false);
+    does_the_same(rt, alloc, &nfa, &plain, stream)
+}
+
+#[test]
+fn no_answer_depends_on_a_prefilter(rt: HostRuntime) -> Result<(), Fail> {
+    let kinds = [
+        MatchKind::Standard,
+        MatchKind::LeftmostFirst,
+        MatchKind::LeftmostLongest,
+    ];
+    for (stream, kind) in STREAMS.iter().zip(kinds.iter().cycle()) {
+        prefilter_changes_nothing(&rt, rt.alloc(), stream, *kind)?;
     }
     Ok(())
 }

@@ -188,6 +188,45 @@ fn a_limit_is_answered_once(rt: HostRuntime) -> Result<(), Fail> {
 }
 
 #[test]
+fn skipped_bytes_are_not_walked(rt: HostRuntime) -> Result<(), Fail> {
+    let nfa = nfa_of(&rt, rt.alloc(), &[b"xyz"], MatchKind::Standard, false);
+    let mut source = ScriptedSource::new(b"aaxaaaaaaxyzaaaaa", &[]);
+    let told = told_under(rt.alloc(), &nfa, &mut source, 100)?;
+    assert_same(&rt, told.items.as_slice(), [Ok((0, 9, 12))].as_slice());
+    // The match, and the last two bytes: a match may begin in them.
+    assert_same(&rt, told.position, 5);
+    Ok(())
+}
+
+/// A match that begins in one read and ends in the next is told, wherever the first one ends.
+fn is_told_across_a_read<A: Automaton>(
+    rt: &impl Abort,
+    alloc: Global,
+    automaton: &A,
+) -> Result<(), Fail>
+    requires of { (p : Patterns) × A.is_of automaton.now p }
+{
+    for count in 1..17 {
+        let turns = [Turn::Move(count)];
+        let mut source = ScriptedSource::new(b"aaxaaaaaaxyzaaaaa", &turns);
+        let told = told_under(alloc, automaton, &mut source, 100)?;
+        assert_same_in(
+            rt,
+            &count,
+            told.items.as_slice(),
+            [Ok((0, 9, 12))].as_slice(),
+        );
+    }
+    Ok(())
+}
+
+#[test]
+fn a_match_across_two_reads_is_not_skipped(rt: HostRuntime) -> Result<(), Fail> {
+    let nfa = nfa_of(&rt, rt.alloc(), &[b"xyz"], MatchKind::Standard, false);
+    is_told_across_a_read(&rt, rt.alloc(), &nfa)
+}
+
+#[test]
 fn each_byte_of_a_stream_is_stepped_once(rt: HostRuntime) -> Result<(), Fail> {
     let nfa = nfa_of(&rt, rt.alloc(), &[b"aaab"], MatchKind::Standard, false);
     let tally = Tally::new(nfa);

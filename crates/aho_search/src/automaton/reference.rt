@@ -103,6 +103,8 @@ impl<A: Automaton> Automaton for &A {
 
     ghost laws = { λ a. A.laws a.now };
 
+    ghost alike = { λ a. A.alike a.now };
+
     ghost plain = { λ a. A.plain a.now };
 
     ghost dead_shallow = { λ a. A.dead_shallow a.now };

@@ -137,6 +137,8 @@ impl<'a, A: Automaton> Automaton for WithPrefilter<'a, A> {
 
     ghost laws = { λ a p of. A.laws a.automaton.now p of.0 };
 
+    ghost alike = { λ a p word other sid of. A.alike a.automaton.now p word other sid of.0 };
+
     ghost plain = { λ a sid valid plain. A.plain a.automaton.now sid valid (or_parts _ _ plain).0 };
 
     ghost dead_shallow = { λ a. A.dead_shallow a.automaton.now };

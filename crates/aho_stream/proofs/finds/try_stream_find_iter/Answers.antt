@@ -1,6 +1,6 @@
 -- What each run of the matches finds.
-use Rattle.std.proofs.Common.{ap, subst, sym}
-use Rattle.aho_stream.specs.FindRuns.{FindsAll, FindsAlong, FindsSoFar}
+use Rattle.std.proofs.Common.{subst, sym}
+use Rattle.aho_stream.specs.FindRuns.{FindsAll, FindsSoFar}
 use Rattle.aho_stream.proofs.FindRuns.{finds_along, run_all, run_so_far}
 use Rattle.aho_stream.proofs.finds.try_stream_find_iter.Goals as goal
 

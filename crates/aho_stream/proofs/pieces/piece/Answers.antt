@@ -36,7 +36,7 @@ gap g c p given of a =
     let m = c.in-Some.m in
     let in_hand : s.in_hand ≡ Some m = c.in-Some.ensures.in_hand in
     let within = in_hand_within _ _ p _ s given m a in_hand in
-    reported _ _ p _ s c.report-2.new.self given (s.from + c.start.result) c.report-2.result a (omega (arith, c.start.ensures.start, within.0, within.1))
+    reported _ _ p _ s c.report-2.new.self given (s.origin + c.start.result) c.report-2.result a (omega (arith, c.start.ensures.start, within.0, within.1))
     (λ more n follows answer. omega (arith, c.start.ensures.start, gap_clear _ _ p (g.met.W.Of.Automaton.laws _ p of) _ s given m a in_hand c.in-Some.ensures.due c.requires.walked more n follows answer)) c.report-2.ensures.some c.report-2.ensures.none
 
 pub returns-in-Some-report-clause-after : goal.returns-in-Some-report-clause-after
@@ -52,10 +52,10 @@ match_given : (g : Over) (c : After-give g) (p : Patterns) (given : List ℕ) �
 match_given g c p given of a =
     let s = c.args.progress.now in
     let m = c.in-Some.m in
-    let reached : s.from + c.start.result ≤ s.reported = elim (cases_lt s.reported (s.from + c.start.result)) [ inl less ↦ (let told = (c.report-2.ensures.some less).0 in let none = c.in-None.is in cc) | inr ge ↦ ge ] in
+    let reached : s.origin + c.start.result ≤ s.reported = elim (cases_lt s.reported (s.origin + c.start.result)) [ inl less ↦ (let told = (c.report-2.ensures.some less).0 in let none = c.in-None.is in cc) | inr ge ↦ ge ] in
     let same = (c.report-2.ensures.none reached).1 in
     match_told _ _ p (g.met.W.Of.Automaton.laws _ p of) _ s given m a c.in-Some.ensures.in_hand c.in-Some.ensures.due c.requires.walked c.give.new.self c.give.result c.requires.open (omega (arith, reached, c.start.ensures.start))
-    (c.give.ensures.placed ∙ ap (λ (t : StreamProgress). moved t.from m) same) (c.give.ensures.moved ∙ ap (λ (t : StreamProgress). record t { told = t.from + m.start; reported = t.from + m.end; from = t.from + m.end; walked = t.from + m.end; sid = t.start; in_hand = None }) same)
+    (c.give.ensures.placed ∙ ap (λ (t : StreamProgress). moved t.origin m) same) (c.give.ensures.moved ∙ ap (λ (t : StreamProgress). record t { told = t.origin + m.start; reported = t.origin + m.end; from = t.origin + m.end; origin = t.origin + m.end; walked = t.origin + m.end; sid = t.start; in_hand = None }) same)
 
 pub returns-in-None-clause-after : goal.returns-in-None-clause-after
 returns-in-None-clause-after g c p given of a = (match_given g c p given of a).0

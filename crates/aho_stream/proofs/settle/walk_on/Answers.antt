@@ -1,5 +1,5 @@
 -- What the walk found, and each turn of the loop.
-use Rattle.std.proofs.Common.{◌≡◌, ◌+◌, sym, ◌∙◌, ap, subst, arith, false, ℕ, ◌++◌, [], take, length, List}
+use Rattle.std.proofs.Common.{◌≡◌, ◌+◌, refl, sym, ◌∙◌, ap, subst, arith, false, ℕ, ◌++◌, [], take, length, List}
 use Rattle.std.specs.Prelude.{Option}
 use Rattle.aho_base.specs.Laws.{BestAfter, better, told}
 use Rattle.aho_base.specs.Occurrence.{Occurrence}
@@ -10,7 +10,7 @@ use Rattle.aho_stream.specs.After.{is_settled}
 use Rattle.aho_stream.specs.Walking.{WalksOn}
 use Rattle.aho_stream.proofs.Walks.{best_of_more, one_more, still_unsettled, walks_all, walks_settled}
 use Rattle.aho_stream.proofs.settle.walk_on.Given.{Over}
-use Rattle.aho_stream.proofs.settle.walk_on.Goals.{After-step-sid, else-is_special, then-is_special+else-is_settled}
+use Rattle.aho_stream.proofs.settle.walk_on.Goals.{After-step-sid, else-is_special, then-is_special+else-ends_in}
 use Rattle.aho_stream.proofs.settle.walk_on.Goals as goal
 
 same_walk : (g : Over) (c : After-step-sid g) → g.W.Walk.of c.step-sid.new.self ≡ g.W.Walk.of c.args.walk.now
@@ -29,9 +29,9 @@ best_more : (g : Over) (c : After-step-sid g) (p : Patterns) (word : List ℕ) �
 best_more g c p word of place is_held is_best =
     best_of_more (g.met.W.Of.Automaton.laws _ p of) word c.args.bytes.now c.loop-count.count c.args.at c.step-sid.result c.loop-count.found place (omega arith) (held_more g c p word of is_held) (c.loop-count.invariant.best p word of place is_held is_best)
 
-pub returns-then-is_settled-clause-walks : goal.returns-then-is_settled-clause-walks
-returns-then-is_settled-clause-walks g c p word of place is_held is_best =
-    let d = (goal.at.returns-then-is_settled-clause-walks g c).After-step-sid in
+pub returns-then-ends_in-clause-walks : goal.returns-then-ends_in-clause-walks
+returns-then-ends_in-clause-walks g c p word of place is_held is_best =
+    let d = (goal.at.returns-then-ends_in-clause-walks g c).After-step-sid in
     let inv = c.loop-count.invariant in
     walks_settled (g.met.W.Of.Automaton.laws _ p of) word c.args.bytes.now c.loop-count.count c.args.at c.loop-count.sid c.loop-count.found place (inv.held p word of is_held) inv.going (inv.best p word of place is_held is_best)
     c.step-sid.result c.better_at-found.result (omega arith) (held_more g d p word of is_held) (rw (same_walk g d) at c.better_at-found.ensures.better)
@@ -61,8 +61,8 @@ loop-count-preserved g c =
       going = elim c.if-is_special.branch [
         | else-is_special w ↦ subst (λ (found : Option Occurrence). is_settled (g.W.Of.Automaton.kind automaton) (g.W.Of.Automaton.dead automaton c.step-sid.result) found ≡ false) (sym w.found-is)
             (still_unsettled _ _ _ c.loop-count.found inv.going (plain g d w.if-is_special.ensures.special).0)
-        | then-is_special+else-is_settled w ↦ subst (λ (found : Option Occurrence). is_settled (g.W.Of.Automaton.kind automaton) (g.W.Of.Automaton.dead automaton c.step-sid.result) found ≡ false) (sym w.found-is)
-            (sym (rw (same_walk g d) at w.if-is_settled.ensures.settled))
+        | then-is_special+else-ends_in w ↦ subst (λ (found : Option Occurrence). is_settled (g.W.Of.Automaton.kind automaton) (g.W.Of.Automaton.dead automaton c.step-sid.result) found ≡ false) (sym w.found-is)
+            ((rw (same_walk g d) at w.if-ends_in.ensures.going) refl)
       ];
       held = λ p word of is_held. held_more g d p word of is_held;
       best = λ p word of place is_held is_best.
@@ -70,7 +70,7 @@ loop-count-preserved g c =
           (elim c.if-is_special.branch [
             | else-is_special w ↦ ap (λ (list : List ℕ). better (g.W.Of.Automaton.kind automaton) c.loop-count.found (told (g.W.Of.Automaton.lengths automaton) No 0 (c.args.at + c.loop-count.count + 1) list)) (plain g d w.if-is_special.ensures.special).1
                 ∙ better-none _ c.loop-count.found ∙ sym w.found-is
-            | then-is_special+else-is_settled w ↦ sym (rw (same_walk g d) at w.better_at-found.ensures.better) ∙ sym w.found-is
+            | then-is_special+else-ends_in w ↦ sym (rw (same_walk g d) at w.better_at-found.ensures.better) ∙ sym w.found-is
           ])
           (best_more g d p word of place is_held is_best);
     }

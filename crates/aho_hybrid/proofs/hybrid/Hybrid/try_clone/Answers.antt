@@ -16,7 +16,7 @@ returns c =
     let rows : c.in_ok-try_clone.field-0 ≡ own.rows = c.in_ok-try_clone.ensures.same in
     let lens : c.in_ok-clone.field-0.items ≡ own.pattern_lens.items = each_same own.pattern_lens.items c.in_ok-clone.field-0.items c.in_ok-clone.ensures.cases.0 in
     let held : c.in_ok-copy_of.field-0 ≡ own.prefilter = c.in_ok-copy_of.ensures.same in
-    let looks : Layout → Patterns → Anchored → List ℕ → ℕ → ℕ = λ t p anchored. lookups_in t in
+    let looks : Layout → Patterns → Anchored → List ℕ → ℕ → ℕ = λ t p anchored. lookups_in t p in
     let starts : Layout → ℕ → Bool = λ t sid. nat_eq sid t.start in
     let next : Layout → Anchored → ℕ → ℕ → ℕ = λ t anchored. next_in t in
     record {
@@ -31,7 +31,7 @@ returns c =
             subst (λ (searcher : Option Searcher). IfSome searcher (λ s. IsPrefilterOf s p)) held is.1,
           ),
         );
-        same_held = λ p anchored word sid. (subst (λ (t : Layout). IsHeldIn t anchored word sid) (sym rows), subst (λ (t : Layout). IsHeldIn t anchored word sid) rows);
+        same_held = λ p anchored word sid. (subst (λ (t : Layout). IsHeldIn t p anchored word sid) (sym rows), subst (λ (t : Layout). IsHeldIn t p anchored word sid) rows);
         same_valid = λ sid. (subst (λ (t : Layout). IsStateIn t sid) (sym rows), subst (λ (t : Layout). IsStateIn t sid) rows);
         same_kind = search rules;
         same_lengths = lens;

@@ -14,7 +14,7 @@ returns-clause-valid c =
 
 pub returns-clause-goes_on : goal.returns-clause-goes_on
 returns-clause-goes_on c p of word held =
-    held-next c.args.self.now.rows c.args.self.now.sound c.args._anchored word c.args.sid c.args.byte c.step.result (omega (arith, c.ranges.byte)) c.step.ensures.next held
+    held-next c.args.self.now.rows c.args.self.now.sound p c.args.self.now.match_kind c.args.self.now.pattern_lens.items of.0 c.args._anchored word c.args.sid c.args.byte c.step.result (omega (arith, c.ranges.byte)) c.step.ensures.next held
 
 pub returns-clause-dead_stays : goal.returns-clause-dead_stays
 returns-clause-dead_stays c dead = ap (λ (n : ℕ). nat_eq n 0) c.step.ensures.next ∙ dead-next c.args.self.now.rows c.args.self.now.sound c.args.sid c.args.byte dead

@@ -127,7 +127,7 @@ refilled_read g c failed fault =
     (λ last. c.refill.ensures.enough (or_more c.refill.new.self.ended failed (is_err c.refill.result) fault last))
     (not_before c.args.self.now.progress.ended (λ e. sym c.if-self-2.false ∙ c.next_piece.ensures.ended ∙ c.loop-piece.invariant.stays e))
     u.reported u.from c.requires.after
-    (λ p given of a. all_told _ _ p (g.met.A.Automaton.laws _ p of) _ c.next_piece.new.progress given a walked.0 walked.1 (c.next_piece.ensures.near none) ((rw c.loop-piece.invariant.same at c.next_piece.ensures.start) none))
+    (λ p given of a. all_told _ _ p (g.met.A.Automaton.laws _ p of) (λ word other sid. g.met.A.Automaton.alike _ p word other sid of) _ c.next_piece.new.progress given a walked.0 walked.1 (c.next_piece.ensures.near none) ((rw c.loop-piece.invariant.same at c.next_piece.ensures.start) none))
     (λ p given of a. after_refilled _ _ p _ c.next_piece.new.progress c.refill.new.self given _ _ refills a
     (λ standard. unsettled_none _ _ _ walked.0 ((g.met.A.Automaton.laws _ p of).kind_is ∙ standard)) walked.1 (u.told ∙ sym u.reported) (c.next_piece.ensures.near none) c.if-self-2.false
     (λ e. let limit = sym c.refill.ensures.refused ∙ e in (c.refill.ensures.limit limit, of_limit c.refill.result c.refill.ensures.open limit)))
@@ -144,7 +144,7 @@ lives_refilled g c p given of a leftmost limit =
     let sid : c.refill.new.self.sid ≡ s.sid = ap (λ (t : StreamProgress). t.sid) others in
     let in_hand : c.refill.new.self.in_hand ≡ s.in_hand = ap (λ (t : StreamProgress). t.in_hand) others in
     let place : c.refill.new.self.walked ≡ s.walked = ap (λ (t : StreamProgress). t.walked) others in
-    lives (g.met.A.Automaton.laws _ p of) given c.refill.new.self.from c.refill.new.self.walked c.refill.new.self.sid leftmost a.held_is c.refill.new.self.in_hand
+    lives (g.met.A.Automaton.laws _ p of) given c.refill.new.self.from c.refill.new.self.origin c.refill.new.self.walked c.refill.new.self.sid a.from_origin a.apart leftmost a.held_is c.refill.new.self.in_hand a.origin_walked
     (rw (sid, in_hand) (walked.0)) a.best_is (omega (arith, a.count, walked.1, place, limit, refills.count, refills.limited))
 
 -- nothing is told by a refill

@@ -9,7 +9,6 @@ use Rattle.aho_devices.specs.Counts.{counted}
 use Rattle.aho_stream.specs.Chunks.{Advances, ReadsOn, Tells, ends_between, tells_limit, tells_read_fault}
 use Rattle.aho_stream.specs.Finds.{Finds}
 use Rattle.aho_stream.specs.Iterators.{HasGiven}
-use Rattle.aho_stream.specs.declared.progress.StreamProgress.{StreamProgress}
 use Rattle.aho_stream.specs.declared.progress.StreamPiece.{StreamPiece}
 use Rattle.aho_stream.proofs.Found.{counted_then, end_found, error_found, piece_found, plain_told, read_then, same_fault, same_limit, says_then}
 use Rattle.aho_stream.proofs.finds.StreamFindIterIterator.next.Given.{Over}

@@ -4,7 +4,7 @@ use Rattle.aho_search.proofs.Places.{length_part}
 use Rattle.aho_stream.specs.After.{word_of}
 use Rattle.aho_stream.specs.Walking.{WalksOn}
 use Rattle.aho_stream.proofs.Afters.{after_walked}
-use Rattle.aho_stream.proofs.pieces.search.Goals as goal
+use Rattle.aho_stream.proofs.pieces.walk_further.Goals as goal
 
 pub walk_on-walked-requires-clause-held : goal.walk_on-walked-requires-clause-held
 walk_on-walked-requires-clause-held g c =
@@ -18,7 +18,7 @@ returns-clause-after g c p given of a =
     let result = c.walk_on-walked.result in
     let rest : c.bytes-bytes.result.now ≡ slice_range given s.walked s.read = c.bytes-bytes.ensures.part given (sym a.count) a.last in
     let long : length (slice_range given s.walked s.read) ≡ s.read - s.walked = length_part given s.walked s.read (omega (arith, a.count)) in
-    let word : length (word_of s given) ≡ s.walked - s.from = length_part given s.from s.walked (omega (arith, a.walked_read, a.count)) in
+    let word : length (word_of s given) ≡ s.walked - s.origin = length_part given s.origin s.walked (omega (arith, a.walked_read, a.count)) in
     let walks = subst (λ (bytes : List ℕ). WalksOn p (g.W.Of.Automaton.lengths (g.W.Walk.of c.args.walk.now)) (g.W.Of.Automaton.held (g.W.Walk.of c.args.walk.now) p) (word_of s given) bytes result) rest
     (walked.walks p (word_of s given) of word a.held_is a.best_is) in
     after_walked _ _ p _ _ s given result a c.requires.open
