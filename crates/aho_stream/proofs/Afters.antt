@@ -58,7 +58,7 @@ module _ {S : Type 0} (A : Ghosts S) (automaton : S) (p : Patterns) where
   pub after_made : (lookups : ℕ) (buffer : Buffered) (start limit : ℕ) → lookups ≡ 0 → lengths ≡ map length p.words
       → 1 ≤ shortest lengths → longest lengths < 2 ^ 64 → valid start → depth start ≡ 0 → held No [] start
       → limit < 2 ^ 63 → buffer.least ≡ kept_for lengths → buffer.size ≡ capacity_for (kept_for lengths) → buffer.bytes ≡ []
-      → After lookups (record { buffer = buffer; read = 0; limit = limit; from = 0; origin = 0; told = 0; reported = 0; walked = 0; position = 0; sid = start; start = start; in_hand = None; ended = false; refused = false }) []
+      → After lookups (record { buffer = buffer; read = 0; limit = limit; from = 0; origin = 0; told = 0; reported = 0; walked = 0; position = 0; sid = start; start = start; in_hand = None; patience = 0; ended = false; refused = false }) []
   after_made lookups buffer start limit none are no_empty sized is_state shallow is_held bounded least size empty = record {
     no_empty = no_empty;
     sized = sized;
@@ -195,11 +195,11 @@ module _ {S : Type 0} (A : Ghosts S) (automaton : S) (p : Patterns) where
 
   -- bytes were passed over in which nothing begins, in a start with nothing in hand. What begins there would end in what was read
   pub after_passed : {kind : MatchKind} {list : ℕ → List ℕ} {dead starts : ℕ → Bool} → Reads p kind lengths held list dead starts
-      → (lookups : ℕ) (s : StreamProgress) (given : List ℕ) (count : ℕ) → After lookups s given → s.refused ≡ false → s.in_hand ≡ None → starts s.sid ≡ true
+      → (lookups : ℕ) (s : StreamProgress) (given : List ℕ) (count patience : ℕ) → After lookups s given → s.refused ≡ false → s.in_hand ≡ None → starts s.sid ≡ true
       → NoneStartsBefore p (slice_range given s.walked s.read) 0 (length (slice_range given s.walked s.read)) count
       → count ≤ (length (slice_range given s.walked s.read) + 1) - s.buffer.least
-      → After lookups (record s { origin = s.walked + count; walked = s.walked + count }) given
-  after_passed laws lookups s given count a unrefused free is_start none few = record {
+      → After lookups (record s { origin = s.walked + count; walked = s.walked + count; patience = patience }) given
+  after_passed laws lookups s given count patience a unrefused free is_start none few = record {
     no_empty = a.no_empty;
     sized = a.sized;
     start_is = a.start_is;
@@ -235,7 +235,7 @@ module _ {S : Type 0} (A : Ghosts S) (automaton : S) (p : Patterns) where
     is_state = a.is_state;
     held_is = subst (λ (w : List ℕ). held No w s.sid) (sym (no_part given (s.walked + count))) (laws.start_again (word_of s given) s.sid a.held_is is_start);
     best_is = subst (λ (best : Option Occurrence). BestAfter p No (slice_range given (s.walked + count) (s.walked + count)) best) (sym free) (none_in_nothing p lengths laws.lengths_are a.no_empty _ (no_part given (s.walked + count)));
-    in_hand_is = subst (λ (best : Option Occurrence). IsInHand p.kind (longest lengths) (record s { origin = s.walked + count; walked = s.walked + count }) best) (sym free) tt;
+    in_hand_is = subst (λ (best : Option Occurrence). IsInHand p.kind (longest lengths) (record s { origin = s.walked + count; walked = s.walked + count; patience = patience }) best) (sym free) tt;
     clear = a.clear;
     stopped = λ e. cc;
   }

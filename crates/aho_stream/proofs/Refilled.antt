@@ -7,15 +7,15 @@ use Rattle.aho_stream.specs.declared.progress.StreamProgress.{StreamProgress}
 use Rattle.aho_stream.proofs.GivenBytes.{EndsIn-append}
 
 -- room was made in the buffer, and then it gained what was read
-pub refilled : (s : StreamProgress) (roomy filled : Buffered) (read : ℕ) (ended refused : Bool) (before after : Option (List ℕ))
+pub refilled : (s : StreamProgress) (roomy filled : Buffered) (read patience : ℕ) (ended refused : Bool) (before after : Option (List ℕ))
     → ((given : List ℕ) → EndsIn given s.buffer.bytes → EndsIn given roomy.bytes)
     → length roomy.bytes ≡ min s.buffer.least (length s.buffer.bytes)
     → roomy.least ≡ s.buffer.least → roomy.size ≡ s.buffer.size
     → Gains roomy filled before after
     → read ≡ s.read + (length filled.bytes - length roomy.bytes)
     → s.read ≤ s.limit → length filled.bytes ≤ length roomy.bytes + (s.limit - s.read)
-    → Refills s (record s { buffer = filled; read = read; ended = ended; refused = refused }) before after
-refilled s roomy filled read ended refused before after last kept least size gained count below limited =
+    → Refills s (record s { buffer = filled; read = read; patience = patience; ended = ended; refused = refused }) before after
+refilled s roomy filled read patience ended refused before after last kept least size gained count below limited =
     let long : length filled.bytes ≡ length roomy.bytes + length gained.bytes = ap length gained.held ∙ length-append roomy.bytes gained.bytes in
     record {
       bytes = gained.bytes;

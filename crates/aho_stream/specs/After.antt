@@ -86,6 +86,7 @@ fresh buffer start limit = record {
   sid = start;
   start = start;
   in_hand = None;
+  patience = 0;
   ended = false;
   refused = false;
 }
@@ -106,17 +107,18 @@ given_on s m = record s {
   in_hand = None;
 }
 
--- so many bytes were passed over, and not walked: the search under way begins behind them
-abbrev pub passed_on : StreamProgress → ℕ → StreamProgress
-passed_on s count = record s { origin = s.walked + count; walked = s.walked + count }
+-- so many bytes were passed over, and not walked: the search under way begins behind them, with this patience left
+abbrev pub passed_on : StreamProgress → ℕ → ℕ → StreamProgress
+passed_on s count patience = record s { origin = s.walked + count; walked = s.walked + count; patience = patience }
 
 -- bytes alone were passed over, if any
 abbrev pub OnlyPasses : StreamProgress → StreamProgress → Type 0
-OnlyPasses s s' = s' ≡ record s { origin = s'.origin; walked = s'.walked }
+OnlyPasses s s' = s' ≡ record s { origin = s'.origin; walked = s'.walked; patience = s'.patience }
 
 -- the walk alone went on, and the search under way may begin later
 abbrev pub OnlyWalks : StreamProgress → StreamProgress → Type 0
-OnlyWalks s s' = s' ≡ record s { origin = s'.origin; walked = s'.walked; position = s'.position; sid = s'.sid; in_hand = s'.in_hand }
+OnlyWalks s s' =
+    s' ≡ record s { origin = s'.origin; walked = s'.walked; position = s'.position; sid = s'.sid; in_hand = s'.in_hand; patience = s'.patience }
 
 -- a match in hand lies in what was walked. The walk stands at its end under Standard, and else at most one byte farther from
 -- its start than the longest pattern is long

@@ -20,11 +20,11 @@ is_limit (Err PositionLimit) = true
 abbrev pub GainsFew : StreamProgress → StreamProgress → Type 0
 GainsFew s s' = (s'.read ≡ s.read) ⊎ (length s'.buffer.bytes < s'.buffer.least)
 
--- bytes were read behind those that are kept; nothing else moved
+-- bytes were read behind those that are kept, and the patience is renewed; nothing else moved
 pub record Refills (s s' : StreamProgress) (before after : Option (List ℕ)) : Type 0 where
   pub bytes : List ℕ
   pub given : Consumes before after bytes
-  pub others : s' ≡ record s { buffer = s'.buffer; read = s'.read; ended = s'.ended; refused = s'.refused }
+  pub others : s' ≡ record s { buffer = s'.buffer; read = s'.read; patience = s'.patience; ended = s'.ended; refused = s'.refused }
   pub count : s'.read ≡ s.read + length bytes
   pub limited : s'.read ≤ s.limit
   pub least : s'.buffer.least ≡ s.buffer.least

@@ -8,7 +8,6 @@ use crate::progress::{StreamPiece, StreamProgress};
 use crate::settle::{is_settled, walk_on};
 use crate::skip::{is_at_beginning, skip};
 use aho_base::search::Match;
-use aho_search::find::{PATIENCE, patience_after};
 use aho_search::walk::Walk;
 
 /// Walks on over what was read and not walked yet, until the match in hand is settled or, where it may wait, in a start with
@@ -37,20 +36,15 @@ fn walk_further<W: Walk>(walk: &mut W, progress: &mut StreamProgress, may_wait: 
     progress.in_hand = walked.found;
 }
 
-/// The patience with which a search begins: none where no prefilter is held.
-fn first_patience<W: Walk>(walk: &W) -> usize {
-    match walk.prefilter() {
-        Some(_) => PATIENCE,
-        None => 0,
-    }
-}
-
-/// Whether a walk may wait for a candidate: there is patience left, and what is left of the bytes read is as long as a match
-/// may be.
-fn may_wait(progress: &StreamProgress, patience: usize) -> bool
+/// Whether a walk may wait for a candidate: a prefilter is held, there is patience left, and what is left of the bytes read is
+/// as long as a match may be.
+fn may_wait<W: Walk>(walk: &W, progress: &StreamProgress) -> bool
     requires walked { progress.now.walked ≤ progress.now.read }
 {
-    patience > 0 && progress.read - progress.walked >= progress.buffer.min_buffer_len() as u64
+    if progress.patience == 0 || walk.prefilter().is_none() {
+        return false;
+    }
+    progress.read - progress.walked >= progress.buffer.min_buffer_len() as u64
 }
 
 /// Whether all that was read was walked, or the match in hand is settled.
@@ -68,7 +62,7 @@ fn is_searched<W: Walk>(walk: &W, progress: &StreamProgress) -> bool
 }
 
 /// Walks on over what was read and not walked yet, until the match in hand is settled. It skips to the next candidate in each
-/// start with nothing in hand, as long as the patience of a search lasts.
+/// start with nothing in hand, as long as the patience of the bytes read lasts.
 #[inline(always)]
 fn search_skipping<W: Walk>(walk: &mut W, progress: &mut StreamProgress)
     requires after { IsUnderWay W.Of.Automaton (W.of walk.old) (W.lookups walk.old) progress.old }
@@ -81,11 +75,9 @@ fn search_skipping<W: Walk>(walk: &mut W, progress: &mut StreamProgress)
     ensures same { W.of walk.new ≡ W.of walk.old }
     ensures others { OnlyWalks progress.old progress.new }
 {
-    let mut patience = first_patience(walk);
     loop {
-        let skipped = skip(walk, progress);
-        patience = patience_after(patience, skipped);
-        let waits = may_wait(progress, patience);
+        skip(walk, progress);
+        let waits = may_wait(walk, progress);
         walk_further(walk, progress, waits);
         if is_searched(walk, progress) {
             return;

@@ -13,6 +13,7 @@ use aho_base::error::StreamError;
 use aho_base::search::{Match, Span, StateID};
 use aho_devices::buffer::Buffer;
 use aho_devices::device::{Sink, Source};
+use aho_search::find::{PATIENCE, patience_after};
 
 /// What a call of `advance` tells, without its bytes.
 #[derive(Clone, Copy)]
@@ -65,6 +66,8 @@ pub struct StreamProgress {
     pub(crate) start: StateID,
     /// The best match in these bytes, which was not told yet. Its places count from `origin`.
     pub(crate) in_hand: Option<Match>,
+    /// What is left of the patience with which candidates of a prefilter are asked for. Each read renews it.
+    pub(crate) patience: usize,
     /// Whether the end of the stream was seen.
     pub(crate) ended: bool,
     /// Whether the position limit was answered.
@@ -89,6 +92,7 @@ impl StreamProgress {
             sid: start,
             start,
             in_hand: None,
+            patience: 0,
             ended: false,
             refused: false,
         }
@@ -124,10 +128,11 @@ impl StreamProgress {
     /// Passes over so many bytes that were not walked: the search under way begins behind them.
     pub(crate) fn pass(&mut self, count: usize)
         requires room { self.old.walked + count < 2 ^ 64 }
-        ensures moved { self.new ≡ passed_on self.old count }
+        ensures moved { self.new ≡ passed_on self.old count self.new.patience }
     {
         self.walked += count as u64;
         self.origin = self.walked;
+        self.patience = patience_after(self.patience, count);
     }
 
     /// Tells a match in hand: the next search begins at its end.
@@ -180,6 +185,7 @@ impl StreamProgress {
         ensures limit { is_limit result ≡ true → self.old.read ≡ self.old.limit }
         ensures only { IfErr result IsFillRefusal }
     {
+        self.patience = PATIENCE;
         make_room(&mut self.buffer);
         let held = self.buffer.buffer().len();
         let filled = self.buffer.fill_once(source, self.limit - self.read);

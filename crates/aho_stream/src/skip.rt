@@ -46,9 +46,9 @@ pub(crate) fn is_at_beginning<W: Walk>(walk: &W, progress: &StreamProgress) -> b
 }
 
 /// Passes over bytes that were read and not walked, up to the next place at which a match may begin, where the search is as
-/// at its beginning and a prefilter is held. It answers how many.
+/// at its beginning, a prefilter is held and there is patience left.
 #[inline(always)]
-pub(crate) fn skip<W: Walk>(walk: &W, progress: &mut StreamProgress) -> usize
+pub(crate) fn skip<W: Walk>(walk: &W, progress: &mut StreamProgress)
     requires after { IsUnderWay W.Of.Automaton (W.of walk.now) (W.lookups walk.now) progress.old }
     requires open { progress.old.refused ≡ false }
     ensures after { StaysAfter W.Of.Automaton (W.of walk.now)
@@ -57,13 +57,15 @@ pub(crate) fn skip<W: Walk>(walk: &W, progress: &mut StreamProgress) -> usize
     ensures on { progress.old.walked ≤ progress.new.walked }
 {
     let Some(prefilter) = walk.prefilter() else {
-        return 0;
+        return;
     };
+    if progress.patience == 0 {
+        return;
+    }
     if !is_at_beginning(walk, progress) {
-        return 0;
+        return;
     }
     let bytes = progress.bytes(progress.walked, progress.read);
     let count = passable(prefilter, bytes, progress.buffer.min_buffer_len());
     progress.pass(count);
-    count
 }

@@ -20,4 +20,4 @@ returns-clause-after g c p given of a =
     let none = subst (λ (bytes : List ℕ). NoneStartsBefore p bytes 0 (length bytes) count) rest (c.passable-count.ensures.none p is) in
     let few = subst (λ (bytes : List ℕ). count ≤ (length bytes + 1) - s.buffer.least) rest (subst (λ (least : ℕ). count ≤ (length c.bytes-bytes.result.now + 1) - least) c.min_buffer_len.ensures.least c.passable-count.ensures.kept) in
     subst (λ (t : StreamProgress). IsAfter g.W.Of.Automaton automaton p (g.W.Walk.lookups c.args.walk.now) t given) (sym c.pass.ensures.moved)
-    (after_passed g.W.Of.Automaton automaton p (g.met.W.Of.Automaton.laws automaton p of) (g.W.Walk.lookups c.args.walk.now) s given count a c.requires.open over.0 over.1 none few)
+    (after_passed g.W.Of.Automaton automaton p (g.met.W.Of.Automaton.laws automaton p of) (g.W.Walk.lookups c.args.walk.now) s given count c.pass.new.self.patience a c.requires.open over.0 over.1 none few)
