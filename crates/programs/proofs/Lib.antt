@@ -1,5 +1,6 @@
 mod Beginnings
 mod Calls
+mod Lent
 mod Matches
 mod Pairs
 mod Replacings

@@ -35,6 +35,15 @@ asked_patterns asked = record { words = asked.patterns; kind = kind_of asked.tas
 abbrev pub settings_for : Task → Settings
 settings_for task = record default_settings { kind = kind_of task; ignore_case = ignores_case task }
 
+-- these patterns, by the kind `Standard`
+abbrev pub standard_patterns : Bool → List (List ℕ) → Patterns
+standard_patterns ignore_case words = record { words = words; kind = Standard; ignore_case = ignore_case }
+
+-- these are the patterns, by whatever kind
+pub record ArePatterns (p : Patterns) (ignore_case : Bool) (words : List (List ℕ)) : Type 0 where
+  pub words_are : p.words ≡ words
+  pub rule : p.ignore_case ≡ ignore_case
+
 -- nothing that is asked for is refused by the build
 abbrev pub Builds : Asked → Type 0
 Builds asked = cause (settings_for asked.task) (asked_patterns asked) ≡ None
@@ -61,7 +70,7 @@ replacing_for arguments = record { patterns = at_even arguments; pieces = at_odd
 
 -- replacement is that of the kind `Standard`, and of letters as they are
 abbrev pub patterns_to_replace : Replacing → Patterns
-patterns_to_replace asked = record { words = asked.patterns; kind = Standard; ignore_case = false }
+patterns_to_replace asked = standard_patterns false asked.patterns
 
 -- no pattern is refused by the build
 abbrev pub BuildsReplacing : Replacing → Type 0

@@ -10,4 +10,5 @@ pub mod command;
 pub mod failure;
 pub mod print;
 mod replace;
+mod rows;
 pub mod run;

@@ -1,6 +1,6 @@
 //! What `acfind replace` does: replacement from a reader to a writer, through a buffer of fixed length.
 
-ghost use Rattle.std.specs.Prelude.{◌≡◌, ◌%◌, ◌⊎◌, ⊤, true, IfOk, IfErr, OnOk, length};
+ghost use Rattle.std.specs.Prelude.{◌≡◌, ◌%◌, ◌⊎◌, ⊤, true, IfErr, IfOk, IfSome, OnOk, length};
 ghost use Rattle.aho_base.specs.Patterns.{Patterns};
 ghost use Rattle.aho_base.specs.Replacement.{pieces_of};
 ghost use Rattle.programs.specs.Answers.{LeavesReplacement, WritesReplacement};
@@ -11,6 +11,7 @@ ghost use Rattle.programs.specs.Streams.{contents, Unread};
 
 use crate::failure::Failure;
 use crate::print::flush;
+use crate::rows::rows_of;
 use aho_corasick::noncontiguous::NFA;
 use aho_devices::adapters::{FromRead, FromWrite};
 use aho_search::automaton::Automaton;
@@ -46,8 +47,11 @@ pub fn replace<R: Read, W: Write>(
         (replacing_for (texts arguments.now)) input.old input.new output.old output.new) }
 {
     let pairs = split(alloc, arguments)?;
-    let automaton = build(alloc, pairs.patterns.as_slice())?;
-    replace_all(alloc, &automaton, pairs.pieces.as_slice(), input, output)?;
+    let patterns = pairs.patterns.as_slice();
+    let pieces = pairs.pieces.as_slice();
+    let automaton = build(alloc, patterns)?;
+    let rows = rows_of(alloc, &automaton, false, patterns);
+    replace_by(alloc, &automaton, rows.as_ref(), pieces, input, output)?;
     flush(output)
 }
 
@@ -79,6 +83,32 @@ fn build(alloc: Global, patterns: &[&[u8]]) -> Result<NFA, Failure>
         → OnOk result (BuildsReplacing asked) }
 {
     Ok(NFA::new(alloc, patterns.iter().copied())?)
+}
+
+/// Writes the input to the output with a piece in the place of each match, by the automaton with rows, if there is one.
+fn replace_by<A: Automaton, B: Automaton, R: Read, W: Write>(
+    alloc: Global,
+    automaton: &A,
+    rows: Option<&B>,
+    pieces: &[&[u8]],
+    input: &mut FromRead<R>,
+    output: &mut FromWrite<W>,
+) -> Result<(), Failure>
+    requires of { (p : Patterns) × A.is_of automaton.now p × (length p.words ≡ length pieces.now)
+        × IfSome rows (λ rows. B.is_of rows.now p) }
+    ensures replaces { (asked : Replacing) → asked.pieces ≡ pieces_of pieces.now
+        → A.is_of automaton.now (patterns_to_replace asked)
+        → IfSome rows.entry (λ rows. B.is_of rows.now (patterns_to_replace asked)) → OnOk result
+        (WritesReplacement (contents W.Write input.old input.new output.old output.new) asked) }
+    ensures leaves { (asked : Replacing) → asked.pieces ≡ pieces_of pieces.now
+        → A.is_of automaton.now (patterns_to_replace asked)
+        → IfSome rows.entry (λ rows. B.is_of rows.now (patterns_to_replace asked))
+        → IfErr result (LeavesReplacement W.Write asked input.old input.new output.old output.new) }
+{
+    match rows {
+        Some(rows) => replace_all(alloc, rows, pieces, input, output),
+        None => replace_all(alloc, automaton, pieces, input, output),
+    }
 }
 
 /// Writes the input to the output with a piece in the place of each match.

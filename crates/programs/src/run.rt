@@ -1,6 +1,6 @@
 //! A call of `acfind` over its arguments and streams. Both programs take the build and the report of a failure from here.
 
-ghost use Rattle.std.specs.Prelude.{IsOk, true, ◌≡◌, ◌<◌, ◌≤◌, ◌⊎◌, ⊤, IfOk, IfErr, OnOk};
+ghost use Rattle.std.specs.Prelude.{IfErr, IfOk, IfSome, IsOk, OnOk, true, ◌≡◌, ◌<◌, ◌≤◌, ◌⊎◌, ⊤};
 ghost use Rattle.std.specs.Io.KnownBytes.{Consumes, IsAtEnd};
 ghost use Rattle.aho_base.specs.Patterns.{Patterns};
 ghost use Rattle.aho_base.specs.declared.search.Anchored.TheVariants.{No};
@@ -18,6 +18,7 @@ use crate::command::{Request, Task, parse, parse_replace};
 use crate::failure::Failure;
 use crate::print::{print, write_whole};
 use crate::replace::replace;
+use crate::rows::rows_for;
 use aho_base::search::Input;
 use aho_corasick::noncontiguous::{Builder, NFA};
 use aho_devices::adapters::{FromRead, FromWrite};
@@ -183,7 +184,56 @@ fn search_input<R: Read, W: Write>(
 {
     let automaton = build(alloc, request)?;
     let text = read(alloc, input)?;
-    print_matches(&automaton, request.task, text.as_slice(), output)
+    print_request(alloc, &automaton, request, text.as_slice(), output)
+}
+
+/// Prints the matches of a text that a request asks for, and answers whether there was one.
+fn print_request<W: Write>(
+    alloc: Global,
+    automaton: &NFA,
+    request: &Request<'_>,
+    text: &[u8],
+    output: &mut FromWrite<W>,
+) -> Result<bool, Failure>
+    requires of { ⟦<NFA as Automaton>⟧.is_of automaton.now (asked_patterns (asked_for request.now)) }
+    requires starts { IsOk (⟦<NFA as Automaton>⟧.start automaton.now No) }
+    requires kind { ⟦<NFA as Automaton>⟧.kind automaton.now ≡ kind_of request.now.task }
+    ensures printed { IfOk result (PrintsAll W.Write request.now.task
+        (asked_patterns (asked_for request.now)) text.now output.old output.new) }
+    ensures begun { Begun W.Write (AreMatches request.now.task
+        (asked_patterns (asked_for request.now)) text.now) output.old output.new }
+    ensures flushed { OnOk result (output.new.device.flushed ≡ true) }
+    ensures of_write { IfErr result IsOfWrite }
+{
+    let rows = rows_for(alloc, automaton, request, text.len());
+    print_by(automaton, rows.as_ref(), request.task, text, output)
+}
+
+/// Prints the matches of a text that a task asks for, by the automaton with rows, if there is one.
+fn print_by<A: Automaton, B: Automaton, W: Write>(
+    automaton: &A,
+    rows: Option<&B>,
+    task: Task,
+    text: &[u8],
+    output: &mut FromWrite<W>,
+) -> Result<bool, Failure>
+    requires of { (p : Patterns) × A.is_of automaton.now p × IfSome rows (λ rows. B.is_of rows.now p) }
+    requires starts { IsOk (A.start automaton.now No) × IfSome rows (λ rows. IsOk (B.start rows.now No)) }
+    requires kind { (A.kind automaton.now ≡ kind_of task)
+        × IfSome rows (λ rows. B.kind rows.now ≡ kind_of task) }
+    ensures printed { (p : Patterns) → A.is_of automaton.now p
+        → IfSome rows.entry (λ rows. B.is_of rows.now p) → IfOk result
+        (PrintsAll W.Write task p text.now output.old output.new) }
+    ensures begun { (p : Patterns) → A.is_of automaton.now p
+        → IfSome rows.entry (λ rows. B.is_of rows.now p) →
+        Begun W.Write (AreMatches task p text.now) output.old output.new }
+    ensures flushed { OnOk result (output.new.device.flushed ≡ true) }
+    ensures of_write { IfErr result IsOfWrite }
+{
+    match rows {
+        Some(rows) => print_matches(rows, task, text, output),
+        None => print_matches(automaton, task, text, output),
+    }
 }
 
 /// The automaton of the patterns that a request asks for, or why it is refused.

@@ -1,0 +1,95 @@
+//! The automaton with rows by which `acfind` searches, and its prefilter. Both are made for speed: no answer depends on them.
+
+ghost use Rattle.std.specs.Prelude.{◌≡◌, ◌≤◌, IfOk, IfSome, IsOk, map, string_bytes};
+ghost use Rattle.aho_base.specs.Patterns.{Patterns};
+ghost use Rattle.aho_base.specs.Replacement.{pieces_of};
+ghost use Rattle.aho_base.specs.declared.search.Anchored.TheVariants.{No};
+ghost use Rattle.aho_prefilter.specs.Prefilter.{IsPrefilterOf};
+ghost use Rattle.programs.specs.Asked.{asked_for, asked_patterns, ArePatterns, patterns_to_replace};
+
+use crate::command::Request;
+use aho_corasick::noncontiguous::NFA;
+use aho_hybrid::hybrid::{DEFAULT_BUDGET, Hybrid};
+use aho_prefilter::laws::held_serves_each_kind;
+use aho_prefilter::prefilter::{PackedBuilder, Prefilter};
+use aho_search::automaton::Automaton;
+use std::alloc::{AllocError, Global};
+
+/// The prefilter of these patterns, which may be a packed search, if there is one.
+fn prefilter_of(
+    alloc: Global,
+    ignore_case: bool,
+    patterns: &[&[u8]],
+) -> Result<Option<Prefilter>, AllocError>
+    ensures of { (p : Patterns) → ArePatterns p ignore_case (pieces_of patterns.now)
+        → IfOk result (λ held. IfSome held (λ prefilter. IsPrefilterOf prefilter p)) }
+{
+    held_serves_each_kind();
+    let mut builder = PackedBuilder::new(alloc, ignore_case);
+    for pattern in patterns {
+        builder.add(pattern)?;
+    }
+    builder.build()
+}
+
+/// The automaton with rows of what an `NFA` of these patterns is of; none where memory runs out, or where it has too many
+/// states.
+pub(crate) fn rows_of(
+    alloc: Global,
+    nfa: &NFA,
+    ignore_case: bool,
+    patterns: &[&[u8]],
+) -> Option<Hybrid>
+    ensures of { (p : Patterns) → ArePatterns p ignore_case (pieces_of patterns.now)
+        → ⟦<NFA as Automaton>⟧.is_of nfa.now p
+        → IfSome result (λ rows. ⟦<Hybrid as Automaton>⟧.is_of rows p) }
+    ensures kind { IfSome result (λ rows.
+        ⟦<Hybrid as Automaton>⟧.kind rows ≡ ⟦<NFA as Automaton>⟧.kind nfa.now) }
+    ensures lengths { IfSome result (λ rows.
+        ⟦<Hybrid as Automaton>⟧.lengths rows ≡ ⟦<NFA as Automaton>⟧.lengths nfa.now) }
+    ensures starts { IfSome result (λ rows. IsOk (⟦<Hybrid as Automaton>⟧.start rows No)) }
+{
+    let Ok(prefilter) = prefilter_of(alloc, ignore_case, patterns) else {
+        return None;
+    };
+    match Hybrid::with_prefilter(alloc, nfa, DEFAULT_BUDGET, prefilter) {
+        Ok(rows) => Some(rows),
+        Err(_) => None,
+    }
+}
+
+/// The bytes of some arguments.
+fn bytes_of(alloc: Global, arguments: &[String]) -> Result<Vec<&[u8]>, AllocError>
+    ensures bytes { IfOk result (λ patterns.
+        pieces_of patterns.items ≡ map string_bytes arguments.now) }
+{
+    let mut patterns = Vec::new(alloc);
+    for argument in arguments {
+        patterns.push(argument.as_bytes())?;
+    }
+    Ok(patterns)
+}
+
+/// The automaton with rows of the patterns that a request asks for, made of their `NFA`, for a text of so many bytes. There is
+/// none where it cannot be made, or where the text is shorter than the `NFA`: to make it then takes longer than to search.
+pub(crate) fn rows_for(
+    alloc: Global,
+    nfa: &NFA,
+    request: &Request<'_>,
+    text_len: usize,
+) -> Option<Hybrid>
+    ensures of { ⟦<NFA as Automaton>⟧.is_of nfa.now (asked_patterns (asked_for request.now))
+        → IfSome result (λ rows.
+        ⟦<Hybrid as Automaton>⟧.is_of rows (asked_patterns (asked_for request.now))) }
+    ensures kind { IfSome result (λ rows.
+        ⟦<Hybrid as Automaton>⟧.kind rows ≡ ⟦<NFA as Automaton>⟧.kind nfa.now) }
+    ensures starts { IfSome result (λ rows. IsOk (⟦<Hybrid as Automaton>⟧.start rows No)) }
+{
+    if text_len < nfa.memory_usage() {
+        return None;
+    }
+    let Ok(patterns) = bytes_of(alloc, request.patterns) else {
+        return None;
+    };
+    rows_of(alloc, nfa, request.task.ignore_case(), patterns.as_slice())
+}
