@@ -36,6 +36,8 @@ struct Plan {
     firsts: [u8; 256],
     /// The number of each state, by that which the `NFA` knows it by.
     numbers: Vec<SmallIndex>,
+    /// Whether a search may skip from the start.
+    skips: bool,
 }
 
 /// What was filled so far.
@@ -52,13 +54,13 @@ struct Filled {
 }
 
 /// The states of an `NFA`. Those down to some depth have rows: the greatest depth with which the rows take at most so
-/// many bytes, or 0.
+/// many bytes, or 0. Where a search may skip from the start, the start is special.
 ///
 /// # Errors
 ///
 /// `OutOfMemory`, at any time; or `StateIDOverflow` where rows and records have more words than there are indices, or the
 /// place of a list or of a transition is above the greatest.
-pub fn rows_of(alloc: Global, nfa: &NFA, budget: usize) -> Result<Rows, BuildError>
+pub fn rows_of(alloc: Global, nfa: &NFA, budget: usize, skips: bool) -> Result<Rows, BuildError>
     ensures sound { IfOk result IsSoundLayout }
     ensures of { IfOk result (λ rows. (p : Patterns)
         → ⟦<NFA as Automaton>⟧.is_of nfa.now p
@@ -81,6 +83,7 @@ pub fn rows_of(alloc: Global, nfa: &NFA, budget: usize) -> Result<Rows, BuildErr
         row_depth,
         firsts: first_bytes(nfa.byte_classes()),
         numbers: numbers_of(alloc, nfa, stride, row_depth, dense)?,
+        skips,
     };
     let filled = filled_states(alloc, nfa, &plan)?;
     if filled.lists.len() > SmallIndex::MAX.as_usize() {
@@ -217,9 +220,10 @@ fn first_low(nfa: &NFA, plan: &Plan) -> usize
     requires plan { IsPlan (plan_of nfa.now plan.now) plan.now.stride }
     ensures some { 0 < result }
 {
-    match nfa.prefilter() {
-        Some(_) => number_at(&plan.numbers, nfa.special().start_unanchored_id).as_usize() + 1,
-        None => 1,
+    if plan.skips {
+        number_at(&plan.numbers, nfa.special().start_unanchored_id).as_usize() + 1
+    } else {
+        1
     }
 }
 

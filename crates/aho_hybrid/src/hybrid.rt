@@ -1,6 +1,6 @@
 //! The automaton.
 
-ghost use Rattle.std.specs.Prelude.{◌≡◌, ◌+◌, ◌<◌, ◌≤◌, ◌^◌, ℕ, length, IfOk, IfErr};
+ghost use Rattle.std.specs.Prelude.{◌≡◌, ◌+◌, ◌<◌, ◌≤◌, ◌^◌, ℕ, length, IfErr, IfOk, IsOk};
 ghost use Rattle.std.specs.Option.{option_map};
 ghost use Rattle.aho_base.specs.Laws.{shortest, longest};
 ghost use Rattle.aho_base.specs.Numbers.{greatest_index};
@@ -40,21 +40,29 @@ pub struct Hybrid {
 }
 
 impl Hybrid {
+    ghost use Rattle.std.specs.Prelude.{IfSome};
     ghost use Rattle.aho_base.specs.Patterns.{Patterns};
+    ghost use Rattle.aho_base.specs.declared.search.Anchored.TheVariants.{No};
     ghost use Rattle.aho_corasick.specs.Clones.{IsCloneOf};
     ghost use Rattle.aho_corasick.specs.ReadOut.{classes_of, states_of};
     ghost use Rattle.aho_hybrid.specs.Filled.{HasSizes, IsRefused, IsRowDepth, default_budget};
+    ghost use Rattle.aho_prefilter.specs.Prefilter.{IsPrefilterOf};
 
     /// The automaton of all that the `NFA` is of, with rows of at most `DEFAULT_BUDGET` bytes.
     ///
     /// # Errors
     ///
-    /// As those of `with_budget`.
+    /// As those of `with_prefilter`.
     pub fn from_nfa(alloc: Global, nfa: &NFA) -> Result<Hybrid, BuildError>
         ensures of { IfOk result (λ made. (p : Patterns)
             → ⟦<NFA as Automaton>⟧.is_of nfa.now p → ⟦<Hybrid as Automaton>⟧.is_of made p) }
         ensures held { IfOk result (λ made.
             ⟦<Hybrid as Automaton>⟧.prefilter made ≡ ⟦<NFA as Automaton>⟧.prefilter nfa.now) }
+        ensures kind { IfOk result (λ made.
+            ⟦<Hybrid as Automaton>⟧.kind made ≡ ⟦<NFA as Automaton>⟧.kind nfa.now) }
+        ensures lengths { IfOk result (λ made.
+            ⟦<Hybrid as Automaton>⟧.lengths made ≡ ⟦<NFA as Automaton>⟧.lengths nfa.now) }
+        ensures starts { IfOk result (λ made. IsOk (⟦<Hybrid as Automaton>⟧.start made No)) }
         ensures sized { IfOk result (λ made. (row_depth : ℕ)
             × IsRowDepth (states_of nfa.now) (classes_of nfa.now) default_budget row_depth
             × HasSizes (states_of nfa.now) (classes_of nfa.now) row_depth made.rows) }
@@ -64,18 +72,54 @@ impl Hybrid {
         Hybrid::with_budget(alloc, nfa, DEFAULT_BUDGET)
     }
 
-    /// The automaton of all that the `NFA` is of. The states down to some depth have rows: the greatest depth with which the
-    /// rows take at most so many bytes, or 0.
+    /// The automaton of all that the `NFA` is of, with rows of at most so many bytes, and with the `NFA`'s prefilter.
     ///
     /// # Errors
     ///
-    /// `OutOfMemory`, at any time; or `StateIDOverflow` where its states have more words than there are indices, or the place of
-    /// a list or of a transition is above the greatest.
+    /// As those of `with_prefilter`.
     pub fn with_budget(alloc: Global, nfa: &NFA, budget: usize) -> Result<Hybrid, BuildError>
         ensures of { IfOk result (λ made. (p : Patterns)
             → ⟦<NFA as Automaton>⟧.is_of nfa.now p → ⟦<Hybrid as Automaton>⟧.is_of made p) }
         ensures held { IfOk result (λ made.
             ⟦<Hybrid as Automaton>⟧.prefilter made ≡ ⟦<NFA as Automaton>⟧.prefilter nfa.now) }
+        ensures kind { IfOk result (λ made.
+            ⟦<Hybrid as Automaton>⟧.kind made ≡ ⟦<NFA as Automaton>⟧.kind nfa.now) }
+        ensures lengths { IfOk result (λ made.
+            ⟦<Hybrid as Automaton>⟧.lengths made ≡ ⟦<NFA as Automaton>⟧.lengths nfa.now) }
+        ensures starts { IfOk result (λ made. IsOk (⟦<Hybrid as Automaton>⟧.start made No)) }
+        ensures sized { IfOk result (λ made. (row_depth : ℕ)
+            × IsRowDepth (states_of nfa.now) (classes_of nfa.now) budget row_depth
+            × HasSizes (states_of nfa.now) (classes_of nfa.now) row_depth made.rows) }
+        ensures refused { IfErr result
+            (IsRefused (states_of nfa.now) (classes_of nfa.now) budget) }
+    {
+        let prefilter = clone_of(nfa.prefilter())?;
+        Hybrid::with_prefilter(alloc, nfa, budget, prefilter)
+    }
+
+    /// The automaton of all that the `NFA` is of, with this prefilter in place of the `NFA`'s. The states down to some depth
+    /// have rows: the greatest depth with which the rows take at most so many bytes, or 0.
+    ///
+    /// # Errors
+    ///
+    /// `OutOfMemory`, at any time; or `StateIDOverflow` where its states have more words than there are indices, or the place of
+    /// a list or of a transition is above the greatest.
+    pub fn with_prefilter(
+        alloc: Global,
+        nfa: &NFA,
+        budget: usize,
+        prefilter: Option<Prefilter>,
+    ) -> Result<Hybrid, BuildError>
+        ensures of { IfOk result (λ made. (p : Patterns)
+            → ⟦<NFA as Automaton>⟧.is_of nfa.now p
+            → IfSome prefilter (λ searcher. IsPrefilterOf searcher p)
+            → ⟦<Hybrid as Automaton>⟧.is_of made p) }
+        ensures held { IfOk result (λ made. ⟦<Hybrid as Automaton>⟧.prefilter made ≡ prefilter) }
+        ensures kind { IfOk result (λ made.
+            ⟦<Hybrid as Automaton>⟧.kind made ≡ ⟦<NFA as Automaton>⟧.kind nfa.now) }
+        ensures lengths { IfOk result (λ made.
+            ⟦<Hybrid as Automaton>⟧.lengths made ≡ ⟦<NFA as Automaton>⟧.lengths nfa.now) }
+        ensures starts { IfOk result (λ made. IsOk (⟦<Hybrid as Automaton>⟧.start made No)) }
         ensures sized { IfOk result (λ made. (row_depth : ℕ)
             × IsRowDepth (states_of nfa.now) (classes_of nfa.now) budget row_depth
             × HasSizes (states_of nfa.now) (classes_of nfa.now) row_depth made.rows) }
@@ -87,11 +131,11 @@ impl Hybrid {
         };
         Ok(Hybrid {
             match_kind: nfa.match_kind(),
-            rows: rows_of(alloc, nfa, budget)?,
+            rows: rows_of(alloc, nfa, budget, prefilter.is_some())?,
             pattern_lens,
             min_pattern_len: nfa.min_pattern_len(),
             max_pattern_len: nfa.max_pattern_len(),
-            prefilter: clone_of(nfa.prefilter())?,
+            prefilter,
         })
     }
 
