@@ -457,6 +457,10 @@ fn nearest_row(entries: &[SmallIndex], nfa: &NFA, plan: &Plan, index: usize, sid
         if link.as_usize() >= len {
             return Near { row: None, taken };
         }
+        // The start takes every byte.
+        if link == nfa.special().start_unanchored_id {
+            return Near { row: None, taken };
+        }
         at = link;
     }
     Near { row: None, taken }
