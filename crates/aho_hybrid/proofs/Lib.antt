@@ -5,6 +5,7 @@ pub mod Moves
 pub mod Counting
 pub mod Stepping
 pub mod Filling
+pub mod Near
 pub mod Numbering
 pub mod Made
 pub mod Meant

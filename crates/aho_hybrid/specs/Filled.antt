@@ -1,5 +1,5 @@
 -- The states of an automaton that is read out, as they are laid out.
-use Rattle.std.specs.Prelude.{◌≡◌, ◌⊎◌, ℕ, ◌+◌, ◌*◌, ◌<◌, ◌≤◌, ◌||◌, Bool, not, false, true, List, [], ◌∷◌, ◌++◌, length, take, nat_eq, nat_lt, slice_index_or, if◌then◌else◌}
+use Rattle.std.specs.Prelude.{◌≡◌, ◌⊎◌, ℕ, ◌+◌, ◌*◌, ◌<◌, ◌≤◌, ◌||◌, Bool, not, false, true, List, [], ◌∷◌, ◌++◌, length, take, nat_eq, nat_lt, slice_index_or, if◌then◌else◌, IfSome}
 use Rattle.std.specs.List.{count_by}
 use Rattle.aho_base.specs.Numbers.{greatest_index}
 use Rattle.aho_base.specs.declared.error.BuildError.{BuildError}
@@ -8,10 +8,11 @@ use Rattle.aho_base.specs.declared.search.Anchored.TheVariants.{No}
 use Rattle.aho_build.specs.Walking.{IsState, step_in}
 use Rattle.aho_build.specs.declared.special.Special.{Special}
 use Rattle.aho_table.specs.Alphabet.{class_of, class_count}
-use Rattle.aho_table.specs.Table.{IsRising, State, dead_id, fail_id, fail_in, depth_in, matches_in, state_at}
+use Rattle.aho_table.specs.Table.{IsRising, State, dead_id, fail_id, fail_in, depth_in, matches_in, state_at, transition_at}
 use Rattle.aho_corasick.specs.ReadOut.{classes_of, special_of, states_of}
 use Rattle.aho_corasick.specs.declared.noncontiguous.NFA.{NFA}
 use Rattle.aho_hybrid.specs.declared.fill.Filled.{Filled}
+use Rattle.aho_hybrid.specs.declared.fill.Near.{Near}
 use Rattle.aho_hybrid.specs.declared.fill.Plan.{Plan}
 use Rattle.aho_hybrid.specs.Layout.{Layout, stride_of, record_size}
 
@@ -183,6 +184,35 @@ pub record AreRows (plan : Parts) (count : ℕ) (entries lists : List ℕ) (low 
   pub others : (i : ℕ) → i < count → IsShallow plan i → low ≤ row_in plan i → matches_in plan.states (source_in plan.special i) ≡ []
   pub empty : IsListAt lists 0 []
   pub some : 0 < low
+
+-- ---- rows that are near
+
+-- the bytes of the transitions are marked, and no mark goes
+abbrev pub AreMarked : List (ℕ × ℕ) → List Bool → List Bool → Type 0
+AreMarked transitions old new =
+    (byte : ℕ) → slice_index_or new byte true ≡ false → (slice_index_or old byte true ≡ false) × (transition_at transitions byte ≡ fail_id)
+
+-- a state before this one has a row of its own
+pub record HasRowBefore (plan : Parts) (index sid : ℕ) : Type 0 where
+  pub before : sid < index
+  pub shallow : IsShallow plan sid
+  pub own : source_in plan.special sid ≡ sid
+
+-- if the class's byte is not taken, the row tells where it leads from the state
+abbrev pub IsToldBy : Parts → ℕ → List ℕ → Near → ℕ → Type 0
+IsToldBy plan sid entries near class =
+    slice_index_or near.taken (slice_index_or plan.firsts class 0) true ≡ false
+    → IfSome near.row (λ row. (slice_index_or entries (row + class) 0 ≡ number_in plan (leads_in plan sid class)) × IsStep plan.states sid (slice_index_or plan.firsts class 0))
+
+-- the same of each class, by a row that is there
+pub record IsNear (plan : Parts) (sid : ℕ) (entries : List ℕ) (near : Near) : Type 0 where
+  pub told : (class : ℕ) → class < class_count plan.classes → IsToldBy plan sid entries near class
+  pub there : IfSome near.row (λ row. row + class_count plan.classes ≤ length entries)
+
+-- each byte that is not taken leads from the one state as it leads from the other
+abbrev pub AreAlike : List State → List Bool → ℕ → ℕ → Type 0
+AreAlike states taken sid at =
+    (byte : ℕ) → byte < 256 → slice_index_or taken byte true ≡ false → IsState states at × (step_in states No at byte ≡ step_in states No sid byte)
 
 -- ---- records
 

@@ -1,7 +1,7 @@
 //! The states of a `Hybrid`, made from an `NFA`'s: rows for those near the start, and records for the others, each in the
 //! order of the `NFA`'s numbers.
 
-ghost use Rattle.std.specs.Prelude.{◌≡◌, ◌⊎◌, ℕ, [], ◌∷◌, ◌++◌, ◌+◌, ◌*◌, ◌<◌, ◌≤◌, length, slice_index_or, if◌then◌else◌, IfOk, IfErr, OnOk};
+ghost use Rattle.std.specs.Prelude.{◌≡◌, ◌⊎◌, ℕ, List, true, [], ◌∷◌, ◌++◌, ◌+◌, ◌*◌, ◌<◌, ◌≤◌, length, slice_index_or, if◌then◌else◌, IfOk, IfErr, OnOk};
 ghost use Rattle.aho_base.specs.Numbers.{greatest_index};
 ghost use Rattle.aho_base.specs.Patterns.{Patterns};
 ghost use Rattle.aho_build.specs.Walking.{IsState};
@@ -10,7 +10,7 @@ ghost use Rattle.aho_table.specs.Alphabet.{class_of, class_count};
 ghost use Rattle.aho_table.specs.Table.{matches_in, state_at};
 ghost use Rattle.aho_hybrid.specs.Layout.{IsSoundLayout, stride_of};
 ghost use Rattle.aho_hybrid.specs.Reading.{IsLayoutOf};
-ghost use Rattle.aho_hybrid.specs.Filled.{AreFirst, AreNumbers, HasEntries, HasSizes, IsDeepState, IsFilled, IsListAt, IsListRefused, IsPlaced, IsPlan, IsRefused, IsRowDepth, IsShallow, IsTooLarge, deep_count, flat, is_deep, number_at, plan_of, rows_count, rows_size, source_in, states_size};
+ghost use Rattle.aho_hybrid.specs.Filled.{AreFirst, AreMarked, AreNumbers, AreRows, HasEntries, HasRowBefore, HasSizes, IsDeepState, IsFilled, IsListAt, IsListRefused, IsNear, IsPlaced, IsPlan, IsRefused, IsRowDepth, IsShallow, IsStep, IsToldBy, IsTooLarge, deep_count, flat, is_deep, leads_in, number_at, number_in, plan_of, rows_count, rows_size, source_in, states_size};
 
 use crate::rows::Rows;
 use aho_base::error::BuildError;
@@ -254,7 +254,8 @@ fn add_row(filled: &mut Filled, nfa: &NFA, plan: &Plan, index: usize) -> Result<
     ensures refused { IfErr result IsListRefused }
 {
     let sid = source_of(nfa.special(), index);
-    push_entries(&mut filled.entries, nfa, plan, sid)?;
+    let near = nearest_row(&filled.entries, nfa, plan, index, sid);
+    push_entries(&mut filled.entries, nfa, plan, sid, &near)?;
     let place = push_list(&mut filled.lists, nfa, sid)?;
     push(&mut filled.entries, place)?;
     filled.low = low_with(filled.low, filled.entries.len(), nfa.match_len(sid));
@@ -423,24 +424,128 @@ fn low_with(low: usize, end: usize, listed: usize) -> usize
     if listed > 0 { low.max(end) } else { low }
 }
 
+/// A row that tells where most bytes lead from a state: that of a state down its links.
+#[derive(Drop)]
+struct Near {
+    /// Where the row begins, if there is one.
+    row: Option<SmallIndex>,
+    /// The bytes of which it does not tell: one of the states above it takes them.
+    taken: [bool; 256],
+}
+
+/// The row of the nearest state down the links that has one already. Where no state above takes a byte, the byte leads from
+/// there to the same state.
+fn nearest_row(entries: &[SmallIndex], nfa: &NFA, plan: &Plan, index: usize, sid: StateID) -> Near
+    requires plan { IsPlan (plan_of nfa.now plan.now) plan.now.stride }
+    requires state { IsState (states_of nfa.now) sid }
+    requires within { index < length (states_of nfa.now) }
+    requires small { index ≤ greatest_index }
+    requires rows { (lists : List ℕ) × (low : ℕ)
+        × AreRows (plan_of nfa.now plan.now) index entries.now lists low }
+    ensures near { IsNear (plan_of nfa.now plan.now) sid entries.now result }
+{
+    let len = nfa.states_len();
+    let mut taken = [false; 256];
+    let mut at = sid;
+    for _ in 0..nfa.depth(sid) + 1 {
+        mark(&mut taken, nfa.transitions(at));
+        let link = nfa.fail(at);
+        if has_row(nfa, plan, index, link) {
+            let row = Some(number_at(&plan.numbers, link));
+            return Near { row, taken };
+        }
+        if link.as_usize() >= len {
+            return Near { row: None, taken };
+        }
+        // The start takes every byte.
+        if link == nfa.special().start_unanchored_id {
+            return Near { row: None, taken };
+        }
+        at = link;
+    }
+    Near { row: None, taken }
+}
+
+/// Marks the bytes of these transitions.
+fn mark(taken: &mut [bool; 256], transitions: Transitions<'_>)
+    ensures marked { AreMarked transitions.entry taken.old taken.new }
+{
+    for (byte, _) in transitions {
+        taken[byte as usize] = true;
+    }
+}
+
+/// Whether the row of this state stands among those of the states before: its own, and not that of the start in its place.
+fn has_row(nfa: &NFA, plan: &Plan, index: usize, sid: StateID) -> bool
+    requires within { index < length (states_of nfa.now) }
+    requires small { index ≤ greatest_index }
+    ensures row { result ≡ true → HasRowBefore (plan_of nfa.now plan.now) index sid }
+{
+    if sid.as_usize() >= index {
+        return false;
+    }
+    if source_of(nfa.special(), sid.as_usize()) != sid {
+        return false;
+    }
+    !is_deep(nfa, sid.as_usize(), plan.row_depth)
+}
+
 /// The entries of a row: where a byte of each class leads.
 fn push_entries(
     entries: &mut Vec<SmallIndex>,
     nfa: &NFA,
     plan: &Plan,
     sid: StateID,
+    near: &Near,
 ) -> Result<(), BuildError>
     requires plan { IsPlan (plan_of nfa.now plan.now) plan.now.stride }
     requires state { IsState (states_of nfa.now) sid }
+    requires near { IsNear (plan_of nfa.now plan.now) sid entries.old.items near.now }
     ensures entries { OnOk result (HasEntries (plan_of nfa.now plan.now) sid
         (class_count (classes_of nfa.now)) entries.old.items entries.new.items) }
     ensures refused { IfErr result IsListRefused }
 {
     for class in 0..plan.stride - 1 {
-        let next = nfa.next_state(Anchored::No, sid, plan.firsts[class]);
-        push(entries, number_at(&plan.numbers, next))?;
+        let entry = entry_for(entries, nfa, plan, sid, near, class);
+        push(entries, entry)?;
     }
     Ok(())
+}
+
+/// Where a byte of the class leads: by the row that is near, or else by the `NFA`.
+fn entry_for(
+    entries: &[SmallIndex],
+    nfa: &NFA,
+    plan: &Plan,
+    sid: StateID,
+    near: &Near,
+    class: usize,
+) -> SmallIndex
+    requires state { IsState (states_of nfa.now) sid }
+    requires within { class < 256 }
+    requires sized { length plan.now.firsts ≡ 256 }
+    requires near { IsToldBy (plan_of nfa.now plan.now) sid entries.now near.now class }
+    ensures entry { result ≡ number_in (plan_of nfa.now plan.now)
+        (leads_in (plan_of nfa.now plan.now) sid class) }
+    ensures step { IsStep (states_of nfa.now) sid (slice_index_or plan.now.firsts class 0) }
+{
+    if let Some(row) = near.row
+        && !near.taken[plan.firsts[class] as usize]
+    {
+        return entry_at(entries, row.as_usize() + class);
+    }
+    let next = nfa.next_state(Anchored::No, sid, plan.firsts[class]);
+    number_at(&plan.numbers, next)
+}
+
+/// The entry that stands here, and 0 where there is none.
+fn entry_at(entries: &[SmallIndex], place: usize) -> SmallIndex
+    ensures entry { result ≡ slice_index_or entries.now place 0 }
+{
+    match entries.get(place) {
+        Some(entry) => *entry,
+        None => SmallIndex::new_unchecked(0),
+    }
 }
 
 /// The list of a state at the end of the lists, its length first; an empty one stands at the front. Answers where it stands.
