@@ -16,10 +16,10 @@ ghost use Rattle.chromesquid.specs.declared.kinds.AhoCorasickKind.TheVariants.{N
 ghost use Rattle.chromesquid.specs.declared.kinds.StartKind.TheVariants.{Unanchored};
 
 use crate::builder::AhoCorasickBuilder;
+use crate::engine::Engine;
 use crate::kinds::{AhoCorasickKind, StartKind};
 use aho_base::error::BuildError;
 use aho_base::search::MatchKind;
-use aho_corasick::noncontiguous::NFA;
 use aho_search::automaton::Automaton;
 use std::alloc::{AllocError, Global};
 use std::marker::Model;
@@ -27,7 +27,7 @@ use std::marker::Model;
 /// A searcher for some patterns.
 #[derive(Drop)]
 pub struct AhoCorasick {
-    automaton: NFA,
+    automaton: Engine,
     start_kind: StartKind,
 }
 
@@ -39,11 +39,11 @@ impl Model for AhoCorasick {
 
     ghost view = { λ a. record { automaton = a.automaton; start_kind = a.start_kind } };
 
-    ghost invariant = { λ a. (p : Patterns) × ⟦<NFA as Automaton>⟧.is_of a.automaton p };
+    ghost invariant = { λ a. (p : Patterns) × ⟦<Engine as Automaton>⟧.is_of a.automaton p };
 }
 
 impl AhoCorasick {
-    ghost use Rattle.chromesquid.specs.Searcher.{IsBuiltFrom, default_building, lengths_of, match_kind_of, memory_of, patterns_len_of};
+    ghost use Rattle.chromesquid.specs.Searcher.{IsBuiltFrom, default_building, kind_of, lengths_of, match_kind_of, memory_of, patterns_len_of};
 
     /// The searcher of these patterns, as a new builder builds it: of kind Standard, for searches that are not anchored.
     ///
@@ -58,7 +58,7 @@ impl AhoCorasick {
         ensures lengths { IfOk result (λ built.
             lengths_of built ≡ map (λ pattern. length pattern.now) patterns.now) }
         ensures count { IfOk result (λ built. patterns_len_of built ≡ length patterns.now) }
-        ensures memory { IfOk result (λ built. memory_of built
+        ensures memory { IfOk result (λ built. kind_of built ≡ NoncontiguousNFA → memory_of built
             ≡ memory_for default_settings (patterns_of default_settings patterns.now)) }
         ensures accepted { IfOk result (λ built.
             cause default_settings (patterns_of default_settings patterns.now) ≡ None) }
@@ -98,8 +98,8 @@ impl AhoCorasick {
     }
 
     /// The searcher with this automaton.
-    pub(crate) fn of_automaton(automaton: NFA, start_kind: StartKind) -> AhoCorasick
-        requires of { (p : Patterns) × ⟦<NFA as Automaton>⟧.is_of automaton p }
+    pub(crate) fn of_automaton(automaton: Engine, start_kind: StartKind) -> AhoCorasick
+        requires of { (p : Patterns) × ⟦<Engine as Automaton>⟧.is_of automaton p }
         ensures same { result ≡ record { automaton = automaton; start_kind = start_kind } }
     {
         AhoCorasick {
@@ -118,6 +118,7 @@ impl AhoCorasick {
             → IfOk result (λ copy. IsBuiltFrom copy p) }
         ensures match_kind { IfOk result (λ copy. match_kind_of copy ≡ match_kind_of self.now) }
         ensures start_kind { IfOk result (λ copy. copy.start_kind ≡ self.now.start_kind) }
+        ensures kind { IfOk result (λ copy. kind_of copy ≡ kind_of self.now) }
         ensures lengths { IfOk result (λ copy. lengths_of copy ≡ lengths_of self.now) }
         ensures memory { IfOk result (λ copy. memory_of copy ≡ memory_of self.now) }
     {
@@ -126,7 +127,7 @@ impl AhoCorasick {
     }
 
     /// The automaton that searches.
-    pub(crate) fn automaton(&self) -> &NFA
+    pub(crate) fn automaton(&self) -> &Engine
         ensures same { result.now ≡ self.now.automaton }
     {
         &self.automaton
@@ -196,8 +197,8 @@ impl AhoCorasick {
 
     /// Which automaton searches.
     pub fn kind(&self) -> AhoCorasickKind
-        ensures kind { result ≡ NoncontiguousNFA }
+        ensures kind { result ≡ kind_of self.now }
     {
-        AhoCorasickKind::NoncontiguousNFA
+        self.automaton.kind()
     }
 }
