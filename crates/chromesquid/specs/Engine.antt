@@ -1,5 +1,5 @@
 -- The automaton that searches is one of several kinds: each member of it is that of the automaton that is held.
-use Rattle.std.specs.Prelude.{◌≡◌, ◌×◌, ◌⊎◌, ℕ, List, [], Bool, true, false, Option, IfSome, Result}
+use Rattle.std.specs.Prelude.{◌≡◌, ◌⊎◌, ℕ, List, [], Bool, true, false, Option, IfSome, Result}
 use Rattle.aho_base.specs.Held.{held_after}
 use Rattle.aho_base.specs.Laws.{Reads}
 use Rattle.aho_base.specs.Patterns.{Patterns}
@@ -36,13 +36,13 @@ pub record HasNoRows (nfa : NFA) : Type 0 where
   pub requested : ℕ
   pub refused : IsRefused (states_of nfa) (classes_of nfa) default_budget (StateIDOverflow max requested)
 
--- made of an `NFA` for this kind it has this kind, or is the `NFA` where the rows do not fit
-abbrev pub HasKindFor : AhoCorasickKind → NFA → Engine → Type 0
-HasKindFor kind nfa engine = (kind_in engine ≡ kind) ⊎ ((engine ≡ Noncontiguous nfa) × HasNoRows nfa)
+-- it has this kind, or is an `NFA` for which the rows do not fit
+abbrev pub HasKind : AhoCorasickKind → Engine → Type 0
+HasKind kind engine = (kind_in engine ≡ kind) ⊎ ((nfa : NFA) × (engine ≡ Noncontiguous nfa) × HasNoRows nfa)
 
--- where it is of the `NFA`'s kind it takes as much memory
-abbrev pub TakesAsMuch : NFA → Engine → Type 0
-TakesAsMuch nfa engine = kind_in engine ≡ NoncontiguousNFA → engine ≡ Noncontiguous nfa
+-- without rows it is this `NFA`
+abbrev pub IsElse : NFA → Engine → Type 0
+IsElse nfa engine = kind_in engine ≡ NoncontiguousNFA → engine ≡ Noncontiguous nfa
 
 -- ---- the members of `Automaton`
 

@@ -1,5 +1,5 @@
 -- What a searcher is seen as, and which patterns it was built from.
-use Rattle.std.specs.Prelude.{◌≡◌, ◌≤◌, ℕ, List, Bool, true, false, Option, None, Some, Result, Err, is_some, length, if◌then◌else◌}
+use Rattle.std.specs.Prelude.{◌≡◌, ◌≤◌, ℕ, List, Bool, true, false, Option, None, Some, Result, Err, IsOk, is_some, length, if◌then◌else◌}
 use Rattle.aho_base.specs.Answer.{IsAnswer}
 use Rattle.aho_base.specs.Laws.{shortest}
 use Rattle.aho_base.specs.Occurrence.{Occurrence}
@@ -24,10 +24,6 @@ use Rattle.chromesquid.specs.declared.kinds.StartKind.TheVariants.{Both, Unancho
 pub record Searcher : Type 0 where
   pub automaton : Engine
   pub start_kind : StartKind
-
--- the searcher was built from these patterns, with their match kind and case rule
-pub record IsBuiltFrom (searcher : Searcher) (p : Patterns) : Type 0 where
-  pub reads : ghosts.is_of searcher.automaton p
 
 -- which kind of automaton it searches by
 abbrev pub kind_of : Searcher → AhoCorasickKind
@@ -67,11 +63,16 @@ allows AnchoredOnly Yes = true
 
 -- the kind of automaton that is made where this one is asked for: rows answer no anchored search, and are taken where nothing is
 -- asked for
-abbrev pub kind_for : Option AhoCorasickKind → StartKind → AhoCorasickKind
-kind_for None Unanchored = Hybrid
-kind_for (Some kind) Unanchored = kind
-kind_for asked Both = NoncontiguousNFA
-kind_for asked AnchoredOnly = NoncontiguousNFA
+abbrev pub kind_for : StartKind → Option AhoCorasickKind → AhoCorasickKind
+kind_for Unanchored None = Hybrid
+kind_for Unanchored (Some kind) = kind
+kind_for Both asked = NoncontiguousNFA
+kind_for AnchoredOnly asked = NoncontiguousNFA
+
+-- the searcher was built from these patterns, with their match kind and case rule, and each search that is answered has a start
+pub record IsBuiltFrom (searcher : Searcher) (p : Patterns) : Type 0 where
+  pub reads : ghosts.is_of searcher.automaton p
+  pub starts : (anchored : Anchored) → allows searcher.start_kind anchored ≡ true → IsOk (ghosts.start searcher.automaton anchored)
 
 -- why a search of this anchoring is refused
 abbrev pub refusal_of : Anchored → MatchErrorKind

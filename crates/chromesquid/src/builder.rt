@@ -8,6 +8,7 @@ ghost use Rattle.aho_build.specs.Automaton.{memory_for};
 ghost use Rattle.aho_build.specs.Items.{IsFailure, OfAccepted, patterns_of};
 ghost use Rattle.aho_build.specs.Refusals.{cause};
 ghost use Rattle.chromesquid.specs.Building.{IsFailureOf};
+ghost use Rattle.chromesquid.specs.Engine.{HasKind};
 ghost use Rattle.chromesquid.specs.declared.kinds.AhoCorasickKind.TheVariants.{NoncontiguousNFA};
 
 use crate::engine::Engine;
@@ -63,7 +64,7 @@ fn automaton_of(builder: &Builder, alloc: Global, patterns: &[&[u8]]) -> Result<
 }
 
 impl AhoCorasickBuilder {
-    ghost use Rattle.chromesquid.specs.Searcher.{IsBuiltFrom, default_building, kind_of, lengths_of, match_kind_of, memory_of, patterns_len_of};
+    ghost use Rattle.chromesquid.specs.Searcher.{IsBuiltFrom, default_building, kind_for, kind_of, lengths_of, match_kind_of, memory_of, patterns_len_of};
 
     /// Standard, with regard to case, for searches that are not anchored, with a prefilter where one can be held, dense rows
     /// up to depth 3, and the greatest limits.
@@ -88,6 +89,10 @@ impl AhoCorasickBuilder {
             IsBuiltFrom built (patterns_of self.now.settings patterns.now)) }
         ensures match_kind { IfOk result (λ built. match_kind_of built ≡ self.now.settings.kind) }
         ensures start_kind { IfOk result (λ built. built.start_kind ≡ self.now.start_kind) }
+        ensures kind { IfOk result (λ built.
+            HasKind (kind_for self.now.start_kind self.now.kind) built.automaton) }
+        ensures trie { kind_for self.now.start_kind self.now.kind ≡ NoncontiguousNFA
+            → IfOk result (λ built. kind_of built ≡ NoncontiguousNFA) }
         ensures lengths { IfOk result (λ built.
             lengths_of built ≡ map (λ pattern. length pattern.now) patterns.now) }
         ensures count { IfOk result (λ built. patterns_len_of built ≡ length patterns.now) }
@@ -99,7 +104,7 @@ impl AhoCorasickBuilder {
             (IsFailureOf self.now.settings (patterns_of self.now.settings patterns.now)) }
     {
         let nfa = automaton_of(&self.automaton, alloc, patterns)?;
-        let automaton = Engine::of_kind(alloc, nfa, kind_for(self.kind, self.start_kind))?;
+        let automaton = Engine::of_kind(alloc, nfa, kind_for(self.start_kind, self.kind))?;
         Ok(AhoCorasick::of_automaton(automaton, self.start_kind))
     }
 
@@ -122,10 +127,14 @@ impl AhoCorasickBuilder {
             IsBuiltFrom built (patterns_of self.now.settings run.items))) }
         ensures match_kind { IfOk result (λ built. match_kind_of built ≡ self.now.settings.kind) }
         ensures start_kind { IfOk result (λ built. built.start_kind ≡ self.now.start_kind) }
+        ensures kind { IfOk result (λ built.
+            HasKind (kind_for self.now.start_kind self.now.kind) built.automaton) }
+        ensures trie { kind_for self.now.start_kind self.now.kind ≡ NoncontiguousNFA
+            → IfOk result (λ built. kind_of built ≡ NoncontiguousNFA) }
         ensures refused { IfErr result (IsFailure I.next_gives patterns self.now.settings) }
     {
         let nfa = self.automaton.build(alloc, patterns)?;
-        let automaton = Engine::of_kind(alloc, nfa, kind_for(self.kind, self.start_kind))?;
+        let automaton = Engine::of_kind(alloc, nfa, kind_for(self.start_kind, self.kind))?;
         Ok(AhoCorasick::of_automaton(automaton, self.start_kind))
     }
 

@@ -4,7 +4,8 @@ ghost use Rattle.std.specs.Prelude.{◌≡◌, IfErr, IfOk};
 ghost use Rattle.aho_base.specs.Patterns.{Patterns};
 ghost use Rattle.aho_base.specs.declared.error.BuildError.TheVariants.{OutOfMemory};
 ghost use Rattle.aho_corasick.specs.Clones.{IsCloneOf};
-ghost use Rattle.chromesquid.specs.Engine.{HasKindFor, TakesAsMuch, kind_in};
+ghost use Rattle.chromesquid.specs.Engine.{HasKind, IsElse, kind_in};
+ghost use Rattle.chromesquid.specs.declared.kinds.AhoCorasickKind.TheVariants.{Hybrid as OfRows};
 
 use crate::kinds::AhoCorasickKind;
 use aho_base::error::{BuildError, MatchError};
@@ -33,8 +34,8 @@ impl Engine {
     pub(crate) fn of_kind(alloc: Global, nfa: NFA, kind: AhoCorasickKind) -> Result<Engine, BuildError>
         ensures of { IfOk result (λ engine. (p : Patterns)
             → ⟦<NFA as Automaton>⟧.is_of nfa p → ⟦<Engine as Automaton>⟧.is_of engine p) }
-        ensures kind { IfOk result (HasKindFor kind nfa) }
-        ensures memory { IfOk result (TakesAsMuch nfa) }
+        ensures kind { IfOk result (HasKind kind) }
+        ensures same { IfOk result (IsElse nfa) }
         ensures refused { IfErr result (λ error. error ≡ OutOfMemory) }
     {
         match kind {
@@ -48,7 +49,13 @@ impl Engine {
     /// # Errors
     ///
     /// Out of memory.
-    fn with_rows(alloc: Global, nfa: NFA) -> Result<Engine, BuildError> {
+    fn with_rows(alloc: Global, nfa: NFA) -> Result<Engine, BuildError>
+        ensures of { IfOk result (λ engine. (p : Patterns)
+            → ⟦<NFA as Automaton>⟧.is_of nfa p → ⟦<Engine as Automaton>⟧.is_of engine p) }
+        ensures kind { IfOk result (HasKind OfRows) }
+        ensures same { IfOk result (IsElse nfa) }
+        ensures refused { IfErr result (λ error. error ≡ OutOfMemory) }
+    {
         match Hybrid::from_nfa(alloc, &nfa) {
             Ok(hybrid) => Ok(Engine::Rows(hybrid)),
             Err(BuildError::OutOfMemory) => Err(BuildError::OutOfMemory),

@@ -30,8 +30,8 @@ pub enum StartKind {
 
 /// Which kind of automaton is made: the one that is asked for, or else that of rows, where all searches that are answered are
 /// unanchored. For others it is the noncontiguous one, whatever is asked for.
-pub(crate) fn kind_for(asked: Option<AhoCorasickKind>, start_kind: StartKind) -> AhoCorasickKind
-    ensures kind { result ≡ kind_for asked start_kind }
+pub(crate) fn kind_for(start_kind: StartKind, asked: Option<AhoCorasickKind>) -> AhoCorasickKind
+    ensures kind { result ≡ kind_for start_kind asked }
 {
     match start_kind {
         StartKind::Unanchored => match asked {

@@ -12,7 +12,8 @@ ghost use Rattle.aho_build.specs.Items.{IsFailure, OfAccepted, patterns_of};
 ghost use Rattle.aho_build.specs.Refusals.{cause};
 ghost use Rattle.aho_build.specs.Settings.{default_settings};
 ghost use Rattle.chromesquid.specs.Building.{IsFailureOf};
-ghost use Rattle.chromesquid.specs.declared.kinds.AhoCorasickKind.TheVariants.{NoncontiguousNFA};
+ghost use Rattle.chromesquid.specs.Engine.{HasKind};
+ghost use Rattle.chromesquid.specs.declared.kinds.AhoCorasickKind.TheVariants.{Hybrid, NoncontiguousNFA};
 ghost use Rattle.chromesquid.specs.declared.kinds.StartKind.TheVariants.{Unanchored};
 
 use crate::builder::AhoCorasickBuilder;
@@ -33,13 +34,14 @@ pub struct AhoCorasick {
 
 impl Model for AhoCorasick {
     ghost use Rattle.aho_base.specs.Patterns.{Patterns};
-    ghost use Rattle.chromesquid.specs.Searcher.{Searcher};
+    ghost use Rattle.chromesquid.specs.Searcher.{IsBuiltFrom, Searcher};
 
     ghost Value = { Searcher };
 
     ghost view = { λ a. record { automaton = a.automaton; start_kind = a.start_kind } };
 
-    ghost invariant = { λ a. (p : Patterns) × ⟦<Engine as Automaton>⟧.is_of a.automaton p };
+    ghost invariant = { λ a. (p : Patterns)
+        × IsBuiltFrom (record { automaton = a.automaton; start_kind = a.start_kind }) p };
 }
 
 impl AhoCorasick {
@@ -55,6 +57,7 @@ impl AhoCorasick {
             IsBuiltFrom built (patterns_of default_settings patterns.now)) }
         ensures match_kind { IfOk result (λ built. match_kind_of built ≡ Standard) }
         ensures start_kind { IfOk result (λ built. built.start_kind ≡ Unanchored) }
+        ensures kind { IfOk result (λ built. HasKind Hybrid built.automaton) }
         ensures lengths { IfOk result (λ built.
             lengths_of built ≡ map (λ pattern. length pattern.now) patterns.now) }
         ensures count { IfOk result (λ built. patterns_len_of built ≡ length patterns.now) }
@@ -85,6 +88,7 @@ impl AhoCorasick {
             IsBuiltFrom built (patterns_of default_settings run.items))) }
         ensures match_kind { IfOk result (λ built. match_kind_of built ≡ Standard) }
         ensures start_kind { IfOk result (λ built. built.start_kind ≡ Unanchored) }
+        ensures kind { IfOk result (λ built. HasKind Hybrid built.automaton) }
         ensures refused { IfErr result (IsFailure I.next_gives patterns default_settings) }
     {
         AhoCorasickBuilder::new().build_from_iter(alloc, patterns)
@@ -99,7 +103,8 @@ impl AhoCorasick {
 
     /// The searcher with this automaton.
     pub(crate) fn of_automaton(automaton: Engine, start_kind: StartKind) -> AhoCorasick
-        requires of { (p : Patterns) × ⟦<Engine as Automaton>⟧.is_of automaton p }
+        requires of { (p : Patterns)
+            × IsBuiltFrom (record { automaton = automaton; start_kind = start_kind }) p }
         ensures same { result ≡ record { automaton = automaton; start_kind = start_kind } }
     {
         AhoCorasick {
