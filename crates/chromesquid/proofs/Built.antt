@@ -16,6 +16,8 @@ use Rattle.aho_build.specs.declared.settings.Settings.{Settings}
 use Rattle.aho_corasick.specs.Clones.{IsCloneOf}
 use Rattle.aho_corasick.specs.declared.noncontiguous.NFA.{NFA}
 use Rattle.aho_corasick.specs.contracts.noncontiguous.NFAAutomaton.TheImpl.{ghosts as of_nfa}
+use Rattle.aho_hybrid.specs.contracts.hybrid.HybridAutomaton.TheImpl.{ghosts as of_rows}
+use Rattle.aho_hybrid.specs.declared.hybrid.Hybrid.{Hybrid as HybridOf}
 use Rattle.chromesquid.specs.Engine.{HasKind, kind_in, laws_by}
 use Rattle.chromesquid.specs.Searcher.{Answers, IsBuiltFrom, Refuses, Searcher, allows, kind_for, lengths_of, match_kind_of, patterns_len_of, refusal_of, start_by}
 use Rattle.chromesquid.specs.contracts.engine.EngineAutomaton.TheImpl.{ghosts}
@@ -48,7 +50,7 @@ of_accepted gives state settings nfa searcher same leads accepted =
     (all.0, all.1, leads _ all.2)
 
 -- rows are not the noncontiguous automaton
-is_rows : AhoCorasickKind → Bool
+abbrev is_rows : AhoCorasickKind → Bool
 is_rows NoncontiguousNFA = false
 is_rows Hybrid = true
 
@@ -73,8 +75,61 @@ built_by start_kind asked nfa engine has leads p of =
       starts = λ anchored allowed.
           elim has [
             | inl kind ↦ suits start_kind asked engine anchored kind allowed
-            | inr same ↦ subst (λ (e : Engine). IsOk (ghosts.start e anchored)) (sym same.1.0) refl
+            | inr same ↦ subst (λ (e : Engine). IsOk (ghosts.start e anchored)) (sym same.1) refl
           ];
+    }
+
+pub built_as : (kind : AhoCorasickKind) (start_kind : StartKind) (asked : Option AhoCorasickKind) (nfa : NFA) (engine : Engine) → kind ≡ kind_for start_kind asked → HasKind kind engine
+    → ((p : Patterns) → of_nfa.is_of nfa p → ghosts.is_of engine p) → (p : Patterns) → of_nfa.is_of nfa p → IsBuiltFrom (record { automaton = engine; start_kind = start_kind }) p
+built_as kind start_kind asked nfa engine is has leads = built_by start_kind asked nfa engine (subst (λ (k : AhoCorasickKind). HasKind k engine) is has) leads
+
+-- where no rows are to be made it has none
+pub trie_of : (kind : AhoCorasickKind) (engine : Engine) → HasKind kind engine → kind ≡ NoncontiguousNFA → kind_in engine ≡ NoncontiguousNFA
+trie_of kind engine has same =
+    elim has [
+      | inl is ↦ is ∙ same
+      | inr trie ↦ ap kind_in trie.1
+    ]
+
+-- a copy of what is held is one of the automaton
+pub copy_of_trie : (nfa copy : NFA) → IsCloneOf of_nfa copy nfa → IsCloneOf ghosts (Noncontiguous copy) (Noncontiguous nfa)
+copy_of_trie nfa copy clone =
+    record {
+      same_patterns = clone.same_patterns;
+      same_held = clone.same_held;
+      same_valid = clone.same_valid;
+      same_kind = clone.same_kind;
+      same_lengths = clone.same_lengths;
+      same_list = clone.same_list;
+      same_dead = clone.same_dead;
+      same_special = clone.same_special;
+      same_starts = clone.same_starts;
+      same_depth = clone.same_depth;
+      same_next = clone.same_next;
+      same_lookups = clone.same_lookups;
+      same_start = clone.same_start;
+      same_memory = clone.same_memory;
+      same_prefilter = clone.same_prefilter;
+    }
+
+pub copy_of_rows : (hybrid copy : HybridOf) → IsCloneOf of_rows copy hybrid → IsCloneOf ghosts (Rows copy) (Rows hybrid)
+copy_of_rows hybrid copy clone =
+    record {
+      same_patterns = clone.same_patterns;
+      same_held = clone.same_held;
+      same_valid = clone.same_valid;
+      same_kind = clone.same_kind;
+      same_lengths = clone.same_lengths;
+      same_list = clone.same_list;
+      same_dead = clone.same_dead;
+      same_special = clone.same_special;
+      same_starts = clone.same_starts;
+      same_depth = clone.same_depth;
+      same_next = clone.same_next;
+      same_lookups = clone.same_lookups;
+      same_start = clone.same_start;
+      same_memory = clone.same_memory;
+      same_prefilter = clone.same_prefilter;
     }
 
 -- a searcher has as many patterns as it was built from

@@ -58,8 +58,8 @@ impl Engine {
     {
         match Hybrid::from_nfa(alloc, &nfa) {
             Ok(hybrid) => Ok(Engine::Rows(hybrid)),
-            Err(BuildError::OutOfMemory) => Err(BuildError::OutOfMemory),
-            Err(_) => Ok(Engine::Noncontiguous(nfa)),
+            Err(BuildError::StateIDOverflow { .. }) => Ok(Engine::Noncontiguous(nfa)),
+            Err(_) => Err(BuildError::OutOfMemory),
         }
     }
 
