@@ -1,15 +1,17 @@
 //! The automaton that searches: one of several kinds. Each of its calls is that of the automaton that is held.
 
-ghost use Rattle.std.specs.Prelude.{◌≡◌, IfErr, IfOk};
+ghost use Rattle.std.specs.Prelude.{◌≡◌, ◌<◌, ◌≤◌, ℕ, Err, IfErr, IfOk, IsOk, None, Ok};
+ghost use Rattle.aho_base.specs.Answer.{IsAnswer};
 ghost use Rattle.aho_base.specs.Patterns.{Patterns};
 ghost use Rattle.aho_base.specs.declared.error.BuildError.TheVariants.{OutOfMemory};
+ghost use Rattle.aho_base.specs.declared.error.MatchErrorKind.{MatchErrorKind};
 ghost use Rattle.aho_corasick.specs.Clones.{IsCloneOf};
 ghost use Rattle.chromesquid.specs.Engine.{HasKind, IsElse, kind_in};
 ghost use Rattle.chromesquid.specs.declared.kinds.AhoCorasickKind.TheVariants.{Hybrid as OfRows};
 
 use crate::kinds::AhoCorasickKind;
 use aho_base::error::{BuildError, MatchError};
-use aho_base::search::{Anchored, MatchKind, PatternID, StateID, Work};
+use aho_base::search::{Anchored, Input, Match, MatchKind, PatternID, StateID, Work};
 use aho_corasick::noncontiguous::NFA;
 use aho_hybrid::hybrid::Hybrid;
 use aho_prefilter::prefilter::Prefilter;
@@ -73,6 +75,28 @@ impl Engine {
         }
     }
 
+    /// What the search of the automaton that is held finds. The kind is asked for once, and not at each byte.
+    ///
+    /// # Errors
+    ///
+    /// As those of `Automaton::try_find`.
+    pub(crate) fn find(&self, input: &Input) -> Result<Option<Match>, MatchError>
+        requires of { (p : Patterns) × ⟦<Engine as Automaton>⟧.is_of self.now p }
+        ensures found { (p : Patterns) → ⟦<Engine as Automaton>⟧.is_of self.now p
+            → IfOk result (IsAnswer p input.now) }
+        ensures ok { (sid : ℕ) → ⟦<Engine as Automaton>⟧.start self.now input.now.anchored ≡ Ok sid
+            → IsOk result }
+        ensures refused { (reason : MatchErrorKind) → input.now.start ≤ input.now.end
+            → ⟦<Engine as Automaton>⟧.start self.now input.now.anchored ≡ Err reason
+            → result ≡ Err reason }
+        ensures done { input.now.end < input.now.start → result ≡ Ok None }
+    {
+        match self {
+            Engine::Noncontiguous(nfa) => found_by(nfa, input),
+            Engine::Rows(hybrid) => found_by(hybrid, input),
+        }
+    }
+
     /// A copy of the automaton, with the same states under the same numbers.
     ///
     /// # Errors
@@ -87,6 +111,18 @@ impl Engine {
             Engine::Rows(hybrid) => Ok(Engine::Rows(hybrid.try_clone()?)),
         }
     }
+}
+
+/// What an automaton's search finds.
+fn found_by<A: Automaton>(automaton: &A, input: &Input) -> Result<Option<Match>, MatchError>
+    requires of { (p : Patterns) × A.is_of automaton.now p }
+    ensures found { (p : Patterns) → A.is_of automaton.now p → IfOk result (IsAnswer p input.now) }
+    ensures ok { (sid : ℕ) → A.start automaton.now input.now.anchored ≡ Ok sid → IsOk result }
+    ensures refused { (reason : MatchErrorKind) → input.now.start ≤ input.now.end
+        → A.start automaton.now input.now.anchored ≡ Err reason → result ≡ Err reason }
+    ensures done { input.now.end < input.now.start → result ≡ Ok None }
+{
+    automaton.try_find(input)
 }
 
 impl Automaton for Engine {
