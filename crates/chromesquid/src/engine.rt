@@ -33,7 +33,11 @@ impl Engine {
     /// # Errors
     ///
     /// Out of memory.
-    pub(crate) fn of_kind(alloc: Global, nfa: NFA, kind: AhoCorasickKind) -> Result<Engine, BuildError>
+    pub(crate) fn of_kind(
+        alloc: Global,
+        nfa: NFA,
+        kind: AhoCorasickKind,
+    ) -> Result<Engine, BuildError>
         ensures of { IfOk result (λ engine. (p : Patterns)
             → ⟦<NFA as Automaton>⟧.is_of nfa p → ⟦<Engine as Automaton>⟧.is_of engine p) }
         ensures kind { IfOk result (HasKind kind) }

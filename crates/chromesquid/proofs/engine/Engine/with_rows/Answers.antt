@@ -3,8 +3,7 @@ use Rattle.chromesquid.proofs.engine.Engine.with_rows.Goals as goal
 
 pub returns-in-Err-StateIDOverflow-clause-kind : goal.returns-in-Err-StateIDOverflow-clause-kind
 returns-in-Err-StateIDOverflow-clause-kind c =
-    inr
-    (
+    inr (
       c.args.nfa,
       refl,
       record {
