@@ -21,4 +21,3 @@ pub use Rattle.chromesquid.specs.Building.{IsFailureOf}
 pub use Rattle.chromesquid.specs.Engine.{HasKind}
 pub use Rattle.chromesquid.specs.Searcher.{Answers, HasEmpty, HasNoEmpty, IsBuiltFrom, Refuses, TellsMatch, kind_for, kind_of, match_kind_of, memory_of, patterns_len_of}
 pub use Rattle.chromesquid.specs.Streams.{FindsFirst, FindsWhole, IsBegun, IsReplaced, IsReplacedUpTo, IsStreamRun}
-pub use Rattle.chromesquid.specs.declared.kinds.AhoCorasickKind.TheVariants.{Hybrid, NoncontiguousNFA}
