@@ -1,13 +1,12 @@
 -- What an automaton's laws tell of its kind and its lengths, and of what a searcher was built from.
 use Rattle.std.proofs.Common.{◌≡◌, ◌∙◌, ap, sym, subst, refl, true, false, inl, inr, Bool, List, ℕ, Option}
-use Rattle.std.specs.Prelude.{Err, IsOk, None, Ok, Result, Some, map, length, if◌then◌else◌}
+use Rattle.std.specs.Prelude.{Err, IsOk, Ok, Result, map, length, if◌then◌else◌}
 use Rattle.std.proofs.lemmas.Bool.{both_ways}
 use Rattle.std.proofs.lemmas.List.{length-map}
 use Rattle.std.proofs.lemmas.Simd.{map-map}
 use denote.Ref.{Bor}
 use Rattle.aho_base.specs.Laws.{longest, shortest}
 use Rattle.aho_base.specs.Patterns.{Patterns}
-use Rattle.aho_base.specs.declared.error.MatchErrorKind.{MatchErrorKind}
 use Rattle.aho_base.specs.declared.error.MatchErrorKind.TheVariants.{InvalidInputUnanchored}
 use Rattle.aho_base.specs.declared.search.Anchored.{Anchored}
 use Rattle.aho_base.specs.declared.search.Anchored.TheVariants.{No, Yes}

@@ -67,7 +67,7 @@ impl AhoCorasickBuilder {
     ghost use Rattle.chromesquid.specs.Searcher.{IsBuiltFrom, default_building, kind_for, kind_of, lengths_of, match_kind_of, memory_of, patterns_len_of};
 
     /// Standard, with regard to case, for searches that are not anchored, with a prefilter where one can be held, dense rows
-    /// up to depth 3, and the greatest limits.
+    /// up to depth 3, and the greatest limits. No kind of automaton is asked for.
     pub fn new() -> AhoCorasickBuilder
         ensures new { result ≡ default_building }
     {
@@ -154,7 +154,8 @@ impl AhoCorasickBuilder {
         self
     }
 
-    /// Which searches are answered. An automaton for all of them takes no more memory than one for some.
+    /// Which searches are answered. A searcher for anchored ones has the noncontiguous automaton (`kind`), which takes no more
+    /// memory for all of them than for some.
     pub fn start_kind(mut self, kind: StartKind) -> AhoCorasickBuilder
         ensures set { result ≡ record self { start_kind = kind } }
     {
@@ -180,8 +181,9 @@ impl AhoCorasickBuilder {
         self
     }
 
-    /// Up to which distance from the start states have dense rows, by which a step is one look; none at 0. A row takes four
-    /// bytes for each class of bytes. No answer depends on it.
+    /// Up to which distance from the start states of the noncontiguous automaton have dense rows, by which a step is one look;
+    /// none at 0. A row takes four bytes for each class of bytes. A `Hybrid` is made of that automaton, and has rows of its own.
+    /// No answer depends on it.
     pub fn dense_depth(mut self, depth: usize) -> AhoCorasickBuilder
         ensures set { result ≡ record self { settings = record self.settings { dense_depth = depth } } }
     {
