@@ -213,12 +213,12 @@ fn candidate_in<W: Walk, T: Text>(walk: &W, text: &T, span: Span) -> Candidate
 const COST: usize = 2;
 
 /// The patience with which a search begins: it asks for 32 candidates that bring it no further.
-pub const PATIENCE: usize = 32 * COST;
+pub(crate) const PATIENCE: usize = 32 * COST;
 
 /// What is left of a search's patience after a candidate that lies so many bytes further: each of these bytes gives one back.
 /// Once there is none the walk waits no more, since where candidates are dense asking for them costs more than walking. So a
 /// search asks for no more candidates than half of the bytes that it skips, and for these few.
-pub fn patience_after(patience: usize, skipped: usize) -> usize {
+pub(crate) fn patience_after(patience: usize, skipped: usize) -> usize {
     patience.wrapping_add(skipped).saturating_sub(COST)
 }
 
