@@ -3,7 +3,6 @@
 
 pub mod automaton;
 pub mod builder;
-mod engine;
 pub mod find;
 pub mod input;
 pub mod kinds;
