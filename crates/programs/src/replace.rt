@@ -50,7 +50,7 @@ pub fn replace<R: Read, W: Write>(
     let patterns = pairs.patterns.as_slice();
     let pieces = pairs.pieces.as_slice();
     let automaton = build(alloc, patterns)?;
-    let rows = rows_of(alloc, &automaton, false, patterns);
+    let rows = rows_of(alloc, &automaton, false, patterns)?;
     replace_by(alloc, &automaton, rows.as_ref(), pieces, input, output)?;
     flush(output)
 }

@@ -8,6 +8,7 @@ ghost use Rattle.aho_prefilter.specs.Prefilter.{IsPrefilterOf};
 ghost use Rattle.programs.specs.Asked.{asked_for, asked_patterns, ArePatterns, patterns_to_replace};
 
 use crate::command::Request;
+use aho_base::error::BuildError;
 use aho_corasick::noncontiguous::NFA;
 use aho_hybrid::hybrid::{DEFAULT_BUDGET, Hybrid};
 use aho_prefilter::laws::held_serves_each_kind;
@@ -32,29 +33,30 @@ fn prefilter_of(
     builder.build()
 }
 
-/// The automaton with rows of what an `NFA` of these patterns is of; none where memory runs out, or where it has too many
-/// states.
+/// The automaton with rows of what an `NFA` of these patterns is of; none where it would have too many states.
+///
+/// # Errors
+///
+/// The error says that memory ran out.
 pub(crate) fn rows_of(
     alloc: Global,
     nfa: &NFA,
     ignore_case: bool,
     patterns: &[&[u8]],
-) -> Option<Hybrid>
+) -> Result<Option<Hybrid>, AllocError>
     ensures of { (p : Patterns) → ArePatterns p ignore_case (pieces_of patterns.now)
         → ⟦<NFA as Automaton>⟧.is_of nfa.now p
-        → IfSome result (λ rows. ⟦<Hybrid as Automaton>⟧.is_of rows p) }
-    ensures kind { IfSome result (λ rows.
-        ⟦<Hybrid as Automaton>⟧.kind rows ≡ ⟦<NFA as Automaton>⟧.kind nfa.now) }
-    ensures lengths { IfSome result (λ rows.
-        ⟦<Hybrid as Automaton>⟧.lengths rows ≡ ⟦<NFA as Automaton>⟧.lengths nfa.now) }
-    ensures starts { IfSome result (λ rows. IsOk (⟦<Hybrid as Automaton>⟧.start rows No)) }
+        → IfOk result (λ made. IfSome made (λ rows. ⟦<Hybrid as Automaton>⟧.is_of rows p)) }
+    ensures kind { IfOk result (λ made. IfSome made (λ rows.
+        ⟦<Hybrid as Automaton>⟧.kind rows ≡ ⟦<NFA as Automaton>⟧.kind nfa.now)) }
+    ensures starts { IfOk result (λ made. IfSome made (λ rows.
+        IsOk (⟦<Hybrid as Automaton>⟧.start rows No))) }
 {
-    let Ok(prefilter) = prefilter_of(alloc, ignore_case, patterns) else {
-        return None;
-    };
+    let prefilter = prefilter_of(alloc, ignore_case, patterns)?;
     match Hybrid::with_prefilter(alloc, nfa, DEFAULT_BUDGET, prefilter) {
-        Ok(rows) => Some(rows),
-        Err(_) => None,
+        Ok(rows) => Ok(Some(rows)),
+        Err(BuildError::OutOfMemory) => Err(AllocError),
+        Err(_) => Ok(None),
     }
 }
 
@@ -91,5 +93,8 @@ pub(crate) fn rows_for(
     let Ok(patterns) = bytes_of(alloc, request.patterns) else {
         return None;
     };
-    rows_of(alloc, nfa, request.task.ignore_case(), patterns.as_slice())
+    match rows_of(alloc, nfa, request.task.ignore_case(), patterns.as_slice()) {
+        Ok(rows) => rows,
+        Err(_) => None,
+    }
 }

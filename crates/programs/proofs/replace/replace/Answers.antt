@@ -17,8 +17,8 @@ rows_are : (g : Over) (c : After-as_ref g) → IfSome c.as_ref.result (λ rows. 
 rows_are g c =
     let asked = replacing_for (map string_bytes c.args.arguments.now) in
     let patterns = shown c.as_slice-patterns.ensures.value c.in_ok-pairs.ensures.patterns in
-    lent c.rows_of-rows.result c.as_ref.result (λ rows. ghosts.is_of rows (patterns_to_replace asked)) c.as_ref.ensures.value
-    (c.rows_of-rows.ensures.of (patterns_to_replace asked) (record { words_are = patterns; rule = refl }) (c.in_ok-automaton.ensures.of asked patterns))
+    lent c.in_ok-rows.rows c.as_ref.result (λ rows. ghosts.is_of rows (patterns_to_replace asked)) c.as_ref.ensures.value
+    (c.in_ok-rows.ensures.of (patterns_to_replace asked) (record { words_are = patterns; rule = refl }) (c.in_ok-automaton.ensures.of asked patterns))
 
 pub replace_by-requires : goal.replace_by-requires
 replace_by-requires g c =
