@@ -18,6 +18,7 @@ pub record IsCloneOf {S : Type 0} (A : Ghosts S) (clone original : S) : Type 0 w
   pub same_list : A.list clone ≡ A.list original
   pub same_dead : A.dead clone ≡ A.dead original
   pub same_special : A.special clone ≡ A.special original
+  pub same_marked : A.marked clone ≡ A.marked original
   pub same_starts : A.starts clone ≡ A.starts original
   pub same_depth : A.depth clone ≡ A.depth original
   pub same_next : A.next clone ≡ A.next original

@@ -161,7 +161,7 @@ impl NFA {
 }
 
 impl Automaton for NFA {
-    ghost use Rattle.std.specs.Prelude.{◌+◌, ℕ, IfSome, is_some, nat_eq, Ok};
+    ghost use Rattle.std.specs.Prelude.{◌+◌, ℕ, IfSome, false, is_some, nat_eq, Ok};
     ghost use Rattle.aho_base.specs.Bytes.{folded};
     ghost use Rattle.aho_base.specs.Held.{held_after};
     ghost use Rattle.aho_base.specs.Patterns.{Patterns};
@@ -191,6 +191,8 @@ impl Automaton for NFA {
     ghost dead = { λ n sid. nat_eq sid dead_id };
 
     ghost special = { λ n sid. is_special_in (is_some n.prefilter) n.special n.table.states sid };
+
+    ghost marked = { λ n sid. is_special_in false n.special n.table.states sid };
 
     ghost starts = { λ n sid. is_start_in n.special sid };
 
@@ -227,6 +229,10 @@ impl Automaton for NFA {
     /// Where a prefilter is held, each start is special too.
     fn is_special(&self, sid: StateID) -> bool {
         sid <= self.special.max_special_id
+    }
+
+    fn is_marked(&self, sid: StateID) -> bool {
+        sid <= self.special.max_match_id
     }
 
     fn is_dead(&self, sid: StateID) -> bool {
@@ -287,6 +293,8 @@ impl Automaton for NFA {
         alike_of p n.special n.table.states No word other sid };
 
     ghost plain = { λ n sid valid. plain_of (is_some n.prefilter) n.special n.table.states sid };
+
+    ghost unmarked = { λ n sid valid. plain_of false n.special n.table.states sid };
 
     ghost dead_shallow = { λ n sid valid. dead_shallow_of n.table.states sid n.sound };
 

@@ -182,6 +182,8 @@ impl Automaton for Hybrid {
 
     ghost special = { λ h sid. is_special_in h.rows sid };
 
+    ghost marked = { λ h sid. is_special_in h.rows sid };
+
     ghost starts = { λ h sid. nat_eq sid h.rows.start };
 
     ghost depth = { λ h sid. depth_in h.rows sid };
@@ -214,6 +216,10 @@ impl Automaton for Hybrid {
     }
 
     fn is_special(&self, sid: StateID) -> bool {
+        self.rows.is_special(sid)
+    }
+
+    fn is_marked(&self, sid: StateID) -> bool {
         self.rows.is_special(sid)
     }
 
@@ -272,6 +278,8 @@ impl Automaton for Hybrid {
     ghost alike = { λ h p word other sid of. alike_of h.rows h.sound p word other sid };
 
     ghost plain = { λ h sid valid. plain_of h.rows h.sound sid };
+
+    ghost unmarked = { λ h sid valid. plain_of h.rows h.sound sid };
 
     ghost dead_shallow = { λ h sid valid. dead_shallow_of h.rows h.sound sid };
 

@@ -74,6 +74,9 @@ pub trait Automaton {
     /// Whether a search has to look at the state: each dead state is special, and each that lists a pattern.
     ghost special: { Self → ℕ → Bool };
 
+    /// Whether a search that asks no prefilter has to look at the state: each dead state is marked, and each that lists a pattern.
+    ghost marked: { Self → ℕ → Bool };
+
     /// Whether the state is a start: an unanchored search that holds it again goes on as if it began there.
     ghost starts: { Self → ℕ → Bool };
 
@@ -138,6 +141,12 @@ pub trait Automaton {
     fn is_special(&self, sid: StateID) -> bool
         requires valid { valid self.now sid }
         ensures special { result ≡ special self.now sid };
+
+    /// Whether a search that asks no prefilter has to look at the state: each dead state is marked, and each that lists a
+    /// pattern. A start need not be, so such a search does not stop each time that it is led back there.
+    fn is_marked(&self, sid: StateID) -> bool
+        requires valid { valid self.now sid }
+        ensures marked { result ≡ marked self.now sid };
 
     /// Whether the state is dead, so that nothing that follows changes what was found.
     fn is_dead(&self, sid: StateID) -> bool
@@ -208,6 +217,10 @@ pub trait Automaton {
 
     /// A state that is not special is not dead, and lists no pattern.
     ghost plain: { (a : Self) (sid : ℕ) → valid a sid → special a sid ≡ false →
+        (dead a sid ≡ false) × (list a sid ≡ []) };
+
+    /// Nor is a state that is not marked, and it lists none.
+    ghost unmarked: { (a : Self) (sid : ℕ) → valid a sid → marked a sid ≡ false →
         (dead a sid ≡ false) × (list a sid ≡ []) };
 
     /// A dead state is no further than the start.

@@ -37,7 +37,7 @@
 //! look-ups are paid by depth: with each byte, the look-ups so far and the state's depth grow together by at most two.
 //! The depth is 0 at the start and never less. So a walk makes at most two look-ups for each byte that it reads.
 
-ghost use Rattle.std.specs.Prelude.{◌≡◌, ℕ, [], ◌+◌, ◌-◌, ◌*◌, ◌<◌, ◌≤◌, ◌^◌, IsOk, IfOk, IfErr, Ok, Err, None, Some, IsSome, Result, length, true};
+ghost use Rattle.std.specs.Prelude.{◌≡◌, ℕ, [], ◌+◌, ◌-◌, ◌*◌, ◌<◌, ◌≤◌, ◌^◌, IsOk, IfOk, IfErr, Ok, Err, None, Some, IsSome, Result, length, false, true};
 ghost use Rattle.aho_base.specs.Answer.{IsAnswer};
 ghost use Rattle.aho_base.specs.Laws.{Fits, first_is_answer, told};
 ghost use Rattle.aho_base.specs.Occurrence.{Occurrence};
@@ -95,6 +95,21 @@ fn stops_at_first<W: Walk>(walk: &W, earliest: bool) -> bool
     match walk.match_kind() {
         MatchKind::Standard => true,
         MatchKind::LeftmostFirst | MatchKind::LeftmostLongest => earliest,
+    }
+}
+
+/// Whether a walk has to look at a state: one that may wait at each special state, since a start may be one, and any other
+/// at the marked ones.
+#[inline(always)]
+pub fn looks_at<W: Walk>(walk: &W, may_wait: bool, sid: StateID) -> bool
+    requires valid { W.Of.valid (W.of walk.now) sid }
+    ensures plain { result ≡ false → (W.Of.dead (W.of walk.now) sid ≡ false)
+        × (W.Of.list (W.of walk.now) sid ≡ []) }
+{
+    if may_wait {
+        walk.is_special(sid)
+    } else {
+        walk.is_marked(sid)
     }
 }
 
@@ -170,7 +185,7 @@ fn find_from<W: Walk, T: Text>(
     for at in start..end {
         let byte = text.byte(at);
         sid = walk.step(anchored, sid, byte);
-        if walk.is_special(sid) {
+        if looks_at(walk, may_wait, sid) {
             if walk.is_dead(sid) {
                 return WalkEnd::Answer(best);
             }
@@ -185,6 +200,49 @@ fn find_from<W: Walk, T: Text>(
         }
     }
     WalkEnd::Answer(best)
+}
+
+/// The answer of a walk over a span that is not done, which does not wait.
+///
+/// Its clauses are those of `find_in`.
+fn find_to_end<W: Walk, T: Text>(
+    walk: &mut W,
+    text: &mut T,
+    span: Span,
+    anchored: Anchored,
+    earliest: bool,
+    sid: StateID,
+) -> Option<Match>
+    requires within { span.end ≤ length (T.bytes text.old) }
+    requires ordered { span.start ≤ span.end }
+    requires unread { T.next text.old ≤ span.start }
+    requires room { W.lookups walk.old + 2 * (span.end - span.start) < 2 ^ 128 }
+    requires of { (p : Patterns) × W.Of.is_of (W.of walk.old) p }
+    requires valid { W.Of.valid (W.of walk.old) sid }
+    requires shallow { W.Of.depth (W.of walk.old) sid ≡ 0 }
+    requires begins { (p : Patterns) → W.Of.is_of (W.of walk.old) p →
+        W.Of.held (W.of walk.old) p anchored [] sid }
+    ensures found { (p : Patterns) → W.Of.is_of (W.of walk.old) p →
+        IsAnswer p (search_of (T.bytes text.old) span anchored earliest) result }
+    ensures forward { T.next text.old ≤ T.next text.new }
+    ensures same_walk { W.of walk.new ≡ W.of walk.old }
+    ensures same_text { T.bytes text.new ≡ T.bytes text.old }
+    ensures cost { W.lookups walk.new ≤ W.lookups walk.old + 2 * (T.next text.new - span.start) }
+    ensures two_a_byte { W.lookups walk.new
+        ≤ W.lookups walk.old + 2 * (T.reads text.new - T.reads text.old) }
+    ensures grows { W.lookups walk.old ≤ W.lookups walk.new }
+    ensures reads_grow { T.reads text.old ≤ T.reads text.new }
+    ensures once { T.reads text.new - T.reads text.old ≤ T.next text.new - span.start }
+    ensures read { ReadsUpTo (T.next text.old) (T.next text.new) span.end }
+    ensures near { anchored ≡ No → (m : Occurrence) → result ≡ Some m →
+        ReadsNear W.Of.Automaton (W.of walk.old) T.Text text.old text.new earliest m }
+    ensures anchored_near { anchored ≡ Yes →
+        ReadsLongest W.Of.Automaton (W.of walk.old) T.Text text.old text.new span.start }
+{
+    match find_from(walk, text, span, anchored, earliest, false, sid) {
+        WalkEnd::Answer(found) => found,
+        WalkEnd::Waits(_) => unreachable!(),
+    }
 }
 
 /// Whether a search skips by the automaton's prefilter: no anchored one does.
@@ -272,8 +330,11 @@ fn find_skipping<W: Walk, T: Text>(
             return None;
         };
         patience = patience_after(patience, origin.wrapping_sub(at));
-        let (part, may_wait) = (Span { start: origin, end }, patience > 0);
-        match find_from(walk, text, part, Anchored::No, earliest, may_wait, sid) {
+        let part = Span { start: origin, end };
+        if patience == 0 {
+            return find_to_end(walk, text, part, Anchored::No, earliest, sid);
+        }
+        match find_from(walk, text, part, Anchored::No, earliest, true, sid) {
             WalkEnd::Answer(found) => return found,
             WalkEnd::Waits(place) => at = place,
         }
@@ -348,8 +409,5 @@ pub fn find_in<W: Walk, T: Text>(
     if skips(walk, anchored) {
         return Ok(find_skipping(walk, text, span, earliest, sid));
     }
-    match find_from(walk, text, span, anchored, earliest, false, sid) {
-        WalkEnd::Answer(found) => Ok(found),
-        WalkEnd::Waits(_) => unreachable!(),
-    }
+    Ok(find_to_end(walk, text, span, anchored, earliest, sid))
 }

@@ -120,6 +120,19 @@ fn stops_in<A: Automaton>(automaton: &A, may_wait: bool, sid: StateID) -> bool
     automaton.match_len(sid) > 0 || (may_wait && automaton.is_start(sid))
 }
 
+/// Whether a walk has to look at a state: one that may wait at each special state, and any other at the marked ones.
+fn looks_at<A: Automaton>(automaton: &A, may_wait: bool, sid: StateID) -> bool
+    requires valid { A.valid automaton.now sid }
+    ensures plain { result ≡ false
+        → (A.dead automaton.now sid ≡ false) × (A.list automaton.now sid ≡ []) }
+{
+    if may_wait {
+        automaton.is_special(sid)
+    } else {
+        automaton.is_marked(sid)
+    }
+}
+
 /// The next state that lists a pattern or, for a walk that may wait, that is a start, with the place where it is held; none
 /// where no more ends in the span.
 fn walk_to<A: Automaton>(
@@ -140,7 +153,7 @@ fn walk_to<A: Automaton>(
     let mut sid = sid;
     for place in at..input.end() {
         sid = automaton.next_state(anchored, sid, haystack[place]);
-        if automaton.is_special(sid) {
+        if looks_at(automaton, may_wait, sid) {
             if stops_in(automaton, may_wait, sid) {
                 return Some((sid, place + 1));
             }

@@ -61,6 +61,11 @@ pub trait Walk {
         requires valid { Self.Of.valid (of self.now) sid }
         ensures special { result ≡ Self.Of.special (of self.now) sid };
 
+    /// Whether a search that asks no prefilter has to look at the state.
+    fn is_marked(&self, sid: StateID) -> bool
+        requires valid { Self.Of.valid (of self.now) sid }
+        ensures marked { result ≡ Self.Of.marked (of self.now) sid };
+
     /// Whether the state is dead.
     fn is_dead(&self, sid: StateID) -> bool
         requires valid { Self.Of.valid (of self.now) sid }
@@ -141,6 +146,10 @@ impl<'a, A: Automaton> Walk for Counted<'a, A> {
 
     fn is_special(&self, sid: StateID) -> bool {
         self.automaton.is_special(sid)
+    }
+
+    fn is_marked(&self, sid: StateID) -> bool {
+        self.automaton.is_marked(sid)
     }
 
     fn is_dead(&self, sid: StateID) -> bool {

@@ -7,7 +7,7 @@ ghost use Rattle.aho_stream.specs.After.{settles};
 ghost use Rattle.aho_stream.specs.Walking.{IsHeldAt, WalksFrom, told_here};
 
 use aho_base::search::{Anchored, Match, MatchKind, StateID};
-use aho_search::find::told_at;
+use aho_search::find::{looks_at, told_at};
 use aho_search::walk::Walk;
 
 /// How far a walk over some bytes came.
@@ -97,7 +97,7 @@ pub fn walk_on<W: Walk>(
     let mut found = in_hand;
     for count in 0..bytes.len() {
         sid = walk.step(Anchored::No, sid, bytes[count]);
-        if walk.is_special(sid) {
+        if looks_at(walk, may_wait, sid) {
             found = better_at(walk, sid, at + count + 1, found);
             if ends_in(walk, may_wait, sid, &found) {
                 return Walked {

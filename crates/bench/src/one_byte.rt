@@ -53,6 +53,8 @@ impl Automaton for OneByte {
 
     ghost special = { λ one sid. true };
 
+    ghost marked = { λ one sid. true };
+
     ghost starts = { λ one sid. is_start_of_one sid };
 
     ghost depth = { λ one sid. 0 };
@@ -88,6 +90,10 @@ impl Automaton for OneByte {
     }
 
     fn is_special(&self, _sid: StateID) -> bool {
+        true
+    }
+
+    fn is_marked(&self, _sid: StateID) -> bool {
         true
     }
 
@@ -144,6 +150,8 @@ impl Automaton for OneByte {
     ghost alike = { λ one p word other sid of. alike_one one p word other sid };
 
     ghost plain = { λ one sid valid. all_special sid };
+
+    ghost unmarked = { λ one sid valid. all_special sid };
 
     ghost dead_shallow = { λ one sid valid dead. refl };
 

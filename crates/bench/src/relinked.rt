@@ -167,6 +167,8 @@ impl Automaton for Relinked {
 
     ghost special = { λ r sid. is_special_in false r.special r.table.states sid };
 
+    ghost marked = { λ r sid. is_special_in false r.special r.table.states sid };
+
     ghost starts = { λ r sid. is_start_in r.special sid };
 
     ghost depth = { λ r sid. depth_in r.table.states sid };
@@ -200,6 +202,10 @@ impl Automaton for Relinked {
 
     fn is_special(&self, sid: StateID) -> bool {
         sid == DEAD || self.table.match_len(sid) > 0
+    }
+
+    fn is_marked(&self, sid: StateID) -> bool {
+        self.is_special(sid)
     }
 
     fn is_dead(&self, sid: StateID) -> bool {
@@ -256,6 +262,8 @@ impl Automaton for Relinked {
         alike_of p r.special r.table.states No word other sid };
 
     ghost plain = { λ r sid valid. plain_of false r.special r.table.states sid };
+
+    ghost unmarked = { λ r sid valid. plain_of false r.special r.table.states sid };
 
     ghost dead_shallow = { λ r sid valid. dead_shallow_of r.table.states sid r.sound };
 

@@ -59,6 +59,8 @@ impl<A: Automaton> Automaton for Tally<A> {
 
     ghost special = { λ a sid. A.special a.automaton sid };
 
+    ghost marked = { λ a sid. A.marked a.automaton sid };
+
     ghost starts = { λ a sid. A.starts a.automaton sid };
 
     ghost depth = { λ a sid. A.depth a.automaton sid };
@@ -90,6 +92,10 @@ impl<A: Automaton> Automaton for Tally<A> {
 
     fn is_special(&self, sid: StateID) -> bool {
         self.automaton.is_special(sid)
+    }
+
+    fn is_marked(&self, sid: StateID) -> bool {
+        self.automaton.is_marked(sid)
     }
 
     fn is_dead(&self, sid: StateID) -> bool {
@@ -145,6 +151,8 @@ impl<A: Automaton> Automaton for Tally<A> {
     ghost alike = { λ a. A.alike a.automaton };
 
     ghost plain = { λ a. A.plain a.automaton };
+
+    ghost unmarked = { λ a. A.unmarked a.automaton };
 
     ghost dead_shallow = { λ a. A.dead_shallow a.automaton };
 

@@ -23,6 +23,8 @@ impl<A: Automaton> Automaton for &A {
 
     ghost special = { λ a sid. A.special a.now sid };
 
+    ghost marked = { λ a sid. A.marked a.now sid };
+
     ghost starts = { λ a sid. A.starts a.now sid };
 
     ghost depth = { λ a sid. A.depth a.now sid };
@@ -51,6 +53,10 @@ impl<A: Automaton> Automaton for &A {
 
     fn is_special(&self, sid: StateID) -> bool {
         (**self).is_special(sid)
+    }
+
+    fn is_marked(&self, sid: StateID) -> bool {
+        (**self).is_marked(sid)
     }
 
     fn is_dead(&self, sid: StateID) -> bool {
@@ -106,6 +112,8 @@ impl<A: Automaton> Automaton for &A {
     ghost alike = { λ a. A.alike a.now };
 
     ghost plain = { λ a. A.plain a.now };
+
+    ghost unmarked = { λ a. A.unmarked a.now };
 
     ghost dead_shallow = { λ a. A.dead_shallow a.now };
 

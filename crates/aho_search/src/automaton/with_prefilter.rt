@@ -57,6 +57,8 @@ impl<'a, A: Automaton> Automaton for WithPrefilter<'a, A> {
 
     ghost special = { λ a sid. A.special a.automaton.now sid || A.starts a.automaton.now sid };
 
+    ghost marked = { λ a sid. A.marked a.automaton.now sid };
+
     ghost starts = { λ a sid. A.starts a.automaton.now sid };
 
     ghost depth = { λ a sid. A.depth a.automaton.now sid };
@@ -85,6 +87,10 @@ impl<'a, A: Automaton> Automaton for WithPrefilter<'a, A> {
 
     fn is_special(&self, sid: StateID) -> bool {
         self.automaton.is_special(sid) || self.automaton.is_start(sid)
+    }
+
+    fn is_marked(&self, sid: StateID) -> bool {
+        self.automaton.is_marked(sid)
     }
 
     fn is_dead(&self, sid: StateID) -> bool {
@@ -140,6 +146,8 @@ impl<'a, A: Automaton> Automaton for WithPrefilter<'a, A> {
     ghost alike = { λ a p word other sid of. A.alike a.automaton.now p word other sid of.0 };
 
     ghost plain = { λ a sid valid plain. A.plain a.automaton.now sid valid (or_parts _ _ plain).0 };
+
+    ghost unmarked = { λ a. A.unmarked a.automaton.now };
 
     ghost dead_shallow = { λ a. A.dead_shallow a.automaton.now };
 

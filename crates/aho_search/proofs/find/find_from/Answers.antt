@@ -7,7 +7,7 @@ use Rattle.aho_search.proofs.Told.{is_none}
 use Rattle.aho_search.proofs.Walks.{Standing, stands_at_start, stands_silent, stands_unlisted, stands_first, stands_last, answer_at_end, answer_when_dead, answer_found, not_before, later, near_at_start, near_further, anchored_near_further}
 use Rattle.aho_search.proofs.Skipping.{waits_there}
 use Rattle.aho_search.proofs.find.find_from.Given.{Over}
-use Rattle.aho_search.proofs.find.find_from.Goals.{After-step-sid, Joined-else-stops, Joined-is_special, then-is_special+else-is_dead+in-Some+else-stops-2, then-is_special+else-is_dead+in_default+else-waits_in, else-is_special, else-stops-via-then-stops+else-is_some, else-stops-via-else-stops}
+use Rattle.aho_search.proofs.find.find_from.Goals.{After-step-sid, Joined-else-stops, Joined-looks_at, then-looks_at+else-is_dead+in-Some+else-stops-2, then-looks_at+else-is_dead+in_default+else-waits_in, else-looks_at, else-stops-via-then-stops+else-is_some, else-stops-via-else-stops}
 use Rattle.aho_search.proofs.find.find_from.Goals as goal
 
 -- a match that is told before the first byte is the answer of a search that stops there
@@ -69,36 +69,31 @@ returns-then-stops-2-clause-found g c p of =
     (later laws _ _ _ _ _ _ (omega arith) (omega arith) none stands)
     (stands_first laws _ _ _ _ _ _ _ _ (omega arith) (omega arith) (held_after g d p of) (rw (same_walk g d) at c.in-Some.ensures.told) none stands)
 
--- a state that is not special is neither dead nor lists a pattern
-plain : (g : Over) (c : After-step-sid g) → false ≡ g.W.Of.Automaton.special (g.W.Walk.of c.step-sid.new.self) c.step-sid.result
-    → (g.W.Of.Automaton.dead (g.W.Walk.of c.args.walk.now) c.step-sid.result ≡ false) × (g.W.Of.Automaton.list (g.W.Walk.of c.args.walk.now) c.step-sid.result ≡ [])
-plain g c other = rw c.loop-at.invariant.same_walk at (g.met.W.Of.Automaton.plain _ _ c.step-sid.ensures.valid (sym (rw c.step-sid.ensures.same at other)))
-
 -- after one more byte
-stood : (g : Over) (c : Joined-is_special g) (p : Patterns) → g.W.Of.Automaton.is_of (g.W.Walk.of c.args.walk.now) p
-    → Standing p (g.W.Of.Automaton.held (g.W.Walk.of c.args.walk.now) p) c.args.anchored (g.T.Text.bytes c.args.text.now) c.args.span.start (c.loop-at.at + 1) c.step-sid.result c.if-is_special.best
+stood : (g : Over) (c : Joined-looks_at g) (p : Patterns) → g.W.Of.Automaton.is_of (g.W.Walk.of c.args.walk.now) p
+    → Standing p (g.W.Of.Automaton.held (g.W.Walk.of c.args.walk.now) p) c.args.anchored (g.T.Text.bytes c.args.text.now) c.args.span.start (c.loop-at.at + 1) c.step-sid.result c.if-looks_at.best
 stood g c p of =
     let d = (goal.at.loop-at-preserved g c).After-step-sid in
     let laws = g.met.W.Of.Automaton.laws (g.W.Walk.of c.args.walk.now) p of in
     let stands = c.loop-at.invariant.stands p of in
     let held = held_after g d p of in
-    elim c.if-is_special.branch [
-      | then-is_special+else-is_dead+in-Some+else-stops-2 w ↦
+    elim c.if-looks_at.branch [
+      | then-looks_at+else-is_dead+in-Some+else-stops-2 w ↦
           stands_last laws _ _ _ c.args.earliest _ _ _ _ _ _ (cc (c.stops_at_first-stops.ensures.first, w.if-stops-2.false)) (omega arith) (omega arith) held (rw (same_walk g d) at w.in-Some.ensures.told) stands w.best-is
-      | then-is_special+else-is_dead+in_default+else-waits_in w ↦
+      | then-looks_at+else-is_dead+in_default+else-waits_in w ↦
           stands_silent laws _ _ _ _ _ _ _ _ (omega arith) (omega arith) held (rw (same_walk g d) at w.in_default.ensures.told) stands w.best-is
-      | else-is_special w ↦
-          stands_unlisted laws _ _ _ _ _ _ _ _ (omega arith) (omega arith) held (plain g d w.if-is_special.ensures.special).1 stands w.best-is
+      | else-looks_at w ↦
+          stands_unlisted laws _ _ _ _ _ _ _ _ (omega arith) (omega arith) held (rw (same_walk g d) at (w.if-looks_at.ensures.plain w.if-looks_at.false)).1 stands w.best-is
     ]
 
 -- a search that goes on is not at a dead state
-alive : (g : Over) (c : Joined-is_special g) → g.W.Of.Automaton.dead (g.W.Walk.of c.args.walk.now) c.step-sid.result ≡ false
+alive : (g : Over) (c : Joined-looks_at g) → g.W.Of.Automaton.dead (g.W.Walk.of c.args.walk.now) c.step-sid.result ≡ false
 alive g c =
     let d = (goal.at.loop-at-preserved g c).After-step-sid in
-    elim c.if-is_special.branch [
-      | then-is_special+else-is_dead+in-Some+else-stops-2 w ↦ sym (rw (same_walk g d) at w.if-is_dead.ensures.dead)
-      | then-is_special+else-is_dead+in_default+else-waits_in w ↦ sym (rw (same_walk g d) at w.if-is_dead.ensures.dead)
-      | else-is_special w ↦ (plain g d w.if-is_special.ensures.special).0
+    elim c.if-looks_at.branch [
+      | then-looks_at+else-is_dead+in-Some+else-stops-2 w ↦ sym (rw (same_walk g d) at w.if-is_dead.ensures.dead)
+      | then-looks_at+else-is_dead+in_default+else-waits_in w ↦ sym (rw (same_walk g d) at w.if-is_dead.ensures.dead)
+      | else-looks_at w ↦ (rw (same_walk g d) at (w.if-looks_at.ensures.plain w.if-looks_at.false)).0
     ]
 
 pub loop-at-preserved : goal.loop-at-preserved
@@ -114,10 +109,10 @@ loop-at-preserved g c =
       reads_grow = omega (arith, c.byte-byte.ensures.counted, c.loop-at.invariant.reads_grow);
       grows = omega (arith, c.step-sid.ensures.grows, c.loop-at.invariant.grows);
       valid = rw c.loop-at.invariant.same_walk at c.step-sid.ensures.valid;
-      quiet = λ stops. elim c.if-is_special.branch [
-        | then-is_special+else-is_dead+in-Some+else-stops-2 w ↦ cc (c.stops_at_first-stops.ensures.first, w.if-stops-2.false, stops)
-        | then-is_special+else-is_dead+in_default+else-waits_in w ↦ w.best-is ∙ c.loop-at.invariant.quiet stops
-        | else-is_special w ↦ w.best-is ∙ c.loop-at.invariant.quiet stops
+      quiet = λ stops. elim c.if-looks_at.branch [
+        | then-looks_at+else-is_dead+in-Some+else-stops-2 w ↦ cc (c.stops_at_first-stops.ensures.first, w.if-stops-2.false, stops)
+        | then-looks_at+else-is_dead+in_default+else-waits_in w ↦ w.best-is ∙ c.loop-at.invariant.quiet stops
+        | else-looks_at w ↦ w.best-is ∙ c.loop-at.invariant.quiet stops
       ];
       near = λ unanchored leftmost m e. near_further (g.met.W.Of.Automaton.laws _ _ c.requires.of.1) _ _ _ (c.loop-at.at + 1) _ _ m unanchored leftmost (omega arith) (alive g c) (stood g c _ c.requires.of.1) e;
       anchored_near = λ is_anchored. anchored_near_further (g.met.W.Of.Automaton.laws _ _ c.requires.of.1) _ _ _ (c.loop-at.at + 1) _ _ is_anchored (omega arith) (omega arith) (alive g c) (stood g c _ c.requires.of.1);

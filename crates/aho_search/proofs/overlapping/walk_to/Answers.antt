@@ -9,7 +9,7 @@ use Rattle.aho_search.specs.Overlaps.{NoneEnds, ends_at}
 use Rattle.aho_search.proofs.PartWay.{here_is, none_further, place_low, stands_further}
 use Rattle.aho_search.proofs.Endings.{nothing_here, dead_ends}
 use Rattle.aho_search.proofs.overlapping.walk_to.Given.{Over}
-use Rattle.aho_search.proofs.overlapping.walk_to.Goals.{After-next_state-sid, then-is_special+else-stops_in+else-has_ended, else-is_special}
+use Rattle.aho_search.proofs.overlapping.walk_to.Goals.{After-next_state-sid, then-looks_at+else-stops_in+else-has_ended, else-looks_at}
 use Rattle.aho_search.proofs.overlapping.walk_to.Goals as goal
 
 -- only an anchored search ends, in a dead state
@@ -57,9 +57,9 @@ loop-place-preserved g c =
       stands = stood g d;
       none = λ p of began.
           none_listed g d p of began
-          (elim c.if-is_special.branch [
-            | then-is_special+else-stops_in+else-has_ended w ↦ w.stops_in.ensures.goes_on w.if-stops_in.false
-            | else-is_special w ↦ (g.met.A.Automaton.plain c.args.automaton.now _ c.next_state-sid.ensures.valid (sym w.if-is_special.ensures.special)).1
+          (elim c.if-looks_at.branch [
+            | then-looks_at+else-stops_in+else-has_ended w ↦ w.stops_in.ensures.goes_on w.if-stops_in.false
+            | else-looks_at w ↦ (w.if-looks_at.ensures.plain w.if-looks_at.false).1
           ]);
     }
 

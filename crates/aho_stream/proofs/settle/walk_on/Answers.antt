@@ -10,7 +10,7 @@ use Rattle.aho_stream.specs.After.{is_settled}
 use Rattle.aho_stream.specs.Walking.{WalksOn}
 use Rattle.aho_stream.proofs.Walks.{best_of_more, one_more, still_unsettled, walks_all, walks_settled}
 use Rattle.aho_stream.proofs.settle.walk_on.Given.{Over}
-use Rattle.aho_stream.proofs.settle.walk_on.Goals.{After-step-sid, else-is_special, then-is_special+else-ends_in}
+use Rattle.aho_stream.proofs.settle.walk_on.Goals.{After-step-sid, else-looks_at, then-looks_at+else-ends_in}
 use Rattle.aho_stream.proofs.settle.walk_on.Goals as goal
 
 same_walk : (g : Over) (c : After-step-sid g) → g.W.Walk.of c.step-sid.new.self ≡ g.W.Walk.of c.args.walk.now
@@ -43,12 +43,6 @@ returns-clause-walks g c p word of place is_held is_best =
     subst (λ (n : ℕ). WalksOn p (g.W.Of.Automaton.lengths (g.W.Walk.of c.args.walk.now)) (g.W.Of.Automaton.held (g.W.Walk.of c.args.walk.now) p) word c.args.bytes.now (record { count = n; sid = c.loop-count.sid; found = c.loop-count.found })) all
     (walks_all (g.met.W.Of.Automaton.laws _ p of) word c.args.bytes.now c.loop-count.count c.args.at c.loop-count.sid c.loop-count.found place (inv.held p word of is_held) inv.going (inv.best p word of place is_held is_best) all)
 
--- a state that is not special is not dead and lists no pattern
-plain : (g : Over) (c : After-step-sid g) → false ≡ g.W.Of.Automaton.special (g.W.Walk.of c.step-sid.new.self) c.step-sid.result
-    → (g.W.Of.Automaton.dead (g.W.Walk.of c.args.walk.now) c.step-sid.result ≡ false) × (g.W.Of.Automaton.list (g.W.Walk.of c.args.walk.now) c.step-sid.result ≡ [])
-plain g c is =
-    let told = rw c.loop-count.invariant.same_walk at (g.met.W.Of.Automaton.plain _ _ c.step-sid.ensures.valid (sym (rw c.step-sid.ensures.same at is))) in (told.0, told.1)
-
 pub loop-count-preserved : goal.loop-count-preserved
 loop-count-preserved g c =
     let d = (goal.at.loop-count-preserved g c).After-step-sid in
@@ -58,19 +52,19 @@ loop-count-preserved g c =
       same_walk = same_walk g d;
       valid = rw inv.same_walk at c.step-sid.ensures.valid;
       paid = omega (arith, rw inv.same_walk at c.step-sid.ensures.cost, inv.paid);
-      going = elim c.if-is_special.branch [
-        | else-is_special w ↦ subst (λ (found : Option Occurrence). is_settled (g.W.Of.Automaton.kind automaton) (g.W.Of.Automaton.dead automaton c.step-sid.result) found ≡ false) (sym w.found-is)
-            (still_unsettled _ _ _ c.loop-count.found inv.going (plain g d w.if-is_special.ensures.special).0)
-        | then-is_special+else-ends_in w ↦ subst (λ (found : Option Occurrence). is_settled (g.W.Of.Automaton.kind automaton) (g.W.Of.Automaton.dead automaton c.step-sid.result) found ≡ false) (sym w.found-is)
+      going = elim c.if-looks_at.branch [
+        | else-looks_at w ↦ subst (λ (found : Option Occurrence). is_settled (g.W.Of.Automaton.kind automaton) (g.W.Of.Automaton.dead automaton c.step-sid.result) found ≡ false) (sym w.found-is)
+            (still_unsettled _ _ _ c.loop-count.found inv.going (rw (same_walk g d) at (w.if-looks_at.ensures.plain w.if-looks_at.false)).0)
+        | then-looks_at+else-ends_in w ↦ subst (λ (found : Option Occurrence). is_settled (g.W.Of.Automaton.kind automaton) (g.W.Of.Automaton.dead automaton c.step-sid.result) found ≡ false) (sym w.found-is)
             ((rw (same_walk g d) at w.if-ends_in.ensures.going) refl)
       ];
       held = λ p word of is_held. held_more g d p word of is_held;
       best = λ p word of place is_held is_best.
           subst (λ (best : Option Occurrence). BestAfter p No (word ++ take (c.loop-count.count + 1) c.args.bytes.now) best)
-          (elim c.if-is_special.branch [
-            | else-is_special w ↦ ap (λ (list : List ℕ). better (g.W.Of.Automaton.kind automaton) c.loop-count.found (told (g.W.Of.Automaton.lengths automaton) No 0 (c.args.at + c.loop-count.count + 1) list)) (plain g d w.if-is_special.ensures.special).1
+          (elim c.if-looks_at.branch [
+            | else-looks_at w ↦ ap (λ (list : List ℕ). better (g.W.Of.Automaton.kind automaton) c.loop-count.found (told (g.W.Of.Automaton.lengths automaton) No 0 (c.args.at + c.loop-count.count + 1) list)) (rw (same_walk g d) at (w.if-looks_at.ensures.plain w.if-looks_at.false)).1
                 ∙ better-none _ c.loop-count.found ∙ sym w.found-is
-            | then-is_special+else-ends_in w ↦ sym (rw (same_walk g d) at w.better_at-found.ensures.better) ∙ sym w.found-is
+            | then-looks_at+else-ends_in w ↦ sym (rw (same_walk g d) at w.better_at-found.ensures.better) ∙ sym w.found-is
           ])
           (best_more g d p word of place is_held is_best);
     }

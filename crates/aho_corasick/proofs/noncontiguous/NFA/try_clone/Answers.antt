@@ -37,6 +37,7 @@ returns c =
         same_list = search rules;
         same_dead = search rules;
         same_special = search rules;
+        same_marked = search rules;
         same_starts = search rules;
         same_depth = search rules;
         same_next = search rules;

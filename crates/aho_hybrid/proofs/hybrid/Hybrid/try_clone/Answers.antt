@@ -38,6 +38,7 @@ returns c =
         same_list = ap list_in rows;
         same_dead = search rules;
         same_special = ap is_special_in rows;
+        same_marked = ap is_special_in rows;
         same_starts = ap starts rows;
         same_depth = ap depth_in rows;
         same_next = ap next rows;
