@@ -75,14 +75,14 @@ fn search_skipping<W: Walk>(walk: &mut W, progress: &mut StreamProgress)
     ensures same { W.of walk.new ≡ W.of walk.old }
     ensures others { OnlyWalks progress.old progress.new }
 {
-    loop {
+    while may_wait(walk, progress) {
         skip(walk, progress);
-        let waits = may_wait(walk, progress);
-        walk_further(walk, progress, waits);
+        walk_further(walk, progress, true);
         if is_searched(walk, progress) {
             return;
         }
     }
+    walk_further(walk, progress, false);
 }
 
 /// Walks on over what was read and not walked yet, until the match in hand is settled.

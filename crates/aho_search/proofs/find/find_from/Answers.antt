@@ -83,7 +83,7 @@ stood g c p of =
       | then-looks_at+else-is_dead+in_default+else-waits_in w ↦
           stands_silent laws _ _ _ _ _ _ _ _ (omega arith) (omega arith) held (rw (same_walk g d) at w.in_default.ensures.told) stands w.best-is
       | else-looks_at w ↦
-          stands_unlisted laws _ _ _ _ _ _ _ _ (omega arith) (omega arith) held (rw (same_walk g d) at (w.if-looks_at.ensures.plain w.if-looks_at.false)).1 stands w.best-is
+          stands_unlisted laws _ _ _ _ _ _ _ _ (omega arith) (omega arith) held (rw (same_walk g d) at (w.if-looks_at.ensures.plain refl)).1 stands w.best-is
     ]
 
 -- a search that goes on is not at a dead state
@@ -93,7 +93,7 @@ alive g c =
     elim c.if-looks_at.branch [
       | then-looks_at+else-is_dead+in-Some+else-stops-2 w ↦ sym (rw (same_walk g d) at w.if-is_dead.ensures.dead)
       | then-looks_at+else-is_dead+in_default+else-waits_in w ↦ sym (rw (same_walk g d) at w.if-is_dead.ensures.dead)
-      | else-looks_at w ↦ (rw (same_walk g d) at (w.if-looks_at.ensures.plain w.if-looks_at.false)).0
+      | else-looks_at w ↦ (rw (same_walk g d) at (w.if-looks_at.ensures.plain refl)).0
     ]
 
 pub loop-at-preserved : goal.loop-at-preserved

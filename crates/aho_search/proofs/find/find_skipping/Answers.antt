@@ -20,6 +20,13 @@ returns-in-Answer-clause-found g c p of =
     let found = rw (c.skips.invariant.same_walk, c.skips.invariant.same_text) at c.in-Answer.ensures.found in
     answer_from_origin p (g.T.Text.bytes c.args.text.now) c.args.span.start c.in-Some.origin c.args.span.end (omega (arith, told.0, c.skips.invariant.after_start)) c.args.earliest _ told.2 (found p of)
 
+pub returns-then-patience-eq0-clause-found : goal.returns-then-patience-eq0-clause-found
+returns-then-patience-eq0-clause-found g c p of =
+    let is = rw (c.skips.invariant.same_walk, c.skips.invariant.same_text) at c.candidate_in-candidate.ensures.candidate in
+    let told = origin_of p (g.T.Text.bytes c.args.text.now) c.args.span.start c.args.span.end c.skips.at c.in-Some.origin c.candidate_in-candidate.result (c.skips.invariant.carries p of) (is p of) (sym c.into_option.ensures.place ∙ c.in-Some.is) in
+    let found = rw (c.skips.invariant.same_walk, c.skips.invariant.same_text) at c.find_to_end.ensures.found in
+    answer_from_origin p (g.T.Text.bytes c.args.text.now) c.args.span.start c.in-Some.origin c.args.span.end (omega (arith, told.0, c.skips.invariant.after_start)) c.args.earliest _ told.2 (found p of)
+
 pub skips-preserved : goal.skips-preserved
 skips-preserved g c =
     let bytes : List ℕ = g.T.Text.bytes c.args.text.now in

@@ -59,7 +59,7 @@ loop-place-preserved g c =
           none_listed g d p of began
           (elim c.if-looks_at.branch [
             | then-looks_at+else-stops_in+else-has_ended w ↦ w.stops_in.ensures.goes_on w.if-stops_in.false
-            | else-looks_at w ↦ (w.if-looks_at.ensures.plain w.if-looks_at.false).1
+            | else-looks_at w ↦ (w.if-looks_at.ensures.plain refl).1
           ]);
     }
 

@@ -54,7 +54,7 @@ loop-count-preserved g c =
       paid = omega (arith, rw inv.same_walk at c.step-sid.ensures.cost, inv.paid);
       going = elim c.if-looks_at.branch [
         | else-looks_at w ↦ subst (λ (found : Option Occurrence). is_settled (g.W.Of.Automaton.kind automaton) (g.W.Of.Automaton.dead automaton c.step-sid.result) found ≡ false) (sym w.found-is)
-            (still_unsettled _ _ _ c.loop-count.found inv.going (rw (same_walk g d) at (w.if-looks_at.ensures.plain w.if-looks_at.false)).0)
+            (still_unsettled _ _ _ c.loop-count.found inv.going (rw (same_walk g d) at (w.if-looks_at.ensures.plain refl)).0)
         | then-looks_at+else-ends_in w ↦ subst (λ (found : Option Occurrence). is_settled (g.W.Of.Automaton.kind automaton) (g.W.Of.Automaton.dead automaton c.step-sid.result) found ≡ false) (sym w.found-is)
             ((rw (same_walk g d) at w.if-ends_in.ensures.going) refl)
       ];
@@ -62,7 +62,7 @@ loop-count-preserved g c =
       best = λ p word of place is_held is_best.
           subst (λ (best : Option Occurrence). BestAfter p No (word ++ take (c.loop-count.count + 1) c.args.bytes.now) best)
           (elim c.if-looks_at.branch [
-            | else-looks_at w ↦ ap (λ (list : List ℕ). better (g.W.Of.Automaton.kind automaton) c.loop-count.found (told (g.W.Of.Automaton.lengths automaton) No 0 (c.args.at + c.loop-count.count + 1) list)) (rw (same_walk g d) at (w.if-looks_at.ensures.plain w.if-looks_at.false)).1
+            | else-looks_at w ↦ ap (λ (list : List ℕ). better (g.W.Of.Automaton.kind automaton) c.loop-count.found (told (g.W.Of.Automaton.lengths automaton) No 0 (c.args.at + c.loop-count.count + 1) list)) (rw (same_walk g d) at (w.if-looks_at.ensures.plain refl)).1
                 ∙ better-none _ c.loop-count.found ∙ sym w.found-is
             | then-looks_at+else-ends_in w ↦ sym (rw (same_walk g d) at w.better_at-found.ensures.better) ∙ sym w.found-is
           ])
