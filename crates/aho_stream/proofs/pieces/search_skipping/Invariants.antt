@@ -4,8 +4,8 @@ use Rattle.aho_stream.specs.After.{IsUnsettled, OnlyWalks, StaysAfter}
 use Rattle.aho_stream.proofs.pieces.search_skipping.Given as goal
 
 -- Over the same automaton: the search has come so far, and the match in hand is not settled.
-abbrev pub invariant-loop-waits : goal.invariant-loop-waits
-invariant-loop-waits g l =
+abbrev pub invariant-loop-walk : goal.invariant-loop-walk
+invariant-loop-walk g l =
     let automaton = g.W.Walk.of l.initial.walk in
     record {
       same_walk : g.W.Walk.of l.walk ≡ automaton;
@@ -14,5 +14,5 @@ invariant-loop-waits g l =
       going : IsUnsettled g.W.Of.Automaton automaton l.progress;
     }
 
-abbrev pub decreases-loop-waits : goal.decreases-loop-waits
-decreases-loop-waits g l = l.progress.read - l.progress.walked
+abbrev pub decreases-loop-walk : goal.decreases-loop-walk
+decreases-loop-walk g l = l.progress.read - l.progress.walked
