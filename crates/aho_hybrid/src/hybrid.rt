@@ -162,8 +162,8 @@ impl Automaton for Hybrid {
     ghost use Rattle.std.specs.Prelude.{ℕ, IfSome, nat_eq};
     ghost use Rattle.aho_base.specs.Patterns.{Patterns};
     ghost use Rattle.aho_prefilter.specs.Prefilter.{IsPrefilterOf};
-    ghost use Rattle.aho_hybrid.specs.Layout.{IsStateIn, IsHeldIn, depth_in, is_special_in, lookups_in, next_in, list_in, start_in, memory_in};
-    ghost use Rattle.aho_hybrid.specs.Reading.{IsLayoutOf, alike_of, reads_of, plain_of, dead_shallow_of, starts_shallow_of};
+    ghost use Rattle.aho_hybrid.specs.Layout.{IsStateIn, IsHeldIn, depth_in, is_marked_in, is_special_in, lookups_in, next_in, list_in, start_in, memory_in};
+    ghost use Rattle.aho_hybrid.specs.Reading.{IsLayoutOf, alike_of, reads_of, plain_of, unmarked_of, dead_shallow_of, starts_shallow_of};
 
     ghost is_of = { λ h p. IsLayoutOf h.rows p h.match_kind h.pattern_lens.items
         × IfSome h.prefilter (λ searcher. IsPrefilterOf searcher p) };
@@ -182,7 +182,7 @@ impl Automaton for Hybrid {
 
     ghost special = { λ h sid. is_special_in h.rows sid };
 
-    ghost marked = { λ h sid. is_special_in h.rows sid };
+    ghost marked = { λ h sid. is_marked_in h.rows sid };
 
     ghost starts = { λ h sid. nat_eq sid h.rows.start };
 
@@ -220,7 +220,7 @@ impl Automaton for Hybrid {
     }
 
     fn is_marked(&self, sid: StateID) -> bool {
-        self.rows.is_special(sid)
+        self.rows.is_marked(sid)
     }
 
     fn is_dead(&self, sid: StateID) -> bool {
@@ -279,7 +279,7 @@ impl Automaton for Hybrid {
 
     ghost plain = { λ h sid valid. plain_of h.rows h.sound sid };
 
-    ghost unmarked = { λ h sid valid. plain_of h.rows h.sound sid };
+    ghost unmarked = { λ h sid valid. unmarked_of h.rows h.sound sid };
 
     ghost dead_shallow = { λ h sid valid. dead_shallow_of h.rows h.sound sid };
 

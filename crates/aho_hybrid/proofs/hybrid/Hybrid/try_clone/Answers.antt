@@ -6,7 +6,7 @@ use Rattle.aho_base.specs.Patterns.{Patterns}
 use Rattle.aho_base.specs.declared.search.Anchored.{Anchored}
 use Rattle.aho_prefilter.specs.Prefilter.{IsPrefilterOf}
 use Rattle.aho_prefilter.specs.declared.prefilter.Searcher.{Searcher}
-use Rattle.aho_hybrid.specs.Layout.{IsHeldIn, IsStateIn, Layout, depth_in, is_special_in, list_in, lookups_in, memory_in, next_in, start_in}
+use Rattle.aho_hybrid.specs.Layout.{IsHeldIn, IsStateIn, Layout, depth_in, is_marked_in, is_special_in, list_in, lookups_in, memory_in, next_in, start_in}
 use Rattle.aho_hybrid.specs.Reading.{IsLayoutOf}
 use Rattle.aho_hybrid.proofs.hybrid.Hybrid.try_clone.Goals as goal
 
@@ -38,7 +38,7 @@ returns c =
         same_list = ap list_in rows;
         same_dead = search rules;
         same_special = ap is_special_in rows;
-        same_marked = ap is_special_in rows;
+        same_marked = ap is_marked_in rows;
         same_starts = ap starts rows;
         same_depth = ap depth_in rows;
         same_next = ap next rows;
