@@ -38,6 +38,7 @@ module _ (plan : Parts) (words : ℕ) (planned : IsPlan plan words) (filled : Fi
     classes = plan.classes;
     start = number_in plan root;
     low = filled.low;
+    list_low = filled.list_low;
     deep_low = filled.deep_low;
   }
 
@@ -246,7 +247,8 @@ module _ (plan : Parts) (words : ℕ) (planned : IsPlan plan words) (filled : Fi
         ∙ entry-of 0 class sound.dead_state.0 dead-shallow within
         ∙ ap (number_in plan) ((done.rows.step 0 class sound.dead_state.0 dead-shallow within).dead_stays refl)
         ∙ number-dead;
-    dead_special = done.rows.some;
+    dead_marked = done.rows.some;
+    marked_special = done.special;
   }
     where
       first : (class : ℕ) → class ≡ number_in plan 0 + class
@@ -368,10 +370,10 @@ module _ (plan : Parts) (words : ℕ) (planned : IsPlan plan words) (filled : Fi
           ]
 
 -- two layouts are one where their borders and starts are
-pub same-layout : (rows deep moves lists : List ℕ) (classes classes' : List Bool) (start start' low deep_low : ℕ) → classes ≡ classes' → start ≡ start'
-    → let one : Layout = record { rows = rows; deep = deep; moves = moves; lists = lists; classes = classes; start = start; low = low; deep_low = deep_low } in
-    let other : Layout = record { rows = rows; deep = deep; moves = moves; lists = lists; classes = classes'; start = start'; low = low; deep_low = deep_low } in
+pub same-layout : (rows deep moves lists : List ℕ) (classes classes' : List Bool) (start start' low list_low deep_low : ℕ) → classes ≡ classes' → start ≡ start'
+    → let one : Layout = record { rows = rows; deep = deep; moves = moves; lists = lists; classes = classes; start = start; low = low; list_low = list_low; deep_low = deep_low } in
+    let other : Layout = record { rows = rows; deep = deep; moves = moves; lists = lists; classes = classes'; start = start'; low = low; list_low = list_low; deep_low = deep_low } in
     one ≡ other
-same-layout rows deep moves lists classes classes' start start' low deep_low classes_are start_is =
-    ap (λ (cs : List Bool). record { rows = rows; deep = deep; moves = moves; lists = lists; classes = cs; start = start; low = low; deep_low = deep_low }) classes_are
-    ∙ ap (λ (n : ℕ). record { rows = rows; deep = deep; moves = moves; lists = lists; classes = classes'; start = n; low = low; deep_low = deep_low }) start_is
+same-layout rows deep moves lists classes classes' start start' low list_low deep_low classes_are start_is =
+    ap (λ (cs : List Bool). record { rows = rows; deep = deep; moves = moves; lists = lists; classes = cs; start = start; low = low; list_low = list_low; deep_low = deep_low }) classes_are
+    ∙ ap (λ (n : ℕ). record { rows = rows; deep = deep; moves = moves; lists = lists; classes = classes'; start = n; low = low; list_low = list_low; deep_low = deep_low }) start_is

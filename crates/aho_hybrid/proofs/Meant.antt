@@ -35,7 +35,7 @@ use Rattle.aho_hybrid.proofs.Made.{child-of, deep-of, entry-of, layout, link-of,
 use Rattle.aho_hybrid.proofs.Stepping.{told-none, told-some}
 use Rattle.aho_hybrid.specs.declared.fill.Filled.{Filled}
 use Rattle.aho_hybrid.specs.Filled.{AreFirst, IsDeepState, IsFilled, IsPlan, IsShallow, Parts, is_deep, leads_in, number_in, source_of}
-use Rattle.aho_hybrid.specs.Layout.{IsSoundLayout, Layout, along, child_in, depth_in as height_in, is_row, is_special_in, link_in, list_from, list_in, list_place, next_in as led_in, run_from, standing_in, stride_of}
+use Rattle.aho_hybrid.specs.Layout.{IsSoundLayout, Layout, along, child_in, depth_in as height_in, is_row, is_marked_in, link_in, list_from, list_in, list_place, next_in as led_in, run_from, standing_in, stride_of}
 use Rattle.aho_hybrid.specs.Reading.{IsLayoutOf, along-child, along-link, along-row, deep-test, row-test}
 
 -- what holds of all holds of those behind some
@@ -186,23 +186,23 @@ module _ (plan : Parts) (words : ℕ) (planned : IsPlan plan words) (filled : Fi
       let at = place-of plan words planned filled done starts sound s below in
       let there : list_from t.lists (list_place t (number_in plan s)) ≡ matches_in plan.states s =
       ap (list_from t.lists) at.1 ∙ list-at t.lists at.0 (matches_in plan.states (source_of plan s)) at.2 ∙ ap (matches_in plan.states) own in
-      elim (cases_Bool (is_special_in t (number_in plan s))) [
-        | inl special ↦ cond-true (is_special_in t (number_in plan s)) (list_from t.lists (list_place t (number_in plan s))) [] special ∙ there
+      elim (cases_Bool (is_marked_in t (number_in plan s))) [
+        | inl special ↦ cond-true (is_marked_in t (number_in plan s)) (list_from t.lists (list_place t (number_in plan s))) [] special ∙ there
         | inr plain ↦
-            cond-false (is_special_in t (number_in plan s)) (list_from t.lists (list_place t (number_in plan s))) [] plain
+            cond-false (is_marked_in t (number_in plan s)) (list_from t.lists (list_place t (number_in plan s))) [] plain
             ∙ sym (ap (matches_in plan.states) (sym own) ∙ unlisted plain)
       ]
     where
-      unlisted : is_special_in t (number_in plan s) ≡ false → matches_in plan.states (source_of plan s) ≡ []
+      unlisted : is_marked_in t (number_in plan s) ≡ false → matches_in plan.states (source_of plan s) ≡ []
       unlisted plain =
           elim (cases_Bool (is_deep plan.row_depth (state_at plan.states s))) [
             | inl deep ↦
                 let test = deep-test t (number_in plan s) (deep-of plan words planned filled done starts sound s below deep) in
-                let high : nat_lt (number_in plan s) t.deep_low ≡ false = sym (cond-false (is_row t (number_in plan s)) (nat_lt (number_in plan s) t.low) (nat_lt (number_in plan s) t.deep_low) test) ∙ plain in
+                let high : nat_lt (number_in plan s) t.deep_low ≡ false = sym (cond-false (is_row t (number_in plan s)) (nat_lt (number_in plan s) t.list_low) (nat_lt (number_in plan s) t.deep_low) test) ∙ plain in
                 done.records.others s below deep (grind (arith, nat_tests))
             | inr shallow ↦
                 let test = row-test t (number_in plan s) (row-of plan words planned filled done starts sound s below shallow) in
-                let high : nat_lt (number_in plan s) t.low ≡ false = sym (cond-true (is_row t (number_in plan s)) (nat_lt (number_in plan s) t.low) (nat_lt (number_in plan s) t.deep_low) test) ∙ plain in
+                let high : nat_lt (number_in plan s) t.list_low ≡ false = sym (cond-true (is_row t (number_in plan s)) (nat_lt (number_in plan s) t.list_low) (nat_lt (number_in plan s) t.deep_low) test) ∙ plain in
                 let same = number-row plan words planned filled done starts sound s below shallow in
                 done.rows.others s below shallow (grind (arith, nat_tests))
           ]

@@ -257,5 +257,6 @@ pub record AreRecords (plan : Parts) (count : ℕ) (deep moves lists : List ℕ)
 
 -- the states below the count
 pub record IsFilled (plan : Parts) (count : ℕ) (filled : Filled) : Type 0 where
-  pub rows : AreRows plan count filled.entries.items filled.lists.items filled.low
+  pub rows : AreRows plan count filled.entries.items filled.lists.items filled.list_low
   pub records : AreRecords plan count filled.deep.items filled.moves.items filled.lists.items filled.deep_low
+  pub special : filled.list_low ≤ filled.low

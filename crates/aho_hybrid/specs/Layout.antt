@@ -13,7 +13,8 @@ use Rattle.aho_prefilter.specs.declared.prefilter.Searcher.{Searcher}
 use Rattle.aho_table.specs.Alphabet.{class_of, class_count}
 
 -- the rows, one behind the other; the records of the deep states, and their transitions; the lists of patterns; the borders
--- between the classes of bytes; the start; and the numbers below which the states with rows and the deep ones are special
+-- between the classes of bytes; the start; and the numbers below which a state with a row is special, may list a pattern or is
+-- dead, and below which a deep state does all of it
 pub record Layout : Type 0 where
   pub rows : List ℕ
   pub deep : List ℕ
@@ -22,6 +23,7 @@ pub record Layout : Type 0 where
   pub classes : List Bool
   pub start : ℕ
   pub low : ℕ
+  pub list_low : ℕ
   pub deep_low : ℕ
 
 -- the entries of a row: where each class of bytes leads, and one more that says where the state's list stands
@@ -117,9 +119,13 @@ list_place t sid = if is_row t sid then slice_index_or t.rows (sid + class_count
 abbrev pub is_special_in : Layout → ℕ → Bool
 is_special_in t sid = if is_row t sid then nat_lt sid t.low else nat_lt sid t.deep_low
 
--- what a state lists: only special ones list a pattern
+-- whether the state is dead or may list a pattern
+abbrev pub is_marked_in : Layout → ℕ → Bool
+is_marked_in t sid = if is_row t sid then nat_lt sid t.list_low else nat_lt sid t.deep_low
+
+-- what a state lists: only marked ones list a pattern
 abbrev pub list_in : Layout → ℕ → List ℕ
-list_in t sid = if is_special_in t sid then list_from t.lists (list_place t sid) else []
+list_in t sid = if is_marked_in t sid then list_from t.lists (list_place t sid) else []
 
 -- the state after a word, from a state on
 abbrev pub run_from : Layout → ℕ → List ℕ → ℕ
@@ -148,14 +154,16 @@ start_in t Yes = Err InvalidInputAnchored
 abbrev pub lookups_in : Layout → Patterns → List ℕ → ℕ → ℕ
 lookups_in t p word byte = looks_in t (standing_in t (held_after p No word)) byte
 
--- each entry of a row leads to a state, one below the rows at most, and the state 0 leads to itself by every byte
+-- each entry of a row leads to a state, one below the rows at most, and the state 0 leads to itself by every byte; it is marked, and
+-- what is marked is special
 pub record IsSoundRows (t : Layout) : Type 0 where
   pub dead : HasRow t 0
   pub start : HasRow t t.start
   pub next : (sid class : ℕ) → HasRow t sid → class < class_count t.classes → IsStateIn t (slice_index_or t.rows (sid + class) 0)
   pub near : (sid class : ℕ) → HasRow t sid → class < class_count t.classes → depth_in t (slice_index_or t.rows (sid + class) 0) ≤ 1
   pub dead_stays : (class : ℕ) → class < class_count t.classes → slice_index_or t.rows class 0 ≡ 0
-  pub dead_special : 0 < t.low
+  pub dead_marked : 0 < t.list_low
+  pub marked_special : t.list_low ≤ t.low
 
 -- a transition of a deep state leads to a state, one deeper at most; a link is followed only to one less deep
 pub record IsSoundDeep (t : Layout) : Type 0 where

@@ -1,6 +1,6 @@
 -- What it means that a layout is the automaton of some patterns, and the laws that follow.
 use Rattle.std.proofs.Common.{◌≡◌, ◌⊎◌, ℕ, zero, suc, ◌+◌, ◌<◌, ◌≤◌, arith, true, false, inl, inr, List, [], ◌∷◌, ◌++◌, length, map, refl, sym, subst, ◌∙◌, ap, nat_eq, eqb-true, ne_eqb, get_or}
-use Rattle.std.proofs.lemmas.Bool.{both_ways, cases_Bool, cond-true, cond-false, lt-ltb, le-ltb}
+use Rattle.std.proofs.lemmas.Bool.{both_ways, cases_Bool, cond-true, cond-false, lt-ltb, le-ltb, ltb-false}
 use Rattle.std.proofs.lemmas.List.Elements.{All-nil, All-push}
 use Rattle.std.specs.Prelude.{Option, Some, None, is_none, is_some, nat_lt, ◌||◌, if◌then◌else◌}
 use Rattle.std.specs.List.{All}
@@ -17,7 +17,7 @@ use Rattle.aho_laws.proofs.NamedStates.{reads_by_words}
 use Rattle.aho_laws.proofs.StepLaw.{held_after-push}
 use Rattle.aho_table.proofs.Classes.{class_of-count}
 use Rattle.aho_table.specs.Alphabet.{class_of}
-use Rattle.aho_hybrid.specs.Layout.{HasRow, IsDeep, Layout, IsSoundLayout, IsReached, IsStateIn, IsHeldIn, along, child_in, depth_in, entry_in, is_row, is_special_in, link_in, list_from, list_in, list_place, looks_along, looks_in, lookups_in, next_in, run_from, standing_in, told_or, word_in}
+use Rattle.aho_hybrid.specs.Layout.{HasRow, IsDeep, Layout, IsSoundLayout, IsReached, IsStateIn, IsHeldIn, along, child_in, depth_in, entry_in, is_marked_in, is_row, is_special_in, link_in, list_from, list_in, list_place, looks_along, looks_in, lookups_in, next_in, run_from, standing_in, told_or, word_in}
 
 -- after each word the state that is held lists what the word does, and is dead where it is; the start is held again only where
 -- nothing of the word is left; it stands where the word's state does; and the dead state lists nothing
@@ -220,15 +220,31 @@ module _ (t : Layout) (sound : IsSoundLayout t) where
   held-looks p No word sid byte held = ap (λ (n : ℕ). looks_in t n byte) held.1
   held-looks p Yes word sid byte held = absurd held
 
-  -- a state that is not special is not dead, and lists nothing
-  pub plain_of : (sid : ℕ) → is_special_in t sid ≡ false → (nat_eq sid 0 ≡ false) × (list_in t sid ≡ [])
-  plain_of sid high = (
+  -- a state that is not marked is not dead, and lists nothing
+  pub unmarked_of : (sid : ℕ) → is_marked_in t sid ≡ false → (nat_eq sid 0 ≡ false) × (list_in t sid ≡ [])
+  unmarked_of sid high = (
     ne_eqb sid 0
         (λ e.
-        both_ways (is_special_in t sid) high
-        (ap (is_special_in t) e ∙ cond-true (is_row t 0) (nat_lt 0 t.low) (nat_lt 0 t.deep_low) (row-test t 0 sound.in_rows.dead) ∙ lt-ltb 0 t.low sound.in_rows.dead_special)),
-    cond-false (is_special_in t sid) (list_from t.lists (list_place t sid)) [] high,
+        both_ways (is_marked_in t sid) high
+        (ap (is_marked_in t) e ∙ cond-true (is_row t 0) (nat_lt 0 t.list_low) (nat_lt 0 t.deep_low) (row-test t 0 sound.in_rows.dead) ∙ lt-ltb 0 t.list_low sound.in_rows.dead_marked)),
+    cond-false (is_marked_in t sid) (list_from t.lists (list_place t sid)) [] high,
   )
+
+  -- nor is one that is not special
+  plain-unmarked : (sid : ℕ) → is_special_in t sid ≡ false → is_marked_in t sid ≡ false
+  plain-unmarked sid high =
+      elim (cases_Bool (is_row t sid)) [
+        | inl row ↦
+            let past : nat_lt sid t.low ≡ false = sym (cond-true (is_row t sid) (nat_lt sid t.low) (nat_lt sid t.deep_low) row) ∙ high in
+            cond-true (is_row t sid) (nat_lt sid t.list_low) (nat_lt sid t.deep_low) row
+            ∙ le-ltb sid t.list_low (omega (arith, sound.in_rows.marked_special, ltb-false sid t.low past))
+        | inr deep ↦
+            cond-false (is_row t sid) (nat_lt sid t.list_low) (nat_lt sid t.deep_low) deep
+            ∙ sym (cond-false (is_row t sid) (nat_lt sid t.low) (nat_lt sid t.deep_low) deep) ∙ high
+      ]
+
+  pub plain_of : (sid : ℕ) → is_special_in t sid ≡ false → (nat_eq sid 0 ≡ false) × (list_in t sid ≡ [])
+  plain_of sid high = unmarked_of sid (plain-unmarked sid high)
 
   -- a dead state and the start have rows
   pub dead_shallow_of : (sid : ℕ) → nat_eq sid 0 ≡ true → depth_in t sid ≡ 0

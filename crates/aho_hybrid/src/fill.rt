@@ -49,7 +49,9 @@ struct Filled {
     lists: Vec<SmallIndex>,
     /// The states with rows are special below this number.
     low: usize,
-    /// The deep states are special below this number.
+    /// A state with a row is below this number if it is dead or lists a pattern.
+    list_low: usize,
+    /// The deep states are special below this number, and only those list a pattern.
     deep_low: usize,
 }
 
@@ -101,6 +103,7 @@ pub fn rows_of(alloc: Global, nfa: &NFA, budget: usize, skips: bool) -> Result<R
         lists: filled.lists,
         start: StateID::new_unchecked(start.as_usize()),
         low: filled.low,
+        list_low: filled.list_low,
         deep_low: filled.deep_low,
     })
 }
@@ -205,6 +208,7 @@ fn filled_states(alloc: Global, nfa: &NFA, plan: &Plan) -> Result<Filled, BuildE
         moves: Vec::new(alloc),
         lists: Vec::new(alloc),
         low: first_low(nfa, plan),
+        list_low: 1,
         deep_low: 0,
     };
     push(&mut filled.lists, SmallIndex::new_unchecked(0))?;
@@ -258,7 +262,8 @@ fn add_row(filled: &mut Filled, nfa: &NFA, plan: &Plan, index: usize) -> Result<
     push_entries(&mut filled.entries, nfa, plan, sid, &near)?;
     let place = push_list(&mut filled.lists, nfa, sid)?;
     push(&mut filled.entries, place)?;
-    filled.low = low_with(filled.low, filled.entries.len(), nfa.match_len(sid));
+    filled.list_low = low_with(filled.list_low, filled.entries.len(), nfa.match_len(sid));
+    filled.low = filled.low.max(filled.list_low);
     Ok(())
 }
 
@@ -416,7 +421,7 @@ fn source_of(special: &Special, index: usize) -> StateID
     StateID::new_unchecked(index)
 }
 
-/// The number below which states are special, with one state more: its row ends here, and it lists so many patterns.
+/// The number below which states may list a pattern, with one state more: its row or record ends here, and it lists so many.
 fn low_with(low: usize, end: usize, listed: usize) -> usize
     ensures higher { low ≤ result }
     ensures past { result < end → listed ≡ 0 }

@@ -3,7 +3,7 @@
 
 ghost use Rattle.std.specs.Prelude.{◌≡◌, ◌+◌, ◌*◌, ◌<◌, ◌≤◌, ◌^◌, length, nat_lt, slice_get, take, drop, Some, IfOk};
 ghost use Rattle.aho_base.specs.Numbers.{greatest_index};
-ghost use Rattle.aho_hybrid.specs.Layout.{HasRow, IsDeep, IsSoundLayout, IsStateIn, child_in, child_of, depth_in, link_in, next_in, list_in, list_place, looks_in, is_special_in, entry_in, record_size, word_in};
+ghost use Rattle.aho_hybrid.specs.Layout.{HasRow, IsDeep, IsSoundLayout, IsStateIn, child_in, child_of, depth_in, link_in, next_in, list_in, list_place, looks_in, is_marked_in, is_special_in, entry_in, record_size, word_in};
 
 use aho_base::search::{PatternID, SmallIndex, StateID, Work};
 use aho_table::alphabet::ByteClasses;
@@ -26,7 +26,9 @@ pub struct Rows {
     pub(crate) start: StateID,
     /// The states with rows are special below this number.
     pub(crate) low: usize,
-    /// The deep states are special below this number.
+    /// A state with a row is below this number if it is dead or lists a pattern.
+    pub(crate) list_low: usize,
+    /// The deep states are special below this number, and only those list a pattern.
     pub(crate) deep_low: usize,
 }
 
@@ -43,6 +45,7 @@ impl Model for Rows {
       classes = r.classes;
       start = r.start;
       low = r.low;
+      list_low = r.list_low;
       deep_low = r.deep_low;
     } };
 }
@@ -64,6 +67,7 @@ impl Rows {
             lists: self.lists.clone()?,
             start: self.start,
             low: self.low,
+            list_low: self.list_low,
             deep_low: self.deep_low,
         })
     }
@@ -167,6 +171,18 @@ impl Rows {
         }
     }
 
+    /// Whether the state is dead or may list a pattern. One that is special only since a search may skip from it is not told.
+    #[inline(always)]
+    pub fn is_marked(&self, sid: StateID) -> bool
+        ensures marked { result ≡ is_marked_in self.now sid }
+    {
+        if sid.as_usize() < self.entries.len() {
+            sid.as_usize() < self.list_low
+        } else {
+            sid.as_usize() < self.deep_low
+        }
+    }
+
     /// Where the list of a state stands.
     fn list_place(&self, sid: StateID) -> usize
         requires sound { IsSoundLayout self.now }
@@ -187,7 +203,7 @@ impl Rows {
         requires state { IsStateIn self.now sid }
         ensures len { result ≡ length (list_in self.now sid) }
     {
-        if !self.is_special(sid) {
+        if !self.is_marked(sid) {
             return 0;
         }
         self.lists[self.list_place(sid)].as_usize()

@@ -36,7 +36,7 @@ returns-clause-filled c =
     let number : c.number_at-2.result ≡ number_in plan index =
     c.number_at-2.ensures.number ∙ ap (λ (l : List ℕ). number_at l c.new_unchecked-own.result) c.deref-3.ensures.value ∙ ap (number_in plan) c.new_unchecked-own.ensures.value in
     record {
-      rows = rows-passed plan index old.entries.items old.lists.items c.push_list.new.lists.items placed.more old.low c.requires.within c.requires.deep placed.grown c.requires.filled.rows;
+      rows = rows-passed plan index old.entries.items old.lists.items c.push_list.new.lists.items placed.more old.list_low c.requires.within c.requires.deep placed.grown c.requires.filled.rows;
       records = record-added plan index old.deep.items old.moves.items old.lists.items old.deep_low c.requires.filled.records
           c.push_record.new.deep.items c.push_moves.new.moves.items c.push_list.new.lists.items c.low_with-filled.result c.number_at.result list c.new_unchecked.result place c.in_ok-index_of.field-0
           c.requires.within c.requires.deep c.in_ok-push_record.ensures.pushed link placed
@@ -48,4 +48,5 @@ returns-clause-filled c =
           ap (matches_in plan.states) (sym source)
           ∙ nil_from_length (matches_in plan.states c.source_of-sid.result)
           (sym c.match_len.ensures.len ∙ c.low_with-filled.ensures.past (omega (arith, past, number, c.as_usize-end.ensures.value))));
+      special = c.requires.filled.special;
     }

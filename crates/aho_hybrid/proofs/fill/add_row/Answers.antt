@@ -25,11 +25,12 @@ returns-clause-filled c =
     let end : length new ≡ row_in plan index + class_count plan.classes + 1 =
     ap (λ (l : List ℕ). length l) pushed ∙ length_push mid place ∙ ap (λ (n : ℕ). n + 1) (has.sized ∙ ap (λ (n : ℕ). n + class_count plan.classes) c.requires.filled.rows.sized) in
     record {
-      rows = row-added plan index old.entries.items old.lists.items old.low c.requires.filled.rows mid new c.push_list.new.lists.items c.low_with-filled.result place
+      rows = row-added plan index old.entries.items old.lists.items old.list_low c.requires.filled.rows mid new c.push_list.new.lists.items c.low_with-filled.result place
           c.requires.within c.requires.shallow has pushed placed c.low_with-filled.ensures.higher
           (λ past.
           ap (matches_in plan.states) (sym source)
           ∙ nil_from_length (matches_in plan.states c.source_of-sid.result) (sym c.match_len.ensures.len ∙ c.low_with-filled.ensures.past (omega (arith, past, end, c.len.ensures, c.push.new.list.ok.0))));
       records = records-passed plan index old.deep.items old.moves.items old.lists.items old.deep_low c.requires.filled.records c.push_list.new.lists.items placed.more
           c.requires.within c.requires.shallow placed.grown;
+      special = omega (arith, c.max-filled.ensures);
     }

@@ -9,13 +9,13 @@ loop-index-init c =
     let plan : Parts = parts_of c.args.nfa.now c.args.plan.now.firsts c.args.plan.now.numbers.items c.args.plan.now.row_depth in
     let lists : c.push.new.list.items ≡ 0 ∷ [] =
     c.in_ok-push.ensures.pushed ∙ ap (λ (l : List ℕ). l ++ c.new_unchecked.result ∷ []) c.new-4.ensures.items ∙ ap (λ (n : ℕ). n ∷ []) c.new_unchecked.ensures.value in
-    let rows : AreRows plan 0 c.new.result.items c.push.new.list.items c.first_low.result =
-    subst (λ (l : List ℕ). AreRows plan 0 l c.push.new.list.items c.first_low.result) (sym c.new.ensures.items)
-    (subst (λ (l : List ℕ). AreRows plan 0 [] l c.first_low.result) (sym lists) (rows-none plan c.first_low.result c.first_low.ensures.some)) in
+    let rows : AreRows plan 0 c.new.result.items c.push.new.list.items 1 =
+    subst (λ (l : List ℕ). AreRows plan 0 l c.push.new.list.items 1) (sym c.new.ensures.items)
+    (subst (λ (l : List ℕ). AreRows plan 0 [] l 1) (sym lists) (rows-none plan 1 (omega arith))) in
     let records : AreRecords plan 0 c.new-2.result.items c.new-3.result.items c.push.new.list.items 0 =
     subst (λ (l : List ℕ). AreRecords plan 0 l c.new-3.result.items c.push.new.list.items 0) (sym c.new-2.ensures.items)
     (subst (λ (l : List ℕ). AreRecords plan 0 [] l c.push.new.list.items 0) (sym c.new-3.ensures.items) (records-none plan c.push.new.list.items)) in
-    record { rows = rows; records = records }
+    record { rows = rows; records = records; special = omega (arith, c.first_low.ensures.some) }
 
 pub returns-clause-filled : goal.returns-clause-filled
 returns-clause-filled c =

@@ -100,7 +100,7 @@ returns-clause-sound c =
     ∙ ap (λ (s : Special). number_in plan s.start_unanchored_id) c.special.ensures.special in
     let done = c.in_ok-filled.ensures.filled in
     subst IsSoundLayout
-    (same-layout filled.entries.items filled.deep.items filled.moves.items filled.lists.items (classes_of nfa) c.copy.result _ c.new_unchecked.result filled.low filled.deep_low
+    (same-layout filled.entries.items filled.deep.items filled.moves.items filled.lists.items (classes_of nfa) c.copy.result _ c.new_unchecked.result filled.low filled.list_low filled.deep_low
     (sym (c.copy.ensures.same ∙ c.byte_classes-3.ensures.classes)) (sym start))
     (sound-layout plan (c.alphabet_len-stride.result + 1) planned filled done c.special.ensures.starts c.states_len.ensures.sound
     (omega
@@ -134,7 +134,7 @@ returns-clause-of c p is =
     (omega (arith, c.if-len-as_usize.false, c.as_usize-2.ensures.value, c.len.ensures, filled.lists.ok.0))
     (omega (arith, c.if-len-as_usize-2.false, c.as_usize-3.ensures.value, c.len-2.ensures, filled.moves.ok.0)) in
     subst (λ (t : Layout). IsLayoutOf t p nfa.match_kind nfa.pattern_lens.items)
-    (same-layout filled.entries.items filled.deep.items filled.moves.items filled.lists.items (classes_of nfa) c.copy.result _ c.new_unchecked.result filled.low filled.deep_low
+    (same-layout filled.entries.items filled.deep.items filled.moves.items filled.lists.items (classes_of nfa) c.copy.result _ c.new_unchecked.result filled.low filled.list_low filled.deep_low
     (sym (c.copy.ensures.same ∙ c.byte_classes-3.ensures.classes)) (sym start))
     (layout-of plan (c.alphabet_len-stride.result + 1) planned filled done c.special.ensures.starts c.states_len.ensures.sound soundly first p is.0.names is.0.automaton is.2
     nfa.match_kind nfa.pattern_lens.items is.0.kind_is is.0.lengths_are)

@@ -18,6 +18,7 @@ returns c =
       classes = inside.classes;
       start = inside.start;
       low = inside.low;
+      list_low = inside.list_low;
       deep_low = inside.deep_low;
     } in
     let made : Layout = record {
@@ -28,6 +29,7 @@ returns c =
       classes = c.copy.result;
       start = inside.start;
       low = inside.low;
+      list_low = inside.list_low;
       deep_low = inside.deep_low;
     } in
     let equal : made ≡ same =
