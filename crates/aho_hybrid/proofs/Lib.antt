@@ -4,6 +4,7 @@ pub mod Listed
 pub mod Moves
 pub mod Counting
 pub mod Stepping
+pub mod Sizes
 pub mod Filling
 pub mod Near
 pub mod Numbering

@@ -1,6 +1,6 @@
 -- The states of an automaton that is read out, as they are laid out.
-use Rattle.std.specs.Prelude.{◌≡◌, ◌⊎◌, ℕ, ◌+◌, ◌*◌, ◌<◌, ◌≤◌, ◌||◌, Bool, not, false, true, List, [], ◌∷◌, ◌++◌, length, take, nat_eq, nat_lt, slice_index_or, if◌then◌else◌, IfSome}
-use Rattle.std.specs.List.{count_by}
+use Rattle.std.specs.Prelude.{◌≡◌, ℕ, ◌+◌, ◌*◌, ◌-◌, ◌^◌, ◌<◌, ◌≤◌, ◌||◌, Bool, not, false, true, List, [], ◌∷◌, ◌++◌, length, map, min, take, nat_eq, nat_lt, slice_index_or, if◌then◌else◌, IfSome}
+use Rattle.std.specs.List.{count_by, range_with_len, sum, sum_by}
 use Rattle.aho_base.specs.Numbers.{greatest_index}
 use Rattle.aho_base.specs.declared.error.BuildError.{BuildError}
 use Rattle.aho_base.specs.declared.error.BuildError.TheVariants.{StateIDOverflow, OutOfMemory}
@@ -49,11 +49,6 @@ pub record IsRowDepth (states : List State) (classes : List Bool) (budget row_de
 abbrev pub default_budget : ℕ
 default_budget = 327680
 
--- the rows and the records are those of all states
-pub record HasSizes (states : List State) (classes : List Bool) (row_depth : ℕ) (t : Layout) : Type 0 where
-  pub rows : length t.rows ≡ rows_size row_depth states classes
-  pub deep : length t.deep ≡ deep_count row_depth states * record_size
-
 -- where the row of a state begins, and where the record of a deep one does
 abbrev pub row_at : ℕ → List State → List Bool → ℕ → ℕ
 row_at row_depth states classes sid = rows_count row_depth (take sid states) * stride_of classes
@@ -71,21 +66,78 @@ pub record AreNumbers (row_depth : ℕ) (states : List State) (classes : List Bo
   pub sized : length numbers ≡ count
   pub number : (sid : ℕ) → sid < count → slice_index_or numbers sid 0 ≡ number_of row_depth states classes sid
 
+-- ---- lists and transitions
+
+-- the state whose row stands at the place of this one: for FAIL and the anchored start it is the unanchored start
+abbrev pub source_in : Special → ℕ → ℕ
+source_in special index = if nat_eq index dead_id then dead_id else if nat_eq index fail_id || nat_eq index special.start_anchored_id then special.start_unanchored_id else index
+
+-- the words of a list: its length and its patterns; all empty lists are one word
+abbrev pub list_words : List ℕ → ℕ
+list_words list = if nat_eq (length list) 0 then 0 else length list + 1
+
+-- the words of the lists of the states below the count
+unfoldable pub lists_below : Special → List State → ℕ → ℕ
+lists_below special states count = sum (map (λ sid. list_words (matches_in states (source_in special sid))) (range_with_len 0 count))
+
+-- the words of all lists
+abbrev pub lists_size : NFA → ℕ
+lists_size nfa = 1 + lists_below (special_of nfa) (states_of nfa) (length (states_of nfa))
+
+-- the words of a transition: its byte and where it leads, if it leads on
+abbrev pub transition_words : ℕ × ℕ → ℕ
+transition_words transition = if nat_eq transition.1 fail_id then 0 else 2
+
+-- the words of the transitions of a state that has no row
+abbrev pub moves_words : ℕ → Special → List State → ℕ → ℕ
+moves_words row_depth special states sid = if is_deep row_depth (state_at states sid) then sum_by transition_words (state_at states (source_in special sid)).transitions else 0
+
+-- those of the states below the count
+unfoldable pub moves_below : ℕ → Special → List State → ℕ → ℕ
+moves_below row_depth special states count = sum (map (moves_words row_depth special states) (range_with_len 0 count))
+
+-- the words of the transitions of all states without rows
+abbrev pub moves_size : NFA → ℕ → ℕ
+moves_size nfa row_depth = moves_below row_depth (special_of nfa) (states_of nfa) (length (states_of nfa))
+
+-- the rows, records, lists and transitions are those of all states
+pub record HasSizes (nfa : NFA) (row_depth : ℕ) (t : Layout) : Type 0 where
+  pub rows : length t.rows ≡ rows_size row_depth (states_of nfa) (classes_of nfa)
+  pub deep : length t.deep ≡ deep_count row_depth (states_of nfa) * record_size
+  pub moves : length t.moves ≡ moves_size nfa row_depth
+  pub lists : length t.lists ≡ lists_size nfa
+
 -- ---- what is refused
 
--- an index is above the greatest
+-- the number of words of rows and records, that of lists and that of transitions are not above the greatest index
+pub record Fits (nfa : NFA) (row_depth : ℕ) : Type 0 where
+  pub states : states_size row_depth (states_of nfa) (classes_of nfa) ≤ greatest_index
+  pub lists : lists_size nfa ≤ greatest_index
+  pub moves : moves_size nfa row_depth ≤ greatest_index
+
+-- a size as it is told: the greatest number of 64 bits in place of all above it
+abbrev pub told_size : ℕ → ℕ
+told_size size = min size (2 ^ 64 - 1)
+
+-- a size is above the greatest index, and is told
 abbrev pub IsTooLarge : ℕ → BuildError → Type 0
-IsTooLarge index error = (greatest_index < index) × (error ≡ StateIDOverflow greatest_index index)
+IsTooLarge size error = (greatest_index < size) × (error ≡ StateIDOverflow greatest_index (told_size size))
 
--- memory was wanted, or the place of some list is above the greatest index
-abbrev pub IsListRefused : BuildError → Type 0
-IsListRefused error = (error ≡ OutOfMemory) ⊎ ((place : ℕ) × IsTooLarge place error)
+-- memory was wanted
+abbrev pub IsOutOfMemory : BuildError → Type 0
+IsOutOfMemory error = error ≡ OutOfMemory
 
--- why the states are refused: memory was wanted, they have more words than there are indices, or else the lists have
-abbrev pub IsRefused : List State → List Bool → ℕ → BuildError → Type 0
-IsRefused states classes budget error =
-    (error ≡ OutOfMemory)
-    ⊎ ((row_depth : ℕ) × IsRowDepth states classes budget row_depth × (IsTooLarge (states_size row_depth states classes) error ⊎ ((states_size row_depth states classes ≤ greatest_index) × IsListRefused error)))
+-- the first of the three sizes that does not fit is told; where all fit, memory was wanted
+abbrev pub refusal_of : NFA → ℕ → BuildError
+refusal_of nfa row_depth =
+    if nat_lt greatest_index (states_size row_depth (states_of nfa) (classes_of nfa)) then StateIDOverflow greatest_index (told_size (states_size row_depth (states_of nfa) (classes_of nfa)))
+    else if nat_lt greatest_index (lists_size nfa) then StateIDOverflow greatest_index (told_size (lists_size nfa))
+    else if nat_lt greatest_index (moves_size nfa row_depth) then StateIDOverflow greatest_index (told_size (moves_size nfa row_depth))
+    else OutOfMemory
+
+-- why the states are refused, with rows for at most so many bytes
+abbrev pub IsRefused : NFA → ℕ → BuildError → Type 0
+IsRefused nfa budget error = (row_depth : ℕ) × IsRowDepth (states_of nfa) (classes_of nfa) budget row_depth × (error ≡ refusal_of nfa row_depth)
 
 -- ---- rows
 
@@ -130,10 +182,6 @@ number_at numbers sid = slice_index_or numbers sid 0
 
 abbrev pub number_in : Parts → ℕ → ℕ
 number_in plan sid = number_at plan.numbers sid
-
--- the state whose row stands at the place of this one: for FAIL and the anchored start it is the unanchored start
-abbrev pub source_in : Special → ℕ → ℕ
-source_in special index = if nat_eq index dead_id then dead_id else if nat_eq index fail_id || nat_eq index special.start_anchored_id then special.start_unanchored_id else index
 
 -- the state to which a byte of the class leads
 abbrev pub leads_in : Parts → ℕ → ℕ → ℕ
@@ -260,3 +308,5 @@ pub record IsFilled (plan : Parts) (count : ℕ) (filled : Filled) : Type 0 wher
   pub rows : AreRows plan count filled.entries.items filled.lists.items filled.list_low
   pub records : AreRecords plan count filled.deep.items filled.moves.items filled.lists.items filled.deep_low
   pub special : filled.list_low ≤ filled.low
+  pub lists_sized : length filled.lists.items ≡ 1 + lists_below plan.special plan.states count
+  pub moves_sized : length filled.moves.items ≡ moves_below plan.row_depth plan.special plan.states count

@@ -1,16 +1,16 @@
 //! The states of a `Hybrid`, made from an `NFA`'s: rows for those near the start, and records for the others, each in the
 //! order of the `NFA`'s numbers.
 
-ghost use Rattle.std.specs.Prelude.{◌≡◌, ◌⊎◌, ℕ, List, true, [], ◌∷◌, ◌++◌, ◌+◌, ◌*◌, ◌<◌, ◌≤◌, length, slice_index_or, if◌then◌else◌, IfOk, IfErr, OnOk};
+ghost use Rattle.std.specs.Prelude.{◌≡◌, ◌⊎◌, ℕ, List, true, [], ◌∷◌, ◌++◌, ◌+◌, ◌*◌, ◌<◌, ◌≤◌, length, nat_eq, slice_index_or, sum_by, if◌then◌else◌, IfOk, IfErr, OnOk};
 ghost use Rattle.aho_base.specs.Numbers.{greatest_index};
 ghost use Rattle.aho_base.specs.Patterns.{Patterns};
 ghost use Rattle.aho_build.specs.Walking.{IsState};
 ghost use Rattle.aho_corasick.specs.ReadOut.{states_of, special_of, classes_of};
 ghost use Rattle.aho_table.specs.Alphabet.{class_of, class_count};
-ghost use Rattle.aho_table.specs.Table.{matches_in, state_at};
+ghost use Rattle.aho_table.specs.Table.{fail_id, matches_in, state_at};
 ghost use Rattle.aho_hybrid.specs.Layout.{IsSoundLayout, stride_of};
 ghost use Rattle.aho_hybrid.specs.Reading.{IsLayoutOf};
-ghost use Rattle.aho_hybrid.specs.Filled.{AreFirst, AreMarked, AreNumbers, AreRows, HasEntries, HasRowBefore, HasSizes, IsDeepState, IsFilled, IsListAt, IsListRefused, IsNear, IsPlaced, IsPlan, IsRefused, IsRowDepth, IsShallow, IsStep, IsToldBy, IsTooLarge, deep_count, flat, is_deep, leads_in, number_at, number_in, plan_of, rows_count, rows_size, source_in, states_size};
+ghost use Rattle.aho_hybrid.specs.Filled.{AreFirst, AreMarked, AreNumbers, AreRows, HasEntries, HasRowBefore, HasSizes, Fits, IsDeepState, IsFilled, IsListAt, IsNear, IsOutOfMemory, IsPlaced, IsPlan, IsRefused, IsRowDepth, IsShallow, IsStep, IsToldBy, IsTooLarge, deep_count, flat, is_deep, leads_in, list_words, lists_size, moves_size, moves_words, refusal_of, number_at, number_in, plan_of, rows_count, rows_size, source_in, states_size, told_size, transition_words};
 
 use crate::rows::Rows;
 use aho_base::error::BuildError;
@@ -60,8 +60,8 @@ struct Filled {
 ///
 /// # Errors
 ///
-/// `OutOfMemory`, at any time; or `StateIDOverflow` where rows and records have more words than there are indices, or the
-/// place of a list or of a transition is above the greatest.
+/// `StateIDOverflow` exactly where the number of words of rows and records, of lists or of transitions is above the greatest index,
+/// with the first such number. It is found before anything is allocated. Where all fit, `OutOfMemory` alone.
 pub fn rows_of(alloc: Global, nfa: &NFA, budget: usize, skips: bool) -> Result<Rows, BuildError>
     ensures sound { IfOk result IsSoundLayout }
     ensures of { IfOk result (λ rows. (p : Patterns)
@@ -69,17 +69,12 @@ pub fn rows_of(alloc: Global, nfa: &NFA, budget: usize, skips: bool) -> Result<R
         → IsLayoutOf rows p (⟦<NFA as Automaton>⟧.kind nfa.now) (⟦<NFA as Automaton>⟧.lengths nfa.now)) }
     ensures sized { IfOk result (λ rows. (row_depth : ℕ)
         × IsRowDepth (states_of nfa.now) (classes_of nfa.now) budget row_depth
-        × HasSizes (states_of nfa.now) (classes_of nfa.now) row_depth rows) }
-    ensures refused { IfErr result (IsRefused (states_of nfa.now) (classes_of nfa.now) budget) }
+        × Fits nfa.now row_depth × HasSizes nfa.now row_depth rows) }
+    ensures refused { IfErr result (IsRefused nfa.now budget) }
 {
     let stride = nfa.byte_classes().alphabet_len() + 1;
     let row_depth = row_depth(nfa, stride, budget);
-    let with_rows = rows_count(nfa, row_depth);
-    let dense = with_rows * stride;
-    let size = dense + (nfa.states_len() - with_rows) * RECORD_SIZE;
-    if size > SmallIndex::MAX.as_usize() {
-        return Err(overflow(size));
-    }
+    let dense = dense_size(nfa, stride, row_depth)?;
     let plan = Plan {
         stride,
         row_depth,
@@ -88,12 +83,6 @@ pub fn rows_of(alloc: Global, nfa: &NFA, budget: usize, skips: bool) -> Result<R
         skips,
     };
     let filled = filled_states(alloc, nfa, &plan)?;
-    if filled.lists.len() > SmallIndex::MAX.as_usize() {
-        return Err(overflow(filled.lists.len()));
-    }
-    if filled.moves.len() > SmallIndex::MAX.as_usize() {
-        return Err(overflow(filled.moves.len()));
-    }
     let start = number_at(&plan.numbers, nfa.special().start_unanchored_id);
     Ok(Rows {
         classes: nfa.byte_classes().copy(),
@@ -106,6 +95,105 @@ pub fn rows_of(alloc: Global, nfa: &NFA, budget: usize, skips: bool) -> Result<R
         list_low: filled.list_low,
         deep_low: filled.deep_low,
     })
+}
+
+/// How many entries all rows have, where all that is laid out fits.
+fn dense_size(nfa: &NFA, stride: usize, row_depth: usize) -> Result<usize, BuildError>
+    requires stride { stride ≡ stride_of (classes_of nfa.now) }
+    requires bounded { stride ≤ 257 }
+    ensures dense { IfOk result (λ dense.
+        dense ≡ rows_size row_depth (states_of nfa.now) (classes_of nfa.now)) }
+    ensures fits { IfOk result (λ dense. Fits nfa.now row_depth) }
+    ensures refused { IfErr result (λ error. error ≡ refusal_of nfa.now row_depth) }
+{
+    let with_rows = rows_count(nfa, row_depth);
+    let dense = with_rows * stride;
+    let size = dense + (nfa.states_len() - with_rows) * RECORD_SIZE;
+    fit(size)?;
+    fit(lists_size(nfa))?;
+    fit(moves_size(nfa, row_depth))?;
+    Ok(dense)
+}
+
+/// Refuses a size that is above the greatest index.
+fn fit(size: usize) -> Result<(), BuildError>
+    ensures fits { OnOk result (size ≤ greatest_index) }
+    ensures refused { IfErr result (IsTooLarge size) }
+{
+    if size > SmallIndex::MAX.as_usize() {
+        return Err(BuildError::StateIDOverflow {
+            max: SmallIndex::MAX.as_usize() as u64,
+            requested: size as u64,
+        });
+    }
+    Ok(())
+}
+
+/// How many words the lists of all states have, or the greatest `usize`.
+fn lists_size(nfa: &NFA) -> usize
+    ensures size { result ≡ told_size (lists_size nfa.now) }
+{
+    let mut size: usize = 1;
+    for index in 0..nfa.states_len() {
+        size = size.saturating_add(list_words(nfa, index));
+    }
+    size
+}
+
+/// How many words the list of a state has, or the greatest `usize`.
+fn list_words(nfa: &NFA, index: usize) -> usize
+    requires within { index < length (states_of nfa.now) }
+    requires small { index ≤ greatest_index }
+    ensures words { result ≡ told_size (list_words
+        (matches_in (states_of nfa.now) (source_in (special_of nfa.now) index))) }
+{
+    let len = nfa.match_len(source_of(nfa.special(), index));
+    if len == 0 {
+        return 0;
+    }
+    len.saturating_add(1)
+}
+
+/// How many words the transitions of all states without rows have, or the greatest `usize`.
+fn moves_size(nfa: &NFA, row_depth: usize) -> usize
+    ensures size { result ≡ told_size (moves_size nfa.now row_depth) }
+{
+    let mut size: usize = 0;
+    for index in 0..nfa.states_len() {
+        size = size.saturating_add(moves_words(nfa, row_depth, index));
+    }
+    size
+}
+
+/// How many words the transitions of a state have, if it has no row, or the greatest `usize`.
+fn moves_words(nfa: &NFA, row_depth: usize, index: usize) -> usize
+    requires within { index < length (states_of nfa.now) }
+    requires small { index ≤ greatest_index }
+    ensures words { result ≡ told_size
+        (moves_words row_depth (special_of nfa.now) (states_of nfa.now) index) }
+{
+    if !is_deep(nfa, index, row_depth) {
+        return 0;
+    }
+    transitions_words(nfa.transitions(source_of(nfa.special(), index)))
+}
+
+/// How many words these transitions have, or the greatest `usize`.
+fn transitions_words(transitions: Transitions<'_>) -> usize
+    ensures words { result ≡ told_size (sum_by transition_words transitions.entry) }
+{
+    let mut words: usize = 0;
+    for (_, next) in transitions {
+        words = words.saturating_add(transition_words(next));
+    }
+    words
+}
+
+/// How many words a transition has that leads here.
+fn transition_words(next: StateID) -> usize
+    ensures words { result ≡ (if nat_eq next fail_id then 0 else 2) }
+{
+    if next == FAIL { 0 } else { 2 }
 }
 
 /// Whether a state is deeper.
@@ -181,7 +269,7 @@ fn numbers_of(
     requires small { states_size row_depth (states_of nfa.now) (classes_of nfa.now) ≤ greatest_index }
     ensures numbers { IfOk result (λ numbers. AreNumbers row_depth (states_of nfa.now)
         (classes_of nfa.now) (length (states_of nfa.now)) numbers.items) }
-    ensures refused { IfErr result IsListRefused }
+    ensures refused { IfErr result IsOutOfMemory }
 {
     let mut numbers = Vec::new(alloc);
     let mut row = 0;
@@ -199,8 +287,9 @@ fn numbers_of(
 /// All states.
 fn filled_states(alloc: Global, nfa: &NFA, plan: &Plan) -> Result<Filled, BuildError>
     requires plan { IsPlan (plan_of nfa.now plan.now) plan.now.stride }
+    requires fits { Fits nfa.now plan.now.row_depth }
     ensures filled { IfOk result (IsFilled (plan_of nfa.now plan.now) (length (states_of nfa.now))) }
-    ensures refused { IfErr result IsListRefused }
+    ensures refused { IfErr result IsOutOfMemory }
 {
     let mut filled = Filled {
         entries: Vec::new(alloc),
@@ -234,11 +323,12 @@ fn first_low(nfa: &NFA, plan: &Plan) -> usize
 /// One state more.
 fn add_state(filled: &mut Filled, nfa: &NFA, plan: &Plan, index: usize) -> Result<(), BuildError>
     requires plan { IsPlan (plan_of nfa.now plan.now) plan.now.stride }
+    requires fits { Fits nfa.now plan.now.row_depth }
     requires within { index < length (states_of nfa.now) }
     requires small { index ≤ greatest_index }
     requires filled { IsFilled (plan_of nfa.now plan.now) index filled.old }
     ensures filled { OnOk result (IsFilled (plan_of nfa.now plan.now) (index + 1) filled.new) }
-    ensures refused { IfErr result IsListRefused }
+    ensures refused { IfErr result IsOutOfMemory }
 {
     if is_deep(nfa, index, plan.row_depth) {
         add_record(filled, nfa, plan, index)
@@ -250,12 +340,13 @@ fn add_state(filled: &mut Filled, nfa: &NFA, plan: &Plan, index: usize) -> Resul
 /// The row of one state more.
 fn add_row(filled: &mut Filled, nfa: &NFA, plan: &Plan, index: usize) -> Result<(), BuildError>
     requires plan { IsPlan (plan_of nfa.now plan.now) plan.now.stride }
+    requires fits { Fits nfa.now plan.now.row_depth }
     requires within { index < length (states_of nfa.now) }
     requires small { index ≤ greatest_index }
     requires shallow { IsShallow (plan_of nfa.now plan.now) index }
     requires filled { IsFilled (plan_of nfa.now plan.now) index filled.old }
     ensures filled { OnOk result (IsFilled (plan_of nfa.now plan.now) (index + 1) filled.new) }
-    ensures refused { IfErr result IsListRefused }
+    ensures refused { IfErr result IsOutOfMemory }
 {
     let sid = source_of(nfa.special(), index);
     let near = nearest_row(&filled.entries, nfa, plan, index, sid);
@@ -270,24 +361,25 @@ fn add_row(filled: &mut Filled, nfa: &NFA, plan: &Plan, index: usize) -> Result<
 /// The record of one state more.
 fn add_record(filled: &mut Filled, nfa: &NFA, plan: &Plan, index: usize) -> Result<(), BuildError>
     requires plan { IsPlan (plan_of nfa.now plan.now) plan.now.stride }
+    requires fits { Fits nfa.now plan.now.row_depth }
     requires within { index < length (states_of nfa.now) }
     requires small { index ≤ greatest_index }
     requires deep { IsDeepState (plan_of nfa.now plan.now) index }
     requires filled { IsFilled (plan_of nfa.now plan.now) index filled.old }
     ensures filled { OnOk result (IsFilled (plan_of nfa.now plan.now) (index + 1) filled.new) }
-    ensures refused { IfErr result IsListRefused }
+    ensures refused { IfErr result IsOutOfMemory }
 {
     let own = StateID::new_unchecked(index);
     let sid = source_of(nfa.special(), index);
     let list = push_list(&mut filled.lists, nfa, sid)?;
-    let place = index_of(filled.moves.len())?;
+    let place = filled.moves.len();
     push_moves(&mut filled.moves, nfa.transitions(sid), &plan.numbers)?;
     let record = Record {
         link: number_at(&plan.numbers, nfa.fail(sid)),
         list,
         height: SmallIndex::new_unchecked(nfa.depth(own) - plan.row_depth),
-        place,
-        count: index_of(filled.moves.len() - place.as_usize())?,
+        place: SmallIndex::new_unchecked(place),
+        count: SmallIndex::new_unchecked(filled.moves.len() - place),
     };
     push_record(&mut filled.deep, record)?;
     let end = number_at(&plan.numbers, own).as_usize() + 1;
@@ -309,7 +401,7 @@ struct Record {
 fn push_record(deep: &mut Vec<SmallIndex>, words: Record) -> Result<(), BuildError>
     ensures pushed { OnOk result (deep.new.items
         ≡ deep.old.items ++ words.link ∷ words.list ∷ words.height ∷ words.place ∷ words.count ∷ []) }
-    ensures refused { IfErr result IsListRefused }
+    ensures refused { IfErr result IsOutOfMemory }
 {
     push(deep, words.link)?;
     push(deep, words.list)?;
@@ -335,7 +427,7 @@ fn push_moves(
     numbers: &[SmallIndex],
 ) -> Result<(), BuildError>
     ensures pushed { OnOk result (moves.new.items ≡ moves.old.items ++ flat numbers.now transitions.entry) }
-    ensures refused { IfErr result IsListRefused }
+    ensures refused { IfErr result IsOutOfMemory }
 {
     for (byte, next) in transitions {
         push_move(moves, byte, next, numbers)?;
@@ -352,7 +444,7 @@ fn push_move(
 ) -> Result<(), BuildError>
     ensures pushed { OnOk result (moves.new.items
         ≡ moves.old.items ++ flat numbers.now ((byte, next) ∷ [])) }
-    ensures refused { IfErr result IsListRefused }
+    ensures refused { IfErr result IsOutOfMemory }
 {
     if next == FAIL {
         return Ok(());
@@ -361,32 +453,10 @@ fn push_move(
     push(moves, number_at(numbers, next))
 }
 
-/// The refusal of a number that is above the greatest index.
-fn overflow(requested: usize) -> BuildError
-    requires above { greatest_index < requested }
-    ensures refused { IsTooLarge requested result }
-{
-    BuildError::StateIDOverflow {
-        max: SmallIndex::MAX.as_usize() as u64,
-        requested: requested as u64,
-    }
-}
-
-/// The index of this value.
-fn index_of(value: usize) -> Result<SmallIndex, BuildError>
-    ensures value { IfOk result (λ index. index ≡ value) }
-    ensures refused { IfErr result IsListRefused }
-{
-    match SmallIndex::new(value) {
-        Ok(index) => Ok(index),
-        Err(_) => Err(overflow(value)),
-    }
-}
-
 /// One more at the end.
 fn push(list: &mut Vec<SmallIndex>, index: SmallIndex) -> Result<(), BuildError>
     ensures pushed { OnOk result (list.new.items ≡ list.old.items ++ index ∷ []) }
-    ensures refused { IfErr result IsListRefused }
+    ensures refused { IfErr result IsOutOfMemory }
 {
     match list.push(index) {
         Ok(()) => Ok(()),
@@ -508,7 +578,7 @@ fn push_entries(
     requires near { IsNear (plan_of nfa.now plan.now) sid entries.old.items near.now }
     ensures entries { OnOk result (HasEntries (plan_of nfa.now plan.now) sid
         (class_count (classes_of nfa.now)) entries.old.items entries.new.items) }
-    ensures refused { IfErr result IsListRefused }
+    ensures refused { IfErr result IsOutOfMemory }
 {
     for class in 0..plan.stride - 1 {
         let entry = entry_for(entries, nfa, plan, sid, near, class);
@@ -557,25 +627,27 @@ fn entry_at(entries: &[SmallIndex], place: usize) -> SmallIndex
 fn push_list(lists: &mut Vec<SmallIndex>, nfa: &NFA, sid: StateID) -> Result<SmallIndex, BuildError>
     requires state { IsState (states_of nfa.now) sid }
     requires empty { IsListAt lists.old.items 0 [] }
+    requires room { length lists.old.items + list_words (matches_in (states_of nfa.now) sid) ≤ greatest_index }
     ensures placed { IfOk result (λ place.
         IsPlaced (matches_in (states_of nfa.now) sid) place lists.old.items lists.new.items) }
-    ensures refused { IfErr result IsListRefused }
+    ensures grown { OnOk result (length lists.new.items
+        ≡ length lists.old.items + list_words (matches_in (states_of nfa.now) sid)) }
+    ensures refused { IfErr result IsOutOfMemory }
 {
     let len = nfa.match_len(sid);
     if len == 0 {
         return Ok(SmallIndex::new_unchecked(0));
     }
-    let place = index_of(lists.len())?;
-    let len = index_of(len)?;
-    push(lists, len)?;
+    let place = lists.len();
+    push(lists, SmallIndex::new_unchecked(len))?;
     push_patterns(lists, nfa.matches(sid))?;
-    Ok(place)
+    Ok(SmallIndex::new_unchecked(place))
 }
 
 /// These patterns at the end of the lists.
 fn push_patterns(lists: &mut Vec<SmallIndex>, matches: Matches<'_>) -> Result<(), BuildError>
     ensures pushed { OnOk result (lists.new.items ≡ lists.old.items ++ matches.entry) }
-    ensures refused { IfErr result IsListRefused }
+    ensures refused { IfErr result IsOutOfMemory }
 {
     for pattern in matches {
         push(lists, SmallIndex::new_unchecked(pattern.as_usize()))?;

@@ -45,7 +45,8 @@ impl Hybrid {
     ghost use Rattle.aho_base.specs.declared.search.Anchored.TheVariants.{No};
     ghost use Rattle.aho_corasick.specs.Clones.{IsCloneOf};
     ghost use Rattle.aho_corasick.specs.ReadOut.{classes_of, states_of};
-    ghost use Rattle.aho_hybrid.specs.Filled.{HasSizes, IsRefused, IsRowDepth, default_budget};
+    ghost use Rattle.aho_hybrid.specs.Filled.{Fits, HasSizes, IsRefused, IsRowDepth, default_budget};
+    ghost use Rattle.aho_hybrid.specs.Reading.{IsLayoutOf};
     ghost use Rattle.aho_prefilter.specs.Prefilter.{IsPrefilterOf};
 
     /// The automaton of all that the `NFA` is of, with rows of at most `DEFAULT_BUDGET` bytes.
@@ -65,9 +66,8 @@ impl Hybrid {
         ensures starts { IfOk result (λ made. IsOk (⟦<Hybrid as Automaton>⟧.start made No)) }
         ensures sized { IfOk result (λ made. (row_depth : ℕ)
             × IsRowDepth (states_of nfa.now) (classes_of nfa.now) default_budget row_depth
-            × HasSizes (states_of nfa.now) (classes_of nfa.now) row_depth made.rows) }
-        ensures refused { IfErr result
-            (IsRefused (states_of nfa.now) (classes_of nfa.now) default_budget) }
+            × Fits nfa.now row_depth × HasSizes nfa.now row_depth made.rows) }
+        ensures refused { IfErr result (IsRefused nfa.now default_budget) }
     {
         Hybrid::with_budget(alloc, nfa, DEFAULT_BUDGET)
     }
@@ -89,12 +89,12 @@ impl Hybrid {
         ensures starts { IfOk result (λ made. IsOk (⟦<Hybrid as Automaton>⟧.start made No)) }
         ensures sized { IfOk result (λ made. (row_depth : ℕ)
             × IsRowDepth (states_of nfa.now) (classes_of nfa.now) budget row_depth
-            × HasSizes (states_of nfa.now) (classes_of nfa.now) row_depth made.rows) }
-        ensures refused { IfErr result
-            (IsRefused (states_of nfa.now) (classes_of nfa.now) budget) }
+            × Fits nfa.now row_depth × HasSizes nfa.now row_depth made.rows) }
+        ensures refused { IfErr result (IsRefused nfa.now budget) }
     {
+        let rows = rows_of(alloc, nfa, budget, nfa.prefilter().is_some())?;
         let prefilter = clone_of(nfa.prefilter())?;
-        Hybrid::with_prefilter(alloc, nfa, budget, prefilter)
+        Hybrid::with_rows(alloc, nfa, rows, prefilter)
     }
 
     /// The automaton of all that the `NFA` is of, with this prefilter in place of the `NFA`'s. The states down to some depth
@@ -102,8 +102,8 @@ impl Hybrid {
     ///
     /// # Errors
     ///
-    /// `OutOfMemory`, at any time; or `StateIDOverflow` where its states have more words than there are indices, or the place of
-    /// a list or of a transition is above the greatest.
+    /// `StateIDOverflow` exactly where the number of words of rows and records, of lists or of transitions is above the greatest
+    /// index, with the first such number. It is found before anything is allocated. Where all fit, `OutOfMemory` alone.
     pub fn with_prefilter(
         alloc: Global,
         nfa: &NFA,
@@ -122,16 +122,43 @@ impl Hybrid {
         ensures starts { IfOk result (λ made. IsOk (⟦<Hybrid as Automaton>⟧.start made No)) }
         ensures sized { IfOk result (λ made. (row_depth : ℕ)
             × IsRowDepth (states_of nfa.now) (classes_of nfa.now) budget row_depth
-            × HasSizes (states_of nfa.now) (classes_of nfa.now) row_depth made.rows) }
-        ensures refused { IfErr result
-            (IsRefused (states_of nfa.now) (classes_of nfa.now) budget) }
+            × Fits nfa.now row_depth × HasSizes nfa.now row_depth made.rows) }
+        ensures refused { IfErr result (IsRefused nfa.now budget) }
+    {
+        let rows = rows_of(alloc, nfa, budget, prefilter.is_some())?;
+        Hybrid::with_rows(alloc, nfa, rows, prefilter)
+    }
+
+    /// The automaton of these states of the `NFA`.
+    fn with_rows(
+        alloc: Global,
+        nfa: &NFA,
+        rows: Rows,
+        prefilter: Option<Prefilter>,
+    ) -> Result<Hybrid, BuildError>
+        requires sound { IsSoundLayout rows }
+        requires of { (p : Patterns) → ⟦<NFA as Automaton>⟧.is_of nfa.now p
+            → IsLayoutOf rows p (⟦<NFA as Automaton>⟧.kind nfa.now)
+            (⟦<NFA as Automaton>⟧.lengths nfa.now) }
+        ensures of { IfOk result (λ made. (p : Patterns)
+            → ⟦<NFA as Automaton>⟧.is_of nfa.now p
+            → IfSome prefilter (λ searcher. IsPrefilterOf searcher p)
+            → ⟦<Hybrid as Automaton>⟧.is_of made p) }
+        ensures held { IfOk result (λ made. ⟦<Hybrid as Automaton>⟧.prefilter made ≡ prefilter) }
+        ensures kind { IfOk result (λ made.
+            ⟦<Hybrid as Automaton>⟧.kind made ≡ ⟦<NFA as Automaton>⟧.kind nfa.now) }
+        ensures lengths { IfOk result (λ made.
+            ⟦<Hybrid as Automaton>⟧.lengths made ≡ ⟦<NFA as Automaton>⟧.lengths nfa.now) }
+        ensures starts { IfOk result (λ made. IsOk (⟦<Hybrid as Automaton>⟧.start made No)) }
+        ensures rows { IfOk result (λ made. made.rows ≡ rows) }
+        ensures refused { IfErr result (λ error. error ≡ OutOfMemory) }
     {
         let Ok(pattern_lens) = Vec::from_slice(alloc, nfa.pattern_lens()) else {
             return Err(BuildError::OutOfMemory);
         };
         Ok(Hybrid {
             match_kind: nfa.match_kind(),
-            rows: rows_of(alloc, nfa, budget, prefilter.is_some())?,
+            rows,
             pattern_lens,
             min_pattern_len: nfa.min_pattern_len(),
             max_pattern_len: nfa.max_pattern_len(),

@@ -2,10 +2,22 @@ use Rattle.std.proofs.Common.{◌≡◌, ◌+◌, ◌∙◌, ℕ, List, [], ◌�
 use Rattle.std.proofs.lemmas.List.{length_push, nil_from_length}
 use Rattle.aho_build.specs.declared.special.Special.{Special}
 use Rattle.aho_table.specs.Alphabet.{class_count}
-use Rattle.aho_table.specs.Table.{matches_in}
-use Rattle.aho_hybrid.specs.Filled.{HasEntries, IsPlaced, Parts, parts_of, row_in, source_in, source_of}
+use Rattle.aho_table.specs.Table.{matches_in, state_at}
+use Rattle.std.proofs.lemmas.Bool.{cond-false}
+use Rattle.std.specs.List.{sum_by}
+use Rattle.aho_hybrid.proofs.Sizes.{lists-grow, lists-more, moves-more}
+use Rattle.aho_hybrid.specs.Filled.{HasEntries, IsPlaced, Parts, is_deep, list_words, moves_words, parts_of, row_in, source_in, source_of, transition_words}
 use Rattle.aho_hybrid.proofs.Filling.{records-passed, row-added}
 use Rattle.aho_hybrid.proofs.fill.add_row.Goals as goal
+
+pub push_list-requires-clause-room : goal.push_list-requires-clause-room
+push_list-requires-clause-room c =
+    let nfa = c.args.nfa.now in
+    let plan : Parts = parts_of nfa c.args.plan.now.firsts c.args.plan.now.numbers.items c.args.plan.now.row_depth in
+    let index = c.args.index in
+    let source : c.source_of-sid.result ≡ source_of plan index = c.source_of-sid.ensures.source ∙ ap (λ (s : Special). source_in s index) c.special.ensures.special in
+    omega
+    (arith, ap (λ (n : ℕ). list_words (matches_in plan.states n)) source, c.requires.filled.lists_sized, lists-more plan.special plan.states index, lists-grow plan.special plan.states (index + 1) (length plan.states) (omega (arith, c.requires.within)), c.requires.fits.lists)
 
 pub returns-clause-filled : goal.returns-clause-filled
 returns-clause-filled c =
@@ -24,6 +36,10 @@ returns-clause-filled c =
     let pushed : new ≡ mid ++ place ∷ [] = c.in_ok-push.ensures.pushed in
     let end : length new ≡ row_in plan index + class_count plan.classes + 1 =
     ap (λ (l : List ℕ). length l) pushed ∙ length_push mid place ∙ ap (λ (n : ℕ). n + 1) (has.sized ∙ ap (λ (n : ℕ). n + class_count plan.classes) c.requires.filled.rows.sized) in
+    let grown : length c.push_list.new.lists.items ≡ length old.lists.items + list_words (matches_in plan.states (source_of plan index)) =
+    c.in_ok-place.ensures.grown ∙ ap (λ (n : ℕ). length old.lists.items + list_words (matches_in plan.states n)) source in
+    let words : moves_words plan.row_depth plan.special plan.states index ≡ 0 =
+    cond-false (is_deep plan.row_depth (state_at plan.states index)) (sum_by transition_words (state_at plan.states (source_of plan index)).transitions) 0 c.requires.shallow in
     record {
       rows = row-added plan index old.entries.items old.lists.items old.list_low c.requires.filled.rows mid new c.push_list.new.lists.items c.low_with-filled.result place
           c.requires.within c.requires.shallow has pushed placed c.low_with-filled.ensures.higher
@@ -33,4 +49,6 @@ returns-clause-filled c =
       records = records-passed plan index old.deep.items old.moves.items old.lists.items old.deep_low c.requires.filled.records c.push_list.new.lists.items placed.more
           c.requires.within c.requires.shallow placed.grown;
       special = omega (arith, c.max-filled.ensures);
+      lists_sized = omega (arith, grown, c.requires.filled.lists_sized, lists-more plan.special plan.states index);
+      moves_sized = omega (arith, c.requires.filled.moves_sized, moves-more plan.special plan.states plan.row_depth index, words);
     }

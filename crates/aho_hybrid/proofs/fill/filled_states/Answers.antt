@@ -2,6 +2,7 @@ use Rattle.std.proofs.Common.{◌≡◌, ◌∙◌, ℕ, List, [], ◌∷◌, �
 use Rattle.aho_corasick.specs.ReadOut.{states_of}
 use Rattle.aho_hybrid.specs.Filled.{AreRecords, AreRows, IsFilled, Parts, parts_of}
 use Rattle.aho_hybrid.proofs.Filling.{records-none, rows-none}
+use Rattle.aho_hybrid.proofs.Sizes.{lists-first, moves-first}
 use Rattle.aho_hybrid.proofs.fill.filled_states.Goals as goal
 
 pub loop-index-init : goal.loop-index-init
@@ -15,7 +16,7 @@ loop-index-init c =
     let records : AreRecords plan 0 c.new-2.result.items c.new-3.result.items c.push.new.list.items 0 =
     subst (λ (l : List ℕ). AreRecords plan 0 l c.new-3.result.items c.push.new.list.items 0) (sym c.new-2.ensures.items)
     (subst (λ (l : List ℕ). AreRecords plan 0 [] l c.push.new.list.items 0) (sym c.new-3.ensures.items) (records-none plan c.push.new.list.items)) in
-    record { rows = rows; records = records; special = omega (arith, c.first_low.ensures.some) }
+    record { rows = rows; records = records; special = omega (arith, c.first_low.ensures.some); lists_sized = omega (arith, ap (λ (l : List ℕ). length l) lists, lists-first plan.special plan.states); moves_sized = omega (arith, ap (λ (l : List ℕ). length l) c.new-3.ensures.items, moves-first plan.special plan.states plan.row_depth) }
 
 pub returns-clause-filled : goal.returns-clause-filled
 returns-clause-filled c =
