@@ -1,5 +1,5 @@
 -- What the walk found, and each turn of the loop.
-use Rattle.std.proofs.Common.{◌≡◌, ◌+◌, refl, sym, ◌∙◌, ap, subst, arith, false, ℕ, ◌++◌, [], take, length, List}
+use Rattle.std.proofs.Common.{◌≡◌, ◌+◌, refl, sym, ◌∙◌, ap, subst, arith, false, ℕ, ◌++◌, take, length, List}
 use Rattle.std.specs.Prelude.{Option}
 use Rattle.aho_base.specs.Laws.{BestAfter, better, told}
 use Rattle.aho_base.specs.Occurrence.{Occurrence}
