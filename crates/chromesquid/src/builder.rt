@@ -8,8 +8,11 @@ ghost use Rattle.aho_build.specs.Automaton.{memory_for};
 ghost use Rattle.aho_build.specs.Items.{IsFailure, OfAccepted, patterns_of};
 ghost use Rattle.aho_build.specs.Refusals.{cause};
 ghost use Rattle.chromesquid.specs.Building.{IsFailureOf};
+ghost use Rattle.chromesquid.specs.Engine.{HasKind};
+ghost use Rattle.chromesquid.specs.declared.kinds.AhoCorasickKind.TheVariants.{NoncontiguousNFA};
 
-use crate::kinds::StartKind;
+use crate::engine::Engine;
+use crate::kinds::{AhoCorasickKind, StartKind, kind_for};
 use crate::searcher::AhoCorasick;
 use aho_base::error::BuildError;
 use aho_base::search::MatchKind;
@@ -23,6 +26,7 @@ use std::marker::Model;
 pub struct AhoCorasickBuilder {
     automaton: Builder,
     start_kind: StartKind,
+    kind: Option<AhoCorasickKind>,
 }
 
 impl Model for AhoCorasickBuilder {
@@ -30,9 +34,9 @@ impl Model for AhoCorasickBuilder {
 
     ghost Value = { Building };
 
-    ghost view = { λ b. record { settings = b.automaton; start_kind = b.start_kind } };
+    ghost view = { λ b. record { settings = b.automaton; start_kind = b.start_kind; kind = b.kind } };
 
-    ghost inverse = { λ b. record { automaton = b.settings; start_kind = b.start_kind } };
+    ghost inverse = { λ b. record { automaton = b.settings; start_kind = b.start_kind; kind = b.kind } };
 }
 
 impl Default for AhoCorasickBuilder {
@@ -60,16 +64,17 @@ fn automaton_of(builder: &Builder, alloc: Global, patterns: &[&[u8]]) -> Result<
 }
 
 impl AhoCorasickBuilder {
-    ghost use Rattle.chromesquid.specs.Searcher.{IsBuiltFrom, default_building, lengths_of, match_kind_of, memory_of, patterns_len_of};
+    ghost use Rattle.chromesquid.specs.Searcher.{IsBuiltFrom, default_building, kind_for, kind_of, lengths_of, match_kind_of, memory_of, patterns_len_of};
 
     /// Standard, with regard to case, for searches that are not anchored, with a prefilter where one can be held, dense rows
-    /// up to depth 3, and the greatest limits.
+    /// up to depth 3, and the greatest limits. No kind of automaton is asked for.
     pub fn new() -> AhoCorasickBuilder
         ensures new { result ≡ default_building }
     {
         AhoCorasickBuilder {
             automaton: NFA::builder(),
             start_kind: StartKind::Unanchored,
+            kind: None,
         }
     }
 
@@ -84,17 +89,22 @@ impl AhoCorasickBuilder {
             IsBuiltFrom built (patterns_of self.now.settings patterns.now)) }
         ensures match_kind { IfOk result (λ built. match_kind_of built ≡ self.now.settings.kind) }
         ensures start_kind { IfOk result (λ built. built.start_kind ≡ self.now.start_kind) }
+        ensures kind { IfOk result (λ built.
+            HasKind (kind_for self.now.start_kind self.now.kind) built.automaton) }
+        ensures trie { kind_for self.now.start_kind self.now.kind ≡ NoncontiguousNFA
+            → IfOk result (λ built. kind_of built ≡ NoncontiguousNFA) }
         ensures lengths { IfOk result (λ built.
             lengths_of built ≡ map (λ pattern. length pattern.now) patterns.now) }
         ensures count { IfOk result (λ built. patterns_len_of built ≡ length patterns.now) }
-        ensures memory { IfOk result (λ built. memory_of built
+        ensures memory { IfOk result (λ built. kind_of built ≡ NoncontiguousNFA → memory_of built
             ≡ memory_for self.now.settings (patterns_of self.now.settings patterns.now)) }
         ensures accepted { IfOk result (λ built.
             cause self.now.settings (patterns_of self.now.settings patterns.now) ≡ None) }
         ensures refused { IfErr result
             (IsFailureOf self.now.settings (patterns_of self.now.settings patterns.now)) }
     {
-        let automaton = automaton_of(&self.automaton, alloc, patterns)?;
+        let nfa = automaton_of(&self.automaton, alloc, patterns)?;
+        let automaton = Engine::of_kind(alloc, nfa, kind_for(self.start_kind, self.kind))?;
         Ok(AhoCorasick::of_automaton(automaton, self.start_kind))
     }
 
@@ -117,9 +127,14 @@ impl AhoCorasickBuilder {
             IsBuiltFrom built (patterns_of self.now.settings run.items))) }
         ensures match_kind { IfOk result (λ built. match_kind_of built ≡ self.now.settings.kind) }
         ensures start_kind { IfOk result (λ built. built.start_kind ≡ self.now.start_kind) }
+        ensures kind { IfOk result (λ built.
+            HasKind (kind_for self.now.start_kind self.now.kind) built.automaton) }
+        ensures trie { kind_for self.now.start_kind self.now.kind ≡ NoncontiguousNFA
+            → IfOk result (λ built. kind_of built ≡ NoncontiguousNFA) }
         ensures refused { IfErr result (IsFailure I.next_gives patterns self.now.settings) }
     {
-        let automaton = self.automaton.build(alloc, patterns)?;
+        let nfa = self.automaton.build(alloc, patterns)?;
+        let automaton = Engine::of_kind(alloc, nfa, kind_for(self.start_kind, self.kind))?;
         Ok(AhoCorasick::of_automaton(automaton, self.start_kind))
     }
 
@@ -139,11 +154,22 @@ impl AhoCorasickBuilder {
         self
     }
 
-    /// Which searches are answered. An automaton for all of them takes no more memory than one for some.
+    /// Which searches are answered. A searcher for anchored ones has the noncontiguous automaton (`kind`), which takes no more
+    /// memory for all of them than for some.
     pub fn start_kind(mut self, kind: StartKind) -> AhoCorasickBuilder
         ensures set { result ≡ record self { start_kind = kind } }
     {
         self.start_kind = kind;
+        self
+    }
+
+    /// Which kind of automaton is made; where none is asked for, one of rows. Searchers of other searches than unanchored ones
+    /// have the noncontiguous one, whatever is asked for, and so have those for whose patterns rows do not fit:
+    /// `AhoCorasick::kind` tells. No answer depends on it.
+    pub fn kind(mut self, kind: Option<AhoCorasickKind>) -> AhoCorasickBuilder
+        ensures set { result ≡ record self { kind = kind } }
+    {
+        self.kind = kind;
         self
     }
 
@@ -155,8 +181,9 @@ impl AhoCorasickBuilder {
         self
     }
 
-    /// Up to which distance from the start states have dense rows, by which a step is one look; none at 0. A row takes four
-    /// bytes for each class of bytes. No answer depends on it.
+    /// Up to which distance from the start states of the noncontiguous automaton have dense rows, by which a step is one look;
+    /// none at 0. A row takes four bytes for each class of bytes. A `Hybrid` is made of that automaton, and has rows of its own.
+    /// No answer depends on it.
     pub fn dense_depth(mut self, depth: usize) -> AhoCorasickBuilder
         ensures set { result ≡ record self { settings = record self.settings { dense_depth = depth } } }
     {

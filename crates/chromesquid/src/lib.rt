@@ -3,6 +3,7 @@
 
 pub mod automaton;
 pub mod builder;
+mod engine;
 pub mod find;
 pub mod input;
 pub mod kinds;
