@@ -10,7 +10,7 @@ use Rattle.aho_base.specs.Patterns.{Patterns}
 use Rattle.aho_base.specs.declared.error.MatchErrorKind.TheVariants.{InvalidInputUnanchored}
 use Rattle.aho_base.specs.declared.search.Anchored.{Anchored}
 use Rattle.aho_base.specs.declared.search.Anchored.TheVariants.{No, Yes}
-use Rattle.aho_build.specs.Items.{patterns_of, OfAccepted}
+use Rattle.aho_build.specs.Items.{patterns_of}
 use Rattle.aho_build.specs.declared.settings.Settings.{Settings}
 use Rattle.aho_corasick.specs.Clones.{IsCloneOf}
 use Rattle.aho_corasick.specs.declared.noncontiguous.NFA.{NFA}
@@ -40,14 +40,6 @@ pub lengths-of_items : (settings : Settings) (items : List (Bor (List ℕ))) (se
     → ghosts.lengths searcher.automaton ≡ map (λ item. length item.now) items
 lengths-of_items settings items searcher built = lengths-of (patterns_of settings items) searcher.automaton built.reads ∙ map-map length (λ item. item.now) items
 
--- what an `NFA` is of that was built is what a searcher was built from
-pub of_accepted : {S : Type 0} (gives : S → Option (Bor (List ℕ)) → S → Type 0) (state : S) {set : Settings} (settings : Settings) (nfa : NFA) (searcher : Searcher)
-    → set ≡ settings → ((p : Patterns) → of_nfa.is_of nfa p → IsBuiltFrom searcher p) → OfAccepted gives state set (of_nfa.is_of nfa)
-    → OfAccepted gives state settings (IsBuiltFrom searcher)
-of_accepted gives state settings nfa searcher same leads accepted =
-    let all : OfAccepted gives state _ (of_nfa.is_of nfa) = subst (λ (s : Settings). OfAccepted gives state s (of_nfa.is_of nfa)) same accepted in
-    (all.0, all.1, leads _ all.2)
-
 -- rows are not the noncontiguous automaton
 abbrev is_rows : AhoCorasickKind → Bool
 is_rows NoncontiguousNFA = false
@@ -65,12 +57,12 @@ suits Both asked (Rows hybrid) Yes kind allowed = absurd (rows_are_no_trie kind)
 suits Unanchored asked (Rows hybrid) Yes kind allowed = absurd (both_ways false refl allowed)
 suits AnchoredOnly asked (Rows hybrid) Yes kind allowed = absurd (rows_are_no_trie kind)
 
--- so a searcher with the automaton that was made of an `NFA` was built from whatever the `NFA` is of
-pub built_by : (start_kind : StartKind) (asked : Option AhoCorasickKind) (nfa : NFA) (engine : Engine) → HasKind (kind_for start_kind asked) engine
-    → ((p : Patterns) → of_nfa.is_of nfa p → ghosts.is_of engine p) → (p : Patterns) → of_nfa.is_of nfa p → IsBuiltFrom (record { automaton = engine; start_kind = start_kind }) p
-built_by start_kind asked nfa engine has leads p of =
+-- so a searcher with the automaton that was made for some patterns was built from them
+built_by : (start_kind : StartKind) (asked : Option AhoCorasickKind) (engine : Engine) (p : Patterns) → HasKind (kind_for start_kind asked) engine → ghosts.is_of engine p
+    → IsBuiltFrom (record { automaton = engine; start_kind = start_kind }) p
+built_by start_kind asked engine p has of =
     record {
-      reads = leads p of;
+      reads = of;
       starts = λ anchored allowed.
           elim has [
             | inl kind ↦ suits start_kind asked engine anchored kind allowed
@@ -78,9 +70,9 @@ built_by start_kind asked nfa engine has leads p of =
           ];
     }
 
-pub built_as : (kind : AhoCorasickKind) (start_kind : StartKind) (asked : Option AhoCorasickKind) (nfa : NFA) (engine : Engine) → kind ≡ kind_for start_kind asked → HasKind kind engine
-    → ((p : Patterns) → of_nfa.is_of nfa p → ghosts.is_of engine p) → (p : Patterns) → of_nfa.is_of nfa p → IsBuiltFrom (record { automaton = engine; start_kind = start_kind }) p
-built_as kind start_kind asked nfa engine is has leads = built_by start_kind asked nfa engine (subst (λ (k : AhoCorasickKind). HasKind k engine) is has) leads
+pub built_as : (kind : AhoCorasickKind) (start_kind : StartKind) (asked : Option AhoCorasickKind) (engine : Engine) (p : Patterns) → kind ≡ kind_for start_kind asked → HasKind kind engine
+    → ghosts.is_of engine p → IsBuiltFrom (record { automaton = engine; start_kind = start_kind }) p
+built_as kind start_kind asked engine p is has of = built_by start_kind asked engine p (subst (λ (k : AhoCorasickKind). HasKind k engine) is has) of
 
 -- where no rows are to be made it has none
 pub trie_of : (kind : AhoCorasickKind) (engine : Engine) → HasKind kind engine → kind ≡ NoncontiguousNFA → kind_in engine ≡ NoncontiguousNFA

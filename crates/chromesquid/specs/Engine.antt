@@ -1,5 +1,5 @@
 -- The automaton that searches is one of several kinds: each member of it is that of the automaton that is held.
-use Rattle.std.specs.Prelude.{◌≡◌, ◌⊎◌, ℕ, List, [], Bool, true, false, Option, IfSome, Result}
+use Rattle.std.specs.Prelude.{◌≡◌, ◌⊎◌, ℕ, List, [], Bool, true, false, Option, None, IfSome, Result, if◌then◌else◌}
 use Rattle.aho_base.specs.Held.{held_after}
 use Rattle.aho_base.specs.Laws.{Reads}
 use Rattle.aho_base.specs.Patterns.{Patterns}
@@ -8,6 +8,7 @@ use Rattle.aho_base.specs.declared.error.MatchErrorKind.{MatchErrorKind}
 use Rattle.aho_base.specs.declared.search.Anchored.{Anchored}
 use Rattle.aho_base.specs.declared.search.Anchored.TheVariants.{No}
 use Rattle.aho_base.specs.declared.search.MatchKind.{MatchKind}
+use Rattle.aho_build.specs.declared.settings.Settings.{Settings}
 use Rattle.aho_corasick.specs.ReadOut.{classes_of, states_of}
 use Rattle.aho_corasick.specs.contracts.noncontiguous.NFAAutomaton.TheImpl.{ghosts as of_nfa}
 use Rattle.aho_corasick.specs.contracts.noncontiguous.NFAAutomaton.TheImpl.Laws.{alike-law as nfa-alike, dead_shallow-law as nfa-dead_shallow, laws-law as nfa-laws, plain-law as nfa-plain, prefilters-law as nfa-prefilters, starts_shallow-law as nfa-starts_shallow}
@@ -15,7 +16,7 @@ use Rattle.aho_corasick.specs.declared.noncontiguous.NFA.{NFA}
 use Rattle.aho_hybrid.specs.Filled.{IsRefused, default_budget}
 use Rattle.aho_hybrid.specs.contracts.hybrid.HybridAutomaton.TheImpl.{ghosts as of_hybrid}
 use Rattle.aho_hybrid.specs.contracts.hybrid.HybridAutomaton.TheImpl.Laws.{alike-law as rows-alike, dead_shallow-law as rows-dead_shallow, laws-law as rows-laws, plain-law as rows-plain, prefilters-law as rows-prefilters, starts_shallow-law as rows-starts_shallow}
-use Rattle.aho_prefilter.specs.Prefilter.{IsPrefilterOf}
+use Rattle.aho_prefilter.specs.Prefilter.{IsPrefilterOf, held_or_packed}
 use Rattle.aho_prefilter.specs.declared.prefilter.Searcher.{Searcher}
 use Rattle.chromesquid.specs.declared.engine.Engine.{Engine}
 use Rattle.chromesquid.specs.declared.engine.Engine.TheVariants.{Noncontiguous, Rows}
@@ -104,6 +105,14 @@ memory_by (Rows hybrid) = of_hybrid.memory hybrid
 abbrev pub prefilter_by : Engine → Option Searcher
 prefilter_by (Noncontiguous nfa) = of_nfa.prefilter nfa
 prefilter_by (Rows hybrid) = of_hybrid.prefilter hybrid
+
+-- its rows, if it has some, hold this prefilter
+abbrev pub HoldsInRows : Option Searcher → Engine → Type 0
+HoldsInRows held engine = kind_in engine ≡ OfRows → prefilter_by engine ≡ held
+
+-- the prefilter that rows for these patterns hold: where the settings want one it may be a packed search
+abbrev pub held_in_rows : Settings → Patterns → Option Searcher
+held_in_rows settings p = if settings.prefilter then held_or_packed p else None
 
 -- ---- its laws
 

@@ -1,19 +1,23 @@
 //! The automaton that searches: one of several kinds. Each of its calls is that of the automaton that is held.
 
-ghost use Rattle.std.specs.Prelude.{◌≡◌, ◌<◌, ◌≤◌, ℕ, Err, IfErr, IfOk, IsOk, None, Ok};
+ghost use Rattle.std.specs.Prelude.{◌≡◌, ◌<◌, ◌≤◌, ℕ, Err, IfErr, IfOk, IfSome, IsOk, None, Ok};
 ghost use Rattle.aho_base.specs.Answer.{IsAnswer};
 ghost use Rattle.aho_base.specs.Patterns.{Patterns};
 ghost use Rattle.aho_base.specs.declared.error.BuildError.TheVariants.{OutOfMemory};
 ghost use Rattle.aho_base.specs.declared.error.MatchErrorKind.{MatchErrorKind};
+ghost use Rattle.aho_build.specs.Items.{patterns_of};
 ghost use Rattle.aho_corasick.specs.Clones.{IsCloneOf};
-ghost use Rattle.chromesquid.specs.Engine.{HasKind, IsElse, kind_in};
+ghost use Rattle.aho_prefilter.specs.Prefilter.{IsPrefilterOf};
+ghost use Rattle.chromesquid.specs.Engine.{HasKind, HoldsInRows, IsElse, held_in_rows, kind_in};
 ghost use Rattle.chromesquid.specs.declared.kinds.AhoCorasickKind.TheVariants.{Hybrid as OfRows};
 
 use crate::kinds::AhoCorasickKind;
+use crate::prefilters::prefilter_of;
 use aho_base::error::{BuildError, MatchError};
 use aho_base::search::{Anchored, Input, Match, MatchKind, PatternID, StateID, Work};
+use aho_build::settings::Settings;
 use aho_corasick::noncontiguous::NFA;
-use aho_hybrid::hybrid::Hybrid;
+use aho_hybrid::hybrid::{DEFAULT_BUDGET, Hybrid};
 use aho_prefilter::prefilter::Prefilter;
 use aho_search::automaton::Automaton;
 use std::alloc::{AllocError, Global};
@@ -28,7 +32,7 @@ pub enum Engine {
 }
 
 impl Engine {
-    /// The automaton of this kind for all that the `NFA` is of. Where it has too many states for rows it is the `NFA`.
+    /// The automaton of this kind, made of the `NFA` of these patterns. Where it has too many states for rows it is the `NFA`.
     ///
     /// # Errors
     ///
@@ -37,32 +41,47 @@ impl Engine {
         alloc: Global,
         nfa: NFA,
         kind: AhoCorasickKind,
+        settings: &Settings,
+        patterns: &[&[u8]],
     ) -> Result<Engine, BuildError>
-        ensures of { IfOk result (λ engine. (p : Patterns)
-            → ⟦<NFA as Automaton>⟧.is_of nfa p → ⟦<Engine as Automaton>⟧.is_of engine p) }
+        requires of { ⟦<NFA as Automaton>⟧.is_of nfa (patterns_of settings.now patterns.now) }
+        ensures of { IfOk result (λ engine.
+            ⟦<Engine as Automaton>⟧.is_of engine (patterns_of settings.now patterns.now)) }
         ensures kind { IfOk result (HasKind kind) }
         ensures same { IfOk result (IsElse nfa) }
+        ensures prefilter { IfOk result (HoldsInRows
+            (held_in_rows settings.now (patterns_of settings.now patterns.now))) }
         ensures refused { IfErr result (λ error. error ≡ OutOfMemory) }
     {
         match kind {
             AhoCorasickKind::NoncontiguousNFA => Ok(Engine::Noncontiguous(nfa)),
-            AhoCorasickKind::Hybrid => Engine::with_rows(alloc, nfa),
+            AhoCorasickKind::Hybrid => {
+                let prefilter = prefilter_of(alloc, settings, patterns)?;
+                Engine::with_rows(alloc, nfa, prefilter)
+            }
         }
     }
 
-    /// The automaton of rows, or the `NFA` where that has too many states for it.
+    /// The automaton of rows with this prefilter, or the `NFA` where that has too many states for it.
     ///
     /// # Errors
     ///
     /// Out of memory.
-    fn with_rows(alloc: Global, nfa: NFA) -> Result<Engine, BuildError>
+    fn with_rows(
+        alloc: Global,
+        nfa: NFA,
+        prefilter: Option<Prefilter>,
+    ) -> Result<Engine, BuildError>
         ensures of { IfOk result (λ engine. (p : Patterns)
-            → ⟦<NFA as Automaton>⟧.is_of nfa p → ⟦<Engine as Automaton>⟧.is_of engine p) }
+            → ⟦<NFA as Automaton>⟧.is_of nfa p
+            → IfSome prefilter (λ searcher. IsPrefilterOf searcher p)
+            → ⟦<Engine as Automaton>⟧.is_of engine p) }
         ensures kind { IfOk result (HasKind OfRows) }
         ensures same { IfOk result (IsElse nfa) }
+        ensures prefilter { IfOk result (HoldsInRows prefilter) }
         ensures refused { IfErr result (λ error. error ≡ OutOfMemory) }
     {
-        match Hybrid::from_nfa(alloc, &nfa) {
+        match Hybrid::with_prefilter(alloc, &nfa, DEFAULT_BUDGET, prefilter) {
             Ok(hybrid) => Ok(Engine::Rows(hybrid)),
             Err(BuildError::StateIDOverflow { .. }) => Ok(Engine::Noncontiguous(nfa)),
             Err(_) => Err(BuildError::OutOfMemory),

@@ -7,6 +7,7 @@ mod engine;
 pub mod find;
 pub mod input;
 pub mod kinds;
+mod prefilters;
 pub mod replace;
 pub mod searcher;
 pub mod stream;
