@@ -12,7 +12,6 @@ use Rattle.aho_base.specs.declared.error.MatchErrorKind.TheVariants.{InvalidInpu
 use Rattle.aho_base.specs.declared.search.Anchored.{Anchored}
 use Rattle.aho_base.specs.declared.search.Anchored.TheVariants.{No, Yes}
 use Rattle.aho_base.specs.declared.search.MatchKind.{MatchKind}
-use Rattle.aho_prefilter.specs.declared.prefilter.Searcher.{Searcher as Prefilter}
 use Rattle.chromesquid.specs.Engine.{kind_in}
 use Rattle.chromesquid.specs.contracts.engine.EngineAutomaton.TheImpl.{ghosts}
 use Rattle.chromesquid.specs.declared.engine.Engine.{Engine}
@@ -45,10 +44,6 @@ patterns_len_of searcher = length (lengths_of searcher)
 -- how many bytes of memory it holds, by the stated sizes of its parts
 abbrev pub memory_of : Searcher → ℕ
 memory_of searcher = ghosts.memory searcher.automaton
-
--- the prefilter that it holds
-abbrev pub prefilter_of : Searcher → Option Prefilter
-prefilter_of searcher = ghosts.prefilter searcher.automaton
 
 -- none of its patterns is empty
 abbrev pub HasNoEmpty : Searcher → Type 0

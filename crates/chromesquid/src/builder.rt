@@ -8,8 +8,8 @@ ghost use Rattle.aho_build.specs.Automaton.{memory_for};
 ghost use Rattle.aho_build.specs.Items.{IsFailure, OfAccepted, patterns_of};
 ghost use Rattle.aho_build.specs.Refusals.{cause};
 ghost use Rattle.chromesquid.specs.Building.{IsFailureOf};
-ghost use Rattle.chromesquid.specs.Engine.{HasKind, held_in_rows};
-ghost use Rattle.chromesquid.specs.declared.kinds.AhoCorasickKind.TheVariants.{Hybrid, NoncontiguousNFA};
+ghost use Rattle.chromesquid.specs.Engine.{HasKind};
+ghost use Rattle.chromesquid.specs.declared.kinds.AhoCorasickKind.TheVariants.{NoncontiguousNFA};
 
 use crate::engine::Engine;
 use crate::kinds::{AhoCorasickKind, StartKind, kind_for};
@@ -79,7 +79,7 @@ fn automaton_of(settings: &Settings, alloc: Global, patterns: &[&[u8]]) -> Resul
 }
 
 impl AhoCorasickBuilder {
-    ghost use Rattle.chromesquid.specs.Searcher.{IsBuiltFrom, default_building, kind_for, kind_of, lengths_of, match_kind_of, memory_of, patterns_len_of, prefilter_of};
+    ghost use Rattle.chromesquid.specs.Searcher.{IsBuiltFrom, default_building, kind_for, kind_of, lengths_of, match_kind_of, memory_of, patterns_len_of};
 
     /// Standard, with regard to case, for searches that are not anchored, with a prefilter where one can be held, dense rows
     /// up to depth 3, and the greatest limits. No kind of automaton is asked for.
@@ -108,8 +108,6 @@ impl AhoCorasickBuilder {
             HasKind (kind_for self.now.start_kind self.now.kind) built.automaton) }
         ensures trie { kind_for self.now.start_kind self.now.kind ≡ NoncontiguousNFA
             → IfOk result (λ built. kind_of built ≡ NoncontiguousNFA) }
-        ensures prefilter { IfOk result (λ built. kind_of built ≡ Hybrid → prefilter_of built
-            ≡ held_in_rows self.now.settings (patterns_of self.now.settings patterns.now)) }
         ensures lengths { IfOk result (λ built.
             lengths_of built ≡ map (λ pattern. length pattern.now) patterns.now) }
         ensures count { IfOk result (λ built. patterns_len_of built ≡ length patterns.now) }
