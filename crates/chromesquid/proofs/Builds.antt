@@ -1,11 +1,11 @@
--- What the searcher of a slice of byte strings is of, and why its build fails.
+-- What the searcher of a slice of byte strings is of, or of those that an iterator gave, and why its build fails.
 use Rattle.std.proofs.Common.{◌≡◌, ◌∙◌, ap, sym, subst, [], ◌∷◌, ◌++◌, inl, inr, refl, Iter, List, ℕ, None, Option, Some, map}
-use Rattle.std.proofs.iter.SoFar.{exit_by}
+use Rattle.std.specs.Prelude.{Err, IfOk, Ok, Result, length, ⊤}
 use Rattle.std.proofs.iter.Yields.{copies, fronts}
 use Rattle.std.proofs.lemmas.Iterator.{YieldsList, YieldsList-from_slice, items_from_drains}
 use Rattle.std.proofs.lemmas.Iterator.Consumers.{YieldsList-from_copied}
 use Rattle.std.proofs.lemmas.List.{map-append, map-id}
-use Rattle.std.specs.Iterator.{AlwaysYields, Drains, Yields}
+use Rattle.std.specs.Iterator.{AlwaysYields, Drains, DrainsIf, Yields}
 use Rattle.std.specs.Iterator.Adapters.{copied_source}
 use Rattle.std.specs.Iterator.Runs.{WholeRun}
 use Rattle.std.specs.Slice.Iter.{iter_rest}
@@ -28,13 +28,30 @@ first_of_given steps (x ∷ given) (y ∷ all) from upto yields always =
     let rest = first_of_given steps given all yields.0 upto yields.2 next.1 in
     (rest.0, ap (λ z. z ∷ all) (sym next.0) ∙ ap (λ zs. x ∷ zs) rest.1)
 
--- what is true of the items that an iterator gave is true of a run of it
-pub run_of_accepted : {S : Type 0} (gives : S → Option (Bor (List ℕ)) → S → Type 0) (state : S) (settings : Settings) (is_true : Patterns → Type 0)
-    → OfAccepted gives state settings is_true → WholeRun gives state (λ run. is_true (patterns_of settings run.items))
-run_of_accepted gives state settings is_true accepted =
-    let drained = accepted.1.0 in
-    let run = exit_by gives (accepted.0, drained.1.1) drained.0 drained.1.2 in
-    (run.0, run.1, run.2, subst (λ (items : List (Bor (List ℕ))). is_true (patterns_of settings items)) (sym run.3.0) accepted.2)
+module _ {S : Type 0} (gives : S → Option (Bor (List ℕ)) → S → Type 0) (state : S) (settings : Settings) where
+  -- an iterator gave these items until it ended
+  drains_of : (items : List (Bor (List ℕ))) → DrainsIf gives ⊤ state items → Drains gives state items
+  drains_of items ran = let ended = ran.2 tt in (ended.0, (ran.0, ran.1, ended.1))
+
+  -- what is true of the items that were collected is true of the run that gave them
+  pub run_of_collected : {B E : Type 0} (is_true : B → Patterns → Type 0) (built : Result B E) (held kept : List (Bor (List ℕ))) (count : ℕ) → held ≡ kept
+      → WholeRun gives state (λ run. (kept ≡ run.items) × (count ≡ length run.items)) → IfOk built (λ b. is_true b (patterns_of settings held))
+      → IfOk built (λ b. WholeRun gives state (λ run. is_true b (patterns_of settings run.items)))
+  run_of_collected is_true (Ok b) held kept count same run of =
+      (run.0, run.1, run.2, subst (λ (xs : List (Bor (List ℕ))). is_true b (patterns_of settings xs)) (same ∙ run.3.0) of)
+  run_of_collected is_true (Err e) held kept count same run of = tt
+
+  -- a build of what was collected fails for what the items ask for
+  pub failure_of_collected : (held items : List (Bor (List ℕ))) → DrainsIf gives ⊤ state items → held ≡ items → (error : BuildError) → IsFailureOf settings (patterns_of settings held) error
+      → IsFailure gives state settings error
+  failure_of_collected held items ran same error failure =
+      elim failure [
+        | inl memory ↦ inl memory
+        | inr refusal ↦ inr (
+          items,
+          (refusal.0, (refusal.2, inr (drains_of items ran, subst (λ (xs : List (Bor (List ℕ))). cause settings (patterns_of settings xs) ≡ Some refusal.0) same refusal.1))),
+        )
+      ]
 
 module _ (state : Copied (Iter (Bor (List ℕ)))) (patterns : List (Bor (List ℕ))) (is : iter_rest (copied_source state) ≡ patterns) where
   gives_all : YieldsList (copies fronts) (λ item. item) state patterns

@@ -1,41 +1,129 @@
 -- What an automaton's laws tell of its kind and its lengths, and of what a searcher was built from.
-use Rattle.std.proofs.Common.{◌≡◌, ◌∙◌, ap, sym, subst, Bool, List, ℕ, Option}
-use Rattle.std.specs.Prelude.{Err, Ok, map, length, if◌then◌else◌}
+use Rattle.std.proofs.Common.{◌≡◌, ◌∙◌, ap, sym, subst, refl, true, false, inl, inr, Bool, List, ℕ, Option}
+use Rattle.std.specs.Prelude.{Err, IsOk, Ok, Result, map, length, if◌then◌else◌}
+use Rattle.std.proofs.lemmas.Bool.{both_ways}
 use Rattle.std.proofs.lemmas.List.{length-map}
 use Rattle.std.proofs.lemmas.Simd.{map-map}
 use denote.Ref.{Bor}
 use Rattle.aho_base.specs.Laws.{longest, shortest}
 use Rattle.aho_base.specs.Patterns.{Patterns}
 use Rattle.aho_base.specs.declared.error.MatchErrorKind.TheVariants.{InvalidInputUnanchored}
-use Rattle.aho_base.specs.declared.search.Anchored.TheVariants.{No}
-use Rattle.aho_build.proofs.AutomatonLaws.{reads_of}
-use Rattle.aho_build.specs.Automaton.{start_of}
-use Rattle.aho_build.specs.Items.{patterns_of, OfAccepted}
+use Rattle.aho_base.specs.declared.search.Anchored.{Anchored}
+use Rattle.aho_base.specs.declared.search.Anchored.TheVariants.{No, Yes}
+use Rattle.aho_build.specs.Items.{patterns_of}
 use Rattle.aho_build.specs.declared.settings.Settings.{Settings}
 use Rattle.aho_corasick.specs.Clones.{IsCloneOf}
 use Rattle.aho_corasick.specs.declared.noncontiguous.NFA.{NFA}
-use Rattle.aho_corasick.specs.contracts.noncontiguous.NFAAutomaton.TheImpl.{ghosts}
-use Rattle.chromesquid.specs.Searcher.{Answers, IsBuiltFrom, Refuses, Searcher, lengths_of, match_kind_of, patterns_len_of, refusal_of, start_by}
+use Rattle.aho_corasick.specs.contracts.noncontiguous.NFAAutomaton.TheImpl.{ghosts as of_nfa}
+use Rattle.aho_hybrid.specs.contracts.hybrid.HybridAutomaton.TheImpl.{ghosts as of_rows}
+use Rattle.aho_hybrid.specs.declared.hybrid.Hybrid.{Hybrid as HybridOf}
+use Rattle.chromesquid.specs.Engine.{HasKind, kind_in, laws_by}
+use Rattle.chromesquid.specs.Searcher.{Answers, IsBuiltFrom, Refuses, Searcher, allows, kind_for, lengths_of, match_kind_of, patterns_len_of, refusal_of, start_by}
+use Rattle.chromesquid.specs.contracts.engine.EngineAutomaton.TheImpl.{ghosts}
+use Rattle.chromesquid.specs.declared.engine.Engine.{Engine}
+use Rattle.chromesquid.specs.declared.engine.Engine.TheVariants.{Noncontiguous, Rows}
+use Rattle.chromesquid.specs.declared.kinds.AhoCorasickKind.{AhoCorasickKind}
+use Rattle.chromesquid.specs.declared.kinds.AhoCorasickKind.TheVariants.{NoncontiguousNFA, Hybrid}
+use Rattle.chromesquid.specs.declared.kinds.StartKind.{StartKind}
+use Rattle.chromesquid.specs.declared.kinds.StartKind.TheVariants.{Both, Unanchored, Anchored as AnchoredOnly}
 
 -- it finds by its patterns' match kind
-pub kind-of : (p : Patterns) (nfa : NFA) → ghosts.is_of nfa p → ghosts.kind nfa ≡ p.kind
-kind-of p nfa of = (reads_of p nfa.match_kind nfa.pattern_lens.items nfa.special nfa.table.states of.0).kind_is
+pub kind-of : (p : Patterns) (engine : Engine) → ghosts.is_of engine p → ghosts.kind engine ≡ p.kind
+kind-of p engine of = (laws_by engine p of).kind_is
 
 -- its lengths are those of its patterns
-pub lengths-of : (p : Patterns) (nfa : NFA) → ghosts.is_of nfa p → ghosts.lengths nfa ≡ map length p.words
-lengths-of p nfa of = (reads_of p nfa.match_kind nfa.pattern_lens.items nfa.special nfa.table.states of.0).lengths_are
+pub lengths-of : (p : Patterns) (engine : Engine) → ghosts.is_of engine p → ghosts.lengths engine ≡ map length p.words
+lengths-of p engine of = (laws_by engine p of).lengths_are
 
 -- so they are those of the byte strings that it was built from
-pub lengths-of_items : (settings : Settings) (items : List (Bor (List ℕ))) (searcher : Searcher) → ghosts.is_of searcher.automaton (patterns_of settings items)
+pub lengths-of_items : (settings : Settings) (items : List (Bor (List ℕ))) (searcher : Searcher) → IsBuiltFrom searcher (patterns_of settings items)
     → ghosts.lengths searcher.automaton ≡ map (λ item. length item.now) items
-lengths-of_items settings items searcher of = lengths-of (patterns_of settings items) searcher.automaton of ∙ map-map length (λ item. item.now) items
+lengths-of_items settings items searcher built = lengths-of (patterns_of settings items) searcher.automaton built.reads ∙ map-map length (λ item. item.now) items
 
--- a searcher with an automaton was built from what the automaton was built from
-pub of_accepted : {S : Type 0} (gives : S → Option (Bor (List ℕ)) → S → Type 0) (state : S) {set : Settings} (settings : Settings) (nfa : NFA) (searcher : Searcher)
-    → set ≡ settings → nfa ≡ searcher.automaton → OfAccepted gives state set (ghosts.is_of nfa) → OfAccepted gives state settings (IsBuiltFrom searcher)
-of_accepted gives state settings nfa searcher same is accepted =
-    let all : OfAccepted gives state _ (ghosts.is_of nfa) = subst (λ (s : Settings). OfAccepted gives state s (ghosts.is_of nfa)) same accepted in
-    (all.0, all.1, record { reads = subst (λ (n : NFA). ghosts.is_of n (patterns_of settings all.0)) is all.2 })
+-- rows are not the noncontiguous automaton
+abbrev is_rows : AhoCorasickKind → Bool
+is_rows NoncontiguousNFA = false
+is_rows Hybrid = true
+
+rows_are_no_trie : Hybrid ≡ NoncontiguousNFA → ⊥
+rows_are_no_trie same = both_ways true (ap is_rows same) refl
+
+-- an automaton of this kind has a start for each search that is answered
+suits : (start_kind : StartKind) (asked : Option AhoCorasickKind) (engine : Engine) (anchored : Anchored) → kind_in engine ≡ kind_for start_kind asked → allows start_kind anchored ≡ true
+    → IsOk (ghosts.start engine anchored)
+suits start_kind asked (Noncontiguous nfa) anchored kind allowed = refl
+suits start_kind asked (Rows hybrid) No kind allowed = refl
+suits Both asked (Rows hybrid) Yes kind allowed = absurd (rows_are_no_trie kind)
+suits Unanchored asked (Rows hybrid) Yes kind allowed = absurd (both_ways false refl allowed)
+suits AnchoredOnly asked (Rows hybrid) Yes kind allowed = absurd (rows_are_no_trie kind)
+
+-- so a searcher with the automaton that was made for some patterns was built from them
+built_by : (start_kind : StartKind) (asked : Option AhoCorasickKind) (engine : Engine) (p : Patterns) → HasKind (kind_for start_kind asked) engine → ghosts.is_of engine p
+    → IsBuiltFrom (record { automaton = engine; start_kind = start_kind }) p
+built_by start_kind asked engine p has of =
+    record {
+      reads = of;
+      starts = λ anchored allowed.
+          elim has [
+            | inl kind ↦ suits start_kind asked engine anchored kind allowed
+            | inr same ↦ subst (λ (e : Engine). IsOk (ghosts.start e anchored)) (sym same.1) refl
+          ];
+    }
+
+pub built_as : (kind : AhoCorasickKind) (start_kind : StartKind) (asked : Option AhoCorasickKind) (engine : Engine) (p : Patterns) → kind ≡ kind_for start_kind asked → HasKind kind engine
+    → ghosts.is_of engine p → IsBuiltFrom (record { automaton = engine; start_kind = start_kind }) p
+built_as kind start_kind asked engine p is has of = built_by start_kind asked engine p (subst (λ (k : AhoCorasickKind). HasKind k engine) is has) of
+
+-- where no rows are to be made it has none
+pub trie_of : (kind : AhoCorasickKind) (engine : Engine) → HasKind kind engine → kind ≡ NoncontiguousNFA → kind_in engine ≡ NoncontiguousNFA
+trie_of kind engine has same =
+    elim has [
+      | inl is ↦ is ∙ same
+      | inr trie ↦ ap kind_in trie.1
+    ]
+
+-- a copy of what is held is one of the automaton
+pub copy_of_trie : (nfa copy : NFA) → IsCloneOf of_nfa copy nfa → IsCloneOf ghosts (Noncontiguous copy) (Noncontiguous nfa)
+copy_of_trie nfa copy clone =
+    record {
+      same_patterns = clone.same_patterns;
+      same_held = clone.same_held;
+      same_valid = clone.same_valid;
+      same_kind = clone.same_kind;
+      same_lengths = clone.same_lengths;
+      same_list = clone.same_list;
+      same_dead = clone.same_dead;
+      same_special = clone.same_special;
+      same_marked = clone.same_marked;
+      same_starts = clone.same_starts;
+      same_depth = clone.same_depth;
+      same_next = clone.same_next;
+      same_lookups = clone.same_lookups;
+      same_start = clone.same_start;
+      same_memory = clone.same_memory;
+      same_prefilter = clone.same_prefilter;
+    }
+
+pub copy_of_rows : (hybrid copy : HybridOf) → IsCloneOf of_rows copy hybrid → IsCloneOf ghosts (Rows copy) (Rows hybrid)
+copy_of_rows hybrid copy clone =
+    record {
+      same_patterns = clone.same_patterns;
+      same_held = clone.same_held;
+      same_valid = clone.same_valid;
+      same_kind = clone.same_kind;
+      same_lengths = clone.same_lengths;
+      same_list = clone.same_list;
+      same_dead = clone.same_dead;
+      same_special = clone.same_special;
+      same_marked = clone.same_marked;
+      same_starts = clone.same_starts;
+      same_depth = clone.same_depth;
+      same_next = clone.same_next;
+      same_lookups = clone.same_lookups;
+      same_start = clone.same_start;
+      same_memory = clone.same_memory;
+      same_prefilter = clone.same_prefilter;
+    }
 
 -- a searcher has as many patterns as it was built from
 pub count_of : (p : Patterns) (searcher : Searcher) → IsBuiltFrom searcher p → patterns_len_of searcher ≡ length p.words
@@ -52,22 +140,32 @@ longest_of p searcher built = ap longest (lengths-of p searcher.automaton built.
 pub finds_by : (p : Patterns) (searcher : Searcher) → IsBuiltFrom searcher p → match_kind_of searcher ≡ p.kind
 finds_by p searcher built = kind-of p searcher.automaton built.reads
 
--- a search that is not anchored has no start where it is refused
+-- a search has no start where it is refused
 pub start_refused : (searcher : Searcher) → Refuses searcher No → start_by searcher No ≡ Err InvalidInputUnanchored
 start_refused searcher refuses = ap (λ (b : Bool). if b then ghosts.start searcher.automaton No else Err (refusal_of No)) refuses
 
+-- what is told is some value
+ok_value : {A E : Type 0} (r : Result A E) → IsOk r → (x : A) × (r ≡ Ok x)
+ok_value (Ok x) ok = (x, refl)
+ok_value (Err e) ok = absurd (both_ways false refl ok)
+
 -- and one where it is answered
-pub start_answered : (searcher : Searcher) → Answers searcher No → (sid : ℕ) × (start_by searcher No ≡ Ok sid)
-start_answered searcher answers =
-    (start_of searcher.automaton.special No, ap (λ (b : Bool). if b then ghosts.start searcher.automaton No else Err (refusal_of No)) answers)
+pub start_of : (anchored : Anchored) (searcher : Searcher) → (p : Patterns) × IsBuiltFrom searcher p → Answers searcher anchored → (sid : ℕ) × (start_by searcher anchored ≡ Ok sid)
+start_of anchored searcher built answers =
+    let start = ok_value (ghosts.start searcher.automaton anchored) (built.1.starts anchored answers) in
+    (start.0, ap (λ (b : Bool). if b then ghosts.start searcher.automaton anchored else Err (refusal_of anchored)) answers ∙ start.1)
 
 -- a searcher that was built from a list of byte strings has as many patterns
-pub count-of_items : (settings : Settings) (items : List (Bor (List ℕ))) (searcher : Searcher) → ghosts.is_of searcher.automaton (patterns_of settings items)
+pub count-of_items : (settings : Settings) (items : List (Bor (List ℕ))) (searcher : Searcher) → IsBuiltFrom searcher (patterns_of settings items)
     → patterns_len_of searcher ≡ length items
-count-of_items settings items searcher of = ap length (lengths-of_items settings items searcher of) ∙ length-map items (λ item. length item.now)
+count-of_items settings items searcher built = ap length (lengths-of_items settings items searcher built) ∙ length-map items (λ item. length item.now)
 
 -- a copy of a searcher's automaton is of patterns that the searcher was built from
-pub copy_is_of : (nfa copy : NFA) (searcher : Searcher) → nfa ≡ searcher.automaton → (p : Patterns) × IsBuiltFrom searcher p → IsCloneOf ghosts copy nfa
-    → (p : Patterns) × ghosts.is_of copy p
-copy_is_of nfa copy searcher is built clone =
-    (built.0, (clone.same_patterns built.0).0 (subst (λ (n : NFA). ghosts.is_of n built.0) (sym is) built.1.reads))
+pub copy_is_of : (engine copy : Engine) (searcher : Searcher) → engine ≡ searcher.automaton → IsCloneOf ghosts copy engine
+    → (p : Patterns) → IsBuiltFrom searcher p → IsBuiltFrom (record { automaton = copy; start_kind = searcher.start_kind }) p
+copy_is_of engine copy searcher is clone p built =
+    record {
+      reads = (clone.same_patterns p).0 (subst (λ (e : Engine). ghosts.is_of e p) (sym is) built.reads);
+      starts = λ anchored allowed.
+          subst IsOk (sym (ap (λ f. f anchored) clone.same_start)) (subst (λ (e : Engine). IsOk (ghosts.start e anchored)) (sym is) (built.starts anchored allowed));
+    }

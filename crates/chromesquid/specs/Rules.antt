@@ -18,5 +18,6 @@ pub use Rattle.aho_search.specs.Finding.{AreFirstFinds, HoldsOfFinds}
 pub use Rattle.aho_stream.specs.FindRuns.{is_limit_among}
 pub use Rattle.aho_stream.specs.StreamRun.{RefusesUntouched}
 pub use Rattle.chromesquid.specs.Building.{IsFailureOf}
-pub use Rattle.chromesquid.specs.Searcher.{Answers, HasEmpty, HasNoEmpty, IsBuiltFrom, Refuses, TellsMatch, match_kind_of, memory_of, patterns_len_of}
+pub use Rattle.chromesquid.specs.Engine.{HasKind}
+pub use Rattle.chromesquid.specs.Searcher.{Answers, HasEmpty, HasNoEmpty, IsBuiltFrom, Refuses, TellsMatch, kind_for, kind_of, match_kind_of, memory_of, patterns_len_of}
 pub use Rattle.chromesquid.specs.Streams.{FindsFirst, FindsWhole, IsBegun, IsReplaced, IsReplacedUpTo, IsStreamRun}

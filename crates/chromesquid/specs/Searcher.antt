@@ -1,5 +1,5 @@
 -- What a searcher is seen as, and which patterns it was built from.
-use Rattle.std.specs.Prelude.{◌≡◌, ◌≤◌, ℕ, List, Bool, true, false, Option, Result, Err, is_some, length, if◌then◌else◌}
+use Rattle.std.specs.Prelude.{◌≡◌, ◌≤◌, ℕ, List, Bool, true, false, Option, None, Some, Result, Err, IsOk, is_some, length, if◌then◌else◌}
 use Rattle.aho_base.specs.Answer.{IsAnswer}
 use Rattle.aho_base.specs.Laws.{shortest}
 use Rattle.aho_base.specs.Occurrence.{Occurrence}
@@ -12,19 +12,22 @@ use Rattle.aho_base.specs.declared.error.MatchErrorKind.TheVariants.{InvalidInpu
 use Rattle.aho_base.specs.declared.search.Anchored.{Anchored}
 use Rattle.aho_base.specs.declared.search.Anchored.TheVariants.{No, Yes}
 use Rattle.aho_base.specs.declared.search.MatchKind.{MatchKind}
-use Rattle.aho_corasick.specs.declared.noncontiguous.NFA.{NFA}
-use Rattle.aho_corasick.specs.contracts.noncontiguous.NFAAutomaton.TheImpl.{ghosts}
+use Rattle.chromesquid.specs.Engine.{kind_in}
+use Rattle.chromesquid.specs.contracts.engine.EngineAutomaton.TheImpl.{ghosts}
+use Rattle.chromesquid.specs.declared.engine.Engine.{Engine}
+use Rattle.chromesquid.specs.declared.kinds.AhoCorasickKind.{AhoCorasickKind}
+use Rattle.chromesquid.specs.declared.kinds.AhoCorasickKind.TheVariants.{NoncontiguousNFA, Hybrid}
 use Rattle.chromesquid.specs.declared.kinds.StartKind.{StartKind}
 use Rattle.chromesquid.specs.declared.kinds.StartKind.TheVariants.{Both, Unanchored, Anchored as AnchoredOnly}
 
 -- an automaton, and which searches are answered
 pub record Searcher : Type 0 where
-  pub automaton : NFA
+  pub automaton : Engine
   pub start_kind : StartKind
 
--- the searcher was built from these patterns, with their match kind and case rule
-pub record IsBuiltFrom (searcher : Searcher) (p : Patterns) : Type 0 where
-  pub reads : ghosts.is_of searcher.automaton p
+-- which kind of automaton it searches by
+abbrev pub kind_of : Searcher → AhoCorasickKind
+kind_of searcher = kind_in searcher.automaton
 
 -- which of several matches it finds
 abbrev pub match_kind_of : Searcher → MatchKind
@@ -58,6 +61,19 @@ allows Unanchored Yes = false
 allows AnchoredOnly No = false
 allows AnchoredOnly Yes = true
 
+-- the kind of automaton that is made where this one is asked for: rows answer no anchored search, and are taken where nothing is
+-- asked for
+abbrev pub kind_for : StartKind → Option AhoCorasickKind → AhoCorasickKind
+kind_for Unanchored None = Hybrid
+kind_for Unanchored (Some kind) = kind
+kind_for Both asked = NoncontiguousNFA
+kind_for AnchoredOnly asked = NoncontiguousNFA
+
+-- the searcher was built from these patterns, with their match kind and case rule, and each search that is answered has a start
+pub record IsBuiltFrom (searcher : Searcher) (p : Patterns) : Type 0 where
+  pub reads : ghosts.is_of searcher.automaton p
+  pub starts : (anchored : Anchored) → allows searcher.start_kind anchored ≡ true → IsOk (ghosts.start searcher.automaton anchored)
+
 -- why a search of this anchoring is refused
 abbrev pub refusal_of : Anchored → MatchErrorKind
 refusal_of No = InvalidInputUnanchored
@@ -85,7 +101,8 @@ pub record TellsMatch (p : Patterns) (search : Search) (told : Bool) : Type 0 wh
 pub record Building : Type 0 where
   pub settings : Settings
   pub start_kind : StartKind
+  pub kind : Option AhoCorasickKind
 
 -- how it is built where nothing is set
 abbrev pub default_building : Building
-default_building = record { settings = default_settings; start_kind = Unanchored }
+default_building = record { settings = default_settings; start_kind = Unanchored; kind = None }

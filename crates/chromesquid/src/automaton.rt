@@ -1,49 +1,49 @@
 //! A searcher is an automaton as well: every search that is written for any automaton takes one.
 
+use crate::engine::Engine;
 use crate::kinds::{is_allowed, refusal_of};
 use crate::searcher::AhoCorasick;
 use aho_base::error::MatchError;
 use aho_base::search::{Anchored, MatchKind, PatternID, StateID, Work};
-use aho_corasick::noncontiguous::NFA;
 use aho_prefilter::prefilter::Prefilter;
 use aho_search::automaton::Automaton;
 
 impl Automaton for AhoCorasick {
-    ghost use Rattle.std.specs.Prelude.{is_some};
-    ghost use Rattle.aho_base.specs.declared.search.Anchored.TheVariants.{No};
-    ghost use Rattle.aho_build.proofs.AutomatonLaws.{alike_of, reads_of, plain_of, dead_shallow_of, starts_shallow_of};
+    ghost use Rattle.chromesquid.specs.Engine.{alike_by, dead_shallow_by, laws_by, plain_by, prefilters_by, starts_shallow_by, unmarked_by};
     ghost use Rattle.chromesquid.specs.Searcher.{IsBuiltFrom, start_by};
 
     ghost is_of = { λ s p. IsBuiltFrom s p };
 
-    ghost held = { λ s p anchored word sid. ⟦<NFA as Automaton>⟧.held s.automaton p anchored word sid };
+    ghost held = { λ s p anchored word sid. ⟦<Engine as Automaton>⟧.held s.automaton p anchored word sid };
 
-    ghost valid = { λ s sid. ⟦<NFA as Automaton>⟧.valid s.automaton sid };
+    ghost valid = { λ s sid. ⟦<Engine as Automaton>⟧.valid s.automaton sid };
 
-    ghost kind = { λ s. ⟦<NFA as Automaton>⟧.kind s.automaton };
+    ghost kind = { λ s. ⟦<Engine as Automaton>⟧.kind s.automaton };
 
-    ghost lengths = { λ s. ⟦<NFA as Automaton>⟧.lengths s.automaton };
+    ghost lengths = { λ s. ⟦<Engine as Automaton>⟧.lengths s.automaton };
 
-    ghost list = { λ s sid. ⟦<NFA as Automaton>⟧.list s.automaton sid };
+    ghost list = { λ s sid. ⟦<Engine as Automaton>⟧.list s.automaton sid };
 
-    ghost dead = { λ s sid. ⟦<NFA as Automaton>⟧.dead s.automaton sid };
+    ghost dead = { λ s sid. ⟦<Engine as Automaton>⟧.dead s.automaton sid };
 
-    ghost special = { λ s sid. ⟦<NFA as Automaton>⟧.special s.automaton sid };
+    ghost special = { λ s sid. ⟦<Engine as Automaton>⟧.special s.automaton sid };
 
-    ghost starts = { λ s sid. ⟦<NFA as Automaton>⟧.starts s.automaton sid };
+    ghost marked = { λ s sid. ⟦<Engine as Automaton>⟧.marked s.automaton sid };
 
-    ghost depth = { λ s sid. ⟦<NFA as Automaton>⟧.depth s.automaton sid };
+    ghost starts = { λ s sid. ⟦<Engine as Automaton>⟧.starts s.automaton sid };
 
-    ghost next = { λ s anchored sid byte. ⟦<NFA as Automaton>⟧.next s.automaton anchored sid byte };
+    ghost depth = { λ s sid. ⟦<Engine as Automaton>⟧.depth s.automaton sid };
+
+    ghost next = { λ s anchored sid byte. ⟦<Engine as Automaton>⟧.next s.automaton anchored sid byte };
 
     ghost lookups = { λ s p anchored word byte.
-        ⟦<NFA as Automaton>⟧.lookups s.automaton p anchored word byte };
+        ⟦<Engine as Automaton>⟧.lookups s.automaton p anchored word byte };
 
     ghost start = { λ s anchored. start_by s anchored };
 
-    ghost memory = { λ s. ⟦<NFA as Automaton>⟧.memory s.automaton };
+    ghost memory = { λ s. ⟦<Engine as Automaton>⟧.memory s.automaton };
 
-    ghost prefilter = { λ s. ⟦<NFA as Automaton>⟧.prefilter s.automaton };
+    ghost prefilter = { λ s. ⟦<Engine as Automaton>⟧.prefilter s.automaton };
 
     fn start_state(&self, anchored: Anchored) -> Result<StateID, MatchError> {
         if is_allowed(self.start_kind(), anchored) {
@@ -63,6 +63,10 @@ impl Automaton for AhoCorasick {
 
     fn is_special(&self, sid: StateID) -> bool {
         self.automaton().is_special(sid)
+    }
+
+    fn is_marked(&self, sid: StateID) -> bool {
+        self.automaton().is_marked(sid)
     }
 
     fn is_dead(&self, sid: StateID) -> bool {
@@ -113,20 +117,17 @@ impl Automaton for AhoCorasick {
         self.automaton().memory_usage()
     }
 
-    ghost laws = { λ s p built. reads_of p s.automaton.match_kind s.automaton.pattern_lens.items
-        s.automaton.special s.automaton.table.states built.reads.0 };
+    ghost laws = { λ s p built. laws_by s.automaton p built.reads };
 
-    ghost alike = { λ s p word other sid built.
-        alike_of p s.automaton.special s.automaton.table.states No word other sid };
+    ghost alike = { λ s p word other sid built. alike_by s.automaton p word other sid built.reads };
 
-    ghost plain = { λ s sid valid. plain_of (is_some s.automaton.prefilter) s.automaton.special
-        s.automaton.table.states sid };
+    ghost plain = { λ s sid valid. plain_by s.automaton sid valid };
 
-    ghost dead_shallow = { λ s sid valid.
-        dead_shallow_of s.automaton.table.states sid s.automaton.sound };
+    ghost unmarked = { λ s sid valid. unmarked_by s.automaton sid valid };
 
-    ghost starts_shallow = { λ s sid valid.
-        starts_shallow_of s.automaton.special s.automaton.table.states sid s.automaton.starts };
+    ghost dead_shallow = { λ s sid valid. dead_shallow_by s.automaton sid valid };
 
-    ghost prefilters = { λ s p built. built.reads.1 };
+    ghost starts_shallow = { λ s sid valid. starts_shallow_by s.automaton sid valid };
+
+    ghost prefilters = { λ s p built. prefilters_by s.automaton p built.reads };
 }

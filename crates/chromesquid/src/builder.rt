@@ -8,12 +8,16 @@ ghost use Rattle.aho_build.specs.Automaton.{memory_for};
 ghost use Rattle.aho_build.specs.Items.{IsFailure, OfAccepted, patterns_of};
 ghost use Rattle.aho_build.specs.Refusals.{cause};
 ghost use Rattle.chromesquid.specs.Building.{IsFailureOf};
+ghost use Rattle.chromesquid.specs.Engine.{HasKind};
+ghost use Rattle.chromesquid.specs.declared.kinds.AhoCorasickKind.TheVariants.{NoncontiguousNFA};
 
-use crate::kinds::StartKind;
+use crate::engine::Engine;
+use crate::kinds::{AhoCorasickKind, StartKind, kind_for};
 use crate::searcher::AhoCorasick;
 use aho_base::error::BuildError;
 use aho_base::search::MatchKind;
-use aho_corasick::noncontiguous::{Builder, Limits, NFA};
+use aho_build::settings::{Limits, Settings};
+use aho_corasick::noncontiguous::{Builder, NFA};
 use aho_search::automaton::Automaton;
 use std::alloc::Global;
 use std::marker::Model;
@@ -21,8 +25,9 @@ use std::marker::Model;
 /// How a searcher is built.
 #[derive(Clone, Drop)]
 pub struct AhoCorasickBuilder {
-    automaton: Builder,
+    settings: Settings,
     start_kind: StartKind,
+    kind: Option<AhoCorasickKind>,
 }
 
 impl Model for AhoCorasickBuilder {
@@ -30,9 +35,9 @@ impl Model for AhoCorasickBuilder {
 
     ghost Value = { Building };
 
-    ghost view = { λ b. record { settings = b.automaton; start_kind = b.start_kind } };
+    ghost view = { λ b. record { settings = b.settings; start_kind = b.start_kind; kind = b.kind } };
 
-    ghost inverse = { λ b. record { automaton = b.settings; start_kind = b.start_kind } };
+    ghost inverse = { λ b. record { settings = b.settings; start_kind = b.start_kind; kind = b.kind } };
 }
 
 impl Default for AhoCorasickBuilder {
@@ -45,31 +50,46 @@ impl Default for AhoCorasickBuilder {
     }
 }
 
-/// The automaton of these patterns.
-fn automaton_of(builder: &Builder, alloc: Global, patterns: &[&[u8]]) -> Result<NFA, BuildError>
-    ensures of { IfOk result (λ nfa.
-        ⟦<NFA as Automaton>⟧.is_of nfa (patterns_of builder.now patterns.now)) }
-    ensures memory { IfOk result (λ nfa. ⟦<NFA as Automaton>⟧.memory nfa
-        ≡ memory_for builder.now (patterns_of builder.now patterns.now)) }
-    ensures accepted { IfOk result (λ nfa.
-        cause builder.now (patterns_of builder.now patterns.now) ≡ None) }
-    ensures refused { IfErr result
-        (IsFailureOf builder.now (patterns_of builder.now patterns.now)) }
+/// A builder of automata with these settings.
+fn builder_of(settings: &Settings) -> Builder
+    ensures same { result ≡ settings.now }
 {
-    builder.build(alloc, patterns.iter().copied())
+    let mut builder = NFA::builder();
+    builder
+        .match_kind(settings.kind)
+        .ascii_case_insensitive(settings.ignore_case)
+        .dense_depth(settings.dense_depth)
+        .prefilter(settings.prefilter)
+        .limits(settings.limits);
+    builder
+}
+
+/// The automaton of these patterns.
+fn automaton_of(settings: &Settings, alloc: Global, patterns: &[&[u8]]) -> Result<NFA, BuildError>
+    ensures of { IfOk result (λ nfa.
+        ⟦<NFA as Automaton>⟧.is_of nfa (patterns_of settings.now patterns.now)) }
+    ensures memory { IfOk result (λ nfa. ⟦<NFA as Automaton>⟧.memory nfa
+        ≡ memory_for settings.now (patterns_of settings.now patterns.now)) }
+    ensures accepted { IfOk result (λ nfa.
+        cause settings.now (patterns_of settings.now patterns.now) ≡ None) }
+    ensures refused { IfErr result
+        (IsFailureOf settings.now (patterns_of settings.now patterns.now)) }
+{
+    builder_of(settings).build(alloc, patterns.iter().copied())
 }
 
 impl AhoCorasickBuilder {
-    ghost use Rattle.chromesquid.specs.Searcher.{IsBuiltFrom, default_building, lengths_of, match_kind_of, memory_of, patterns_len_of};
+    ghost use Rattle.chromesquid.specs.Searcher.{IsBuiltFrom, default_building, kind_for, kind_of, lengths_of, match_kind_of, memory_of, patterns_len_of};
 
     /// Standard, with regard to case, for searches that are not anchored, with a prefilter where one can be held, dense rows
-    /// up to depth 3, and the greatest limits.
+    /// up to depth 3, and the greatest limits. No kind of automaton is asked for.
     pub fn new() -> AhoCorasickBuilder
         ensures new { result ≡ default_building }
     {
         AhoCorasickBuilder {
-            automaton: NFA::builder(),
+            settings: Settings::default(),
             start_kind: StartKind::Unanchored,
+            kind: None,
         }
     }
 
@@ -84,22 +104,28 @@ impl AhoCorasickBuilder {
             IsBuiltFrom built (patterns_of self.now.settings patterns.now)) }
         ensures match_kind { IfOk result (λ built. match_kind_of built ≡ self.now.settings.kind) }
         ensures start_kind { IfOk result (λ built. built.start_kind ≡ self.now.start_kind) }
+        ensures kind { IfOk result (λ built.
+            HasKind (kind_for self.now.start_kind self.now.kind) built.automaton) }
+        ensures trie { kind_for self.now.start_kind self.now.kind ≡ NoncontiguousNFA
+            → IfOk result (λ built. kind_of built ≡ NoncontiguousNFA) }
         ensures lengths { IfOk result (λ built.
             lengths_of built ≡ map (λ pattern. length pattern.now) patterns.now) }
         ensures count { IfOk result (λ built. patterns_len_of built ≡ length patterns.now) }
-        ensures memory { IfOk result (λ built. memory_of built
+        ensures memory { IfOk result (λ built. kind_of built ≡ NoncontiguousNFA → memory_of built
             ≡ memory_for self.now.settings (patterns_of self.now.settings patterns.now)) }
         ensures accepted { IfOk result (λ built.
             cause self.now.settings (patterns_of self.now.settings patterns.now) ≡ None) }
         ensures refused { IfErr result
             (IsFailureOf self.now.settings (patterns_of self.now.settings patterns.now)) }
     {
-        let automaton = automaton_of(&self.automaton, alloc, patterns)?;
+        let nfa = automaton_of(&self.settings, alloc, patterns)?;
+        let kind = kind_for(self.start_kind, self.kind);
+        let automaton = Engine::of_kind(alloc, nfa, kind, &self.settings, patterns)?;
         Ok(AhoCorasick::of_automaton(automaton, self.start_kind))
     }
 
-    /// The searcher of the patterns that an iterator gives, which are numbered from 0 on as they come. The builder can be
-    /// used again.
+    /// The searcher of the patterns that an iterator gives, which are numbered from 0 on as they come. They are collected
+    /// first, in 16 bytes each, but not copied. The builder can be used again.
     ///
     /// # Errors
     ///
@@ -117,17 +143,23 @@ impl AhoCorasickBuilder {
             IsBuiltFrom built (patterns_of self.now.settings run.items))) }
         ensures match_kind { IfOk result (λ built. match_kind_of built ≡ self.now.settings.kind) }
         ensures start_kind { IfOk result (λ built. built.start_kind ≡ self.now.start_kind) }
+        ensures kind { IfOk result (λ built.
+            HasKind (kind_for self.now.start_kind self.now.kind) built.automaton) }
+        ensures trie { kind_for self.now.start_kind self.now.kind ≡ NoncontiguousNFA
+            → IfOk result (λ built. kind_of built ≡ NoncontiguousNFA) }
         ensures refused { IfErr result (IsFailure I.next_gives patterns self.now.settings) }
     {
-        let automaton = self.automaton.build(alloc, patterns)?;
-        Ok(AhoCorasick::of_automaton(automaton, self.start_kind))
+        let Ok(patterns) = patterns.collect::<Vec<&[u8]>>(alloc) else {
+            return Err(BuildError::OutOfMemory);
+        };
+        self.build(alloc, patterns.as_slice())
     }
 
     /// Which of several matches is found.
     pub fn match_kind(mut self, kind: MatchKind) -> AhoCorasickBuilder
         ensures set { result ≡ record self { settings = record self.settings { kind = kind } } }
     {
-        self.automaton.match_kind(kind);
+        self.settings.kind = kind;
         self
     }
 
@@ -135,11 +167,12 @@ impl AhoCorasickBuilder {
     pub fn ascii_case_insensitive(mut self, yes: bool) -> AhoCorasickBuilder
         ensures set { result ≡ record self { settings = record self.settings { ignore_case = yes } } }
     {
-        self.automaton.ascii_case_insensitive(yes);
+        self.settings.ignore_case = yes;
         self
     }
 
-    /// Which searches are answered. An automaton for all of them takes no more memory than one for some.
+    /// Which searches are answered. A searcher for anchored ones has the noncontiguous automaton (`kind`), which takes no more
+    /// memory for all of them than for some.
     pub fn start_kind(mut self, kind: StartKind) -> AhoCorasickBuilder
         ensures set { result ≡ record self { start_kind = kind } }
     {
@@ -147,20 +180,32 @@ impl AhoCorasickBuilder {
         self
     }
 
-    /// Whether a prefilter is held where there is one for the patterns. No answer depends on it.
-    pub fn prefilter(mut self, yes: bool) -> AhoCorasickBuilder
-        ensures set { result ≡ record self { settings = record self.settings { prefilter = yes } } }
+    /// Which kind of automaton is made; where none is asked for, one of rows. Searchers of other searches than unanchored ones
+    /// have the noncontiguous one, whatever is asked for, and so have those for whose patterns rows do not fit:
+    /// `AhoCorasick::kind` tells. No answer depends on it.
+    pub fn kind(mut self, kind: Option<AhoCorasickKind>) -> AhoCorasickBuilder
+        ensures set { result ≡ record self { kind = kind } }
     {
-        self.automaton.prefilter(yes);
+        self.kind = kind;
         self
     }
 
-    /// Up to which distance from the start states have dense rows, by which a step is one look; none at 0. A row takes four
-    /// bytes for each class of bytes. No answer depends on it.
+    /// Whether a prefilter is held where there is one for the patterns; with rows it may be a packed search. No answer depends
+    /// on it.
+    pub fn prefilter(mut self, yes: bool) -> AhoCorasickBuilder
+        ensures set { result ≡ record self { settings = record self.settings { prefilter = yes } } }
+    {
+        self.settings.prefilter = yes;
+        self
+    }
+
+    /// Up to which distance from the start states of the noncontiguous automaton have dense rows, by which a step is one look;
+    /// none at 0. A row takes four bytes for each class of bytes. A `Hybrid` is made of that automaton, and has rows of its own.
+    /// No answer depends on it.
     pub fn dense_depth(mut self, depth: usize) -> AhoCorasickBuilder
         ensures set { result ≡ record self { settings = record self.settings { dense_depth = depth } } }
     {
-        self.automaton.dense_depth(depth);
+        self.settings.dense_depth = depth;
         self
     }
 
@@ -168,7 +213,7 @@ impl AhoCorasickBuilder {
     pub fn limits(mut self, limits: Limits) -> AhoCorasickBuilder
         ensures set { result ≡ record self { settings = record self.settings { limits = limits } } }
     {
-        self.automaton.limits(limits);
+        self.settings.limits = limits;
         self
     }
 }

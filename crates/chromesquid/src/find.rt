@@ -15,7 +15,7 @@ use crate::input::Searchable;
 use crate::kinds::{is_allowed, refusal_of};
 use crate::searcher::AhoCorasick;
 use aho_base::error::MatchError;
-use aho_base::search::Match;
+use aho_base::search::{Input, Match};
 use aho_search::automaton::Automaton;
 
 /// The matches of a search, one after another.
@@ -31,6 +31,25 @@ pub type FindOverlappingIter<'a, 'h> = aho_search::automaton::FindOverlappingIte
 impl AhoCorasick {
     ghost use Rattle.chromesquid.specs.Searcher.{Answers, IsBuiltFrom, Refuses, TellsMatch, match_kind_of, patterns_len_of, refusal_of};
 
+    /// What the search finds, by the automaton that is held; it is asked once which one that is.
+    ///
+    /// # Errors
+    ///
+    /// As those of `try_find`.
+    fn search(&self, input: &Input) -> Result<Option<Match>, MatchError>
+        ensures found { (p : Patterns) → IsBuiltFrom self.now p → IfOk result (IsAnswer p input.now) }
+        ensures ok { Answers self.now input.now.anchored → IsOk result }
+        ensures refused { Refuses self.now input.now.anchored → input.now.start ≤ input.now.end
+            → result ≡ Err (refusal_of input.now.anchored) }
+        ensures done { input.now.end < input.now.start → result ≡ Ok None }
+    {
+        if is_allowed(self.start_kind(), input.get_anchored()) {
+            self.built().automaton().find(input)
+        } else {
+            Automaton::try_find(self.built(), input)
+        }
+    }
+
     /// The match that the search finds, none where there is none.
     ///
     /// The search must be one that the searcher answers; `try_find` tests it.
@@ -39,7 +58,7 @@ impl AhoCorasick {
         ensures found { (p : Patterns) → IsBuiltFrom self.now p
             → IsAnswer p (I.search input) result }
     {
-        match Automaton::try_find(self.built(), &input.into_input()) {
+        match self.search(&input.into_input()) {
             Ok(found) => found,
             Err(_) => unreachable!(),
         }
@@ -59,7 +78,7 @@ impl AhoCorasick {
             → result ≡ Err (refusal_of (I.search input).anchored) }
         ensures done { (I.search input).end < (I.search input).start → result ≡ Ok None }
     {
-        Automaton::try_find(self.built(), &input.into_input())
+        self.search(&input.into_input())
     }
 
     /// Whether a pattern occurs. It reads no further than the first place where one ends.
@@ -70,7 +89,7 @@ impl AhoCorasick {
         ensures found { (p : Patterns) → IsBuiltFrom self.now p
             → TellsMatch p (record (I.search input) { earliest = true }) result }
     {
-        match Automaton::try_find(self.built(), &input.into_input().earliest(true)) {
+        match self.search(&input.into_input().earliest(true)) {
             Ok(found) => found.is_some(),
             Err(_) => unreachable!(),
         }

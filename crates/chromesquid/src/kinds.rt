@@ -1,7 +1,7 @@
 //! Which automaton searches, and which searches are answered.
 
 ghost use Rattle.std.specs.Prelude.{◌≡◌, IfErr, Err, IsOk, true, false};
-ghost use Rattle.chromesquid.specs.Searcher.{allows, refusal_of};
+ghost use Rattle.chromesquid.specs.Searcher.{allows, kind_for, refusal_of};
 
 use aho_base::error::MatchError;
 use aho_base::search::Anchored;
@@ -9,8 +9,11 @@ use aho_base::search::Anchored;
 /// Which automaton searches. No answer depends on it.
 #[derive(Clone, Copy, Debug, PartialEq, Eq)]
 pub enum AhoCorasickKind {
-    /// The noncontiguous automaton: a trie with failure links.
+    /// The noncontiguous automaton: a trie with failure links. It answers all searches.
     NoncontiguousNFA,
+    /// An automaton of rows: near its start a step is one look-up. It searches faster, takes longer to build, and answers
+    /// searches that are not anchored.
+    Hybrid,
 }
 
 /// Which searches are answered.
@@ -23,6 +26,20 @@ pub enum StartKind {
     Unanchored,
     /// Searches of anchored inputs.
     Anchored,
+}
+
+/// Which kind of automaton is made: the one that is asked for, or else that of rows, where all searches that are answered are
+/// unanchored. For others it is the noncontiguous one, whatever is asked for.
+pub(crate) fn kind_for(start_kind: StartKind, asked: Option<AhoCorasickKind>) -> AhoCorasickKind
+    ensures kind { result ≡ kind_for start_kind asked }
+{
+    match start_kind {
+        StartKind::Unanchored => match asked {
+            Some(kind) => kind,
+            None => AhoCorasickKind::Hybrid,
+        },
+        StartKind::Both | StartKind::Anchored => AhoCorasickKind::NoncontiguousNFA,
+    }
 }
 
 /// Whether searches of this anchoring are answered.

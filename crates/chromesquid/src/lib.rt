@@ -3,9 +3,11 @@
 
 pub mod automaton;
 pub mod builder;
+mod engine;
 pub mod find;
 pub mod input;
 pub mod kinds;
+mod prefilters;
 pub mod replace;
 pub mod searcher;
 pub mod stream;

@@ -12,14 +12,15 @@ ghost use Rattle.aho_build.specs.Items.{IsFailure, OfAccepted, patterns_of};
 ghost use Rattle.aho_build.specs.Refusals.{cause};
 ghost use Rattle.aho_build.specs.Settings.{default_settings};
 ghost use Rattle.chromesquid.specs.Building.{IsFailureOf};
-ghost use Rattle.chromesquid.specs.declared.kinds.AhoCorasickKind.TheVariants.{NoncontiguousNFA};
+ghost use Rattle.chromesquid.specs.Engine.{HasKind};
+ghost use Rattle.chromesquid.specs.declared.kinds.AhoCorasickKind.TheVariants.{Hybrid, NoncontiguousNFA};
 ghost use Rattle.chromesquid.specs.declared.kinds.StartKind.TheVariants.{Unanchored};
 
 use crate::builder::AhoCorasickBuilder;
+use crate::engine::Engine;
 use crate::kinds::{AhoCorasickKind, StartKind};
 use aho_base::error::BuildError;
 use aho_base::search::MatchKind;
-use aho_corasick::noncontiguous::NFA;
 use aho_search::automaton::Automaton;
 use std::alloc::{AllocError, Global};
 use std::marker::Model;
@@ -27,23 +28,24 @@ use std::marker::Model;
 /// A searcher for some patterns.
 #[derive(Drop)]
 pub struct AhoCorasick {
-    automaton: NFA,
+    automaton: Engine,
     start_kind: StartKind,
 }
 
 impl Model for AhoCorasick {
     ghost use Rattle.aho_base.specs.Patterns.{Patterns};
-    ghost use Rattle.chromesquid.specs.Searcher.{Searcher};
+    ghost use Rattle.chromesquid.specs.Searcher.{IsBuiltFrom, Searcher};
 
     ghost Value = { Searcher };
 
     ghost view = { λ a. record { automaton = a.automaton; start_kind = a.start_kind } };
 
-    ghost invariant = { λ a. (p : Patterns) × ⟦<NFA as Automaton>⟧.is_of a.automaton p };
+    ghost invariant = { λ a. (p : Patterns)
+        × IsBuiltFrom (record { automaton = a.automaton; start_kind = a.start_kind }) p };
 }
 
 impl AhoCorasick {
-    ghost use Rattle.chromesquid.specs.Searcher.{IsBuiltFrom, default_building, lengths_of, match_kind_of, memory_of, patterns_len_of};
+    ghost use Rattle.chromesquid.specs.Searcher.{IsBuiltFrom, default_building, kind_of, lengths_of, match_kind_of, memory_of, patterns_len_of};
 
     /// The searcher of these patterns, as a new builder builds it: of kind Standard, for searches that are not anchored.
     ///
@@ -55,10 +57,11 @@ impl AhoCorasick {
             IsBuiltFrom built (patterns_of default_settings patterns.now)) }
         ensures match_kind { IfOk result (λ built. match_kind_of built ≡ Standard) }
         ensures start_kind { IfOk result (λ built. built.start_kind ≡ Unanchored) }
+        ensures kind { IfOk result (λ built. HasKind Hybrid built.automaton) }
         ensures lengths { IfOk result (λ built.
             lengths_of built ≡ map (λ pattern. length pattern.now) patterns.now) }
         ensures count { IfOk result (λ built. patterns_len_of built ≡ length patterns.now) }
-        ensures memory { IfOk result (λ built. memory_of built
+        ensures memory { IfOk result (λ built. kind_of built ≡ NoncontiguousNFA → memory_of built
             ≡ memory_for default_settings (patterns_of default_settings patterns.now)) }
         ensures accepted { IfOk result (λ built.
             cause default_settings (patterns_of default_settings patterns.now) ≡ None) }
@@ -85,6 +88,7 @@ impl AhoCorasick {
             IsBuiltFrom built (patterns_of default_settings run.items))) }
         ensures match_kind { IfOk result (λ built. match_kind_of built ≡ Standard) }
         ensures start_kind { IfOk result (λ built. built.start_kind ≡ Unanchored) }
+        ensures kind { IfOk result (λ built. HasKind Hybrid built.automaton) }
         ensures refused { IfErr result (IsFailure I.next_gives patterns default_settings) }
     {
         AhoCorasickBuilder::new().build_from_iter(alloc, patterns)
@@ -98,8 +102,9 @@ impl AhoCorasick {
     }
 
     /// The searcher with this automaton.
-    pub(crate) fn of_automaton(automaton: NFA, start_kind: StartKind) -> AhoCorasick
-        requires of { (p : Patterns) × ⟦<NFA as Automaton>⟧.is_of automaton p }
+    pub(crate) fn of_automaton(automaton: Engine, start_kind: StartKind) -> AhoCorasick
+        requires of { (p : Patterns)
+            × IsBuiltFrom (record { automaton = automaton; start_kind = start_kind }) p }
         ensures same { result ≡ record { automaton = automaton; start_kind = start_kind } }
     {
         AhoCorasick {
@@ -118,6 +123,7 @@ impl AhoCorasick {
             → IfOk result (λ copy. IsBuiltFrom copy p) }
         ensures match_kind { IfOk result (λ copy. match_kind_of copy ≡ match_kind_of self.now) }
         ensures start_kind { IfOk result (λ copy. copy.start_kind ≡ self.now.start_kind) }
+        ensures kind { IfOk result (λ copy. kind_of copy ≡ kind_of self.now) }
         ensures lengths { IfOk result (λ copy. lengths_of copy ≡ lengths_of self.now) }
         ensures memory { IfOk result (λ copy. memory_of copy ≡ memory_of self.now) }
     {
@@ -126,7 +132,7 @@ impl AhoCorasick {
     }
 
     /// The automaton that searches.
-    pub(crate) fn automaton(&self) -> &NFA
+    pub(crate) fn automaton(&self) -> &Engine
         ensures same { result.now ≡ self.now.automaton }
     {
         &self.automaton
@@ -196,8 +202,8 @@ impl AhoCorasick {
 
     /// Which automaton searches.
     pub fn kind(&self) -> AhoCorasickKind
-        ensures kind { result ≡ NoncontiguousNFA }
+        ensures kind { result ≡ kind_of self.now }
     {
-        AhoCorasickKind::NoncontiguousNFA
+        self.automaton.kind()
     }
 }

@@ -1,4 +1,5 @@
-use Rattle.chromesquid.proofs.Built.{start_answered, start_refused}
+use Rattle.aho_base.specs.declared.search.Anchored.TheVariants.{No}
+use Rattle.chromesquid.proofs.Built.{start_of, start_refused}
 use Rattle.chromesquid.proofs.Replaced.{begun_of, near_of, replaced_of}
 use Rattle.chromesquid.proofs.searcher.AhoCorasick.try_stream_replace_all.Goals as goal
 
@@ -7,7 +8,7 @@ returns-clause-refused g c = rw (← c.built.ensures.same) (λ none refuses. c.t
 
 pub returns-clause-answered : goal.returns-clause-answered
 returns-clause-answered g c =
-    rw (← c.built.ensures.same) (λ reason none answers. let start = start_answered c.built.result.now answers in c.try_stream_replace_all.ensures.suits start.0 reason none start.1)
+    rw (← c.built.ensures.same) (λ reason none answers. let start = start_of No c.built.result.now (rw c.built.ensures.same c.built.ensures.some) answers in c.try_stream_replace_all.ensures.suits start.0 reason none start.1)
 
 pub returns-clause-replaced : goal.returns-clause-replaced
 returns-clause-replaced g c =

@@ -1,5 +1,6 @@
+use Rattle.aho_base.specs.declared.search.Anchored.TheVariants.{No}
 use Rattle.std.proofs.Common.{inl, inr}
-use Rattle.chromesquid.proofs.Built.{start_answered, start_refused}
+use Rattle.chromesquid.proofs.Built.{start_of, start_refused}
 use Rattle.chromesquid.proofs.Replaced.{run_of}
 use Rattle.chromesquid.proofs.searcher.AhoCorasick.try_stream_replace_all_with.Goals as goal
 
@@ -7,7 +8,7 @@ pub returns-clause-runs : goal.returns-clause-runs
 returns-clause-runs g c =
     rw (← c.built.ensures.same)
     (λ p built none answers.
-    let start = start_answered c.built.result.now answers in
+    let start = start_of No c.built.result.now (rw c.built.ensures.same c.built.ensures.some) answers in
     elim (c.try_stream_replace_all_with.ensures.runs (start.0, none, start.1)) [
       | inl refused ↦ inl refused
       | inr over ↦ inr (run_of _ _ c.built.result.now _ _ _ _ _ _ _ p built over)

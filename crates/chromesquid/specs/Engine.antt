@@ -1,0 +1,149 @@
+-- The automaton that searches is one of several kinds: each member of it is that of the automaton that is held.
+use Rattle.std.specs.Prelude.{◌≡◌, ◌⊎◌, ℕ, List, [], Bool, true, false, Option, None, IfSome, Result, if◌then◌else◌}
+use Rattle.aho_base.specs.Held.{held_after}
+use Rattle.aho_base.specs.Laws.{Reads}
+use Rattle.aho_base.specs.Patterns.{Patterns}
+use Rattle.aho_base.specs.declared.error.BuildError.TheVariants.{StateIDOverflow}
+use Rattle.aho_base.specs.declared.error.MatchErrorKind.{MatchErrorKind}
+use Rattle.aho_base.specs.declared.search.Anchored.{Anchored}
+use Rattle.aho_base.specs.declared.search.Anchored.TheVariants.{No}
+use Rattle.aho_base.specs.declared.search.MatchKind.{MatchKind}
+use Rattle.aho_build.specs.declared.settings.Settings.{Settings}
+use Rattle.aho_corasick.specs.ReadOut.{classes_of, states_of}
+use Rattle.aho_corasick.specs.contracts.noncontiguous.NFAAutomaton.TheImpl.{ghosts as of_nfa}
+use Rattle.aho_corasick.specs.contracts.noncontiguous.NFAAutomaton.TheImpl.Laws.{alike-law as nfa-alike, dead_shallow-law as nfa-dead_shallow, laws-law as nfa-laws, plain-law as nfa-plain, prefilters-law as nfa-prefilters, starts_shallow-law as nfa-starts_shallow, unmarked-law as nfa-unmarked}
+use Rattle.aho_corasick.specs.declared.noncontiguous.NFA.{NFA}
+use Rattle.aho_hybrid.specs.Filled.{IsRefused, default_budget}
+use Rattle.aho_hybrid.specs.contracts.hybrid.HybridAutomaton.TheImpl.{ghosts as of_hybrid}
+use Rattle.aho_hybrid.specs.contracts.hybrid.HybridAutomaton.TheImpl.Laws.{alike-law as rows-alike, dead_shallow-law as rows-dead_shallow, laws-law as rows-laws, plain-law as rows-plain, prefilters-law as rows-prefilters, starts_shallow-law as rows-starts_shallow, unmarked-law as rows-unmarked}
+use Rattle.aho_prefilter.specs.Prefilter.{IsPrefilterOf, held_or_packed}
+use Rattle.aho_prefilter.specs.declared.prefilter.Searcher.{Searcher}
+use Rattle.chromesquid.specs.declared.engine.Engine.{Engine}
+use Rattle.chromesquid.specs.declared.engine.Engine.TheVariants.{Noncontiguous, Rows}
+use Rattle.chromesquid.specs.declared.kinds.AhoCorasickKind.{AhoCorasickKind}
+use Rattle.chromesquid.specs.declared.kinds.AhoCorasickKind.TheVariants.{NoncontiguousNFA, Hybrid as OfRows}
+
+-- ---- its kind
+
+-- which kind of automaton is held
+abbrev pub kind_in : Engine → AhoCorasickKind
+kind_in (Noncontiguous nfa) = NoncontiguousNFA
+kind_in (Rows hybrid) = OfRows
+
+-- the rows for an `NFA` do not fit: an index of theirs is above the greatest
+pub record HasNoRows (nfa : NFA) : Type 0 where
+  pub max : ℕ
+  pub requested : ℕ
+  pub refused : IsRefused (states_of nfa) (classes_of nfa) default_budget (StateIDOverflow max requested)
+
+-- it has this kind, or is an `NFA` for which the rows do not fit
+abbrev pub HasKind : AhoCorasickKind → Engine → Type 0
+HasKind kind engine = (kind_in engine ≡ kind) ⊎ ((nfa : NFA) × (engine ≡ Noncontiguous nfa) × HasNoRows nfa)
+
+-- without rows it is this `NFA`
+abbrev pub IsElse : NFA → Engine → Type 0
+IsElse nfa engine = kind_in engine ≡ NoncontiguousNFA → engine ≡ Noncontiguous nfa
+
+-- ---- the members of `Automaton`
+
+abbrev pub IsEngineOf : Engine → Patterns → Type 0
+IsEngineOf (Noncontiguous nfa) p = of_nfa.is_of nfa p
+IsEngineOf (Rows hybrid) p = of_hybrid.is_of hybrid p
+
+abbrev pub IsHeldBy : Engine → Patterns → Anchored → List ℕ → ℕ → Type 0
+IsHeldBy (Noncontiguous nfa) p anchored word sid = of_nfa.held nfa p anchored word sid
+IsHeldBy (Rows hybrid) p anchored word sid = of_hybrid.held hybrid p anchored word sid
+
+abbrev pub IsStateOf : Engine → ℕ → Type 0
+IsStateOf (Noncontiguous nfa) sid = of_nfa.valid nfa sid
+IsStateOf (Rows hybrid) sid = of_hybrid.valid hybrid sid
+
+abbrev pub kind_by : Engine → MatchKind
+kind_by (Noncontiguous nfa) = of_nfa.kind nfa
+kind_by (Rows hybrid) = of_hybrid.kind hybrid
+
+abbrev pub lengths_by : Engine → List ℕ
+lengths_by (Noncontiguous nfa) = of_nfa.lengths nfa
+lengths_by (Rows hybrid) = of_hybrid.lengths hybrid
+
+abbrev pub list_by : Engine → ℕ → List ℕ
+list_by (Noncontiguous nfa) sid = of_nfa.list nfa sid
+list_by (Rows hybrid) sid = of_hybrid.list hybrid sid
+
+abbrev pub dead_by : Engine → ℕ → Bool
+dead_by (Noncontiguous nfa) sid = of_nfa.dead nfa sid
+dead_by (Rows hybrid) sid = of_hybrid.dead hybrid sid
+
+abbrev pub special_by : Engine → ℕ → Bool
+special_by (Noncontiguous nfa) sid = of_nfa.special nfa sid
+special_by (Rows hybrid) sid = of_hybrid.special hybrid sid
+
+abbrev pub marked_by : Engine → ℕ → Bool
+marked_by (Noncontiguous nfa) sid = of_nfa.marked nfa sid
+marked_by (Rows hybrid) sid = of_hybrid.marked hybrid sid
+
+abbrev pub starts_by : Engine → ℕ → Bool
+starts_by (Noncontiguous nfa) sid = of_nfa.starts nfa sid
+starts_by (Rows hybrid) sid = of_hybrid.starts hybrid sid
+
+abbrev pub depth_by : Engine → ℕ → ℕ
+depth_by (Noncontiguous nfa) sid = of_nfa.depth nfa sid
+depth_by (Rows hybrid) sid = of_hybrid.depth hybrid sid
+
+abbrev pub next_by : Engine → Anchored → ℕ → ℕ → ℕ
+next_by (Noncontiguous nfa) anchored sid byte = of_nfa.next nfa anchored sid byte
+next_by (Rows hybrid) anchored sid byte = of_hybrid.next hybrid anchored sid byte
+
+abbrev pub lookups_by : Engine → Patterns → Anchored → List ℕ → ℕ → ℕ
+lookups_by (Noncontiguous nfa) p anchored word byte = of_nfa.lookups nfa p anchored word byte
+lookups_by (Rows hybrid) p anchored word byte = of_hybrid.lookups hybrid p anchored word byte
+
+abbrev pub start_by : Engine → Anchored → Result ℕ MatchErrorKind
+start_by (Noncontiguous nfa) anchored = of_nfa.start nfa anchored
+start_by (Rows hybrid) anchored = of_hybrid.start hybrid anchored
+
+abbrev pub memory_by : Engine → ℕ
+memory_by (Noncontiguous nfa) = of_nfa.memory nfa
+memory_by (Rows hybrid) = of_hybrid.memory hybrid
+
+abbrev pub prefilter_by : Engine → Option Searcher
+prefilter_by (Noncontiguous nfa) = of_nfa.prefilter nfa
+prefilter_by (Rows hybrid) = of_hybrid.prefilter hybrid
+
+-- its rows, if it has some, hold this prefilter
+abbrev pub HoldsInRows : Option Searcher → Engine → Type 0
+HoldsInRows held engine = kind_in engine ≡ OfRows → prefilter_by engine ≡ held
+
+-- the prefilter that rows for these patterns hold: where the settings want one it may be a packed search
+abbrev pub held_in_rows : Settings → Patterns → Option Searcher
+held_in_rows settings p = if settings.prefilter then held_or_packed p else None
+
+-- ---- its laws
+
+pub laws_by : (e : Engine) (p : Patterns) → IsEngineOf e p → Reads p (kind_by e) (lengths_by e) (IsHeldBy e p) (list_by e) (dead_by e) (starts_by e)
+laws_by (Noncontiguous nfa) p of = nfa-laws nfa p of
+laws_by (Rows hybrid) p of = rows-laws hybrid p of
+
+pub alike_by : (e : Engine) (p : Patterns) (word other : List ℕ) (sid : ℕ) → IsEngineOf e p → IsHeldBy e p No word sid → held_after p No other ≡ held_after p No word → IsHeldBy e p No other sid
+alike_by (Noncontiguous nfa) p word other sid of = nfa-alike nfa p word other sid of
+alike_by (Rows hybrid) p word other sid of = rows-alike hybrid p word other sid of
+
+pub plain_by : (e : Engine) (sid : ℕ) → IsStateOf e sid → special_by e sid ≡ false → (dead_by e sid ≡ false) × (list_by e sid ≡ [])
+plain_by (Noncontiguous nfa) sid valid = nfa-plain nfa sid valid
+plain_by (Rows hybrid) sid valid = rows-plain hybrid sid valid
+
+pub unmarked_by : (e : Engine) (sid : ℕ) → IsStateOf e sid → marked_by e sid ≡ false → (dead_by e sid ≡ false) × (list_by e sid ≡ [])
+unmarked_by (Noncontiguous nfa) sid valid = nfa-unmarked nfa sid valid
+unmarked_by (Rows hybrid) sid valid = rows-unmarked hybrid sid valid
+
+pub dead_shallow_by : (e : Engine) (sid : ℕ) → IsStateOf e sid → dead_by e sid ≡ true → depth_by e sid ≡ 0
+dead_shallow_by (Noncontiguous nfa) sid valid = nfa-dead_shallow nfa sid valid
+dead_shallow_by (Rows hybrid) sid valid = rows-dead_shallow hybrid sid valid
+
+pub starts_shallow_by : (e : Engine) (sid : ℕ) → IsStateOf e sid → starts_by e sid ≡ true → depth_by e sid ≡ 0
+starts_shallow_by (Noncontiguous nfa) sid valid = nfa-starts_shallow nfa sid valid
+starts_shallow_by (Rows hybrid) sid valid = rows-starts_shallow hybrid sid valid
+
+pub prefilters_by : (e : Engine) (p : Patterns) → IsEngineOf e p → IfSome (prefilter_by e) (λ searcher. IsPrefilterOf searcher p)
+prefilters_by (Noncontiguous nfa) p of = nfa-prefilters nfa p of
+prefilters_by (Rows hybrid) p of = rows-prefilters hybrid p of

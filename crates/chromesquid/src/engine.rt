@@ -1,0 +1,321 @@
+//! The automaton that searches: one of several kinds. Each of its calls is that of the automaton that is held.
+
+ghost use Rattle.std.specs.Prelude.{◌≡◌, ◌<◌, ◌≤◌, ℕ, Err, IfErr, IfOk, IfSome, IsOk, None, Ok};
+ghost use Rattle.aho_base.specs.Answer.{IsAnswer};
+ghost use Rattle.aho_base.specs.Patterns.{Patterns};
+ghost use Rattle.aho_base.specs.declared.error.BuildError.TheVariants.{OutOfMemory};
+ghost use Rattle.aho_base.specs.declared.error.MatchErrorKind.{MatchErrorKind};
+ghost use Rattle.aho_build.specs.Items.{patterns_of};
+ghost use Rattle.aho_corasick.specs.Clones.{IsCloneOf};
+ghost use Rattle.aho_prefilter.specs.Prefilter.{IsPrefilterOf};
+ghost use Rattle.chromesquid.specs.Engine.{HasKind, HoldsInRows, IsElse, held_in_rows, kind_in};
+ghost use Rattle.chromesquid.specs.declared.kinds.AhoCorasickKind.TheVariants.{Hybrid as OfRows};
+
+use crate::kinds::AhoCorasickKind;
+use crate::prefilters::prefilter_of;
+use aho_base::error::{BuildError, MatchError};
+use aho_base::search::{Anchored, Input, Match, MatchKind, PatternID, StateID, Work};
+use aho_build::settings::Settings;
+use aho_corasick::noncontiguous::NFA;
+use aho_hybrid::hybrid::{DEFAULT_BUDGET, Hybrid};
+use aho_prefilter::prefilter::Prefilter;
+use aho_search::automaton::Automaton;
+use std::alloc::{AllocError, Global};
+
+/// An automaton of one of the kinds.
+#[derive(Drop)]
+pub enum Engine {
+    /// The noncontiguous automaton.
+    Noncontiguous(NFA),
+    /// The automaton of rows.
+    Rows(Hybrid),
+}
+
+impl Engine {
+    /// The automaton of this kind, made of the `NFA` of these patterns. Where it has too many states for rows it is the `NFA`.
+    ///
+    /// # Errors
+    ///
+    /// Out of memory.
+    pub(crate) fn of_kind(
+        alloc: Global,
+        nfa: NFA,
+        kind: AhoCorasickKind,
+        settings: &Settings,
+        patterns: &[&[u8]],
+    ) -> Result<Engine, BuildError>
+        requires of { ⟦<NFA as Automaton>⟧.is_of nfa (patterns_of settings.now patterns.now) }
+        ensures of { IfOk result (λ engine.
+            ⟦<Engine as Automaton>⟧.is_of engine (patterns_of settings.now patterns.now)) }
+        ensures kind { IfOk result (HasKind kind) }
+        ensures same { IfOk result (IsElse nfa) }
+        ensures prefilter { IfOk result (HoldsInRows
+            (held_in_rows settings.now (patterns_of settings.now patterns.now))) }
+        ensures refused { IfErr result (λ error. error ≡ OutOfMemory) }
+    {
+        match kind {
+            AhoCorasickKind::NoncontiguousNFA => Ok(Engine::Noncontiguous(nfa)),
+            AhoCorasickKind::Hybrid => {
+                let prefilter = prefilter_of(alloc, settings, patterns)?;
+                Engine::with_rows(alloc, nfa, prefilter)
+            }
+        }
+    }
+
+    /// The automaton of rows with this prefilter, or the `NFA` where that has too many states for it.
+    ///
+    /// # Errors
+    ///
+    /// Out of memory.
+    fn with_rows(
+        alloc: Global,
+        nfa: NFA,
+        prefilter: Option<Prefilter>,
+    ) -> Result<Engine, BuildError>
+        ensures of { IfOk result (λ engine. (p : Patterns)
+            → ⟦<NFA as Automaton>⟧.is_of nfa p
+            → IfSome prefilter (λ searcher. IsPrefilterOf searcher p)
+            → ⟦<Engine as Automaton>⟧.is_of engine p) }
+        ensures kind { IfOk result (HasKind OfRows) }
+        ensures same { IfOk result (IsElse nfa) }
+        ensures prefilter { IfOk result (HoldsInRows prefilter) }
+        ensures refused { IfErr result (λ error. error ≡ OutOfMemory) }
+    {
+        match Hybrid::with_prefilter(alloc, &nfa, DEFAULT_BUDGET, prefilter) {
+            Ok(hybrid) => Ok(Engine::Rows(hybrid)),
+            Err(BuildError::StateIDOverflow { .. }) => Ok(Engine::Noncontiguous(nfa)),
+            Err(_) => Err(BuildError::OutOfMemory),
+        }
+    }
+
+    /// Which kind it is.
+    pub(crate) fn kind(&self) -> AhoCorasickKind
+        ensures kind { result ≡ kind_in self.now }
+    {
+        match self {
+            Engine::Noncontiguous(_) => AhoCorasickKind::NoncontiguousNFA,
+            Engine::Rows(_) => AhoCorasickKind::Hybrid,
+        }
+    }
+
+    /// What the search of the automaton that is held finds. The kind is asked for once, and not at each byte.
+    ///
+    /// # Errors
+    ///
+    /// As those of `Automaton::try_find`.
+    pub(crate) fn find(&self, input: &Input) -> Result<Option<Match>, MatchError>
+        requires of { (p : Patterns) × ⟦<Engine as Automaton>⟧.is_of self.now p }
+        ensures found { (p : Patterns) → ⟦<Engine as Automaton>⟧.is_of self.now p
+            → IfOk result (IsAnswer p input.now) }
+        ensures ok { (sid : ℕ) → ⟦<Engine as Automaton>⟧.start self.now input.now.anchored ≡ Ok sid
+            → IsOk result }
+        ensures refused { (reason : MatchErrorKind) → input.now.start ≤ input.now.end
+            → ⟦<Engine as Automaton>⟧.start self.now input.now.anchored ≡ Err reason
+            → result ≡ Err reason }
+        ensures done { input.now.end < input.now.start → result ≡ Ok None }
+    {
+        match self {
+            Engine::Noncontiguous(nfa) => found_by(nfa, input),
+            Engine::Rows(hybrid) => found_by(hybrid, input),
+        }
+    }
+
+    /// A copy of the automaton, with the same states under the same numbers.
+    ///
+    /// # Errors
+    ///
+    /// Out of memory.
+    pub(crate) fn try_clone(&self) -> Result<Engine, AllocError>
+        ensures same { IfOk result (λ made. IsCloneOf ⟦<Engine as Automaton>⟧ made self.now) }
+        ensures kind { IfOk result (λ made. kind_in made ≡ kind_in self.now) }
+    {
+        match self {
+            Engine::Noncontiguous(nfa) => Ok(Engine::Noncontiguous(nfa.try_clone()?)),
+            Engine::Rows(hybrid) => Ok(Engine::Rows(hybrid.try_clone()?)),
+        }
+    }
+}
+
+/// What an automaton's search finds.
+fn found_by<A: Automaton>(automaton: &A, input: &Input) -> Result<Option<Match>, MatchError>
+    requires of { (p : Patterns) × A.is_of automaton.now p }
+    ensures found { (p : Patterns) → A.is_of automaton.now p → IfOk result (IsAnswer p input.now) }
+    ensures ok { (sid : ℕ) → A.start automaton.now input.now.anchored ≡ Ok sid → IsOk result }
+    ensures refused { (reason : MatchErrorKind) → input.now.start ≤ input.now.end
+        → A.start automaton.now input.now.anchored ≡ Err reason → result ≡ Err reason }
+    ensures done { input.now.end < input.now.start → result ≡ Ok None }
+{
+    automaton.try_find(input)
+}
+
+impl Automaton for Engine {
+    ghost use Rattle.chromesquid.specs.Engine.{IsEngineOf, IsHeldBy, IsStateOf, alike_by, dead_by, dead_shallow_by, depth_by, kind_by, laws_by, lengths_by, list_by, lookups_by, marked_by, memory_by, next_by, plain_by, prefilter_by, prefilters_by, special_by, start_by, starts_by, starts_shallow_by, unmarked_by};
+
+    ghost is_of = { λ e p. IsEngineOf e p };
+
+    ghost held = { λ e p anchored word sid. IsHeldBy e p anchored word sid };
+
+    ghost valid = { λ e sid. IsStateOf e sid };
+
+    ghost kind = { λ e. kind_by e };
+
+    ghost lengths = { λ e. lengths_by e };
+
+    ghost list = { λ e sid. list_by e sid };
+
+    ghost dead = { λ e sid. dead_by e sid };
+
+    ghost special = { λ e sid. special_by e sid };
+
+    ghost marked = { λ e sid. marked_by e sid };
+
+    ghost starts = { λ e sid. starts_by e sid };
+
+    ghost depth = { λ e sid. depth_by e sid };
+
+    ghost next = { λ e anchored sid byte. next_by e anchored sid byte };
+
+    ghost lookups = { λ e p anchored word byte. lookups_by e p anchored word byte };
+
+    ghost start = { λ e anchored. start_by e anchored };
+
+    ghost memory = { λ e. memory_by e };
+
+    ghost prefilter = { λ e. prefilter_by e };
+
+    fn start_state(&self, anchored: Anchored) -> Result<StateID, MatchError> {
+        match self {
+            Engine::Noncontiguous(nfa) => nfa.start_state(anchored),
+            Engine::Rows(hybrid) => hybrid.start_state(anchored),
+        }
+    }
+
+    fn next_state(&self, anchored: Anchored, sid: StateID, byte: u8) -> StateID {
+        match self {
+            Engine::Noncontiguous(nfa) => nfa.next_state(anchored, sid, byte),
+            Engine::Rows(hybrid) => hybrid.next_state(anchored, sid, byte),
+        }
+    }
+
+    #[inline(always)]
+    fn step(&self, anchored: Anchored, sid: StateID, byte: u8, work: &mut Work) -> StateID {
+        match self {
+            Engine::Noncontiguous(nfa) => nfa.step(anchored, sid, byte, work),
+            Engine::Rows(hybrid) => hybrid.step(anchored, sid, byte, work),
+        }
+    }
+
+    #[inline(always)]
+    fn is_special(&self, sid: StateID) -> bool {
+        match self {
+            Engine::Noncontiguous(nfa) => nfa.is_special(sid),
+            Engine::Rows(hybrid) => hybrid.is_special(sid),
+        }
+    }
+
+    #[inline(always)]
+    fn is_marked(&self, sid: StateID) -> bool {
+        match self {
+            Engine::Noncontiguous(nfa) => nfa.is_marked(sid),
+            Engine::Rows(hybrid) => hybrid.is_marked(sid),
+        }
+    }
+
+    fn is_dead(&self, sid: StateID) -> bool {
+        match self {
+            Engine::Noncontiguous(nfa) => nfa.is_dead(sid),
+            Engine::Rows(hybrid) => hybrid.is_dead(sid),
+        }
+    }
+
+    fn is_match(&self, sid: StateID) -> bool {
+        match self {
+            Engine::Noncontiguous(nfa) => nfa.is_match(sid),
+            Engine::Rows(hybrid) => hybrid.is_match(sid),
+        }
+    }
+
+    fn is_start(&self, sid: StateID) -> bool {
+        match self {
+            Engine::Noncontiguous(nfa) => nfa.is_start(sid),
+            Engine::Rows(hybrid) => hybrid.is_start(sid),
+        }
+    }
+
+    fn match_kind(&self) -> MatchKind {
+        match self {
+            Engine::Noncontiguous(nfa) => nfa.match_kind(),
+            Engine::Rows(hybrid) => hybrid.match_kind(),
+        }
+    }
+
+    fn prefilter(&self) -> Option<&Prefilter> {
+        match self {
+            Engine::Noncontiguous(nfa) => nfa.prefilter(),
+            Engine::Rows(hybrid) => hybrid.prefilter(),
+        }
+    }
+
+    fn match_len(&self, sid: StateID) -> usize {
+        match self {
+            Engine::Noncontiguous(nfa) => nfa.match_len(sid),
+            Engine::Rows(hybrid) => hybrid.match_len(sid),
+        }
+    }
+
+    fn match_pattern(&self, sid: StateID, index: usize) -> PatternID {
+        match self {
+            Engine::Noncontiguous(nfa) => nfa.match_pattern(sid, index),
+            Engine::Rows(hybrid) => hybrid.match_pattern(sid, index),
+        }
+    }
+
+    fn patterns_len(&self) -> usize {
+        match self {
+            Engine::Noncontiguous(nfa) => nfa.patterns_len(),
+            Engine::Rows(hybrid) => hybrid.patterns_len(),
+        }
+    }
+
+    fn pattern_len(&self, pid: PatternID) -> usize {
+        match self {
+            Engine::Noncontiguous(nfa) => nfa.pattern_len(pid),
+            Engine::Rows(hybrid) => hybrid.pattern_len(pid),
+        }
+    }
+
+    fn min_pattern_len(&self) -> usize {
+        match self {
+            Engine::Noncontiguous(nfa) => nfa.min_pattern_len(),
+            Engine::Rows(hybrid) => hybrid.min_pattern_len(),
+        }
+    }
+
+    fn max_pattern_len(&self) -> usize {
+        match self {
+            Engine::Noncontiguous(nfa) => nfa.max_pattern_len(),
+            Engine::Rows(hybrid) => hybrid.max_pattern_len(),
+        }
+    }
+
+    fn memory_usage(&self) -> usize {
+        match self {
+            Engine::Noncontiguous(nfa) => nfa.memory_usage(),
+            Engine::Rows(hybrid) => hybrid.memory_usage(),
+        }
+    }
+
+    ghost laws = { λ e p of. laws_by e p of };
+
+    ghost alike = { λ e p word other sid of. alike_by e p word other sid of };
+
+    ghost plain = { λ e sid valid. plain_by e sid valid };
+
+    ghost unmarked = { λ e sid valid. unmarked_by e sid valid };
+
+    ghost dead_shallow = { λ e sid valid. dead_shallow_by e sid valid };
+
+    ghost starts_shallow = { λ e sid valid. starts_shallow_by e sid valid };
+
+    ghost prefilters = { λ e p of. prefilters_by e p of };
+}
