@@ -9,7 +9,7 @@ use Rattle.aho_base.specs.declared.search.Anchored.{Anchored}
 use Rattle.aho_base.specs.declared.search.Anchored.TheVariants.{No}
 use Rattle.aho_base.specs.declared.search.MatchKind.{MatchKind}
 use Rattle.aho_build.specs.declared.settings.Settings.{Settings}
-use Rattle.aho_corasick.specs.ReadOut.{classes_of, states_of}
+
 use Rattle.aho_corasick.specs.contracts.noncontiguous.NFAAutomaton.TheImpl.{ghosts as of_nfa}
 use Rattle.aho_corasick.specs.contracts.noncontiguous.NFAAutomaton.TheImpl.Laws.{alike-law as nfa-alike, dead_shallow-law as nfa-dead_shallow, laws-law as nfa-laws, plain-law as nfa-plain, prefilters-law as nfa-prefilters, starts_shallow-law as nfa-starts_shallow, unmarked-law as nfa-unmarked}
 use Rattle.aho_corasick.specs.declared.noncontiguous.NFA.{NFA}
@@ -34,7 +34,7 @@ kind_in (Rows hybrid) = OfRows
 pub record HasNoRows (nfa : NFA) : Type 0 where
   pub max : ℕ
   pub requested : ℕ
-  pub refused : IsRefused (states_of nfa) (classes_of nfa) default_budget (StateIDOverflow max requested)
+  pub refused : IsRefused nfa default_budget (StateIDOverflow max requested)
 
 -- it has this kind, or is an `NFA` for which the rows do not fit
 abbrev pub HasKind : AhoCorasickKind → Engine → Type 0

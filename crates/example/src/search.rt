@@ -1,7 +1,7 @@
 //! A search.
 
 ghost use Rattle.std.specs.Prelude.{IfOk};
-ghost use Rattle.chromesquid.specs.Rules.{IsAnswer, IsBuiltFrom, LeftmostFirst, default_settings, patterns_of, plain_search};
+ghost use Rattle.chromesquid.specs.Rules.{Answers, IsAnswer, IsBuiltFrom, LeftmostFirst, No, default_settings, patterns_of, plain_search};
 
 use chromesquid::{AhoCorasick, BuildError, Match, MatchKind};
 use std::alloc::Global;
@@ -10,6 +10,7 @@ use std::alloc::Global;
 fn searcher_for(alloc: Global, words: &[&[u8]]) -> Result<AhoCorasick, BuildError>
     ensures of { IfOk result (λ searcher. IsBuiltFrom searcher
         (patterns_of (record default_settings { kind = LeftmostFirst }) words.now)) }
+    ensures starts { IfOk result (λ searcher. Answers searcher No) }
 {
     AhoCorasick::builder()
         .match_kind(MatchKind::LeftmostFirst)
