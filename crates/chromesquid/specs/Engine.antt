@@ -9,7 +9,6 @@ use Rattle.aho_base.specs.declared.search.Anchored.{Anchored}
 use Rattle.aho_base.specs.declared.search.Anchored.TheVariants.{No}
 use Rattle.aho_base.specs.declared.search.MatchKind.{MatchKind}
 use Rattle.aho_build.specs.declared.settings.Settings.{Settings}
-
 use Rattle.aho_corasick.specs.contracts.noncontiguous.NFAAutomaton.TheImpl.{ghosts as of_nfa}
 use Rattle.aho_corasick.specs.contracts.noncontiguous.NFAAutomaton.TheImpl.Laws.{alike-law as nfa-alike, dead_shallow-law as nfa-dead_shallow, laws-law as nfa-laws, plain-law as nfa-plain, prefilters-law as nfa-prefilters, starts_shallow-law as nfa-starts_shallow, unmarked-law as nfa-unmarked}
 use Rattle.aho_corasick.specs.declared.noncontiguous.NFA.{NFA}
