@@ -205,6 +205,7 @@ fn find_from<W: Walk, T: Text>(
 /// The answer of a walk over a span that is not done, which does not wait.
 ///
 /// Its clauses are those of `find_in`.
+#[inline(always)]
 fn find_to_end<W: Walk, T: Text>(
     walk: &mut W,
     text: &mut T,
