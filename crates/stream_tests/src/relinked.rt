@@ -1,5 +1,5 @@
-//! Streams over an automaton that is made from what another one tells, and over one that holds a prefilter: with them each does
-//! what the other one does.
+//! Streams over an automaton that is made from what another one tells, over one that holds a prefilter, and over one with rows: with
+//! them each does what the other one does.
 
 ghost use Rattle.aho_base.specs.Patterns.{Patterns};
 
@@ -10,6 +10,7 @@ use crate::stream_finds::{Told, told_under};
 use aho_base::error::StreamError;
 use aho_base::search::MatchKind;
 use aho_devices::write::write_whole;
+use aho_hybrid::hybrid::Hybrid;
 use aho_search::automaton::Automaton;
 use aho_stream::replace::{try_stream_replace_all, try_stream_replace_all_with};
 use std::alloc::Global;
@@ -158,9 +159,9 @@ fn replaces_the_same<A: Automaton, B: Automaton>(
     Ok(())
 }
 
-/// As many look-ups are made and bytes walked as is wanted or, where the first automaton alone skips, no fewer.
-fn costs_the_same(rt: &impl Abort, given: &[u8], told: &Told, wanted: &Told, skips: bool) {
-    if skips {
+/// As many look-ups are made and bytes walked as is wanted or, where the first automaton may save some, no fewer.
+fn costs_the_same(rt: &impl Abort, given: &[u8], told: &Told, wanted: &Told, saves: bool) {
+    if saves {
         assert_in(rt, &given, wanted.lookups <= told.lookups);
         assert_in(rt, &given, wanted.position <= told.position);
     } else {
@@ -177,6 +178,7 @@ fn tells_the_same<A: Automaton, B: Automaton>(
     second: &B,
     stream: &Stream,
     reads: &[Turn],
+    saves: bool,
 ) -> Result<(), Fail>
     requires first { (p : Patterns) × A.is_of first.now p }
     requires second { (p : Patterns) × B.is_of second.now p }
@@ -187,19 +189,19 @@ fn tells_the_same<A: Automaton, B: Automaton>(
         let mut source = ScriptedSource::new(stream.given, reads);
         let told = told_under(alloc, second, &mut source, limit)?;
         assert_same_in(rt, &limit, told.items.as_slice(), wanted.items.as_slice());
-        let skips = first.prefilter().is_some();
-        costs_the_same(rt, stream.given, &told, &wanted, skips);
+        costs_the_same(rt, stream.given, &told, &wanted, saves);
     }
     Ok(())
 }
 
-/// One automaton does with a stream what another one does, which holds no prefilter.
+/// One automaton does with a stream what another one does, which holds no prefilter. The first may save look-ups.
 fn does_the_same<A: Automaton, B: Automaton>(
     rt: &impl Abort,
     alloc: Global,
     first: &A,
     second: &B,
     stream: &Stream,
+    saves: bool,
 ) -> Result<(), Fail>
     requires first { (p : Patterns) × A.is_of first.now p }
     requires second { (p : Patterns) × B.is_of second.now p }
@@ -211,7 +213,7 @@ fn does_the_same<A: Automaton, B: Automaton>(
             replaces_the_same(rt, alloc, first, second, stream, turns, true)?;
         }
         if first.min_pattern_len() > 0 {
-            tells_the_same(rt, alloc, first, second, stream, reads)?;
+            tells_the_same(rt, alloc, first, second, stream, reads, saves)?;
         }
     }
     Ok(())
@@ -222,7 +224,7 @@ fn streams_are_searched_and_replaced_alike(rt: HostRuntime) -> Result<(), Fail> 
     for stream in STREAMS {
         let plain = nfa_holding(&rt, rt.alloc(), stream.patterns, MatchKind::Standard, false);
         let relinked = relinked_of(&rt, rt.alloc(), &plain);
-        does_the_same(&rt, rt.alloc(), &plain, &relinked, stream)?;
+        does_the_same(&rt, rt.alloc(), &plain, &relinked, stream, false)?;
     }
     Ok(())
 }
@@ -236,7 +238,8 @@ fn prefilter_changes_nothing(
 ) -> Result<(), Fail> {
     let nfa = nfa_holding(rt, alloc, stream.patterns, kind, true);
     let plain = nfa_holding(rt, alloc, stream.patterns, kind, false);
-    does_the_same(rt, alloc, &nfa, &plain, stream)
+    let skips = nfa.prefilter().is_some();
+    does_the_same(rt, alloc, &nfa, &plain, stream, skips)
 }
 
 #[test]
@@ -248,6 +251,33 @@ fn no_answer_depends_on_a_prefilter(rt: HostRuntime) -> Result<(), Fail> {
     ];
     for (stream, kind) in STREAMS.iter().zip(kinds.iter().cycle()) {
         prefilter_changes_nothing(&rt, rt.alloc(), stream, *kind)?;
+    }
+    Ok(())
+}
+
+/// The automaton of a stream's patterns does with rows of at most so many bytes what it does without.
+fn rows_change_nothing(
+    rt: &impl Abort,
+    alloc: Global,
+    stream: &Stream,
+    kind: MatchKind,
+    budget: usize,
+) -> Result<(), Fail> {
+    let plain = nfa_holding(rt, alloc, stream.patterns, kind, false);
+    let hybrid = Hybrid::with_budget(alloc, &plain, budget).expect(rt, "an automaton");
+    does_the_same(rt, alloc, &hybrid, &plain, stream, true)
+}
+
+#[test]
+fn no_answer_depends_on_rows(rt: HostRuntime) -> Result<(), Fail> {
+    let settings = [
+        (MatchKind::Standard, 0),
+        (MatchKind::LeftmostFirst, 300),
+        (MatchKind::LeftmostLongest, usize::MAX),
+        (MatchKind::Standard, 300),
+    ];
+    for (stream, (kind, budget)) in STREAMS.iter().zip(settings.iter().cycle()) {
+        rows_change_nothing(&rt, rt.alloc(), stream, *kind, *budget)?;
     }
     Ok(())
 }
