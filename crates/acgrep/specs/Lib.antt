@@ -1,0 +1,4 @@
+pub mod Arguments
+pub mod Lines
+pub mod Printed
+pub mod Selected
