@@ -16,6 +16,7 @@ mod options;
 mod patterns;
 mod print;
 mod run;
+mod searcher;
 mod select;
 mod stream;
 mod tell;

@@ -1,7 +1,9 @@
 //! A call over its arguments, files and streams.
 
 ghost use Rattle.std.specs.Prelude.{◌≡◌, ◌≤◌, ◌⊎◌, None};
+ghost use Rattle.aho_base.specs.Patterns.{Patterns};
 ghost use Rattle.acgrep.specs.Arguments.{said_by, texts};
+ghost use Rattle.acgrep.specs.Searchers.{IsSearcherOf};
 
 use crate::arguments::{Given, Refusal, Source, Wrong, parse};
 use crate::files::{Files, search_files};
@@ -11,9 +13,9 @@ use crate::open::Open;
 use crate::options::Color;
 use crate::patterns::lines_of;
 use crate::print::Style;
+use crate::searcher::Searcher;
 use crate::select::Job;
 use crate::tell::{tell, tell_write, tell_wrong};
-use chromesquid::AhoCorasick;
 use std::alloc::Global;
 use std::io::{Read, Write};
 
@@ -140,24 +142,37 @@ fn search<F: Open, R: Read, W: Write, E: Write>(
     if selects_none(patterns.as_slice(), given.flags.invert) {
         return 1;
     }
-    let built = AhoCorasick::builder()
-        .match_kind(given.flags.kind)
-        .ascii_case_insensitive(given.flags.ignore_case)
-        .build(alloc, patterns.as_slice());
-    match built {
-        Ok(searcher) => {
-            let job = job_of(given, terminal, names.len());
-            let files = Files {
-                alloc,
-                names,
-                files,
-            };
-            search_files(&searcher, &job, &files, input, output, errors)
-        }
+    let job = job_of(given, terminal, names.len());
+    let files = Files {
+        alloc,
+        names,
+        files,
+    };
+    let flags = &given.flags;
+    match Searcher::build(alloc, flags.kind, flags.ignore_case, patterns.as_slice()) {
+        Ok(searcher) => search_by(&searcher, &job, &files, input, output, errors),
         Err(error) => {
             tell_refusal(&keys, sources, &error, errors);
             2
         }
+    }
+}
+
+/// Searches these files by an automaton.
+fn search_by<F: Open, R: Read, W: Write, E: Write>(
+    searcher: &Searcher,
+    job: &Job<'_>,
+    files: &Files<'_, F>,
+    input: &mut R,
+    output: &mut W,
+    errors: &mut E,
+) -> u8
+    requires of { (p : Patterns) × IsSearcherOf p searcher.now }
+    ensures bound { result ≤ 2 }
+{
+    match searcher {
+        Searcher::Rows(rows) => search_files(rows, job, files, input, output, errors),
+        Searcher::Trie(nfa) => search_files(nfa, job, files, input, output, errors),
     }
 }
 
