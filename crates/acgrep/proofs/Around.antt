@@ -1,19 +1,17 @@
 -- The line around a place, and patterns that hold no newline.
-use Rattle.std.proofs.Common.{◌≡◌, ◌≢◌, inl, inr, ◌⊎◌, ℕ, suc, zero, ◌+◌, ◌-◌, ◌≤◌, ◌<◌, ◌==◌, Bool, true, false, List, length, take, drop, map, refl, sym, ◌∙◌, ap, subst, arith}
-use Rattle.std.specs.Prelude.{slice_index, nat_le, ◌&&◌, Option, Some, None, if◌then◌else◌}
+use Rattle.std.proofs.Common.{◌≡◌, inl, inr, ◌⊎◌, ℕ, ◌+◌, ◌-◌, ◌≤◌, ◌<◌, ◌==◌, Bool, true, false, List, length, take, drop, refl, sym, ◌∙◌, ap, subst, arith}
+use Rattle.std.specs.Prelude.{slice_index, nat_le, ◌&&◌, Some}
 use Rattle.std.proofs.Math.ListN.{get_or}
 use Rattle.std.proofs.lemmas.Bool.{cases_Bool, cases_lt, eqb-true}
 use Rattle.std.proofs.lemmas.List.{get_or-take, get_or-drop, length-take-le, length-drop}
 use Rattle.memchr.specs.Find.{Nowhere}
 use Rattle.aho_base.specs.Answer.{IsAnswer}
-use Rattle.aho_base.specs.Best.{IsBest}
 use Rattle.aho_base.specs.Bytes.{folded, folded_by}
 use Rattle.aho_base.specs.Occurrence.{Occurrence}
-use Rattle.aho_base.specs.Occurs.{Occurs, OccursIn}
+use Rattle.aho_base.specs.Occurs.{OccursIn}
 use Rattle.aho_base.specs.Order.{IsBefore}
 use Rattle.aho_base.specs.Patterns.{Patterns, pattern_at}
 use Rattle.aho_base.specs.Search.{plain_search}
-use Rattle.aho_base.specs.declared.search.Anchored.TheVariants.{No}
 use Rattle.aho_base.specs.declared.search.MatchKind.{MatchKind}
 use Rattle.aho_base.specs.declared.search.MatchKind.TheVariants.{Standard, LeftmostFirst, LeftmostLongest}
 use Rattle.aho_base.specs.declared.search.Span.{Span}

@@ -1,5 +1,4 @@
 -- The matches that came so far were written.
-use Rattle.std.proofs.Common.{◌≡◌}
 use Rattle.std.specs.Io.KnownBytes.{Appends}
 use Rattle.acgrep.specs.Printed.{matches_by}
 use Rattle.acgrep.proofs.print.put_each.Given as goal

@@ -1,5 +1,5 @@
 -- Until a line is selected nothing is passed, or nothing occurs.
-use Rattle.std.proofs.Common.{◌≡◌, ◌⊎◌, ◌<◌, false, length}
+use Rattle.std.proofs.Common.{◌≡◌, ◌⊎◌, false, length}
 use Rattle.aho_base.specs.Occurrence.{Occurrence}
 use Rattle.aho_base.specs.Occurs.{OccursIn}
 use Rattle.aho_base.specs.Patterns.{Patterns}
