@@ -1,0 +1,10 @@
+-- What is left of the arguments says what all of them do.
+use Rattle.std.proofs.Common.{◌≡◌, length}
+use Rattle.acgrep.specs.Arguments.{arguments_by, said, said_by, texts}
+use Rattle.acgrep.proofs.arguments.parse.Given as goal
+
+abbrev pub invariant-loop-argument : goal.invariant-loop-argument
+invariant-loop-argument l = arguments_by l.awaited (texts l.left) (said l.given) ≡ said_by (texts l.fn.arguments)
+
+abbrev pub decreases-loop-argument : goal.decreases-loop-argument
+decreases-loop-argument l = length l.left

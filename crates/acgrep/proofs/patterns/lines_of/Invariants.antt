@@ -1,0 +1,11 @@
+-- The lines so far, and those of what is left.
+use Rattle.std.proofs.Common.{◌≡◌, ◌++◌, length}
+use Rattle.aho_base.specs.Replacement.{pieces_of}
+use Rattle.acgrep.specs.Lines.{lines}
+use Rattle.acgrep.proofs.patterns.lines_of.Given as goal
+
+abbrev pub invariant-loop-rest : goal.invariant-loop-rest
+invariant-loop-rest l = pieces_of l.lines.items ++ lines l.rest ≡ lines l.fn.text
+
+abbrev pub decreases-loop-rest : goal.decreases-loop-rest
+decreases-loop-rest l = length l.rest

@@ -1,0 +1,79 @@
+-- What is written of a line, with what stands before it.
+use Rattle.std.specs.Prelude.{ℕ, ◌+◌, ◌%◌, ◌^◌, ◌==◌, ◌&&◌, nat_le, Bool, List, [], ◌∷◌, ◌++◌, Option, None, codes, decimal, length, slice_range, if◌then◌else◌}
+use Rattle.std.specs.Io.KnownBytes.{Appends}
+use Rattle.std.specs.List.{flat_map}
+use Rattle.aho_base.specs.Iteration.{AreFinds}
+use Rattle.aho_base.specs.Occurrence.{Occurrence}
+use Rattle.aho_base.specs.Patterns.{Patterns}
+use Rattle.aho_base.specs.Search.{plain_search}
+use Rattle.acgrep.specs.declared.print.Place.{Place}
+use Rattle.acgrep.specs.declared.print.Style.{Style}
+
+-- what begins a colour of this code, and what ends each
+abbrev pub color_of : List ℕ → List ℕ
+color_of code = 27 ∷ (codes "[" ++ (code ++ (codes "m" ++ (27 ∷ codes "[K"))))
+
+abbrev pub no_color : List ℕ
+no_color = 27 ∷ (codes "[m" ++ (27 ∷ codes "[K"))
+
+-- the bytes, in a colour where that is asked for
+abbrev pub painted : Bool → List ℕ → List ℕ → List ℕ
+painted color start bytes = if color then start ++ (bytes ++ no_color) else bytes
+
+-- a part of what stands before a line: with a colon behind it
+abbrev pub part_by : Bool → List ℕ → List ℕ → List ℕ
+part_by color start bytes = painted color start bytes ++ painted color (color_of (codes "36")) (codes ":")
+
+abbrev pub number_by : Bool → ℕ → List ℕ
+number_by color number = part_by color (color_of (codes "32")) (decimal number)
+
+-- the file's name, the line's number and an offset, of which each stands there if it is asked for
+abbrev pub name_part : Style → List ℕ
+name_part style = if style.with_name then part_by style.color (color_of (codes "35")) style.name.now else []
+
+abbrev pub number_if : Bool → Bool → ℕ → List ℕ
+number_if asked color number = if asked then number_by color number else []
+
+abbrev pub head_of : Style → ℕ → ℕ → List ℕ
+head_of style number offset = name_part style ++ (number_if style.number style.color number ++ number_if style.offset style.color offset)
+
+-- the number of a line; numbers wrap at 2^64
+abbrev pub number_at : Place → ℕ
+number_at place = (place.lines + 1) % 2 ^ 64
+
+-- a line of a file
+abbrev pub line_by : Style → Place → List ℕ → List ℕ
+line_by style place line = head_of style (number_at place) place.bytes ++ (line ++ codes "\n")
+
+-- the number of selected lines
+abbrev pub count_by : Style → ℕ → List ℕ
+count_by style count = name_part style ++ (decimal count ++ codes "\n")
+
+-- the name of a file
+abbrev pub file_line : Style → List ℕ
+file_line style = painted style.color (color_of (codes "35")) style.name.now ++ codes "\n"
+
+-- the bytes of a range of a line; none where it does not lie in the line
+abbrev pub part_of : List ℕ → ℕ → ℕ → List ℕ
+part_of line start end = if nat_le start end && nat_le end (length line) then slice_range line start end else []
+
+-- where a match begins in its file; offsets wrap at 2^64
+abbrev pub offset_at : Place → ℕ → ℕ
+offset_at place start = (place.bytes + start) % 2 ^ 64
+
+-- a match of a line, on a line of its own: nothing of an empty one
+abbrev pub match_by : Style → Place → List ℕ → Occurrence → List ℕ
+match_by style place line m =
+    if m.start == m.end then []
+    else head_of style (number_at place) (offset_at place m.start)
+    ++ (painted style.color (color_of (codes "01;31")) (part_of line m.start m.end) ++ codes "\n")
+
+-- one match after another
+abbrev pub matches_by : Style → Place → List ℕ → List Occurrence → List ℕ
+matches_by style place line ms = flat_map (λ m. match_by style place line m) ms
+
+-- the matches of a line, one after another, are written and nothing else
+pub record WritesFinds (old new : Option (List ℕ)) (p : Patterns) (style : Style) (place : Place) (line : List ℕ) : Type 0 where
+  pub matches : List Occurrence
+  pub found : AreFinds p (plain_search line) None matches
+  pub written : Appends old new (matches_by style place line matches)

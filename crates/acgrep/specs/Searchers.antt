@@ -1,0 +1,28 @@
+-- What the automaton of a call is of.
+use Rattle.std.specs.Prelude.{◌≡◌, ℕ, Bool, false, List}
+use Rattle.aho_base.specs.Patterns.{Patterns}
+use Rattle.aho_base.specs.declared.search.MatchKind.{MatchKind}
+use Rattle.aho_build.specs.Settings.{default_settings}
+use Rattle.aho_build.specs.declared.settings.Settings.{Settings}
+use Rattle.aho_corasick.specs.contracts.noncontiguous.NFAAutomaton.TheImpl.{ghosts as of_nfa}
+use Rattle.aho_hybrid.specs.contracts.hybrid.HybridAutomaton.TheImpl.{ghosts as of_hybrid}
+use Rattle.acgrep.specs.declared.searcher.Searcher.{Searcher}
+use Rattle.acgrep.specs.declared.searcher.Searcher.TheVariants.{Rows, Trie}
+
+-- these words, by a match kind and a case rule
+abbrev pub patterns_by : MatchKind → Bool → List (List ℕ) → Patterns
+patterns_by kind ignore_case words = record { words = words; kind = kind; ignore_case = ignore_case }
+
+-- these are the patterns, by whatever kind
+pub record ArePatterns (p : Patterns) (ignore_case : Bool) (words : List (List ℕ)) : Type 0 where
+  pub words_are : p.words ≡ words
+  pub rule : p.ignore_case ≡ ignore_case
+
+-- how the automaton that rows are made of is built: without a prefilter
+abbrev pub settings_by : MatchKind → Bool → Settings
+settings_by kind ignore_case = record default_settings { kind = kind; ignore_case = ignore_case; prefilter = false }
+
+-- the automaton that is held is of these patterns
+abbrev pub IsSearcherOf : Patterns → Searcher → Type 0
+IsSearcherOf p (Rows rows) = of_hybrid.is_of rows p
+IsSearcherOf p (Trie nfa) = of_nfa.is_of nfa p

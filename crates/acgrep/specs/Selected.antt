@@ -1,0 +1,46 @@
+-- Which lines of a text are selected.
+use Rattle.std.specs.Prelude.{◌≡◌, ◌≢◌, ℕ, ◌-◌, ◌<◌, ◌≤◌, false, List, Option, Some, None, length, slice_index}
+use Rattle.aho_base.specs.Occurrence.{Occurrence}
+use Rattle.aho_base.specs.Occurs.{Occurs, OccursIn}
+use Rattle.aho_base.specs.Patterns.{Patterns, pattern_at}
+use Rattle.aho_base.specs.Search.{plain_search}
+use Rattle.aho_base.specs.declared.search.Anchored.TheVariants.{No}
+use Rattle.aho_base.specs.declared.search.Span.{Span}
+use Rattle.memchr.specs.Find.{Nowhere}
+use Rattle.acgrep.specs.Lines.{IsNewline}
+use Rattle.acgrep.specs.declared.select.Job.{Job}
+use Rattle.acgrep.specs.declared.select.State.{State}
+
+-- no pattern holds a newline
+abbrev pub HoldNoNewline : Patterns → Type 0
+HoldNoNewline p =
+    (number place : ℕ) → number < length p.words → place < length (pattern_at p number) → slice_index (pattern_at p number) place ≢ 10
+
+-- the span is a line of the text, without its newline
+pub record IsLine (text : List ℕ) (line : Span) : Type 0 where
+  pub ordered : line.start ≤ line.end
+  pub within : line.end ≤ length text
+  -- it begins the text, or stands behind a newline
+  pub begins : 0 < line.start → IsNewline text (line.start - 1)
+  -- it ends the text, or a newline follows
+  pub ends : line.end < length text → IsNewline text line.end
+  -- and it holds none
+  pub one : Nowhere (IsNewline text) line.start line.end
+
+-- the span is the first line of the text in which a pattern occurs
+pub record IsFirstWith (p : Patterns) (text : List ℕ) (line : Span) : Type 0 where
+  pub is_line : IsLine text line
+  -- a pattern occurs in it
+  pub some : (m : Occurrence) × Occurs p No text line.start line.end m
+  -- whatever occurs in the text ends where it begins, or later
+  pub first : (m : Occurrence) → OccursIn p (plain_search text) m → line.start ≤ m.end
+
+-- the first line in which a pattern occurs, or none where nothing occurs
+abbrev pub IsNextLine : Patterns → List ℕ → Option Span → Type 0
+IsNextLine p text None = (m : Occurrence) → OccursIn p (plain_search text) m → ⊥
+IsNextLine p text (Some line) = IsFirstWith p text line
+
+-- where lines with a match are selected and none was, nothing occurs in a text that is not empty
+abbrev pub IsNoneSelected : Patterns → Job → List ℕ → State → Type 0
+IsNoneSelected p job text state =
+    job.invert ≡ false → 0 < length text → state.selected ≡ 0 → (m : Occurrence) → OccursIn p (plain_search text) m → ⊥

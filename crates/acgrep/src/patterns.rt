@@ -1,0 +1,63 @@
+//! Patterns: the lines of what the options give.
+
+ghost use Rattle.std.specs.Prelude.{◌≡◌, IfOk};
+ghost use Rattle.aho_base.specs.Replacement.{pieces_of};
+ghost use Rattle.acgrep.specs.Lines.{lines};
+
+use crate::lines::{behind, line_end};
+use std::alloc::{AllocError, Global};
+
+/// The patterns of several sources, each followed by a newline, and where each source begins.
+#[derive(Drop)]
+pub struct Keys {
+    /// The patterns of all sources.
+    pub text: Vec<u8>,
+    /// Where the text of each source begins.
+    pub starts: Vec<usize>,
+}
+
+impl Keys {
+    /// No source.
+    pub fn new(alloc: Global) -> Keys {
+        Keys {
+            text: Vec::new(alloc),
+            starts: Vec::new(alloc),
+        }
+    }
+
+    /// Begins a source.
+    pub fn begin(&mut self) -> Result<(), AllocError> {
+        self.starts.push(self.text.len())?;
+        Ok(())
+    }
+
+    /// Adds a source that is a text. An empty one is one empty pattern.
+    pub fn add_text(&mut self, text: &[u8]) -> Result<(), AllocError> {
+        self.begin()?;
+        self.text.extend_from_slice(text)?;
+        self.text.push(b'\n')?;
+        Ok(())
+    }
+
+    /// Ends a source that is a file. A last newline ends the last pattern, and an empty file has none.
+    pub fn end_file(&mut self, start: usize) -> Result<(), AllocError> {
+        if self.text.len() > start && self.text.last() != Some(&b'\n') {
+            self.text.push(b'\n')?;
+        }
+        Ok(())
+    }
+}
+
+/// The lines of a text, each without its newline. What follows the last newline is a line if it is not empty.
+pub fn lines_of(alloc: Global, text: &[u8]) -> Result<Vec<&[u8]>, AllocError>
+    ensures lines { IfOk result (λ found. pieces_of found.items ≡ lines text.now) }
+{
+    let mut lines = Vec::new(alloc);
+    let mut rest = text;
+    while !rest.is_empty() {
+        let end = line_end(rest);
+        lines.push(&rest[..end])?;
+        rest = behind(rest, end);
+    }
+    Ok(lines)
+}

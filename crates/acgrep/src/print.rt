@@ -1,0 +1,278 @@
+//! Writing lines and matches with what stands before them.
+
+ghost use Rattle.std.specs.Iterator.{IsFinite};
+ghost use Rattle.std.specs.Iterator.Runs.{WholeRun};
+ghost use Rattle.std.specs.Prelude.{◌≡◌, ◌≤◌, OnOk, decimal, drop};
+ghost use Rattle.std.specs.Io.KnownBytes.{Appends};
+ghost use Rattle.aho_base.specs.Patterns.{Patterns};
+ghost use Rattle.acgrep.specs.Printed.{WritesFinds, count_by, file_line, head_of, line_by, match_by, matches_by, name_part, number_by, number_if, painted, part_by, part_of};
+
+use crate::failure::Stop;
+use chromesquid::{Automaton, Input, Match};
+use itoa::write_digits;
+use std::io;
+use std::io::Write;
+
+/// The room for a number's digits.
+pub const DIGITS: usize = 20;
+
+/// What begins each colour, and what ends it.
+const NAME_COLOR: &[u8] = b"\x1b[35m\x1b[K";
+
+const NUMBER_COLOR: &[u8] = b"\x1b[32m\x1b[K";
+
+const SEPARATOR_COLOR: &[u8] = b"\x1b[36m\x1b[K";
+
+const MATCH_COLOR: &[u8] = b"\x1b[01;31m\x1b[K";
+
+const NO_COLOR: &[u8] = b"\x1b[m\x1b[K";
+
+/// What stands before a line.
+#[derive(Clone, Copy)]
+pub struct Style<'a> {
+    /// The file's name.
+    pub name: &'a [u8],
+    /// Whether the file's name stands before each line.
+    pub with_name: bool,
+    /// Whether the line's number does.
+    pub number: bool,
+    /// Whether its offset in the file does.
+    pub offset: bool,
+    /// Whether all that is coloured.
+    pub color: bool,
+}
+
+/// Where a line stands in its file.
+#[derive(Clone, Copy)]
+pub struct Place {
+    /// How many lines stand before it.
+    pub lines: u64,
+    /// How many bytes do.
+    pub bytes: u64,
+}
+
+/// Writes bytes, in a colour where that is asked for.
+fn put_painted<W: Write>(output: &mut W, color: bool, start: &[u8], bytes: &[u8]) -> io::Result<()>
+    ensures written { OnOk result (Appends (W.contents output.old) (W.contents output.new)
+        (painted color start.now bytes.now)) }
+{
+    if !color {
+        return output.write_all(bytes);
+    }
+    output.write_all(start)?;
+    output.write_all(bytes)?;
+    output.write_all(NO_COLOR)?;
+    Ok(())
+}
+
+/// Writes a part of what stands before a line, and a colon.
+fn put_part<W: Write>(output: &mut W, color: bool, start: &[u8], bytes: &[u8]) -> io::Result<()>
+    ensures written { OnOk result (Appends (W.contents output.old) (W.contents output.new)
+        (part_by color start.now bytes.now)) }
+{
+    put_painted(output, color, start, bytes)?;
+    put_painted(output, color, SEPARATOR_COLOR, b":")?;
+    Ok(())
+}
+
+/// Puts a number's digits at the end of the room, and answers where they start.
+pub fn put_digits(number: u64, room: &mut [u8; DIGITS]) -> usize
+    ensures within { result ≤ 20 }
+    ensures digits { drop result room.new ≡ decimal number }
+{
+    write_digits(number, room, DIGITS)
+}
+
+/// Writes a number and a colon.
+fn put_number<W: Write>(output: &mut W, color: bool, number: u64) -> io::Result<()>
+    ensures written { OnOk result (Appends (W.contents output.old) (W.contents output.new)
+        (number_by color number)) }
+{
+    let mut digits = [0; DIGITS];
+    let start = put_digits(number, &mut digits);
+    put_part(output, color, NUMBER_COLOR, &digits[start..])
+}
+
+/// Writes what stands before a line, or before a match that begins at a place of it.
+fn put_head<W: Write>(output: &mut W, style: &Style<'_>, number: u64, offset: u64) -> io::Result<()>
+    ensures written { OnOk result (Appends (W.contents output.old) (W.contents output.new)
+        (head_of style.now number offset)) }
+{
+    put_file(output, style)?;
+    put_if(output, style.number, style.color, number)?;
+    put_if(output, style.offset, style.color, offset)?;
+    Ok(())
+}
+
+/// Writes the file's name where it is asked for.
+fn put_file<W: Write>(output: &mut W, style: &Style<'_>) -> io::Result<()>
+    ensures written { OnOk result (Appends (W.contents output.old) (W.contents output.new)
+        (name_part style.now)) }
+{
+    if style.with_name {
+        return put_part(output, style.color, NAME_COLOR, style.name);
+    }
+    Ok(())
+}
+
+/// Writes a number where it is asked for.
+fn put_if<W: Write>(output: &mut W, asked: bool, color: bool, number: u64) -> io::Result<()>
+    ensures written { OnOk result (Appends (W.contents output.old) (W.contents output.new)
+        (number_if asked color number)) }
+{
+    if asked {
+        return put_number(output, color, number);
+    }
+    Ok(())
+}
+
+/// Writes a line with what stands before it.
+pub fn put_line<W: Write>(
+    output: &mut W,
+    style: &Style<'_>,
+    place: Place,
+    line: &[u8],
+) -> io::Result<()>
+    ensures written { OnOk result (Appends (W.contents output.old) (W.contents output.new)
+        (line_by style.now place line.now)) }
+{
+    put_head(output, style, place.lines.wrapping_add(1), place.bytes)?;
+    output.write_all(line)?;
+    output.write_all(b"\n")?;
+    Ok(())
+}
+
+/// The bytes of a match.
+fn part<'t>(line: &'t [u8], start: usize, end: usize) -> &'t [u8]
+    ensures part { result.now ≡ part_of line.now start end }
+{
+    if start <= end && end <= line.len() {
+        &line[start..end]
+    } else {
+        &[]
+    }
+}
+
+/// Writes a line with its matches coloured.
+pub fn put_colored_line<A: Automaton, W: Write>(
+    automaton: &A,
+    output: &mut W,
+    style: &Style<'_>,
+    place: Place,
+    line: &[u8],
+) -> Result<(), Stop>
+    requires of { (p : Patterns) × A.is_of automaton.now p }
+{
+    put_head(output, style, place.lines.wrapping_add(1), place.bytes)?;
+    let matches = automaton.try_find_iter(Input::new(line))?;
+    put_colored(output, line, matches)?;
+    Ok(output.write_all(b"\n")?)
+}
+
+/// Writes the bytes of a line with its matches coloured.
+fn put_colored<W: Write, I: Iterator<Item = Match> + Drop>(
+    output: &mut W,
+    line: &[u8],
+    matches: I,
+) -> io::Result<()>
+    requires ready { I.can_next matches }
+    requires finite { IsFinite (I.remaining matches) }
+{
+    let mut at = 0;
+    for found in matches {
+        if found.start() < found.end() {
+            output.write_all(part(line, at, found.start()))?;
+            put_painted(
+                output,
+                true,
+                MATCH_COLOR,
+                part(line, found.start(), found.end()),
+            )?;
+            at = found.end();
+        }
+    }
+    output.write_all(part(line, at, line.len()))
+}
+
+/// Writes each match of a line that is not empty, with what stands before it.
+pub fn put_matches<A: Automaton, W: Write>(
+    automaton: &A,
+    output: &mut W,
+    style: &Style<'_>,
+    place: Place,
+    line: &[u8],
+) -> Result<(), Stop>
+    requires of { (p : Patterns) × A.is_of automaton.now p }
+    ensures written { (p : Patterns) → A.is_of automaton.now p → OnOk result (WritesFinds
+        (W.contents output.old) (W.contents output.new) p style.now place line.now) }
+{
+    let matches = automaton.try_find_iter(Input::new(line))?;
+    put_each(output, style, place, line, matches)?;
+    Ok(())
+}
+
+/// Writes each of some matches of a line.
+fn put_each<W: Write, I: Iterator<Item = Match> + Drop>(
+    output: &mut W,
+    style: &Style<'_>,
+    place: Place,
+    line: &[u8],
+    matches: I,
+) -> io::Result<()>
+    requires ready { I.can_next matches }
+    requires finite { IsFinite (I.remaining matches) }
+    ensures written { OnOk result (WholeRun I.next_gives matches (λ run.
+        Appends (W.contents output.old) (W.contents output.new)
+        (matches_by style.now place line.now run.items))) }
+{
+    for found in matches {
+        put_match(output, style, place, line, &found)?;
+    }
+    Ok(())
+}
+
+/// Writes a match with what stands before it, if it is not empty.
+fn put_match<W: Write>(
+    output: &mut W,
+    style: &Style<'_>,
+    place: Place,
+    line: &[u8],
+    found: &Match,
+) -> io::Result<()>
+    ensures written { OnOk result (Appends (W.contents output.old) (W.contents output.new)
+        (match_by style.now place line.now found.now)) }
+{
+    let start = found.start();
+    let end = found.end();
+    if start == end {
+        return Ok(());
+    }
+    let offset = place.bytes.wrapping_add(start as u64);
+    put_head(output, style, place.lines.wrapping_add(1), offset)?;
+    put_painted(output, style.color, MATCH_COLOR, part(line, start, end))?;
+    output.write_all(b"\n")?;
+    Ok(())
+}
+
+/// Writes the number of selected lines.
+pub fn put_count<W: Write>(output: &mut W, style: &Style<'_>, count: u64) -> io::Result<()>
+    ensures written { OnOk result (Appends (W.contents output.old) (W.contents output.new)
+        (count_by style.now count)) }
+{
+    put_file(output, style)?;
+    let mut digits = [0; DIGITS];
+    let start = put_digits(count, &mut digits);
+    output.write_all(&digits[start..])?;
+    output.write_all(b"\n")?;
+    Ok(())
+}
+
+/// Writes the name of a file with a selected line.
+pub fn put_name<W: Write>(output: &mut W, style: &Style<'_>) -> io::Result<()>
+    ensures written { OnOk result (Appends (W.contents output.old) (W.contents output.new)
+        (file_line style.now)) }
+{
+    put_painted(output, style.color, NAME_COLOR, style.name)?;
+    output.write_all(b"\n")?;
+    Ok(())
+}

@@ -1,0 +1,110 @@
+//! The automaton by which files are searched. No answer depends on how it is made.
+
+ghost use Rattle.std.specs.Prelude.{◌≡◌, IfOk, IfSome};
+ghost use Rattle.aho_base.specs.Patterns.{Patterns};
+ghost use Rattle.aho_base.specs.Replacement.{pieces_of};
+ghost use Rattle.aho_prefilter.specs.Prefilter.{IsPrefilterOf};
+ghost use Rattle.acgrep.specs.Searchers.{ArePatterns, IsSearcherOf, settings_by};
+
+use aho_corasick::noncontiguous::{Builder, NFA};
+use aho_hybrid::hybrid::{DEFAULT_BUDGET, Hybrid};
+use aho_prefilter::laws::held_serves_each_kind;
+use aho_prefilter::prefilter::{PackedBuilder, Prefilter};
+use chromesquid::{Automaton, BuildError, MatchKind};
+use std::alloc::{AllocError, Global};
+
+/// An automaton of some patterns.
+#[derive(Drop)]
+pub enum Searcher {
+    /// The automaton of rows, with a prefilter where there is one for the patterns.
+    Rows(Hybrid),
+    /// The automaton that rows are made of, where it has too many states for them.
+    Trie(NFA),
+}
+
+impl Searcher {
+    /// The automaton of these patterns.
+    ///
+    /// # Errors
+    ///
+    /// A pattern is too long, there are too many of them, or memory ran out.
+    pub fn build(
+        alloc: Global,
+        kind: MatchKind,
+        ignore_case: bool,
+        patterns: &[&[u8]],
+    ) -> Result<Searcher, BuildError>
+        ensures of { (p : Patterns) → p.kind ≡ kind
+            → ArePatterns p ignore_case (pieces_of patterns.now)
+            → IfOk result (IsSearcherOf p) }
+    {
+        let nfa = trie_of(alloc, kind, ignore_case, patterns)?;
+        match rows_of(alloc, &nfa, ignore_case, patterns) {
+            Ok(Some(rows)) => Ok(Searcher::Rows(rows)),
+            Ok(None) => Ok(Searcher::Trie(nfa)),
+            Err(_) => Err(BuildError::OutOfMemory),
+        }
+    }
+}
+
+/// The automaton with rows of what an `NFA` of these patterns is of; none where it would have too many states.
+fn rows_of(
+    alloc: Global,
+    nfa: &NFA,
+    ignore_case: bool,
+    patterns: &[&[u8]],
+) -> Result<Option<Hybrid>, AllocError>
+    ensures of { (p : Patterns) → ArePatterns p ignore_case (pieces_of patterns.now)
+        → ⟦<NFA as Automaton>⟧.is_of nfa.now p
+        → IfOk result (λ made. IfSome made (λ rows. ⟦<Hybrid as Automaton>⟧.is_of rows p)) }
+{
+    let prefilter = prefilter_of(alloc, ignore_case, patterns)?;
+    match Hybrid::with_prefilter(alloc, nfa, DEFAULT_BUDGET, prefilter) {
+        Ok(rows) => Ok(Some(rows)),
+        Err(BuildError::OutOfMemory) => Err(AllocError),
+        Err(_) => Ok(None),
+    }
+}
+
+/// The automaton that rows are made of.
+fn trie_of(
+    alloc: Global,
+    kind: MatchKind,
+    ignore_case: bool,
+    patterns: &[&[u8]],
+) -> Result<NFA, BuildError>
+    ensures of { (p : Patterns) → p.kind ≡ kind
+        → ArePatterns p ignore_case (pieces_of patterns.now)
+        → IfOk result (λ nfa. ⟦<NFA as Automaton>⟧.is_of nfa p) }
+{
+    builder_for(kind, ignore_case).build(alloc, patterns.iter().copied())
+}
+
+/// How it is built. The rows have the prefilter.
+fn builder_for(kind: MatchKind, ignore_case: bool) -> Builder
+    ensures settings { result ≡ settings_by kind ignore_case }
+{
+    let mut builder = NFA::builder();
+    builder
+        .match_kind(kind)
+        .ascii_case_insensitive(ignore_case)
+        .prefilter(false);
+    builder
+}
+
+/// The prefilter of these patterns, which may be a packed search, if there is one.
+fn prefilter_of(
+    alloc: Global,
+    ignore_case: bool,
+    patterns: &[&[u8]],
+) -> Result<Option<Prefilter>, AllocError>
+    ensures of { (p : Patterns) → ArePatterns p ignore_case (pieces_of patterns.now)
+        → IfOk result (λ held. IfSome held (λ prefilter. IsPrefilterOf prefilter p)) }
+{
+    held_serves_each_kind();
+    let mut builder = PackedBuilder::new(alloc, ignore_case);
+    for pattern in patterns {
+        builder.add(pattern)?;
+    }
+    builder.build()
+}
