@@ -8,44 +8,49 @@
 #![tactic(auto)]
 
 mod automata;
+mod call;
 mod searches;
 mod trial;
 
 use anyhow::{Context, Result};
-use searches::report_of;
+use call::{Call, call_of};
+use searches::{Report, report_of};
 use std::{env, fs};
-use trial::trial_of;
 
 fn main(rt: HostRuntime) -> Result<()> {
     let mut words = Vec::new(rt.alloc());
     for word in env::args(&rt)?.skip(1) {
         words.push(word)?;
     }
-    let [
-        automaton,
-        kind,
-        case,
-        prefilter,
-        depth,
-        times,
-        patterns,
-        text,
-    ] = words.as_slice()
-    else {
-        println!(rt; "usage: speeds AUTOMATON KIND CASE PREFILTER DEPTH TIMES PATTERNS TEXT")?;
-        return Ok(());
-    };
-    let trial = trial_of(
-        automaton.as_str(),
-        kind.as_str(),
-        case.as_str(),
-        prefilter.as_str(),
-    )?;
-    let depth = depth.parse::<usize>().context("reading DEPTH")?;
-    let times = times.parse::<u32>().context("reading TIMES")?;
-    let patterns = fs::read(&rt, patterns.as_str()).context("reading PATTERNS")?;
-    let text = fs::read(&rt, text.as_str()).context("reading TEXT")?;
-    let report = report_of(&rt, rt.alloc(), trial, depth, times, &patterns, &text)?;
+    match call_of(words.as_slice())? {
+        Some(call) => {
+            let report = measured(&rt, &call)?;
+            print(&rt, &report)
+        }
+        None => {
+            println!(rt; "usage: speeds AUTOMATON KIND CASE PREFILTER DEPTH TIMES PATTERNS TEXT")?;
+            Ok(())
+        }
+    }
+}
+
+/// Reads the two files of a call, and measures what it asks for.
+fn measured(rt: &HostRuntime, call: &Call<'_>) -> Result<Report> {
+    let patterns = fs::read(rt, call.patterns).context("reading PATTERNS")?;
+    let text = fs::read(rt, call.text).context("reading TEXT")?;
+    report_of(
+        rt,
+        rt.alloc(),
+        call.trial,
+        call.depth,
+        call.times,
+        &patterns,
+        &text,
+    )
+}
+
+/// Prints a report, in one line.
+fn print(rt: &HostRuntime, report: &Report) -> Result<()> {
     println!(rt;
         "{:.9} {:.9} {} {} {}",
         report.built.as_secs_f64(),

@@ -10,7 +10,7 @@ use crate::trial::{Searched, Skips, Trial};
 use aho_base::error::MatchError;
 use aho_base::search::Input;
 use aho_corasick::noncontiguous::NFA;
-use aho_hybrid::hybrid::Hybrid;
+use aho_hybrid::hybrid::{DEFAULT_BUDGET, Hybrid};
 use aho_search::automaton::{Automaton, WithPrefilter};
 use anyhow::{Result, bail};
 use std::alloc::Global;
@@ -66,10 +66,34 @@ fn report_by_rows<R: CpuClock>(
     requires of { ⟦<NFA as Automaton>⟧.is_of nfa.now
         (patterns_of (record default_settings { kind = trial.kind; ignore_case = trial.ignore_case }) lines.now) }
 {
+    if let Skips::Packed = trial.skips {
+        return report_by_packed_rows(rt, alloc, trial, nfa, lines, times, text);
+    }
     let begun = rt.process_cpu_time()?;
     let hybrid = Hybrid::from_nfa(alloc, nfa)?;
     let built = rt.process_cpu_time()?.saturating_sub(begun);
     report_by(rt, alloc, trial, &hybrid, lines, built, times, text)
+}
+
+/// Makes the `Hybrid` of an automaton with a packed search, and searches by it.
+fn report_by_packed_rows<R: CpuClock>(
+    rt: &R,
+    alloc: Global,
+    trial: Trial,
+    nfa: &NFA,
+    lines: &[&[u8]],
+    times: u32,
+    text: &[u8],
+) -> Result<Report>
+    requires of { ⟦<NFA as Automaton>⟧.is_of nfa.now
+        (patterns_of (record default_settings { kind = trial.kind; ignore_case = trial.ignore_case }) lines.now) }
+{
+    let prefilter = packed_of(alloc, lines, trial.kind, trial.ignore_case)?;
+    let begun = rt.process_cpu_time()?;
+    let hybrid = Hybrid::with_prefilter(alloc, nfa, DEFAULT_BUDGET, prefilter)?;
+    let built = rt.process_cpu_time()?.saturating_sub(begun);
+    let memory = hybrid.memory_usage();
+    searched(rt, &hybrid, built, memory, times, text)
 }
 
 /// Searches by an automaton that was built in this time.
