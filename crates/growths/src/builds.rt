@@ -46,12 +46,17 @@ pub fn new(alloc: Global, want: &mut Want) -> Result<(), Wrong> {
         Ok(nfa) => finds(&nfa),
         Err(BuildError::OutOfMemory) => {
             want.meet()?;
-            match NFA::new(alloc, PATTERNS.iter().copied()) {
-                Ok(nfa) => finds(&nfa),
-                Err(_) => Err("a second build was refused"),
-            }
+            new_again(alloc)
         }
         Err(_) => Err("a build was refused for another cause"),
+    }
+}
+
+/// The same build once more.
+fn new_again(alloc: Global) -> Result<(), Wrong> {
+    match NFA::new(alloc, PATTERNS.iter().copied()) {
+        Ok(nfa) => finds(&nfa),
+        Err(_) => Err("a second build was refused"),
     }
 }
 
@@ -74,28 +79,48 @@ pub fn automaton(
         Ok(nfa) => Ok(nfa),
         Err(BuildError::OutOfMemory) => {
             want.meet()?;
-            match builder.build(alloc, patterns.iter().copied()) {
-                Ok(nfa) => Ok(nfa),
-                Err(_) => Err("the builder does not build as before"),
-            }
+            automaton_again(alloc, builder, patterns)
         }
         Err(_) => Err("a build was refused for another cause"),
+    }
+}
+
+/// The same automaton, built once more.
+fn automaton_again(alloc: Global, builder: &Builder, patterns: &[&[u8]]) -> Result<NFA, Wrong>
+    ensures of { IfOk result (λ nfa. (p : Patterns) × ⟦<NFA as Automaton>⟧.is_of nfa p) }
+{
+    match builder.build(alloc, patterns.iter().copied()) {
+        Ok(nfa) => Ok(nfa),
+        Err(_) => Err("the builder does not build as before"),
     }
 }
 
 /// `NFA::try_clone`, which answers an automaton that finds the same, and leaves its original.
 pub fn clone(alloc: Global, builder: &Builder, want: &mut Want) -> Result<(), Wrong> {
     let nfa = automaton(alloc, builder, &PATTERNS, want)?;
+    clone_of(&nfa, want)
+}
+
+fn clone_of(nfa: &NFA, want: &mut Want) -> Result<(), Wrong>
+    requires of { (p : Patterns) × ⟦<NFA as Automaton>⟧.is_of nfa.now p }
+{
     match nfa.try_clone() {
         Ok(clone) => finds(&clone),
         Err(_) => {
             want.meet()?;
-            finds(&nfa)?;
-            match nfa.try_clone() {
-                Ok(clone) => finds(&clone),
-                Err(_) => Err("a second clone was refused"),
-            }
+            finds(nfa)?;
+            clone_again(nfa)
         }
+    }
+}
+
+/// The same clone once more.
+fn clone_again(nfa: &NFA) -> Result<(), Wrong>
+    requires of { (p : Patterns) × ⟦<NFA as Automaton>⟧.is_of nfa.now p }
+{
+    match nfa.try_clone() {
+        Ok(clone) => finds(&clone),
+        Err(_) => Err("a second clone was refused"),
     }
 }
 

@@ -38,35 +38,47 @@ fn fox(alloc: Global, want: &mut Want) -> Result<NFA, Wrong>
 /// `try_replace_all`.
 pub fn text(alloc: Global, want: &mut Want) -> Result<(), Wrong> {
     let nfa = fox(alloc, want)?;
-    let replaced = match nfa.try_replace_all(alloc, HAYSTACK, &["sloth"]) {
-        Ok(replaced) => replaced,
+    text_by(alloc, &nfa, want)
+}
+
+fn text_by<A: Automaton>(alloc: Global, automaton: &A, want: &mut Want) -> Result<(), Wrong>
+    requires of { (p : Patterns) × A.is_of automaton.now p }
+    requires one { length (A.lengths automaton.now) ≡ 1 }
+{
+    match automaton.try_replace_all(alloc, HAYSTACK, &["sloth"]) {
+        Ok(replaced) => is_replaced(replaced.as_bytes(), ""),
         Err(ReplaceError::Memory) => {
             want.meet()?;
-            match nfa.try_replace_all(alloc, HAYSTACK, &["sloth"]) {
-                Ok(replaced) => replaced,
-                Err(_) => return Err("a second replacement was refused"),
+            match automaton.try_replace_all(alloc, HAYSTACK, &["sloth"]) {
+                Ok(replaced) => is_replaced(replaced.as_bytes(), ""),
+                Err(_) => Err("a second replacement was refused"),
             }
         }
-        Err(_) => return Err("a replacement was refused for another cause"),
-    };
-    is_replaced(replaced.as_bytes(), "")
+        Err(_) => Err("a replacement was refused for another cause"),
+    }
 }
 
 /// `try_replace_all_bytes`.
 pub fn bytes(alloc: Global, want: &mut Want) -> Result<(), Wrong> {
     let nfa = fox(alloc, want)?;
-    let replaced = match nfa.try_replace_all_bytes(alloc, HAYSTACK.as_bytes(), &[b"sloth"]) {
-        Ok(replaced) => replaced,
+    bytes_by(alloc, &nfa, want)
+}
+
+fn bytes_by<A: Automaton>(alloc: Global, automaton: &A, want: &mut Want) -> Result<(), Wrong>
+    requires of { (p : Patterns) × A.is_of automaton.now p }
+    requires one { length (A.lengths automaton.now) ≡ 1 }
+{
+    match automaton.try_replace_all_bytes(alloc, HAYSTACK.as_bytes(), &[b"sloth"]) {
+        Ok(replaced) => is_replaced(replaced.as_slice(), ""),
         Err(ReplaceError::Memory) => {
             want.meet()?;
-            match nfa.try_replace_all_bytes(alloc, HAYSTACK.as_bytes(), &[b"sloth"]) {
-                Ok(replaced) => replaced,
-                Err(_) => return Err("a second replacement was refused"),
+            match automaton.try_replace_all_bytes(alloc, HAYSTACK.as_bytes(), &[b"sloth"]) {
+                Ok(replaced) => is_replaced(replaced.as_slice(), ""),
+                Err(_) => Err("a second replacement was refused"),
             }
         }
-        Err(_) => return Err("a replacement was refused for another cause"),
-    };
-    is_replaced(replaced.as_slice(), "")
+        Err(_) => Err("a replacement was refused for another cause"),
+    }
 }
 
 /// `try_replace_all_with`, into a text that holds something before.
@@ -79,13 +91,19 @@ pub fn text_with(alloc: Global, want: &mut Want) -> Result<(), Wrong> {
             return Err("a second growth was refused");
         }
     }
-    match replace_text(&nfa, &mut dst) {
+    text_into(&nfa, &mut dst, want)
+}
+
+fn text_into<A: Automaton>(automaton: &A, dst: &mut String, want: &mut Want) -> Result<(), Wrong>
+    requires of { (p : Patterns) × A.is_of automaton.now p }
+{
+    match replace_text(automaton, dst) {
         Ok(()) => is_replaced(dst.as_bytes(), BEFORE),
         Err(ReplaceError::Memory) => {
             want.meet()?;
             is_replaced_in_part(dst.as_bytes())?;
             dst.clear();
-            match replace_text(&nfa, &mut dst) {
+            match replace_text(automaton, dst) {
                 Ok(()) => is_replaced(dst.as_bytes(), ""),
                 Err(_) => Err("a second replacement was refused"),
             }
@@ -94,10 +112,10 @@ pub fn text_with(alloc: Global, want: &mut Want) -> Result<(), Wrong> {
     }
 }
 
-fn replace_text(nfa: &NFA, dst: &mut String) -> Result<(), ReplaceError>
-    requires of { (p : Patterns) × ⟦<NFA as Automaton>⟧.is_of nfa.now p }
+fn replace_text<A: Automaton>(automaton: &A, dst: &mut String) -> Result<(), ReplaceError>
+    requires of { (p : Patterns) × A.is_of automaton.now p }
 {
-    nfa.try_replace_all_with(HAYSTACK, dst, |_m, _matched, dst| {
+    automaton.try_replace_all_with(HAYSTACK, dst, |_m, _matched, dst| {
         dst.push_str("sloth")?;
         Ok(true)
     })
@@ -113,13 +131,19 @@ pub fn bytes_with(alloc: Global, want: &mut Want) -> Result<(), Wrong> {
             return Err("a second growth was refused");
         }
     }
-    match replace_bytes(&nfa, &mut dst) {
+    bytes_into(&nfa, &mut dst, want)
+}
+
+fn bytes_into<A: Automaton>(automaton: &A, dst: &mut Vec<u8>, want: &mut Want) -> Result<(), Wrong>
+    requires of { (p : Patterns) × A.is_of automaton.now p }
+{
+    match replace_bytes(automaton, dst) {
         Ok(()) => is_replaced(dst.as_slice(), BEFORE),
         Err(ReplaceError::Memory) => {
             want.meet()?;
             is_replaced_in_part(dst.as_slice())?;
             dst.clear();
-            match replace_bytes(&nfa, &mut dst) {
+            match replace_bytes(automaton, dst) {
                 Ok(()) => is_replaced(dst.as_slice(), ""),
                 Err(_) => Err("a second replacement was refused"),
             }
@@ -128,10 +152,10 @@ pub fn bytes_with(alloc: Global, want: &mut Want) -> Result<(), Wrong> {
     }
 }
 
-fn replace_bytes(nfa: &NFA, dst: &mut Vec<u8>) -> Result<(), ReplaceError>
-    requires of { (p : Patterns) × ⟦<NFA as Automaton>⟧.is_of nfa.now p }
+fn replace_bytes<A: Automaton>(automaton: &A, dst: &mut Vec<u8>) -> Result<(), ReplaceError>
+    requires of { (p : Patterns) × A.is_of automaton.now p }
 {
-    nfa.try_replace_all_with_bytes(HAYSTACK.as_bytes(), dst, |_m, _matched, dst| {
+    automaton.try_replace_all_with_bytes(HAYSTACK.as_bytes(), dst, |_m, _matched, dst| {
         dst.extend_from_slice(b"sloth")?;
         Ok(true)
     })

@@ -1,12 +1,12 @@
 //! Streams.
 
-ghost use Rattle.std.specs.Prelude.{None, true};
+ghost use Rattle.std.specs.Prelude.{◌≡◌, None, length, true};
 ghost use Rattle.aho_base.specs.Patterns.{Patterns};
 
 use crate::builds::automaton;
 use crate::wants::{Want, Wrong};
 use aho_base::error::{Fault, StreamError};
-use aho_corasick::noncontiguous::{Builder, NFA};
+use aho_corasick::noncontiguous::Builder;
 use aho_devices::adapters::FromRead;
 use aho_devices::device::{Sink, Source};
 use aho_devices::write::write_whole;
@@ -24,6 +24,32 @@ const WRITTEN: &[u8] = b"the sloth and the sloth";
 struct Compare<'w> {
     rest: &'w [u8],
     differs: bool,
+}
+
+impl<'w> Compare<'w> {
+    /// One that has taken nothing.
+    fn new() -> Compare<'static> {
+        Compare {
+            rest: WRITTEN,
+            differs: false,
+        }
+    }
+
+    /// Looks at what a refused replacement has written.
+    fn is_unwritten(&self) -> Result<(), Wrong> {
+        if self.rest != WRITTEN || self.differs {
+            return Err("a refused replacement has written");
+        }
+        Ok(())
+    }
+
+    /// Looks at what a replacement has written.
+    fn is_replaced(&self) -> Result<(), Wrong> {
+        if self.differs || !self.rest.is_empty() {
+            return Err("a stream is replaced wrong");
+        }
+        Ok(())
+    }
 }
 
 impl<'w> Sink for Compare<'w> {
@@ -52,18 +78,28 @@ impl<'w> Sink for Compare<'w> {
 pub fn chunks(alloc: Global, want: &mut Want) -> Result<(), Wrong> {
     let nfa = automaton(alloc, &Builder::new(), &[b"fox"], want)?;
     let mut source = FromRead::new(GIVEN);
-    let refused = match StreamChunkIter::new(alloc, &nfa, &mut source) {
-        Ok(_) => false,
-        Err(StreamError::Memory) => true,
-        Err(_) => return Err("a stream was refused for another cause"),
-    };
-    if refused {
+    if is_refused(alloc, &nfa, &mut source)? {
         want.meet()?;
-        if StreamChunkIter::new(alloc, &nfa, &mut source).is_err() {
+        if is_refused(alloc, &nfa, &mut source)? {
             return Err("a second stream was refused");
         }
     }
     is_unread(source.into_inner())
+}
+
+/// Whether a stream is refused for want of memory.
+fn is_refused<A: Automaton, R: Source>(
+    alloc: Global,
+    automaton: &A,
+    source: &mut R,
+) -> Result<bool, Wrong>
+    requires of { (p : Patterns) × A.is_of automaton.now p }
+{
+    match StreamChunkIter::new(alloc, automaton, source) {
+        Ok(_) => Ok(false),
+        Err(StreamError::Memory) => Ok(true),
+        Err(_) => Err("a stream was refused for another cause"),
+    }
 }
 
 /// `try_stream_replace_all`, which leaves the source unread and the sink unwritten where it is refused.
@@ -72,69 +108,66 @@ pub fn replace(alloc: Global, want: &mut Want) -> Result<(), Wrong> {
     if nfa.patterns_len() != 1 {
         return Err("an automaton of another number of patterns");
     }
+    replace_by(alloc, &nfa, want)
+}
+
+fn replace_by<A: Automaton>(alloc: Global, automaton: &A, want: &mut Want) -> Result<(), Wrong>
+    requires of { (p : Patterns) × A.is_of automaton.now p }
+    requires one { length (A.lengths automaton.now) ≡ 1 }
+{
     let mut input = GIVEN;
     let mut source = FromRead::new(&mut input);
-    let mut sink = Compare {
-        rest: WRITTEN,
-        differs: false,
-    };
-    match try_stream_replace_all(alloc, &nfa, &mut source, &mut sink, &[b"sloth"]) {
-        Ok(()) => {}
+    let mut sink = Compare::new();
+    match try_stream_replace_all(alloc, automaton, &mut source, &mut sink, &[b"sloth"]) {
+        Ok(()) => sink.is_replaced(),
         Err(StreamError::Memory) => {
             want.meet()?;
-            if sink.rest != WRITTEN || sink.differs {
-                return Err("a refused replacement has written");
-            }
-            if try_stream_replace_all(alloc, &nfa, &mut source, &mut sink, &[b"sloth"]).is_err() {
-                return Err("a second replacement was refused");
+            sink.is_unwritten()?;
+            match try_stream_replace_all(alloc, automaton, &mut source, &mut sink, &[b"sloth"]) {
+                Ok(()) => sink.is_replaced(),
+                Err(_) => Err("a second replacement was refused"),
             }
         }
-        Err(_) => return Err("a replacement was refused for another cause"),
+        Err(_) => Err("a replacement was refused for another cause"),
     }
-    if sink.differs || !sink.rest.is_empty() {
-        return Err("a stream is replaced wrong");
-    }
-    Ok(())
 }
 
 /// `try_stream_replace_all_with`, which leaves the source unread and the sink unwritten where it is refused.
 pub fn replace_with(alloc: Global, want: &mut Want) -> Result<(), Wrong> {
     let nfa = automaton(alloc, &Builder::new(), &[b"fox"], want)?;
+    replace_with_by(alloc, &nfa, want)
+}
+
+fn replace_with_by<A: Automaton>(alloc: Global, automaton: &A, want: &mut Want) -> Result<(), Wrong>
+    requires of { (p : Patterns) × A.is_of automaton.now p }
+{
     let mut input = GIVEN;
     let mut source = FromRead::new(&mut input);
-    let mut sink = Compare {
-        rest: WRITTEN,
-        differs: false,
-    };
-    match replace_each(alloc, &nfa, &mut source, &mut sink) {
-        Ok(()) => {}
+    let mut sink = Compare::new();
+    match replace_each(alloc, automaton, &mut source, &mut sink) {
+        Ok(()) => sink.is_replaced(),
         Err(StreamError::Memory) => {
             want.meet()?;
-            if sink.rest != WRITTEN || sink.differs {
-                return Err("a refused replacement has written");
-            }
-            if replace_each(alloc, &nfa, &mut source, &mut sink).is_err() {
-                return Err("a second replacement was refused");
+            sink.is_unwritten()?;
+            match replace_each(alloc, automaton, &mut source, &mut sink) {
+                Ok(()) => sink.is_replaced(),
+                Err(_) => Err("a second replacement was refused"),
             }
         }
-        Err(_) => return Err("a replacement was refused for another cause"),
+        Err(_) => Err("a replacement was refused for another cause"),
     }
-    if sink.differs || !sink.rest.is_empty() {
-        return Err("a stream is replaced wrong");
-    }
-    Ok(())
 }
 
 /// A closure writes the other word for each match.
-fn replace_each<R: Source>(
+fn replace_each<A: Automaton, R: Source>(
     alloc: Global,
-    nfa: &NFA,
+    automaton: &A,
     source: &mut R,
     sink: &mut Compare<'_>,
 ) -> Result<(), StreamError>
-    requires of { (p : Patterns) × ⟦<NFA as Automaton>⟧.is_of nfa.now p }
+    requires of { (p : Patterns) × A.is_of automaton.now p }
 {
-    try_stream_replace_all_with(alloc, nfa, source, sink, |_m, _matched, sink| {
+    try_stream_replace_all_with(alloc, automaton, source, sink, |_m, _matched, sink| {
         write_whole(sink, b"sloth")
     })
 }
