@@ -23,6 +23,7 @@ pub use aho_devices::write::write_whole;
 pub use aho_search::automaton::Automaton;
 pub use builder::AhoCorasickBuilder;
 pub use find::{FindIter, FindOverlappingIter};
+pub use input::Searchable;
 pub use kinds::{AhoCorasickKind, StartKind};
 pub use searcher::AhoCorasick;
 pub use stream::StreamFindIter;

@@ -1,7 +1,7 @@
 use Rattle.std.proofs.Common.{◌∙◌, sym, subst}
 use Rattle.std.proofs.lemmas.Result.{IfOk-weaker}
 use Rattle.chromesquid.specs.Rules.{FindsFirst}
-use Rattle.example.proofs.callers.stream.first_of.Goals as goal
+use Rattle.example.proofs.callers.stream_first.first_of.Goals as goal
 
 pub returns : goal.returns
 returns g c = record {
