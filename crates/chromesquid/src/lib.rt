@@ -20,7 +20,7 @@ pub use aho_corasick::noncontiguous::Limits;
 pub use aho_devices::adapters::{FromRead, FromWrite};
 pub use aho_devices::device::{Sink, Source};
 pub use aho_devices::write::write_whole;
-pub use aho_search::automaton::Automaton;
+pub use aho_search::automaton::{Automaton, OverlappingState};
 pub use builder::AhoCorasickBuilder;
 pub use find::{FindIter, FindOverlappingIter};
 pub use input::Searchable;

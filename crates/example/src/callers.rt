@@ -4,6 +4,7 @@ pub mod builders;
 pub mod builds;
 pub mod conditions;
 pub mod copies;
+pub mod first_items;
 pub mod kinds;
 pub mod mask_bytes;
 pub mod mask_stream;

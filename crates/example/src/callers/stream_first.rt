@@ -3,6 +3,7 @@
 ghost use Rattle.std.specs.Prelude.{IfOk};
 ghost use Rattle.chromesquid.specs.Rules.{Answers, FindsFirst, HasNoEmpty, IsBuiltFrom, No, Patterns};
 
+use crate::callers::first_items::first_items;
 use chromesquid::{AhoCorasick, Match, Source, StreamError};
 use std::alloc::{AllocError, Global};
 
@@ -19,5 +20,5 @@ pub fn first_of<R: Source>(
         FindsFirst R.Source p source.old found.items) }
 {
     let matches = searcher.stream_find_iter(alloc, source)?;
-    matches.take(count).collect(alloc)
+    first_items::<R, _>(alloc, matches, count)
 }
