@@ -10,7 +10,7 @@ use Rattle.std.proofs.lemmas.List.Sums.{fold-append}
 use Rattle.aho_base.specs.declared.search.MatchKind.{MatchKind}
 use Rattle.aho_base.specs.Patterns.{Patterns, pattern_at}
 use Rattle.aho_prefilter.specs.Packed.{packed_none, packed_of, packed_with}
-use Rattle.aho_prefilter.specs.Prefilter.{IsPrefilterOf, has_short, held_for, held_or_packed, is_short, packed_for, with_word}
+use Rattle.aho_prefilter.specs.Prefilter.{IsPrefilterOf, gives_way, has_short, held_for, held_or_packed, is_short, packed_for, with_word}
 use Rattle.aho_prefilter.specs.declared.prefilter.Searcher.{Searcher}
 use Rattle.aho_prefilter.specs.declared.prefilter.Searcher.TheVariants.{Packed}
 use Rattle.aho_prefilter.proofs.Held.{held_for-kind, held_for-of}
@@ -47,12 +47,16 @@ packed_for-of p searcher held = by_tests (has_short p) (nat_lt 0 (length p.words
 
 -- whatever is held is a prefilter of the patterns
 pub held_or_packed-of : (p : Patterns) (searcher : Searcher) → held_or_packed p ≡ Some searcher → IsPrefilterOf searcher p
-held_or_packed-of p searcher held = by_held (held_for p) refl held
+held_or_packed-of p searcher held = by_way (gives_way (held_for p)) held
   where
-    by_held : (other : Option Searcher) → held_for p ≡ other → option_or other (packed_for p) ≡ Some searcher → IsPrefilterOf searcher p
-    by_held Nothing none is = packed_for-of p searcher is
-    by_held (Some other) there is = held_for-of p searcher (there ∙ is)
+    by_packed : (packed : Option Searcher) → packed_for p ≡ packed → option_or packed (held_for p) ≡ Some searcher → IsPrefilterOf searcher p
+    by_packed Nothing none is = held_for-of p searcher is
+    by_packed (Some other) there is = packed_for-of p searcher (there ∙ is)
+
+    by_way : (way : Bool) → (if way then option_or (packed_for p) (held_for p) else held_for p) ≡ Some searcher → IsPrefilterOf searcher p
+    by_way true is = by_packed (packed_for p) refl is
+    by_way false is = held_for-of p searcher is
 
 -- and it does not depend on the kind
 pub held_or_packed-kind : (p : Patterns) (kind : MatchKind) → held_or_packed (record p { kind = kind }) ≡ held_or_packed p
-held_or_packed-kind p kind = ap (λ (other : Option Searcher). option_or other (packed_for p)) (held_for-kind p kind)
+held_or_packed-kind p kind = ap (λ (other : Option Searcher). if gives_way other then option_or (packed_for p) other else other) (held_for-kind p kind)

@@ -1,5 +1,6 @@
 -- What a prefilter is of, and which one is held for which patterns.
-use Rattle.std.specs.Prelude.{◌≡◌, ℕ, ◌<◌, Bool, true, false, not, ◌&&◌, List, [], ◌∷◌, ◌++◌, length, slice_index, nat_eq, nat_lt, if◌then◌else◌, Option, Some, None}
+use Rattle.std.specs.Prelude.{◌≡◌, ℕ, ◌<◌, Bool, true, false, not, ◌&&◌, ◌||◌, List, [], ◌∷◌, ◌++◌, length, slice_index, nat_eq, nat_lt, if◌then◌else◌, Option, Some, None}
+use Rattle.std.specs.Char.{is_ascii, is_ascii_alphanumeric}
 use Rattle.std.specs.List.{Contains, list_any}
 use Rattle.std.specs.Option.{option_or}
 use Rattle.aho_base.specs.Bytes.{IsSameByte}
@@ -102,9 +103,26 @@ packed_for p =
     else if nat_lt 0 (length p.words) && nat_lt (length p.words) 101 then Some (Packed (packed_of p.ignore_case p.words))
     else None
 
--- which search is held where a packed search may be: the other one, if there is one
+-- whether words are made of a byte: ASCII letters and digits, and what is not ASCII
+abbrev pub is_word_byte : ℕ → Bool
+is_word_byte byte = is_ascii_alphanumeric byte || not (is_ascii byte)
+
+-- whether a search stops at a byte that words are made of, of which texts are full
+abbrev pub stops_in_words : Searcher → Bool
+stops_in_words (Memmem needle) = false
+stops_in_words (Memchr x) = is_word_byte x
+stops_in_words (Memchr2 x y) = is_word_byte x || is_word_byte y
+stops_in_words (Memchr3 x y z) = is_word_byte x || is_word_byte y || is_word_byte z
+stops_in_words (Packed packed) = false
+
+-- whether a packed search is better than what is held else
+abbrev pub gives_way : Option Searcher → Bool
+gives_way None = true
+gives_way (Some searcher) = stops_in_words searcher
+
+-- which search is held where a packed search may be
 abbrev pub held_or_packed : Patterns → Option Searcher
-held_or_packed p = option_or (held_for p) (packed_for p)
+held_or_packed p = if gives_way (held_for p) then option_or (packed_for p) (held_for p) else held_for p
 
 -- the patterns with one more behind them
 abbrev pub with_word : Patterns → List ℕ → Patterns

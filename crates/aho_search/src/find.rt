@@ -50,6 +50,7 @@ ghost use Rattle.aho_search.specs.Reading.{ReadsLongest, ReadsNear, ReadsUpTo};
 ghost use Rattle.aho_search.specs.WalkEnds.{AnswersSearch, WaitsFor, WaitsOnlyIf, WaitsWithin};
 ghost use Rattle.aho_search.specs.declared.find.WalkEnd.TheVariants.{Answer};
 
+use crate::patience::{PATIENCE, patience_after};
 use crate::walk::Walk;
 use aho_base::error::MatchError;
 use aho_base::search::{Anchored, Match, MatchKind, Span, StateID};
@@ -266,19 +267,6 @@ fn candidate_in<W: Walk, T: Text>(walk: &W, text: &T, span: Span) -> Candidate
         Some(prefilter) => text.candidate(prefilter, span),
         None => unreachable!(),
     }
-}
-
-/// What a candidate costs, in bytes: to ask for it takes about as long as to walk over two of them.
-const COST: usize = 2;
-
-/// The patience with which a search begins: it asks for 32 candidates that bring it no further.
-pub(crate) const PATIENCE: usize = 32 * COST;
-
-/// What is left of a search's patience after a candidate that lies so many bytes further: each of these bytes gives one back.
-/// Once there is none the walk waits no more, since where candidates are dense asking for them costs more than walking. So a
-/// search asks for no more candidates than half of the bytes that it skips, and for these few.
-pub(crate) fn patience_after(patience: usize, skipped: usize) -> usize {
-    patience.wrapping_add(skipped).saturating_sub(COST)
 }
 
 /// What an unanchored search answers that skips to the next candidate at its beginning and wherever its walk waits, as long

@@ -5,5 +5,6 @@ pub mod automaton;
 pub mod find;
 pub mod iter;
 pub mod overlapping;
+pub mod patience;
 pub mod replace;
 pub mod walk;

@@ -30,7 +30,7 @@ ghost use Rattle.aho_search.specs.Overlaps.{CanGive, FindsNext, FindsNone, FitsN
 ghost use Rattle.aho_search.specs.Standing.{FindsFrom, FitsAfter, Skips, Stands, StandsPartWay, Walks, left_from_place, left_of};
 
 use crate::automaton::Automaton;
-use crate::find::{PATIENCE, patience_after};
+use crate::patience::{PATIENCE, patience_after};
 use aho_base::error::MatchError;
 use aho_base::search::{Anchored, Input, Match, MatchKind, Span, StateID};
 use aho_prefilter::prefilter::Prefilter;

@@ -13,17 +13,7 @@ use aho_base::error::StreamError;
 use aho_base::search::{Match, Span, StateID};
 use aho_devices::buffer::Buffer;
 use aho_devices::device::{Sink, Source};
-
-/// What a candidate of a prefilter costs in a stream, in bytes: to ask for it takes about as long as to walk over so many.
-const COST: usize = 16;
-
-/// The patience with which the bytes of a read are searched: 32 candidates that bring the search no further.
-const PATIENCE: usize = 32 * COST;
-
-/// What is left of the patience after a candidate that lies so many bytes further: each of these bytes gives one back.
-fn patience_after(patience: usize, skipped: usize) -> usize {
-    patience.wrapping_add(skipped).saturating_sub(COST)
-}
+use aho_search::patience::{PATIENCE, patience_after};
 
 /// What a call of `advance` tells, without its bytes.
 #[derive(Clone, Copy)]

@@ -297,6 +297,16 @@ fn a_packed_search_is_held_for_a_hundred(rt: HostRuntime) -> Result<(), Fail> {
     Ok(())
 }
 
+#[test]
+fn a_packed_search_comes_before_the_first_bytes_of_words(rt: HostRuntime) -> Result<(), Fail> {
+    let span = Span { start: 0, end: 4 };
+    let words = packed_of(rt.alloc(), &[b"ab", b"cd"], false)?.expect(&rt, "a prefilter");
+    assert_same(&rt, words.find_in(b"xxcx", span).into_option(), None);
+    let marks = packed_of(rt.alloc(), &[b"<b", b"[i"], false)?.expect(&rt, "a prefilter");
+    assert_same(&rt, marks.find_in(b"xx[x", span).into_option(), Some(2));
+    Ok(())
+}
+
 /// That the search of both cases answers alike with a packed search and by the plain program.
 fn look_at_answer(
     rt: &impl Abort,

@@ -1,8 +1,9 @@
 //! Which prefilter there is for some patterns where a packed search may be held.
 
 ghost use Rattle.std.specs.Prelude.{◌≡◌, ◌<◌, [], length, true, OnOk, OnErr, IfOk, IfErr, IfSome, Ok};
+ghost use Rattle.std.specs.Option.{option_map};
 ghost use Rattle.aho_base.specs.Patterns.{Patterns};
-ghost use Rattle.aho_prefilter.specs.Prefilter.{IsPrefilterOf, held_or_packed, is_searched_whole, packed_for, with_word};
+ghost use Rattle.aho_prefilter.specs.Prefilter.{IsPrefilterOf, gives_way, held_or_packed, is_searched_whole, is_word_byte, packed_for, stops_in_words, with_word};
 ghost use Rattle.aho_prefilter.specs.Taken.{AreFingerprints, HasTakenPacked};
 
 use crate::packed::Packed;
@@ -18,8 +19,9 @@ const SHORTEST: usize = 2;
 
 /// Decides which prefilter there is for some patterns, which are added one after another, where a packed search may be held.
 ///
-/// It is the one of a `PrefilterBuilder`, if that holds one. Else it is a packed search, if there are at most a hundred
-/// patterns and each has at least two bytes.
+/// It is a packed search, if there are at most a hundred patterns and each has at least two bytes. But it is the one of a
+/// `PrefilterBuilder` where that one is better: where it searches for one whole pattern, or for first bytes of which words are
+/// not made. It is that one too where there is no packed search.
 #[derive(Drop)]
 pub struct PackedBuilder {
     others: PrefilterBuilder,
@@ -70,14 +72,45 @@ impl PackedBuilder {
             others,
             fingerprints,
         } = self;
-        match others.build()? {
-            Some(prefilter) => Ok(Some(prefilter)),
-            None => match fingerprints.search() {
-                Some(searcher) => Ok(Some(Prefilter { searcher })),
-                None => Ok(None),
-            },
+        let other = others.build()?;
+        if !gives_way(&other) {
+            return Ok(other);
+        }
+        match fingerprints.search() {
+            Some(searcher) => Ok(Some(Prefilter { searcher })),
+            None => Ok(other),
         }
     }
+}
+
+/// Whether a packed search is better than this prefilter. It takes longer for each byte where no first byte of a pattern
+/// occurs, and less where they occur more often than at each 500 bytes.
+fn gives_way(other: &Option<Prefilter>) -> bool
+    ensures gives_way { result ≡ gives_way other.now }
+{
+    match other {
+        Some(prefilter) => stops_in_words(&prefilter.searcher),
+        None => true,
+    }
+}
+
+/// Whether a search stops at a byte that words are made of.
+fn stops_in_words(searcher: &Searcher) -> bool
+    ensures stops { result ≡ stops_in_words searcher.now }
+{
+    match searcher {
+        Searcher::Memmem(_) | Searcher::Packed(_) => false,
+        Searcher::Memchr(x) => is_word_byte(*x),
+        Searcher::Memchr2(x, y) => is_word_byte(*x) || is_word_byte(*y),
+        Searcher::Memchr3(x, y, z) => is_word_byte(*x) || is_word_byte(*y) || is_word_byte(*z),
+    }
+}
+
+/// Whether words are made of this byte: an ASCII letter or digit, or a byte that is not ASCII.
+fn is_word_byte(byte: u8) -> bool
+    ensures word { result ≡ is_word_byte byte }
+{
+    byte.is_ascii_alphanumeric() || !byte.is_ascii()
 }
 
 /// The packed search for some patterns, with what decides whether it is held.
