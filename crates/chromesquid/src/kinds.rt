@@ -43,7 +43,7 @@ pub(crate) fn kind_for(start_kind: StartKind, asked: Option<AhoCorasickKind>) ->
 }
 
 /// Whether searches of this anchoring are answered.
-pub fn is_allowed(start_kind: StartKind, anchored: Anchored) -> bool
+pub(crate) fn is_allowed(start_kind: StartKind, anchored: Anchored) -> bool
     ensures allows { result ≡ allows start_kind anchored }
 {
     match start_kind {

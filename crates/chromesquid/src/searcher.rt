@@ -98,7 +98,7 @@ impl AhoCorasick {
     pub fn builder() -> AhoCorasickBuilder
         ensures new { result ≡ default_building }
     {
-        AhoCorasickBuilder::new()
+        AhoCorasickBuilder::default()
     }
 
     /// The searcher with this automaton.

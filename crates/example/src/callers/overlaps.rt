@@ -1,6 +1,6 @@
 //! All matches, those that overlap too.
 
-ghost use Rattle.std.specs.Prelude.{◌≡◌, IfOk, length, true};
+ghost use Rattle.std.specs.Prelude.{◌≡◌, IfOk, length};
 ghost use Rattle.chromesquid.specs.Rules.{Answers, IsBuiltFrom, No, Patterns, Standard, all_occurrences, match_kind_of};
 
 use chromesquid::{AhoCorasick, Match};
@@ -14,12 +14,4 @@ pub fn all_in(alloc: Global, searcher: &AhoCorasick, text: &[u8]) -> Result<Vec<
         found.items ≡ all_occurrences p text.now 0 (length text.now)) }
 {
     searcher.find_overlapping_iter(text).collect(alloc)
-}
-
-/// Whether the searcher lists them.
-pub fn can_list_all(searcher: &AhoCorasick, text: &[u8]) -> bool
-    ensures lists { match_kind_of searcher.now ≡ Standard → Answers searcher.now No
-        → result ≡ true }
-{
-    searcher.try_find_overlapping_iter(text).is_ok()
 }

@@ -1,8 +1,7 @@
-//! How large a searcher is, and which automaton searches.
+//! How large a searcher is.
 
-ghost use Rattle.std.specs.Prelude.{◌≡◌, ◌↔◌, IfOk, IsTrue, length, map};
-ghost use Rattle.chromesquid.specs.Rules.{IsBuiltFrom, Patterns, default_settings, kind_of, longest, memory_for, patterns_of};
-ghost use Rattle.chromesquid.specs.declared.kinds.AhoCorasickKind.TheVariants.{NoncontiguousNFA};
+ghost use Rattle.std.specs.Prelude.{◌≡◌, IfOk, length, map};
+ghost use Rattle.chromesquid.specs.Rules.{IsBuiltFrom, Patterns, default_settings, longest, memory_for, patterns_of};
 
 use chromesquid::{AhoCorasick, AhoCorasickKind, BuildError};
 use std::alloc::Global;
@@ -24,11 +23,4 @@ pub fn bytes_for(alloc: Global, words: &[&[u8]]) -> Result<usize, BuildError>
         .kind(Some(AhoCorasickKind::NoncontiguousNFA))
         .build(alloc, words)?;
     Ok(searcher.memory_usage())
-}
-
-/// Whether it is a trie with failure links.
-pub fn is_trie(searcher: &AhoCorasick) -> bool
-    ensures trie { IsTrue result ↔ (kind_of searcher.now ≡ NoncontiguousNFA) }
-{
-    searcher.kind() == AhoCorasickKind::NoncontiguousNFA
 }

@@ -4,24 +4,8 @@ ghost use Rattle.std.specs.Iterator.Runs.{EachRunFrom};
 ghost use Rattle.std.specs.Prelude.{IfOk};
 ghost use Rattle.chromesquid.specs.Rules.{Answers, FindsFirst, HasNoEmpty, IsBuiltFrom, No, Patterns};
 
-use chromesquid::{AhoCorasick, Match, Source, StreamError, StreamFindIter};
+use chromesquid::{AhoCorasick, Source, StreamFindIter};
 use std::alloc::{AllocError, Global};
-
-/// The first answers of a search of what a source gives: matches, and errors between them.
-pub fn first_of<R: Source>(
-    alloc: Global,
-    searcher: &AhoCorasick,
-    source: &mut R,
-    count: usize,
-) -> Result<Vec<Result<Match, StreamError>>, AllocError>
-    requires no_empty { HasNoEmpty searcher.now }
-    requires starts { Answers searcher.now No }
-    ensures first { (p : Patterns) → IsBuiltFrom searcher.now p → IfOk result (λ found.
-        FindsFirst R.Source p source.old found.items) }
-{
-    let matches = searcher.stream_find_iter(alloc, source)?;
-    matches.take(count).collect(alloc)
-}
 
 /// A search of what a source gives: at any time it has told the first of the finds.
 pub fn matches_in<'a, 'r, R: Source>(

@@ -1,6 +1,6 @@
-//! Replacements by a closure that may be refused.
+//! Replacement of text by a closure that may be refused.
 
-ghost use Rattle.std.specs.Prelude.{Ok, OnOk, string_bytes, vec_items};
+ghost use Rattle.std.specs.Prelude.{Ok, OnOk, string_bytes};
 ghost use Rattle.chromesquid.specs.Rules.{HoldsOfFinds, IsBuiltFrom, RunsInMemory, on_boundaries};
 
 use chromesquid::{AhoCorasick, Match, ReplaceError};
@@ -20,20 +20,4 @@ where
         (RunsInMemory F.FnMut string_bytes text.now (on_boundaries text.now ms) rewrite out.old (Ok tt) out.new)) }
 {
     searcher.try_replace_all_with(text, out, rewrite)
-}
-
-/// The same with bytes.
-pub fn try_append_rewritten_bytes<F>(
-    searcher: &AhoCorasick,
-    bytes: &[u8],
-    out: &mut Vec<u8>,
-    rewrite: F,
-) -> Result<(), ReplaceError>
-where
-    F: FnMut(&Match, &[u8], &mut Vec<u8>) -> Result<bool, AllocError>,
-    requires callable { F.IsAlwaysCallable rewrite }
-    ensures run { HoldsOfFinds (IsBuiltFrom searcher.now) bytes.now (λ ms. OnOk result
-        (RunsInMemory F.FnMut vec_items bytes.now ms rewrite out.old (Ok tt) out.new)) }
-{
-    searcher.try_replace_all_with_bytes(bytes, out, rewrite)
 }

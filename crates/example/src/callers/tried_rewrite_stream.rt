@@ -1,23 +1,10 @@
-//! Searches and replacements of streams that may be refused.
+//! Replacement in a stream by a closure that may be refused.
 
-ghost use Rattle.std.specs.Prelude.{◌≡◌, ◌⊎◌, IfErr};
+ghost use Rattle.std.specs.Prelude.{◌⊎◌};
 ghost use Rattle.chromesquid.specs.Rules.{Answers, HasNoEmpty, IsBuiltFrom, IsStreamRun, No, Patterns, RefusesUntouched};
 
-use chromesquid::{AhoCorasick, Match, Sink, Source, StreamError, StreamFindIter};
+use chromesquid::{AhoCorasick, Match, Sink, Source, StreamError};
 use std::alloc::Global;
-
-/// The matches of a stream. Where the searcher answers such searches, they are refused only where memory runs out.
-pub fn matches_of<'a, 'r, R: Source>(
-    alloc: Global,
-    searcher: &'a AhoCorasick,
-    source: &'r mut R,
-) -> Result<StreamFindIter<'a, 'r, R>, StreamError>
-    requires no_empty { HasNoEmpty searcher.now }
-    requires starts { Answers searcher.now No }
-    ensures memory { IfErr result (λ error. error ≡ StreamError.Memory) }
-{
-    searcher.try_stream_find_iter(alloc, source)
-}
 
 /// Writes what the source gives to the sink, with what the closure writes in the place of each match.
 pub fn try_rewrite_stream<R: Source, W: Sink, F>(
