@@ -1,5 +1,5 @@
-/* Refuses one growth: the one whose number, from 1, stands in GROWTH, where 0 refuses none. At the end of the process it
-   writes into the file GROWTHS how many growths there were, whether one was refused, and how many allocations that were
+/* Refuses one allocation: the one whose number, from 1, stands in GROWTH, where 0 refuses none. At the end of the process it
+   writes into the file GROWTHS how many allocations there were, whether one was refused, and how many allocations that were
    made were not freed. It is preloaded, and stands before the C library's own calls. */
 #include <errno.h>
 #include <fcntl.h>
