@@ -1,0 +1,11 @@
+-- The names so far, and those of what is left.
+use Rattle.std.proofs.Common.{◌≡◌, ◌++◌, length}
+use Rattle.acredact.specs.Arguments.{all_given, names_of}
+use Rattle.acredact.specs.Runs.{names_given}
+use Rattle.acredact.proofs.run.files.Given as goal
+
+abbrev pub invariant-loop-rest : goal.invariant-loop-rest
+invariant-loop-rest l = names_of l.files.items ++ names_given (all_given l.rest) ≡ names_given (all_given l.fn.given)
+
+abbrev pub decreases-loop-rest : goal.decreases-loop-rest
+decreases-loop-rest l = length l.rest

@@ -1,0 +1,179 @@
+-- What the arguments, those after the program's name, ask for.
+use Rattle.std.specs.Prelude.{◌≡◌, ℕ, ◌&&◌, Bool, true, false, List, [], ◌∷◌, ◌++◌, Option, Some, None, codes, filter, is_some, map, option_and_then, option_map, unwrap_or, nat_eq, String, string_bytes, if◌then◌else◌}
+use Rattle.std.specs.Borrow.{Bor}
+use Rattle.std.specs.Str.{bytes_eq}
+use Rattle.aho_base.specs.declared.search.MatchKind.{MatchKind}
+use Rattle.aho_base.specs.declared.search.MatchKind.TheVariants.{Standard, LeftmostFirst, LeftmostLongest}
+use Rattle.acredact.specs.declared.arguments.Word.{Word}
+use Rattle.acredact.specs.declared.arguments.Word.TheVariants.{IgnoreCase, Kind, Pattern, Patterns, Table, With, Count, Help, Version, File}
+use Rattle.acredact.specs.declared.arguments.Expects.{Expects}
+use Rattle.acredact.specs.declared.arguments.Expects.TheVariants.{Any, Value, Name}
+use Rattle.acredact.specs.declared.arguments.Item.{Item}
+use Rattle.acredact.specs.declared.arguments.Reading.{Reading}
+use Rattle.acredact.specs.declared.arguments.Reading.TheVariants.{Whole, Begun, Wrong}
+
+-- an option with its value, or a file with its name
+pub record Given : Type 0 where
+  pub word : Word
+  pub value : List ℕ
+
+abbrev pub given : Word → List ℕ → Given
+given word value = record { word = word; value = value }
+
+abbrev pub given_of : Item → Given
+given_of item = given item.word item.value.now
+
+abbrev pub all_given : List Item → List Given
+all_given items = map given_of items
+
+-- what does not begin with '-' is a file
+abbrev pub file_by : List ℕ → Option Word
+file_by [] = Some File
+file_by (first ∷ rest) = if nat_eq first 45 then None else Some File
+
+-- the option of this name, or a file; '-' alone is one
+abbrev pub word_by : List ℕ → Option Word
+word_by argument =
+    if bytes_eq argument (codes "-i") then Some IgnoreCase
+    else if bytes_eq argument (codes "--kind") then Some Kind
+    else if bytes_eq argument (codes "-e") then Some Pattern
+    else if bytes_eq argument (codes "-f") then Some Patterns
+    else if bytes_eq argument (codes "-t") then Some Table
+    else if bytes_eq argument (codes "--with") then Some With
+    else if bytes_eq argument (codes "--count") then Some Count
+    else if bytes_eq argument (codes "--help") then Some Help
+    else if bytes_eq argument (codes "--version") then Some Version
+    else if bytes_eq argument (codes "-") then Some File
+    else file_by argument
+
+-- the options that need a value
+abbrev pub takes_value : Word → Bool
+takes_value Kind = true
+takes_value Pattern = true
+takes_value Patterns = true
+takes_value Table = true
+takes_value With = true
+takes_value IgnoreCase = false
+takes_value Count = false
+takes_value Help = false
+takes_value Version = false
+takes_value File = false
+
+-- the match kind of this name
+abbrev pub kind_by : List ℕ → Option MatchKind
+kind_by name =
+    if bytes_eq name (codes "longest") then Some LeftmostLongest
+    else if bytes_eq name (codes "first") then Some LeftmostFirst
+    else if bytes_eq name (codes "standard") then Some Standard
+    else None
+
+-- the values that an option can have
+abbrev pub is_value_of : Word → List ℕ → Bool
+is_value_of Kind value = is_some (kind_by value)
+is_value_of IgnoreCase value = true
+is_value_of Pattern value = true
+is_value_of Patterns value = true
+is_value_of Table value = true
+is_value_of With value = true
+is_value_of Count value = true
+is_value_of Help value = true
+is_value_of Version value = true
+is_value_of File value = true
+
+-- what an argument is read as: an item that it completes, if any, and what is expected of the next; none where it is wrong
+pub record Read : Type 0 where
+  pub item : Option Given
+  pub next : Expects
+
+abbrev pub completed : Word → List ℕ → Expects → Option Read
+completed word value next = Some (record { item = Some (given word value); next = next })
+
+abbrev pub expected : Expects → Option Read
+expected next = Some (record { item = None; next = next })
+
+-- an option that needs a value waits for it
+abbrev pub word_read : Word → List ℕ → Option Read
+word_read word argument = if takes_value word then expected (Value word) else completed word argument Any
+
+-- an option or a file; behind '--' there are files alone
+abbrev pub any_by : List ℕ → Option Read
+any_by argument =
+    if bytes_eq argument (codes "--") then expected Name
+    else option_and_then (λ word. word_read word argument) (word_by argument)
+
+abbrev pub read_by : Expects → List ℕ → Option Read
+read_by Any argument = any_by argument
+read_by (Value word) argument = if is_value_of word argument then completed word argument Any else None
+read_by Name argument = completed File argument Name
+
+-- in front of the others
+abbrev pub with_item : Option Given → List Given → List Given
+with_item None items = items
+with_item (Some item) items = item ∷ items
+
+-- all options and files, in order; none where an argument is wrong, or a value is missing at the end
+abbrev pub given_by : Expects → List (List ℕ) → Option (List Given)
+given_by Any [] = Some []
+given_by (Value word) [] = None
+given_by Name [] = Some []
+given_by expects (argument ∷ rest) = option_and_then (λ read. option_map (with_item read.item) (given_by read.next rest)) (read_by expects argument)
+
+-- what the code answers of an argument
+abbrev pub read_of : Reading → Option Read
+read_of (Whole item next) = Some (record { item = Some (given_of item); next = next })
+read_of (Begun next) = expected next
+read_of (Wrong mistake) = None
+
+-- this option
+abbrev pub is_word : Word → Word → Bool
+is_word IgnoreCase IgnoreCase = true
+is_word Kind Kind = true
+is_word Pattern Pattern = true
+is_word Patterns Patterns = true
+is_word Table Table = true
+is_word With With = true
+is_word Count Count = true
+is_word Help Help = true
+is_word Version Version = true
+is_word File File = true
+is_word x y = false
+
+-- the value of an item of this option
+abbrev pub value_of : Word → Given → Option (List ℕ)
+value_of word item = if is_word word item.word then Some item.value else None
+
+-- the first of two that there is
+abbrev pub or_else : Option (List ℕ) → Option (List ℕ) → Option (List ℕ)
+or_else None second = second
+or_else (Some x) second = Some x
+
+-- the last value of this option
+abbrev pub last_value : Word → List Given → Option (List ℕ)
+last_value word [] = None
+last_value word (item ∷ items) = or_else (last_value word items) (value_of word item)
+
+-- this option is given
+abbrev pub has : Word → List Given → Bool
+has word items = is_some (last_value word items)
+
+-- the match kind that is asked for: the longest of those that begin first, where none is
+abbrev pub kind_asked : List Given → MatchKind
+kind_asked items = unwrap_or (option_and_then kind_by (last_value Kind items)) LeftmostLongest
+
+-- the bytes of each argument
+abbrev pub texts : {Z : Type 0} → List (String Z) → List (List ℕ)
+texts arguments = map string_bytes arguments
+
+-- the bytes of each name
+abbrev pub names_of : List (Bor (List ℕ)) → List (List ℕ)
+names_of names = map (λ name. name.now) names
+
+-- a redaction is asked for: no help, no version, and no counts
+pub record AsksToRedact (given : List Given) : Type 0 where
+  pub no_help : has Help given ≡ false
+  pub no_version : has Version given ≡ false
+  pub no_counts : has Count given ≡ false
+
+-- what holds of the options and files that are given, where they ask for a redaction
+abbrev pub IfAsked : {Z : Type 0} → List (String Z) → (List Given → Type 0) → Type 0
+IfAsked arguments Holds = (given : List Given) → given_by Any (texts arguments) ≡ Some given → AsksToRedact given → Holds given

@@ -1,0 +1,65 @@
+-- What the lines of a file of patterns and of a table hold.
+use Rattle.std.specs.Prelude.{◌≡◌, ℕ, ◌≤◌, Bool, true, false, List, [], ◌∷◌, ◌++◌, Option, Some, None, codes, length, map, nat_eq, option_map, unwrap_or, if◌then◌else◌}
+use Rattle.std.specs.Io.BufRead.{strip_last}
+use Rattle.std.specs.List.{All, AllZip, flat_map, slice_split}
+use Rattle.acredact.specs.declared.patterns.Rule.{Rule}
+
+-- how a byte stands in a table: a TAB, a line end and a backslash as two bytes, and any other as itself
+abbrev pub escape_of : ℕ → List ℕ
+escape_of byte =
+    if nat_eq byte 9 then codes "\\t"
+    else if nat_eq byte 10 then codes "\\n"
+    else if nat_eq byte 92 then codes "\\\\"
+    else byte ∷ []
+
+-- and how bytes do
+abbrev pub escaped : List ℕ → List ℕ
+escaped bytes = flat_map escape_of bytes
+
+-- a pattern, and its own replacement where it has one
+pub record Secret : Type 0 where
+  pub pattern : List ℕ
+  pub replacement : Option (List ℕ)
+
+abbrev pub secret_of : Rule → Secret
+secret_of rule = record { pattern = rule.pattern.items; replacement = option_map (λ bytes. bytes.items) rule.replacement }
+
+abbrev pub secrets_of : List Rule → List Secret
+secrets_of rules = map secret_of rules
+
+-- a line of a file of patterns is a pattern
+abbrev pub IsPlain : List ℕ → Secret → Type 0
+IsPlain line secret = (secret.pattern ≡ line) × (secret.replacement ≡ None)
+
+-- a line of a table is a pattern as it stands in a table, a TAB, and its replacement as it stands there
+abbrev pub IsRow : List ℕ → Secret → Type 0
+IsRow line secret = (piece : List ℕ) × (secret.replacement ≡ Some piece) × (line ≡ escaped secret.pattern ++ (9 ∷ escaped piece))
+
+-- a line, of a table or of a file of patterns, holds a pattern that is not empty
+pub record Holds (table : Bool) (line : List ℕ) (secret : Secret) : Type 0 where
+  pub some : 1 ≤ length secret.pattern
+  pub plain : table ≡ false → IsPlain line secret
+  pub row : table ≡ true → IsRow line secret
+
+-- the lines of a text, without their line ends: the last may have none
+abbrev pub lines_of : List ℕ → List (List ℕ)
+lines_of [] = []
+lines_of (byte ∷ bytes) = slice_split (λ b. nat_eq b 10) (strip_last 10 (byte ∷ bytes))
+
+-- what is written for a pattern: its own replacement, or a text where it has none
+abbrev pub piece_by : List ℕ → Secret → List ℕ
+piece_by text secret = unwrap_or secret.replacement text
+
+-- a byte does not stand in a text
+abbrev pub IsWithout : ℕ → List ℕ → Type 0
+IsWithout byte text = All (λ b. nat_eq b byte ≡ false) text
+
+-- what some lines hold is added, in order
+pub record IsAdded (table : Bool) (old new : List Secret) (lines : List (List ℕ)) : Type 0 where
+  pub more : List Secret
+  pub grown : new ≡ old ++ more
+  pub held : AllZip (Holds table) lines more
+
+-- the bytes of the patterns
+abbrev pub patterns_in : List Secret → List (List ℕ)
+patterns_in secrets = map (λ secret. secret.pattern) secrets

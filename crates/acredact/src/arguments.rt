@@ -1,0 +1,274 @@
+//! What the arguments of a call are: options with their values, and names of files.
+
+ghost use Rattle.std.specs.Prelude.{◌≡◌, ◌⊎◌, Some, None, IfErr, IfOk, option_map};
+ghost use Rattle.acredact.specs.Arguments.{all_given, any_by, completed, file_by, given_by, has, is_value_of, is_word, kind_asked, kind_by, last_value, read_by, read_of, takes_value, texts, word_by, word_read};
+ghost use Rattle.acredact.specs.declared.arguments.Expects.TheVariants.{Any, Value};
+ghost use Rattle.acredact.specs.declared.arguments.Mistake.TheVariants.{OutOfMemory, Unknown};
+ghost use Rattle.acredact.specs.declared.arguments.Reading.TheVariants.{Wrong};
+
+use aho_base::search::MatchKind;
+use std::alloc::Global;
+
+/// What an argument is, or the option that it is the value of.
+#[derive(Clone, Copy, PartialEq, Eq)]
+pub enum Word {
+    /// `-i`: ASCII letters are the same in both cases.
+    IgnoreCase,
+    /// `--kind`: which of several matches is replaced.
+    Kind,
+    /// `-e`: a pattern.
+    Pattern,
+    /// `-f`: a file of patterns.
+    Patterns,
+    /// `-t`: a table of patterns with their replacements.
+    Table,
+    /// `--with`: the replacement of each pattern that has none of its own.
+    With,
+    /// `--count`: the number of matches of each pattern is told.
+    Count,
+    /// `--help`: only the help is written.
+    Help,
+    /// `--version`: only the version is written.
+    Version,
+    /// A file that is read; `-` is standard input.
+    File,
+}
+
+/// An option with its value, or a file with its name. An option without a value has itself for one.
+#[derive(Clone, Copy)]
+pub struct Item<'a> {
+    /// Which option it is.
+    pub word: Word,
+    /// Its value.
+    pub value: &'a str,
+}
+
+/// What the next argument is read as.
+#[derive(Clone, Copy)]
+pub enum Expects {
+    /// An option or a file.
+    Any,
+    /// The value of this option.
+    Value(Word),
+    /// A file, whatever it begins with: it stands behind `--`.
+    Name,
+}
+
+/// Why arguments are wrong.
+#[derive(Clone, Copy)]
+pub enum Mistake<'a> {
+    /// There is no such option.
+    Unknown(&'a str),
+    /// There is no such match kind.
+    UnknownKind(&'a str),
+    /// The last argument is this option, which needs a value.
+    NoValue(Word),
+    /// There is no pattern, no file of patterns and no table.
+    NoPattern,
+    /// Memory runs out.
+    OutOfMemory,
+}
+
+/// What an argument is read as.
+#[derive(Clone, Copy)]
+pub enum Reading<'a> {
+    /// It completes an item, and this is expected of the next.
+    Whole(Item<'a>, Expects),
+    /// Only the next argument tells.
+    Begun(Expects),
+    /// It is wrong.
+    Wrong(Mistake<'a>),
+}
+
+/// The option of this name, or a file: what does not begin with `-`, and `-` alone.
+fn word_of(argument: &str) -> Option<Word>
+    ensures word { result ≡ word_by argument.now }
+{
+    match argument {
+        "-i" => Some(Word::IgnoreCase),
+        "--kind" => Some(Word::Kind),
+        "-e" => Some(Word::Pattern),
+        "-f" => Some(Word::Patterns),
+        "-t" => Some(Word::Table),
+        "--with" => Some(Word::With),
+        "--count" => Some(Word::Count),
+        "--help" => Some(Word::Help),
+        "--version" => Some(Word::Version),
+        "-" => Some(Word::File),
+        _ => file_of(argument),
+    }
+}
+
+/// What does not begin with `-` is a file.
+fn file_of(argument: &str) -> Option<Word>
+    ensures file { result ≡ file_by argument.now }
+{
+    match argument.as_bytes().first() {
+        Some(b'-') => None,
+        _ => Some(Word::File),
+    }
+}
+
+/// How an option that needs a value is called.
+pub fn name_of(word: Word) -> &'static str {
+    match word {
+        Word::Kind => "--kind",
+        Word::Patterns => "-f",
+        Word::Table => "-t",
+        Word::With => "--with",
+        _ => "-e",
+    }
+}
+
+/// Whether the next argument is the value of this option.
+fn takes_value(word: Word) -> bool
+    ensures takes { result ≡ takes_value word }
+{
+    matches!(
+        word,
+        Word::Kind | Word::Pattern | Word::Patterns | Word::Table | Word::With
+    )
+}
+
+/// The match kind of this name.
+fn kind_by(name: &str) -> Option<MatchKind>
+    ensures kind { result ≡ kind_by name.now }
+{
+    match name {
+        "longest" => Some(MatchKind::LeftmostLongest),
+        "first" => Some(MatchKind::LeftmostFirst),
+        "standard" => Some(MatchKind::Standard),
+        _ => None,
+    }
+}
+
+/// All options and files, in order.
+pub fn items(alloc: Global, arguments: &[String]) -> Result<Vec<Item<'_>>, Mistake<'_>>
+    ensures given { IfOk result (λ items.
+        given_by Any (texts arguments.now) ≡ Some (all_given items.items)) }
+    ensures wrong { IfErr result (λ mistake.
+        (mistake ≡ OutOfMemory) ⊎ (given_by Any (texts arguments.now) ≡ None)) }
+{
+    let mut items = Vec::new(alloc);
+    let mut expects = Expects::Any;
+    let mut rest = arguments;
+    while !rest.is_empty() {
+        match read(expects, rest[0].as_str()) {
+            Reading::Whole(item, next) => {
+                if items.push(item).is_err() {
+                    return Err(Mistake::OutOfMemory);
+                }
+                expects = next;
+            }
+            Reading::Begun(next) => expects = next,
+            Reading::Wrong(mistake) => return Err(mistake),
+        }
+        rest = &rest[1..];
+    }
+    match expects {
+        Expects::Value(word) => Err(Mistake::NoValue(word)),
+        _ => Ok(items),
+    }
+}
+
+/// What an argument is read as, where this is expected.
+fn read(expects: Expects, argument: &str) -> Reading<'_>
+    ensures read { read_of result ≡ read_by expects argument.now }
+{
+    match expects {
+        Expects::Any => read_any(argument),
+        Expects::Value(word) => read_value(word, argument),
+        Expects::Name => whole(Word::File, argument, Expects::Name),
+    }
+}
+
+/// An item that is whole.
+fn whole(word: Word, value: &str, next: Expects) -> Reading<'_>
+    ensures read { read_of result ≡ completed word value.now next }
+{
+    Reading::Whole(Item { word, value }, next)
+}
+
+/// An option, a file, or `--`.
+fn read_any(argument: &str) -> Reading<'_>
+    ensures read { read_of result ≡ any_by argument.now }
+    // An option that there is not is named.
+    ensures unknown { any_by argument.now ≡ None → result ≡ Wrong (Unknown argument.entry) }
+{
+    if argument == "--" {
+        return Reading::Begun(Expects::Name);
+    }
+    match word_of(argument) {
+        Some(word) => read_word(word, argument),
+        None => Reading::Wrong(Mistake::Unknown(argument)),
+    }
+}
+
+/// An option, or a file.
+fn read_word(word: Word, argument: &str) -> Reading<'_>
+    ensures read { read_of result ≡ word_read word argument.now }
+{
+    if takes_value(word) {
+        return Reading::Begun(Expects::Value(word));
+    }
+    whole(word, argument, Expects::Any)
+}
+
+/// The value of an option.
+fn read_value(word: Word, value: &str) -> Reading<'_>
+    ensures read { read_of result ≡ read_by (Value word) value.now }
+{
+    if is_value_of(word, value) {
+        return whole(word, value, Expects::Any);
+    }
+    Reading::Wrong(Mistake::UnknownKind(value))
+}
+
+/// Whether an option can have this value: that of `--kind` is a match kind.
+fn is_value_of(word: Word, value: &str) -> bool
+    ensures is { result ≡ is_value_of word value.now }
+{
+    match word {
+        Word::Kind => kind_by(value).is_some(),
+        _ => true,
+    }
+}
+
+/// Whether these are the same option.
+pub fn is_word(word: Word, other: Word) -> bool
+    ensures is { result ≡ is_word word other }
+{
+    word == other
+}
+
+/// Whether this option is given.
+pub fn has(items: &[Item<'_>], word: Word) -> bool
+    ensures has { result ≡ has word (all_given items.now) }
+{
+    last_value(items, word).is_some()
+}
+
+/// The last value of this option.
+pub fn last_value<'a>(items: &[Item<'a>], word: Word) -> Option<&'a str>
+    ensures last { option_map (λ value. value.now) result ≡ last_value word (all_given items.now) }
+{
+    let mut value = None;
+    let mut rest = items;
+    while !rest.is_empty() {
+        if is_word(word, rest[0].word) {
+            value = Some(rest[0].value);
+        }
+        rest = &rest[1..];
+    }
+    value
+}
+
+/// The match kind that is asked for: the longest of those that begin first, where none is.
+pub fn kind_of(items: &[Item<'_>]) -> MatchKind
+    ensures kind { result ≡ kind_asked (all_given items.now) }
+{
+    match last_value(items, Word::Kind) {
+        Some(name) => kind_by(name).unwrap_or(MatchKind::LeftmostLongest),
+        None => MatchKind::LeftmostLongest,
+    }
+}
