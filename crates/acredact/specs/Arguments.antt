@@ -168,11 +168,10 @@ texts arguments = map string_bytes arguments
 abbrev pub names_of : List (Bor (List ℕ)) → List (List ℕ)
 names_of names = map (λ name. name.now) names
 
--- a redaction is asked for: no help, no version, and no counts
+-- a redaction is asked for: no help and no version
 pub record AsksToRedact (given : List Given) : Type 0 where
   pub no_help : has Help given ≡ false
   pub no_version : has Version given ≡ false
-  pub no_counts : has Count given ≡ false
 
 -- what holds of the options and files that are given, where they ask for a redaction
 abbrev pub IfAsked : {Z : Type 0} → List (String Z) → (List Given → Type 0) → Type 0

@@ -1,6 +1,6 @@
 //! The redaction of files, one after another.
 
-ghost use Rattle.std.specs.Prelude.{◌≡◌, ◌&&◌, None, Ok, OnOk, false, length, true};
+ghost use Rattle.std.specs.Prelude.{◌≡◌, ◌&&◌, None, Ok, OnOk, length, true};
 ghost use Rattle.aho_base.specs.Patterns.{Patterns};
 ghost use Rattle.aho_base.specs.Replacement.{pieces_of};
 ghost use Rattle.programs.specs.Streams.{bytes_held, bytes_left};
@@ -42,11 +42,11 @@ pub fn redact_files<A: Automaton, F: Folder, I: Read, W: Write, E: Write>(
     errors: &mut FromWrite<E>,
 ) -> Result<bool, StreamError>
     requires ready { IsReady A.Automaton job.now.automaton.now (length job.now.replacements.now) }
-    ensures redacted { (p : Patterns) → A.is_of job.now.automaton.now p → job.now.counted ≡ false
+    ensures redacted { (p : Patterns) → A.is_of job.now.automaton.now p
         → result ≡ Ok true → AreRedacted (F.holds folder.now) p (pieces_of job.now.replacements.now)
         (names_of files.now) (bytes_left input.old) (bytes_left input.new)
         (bytes_held W.Write output.old) (bytes_held W.Write output.new) }
-    ensures begun { (p : Patterns) → A.is_of job.now.automaton.now p → job.now.counted ≡ false
+    ensures begun { (p : Patterns) → A.is_of job.now.automaton.now p
         → AreBegun p (pieces_of job.now.replacements.now)
         (bytes_held W.Write output.old) (bytes_held W.Write output.new) }
 {
@@ -78,11 +78,11 @@ fn redact_told<A: Automaton, F: Folder, I: Read, W: Write, E: Write>(
     errors: &mut FromWrite<E>,
 ) -> Result<bool, StreamError>
     requires ready { IsReady A.Automaton job.now.automaton.now (length job.now.replacements.now) }
-    ensures redacted { (p : Patterns) → A.is_of job.now.automaton.now p → job.now.counted ≡ false
+    ensures redacted { (p : Patterns) → A.is_of job.now.automaton.now p
         → result ≡ Ok true → IsRedactedFile (F.holds folder.now) p (pieces_of job.now.replacements.now)
         name.now (bytes_left input.old) (bytes_left input.new)
         (bytes_held W.Write output.old) (bytes_held W.Write output.new) }
-    ensures begun { (p : Patterns) → A.is_of job.now.automaton.now p → job.now.counted ≡ false
+    ensures begun { (p : Patterns) → A.is_of job.now.automaton.now p
         → AreBegun p (pieces_of job.now.replacements.now)
         (bytes_held W.Write output.old) (bytes_held W.Write output.new) }
 {
@@ -105,11 +105,11 @@ fn redact_file<A: Automaton, F: Folder, I: Read, W: Write>(
     output: &mut FromWrite<W>,
 ) -> Result<Option<Reason>, StreamError>
     requires ready { IsReady A.Automaton job.now.automaton.now (length job.now.replacements.now) }
-    ensures redacted { (p : Patterns) → A.is_of job.now.automaton.now p → job.now.counted ≡ false
+    ensures redacted { (p : Patterns) → A.is_of job.now.automaton.now p
         → result ≡ Ok None → IsRedactedFile (F.holds folder.now) p (pieces_of job.now.replacements.now)
         name.now (bytes_left input.old) (bytes_left input.new)
         (bytes_held W.Write output.old) (bytes_held W.Write output.new) }
-    ensures begun { (p : Patterns) → A.is_of job.now.automaton.now p → job.now.counted ≡ false
+    ensures begun { (p : Patterns) → A.is_of job.now.automaton.now p
         → AreBegun p (pieces_of job.now.replacements.now)
         (bytes_held W.Write output.old) (bytes_held W.Write output.new) }
 {
@@ -137,11 +137,11 @@ fn redact_input<A: Automaton, I: Read, W: Write>(
     output: &mut FromWrite<W>,
 ) -> Result<Option<Reason>, StreamError>
     requires ready { IsReady A.Automaton job.now.automaton.now (length job.now.replacements.now) }
-    ensures redacted { (p : Patterns) → A.is_of job.now.automaton.now p → job.now.counted ≡ false
+    ensures redacted { (p : Patterns) → A.is_of job.now.automaton.now p
         → result ≡ Ok None → IsRedactedText p (pieces_of job.now.replacements.now)
         (bytes_left input.old) (bytes_left input.new)
         (bytes_held W.Write output.old) (bytes_held W.Write output.new) }
-    ensures begun { (p : Patterns) → A.is_of job.now.automaton.now p → job.now.counted ≡ false
+    ensures begun { (p : Patterns) → A.is_of job.now.automaton.now p
         → AreBegun p (pieces_of job.now.replacements.now)
         (bytes_held W.Write output.old) (bytes_held W.Write output.new) }
 {
@@ -157,10 +157,10 @@ fn redact_opened<A: Automaton, I: Read + Drop, W: Write>(
     output: &mut FromWrite<W>,
 ) -> Result<Option<Reason>, StreamError>
     requires ready { IsReady A.Automaton job.now.automaton.now (length job.now.replacements.now) }
-    ensures redacted { (p : Patterns) → A.is_of job.now.automaton.now p → job.now.counted ≡ false
+    ensures redacted { (p : Patterns) → A.is_of job.now.automaton.now p
         → result ≡ Ok None → IsRedactedKnown p (pieces_of job.now.replacements.now)
         (I.remaining reader) (bytes_held W.Write output.old) (bytes_held W.Write output.new) }
-    ensures begun { (p : Patterns) → A.is_of job.now.automaton.now p → job.now.counted ≡ false
+    ensures begun { (p : Patterns) → A.is_of job.now.automaton.now p
         → AreBegun p (pieces_of job.now.replacements.now)
         (bytes_held W.Write output.old) (bytes_held W.Write output.new) }
 {
@@ -176,10 +176,10 @@ fn redact_stream<A: Automaton, R: Source, W: Sink>(
     sink: &mut W,
 ) -> Result<Option<Reason>, StreamError>
     requires ready { IsReady A.Automaton job.now.automaton.now (length job.now.replacements.now) }
-    ensures redacted { (p : Patterns) → A.is_of job.now.automaton.now p → job.now.counted ≡ false
+    ensures redacted { (p : Patterns) → A.is_of job.now.automaton.now p
         → result ≡ Ok None → IsRedacted R.Source W.Sink
         p (pieces_of job.now.replacements.now) source.old source.new sink.old sink.new }
-    ensures begun { (p : Patterns) → A.is_of job.now.automaton.now p → job.now.counted ≡ false
+    ensures begun { (p : Patterns) → A.is_of job.now.automaton.now p
         → IsBegun W.Sink p (pieces_of job.now.replacements.now) sink.old sink.new }
 {
     answer_of(redact_by_count(job, counts, source, sink))
@@ -193,10 +193,10 @@ fn redact_by_count<A: Automaton, R: Source, W: Sink>(
     sink: &mut W,
 ) -> Result<(), StreamError>
     requires ready { IsReady A.Automaton job.now.automaton.now (length job.now.replacements.now) }
-    ensures redacted { (p : Patterns) → A.is_of job.now.automaton.now p → job.now.counted ≡ false
+    ensures redacted { (p : Patterns) → A.is_of job.now.automaton.now p
         → OnOk result (IsRedacted R.Source W.Sink
         p (pieces_of job.now.replacements.now) source.old source.new sink.old sink.new) }
-    ensures begun { (p : Patterns) → A.is_of job.now.automaton.now p → job.now.counted ≡ false
+    ensures begun { (p : Patterns) → A.is_of job.now.automaton.now p
         → IsBegun W.Sink p (pieces_of job.now.replacements.now) sink.old sink.new }
 {
     if job.counted {

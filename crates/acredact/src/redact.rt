@@ -9,6 +9,7 @@ ghost use Rattle.acredact.specs.Runs.{IsReady};
 ghost use Rattle.acredact.specs.Secrets.{IsBegun, IsRedacted};
 
 use aho_base::error::StreamError;
+use aho_base::search::Match;
 use aho_devices::device::{Sink, Source};
 use aho_devices::write::write_whole;
 use aho_search::automaton::Automaton;
@@ -51,10 +52,25 @@ pub fn redact_counting<A: Automaton, R: Source, W: Sink>(
         → IsBegun W.Sink p (pieces_of replacements.now) sink.old sink.new }
 {
     try_stream_replace_all_with(alloc, automaton, source, sink, |found, _matched, sink| {
-        let number = found.pattern().as_usize();
-        count_one(counts, number);
-        write_piece(sink, replacements, number)
+        put_counted(counts, replacements, found, sink)
     })
+}
+
+/// Counts a match, and writes what stands in its place.
+fn put_counted<W: Sink>(
+    counts: &mut [u64],
+    replacements: &[&[u8]],
+    found: &Match,
+    sink: &mut W,
+) -> Result<(), StreamError>
+    ensures whole { OnOk result (Appends (W.taken sink.old) (W.taken sink.new)
+        (slice_index_or (pieces_of replacements.now) found.now.pattern [])) }
+    ensures beginning { OnErr result (AppendsBeginning (W.taken sink.old) (W.taken sink.new)
+        (slice_index_or (pieces_of replacements.now) found.now.pattern [])) }
+{
+    let number = found.pattern().as_usize();
+    count_one(counts, number);
+    write_piece(sink, replacements, number)
 }
 
 /// One match more of the pattern of this number.

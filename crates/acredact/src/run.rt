@@ -1,14 +1,13 @@
 //! A call of the program over its arguments, files and streams.
 
-ghost use Rattle.std.specs.Prelude.{◌≡◌, ◌≤◌, ◌⊎◌, Ok, IfOk, IfSome, OnOk, None, false, length, true};
+ghost use Rattle.std.specs.Prelude.{◌≡◌, ◌≤◌, ◌⊎◌, Ok, IfOk, IfSome, OnOk, None, length, true};
 ghost use Rattle.aho_base.specs.Patterns.{Patterns};
 ghost use Rattle.aho_base.specs.Replacement.{pieces_of};
 ghost use Rattle.programs.specs.Streams.{bytes_held, bytes_left, Unwritten};
-ghost use Rattle.acredact.specs.Arguments.{AsksToRedact, IfAsked, all_given, given_by, has, names_of, texts};
+ghost use Rattle.acredact.specs.Arguments.{AsksToRedact, IfAsked, all_given, given_by, names_of, texts};
 ghost use Rattle.acredact.specs.Runs.{AreBegun, AreRedacted, BeginsToRedact, Redacts, asked_patterns, names_asked, pieces_asked, text_asked};
 ghost use Rattle.acredact.specs.Tables.{patterns_in, secrets_of};
 ghost use Rattle.acredact.specs.declared.arguments.Expects.TheVariants.{Any};
-ghost use Rattle.acredact.specs.declared.arguments.Word.TheVariants.{Count};
 
 use crate::arguments::{Item, Mistake, Word, has, is_word, items, last_value};
 use crate::counts::{counts_of, tell_counts};
@@ -201,13 +200,13 @@ fn redact_all<'a, F: Folder, I: Read, W: Write, E: Write>(
     output: &mut FromWrite<W>,
     errors: &mut FromWrite<E>,
 ) -> Result<bool, Failure<'a>>
-    ensures redacted { has Count (all_given given.now) ≡ false → result ≡ Ok true
+    ensures redacted { result ≡ Ok true
         → AreRedacted (F.holds folder.now)
         (asked_patterns (all_given given.now) (patterns_in (secrets_of rules.now)))
         (pieces_asked (all_given given.now) (secrets_of rules.now)) (names_asked (all_given given.now))
         (bytes_left input.old) (bytes_left input.new)
         (bytes_held W.Write output.old) (bytes_held W.Write output.new) }
-    ensures begins { has Count (all_given given.now) ≡ false → Unwritten output.old output.new
+    ensures begins { Unwritten output.old output.new
         ⊎ AreBegun (asked_patterns (all_given given.now) (patterns_in (secrets_of rules.now)))
         (pieces_asked (all_given given.now) (secrets_of rules.now))
         (bytes_held W.Write output.old) (bytes_held W.Write output.new) }
@@ -258,12 +257,12 @@ fn redact_by<A: Automaton, B: Automaton, F: Folder, I: Read, W: Write, E: Write>
     requires of { (p : Patterns) × A.is_of automaton.now p × (length replacements.now ≡ length p.words)
         × IfSome rows (λ rows. B.is_of rows.now p) }
     ensures redacted { (p : Patterns) → A.is_of automaton.now p
-        → IfSome rows.entry (λ rows. B.is_of rows.now p) → counted ≡ false
+        → IfSome rows.entry (λ rows. B.is_of rows.now p)
         → result ≡ Ok true → AreRedacted (F.holds folder.now) p (pieces_of replacements.now)
         (names_of files.now) (bytes_left input.old) (bytes_left input.new)
         (bytes_held W.Write output.old) (bytes_held W.Write output.new) }
     ensures begun { (p : Patterns) → A.is_of automaton.now p
-        → IfSome rows.entry (λ rows. B.is_of rows.now p) → counted ≡ false
+        → IfSome rows.entry (λ rows. B.is_of rows.now p)
         → AreBegun p (pieces_of replacements.now)
         (bytes_held W.Write output.old) (bytes_held W.Write output.new) }
     ensures flushed { OnOk result (output.new.device.flushed ≡ true) }
@@ -310,11 +309,11 @@ fn redact_with<A: Automaton, F: Folder, I: Read, W: Write, E: Write>(
     errors: &mut FromWrite<E>,
 ) -> Result<bool, StreamError>
     requires of { (p : Patterns) × A.is_of automaton.now p × (length replacements.now ≡ length p.words) }
-    ensures redacted { (p : Patterns) → A.is_of automaton.now p → counted ≡ false
+    ensures redacted { (p : Patterns) → A.is_of automaton.now p
         → result ≡ Ok true → AreRedacted (F.holds folder.now) p (pieces_of replacements.now)
         (names_of files.now) (bytes_left input.old) (bytes_left input.new)
         (bytes_held W.Write output.old) (bytes_held W.Write output.new) }
-    ensures begun { (p : Patterns) → A.is_of automaton.now p → counted ≡ false
+    ensures begun { (p : Patterns) → A.is_of automaton.now p
         → AreBegun p (pieces_of replacements.now)
         (bytes_held W.Write output.old) (bytes_held W.Write output.new) }
     ensures flushed { OnOk result (output.new.device.flushed ≡ true) }
