@@ -1,6 +1,7 @@
 -- What a replacement of a stream writes is a redaction, and what it begins is begun.
-use Rattle.std.proofs.Common.{◌≡◌, ◌≢◌, ℕ, ◌≤◌, ◌<◌, ◌++◌, List, [], ◌∷◌, Option, true, length, map, refl, sym, ap, subst, ◌∙◌, append-nil, append_assoc, le_refl, arith, inl, inr}
-use Rattle.std.specs.Prelude.{Bool, MatchBool, None, Some, Result, Ok, Err, OnErr, OnOk, false}
+use Rattle.std.proofs.Common.{◌≡◌, ◌≢◌, ℕ, ◌≤◌, ◌<◌, ◌-◌, ◌++◌, List, [], ◌∷◌, Option, true, length, map, take, drop, get_or, refl, sym, ap, subst, ◌∙◌, append-nil, append_assoc, le_refl, arith, inl, inr}
+use Rattle.std.specs.Borrow.{Bor}
+use Rattle.std.specs.Prelude.{Bool, ◌&&◌, MatchBool, None, Some, Result, Ok, Err, OnErr, OnOk, false}
 use Rattle.std.specs.Io.{StartsWith}
 use Rattle.std.specs.Io.KnownBytes.{Appends, Consumes, IsAtEnd, Keeps}
 use Rattle.std.specs.List.{All, concat}
@@ -22,6 +23,7 @@ use Rattle.aho_devices.specs.declared.device.Source.{Ghosts as SourceGhosts}
 use Rattle.aho_laws.proofs.Iterations.{finds-exist, finds-unique}
 use Rattle.aho_search.specs.declared.automaton.Automaton.{Ghosts}
 use Rattle.aho_stream.specs.Replacing.{BeginsStream, ReplacesStream}
+use Rattle.acredact.specs.Arguments.{names_of}
 use Rattle.acredact.specs.Runs.{AreBegun, AreRedacted, IsRedactedFile, IsRedactedKnown, IsRedactedText, IsRedaction, IsTold, is_input}
 use Rattle.acredact.specs.Secrets.{Begins, IsBegun, IsRedacted}
 use Rattle.acredact.proofs.Covered.{none_left}
@@ -93,6 +95,20 @@ module _ {A R W : Type 0} (G : Ghosts A) (S : SourceGhosts R) (K : SinkGhosts W)
     };
     written = begun.writes;
   }
+
+-- both are so
+pub both_so : (first second both : Bool) → both ≡ first && second → both ≡ true → (first ≡ true) × (second ≡ true)
+both_so true true both is so = (refl, refl)
+both_so true false both is so = let clash : false ≡ true = sym is ∙ so in absurd (cc)
+both_so false second both is so = let clash : false ≡ true = sym is ∙ so in absurd (cc)
+
+pub same_in_ok : {E : Type 0} (x y : Bool) → (the : Result Bool E) → the ≡ Ok x → the ≡ Ok y → x ≡ y
+same_in_ok x y the first second = let same = sym first ∙ second in cc
+
+-- no files have no names
+pub names_none : (files : List (Bor (List ℕ))) → length files ≡ 0 → names_of files ≡ []
+names_none [] none = refl
+names_none (name ∷ files) none = absurd (omega (arith, none))
 
 -- what is done where a stream has ended
 pub at_ok : {P : Type 0} (r : Result (Unit {0}) StreamError) → r ≡ Ok tt → OnOk r P → P
@@ -197,6 +213,16 @@ module _ (p : Patterns) (pieces : List (List ℕ)) where
         → AreRedacted holds p pieces names left left' held held'
     redacted_next names rest name left between left' held meanwhile held' is file others =
         subst (λ (names : List (List ℕ)). AreRedacted holds p pieces names left left' held held') (sym is) (between, meanwhile, file, others)
+
+    -- the first of some files, and then the others
+    pub file_next : (files : List (Bor (List ℕ))) (other : Bor (List ℕ)) → 1 ≤ length files → (left between left' held meanwhile held' : Option (List ℕ))
+        → IsRedactedFile holds p pieces (get_or files 0 other).now left between held meanwhile
+        → AreRedacted holds p pieces (names_of (take (length files - 1) (drop 1 files))) between left' meanwhile held' → AreRedacted holds p pieces (names_of files) left left' held held'
+    file_next [] other some left between left' held meanwhile held' file others = absurd (omega (arith, some))
+    file_next (name ∷ files) other some left between left' held meanwhile held' file others =
+        let count : length (name ∷ files) - 1 ≡ length files = omega arith in
+        let rest : take (length (name ∷ files) - 1) files ≡ files = ap (λ n. take n files) count ∙ take-length files in
+        (between, meanwhile, file, subst (λ (names : List (Bor (List ℕ))). AreRedacted holds p pieces (names_of names) between left' meanwhile held') rest others)
 
     pub redacted_none : (names : List (List ℕ)) (left held : Option (List ℕ)) → names ≡ [] → AreRedacted holds p pieces names left left held held
     redacted_none names left held is = subst (λ (names : List (List ℕ)). AreRedacted holds p pieces names left left held held) (sym is) (refl, Keeps-refl held)
