@@ -1,6 +1,6 @@
-/* Refuses one allocation: the one whose number, from 1, stands in GROWTH, where 0 refuses none. At the end of the process it
-   writes into the file GROWTHS how many allocations there were, whether one was refused, and how many allocations that were
-   made were not freed. It is preloaded, and stands before the C library's own calls. */
+/* Refuses one allocation: the one whose number, from 1, stands in GROWTH, where 0 refuses none. So does FAULT for a read, which then
+   fails. At the end of the process it writes into the file GROWTHS how many allocations there were, whether one was refused, and
+   how many allocations that were made were not freed. It is preloaded, and stands before the C library's own calls. */
 #include <errno.h>
 #include <fcntl.h>
 #include <stdio.h>
@@ -12,6 +12,7 @@ void *__libc_calloc(size_t, size_t);
 void *__libc_realloc(void *, size_t);
 void *__libc_memalign(size_t, size_t);
 void __libc_free(void *);
+ssize_t __read(int, void *, size_t);
 
 static long growths, refused, live;
 
@@ -55,6 +56,14 @@ void *realloc(void *block, size_t size) {
 void free(void *block) {
     live -= block != NULL;
     __libc_free(block);
+}
+
+ssize_t read(int file, void *block, size_t size) {
+    static long reads;
+    const char *word = getenv("FAULT");
+    if (!word || ++reads != atol(word)) return __read(file, block, size);
+    errno = EIO;
+    return -1;
 }
 
 __attribute__((destructor)) static void tell(void) {

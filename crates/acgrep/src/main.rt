@@ -76,6 +76,3 @@ fn has_colors(rt: &HostRuntime) -> bool {
         Err(_) => false,
     }
 }
-
-#[cfg(test)]
-mod tests;

@@ -1,4 +1,4 @@
-//! Where files are opened: that of the process, or one in memory in tests.
+//! Where files are opened: that of the process.
 
 ghost use Rattle.std.specs.Prelude.{ℕ, List, Option, None, IfOk};
 ghost use Rattle.std.specs.Io.KnownBytes.{Keeps};

@@ -83,6 +83,3 @@ fn exit_code<F: Folder, I: Read, W: Write, E: Write>(
     };
     ExitCode::from(status)
 }
-
-#[cfg(test)]
-mod tests;
