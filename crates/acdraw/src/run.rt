@@ -135,6 +135,3 @@ fn draw<W: Write>(
     let text = dot_of(alloc, &picture)?;
     write_whole(output, text.as_slice())
 }
-
-#[cfg(test)]
-mod tests;
