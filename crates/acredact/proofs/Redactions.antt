@@ -226,3 +226,13 @@ module _ (p : Patterns) (pieces : List (List ℕ)) where
 
     pub redacted_none : (names : List (List ℕ)) (left held : Option (List ℕ)) → names ≡ [] → AreRedacted holds p pieces names left left held held
     redacted_none names left held is = subst (λ (names : List (List ℕ)). AreRedacted holds p pieces names left left held held) (sym is) (refl, Keeps-refl held)
+
+-- what is redacted and begun by some pieces and names is so by the same ones
+pub redacted_as : (holds : List ℕ → Option (List ℕ)) (p : Patterns) (pieces pieces' names names' : List (List ℕ)) (left left' held held' : Option (List ℕ)) → pieces ≡ pieces' → names ≡ names'
+    → AreRedacted holds p pieces names left left' held held' → AreRedacted holds p pieces' names' left left' held held'
+redacted_as holds p pieces pieces' names names' left left' held held' same alike redacted =
+    subst (λ (l : List (List ℕ)). AreRedacted holds p l names' left left' held held') same
+    (subst (λ (l : List (List ℕ)). AreRedacted holds p pieces l left left' held held') alike redacted)
+
+pub begun_as : (p : Patterns) (pieces pieces' : List (List ℕ)) (held held' : Option (List ℕ)) → pieces ≡ pieces' → AreBegun p pieces held held' → AreBegun p pieces' held held'
+begun_as p pieces pieces' held held' same = subst (λ (l : List (List ℕ)). AreBegun p l held held') same

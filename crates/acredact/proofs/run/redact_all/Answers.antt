@@ -1,5 +1,5 @@
 -- Both automata are of the patterns that are asked for, and there is a replacement for each.
-use Rattle.std.proofs.Common.{◌≡◌, ◌∙◌, ap, sym, subst, length, map, List, ℕ, inr}
+use Rattle.std.proofs.Common.{◌≡◌, ◌∙◌, ap, sym, subst, length, map, List, ℕ, Ok, inr, refl}
 use Rattle.std.specs.Prelude.{IfSome}
 use Rattle.std.proofs.lemmas.List.{length-map}
 use Rattle.aho_base.specs.Replacement.{pieces_of}
@@ -9,6 +9,7 @@ use Rattle.acredact.specs.Arguments.{all_given, names_of}
 use Rattle.acredact.specs.Runs.{asked_patterns, names_asked, pieces_asked}
 use Rattle.acredact.specs.Tables.{patterns_in, piece_by, secrets_of}
 use Rattle.acredact.proofs.Loaded.{lent}
+use Rattle.acredact.proofs.Redactions.{begun_as, redacted_as, same_in_ok}
 use Rattle.acredact.proofs.run.redact_all.Goals.{After-as_ref}
 use Rattle.acredact.proofs.run.redact_all.Given.{Over}
 use Rattle.acredact.proofs.run.redact_all.Goals as goal
@@ -44,3 +45,19 @@ redact_by-requires g c =
         rows_are g after,
       );
     }
+
+pub returns-in_err-all-clause-begins : goal.returns-in_err-all-clause-begins
+returns-in_err-all-clause-begins g c =
+    let after = (goal.at.returns-in_err-all-clause-begins g c).After-as_ref in
+    inr (begun_as _ _ _ _ _ (pieces_are g after) (c.redact_by.ensures.begun _ (nfa_is g after) (rows_are g after)))
+
+pub returns-clause-redacted : goal.returns-clause-redacted
+returns-clause-redacted g c is =
+    let after = (goal.at.returns-clause-redacted g c).After-as_ref in
+    redacted_as _ _ _ _ _ _ _ _ _ _ (pieces_are g after) (names_are g after)
+    (c.redact_by.ensures.redacted _ (nfa_is g after) (rows_are g after) (c.in_ok-all.was ∙ ap Ok (same_in_ok _ _ _ refl is)))
+
+pub returns-clause-begins : goal.returns-clause-begins
+returns-clause-begins g c =
+    let after = (goal.at.returns-clause-begins g c).After-as_ref in
+    inr (begun_as _ _ _ _ _ (pieces_are g after) (c.redact_by.ensures.begun _ (nfa_is g after) (rows_are g after)))
