@@ -1,2 +1,9 @@
 pub mod Around
+pub mod FileTellings
+pub mod Fillings
 pub mod FirstLines
+pub mod LineLists
+pub mod NamesSearched
+pub mod PlacesBehind
+pub mod Streams
+pub mod Tellings

@@ -1,5 +1,9 @@
 pub mod Arguments
+pub mod Files
+pub mod Filled
 pub mod Lines
 pub mod Printed
 pub mod Searchers
 pub mod Selected
+pub mod Streamed
+pub mod Written
