@@ -9,7 +9,7 @@ use Rattle.acgrep.specs.Files.{EndsFile, IfSearched, IsAny, IsNamed, IsRead, Sea
 use Rattle.acgrep.specs.Lines.{lines}
 use Rattle.acgrep.specs.Printed.{file_line}
 use Rattle.acgrep.specs.Streamed.{SearchesStream, course}
-use Rattle.acgrep.specs.Written.{EachLine, IsPassed, IsSelected, IsTold, ShowsBy, Tells, at_begin, is_told, needs_one, one_more, place_at}
+use Rattle.acgrep.specs.Written.{EachLine, IsPassed, IsSelected, ShowsBy, Tells, at_begin, needs_one, one_more, place_at}
 use Rattle.acgrep.specs.declared.files.Outcome.{Outcome}
 use Rattle.acgrep.specs.declared.files.Outcome.TheVariants.{Searched, Unread, Stopped}
 use Rattle.acgrep.specs.declared.options.Shown.{Shown}
@@ -21,14 +21,14 @@ use Rattle.acgrep.specs.declared.select.State.{State}
 use Rattle.acgrep.proofs.LineLists.{lines_append}
 
 -- where one selected line tells all nothing is written of it
-shows_none : (p : Patterns) (shown : Shown) (color invert : Bool) (style : Style) (place : Place) (line bytes : List ℕ) → needs_one shown ≡ true
-    → (is_told shown color invert ≡ true → ShowsBy p shown invert style place line bytes) → bytes ≡ []
-shows_none p Lines color invert style place line bytes one shows = absurd (cc)
-shows_none p Matches color invert style place line bytes one shows = absurd (cc)
-shows_none p Objects color invert style place line bytes one shows = absurd (cc)
-shows_none p Count color invert style place line bytes one shows = absurd (cc)
-shows_none p Names color invert style place line bytes one shows = shows refl
-shows_none p Nothing color invert style place line bytes one shows = shows refl
+shows_none : (p : Patterns) (shown : Shown) (invert : Bool) (style : Style) (place : Place) (line bytes : List ℕ) → needs_one shown ≡ true
+    → ShowsBy p shown invert style place line bytes → bytes ≡ []
+shows_none p Lines invert style place line bytes one shows = absurd (cc)
+shows_none p Matches invert style place line bytes one shows = absurd (cc)
+shows_none p Objects invert style place line bytes one shows = absurd (cc)
+shows_none p Count invert style place line bytes one shows = absurd (cc)
+shows_none p Names invert style place line bytes one shows = shows
+shows_none p Nothing invert style place line bytes one shows = shows
 
 more_positive : (count : ℕ) → 0 < one_more count
 more_positive count = omega arith
@@ -49,7 +49,7 @@ module _ (p : Patterns) (job : Job) where
   tells_none : (ls : List (List ℕ)) (place : Place) (count : ℕ) (bytes : List ℕ) (total : ℕ) → needs_one job.shown ≡ true → Tells p job place count ls bytes total → bytes ≡ []
   tells_none [] place count bytes total one told = told.0
   tells_none (line ∷ rest) place count bytes total one (inl (selected, (shown, more, shows, behind, is))) =
-      is ∙ ap (λ (l : List ℕ). l ++ more) (shows_none p job.shown job.style.color job.invert job.style place line shown one shows)
+      is ∙ ap (λ (l : List ℕ). l ++ more) (shows_none p job.shown job.invert job.style place line shown one shows)
       ∙ tells_none rest _ (one_more count) more total one behind
   tells_none (line ∷ rest) place count bytes total one (inr (passed, behind)) = tells_none rest _ count bytes total one behind
 
@@ -108,7 +108,7 @@ module _ (p : Patterns) (job : Job) where
 
   -- all of a text was searched
   file_whole : (state : State) (known held meanwhile held' : Option (List ℕ)) (text told : List ℕ) → IfSome known (λ (all : List ℕ). text ≡ all)
-      → Tells p job (place_at 0 0) 0 (lines text) told state.selected → (IsTold job → Appends held meanwhile told) → (any : Bool) → EndsFile job state.selected meanwhile held' any
+      → Tells p job (place_at 0 0) 0 (lines text) told state.selected → Appends held meanwhile told → (any : Bool) → EndsFile job state.selected meanwhile held' any
       → SearchesFile p job known held held' any
   file_whole state known held meanwhile held' text told of tells written any ends =
       let count = state.selected in
@@ -118,13 +118,13 @@ module _ (p : Patterns) (job : Job) where
         selected = subst (IsAny p job.invert (lines text)) (sym ends.is_any) (tells_any (lines text) (place_at 0 0) told count tells);
         bytes = told ++ total_if job.shown job.style count;
         tells = subst (λ (any : Bool). TellsBy p job job.shown text any (told ++ total_if job.shown job.style count)) (sym ends.is_any) (by_whole job.shown refl text told count tells);
-        written = λ is. Appends-trans held meanwhile held' told (total_if job.shown job.style count) (written is) ends.written;
+        written = Appends-trans held meanwhile held' told (total_if job.shown job.style count) written ends.written;
       }
 
   -- a line was selected that told all
   file_front : (state : State) (known held meanwhile held' : Option (List ℕ)) (text told : List ℕ) (ls : List (List ℕ)) → IfSome known (λ (all : List ℕ). text ≡ all)
       → Tells p job (place_at 0 0) 0 ls told state.selected → needs_one job.shown ≡ true → 0 < state.selected → (SomeLine (IsSelected p job.invert) ls → SomeLine (IsSelected p job.invert) (lines text))
-      → (IsTold job → Appends held meanwhile told) → (any : Bool) → EndsFile job state.selected meanwhile held' any → SearchesFile p job known held held' any × (any ≡ true)
+      → Appends held meanwhile told → (any : Bool) → EndsFile job state.selected meanwhile held' any → SearchesFile p job known held held' any × (any ≡ true)
   file_front state known held meanwhile held' text told ls of tells one some front written any ends =
       let count = state.selected in
       let is : any ≡ true = ends.is_any ∙ lt-ltb 0 count some in
@@ -135,8 +135,8 @@ module _ (p : Patterns) (job : Job) where
           selected = subst (IsAny p job.invert (lines text)) (sym is) (front (tells_some ls (place_at 0 0) 0 told count tells refl some));
           bytes = total_if job.shown job.style count;
           tells = subst (λ (any : Bool). TellsBy p job job.shown text any (total_if job.shown job.style count)) (sym is) (by_front job.shown text count one some);
-          written = λ is. subst (λ (l : List ℕ). Appends held held' (l ++ total_if job.shown job.style count)) none
-              (Appends-trans held meanwhile held' told (total_if job.shown job.style count) (written is) ends.written);
+          written = subst (λ (l : List ℕ). Appends held held' (l ++ total_if job.shown job.style count)) none
+              (Appends-trans held meanwhile held' told (total_if job.shown job.style count) written ends.written);
         },
         is,
       )

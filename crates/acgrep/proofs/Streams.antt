@@ -121,7 +121,7 @@ module _ (p : Patterns) (job : Job) where
       rest = refl;
       searched = [];
       cut = refl;
-      tells = record { bytes = []; told = (refl, refl); written = λ _. keeps_nil x y keeps };
+      tells = record { bytes = []; told = (refl, refl); written = keeps_nil x y keeps };
       placed = λ _. same_place job a.place;
     };
     ends = inl refl;
@@ -151,7 +151,7 @@ module _ (p : Patterns) (job : Job) where
           tells = record {
             bytes = to.tells.bytes;
             told = to.tells.told;
-            written = λ told. Appends-trans x y z [] to.tells.bytes (keeps_nil x y keeps) (to.tells.written told);
+            written = Appends-trans x y z [] to.tells.bytes (keeps_nil x y keeps) to.tells.written;
           };
           placed = to.placed;
         };

@@ -1,6 +1,6 @@
 -- What is told of lines, put together from parts.
 use Rattle.std.proofs.Common.{◌≡◌, inl, inr, ◌⊎◌, ℕ, suc, ◌+◌, ◌-◌, ◌%◌, ◌^◌, ◌≤◌, ◌<◌, ◌==◌, Bool, true, false, List, [], ◌∷◌, ◌++◌, Option, None, length, take, drop, refl, sym, ◌∙◌, ap, subst, arith, append_assoc, append-nil}
-use Rattle.std.specs.Prelude.{MatchBool, if◌then◌else◌, codes}
+use Rattle.std.specs.Prelude.{MatchBool, if◌then◌else◌, codes, not, ◌&&◌}
 use Rattle.std.specs.Io.KnownBytes.{Appends}
 use Rattle.std.proofs.KnownBytes.{Appends-nil, Appends-trans}
 use Rattle.std.proofs.lemmas.Bool.{cases_Bool, cases_lt}
@@ -9,8 +9,9 @@ use Rattle.aho_base.specs.Patterns.{Patterns}
 use Rattle.aho_base.specs.Occurrence.{Occurrence}
 use Rattle.acgrep.proofs.LineLists.{ends_drop}
 use Rattle.acgrep.specs.Lines.{lines}
-use Rattle.acgrep.specs.Printed.{color_of, head_of, line_by, match_by, matches_by, number_at, offset_at, painted, part_of}
-use Rattle.acgrep.specs.Written.{EachLine, EndsLine, HasMatch, HasNone, IsPassed, IsSelected, IsTold, SamePlace, SearchesText, SearchesTo, ShowsBy, ShowsLine, Tells, TellsLines, WritesLine, after_line, after_lines, one_more}
+use Rattle.acgrep.specs.Objects.{objects_by}
+use Rattle.acgrep.specs.Printed.{WritesColored, color_of, colored_from, colored_line_by, head_of, match_by, matches_by, number_at, offset_at, painted, part_of}
+use Rattle.acgrep.specs.Written.{EachLine, EndsLine, HasMatch, HasNone, IsPassed, IsSelected, LineOf, SamePlace, SearchesText, SearchesTo, ShowsBy, ShowsLine, Tells, TellsLines, WritesLine, after_line, after_lines, is_numbered, one_more, place_at}
 use Rattle.acgrep.specs.declared.options.Shown.{Shown}
 use Rattle.acgrep.specs.declared.options.Shown.TheVariants.{Lines, Matches, Objects, Count, Names, Nothing}
 use Rattle.acgrep.specs.declared.print.Place.{Place}
@@ -49,11 +50,31 @@ pub after_append : (ls ms : List (List ℕ)) (place : Place) → after_lines pla
 after_append [] ms place = refl
 after_append (line ∷ rest) ms place = after_append rest ms (after_line place line)
 
+-- where the numbers of lines are asked for they are written
+asked_numbered : (shown : Shown) (asked : Bool) → asked ≡ true → is_numbered shown asked ≡ true
+asked_numbered Lines asked is = is
+asked_numbered Matches asked is = is
+asked_numbered Objects asked is = refl
+asked_numbered Count asked is = is
+asked_numbered Names asked is = is
+asked_numbered Nothing asked is = is
+
+-- a coloured line is what is written of a line where that is asked for
+pub colored_shows : (p : Patterns) (job : Job) (place : Place) (old new : Option (List ℕ)) (line : List ℕ) → job.shown ≡ Lines → (job.style.color && not job.invert) ≡ true
+    → WritesColored old new p job.style place line → WritesLine p job place old new line
+colored_shows p job place old new line lines colored writes =
+    let bytes = colored_line_by job.style place line writes.matches in (
+      bytes,
+      subst (λ (shown : Shown). ShowsBy p shown job.invert job.style place line bytes) (sym lines)
+          (subst (λ (b : Bool). LineOf p b job.style place line bytes) (sym colored) (writes.matches, writes.found, refl)),
+      writes.written,
+    )
+
 -- what stands before a line is the same
 same_head : (job : Job) (a b : Place) (offset : ℕ) → SamePlace job a b → head_of job.style (number_at a) offset ≡ head_of job.style (number_at b) offset
 same_head job a b offset same =
     elim (cases_Bool job.style.number) [
-      | inl asked ↦ ap (λ (n : ℕ). head_of job.style ((n + 1) % 2 ^ 64) offset) (same.lines asked)
+      | inl asked ↦ ap (λ (n : ℕ). head_of job.style ((n + 1) % 2 ^ 64) offset) (same.lines (asked_numbered job.shown job.style.number asked))
       | inr not ↦ rw not refl
     ]
 
@@ -69,19 +90,29 @@ matches_same job a b line (m ∷ ms) same =
     ap (λ (l : List ℕ). l ++ matches_by job.style a line ms) (match_same job a b line m same)
     ∙ ap (λ (l : List ℕ). match_by job.style b line m ++ l) (matches_same job a b line ms same)
 
-line_same : (job : Job) (a b : Place) (line : List ℕ) → SamePlace job a b → line_by job.style a line ≡ line_by job.style b line
-line_same job a b line same =
-    ap (λ (head : List ℕ). head ++ (line ++ codes "\n")) (same_head job a b a.bytes same ∙ ap (λ (n : ℕ). head_of job.style (number_at b) n) same.bytes)
+place_same : (a b : Place) → a.lines ≡ b.lines → a.bytes ≡ b.bytes → a ≡ b
+place_same a b lines bytes = ap (λ (n : ℕ). place_at n a.bytes) lines ∙ ap (place_at b.lines) bytes
 
-by_same : (p : Patterns) (shown : Shown) (invert : Bool) (job : Job) (a b : Place) (line bytes : List ℕ) → SamePlace job a b
+start_same : (job : Job) (a b : Place) → SamePlace job a b → head_of job.style (number_at a) a.bytes ≡ head_of job.style (number_at b) b.bytes
+start_same job a b same = same_head job a b a.bytes same ∙ ap (λ (n : ℕ). head_of job.style (number_at b) n) same.bytes
+
+line_same : (p : Patterns) (colored : Bool) (job : Job) (a b : Place) (line bytes : List ℕ) → SamePlace job a b
+    → LineOf p colored job.style a line bytes → LineOf p colored job.style b line bytes
+line_same p true job a b line bytes same (ms, finds, is) = (ms, finds, is ∙ ap (λ (head : List ℕ). head ++ (colored_from line 0 ms ++ codes "\n")) (start_same job a b same))
+line_same p false job a b line bytes same is = is ∙ ap (λ (head : List ℕ). head ++ (line ++ codes "\n")) (start_same job a b same)
+
+by_same : (p : Patterns) (shown : Shown) (invert : Bool) (job : Job) (a b : Place) (line bytes : List ℕ)
+    → (is_numbered shown job.style.number ≡ true → a.lines ≡ b.lines) → SamePlace job a b
     → ShowsBy p shown invert job.style a line bytes → ShowsBy p shown invert job.style b line bytes
-by_same p Lines invert job a b line bytes same shows = shows ∙ line_same job a b line same
-by_same p Matches true job a b line bytes same shows = shows
-by_same p Matches false job a b line bytes same (ms, finds, is) = (ms, finds, is ∙ matches_same job a b line ms same)
-by_same p Objects invert job a b line bytes same shows = shows
-by_same p Count invert job a b line bytes same shows = shows
-by_same p Names invert job a b line bytes same shows = shows
-by_same p Nothing invert job a b line bytes same shows = shows
+by_same p Lines invert job a b line bytes counted same shows = line_same p (job.style.color && not invert) job a b line bytes same shows
+by_same p Matches true job a b line bytes counted same shows = shows
+by_same p Matches false job a b line bytes counted same (ms, finds, is) = (ms, finds, is ∙ matches_same job a b line ms same)
+by_same p Objects true job a b line bytes counted same shows = shows
+by_same p Objects false job a b line bytes counted same (ms, finds, is) =
+    (ms, finds, is ∙ ap (λ (place : Place). objects_by job.style place ms) (place_same a b (counted refl) same.bytes))
+by_same p Count invert job a b line bytes counted same shows = shows
+by_same p Names invert job a b line bytes counted same shows = shows
+by_same p Nothing invert job a b line bytes counted same shows = shows
 
 -- lines tell the same from places that are the same
 pub tells_same : (p : Patterns) (job : Job) (ls : List (List ℕ)) (a b : Place) (count : ℕ) (bytes : List ℕ) (total : ℕ) → SamePlace job a b
@@ -93,7 +124,7 @@ tells_same p job (line ∷ rest) a b count bytes total same (inl (selected, (sho
       (
         shown,
         more,
-        (λ told. by_same p job.shown job.invert job a b line shown same (shows told)),
+        by_same p job.shown job.invert job a b line shown same.lines same shows,
         tells_same p job rest (after_line a line) (after_line b line) (one_more count) more total (same_line job a b line same) behind,
         is,
       ),
@@ -142,7 +173,7 @@ module _ (p : Patterns) (job : Job) where
   one_passed before after old new line passed counted unwritten = record {
     bytes = [];
     told = inr (passed, (refl, counted));
-    written = λ _. subst (λ (held : Option (List ℕ)). Appends old held []) (sym unwritten) (Appends-nil old);
+    written = subst (λ (held : Option (List ℕ)). Appends old held []) (sym unwritten) (Appends-nil old);
   }
 
   pub all_passed : (before after : State) (old new : Option (List ℕ)) (ls : List (List ℕ)) → job.invert ≡ false → EachLine (HasNone p) ls → after.selected ≡ before.selected
@@ -150,7 +181,7 @@ module _ (p : Patterns) (job : Job) where
   all_passed before after old new ls plain each counted unwritten = record {
     bytes = [];
     told = subst (λ (n : ℕ). Tells p job before.place before.selected ls [] n) (sym counted) (tells_passed p job ls before.place before.selected plain each);
-    written = λ _. subst (λ (held : Option (List ℕ)). Appends old held []) (sym unwritten) (Appends-nil old);
+    written = subst (λ (held : Option (List ℕ)). Appends old held []) (sym unwritten) (Appends-nil old);
   }
 
   pub tells_join : (a b c : State) (x y z : Option (List ℕ)) (ls ms : List (List ℕ)) → TellsLines p job a b x y ls → SamePlace job b.place (after_lines a.place ls)
@@ -159,11 +190,11 @@ module _ (p : Patterns) (job : Job) where
     bytes = one.bytes ++ other.bytes;
     told = tells_append p job ls ms a.place a.selected b.selected c.selected one.bytes other.bytes one.told
         (tells_same p job ms b.place (after_lines a.place ls) b.selected other.bytes c.selected same other.told);
-    written = λ told. Appends-trans x y z one.bytes other.bytes (one.written told) (other.written told);
+    written = Appends-trans x y z one.bytes other.bytes one.written other.written;
   }
 
   pub tells_none : (a : State) (x : Option (List ℕ)) → TellsLines p job a a x x []
-  tells_none a x = record { bytes = []; told = (refl, refl); written = λ _. Appends-nil x }
+  tells_none a x = record { bytes = []; told = (refl, refl); written = Appends-nil x }
 
   pub searches_start : (a : State) (x : Option (List ℕ)) (text : List ℕ) → SearchesTo p job a a x x text text
   searches_start a x text = record {

@@ -7,7 +7,7 @@ use Rattle.aho_base.specs.Patterns.{Patterns}
 use Rattle.acgrep.specs.Filled.{Reads}
 use Rattle.acgrep.specs.Lines.{lines}
 use Rattle.acgrep.specs.Printed.{count_by, file_line}
-use Rattle.acgrep.specs.Written.{EachLine, IsPassed, IsSelected, IsTold, Tells, needs_one, place_at}
+use Rattle.acgrep.specs.Written.{EachLine, IsPassed, IsSelected, Tells, needs_one, place_at}
 use Rattle.acgrep.specs.declared.files.Outcome.{Outcome}
 use Rattle.acgrep.specs.declared.files.Outcome.TheVariants.{Searched, Unread, Stopped}
 use Rattle.acgrep.specs.declared.files.Seen.{Seen}
@@ -64,7 +64,7 @@ pub record SearchesFile (p : Patterns) (job : Job) (known held held' : Option (L
   pub selected : IsAny p job.invert (lines text) any
   pub bytes : List ℕ
   pub tells : TellsBy p job job.shown text any bytes
-  pub written : IsTold job → Appends held held' bytes
+  pub written : Appends held held' bytes
 
 -- a reader was read to its end, or until a selected line told all
 pub record IsRead (job : Job) (left left' : Option (List ℕ)) (any : Bool) : Type 0 where

@@ -1,5 +1,5 @@
 -- What is written of the lines of a text, one after another.
-use Rattle.std.specs.Prelude.{◌≡◌, ◌⊎◌, ⊤, ℕ, ◌+◌, ◌-◌, ◌%◌, ◌^◌, ◌<◌, ◌≤◌, min, Bool, true, false, List, [], ◌∷◌, ◌++◌, Option, None, length, drop, MatchBool, if◌then◌else◌}
+use Rattle.std.specs.Prelude.{◌≡◌, ◌⊎◌, ⊤, ℕ, ◌+◌, ◌-◌, ◌%◌, ◌^◌, ◌<◌, ◌≤◌, min, Bool, true, false, not, ◌&&◌, List, [], ◌∷◌, ◌++◌, Option, None, length, drop, MatchBool}
 use Rattle.std.specs.Io.KnownBytes.{Appends}
 use Rattle.aho_base.specs.Iteration.{AreFinds}
 use Rattle.aho_base.specs.Occurrence.{Occurrence}
@@ -7,7 +7,8 @@ use Rattle.aho_base.specs.Occurs.{OccursIn}
 use Rattle.aho_base.specs.Patterns.{Patterns}
 use Rattle.aho_base.specs.Search.{plain_search}
 use Rattle.acgrep.specs.Lines.{IsNewline, lines}
-use Rattle.acgrep.specs.Printed.{line_by, matches_by}
+use Rattle.acgrep.specs.Objects.{objects_by}
+use Rattle.acgrep.specs.Printed.{colored_line_by, line_by, matches_by}
 use Rattle.acgrep.specs.declared.options.Shown.{Shown}
 use Rattle.acgrep.specs.declared.options.Shown.TheVariants.{Lines, Matches, Objects, Count, Names, Nothing}
 use Rattle.acgrep.specs.declared.print.Place.{Place}
@@ -36,39 +37,41 @@ abbrev pub EachLine : (List ℕ → Type 0) → List (List ℕ) → Type 0
 EachLine P [] = ⊤
 EachLine P (line ∷ rest) = P line × EachLine P rest
 
--- what is written of a selected line is told here, but for objects and coloured lines
-abbrev pub is_told : Shown → Bool → Bool → Bool
-is_told Lines color invert = if color then invert else true
-is_told Matches color invert = true
-is_told Objects color invert = invert
-is_told Count color invert = true
-is_told Names color invert = true
-is_told Nothing color invert = true
-
-abbrev pub IsTold : Job → Type 0
-IsTold job = is_told job.shown job.style.color job.invert ≡ true
-
 -- the matches of a line, as they are written
 abbrev pub MatchesOf : Patterns → Style → Place → List ℕ → List ℕ → Type 0
 MatchesOf p style place line bytes =
     (ms : List Occurrence) × AreFinds p (plain_search line) None ms × (bytes ≡ matches_by style place line ms)
 
+-- the same as objects
+abbrev pub ObjectsOf : Patterns → Style → Place → List ℕ → List ℕ → Type 0
+ObjectsOf p style place line bytes =
+    (ms : List Occurrence) × AreFinds p (plain_search line) None ms × (bytes ≡ objects_by style place ms)
+
+-- the line with its matches in colour
+abbrev pub ColoredOf : Patterns → Style → Place → List ℕ → List ℕ → Type 0
+ColoredOf p style place line bytes =
+    (ms : List Occurrence) × AreFinds p (plain_search line) None ms × (bytes ≡ colored_line_by style place line ms)
+
+-- the line, in colour or not
+abbrev pub LineOf : Patterns → Bool → Style → Place → List ℕ → List ℕ → Type 0
+LineOf p colored style place line bytes = MatchBool colored (ColoredOf p style place line bytes) (bytes ≡ line_by style place line)
+
 -- what is written of a selected line: itself, its matches, or nothing; a line that is selected by `invert` has no match
 abbrev pub ShowsBy : Patterns → Shown → Bool → Style → Place → List ℕ → List ℕ → Type 0
-ShowsBy p Lines invert style place line bytes = bytes ≡ line_by style place line
+ShowsBy p Lines invert style place line bytes = LineOf p (style.color && not invert) style place line bytes
 ShowsBy p Matches invert style place line bytes = MatchBool invert (bytes ≡ []) (MatchesOf p style place line bytes)
-ShowsBy p Objects invert style place line bytes = bytes ≡ []
+ShowsBy p Objects invert style place line bytes = MatchBool invert (bytes ≡ []) (ObjectsOf p style place line bytes)
 ShowsBy p Count invert style place line bytes = bytes ≡ []
 ShowsBy p Names invert style place line bytes = bytes ≡ []
 ShowsBy p Nothing invert style place line bytes = bytes ≡ []
 
 abbrev pub ShowsLine : Patterns → Job → Place → List ℕ → List ℕ → Type 0
-ShowsLine p job place line bytes = IsTold job → ShowsBy p job.shown job.invert job.style place line bytes
+ShowsLine p job place line bytes = ShowsBy p job.shown job.invert job.style place line bytes
 
 -- that is written, and nothing else
 abbrev pub WritesLine : Patterns → Job → Place → Option (List ℕ) → Option (List ℕ) → List ℕ → Type 0
 WritesLine p job place old new line =
-    (bytes : List ℕ) × ShowsLine p job place line bytes × (IsTold job → Appends old new bytes)
+    (bytes : List ℕ) × ShowsLine p job place line bytes × Appends old new bytes
 
 abbrev pub place_at : ℕ → ℕ → Place
 place_at count offset = record { lines = count; bytes = offset }
@@ -100,12 +103,24 @@ Tells p job place count (line ∷ rest) bytes total =
 pub record TellsLines (p : Patterns) (job : Job) (before after : State) (old new : Option (List ℕ)) (searched : List (List ℕ)) : Type 0 where
   pub bytes : List ℕ
   pub told : Tells p job before.place before.selected searched bytes after.selected
-  pub written : IsTold job → Appends old new bytes
+  pub written : Appends old new bytes
+
+-- whether the numbers of lines are written: where that is asked for, and in objects
+abbrev pub is_numbered : Shown → Bool → Bool
+is_numbered Lines asked = asked
+is_numbered Matches asked = asked
+is_numbered Objects asked = true
+is_numbered Count asked = asked
+is_numbered Names asked = asked
+is_numbered Nothing asked = asked
+
+abbrev pub IsNumbered : Job → Type 0
+IsNumbered job = is_numbered job.shown job.style.number ≡ true
 
 -- two places are the same for what is written; lines are counted only where they are numbered
 pub record SamePlace (job : Job) (one other : Place) : Type 0 where
   pub bytes : one.bytes ≡ other.bytes
-  pub lines : job.style.number ≡ true → one.lines ≡ other.lines
+  pub lines : IsNumbered job → one.lines ≡ other.lines
 
 -- a text is empty or ends in a newline
 abbrev pub EndsLine : List ℕ → Type 0

@@ -1,11 +1,11 @@
 //! Which lines of a text are selected, and what is written of them.
 
-ghost use Rattle.std.specs.Prelude.{◌≡◌, ◌+◌, ◌%◌, ◌^◌, ◌↔◌, ◌⊎◌, ◌≤◌, ◌<◌, [], ◌∷◌, IfOk, IfSome, IsTrue, OnOk, false, true, length};
+ghost use Rattle.std.specs.Prelude.{◌≡◌, ◌+◌, ◌%◌, ◌^◌, ◌↔◌, ◌⊎◌, ◌&&◌, ◌≤◌, ◌<◌, [], ◌∷◌, IfOk, IfSome, IsTrue, OnOk, false, not, true, length};
 ghost use Rattle.memchr.specs.Find.{is_byte, places};
 ghost use Rattle.aho_base.specs.Patterns.{Patterns};
 ghost use Rattle.acgrep.specs.Lines.{lines};
 ghost use Rattle.acgrep.specs.Selected.{HoldNoNewline, IsLine, IsNextLine, IsNoneSelected};
-ghost use Rattle.acgrep.specs.Written.{EachLine, EndsLine, HasMatch, HasNone, IsSettled, SamePlace, SearchesText, SearchesTo, TellsLines, after_line, after_lines, at_begin, WritesLine, needs_one, one_more, place_at};
+ghost use Rattle.acgrep.specs.Written.{EachLine, EndsLine, HasMatch, HasNone, IsNumbered, IsSettled, SamePlace, SearchesText, SearchesTo, TellsLines, after_line, after_lines, at_begin, WritesLine, is_numbered, needs_one, one_more, place_at};
 
 use crate::failure::Stop;
 use crate::json::put_objects;
@@ -28,11 +28,21 @@ pub struct Job<'a> {
 }
 
 impl<'a> Job<'a> {
-    /// Whether lines are numbered.
+    /// Whether the numbers of lines are written.
     fn numbers(&self) -> bool
-        ensures numbered { self.now.style.number ≡ true → result ≡ true }
+        ensures numbered { result ≡ is_numbered self.now.shown self.now.style.number }
     {
-        self.style.number || self.shown == Shown::Objects
+        match self.shown {
+            Shown::Objects => true,
+            _ => self.style.number,
+        }
+    }
+
+    /// Whether the matches of a selected line are coloured.
+    fn colors(&self) -> bool
+        ensures colored { result ≡ (self.now.style.color && not self.now.invert) }
+    {
+        self.style.color && !self.invert
     }
 
     /// Whether the first selected line tells all.
@@ -290,7 +300,7 @@ fn behind_text(job: &Job<'_>, text: &[u8], count: u64, offset: u64) -> Place
 
 /// How many lines stand before what follows a text. They are counted only where lines are numbered.
 fn lines_behind(job: &Job<'_>, text: &[u8], count: u64) -> u64
-    ensures counted { job.now.style.number ≡ true
+    ensures counted { IsNumbered job.now
         → result ≡ (count + length (places (is_byte 10) text.now)) % 2 ^ 64 }
 {
     if job.numbers() {
@@ -319,7 +329,7 @@ fn show<A: Automaton, W: Write>(
         (WritesLine p job.now place (W.contents output.old) (W.contents output.new) line.now) }
 {
     match job.shown {
-        Shown::Lines if job.style.color && !job.invert => {
+        Shown::Lines if job.colors() => {
             put_colored_line(automaton, output, &job.style, place, line)
         }
         Shown::Lines => Ok(put_line(output, &job.style, place, line)?),
