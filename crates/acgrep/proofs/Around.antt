@@ -23,14 +23,14 @@ use Rattle.std.proofs.Math.ListN.{get_or-map}
 pub newline_front : (text : List ℕ) (at place : ℕ) → place < at → IsNewline (take at text) place → IsNewline text place
 newline_front text at place low is = subst (λ b. (b == 10) ≡ true) (get_or-take at text place 0 low) is
 
-front_newline : (text : List ℕ) (at place : ℕ) → place < at → IsNewline text place → IsNewline (take at text) place
+pub front_newline : (text : List ℕ) (at place : ℕ) → place < at → IsNewline text place → IsNewline (take at text) place
 front_newline text at place low is = subst (λ b. (b == 10) ≡ true) (sym (get_or-take at text place 0 low)) is
 
 -- one of what follows a place is one of the text
 pub newline_behind : (text : List ℕ) (at place : ℕ) → IsNewline (drop at text) place → IsNewline text (at + place)
 newline_behind text at place is = subst (λ b. (b == 10) ≡ true) (get_or-drop at text place 0) is
 
-behind_newline : (text : List ℕ) (at place : ℕ) → IsNewline text (at + place) → IsNewline (drop at text) place
+pub behind_newline : (text : List ℕ) (at place : ℕ) → IsNewline text (at + place) → IsNewline (drop at text) place
 behind_newline text at place is = subst (λ b. (b == 10) ≡ true) (sym (get_or-drop at text place 0)) is
 
 -- none at the end of the front and none at the begin of the rest

@@ -7,7 +7,7 @@ use Rattle.memchr.specs.Find.{Nowhere}
 use Rattle.acgrep.specs.Lines.{IsNewline, joined_to, lines}
 
 -- a byte that is no newline belongs to the first line
-lines_joined : (byte : ℕ) (rest : List ℕ) → (byte == 10) ≡ false → lines (byte ∷ rest) ≡ joined_to byte (lines rest)
+pub lines_joined : (byte : ℕ) (rest : List ℕ) → (byte == 10) ≡ false → lines (byte ∷ rest) ≡ joined_to byte (lines rest)
 lines_joined byte rest other = rw other refl
 
 -- a text that is not empty is its first line, and then the lines behind its newline

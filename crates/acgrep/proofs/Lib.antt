@@ -1,2 +1,11 @@
 pub mod Around
+pub mod Coloring
+pub mod FileTellings
+pub mod Fillings
 pub mod FirstLines
+pub mod LineLists
+pub mod NamesSearched
+pub mod Objected
+pub mod PlacesBehind
+pub mod Streams
+pub mod Tellings

@@ -1,5 +1,10 @@
 pub mod Arguments
+pub mod Files
+pub mod Filled
 pub mod Lines
+pub mod Objects
 pub mod Printed
 pub mod Searchers
 pub mod Selected
+pub mod Streamed
+pub mod Written

@@ -1,5 +1,5 @@
 -- What is written of a line, with what stands before it.
-use Rattle.std.specs.Prelude.{ℕ, ◌+◌, ◌%◌, ◌^◌, ◌==◌, ◌&&◌, nat_le, Bool, List, [], ◌∷◌, ◌++◌, Option, None, codes, decimal, length, slice_range, if◌then◌else◌}
+use Rattle.std.specs.Prelude.{ℕ, ◌+◌, ◌%◌, ◌^◌, ◌==◌, ◌&&◌, nat_le, Bool, true, List, [], ◌∷◌, ◌++◌, Option, None, codes, decimal, length, slice_range, if◌then◌else◌}
 use Rattle.std.specs.Io.KnownBytes.{Appends}
 use Rattle.std.specs.List.{flat_map}
 use Rattle.aho_base.specs.Iteration.{AreFinds}
@@ -72,8 +72,32 @@ match_by style place line m =
 abbrev pub matches_by : Style → Place → List ℕ → List Occurrence → List ℕ
 matches_by style place line ms = flat_map (λ m. match_by style place line m) ms
 
+-- the line up to behind a match, from a place of it on, with the match in colour: nothing of an empty one
+abbrev pub colored_by : List ℕ → ℕ → Occurrence → List ℕ
+colored_by line at m =
+    if m.start == m.end then [] else part_of line at m.start ++ painted true (color_of (codes "01;31")) (part_of line m.start m.end)
+
+-- the place behind it
+abbrev pub behind_match : ℕ → Occurrence → ℕ
+behind_match at m = if m.start == m.end then at else m.end
+
+-- what stands in the line from a place on, with each of these matches in colour
+abbrev pub colored_from : List ℕ → ℕ → List Occurrence → List ℕ
+colored_from line at [] = part_of line at (length line)
+colored_from line at (m ∷ ms) = colored_by line at m ++ colored_from line (behind_match at m) ms
+
+-- a line of a file with each of these matches in colour
+abbrev pub colored_line_by : Style → Place → List ℕ → List Occurrence → List ℕ
+colored_line_by style place line ms = head_of style (number_at place) place.bytes ++ (colored_from line 0 ms ++ codes "\n")
+
 -- the matches of a line, one after another, are written and nothing else
 pub record WritesFinds (old new : Option (List ℕ)) (p : Patterns) (style : Style) (place : Place) (line : List ℕ) : Type 0 where
   pub matches : List Occurrence
   pub found : AreFinds p (plain_search line) None matches
   pub written : Appends old new (matches_by style place line matches)
+
+-- a line with its matches in colour is written, and nothing else
+pub record WritesColored (old new : Option (List ℕ)) (p : Patterns) (style : Style) (place : Place) (line : List ℕ) : Type 0 where
+  pub matches : List Occurrence
+  pub found : AreFinds p (plain_search line) None matches
+  pub written : Appends old new (colored_line_by style place line matches)

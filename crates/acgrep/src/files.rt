@@ -1,15 +1,20 @@
 //! Searching the files of a call, one after another.
 
-ghost use Rattle.std.specs.Prelude.{◌≤◌};
+ghost use Rattle.std.specs.Prelude.{◌≡◌, ◌≤◌, ◌<◌, ◌⊎◌, [], IsTrue, OnOk, false, length, true};
+ghost use Rattle.std.specs.Io.KnownBytes.{Appends};
 ghost use Rattle.aho_base.specs.Patterns.{Patterns};
+ghost use Rattle.acgrep.specs.Filled.{Reads};
+ghost use Rattle.acgrep.specs.Files.{AreSearchedOr, EndsFile, IfSearched, IsNamed, LeavesInput, SearchesFile, SearchesName, SearchesNames, SearchesReader, is_enough, is_input, names_of, nothing_seen, or_input, seen_after, status_by, total_if};
+ghost use Rattle.acgrep.specs.Selected.{HoldNoNewline};
 
+use crate::buffer::Buffer;
 use crate::failure::Stop;
-use crate::keys::{INPUT_NAME, open_named, tell_fault};
+use crate::keys::{INPUT, INPUT_NAME, open_named, tell_fault};
 use crate::open::Open;
 use crate::options::Shown;
 use crate::print::{Style, put_count, put_name};
 use crate::select::{Job, State};
-use crate::stream::{Buffer, search_stream};
+use crate::stream::search_stream;
 use crate::tell::{tell, tell_of, tell_write};
 use chromesquid::Automaton;
 use std::alloc::Global;
@@ -27,6 +32,17 @@ pub struct Files<'a, F> {
     pub files: &'a F,
 }
 
+/// What came of a file.
+#[derive(Clone, Copy)]
+enum Outcome {
+    /// It was searched, and a line of it was selected or not.
+    Searched(bool),
+    /// It cannot be read, which was told.
+    Unread,
+    /// Nothing more can be searched, which was told.
+    Stopped,
+}
+
 /// What was seen so far.
 #[derive(Clone, Copy)]
 struct Seen {
@@ -36,6 +52,67 @@ struct Seen {
     failed: bool,
     /// Nothing more is to be searched.
     ended: bool,
+}
+
+impl Seen {
+    /// Nothing.
+    fn new() -> Seen
+        ensures { result ≡ nothing_seen }
+    {
+        Seen {
+            selected: false,
+            failed: false,
+            ended: false,
+        }
+    }
+
+    /// This, and then what came of a file.
+    fn after(self, shown: Shown, outcome: Outcome) -> Seen
+        ensures { result ≡ seen_after shown self outcome }
+    {
+        match outcome {
+            Outcome::Searched(any) => Seen {
+                selected: self.selected || any,
+                failed: self.failed,
+                ended: self.ended || is_enough(shown, any),
+            },
+            Outcome::Unread => Seen {
+                selected: self.selected,
+                failed: true,
+                ended: self.ended,
+            },
+            Outcome::Stopped => Seen {
+                selected: self.selected,
+                failed: true,
+                ended: true,
+            },
+        }
+    }
+
+    /// The status of a call: an error goes before all but a selected line under `-q`.
+    fn status(self, shown: Shown) -> u8
+        ensures { result ≡ status_by shown self }
+    {
+        if is_enough(shown, self.selected) {
+            0
+        } else if self.failed {
+            2
+        } else if self.selected {
+            0
+        } else {
+            1
+        }
+    }
+}
+
+/// Whether nothing more is to be searched where a line is selected or not.
+fn is_enough(shown: Shown, any: bool) -> bool
+    ensures { result ≡ is_enough shown any }
+{
+    match shown {
+        Shown::Nothing => any,
+        _ => false,
+    }
 }
 
 /// Searches all files, and answers the status. A file that cannot be read does not stop the others.
@@ -49,135 +126,240 @@ pub fn search_files<A: Automaton, F: Open, R: Read, W: Write, E: Write>(
 ) -> u8
     requires of { (p : Patterns) × A.is_of automaton.now p }
     ensures bound { result ≤ 2 }
+    ensures searched { (p : Patterns) → A.is_of automaton.now p → HoldNoNewline p → result < 2
+        → AreSearchedOr p job.now (F.holds files.now.files.now) (or_input (names_of files.now.names.now))
+        (R.remaining input.old) (R.remaining input.new)
+        (W.contents output.old) (W.contents output.new) result }
 {
-    let Ok(mut buffer) = Buffer::new(files.alloc) else {
-        tell(errors, &[b"out of memory"]);
-        return 2;
-    };
-    let mut seen = Seen {
-        selected: false,
-        failed: false,
-        ended: false,
-    };
     if files.names.is_empty() {
-        search_input(
+        let names = [INPUT];
+        return search_names(
             automaton,
             job,
-            &mut buffer,
+            files.alloc,
+            files.files,
+            &names,
             input,
-            &mut seen,
             output,
             errors,
         );
     }
-    for name in files.names {
-        if seen.ended {
-            break;
-        }
-        if *name == b"-".as_slice() {
-            search_input(
-                automaton,
-                job,
-                &mut buffer,
-                input,
-                &mut seen,
-                output,
-                errors,
-            );
-        } else {
-            match open_named(files.files, *name) {
-                Ok(mut file) => search_one(
-                    automaton,
-                    job,
-                    *name,
-                    &mut buffer,
-                    &mut file,
-                    &mut seen,
-                    output,
-                    errors,
-                ),
-                Err(error) => {
-                    let _ = output.flush();
-                    tell_fault(*name, &error, errors);
-                    seen.failed = true;
-                }
-            }
-        }
-    }
-    status_of(job.shown, seen)
+    search_names(
+        automaton,
+        job,
+        files.alloc,
+        files.files,
+        files.names,
+        input,
+        output,
+        errors,
+    )
 }
 
-/// The status of a call: an error goes before all but a selected line under `-q`.
-fn status_of(shown: Shown, seen: Seen) -> u8
-    ensures bound { result ≤ 2 }
-{
-    if seen.selected && shown == Shown::Nothing {
-        0
-    } else if seen.failed {
-        2
-    } else if seen.selected {
-        0
-    } else {
-        1
-    }
-}
-
-/// Searches standard input.
-fn search_input<A: Automaton, R: Read, W: Write, E: Write>(
+/// Searches the files of these names, and answers the status.
+fn search_names<A: Automaton, F: Open, R: Read, W: Write, E: Write>(
     automaton: &A,
     job: &Job<'_>,
-    buffer: &mut Buffer,
+    alloc: Global,
+    files: &F,
+    names: &[&[u8]],
     input: &mut R,
-    seen: &mut Seen,
     output: &mut W,
     errors: &mut E,
-)
+) -> u8
     requires of { (p : Patterns) × A.is_of automaton.now p }
+    ensures bound { result ≤ 2 }
+    ensures searched { (p : Patterns) → A.is_of automaton.now p → HoldNoNewline p → result < 2
+        → AreSearchedOr p job.now (F.holds files.now) (names_of names.now)
+        (R.remaining input.old) (R.remaining input.new)
+        (W.contents output.old) (W.contents output.new) result }
 {
-    search_one(
-        automaton, job, INPUT_NAME, buffer, input, seen, output, errors,
+    let Ok(mut buffer) = Buffer::new(alloc) else {
+        tell(errors, &[b"out of memory"]);
+        return 2;
+    };
+    let seen = search_each(
+        automaton,
+        job,
+        files,
+        names,
+        &mut buffer,
+        input,
+        output,
+        errors,
     );
+    seen.status(job.shown)
 }
 
-/// Searches what a reader of this name gives, and writes what is asked of it.
+/// Searches the files of these names, one after another, and answers what was seen.
+fn search_each<A: Automaton, F: Open, R: Read, W: Write, E: Write>(
+    automaton: &A,
+    job: &Job<'_>,
+    files: &F,
+    names: &[&[u8]],
+    buffer: &mut Buffer,
+    input: &mut R,
+    output: &mut W,
+    errors: &mut E,
+) -> Seen
+    requires of { (p : Patterns) × A.is_of automaton.now p }
+    ensures searched { (p : Patterns) → A.is_of automaton.now p → HoldNoNewline p
+        → SearchesNames p job.now (F.holds files.now) (names_of names.now)
+        (R.remaining input.old) (R.remaining input.new)
+        (W.contents output.old) (W.contents output.new) result }
+{
+    let mut seen = Seen::new();
+    let mut rest = names;
+    while goes_on(rest, seen) {
+        let outcome = search_name(
+            automaton, job, files, rest[0], buffer, input, output, errors,
+        );
+        seen = seen.after(job.shown, outcome);
+        rest = &rest[1..];
+    }
+    seen
+}
+
+/// Whether a further file is to be searched.
+fn goes_on(rest: &[&[u8]], seen: Seen) -> bool
+    ensures some { IsTrue result → 0 < length rest.now }
+    ensures going { IsTrue result → seen.ended ≡ false }
+    ensures stops { result ≡ false → (rest.now ≡ []) ⊎ (seen.ended ≡ true) }
+{
+    !rest.is_empty() && !seen.ended
+}
+
+/// Searches the file of a name.
+fn search_name<A: Automaton, F: Open, R: Read, W: Write, E: Write>(
+    automaton: &A,
+    job: &Job<'_>,
+    files: &F,
+    name: &[u8],
+    buffer: &mut Buffer,
+    input: &mut R,
+    output: &mut W,
+    errors: &mut E,
+) -> Outcome
+    requires of { (p : Patterns) × A.is_of automaton.now p }
+    ensures searched { (p : Patterns) → A.is_of automaton.now p → HoldNoNewline p
+        → IfSearched result (SearchesName p job.now (F.holds files.now) name.now
+        (R.remaining input.old) (R.remaining input.new)
+        (W.contents output.old) (W.contents output.new)) }
+    ensures leaves { LeavesInput name.now (R.remaining input.old) (R.remaining input.new) }
+{
+    if is_input(name) {
+        let named = job_for(job, INPUT_NAME);
+        return search_one(automaton, &named, buffer, input, output, errors);
+    }
+    let named = job_for(job, name);
+    search_named(automaton, &named, files, name, buffer, output, errors)
+}
+
+/// Whether this is the name of standard input.
+fn is_input(name: &[u8]) -> bool
+    ensures { result ≡ is_input name.now }
+{
+    name == INPUT
+}
+
+/// Opens the file of a name and searches it.
+fn search_named<A: Automaton, F: Open, W: Write, E: Write>(
+    automaton: &A,
+    job: &Job<'_>,
+    files: &F,
+    name: &[u8],
+    buffer: &mut Buffer,
+    output: &mut W,
+    errors: &mut E,
+) -> Outcome
+    requires of { (p : Patterns) × A.is_of automaton.now p }
+    ensures searched { (p : Patterns) → A.is_of automaton.now p → HoldNoNewline p
+        → IfSearched result (SearchesFile p job.now (F.holds files.now name.now)
+        (W.contents output.old) (W.contents output.new)) }
+{
+    match open_named(files, name) {
+        Ok(mut file) => search_one(automaton, job, buffer, &mut file, output, errors),
+        Err(error) => {
+            let _ = output.flush();
+            tell_fault(name, &error, errors);
+            Outcome::Unread
+        }
+    }
+}
+
+/// Searches what a reader gives, and writes what is asked of it.
 fn search_one<A: Automaton, R: Read, W: Write, E: Write>(
     automaton: &A,
     job: &Job<'_>,
-    name: &[u8],
     buffer: &mut Buffer,
     reader: &mut R,
-    seen: &mut Seen,
     output: &mut W,
     errors: &mut E,
-)
+) -> Outcome
     requires of { (p : Patterns) × A.is_of automaton.now p }
+    ensures searched { (p : Patterns) → A.is_of automaton.now p → HoldNoNewline p
+        → IfSearched result (SearchesReader p job.now
+        (R.remaining reader.old) (R.remaining reader.new)
+        (W.contents output.old) (W.contents output.new)) }
+    ensures reads { Reads (R.remaining reader.old) (R.remaining reader.new) }
 {
-    let named = job_for(job, name);
     let mut state = State::new();
-    let searched = search_stream(automaton, &named, buffer, reader, &mut state, output);
-    seen.selected = seen.selected || state.selected > 0;
-    if let Err(stop) = searched {
-        seen.failed = true;
-        let _ = output.flush();
-        seen.ended = tell_stop(name, &stop, errors);
-    }
-    if !seen.ended {
-        if let Err(error) = put_total(&named, &state, output) {
-            seen.failed = true;
-            tell_write(errors, &error);
-            seen.ended = true;
-        }
-    }
-    if seen.selected && job.shown == Shown::Nothing {
-        seen.ended = true;
+    match search_stream(automaton, job, buffer, reader, &mut state, output) {
+        Ok(()) => end_file(job, &state, output, errors),
+        Err(stop) => break_off(job, &state, &stop, output, errors),
     }
 }
 
-/// Writes what is asked of a file as a whole.
-fn put_total<W: Write>(job: &Job<'_>, state: &State, output: &mut W) -> io::Result<()> {
+/// Writes what is asked of a file that was searched.
+fn end_file<W: Write, E: Write>(
+    job: &Job<'_>,
+    state: &State,
+    output: &mut W,
+    errors: &mut E,
+) -> Outcome
+    ensures ended { IfSearched result (EndsFile job.now state.now.selected
+        (W.contents output.old) (W.contents output.new)) }
+{
+    match put_total(job, state.selected, output) {
+        Ok(()) => Outcome::Searched(state.selected > 0),
+        Err(error) => {
+            tell_write(errors, &error);
+            Outcome::Stopped
+        }
+    }
+}
+
+/// Tells why a search stopped. Of a file that cannot be read to its end is written what is asked of it so far.
+fn break_off<W: Write, E: Write>(
+    job: &Job<'_>,
+    state: &State,
+    stop: &Stop,
+    output: &mut W,
+    errors: &mut E,
+) -> Outcome
+    ensures unsearched { IfSearched result (λ any. ⊥) }
+{
+    let _ = output.flush();
+    if tell_stop(job.style.name, stop, errors) {
+        return Outcome::Stopped;
+    }
+    match put_total(job, state.selected, output) {
+        Ok(()) => Outcome::Unread,
+        Err(error) => {
+            tell_write(errors, &error);
+            Outcome::Stopped
+        }
+    }
+}
+
+/// Writes what is asked of a file as a whole, of which this many lines were selected.
+fn put_total<W: Write>(job: &Job<'_>, selected: u64, output: &mut W) -> io::Result<()>
+    ensures written { OnOk result (Appends (W.contents output.old) (W.contents output.new)
+        (total_if job.now.shown job.now.style selected)) }
+{
     match job.shown {
-        Shown::Count => put_count(output, &job.style, state.selected),
-        Shown::Names if state.selected > 0 => put_name(output, &job.style),
+        Shown::Count => put_count(output, &job.style, selected),
+        Shown::Names if selected > 0 => put_name(output, &job.style),
         _ => Ok(()),
     }
 }
@@ -205,7 +387,9 @@ fn tell_stop<E: Write>(name: &[u8], stop: &Stop, errors: &mut E) -> bool {
 }
 
 /// What is written of the file of this name.
-fn job_for<'a>(job: &Job<'_>, name: &'a [u8]) -> Job<'a> {
+fn job_for<'a>(job: &Job<'_>, name: &'a [u8]) -> Job<'a>
+    ensures named { IsNamed job.now name.now result }
+{
     Job {
         shown: job.shown,
         invert: job.invert,

@@ -1,8 +1,11 @@
 //! A match as a JSON object.
 
 ghost use Rattle.std.specs.Iterator.{IsFinite};
-ghost use Rattle.std.specs.Prelude.{◌<◌};
+ghost use Rattle.std.specs.Iterator.Runs.{WholeRun};
+ghost use Rattle.std.specs.Prelude.{◌≡◌, ◌<◌, ◌++◌, OnOk, decimal};
+ghost use Rattle.std.specs.Io.KnownBytes.{Appends};
 ghost use Rattle.aho_base.specs.Patterns.{Patterns};
+ghost use Rattle.acgrep.specs.Objects.{WritesObjects, escaped, escaped_byte, hex_of, object_by, objects_by};
 
 use crate::failure::Stop;
 use crate::print::{DIGITS, Place, Style, put_digits};
@@ -19,11 +22,15 @@ pub fn put_objects<A: Automaton, W: Write>(
     line: &[u8],
 ) -> Result<(), Stop>
     requires of { (p : Patterns) × A.is_of automaton.now p }
+    ensures written { (p : Patterns) → A.is_of automaton.now p → OnOk result (WritesObjects
+        (W.contents output.old) (W.contents output.new) p style.now place line.now) }
 {
     let matches = automaton.try_find_iter(Input::new(line))?;
-    Ok(put_each(output, style, place, matches)?)
+    put_each(output, style, place, matches)?;
+    Ok(())
 }
 
+/// Writes each of some matches of a line.
 fn put_each<W: Write, I: Iterator<Item = Match> + Drop>(
     output: &mut W,
     style: &Style<'_>,
@@ -32,43 +39,61 @@ fn put_each<W: Write, I: Iterator<Item = Match> + Drop>(
 ) -> io::Result<()>
     requires ready { I.can_next matches }
     requires finite { IsFinite (I.remaining matches) }
+    ensures written { OnOk result (WholeRun I.next_gives matches (λ run.
+        Appends (W.contents output.old) (W.contents output.new)
+        (objects_by style.now place run.items))) }
 {
     for found in matches {
-        if found.start() < found.end() {
-            put_object(output, style.name, place, &found)?;
-        }
+        put_object(output, style, place, &found)?;
     }
     Ok(())
 }
 
-/// Writes a match: the file's name, the line's number, the range in the file in bytes, and the pattern's number from 0 on.
+/// Writes a match, if it is not empty: the file's name, the line's number, the range in the file in bytes, and the
+/// pattern's number from 0 on.
 fn put_object<W: Write>(
     output: &mut W,
-    name: &[u8],
+    style: &Style<'_>,
     place: Place,
     found: &Match,
-) -> io::Result<()> {
+) -> io::Result<()>
+    ensures written { OnOk result (Appends (W.contents output.old) (W.contents output.new)
+        (object_by style.now place found.now)) }
+{
+    let start = found.start();
+    let end = found.end();
+    if start == end {
+        return Ok(());
+    }
+    let first = place.bytes.wrapping_add(start as u64);
+    let behind = place.bytes.wrapping_add(end as u64);
     output.write_all(b"{\"file\":\"")?;
-    put_escaped(output, name)?;
+    put_escaped(output, style.name)?;
     put_field(output, b"\",\"line\":", place.lines.wrapping_add(1))?;
-    let start = place.bytes.wrapping_add(found.start() as u64);
-    put_field(output, b",\"start\":", start)?;
-    let end = place.bytes.wrapping_add(found.end() as u64);
-    put_field(output, b",\"end\":", end)?;
+    put_field(output, b",\"start\":", first)?;
+    put_field(output, b",\"end\":", behind)?;
     put_field(output, b",\"pattern\":", found.pattern().as_usize() as u64)?;
-    output.write_all(b"}\n")
+    output.write_all(b"}\n")?;
+    Ok(())
 }
 
 /// Writes what stands before a number, and the number.
-fn put_field<W: Write>(output: &mut W, before: &[u8], number: u64) -> io::Result<()> {
+fn put_field<W: Write>(output: &mut W, before: &[u8], number: u64) -> io::Result<()>
+    ensures written { OnOk result (Appends (W.contents output.old) (W.contents output.new)
+        (before.now ++ decimal number)) }
+{
     let mut digits = [0; DIGITS];
     let start = put_digits(number, &mut digits);
     output.write_all(before)?;
-    output.write_all(&digits[start..])
+    output.write_all(&digits[start..])?;
+    Ok(())
 }
 
 /// Writes bytes as they stand in a JSON string.
-fn put_escaped<W: Write>(output: &mut W, bytes: &[u8]) -> io::Result<()> {
+fn put_escaped<W: Write>(output: &mut W, bytes: &[u8]) -> io::Result<()>
+    ensures written { OnOk result (Appends (W.contents output.old) (W.contents output.new)
+        (escaped bytes.now)) }
+{
     for byte in bytes {
         put_byte(output, *byte)?;
     }
@@ -76,7 +101,10 @@ fn put_escaped<W: Write>(output: &mut W, bytes: &[u8]) -> io::Result<()> {
 }
 
 /// Writes a byte as it stands in a JSON string.
-fn put_byte<W: Write>(output: &mut W, byte: u8) -> io::Result<()> {
+fn put_byte<W: Write>(output: &mut W, byte: u8) -> io::Result<()>
+    ensures written { OnOk result (Appends (W.contents output.old) (W.contents output.new)
+        (escaped_byte byte)) }
+{
     match byte {
         b'"' => output.write_all(b"\\\""),
         b'\\' => output.write_all(b"\\\\"),
@@ -85,15 +113,17 @@ fn put_byte<W: Write>(output: &mut W, byte: u8) -> io::Result<()> {
             b'u',
             b'0',
             b'0',
-            b'0' + byte / 16,
+            hex_digit(byte / 16),
             hex_digit(byte % 16),
         ]),
         _ => output.write_all(&[byte]),
     }
 }
 
+/// The digit of a number below 16.
 fn hex_digit(value: u8) -> u8
     requires { value < 16 }
+    ensures digit { result ≡ hex_of value }
 {
     if value < 10 {
         b'0' + value

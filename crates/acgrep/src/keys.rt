@@ -1,5 +1,8 @@
 //! Reading the patterns that a call names, and telling which one is refused.
 
+ghost use Rattle.std.specs.Prelude.{IfOk};
+ghost use Rattle.std.specs.Io.KnownBytes.{Keeps};
+
 use crate::arguments::Source;
 use crate::open::Open;
 use crate::patterns::Keys;
@@ -10,6 +13,9 @@ use std::alloc::Global;
 use std::fmt::{InlineText, Write as _};
 use std::io::{ErrorKind, Read, Write};
 use std::{io, str};
+
+/// The name of standard input among the arguments.
+pub const INPUT: &[u8] = b"-";
 
 /// The name of standard input in what is written.
 pub const INPUT_NAME: &[u8] = b"(standard input)";
@@ -57,7 +63,7 @@ fn read_file<F: Open, R: Read>(
 ) -> io::Result<()> {
     keys.begin()?;
     let start = keys.text.len();
-    if name == b"-".as_slice() {
+    if name == INPUT {
         input.read_to_end(&mut keys.text)?;
     } else {
         let mut file = open_named(files, name)?;
@@ -67,7 +73,10 @@ fn read_file<F: Open, R: Read>(
 }
 
 /// Opens a file by the bytes of its name.
-pub fn open_named<F: Open>(files: &F, name: &[u8]) -> io::Result<F::File> {
+pub fn open_named<F: Open>(files: &F, name: &[u8]) -> io::Result<F::File>
+    ensures told { IfOk result (λ file.
+        Keeps (F.holds files.now name.now) (F.File.remaining file)) }
+{
     match str::from_utf8(name) {
         Ok(text) => files.open(text),
         Err(_) => Err(io::Error::from(ErrorKind::InvalidInput)),

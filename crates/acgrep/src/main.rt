@@ -5,6 +5,7 @@
 #![tactic(auto)]
 
 mod arguments;
+mod buffer;
 mod failure;
 mod files;
 mod help;

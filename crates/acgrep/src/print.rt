@@ -2,10 +2,10 @@
 
 ghost use Rattle.std.specs.Iterator.{IsFinite};
 ghost use Rattle.std.specs.Iterator.Runs.{WholeRun};
-ghost use Rattle.std.specs.Prelude.{◌≡◌, ◌≤◌, OnOk, decimal, drop};
+ghost use Rattle.std.specs.Prelude.{◌≡◌, ◌≤◌, IfOk, OnOk, decimal, drop};
 ghost use Rattle.std.specs.Io.KnownBytes.{Appends};
 ghost use Rattle.aho_base.specs.Patterns.{Patterns};
-ghost use Rattle.acgrep.specs.Printed.{WritesFinds, count_by, file_line, head_of, line_by, match_by, matches_by, name_part, number_by, number_if, painted, part_by, part_of};
+ghost use Rattle.acgrep.specs.Printed.{WritesColored, WritesFinds, behind_match, colored_by, colored_from, count_by, file_line, head_of, line_by, match_by, matches_by, name_part, number_by, number_if, painted, part_by, part_of};
 
 use crate::failure::Stop;
 use chromesquid::{Automaton, Input, Match};
@@ -162,14 +162,17 @@ pub fn put_colored_line<A: Automaton, W: Write>(
     line: &[u8],
 ) -> Result<(), Stop>
     requires of { (p : Patterns) × A.is_of automaton.now p }
+    ensures written { (p : Patterns) → A.is_of automaton.now p → OnOk result (WritesColored
+        (W.contents output.old) (W.contents output.new) p style.now place line.now) }
 {
     put_head(output, style, place.lines.wrapping_add(1), place.bytes)?;
     let matches = automaton.try_find_iter(Input::new(line))?;
     put_colored(output, line, matches)?;
-    Ok(output.write_all(b"\n")?)
+    output.write_all(b"\n")?;
+    Ok(())
 }
 
-/// Writes the bytes of a line with its matches coloured.
+/// Writes the bytes of a line with some matches of it coloured.
 fn put_colored<W: Write, I: Iterator<Item = Match> + Drop>(
     output: &mut W,
     line: &[u8],
@@ -177,21 +180,33 @@ fn put_colored<W: Write, I: Iterator<Item = Match> + Drop>(
 ) -> io::Result<()>
     requires ready { I.can_next matches }
     requires finite { IsFinite (I.remaining matches) }
+    ensures written { OnOk result (WholeRun I.next_gives matches (λ run.
+        Appends (W.contents output.old) (W.contents output.new)
+        (colored_from line.now 0 run.items))) }
 {
     let mut at = 0;
     for found in matches {
-        if found.start() < found.end() {
-            output.write_all(part(line, at, found.start()))?;
-            put_painted(
-                output,
-                true,
-                MATCH_COLOR,
-                part(line, found.start(), found.end()),
-            )?;
-            at = found.end();
-        }
+        at = put_up_to(output, line, at, &found)?;
     }
-    output.write_all(part(line, at, line.len()))
+    output.write_all(part(line, at, line.len()))?;
+    Ok(())
+}
+
+/// Writes a line from a place on up to the end of a match, which is coloured, and answers that end. An empty match
+/// changes nothing.
+fn put_up_to<W: Write>(output: &mut W, line: &[u8], at: usize, found: &Match) -> io::Result<usize>
+    ensures behind { IfOk result (λ behind. behind ≡ behind_match at found.now) }
+    ensures written { OnOk result (Appends (W.contents output.old) (W.contents output.new)
+        (colored_by line.now at found.now)) }
+{
+    let start = found.start();
+    let end = found.end();
+    if end == start {
+        return Ok(at);
+    }
+    output.write_all(part(line, at, start))?;
+    put_painted(output, true, MATCH_COLOR, part(line, start, end))?;
+    Ok(end)
 }
 
 /// Writes each match of a line that is not empty, with what stands before it.

@@ -1,8 +1,11 @@
 //! Which lines of a text are selected, and what is written of them.
 
-ghost use Rattle.std.specs.Prelude.{◌≡◌, ◌≤◌, ◌<◌, IfOk, IfSome, IsTrue, OnOk, false, length};
+ghost use Rattle.std.specs.Prelude.{◌≡◌, ◌+◌, ◌%◌, ◌^◌, ◌↔◌, ◌⊎◌, ◌&&◌, ◌≤◌, ◌<◌, [], ◌∷◌, IfOk, IfSome, IsTrue, OnOk, false, not, true, length};
+ghost use Rattle.memchr.specs.Find.{is_byte, places};
 ghost use Rattle.aho_base.specs.Patterns.{Patterns};
+ghost use Rattle.acgrep.specs.Lines.{lines};
 ghost use Rattle.acgrep.specs.Selected.{HoldNoNewline, IsLine, IsNextLine, IsNoneSelected};
+ghost use Rattle.acgrep.specs.Written.{EachLine, EndsLine, HasMatch, HasNone, IsNumbered, IsSettled, SamePlace, SearchesText, SearchesTo, TellsLines, after_line, after_lines, at_begin, WritesLine, is_numbered, needs_one, one_more, place_at};
 
 use crate::failure::Stop;
 use crate::json::put_objects;
@@ -25,21 +28,44 @@ pub struct Job<'a> {
 }
 
 impl<'a> Job<'a> {
-    /// Whether lines are numbered.
-    fn numbers(&self) -> bool {
-        self.style.number || self.shown == Shown::Objects
+    /// Whether the numbers of lines are written.
+    fn numbers(&self) -> bool
+        ensures numbered { result ≡ is_numbered self.now.shown self.now.style.number }
+    {
+        match self.shown {
+            Shown::Objects => true,
+            _ => self.style.number,
+        }
+    }
+
+    /// Whether the matches of a selected line are coloured.
+    fn colors(&self) -> bool
+        ensures colored { result ≡ (self.now.style.color && not self.now.invert) }
+    {
+        self.style.color && !self.invert
     }
 
     /// Whether the first selected line tells all.
-    fn needs_one(&self) -> bool {
-        self.shown == Shown::Names || self.shown == Shown::Nothing
+    fn needs_one(&self) -> bool
+        ensures one { result ≡ needs_one self.now.shown }
+    {
+        matches!(self.shown, Shown::Names | Shown::Nothing)
     }
 
     /// Whether no further line changes what is written.
     pub fn is_done(&self, state: &State) -> bool
         ensures only { IsTrue result → 0 < state.now.selected }
+        ensures settled { IsTrue result ↔ IsSettled self.now state.now }
     {
         self.needs_one() && state.selected > 0
+    }
+
+    /// Whether what is left of a text is to be searched.
+    fn goes_on(&self, left: &[u8], state: &State) -> bool
+        ensures some { IsTrue result → 0 < length left.now }
+        ensures ends { result ≡ false → (left.now ≡ []) ⊎ IsSettled self.now state.now }
+    {
+        !left.is_empty() && !self.is_done(state)
     }
 }
 
@@ -54,7 +80,9 @@ pub struct State {
 
 impl State {
     /// At the begin of a file.
-    pub fn new() -> State {
+    pub fn new() -> State
+        ensures begin { result ≡ at_begin }
+    {
         State {
             place: Place { lines: 0, bytes: 0 },
             selected: 0,
@@ -104,22 +132,47 @@ pub fn search_text<A: Automaton, W: Write>(
     // Where no line was selected, no pattern occurs.
     ensures none { (p : Patterns) → A.is_of automaton.now p → HoldNoNewline p →
         OnOk result (IsNoneSelected p job.now text.now state.new) }
+
+    // What is told of the lines is written, in order.
+    ensures written { (p : Patterns) → A.is_of automaton.now p → HoldNoNewline p →
+        OnOk result (SearchesText p job.now state.old state.new
+        (W.contents output.old) (W.contents output.new) text.now) }
 {
     let mut rest = text;
-    while !rest.is_empty() && !job.is_done(state) {
-        match next_line(automaton, rest)? {
-            Some(line) => {
-                pass_others(automaton, job, &rest[..line.start], state, output)?;
-                pass_matched(automaton, job, &rest[line.start..line.end], state, output)?;
-                rest = behind(rest, line.end);
-            }
-            None => {
-                pass_others(automaton, job, rest, state, output)?;
-                rest = &rest[rest.len()..];
-            }
-        }
+    while job.goes_on(rest, state) {
+        rest = search_some(automaton, job, rest, state, output)?;
     }
     Ok(())
+}
+
+/// Searches the lines up to the first with a match and that one, and answers what follows.
+fn search_some<'t, A: Automaton, W: Write>(
+    automaton: &A,
+    job: &Job<'_>,
+    text: &'t [u8],
+    state: &mut State,
+    output: &mut W,
+) -> Result<&'t [u8], Stop>
+    requires of { (p : Patterns) × A.is_of automaton.now p }
+    requires some { 0 < length text.now }
+    ensures shorter { IfOk result (λ left. length left.now < length text.now) }
+    ensures none { (p : Patterns) → A.is_of automaton.now p → HoldNoNewline p → job.now.invert ≡ false
+        → OnOk result (state.new.selected ≡ 0 → (state.old.selected ≡ 0) × HasNone p text.now) }
+    ensures written { (p : Patterns) → A.is_of automaton.now p → HoldNoNewline p →
+        IfOk result (λ left. SearchesTo p job.now state.old state.new
+        (W.contents output.old) (W.contents output.new) text.now left.now) }
+{
+    match next_line(automaton, text)? {
+        Some(line) => {
+            pass_others(automaton, job, &text[..line.start], state, output)?;
+            pass_matched(automaton, job, &text[line.start..line.end], state, output)?;
+            Ok(behind(text, line.end))
+        }
+        None => {
+            pass_others(automaton, job, text, state, output)?;
+            Ok(&text[text.len()..])
+        }
+    }
 }
 
 /// Goes over a line with a match.
@@ -132,11 +185,35 @@ fn pass_matched<A: Automaton, W: Write>(
 ) -> Result<(), Stop>
     requires of { (p : Patterns) × A.is_of automaton.now p }
     ensures selected { job.now.invert ≡ false → OnOk result (0 < state.new.selected) }
+    ensures placed { OnOk result (state.new.place ≡ after_line state.old.place line.now) }
+    ensures written { (p : Patterns) → A.is_of automaton.now p → HasMatch p line.now
+        → OnOk result (TellsLines p job.now state.old state.new
+        (W.contents output.old) (W.contents output.new) (line.now ∷ [])) }
 {
-    if !job.invert {
-        show(automaton, job, line, state.place, output)?;
-        state.selected = state.selected.saturating_add(1);
+    if job.invert {
+        state.place = behind_line(state.place, line);
+        return Ok(());
     }
+    pass_selected(automaton, job, line, state, output)
+}
+
+/// Goes over a selected line.
+fn pass_selected<A: Automaton, W: Write>(
+    automaton: &A,
+    job: &Job<'_>,
+    line: &[u8],
+    state: &mut State,
+    output: &mut W,
+) -> Result<(), Stop>
+    requires of { (p : Patterns) × A.is_of automaton.now p }
+    ensures counted { OnOk result (state.new.selected ≡ one_more state.old.selected) }
+    ensures placed { OnOk result (state.new.place ≡ after_line state.old.place line.now) }
+    ensures shown { (p : Patterns) → A.is_of automaton.now p → OnOk result
+        (WritesLine p job.now state.old.place
+        (W.contents output.old) (W.contents output.new) line.now) }
+{
+    show(automaton, job, line, state.place, output)?;
+    state.selected = state.selected.saturating_add(1);
     state.place = behind_line(state.place, line);
     Ok(())
 }
@@ -145,31 +222,55 @@ fn pass_matched<A: Automaton, W: Write>(
 fn pass_others<A: Automaton, W: Write>(
     automaton: &A,
     job: &Job<'_>,
-    lines: &[u8],
+    text: &[u8],
     state: &mut State,
     output: &mut W,
 ) -> Result<(), Stop>
     requires of { (p : Patterns) × A.is_of automaton.now p }
     ensures selected { job.now.invert ≡ false
         → OnOk result (state.new.selected ≡ state.old.selected) }
+    ensures placed { EndsLine text.now → OnOk result
+        (SamePlace job.now state.new.place (after_lines state.old.place (lines text.now))) }
+    ensures written { (p : Patterns) → A.is_of automaton.now p
+        → EachLine (HasNone p) (lines text.now)
+        → OnOk result (TellsLines p job.now state.old state.new
+        (W.contents output.old) (W.contents output.new) (lines text.now)) }
 {
-    if !job.invert {
-        skip(job, lines, state);
-        return Ok(());
+    if job.invert {
+        return pass_each(automaton, job, text, state, output);
     }
-    let mut rest = lines;
+    skip(job, text, state);
+    Ok(())
+}
+
+/// Goes over lines that are all selected.
+fn pass_each<A: Automaton, W: Write>(
+    automaton: &A,
+    job: &Job<'_>,
+    text: &[u8],
+    state: &mut State,
+    output: &mut W,
+) -> Result<(), Stop>
+    requires of { (p : Patterns) × A.is_of automaton.now p }
+    ensures placed { OnOk result (state.new.place ≡ after_lines state.old.place (lines text.now)) }
+    ensures written { (p : Patterns) → A.is_of automaton.now p → job.now.invert ≡ true
+        → EachLine (HasNone p) (lines text.now)
+        → OnOk result (TellsLines p job.now state.old state.new
+        (W.contents output.old) (W.contents output.new) (lines text.now)) }
+{
+    let mut rest = text;
     while !rest.is_empty() {
-        let line = &rest[..line_end(rest)];
-        show(automaton, job, line, state.place, output)?;
-        state.selected = state.selected.saturating_add(1);
-        state.place = behind_line(state.place, line);
-        rest = behind(rest, line.len());
+        let end = line_end(rest);
+        pass_selected(automaton, job, &rest[..end], state, output)?;
+        rest = behind(rest, end);
     }
     Ok(())
 }
 
 /// The place behind a line and its newline.
-fn behind_line(place: Place, line: &[u8]) -> Place {
+fn behind_line(place: Place, line: &[u8]) -> Place
+    ensures place { result ≡ after_line place line.now }
+{
     Place {
         lines: place.lines.wrapping_add(1),
         bytes: place.bytes.wrapping_add(line.len() as u64).wrapping_add(1),
@@ -177,14 +278,42 @@ fn behind_line(place: Place, line: &[u8]) -> Place {
 }
 
 /// Goes over lines that are not selected.
-fn skip(job: &Job<'_>, lines: &[u8], state: &mut State)
+fn skip(job: &Job<'_>, text: &[u8], state: &mut State)
     ensures selected { state.new.selected ≡ state.old.selected }
+    ensures placed { EndsLine text.now
+        → SamePlace job.now state.new.place (after_lines state.old.place (lines text.now)) }
+{
+    let place = state.place;
+    state.place = behind_text(job, text, place.lines, place.bytes);
+}
+
+/// The place behind a text, from how many lines and bytes stand before it.
+fn behind_text(job: &Job<'_>, text: &[u8], count: u64, offset: u64) -> Place
+    ensures placed { EndsLine text.now
+        → SamePlace job.now result (after_lines (place_at count offset) (lines text.now)) }
+{
+    Place {
+        lines: lines_behind(job, text, count),
+        bytes: offset.wrapping_add(text.len() as u64),
+    }
+}
+
+/// How many lines stand before what follows a text. They are counted only where lines are numbered.
+fn lines_behind(job: &Job<'_>, text: &[u8], count: u64) -> u64
+    ensures counted { IsNumbered job.now
+        → result ≡ (count + length (places (is_byte 10) text.now)) % 2 ^ 64 }
 {
     if job.numbers() {
-        let count = memchr_iter(b'\n', lines).count();
-        state.place.lines = state.place.lines.wrapping_add(count as u64);
+        return count.wrapping_add(newlines(text));
     }
-    state.place.bytes = state.place.bytes.wrapping_add(lines.len() as u64);
+    count
+}
+
+/// How many newlines a text has.
+fn newlines(text: &[u8]) -> u64
+    ensures count { result ≡ length (places (is_byte 10) text.now) }
+{
+    memchr_iter(b'\n', text).count() as u64
 }
 
 /// Writes what is asked of a selected line.
@@ -196,9 +325,11 @@ fn show<A: Automaton, W: Write>(
     output: &mut W,
 ) -> Result<(), Stop>
     requires of { (p : Patterns) × A.is_of automaton.now p }
+    ensures shown { (p : Patterns) → A.is_of automaton.now p → OnOk result
+        (WritesLine p job.now place (W.contents output.old) (W.contents output.new) line.now) }
 {
     match job.shown {
-        Shown::Lines if job.style.color && !job.invert => {
+        Shown::Lines if job.colors() => {
             put_colored_line(automaton, output, &job.style, place, line)
         }
         Shown::Lines => Ok(put_line(output, &job.style, place, line)?),

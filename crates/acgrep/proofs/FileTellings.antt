@@ -1,0 +1,193 @@
+-- What is written of a file, from what was searched of its reader.
+use Rattle.std.proofs.Common.{◌≡◌, inl, inr, ◌⊎◌, ℕ, ◌+◌, ◌-◌, ◌^◌, ◌≤◌, ◌<◌, Bool, true, false, List, [], ◌∷◌, ◌++◌, Option, None, Some, IfSome, length, refl, sym, ◌∙◌, ap, subst, arith, append_assoc, append-nil}
+use Rattle.std.specs.Prelude.{MatchBool, codes, if◌then◌else◌, nat_lt}
+use Rattle.std.specs.Io.KnownBytes.{Appends, Consumes, IsAtEnd, Keeps}
+use Rattle.std.proofs.KnownBytes.{Appends-trans}
+use Rattle.std.proofs.lemmas.Bool.{cases_Bool, lt-ltb, ltb-false, ltb-true}
+use Rattle.aho_base.specs.Patterns.{Patterns}
+use Rattle.acgrep.specs.Files.{EndsFile, IfSearched, IsAny, IsNamed, IsRead, SearchesFile, SearchesName, SearchesReader, SomeLine, TellsBy, count_if, is_input, total_if}
+use Rattle.acgrep.specs.Lines.{lines}
+use Rattle.acgrep.specs.Printed.{file_line}
+use Rattle.acgrep.specs.Streamed.{SearchesStream, course}
+use Rattle.acgrep.specs.Written.{EachLine, IsPassed, IsSelected, ShowsBy, Tells, at_begin, needs_one, one_more, place_at}
+use Rattle.acgrep.specs.declared.files.Outcome.{Outcome}
+use Rattle.acgrep.specs.declared.files.Outcome.TheVariants.{Searched, Unread, Stopped}
+use Rattle.acgrep.specs.declared.options.Shown.{Shown}
+use Rattle.acgrep.specs.declared.options.Shown.TheVariants.{Lines, Matches, Objects, Count, Names, Nothing}
+use Rattle.acgrep.specs.declared.print.Place.{Place}
+use Rattle.acgrep.specs.declared.print.Style.{Style}
+use Rattle.acgrep.specs.declared.select.Job.{Job}
+use Rattle.acgrep.specs.declared.select.State.{State}
+use Rattle.acgrep.proofs.LineLists.{lines_append}
+
+-- where one selected line tells all nothing is written of it
+shows_none : (p : Patterns) (shown : Shown) (invert : Bool) (style : Style) (place : Place) (line bytes : List ℕ) → needs_one shown ≡ true
+    → ShowsBy p shown invert style place line bytes → bytes ≡ []
+shows_none p Lines invert style place line bytes one shows = absurd (cc)
+shows_none p Matches invert style place line bytes one shows = absurd (cc)
+shows_none p Objects invert style place line bytes one shows = absurd (cc)
+shows_none p Count invert style place line bytes one shows = absurd (cc)
+shows_none p Names invert style place line bytes one shows = shows
+shows_none p Nothing invert style place line bytes one shows = shows
+
+more_positive : (count : ℕ) → 0 < one_more count
+more_positive count = omega arith
+
+some_front : (P : List ℕ → Type 0) (ls ms : List (List ℕ)) → SomeLine P ls → SomeLine P (ls ++ ms)
+some_front P [] ms some = absurd some
+some_front P (line ∷ ls) ms (inl here) = inl here
+some_front P (line ∷ ls) ms (inr later) = inr (some_front P ls ms later)
+
+-- the text of a reader of which some bytes were read
+text_behind : (left left' : Option (List ℕ)) (bytes : List ℕ) → Consumes left left' bytes
+    → (more : List ℕ) × IfSome left (λ (all : List ℕ). bytes ++ more ≡ all) × (IsAtEnd left' → more ≡ [])
+text_behind None left' bytes read = ([], tt, λ _. refl)
+text_behind (Some all) None bytes read = absurd read
+text_behind (Some all) (Some rest) bytes read = (rest, sym read, λ end. end)
+
+module _ (p : Patterns) (job : Job) where
+  tells_none : (ls : List (List ℕ)) (place : Place) (count : ℕ) (bytes : List ℕ) (total : ℕ) → needs_one job.shown ≡ true → Tells p job place count ls bytes total → bytes ≡ []
+  tells_none [] place count bytes total one told = told.0
+  tells_none (line ∷ rest) place count bytes total one (inl (selected, (shown, more, shows, behind, is))) =
+      is ∙ ap (λ (l : List ℕ). l ++ more) (shows_none p job.shown job.invert job.style place line shown one shows)
+      ∙ tells_none rest _ (one_more count) more total one behind
+  tells_none (line ∷ rest) place count bytes total one (inr (passed, behind)) = tells_none rest _ count bytes total one behind
+
+  -- the count only grows
+  tells_positive : (ls : List (List ℕ)) (place : Place) (count : ℕ) (bytes : List ℕ) (total : ℕ) → Tells p job place count ls bytes total → 0 < count → 0 < total
+  tells_positive [] place count bytes total told some = omega (arith, told.1, some)
+  tells_positive (line ∷ rest) place count bytes total (inl (selected, (shown, more, shows, behind, is))) some =
+      tells_positive rest _ (one_more count) more total behind (more_positive count)
+  tells_positive (line ∷ rest) place count bytes total (inr (passed, behind)) some = tells_positive rest _ count bytes total behind some
+
+  -- where it is not 0 a line is selected
+  tells_some : (ls : List (List ℕ)) (place : Place) (count : ℕ) (bytes : List ℕ) (total : ℕ) → Tells p job place count ls bytes total → count ≡ 0 → 0 < total
+      → SomeLine (IsSelected p job.invert) ls
+  tells_some [] place count bytes total told zero some = absurd (omega (arith, told.1, zero, some))
+  tells_some (line ∷ rest) place count bytes total (inl (selected, told)) zero some = inl selected
+  tells_some (line ∷ rest) place count bytes total (inr (passed, behind)) zero some = inr (tells_some rest _ count bytes total behind zero some)
+
+  -- and where it is, none
+  tells_each : (ls : List (List ℕ)) (place : Place) (count : ℕ) (bytes : List ℕ) (total : ℕ) → Tells p job place count ls bytes total → total ≡ 0
+      → EachLine (IsPassed p job.invert) ls
+  tells_each [] place count bytes total told zero = tt
+  tells_each (line ∷ rest) place count bytes total (inl (selected, (shown, more, shows, behind, is))) zero =
+      absurd (omega (arith, zero, tells_positive rest _ (one_more count) more total behind (more_positive count)))
+  tells_each (line ∷ rest) place count bytes total (inr (passed, behind)) zero = (passed, tells_each rest _ count bytes total behind zero)
+
+  -- whether one is selected
+  tells_any : (ls : List (List ℕ)) (place : Place) (bytes : List ℕ) (total : ℕ) → Tells p job place 0 ls bytes total → IsAny p job.invert ls (nat_lt 0 total)
+  tells_any ls place bytes total told =
+      elim (cases_Bool (nat_lt 0 total)) [
+        | inl some ↦ rw some (tells_some ls place 0 bytes total told refl (ltb-true 0 total some))
+        | inr none ↦ rw none (tells_each ls place 0 bytes total told (omega (arith, ltb-false 0 total none)))
+      ]
+
+  -- what is written of a whole text
+  by_whole : (shown : Shown) → shown ≡ job.shown → (text told : List ℕ) (count : ℕ) → Tells p job (place_at 0 0) 0 (lines text) told count
+      → TellsBy p job shown text (nat_lt 0 count) (told ++ total_if shown job.style count)
+  by_whole Lines is text told count tells = (told, count, tells, ap (λ (shown : Shown). told ++ count_if shown job.style count) is)
+  by_whole Matches is text told count tells = (told, count, tells, ap (λ (shown : Shown). told ++ count_if shown job.style count) is)
+  by_whole Objects is text told count tells = (told, count, tells, ap (λ (shown : Shown). told ++ count_if shown job.style count) is)
+  by_whole Count is text told count tells = (told, count, tells, ap (λ (shown : Shown). told ++ count_if shown job.style count) is)
+  by_whole Names is text told count tells =
+      ap (λ (l : List ℕ). l ++ total_if Names job.style count) (tells_none (lines text) (place_at 0 0) 0 told count (ap needs_one (sym is)) tells)
+  by_whole Nothing is text told count tells =
+      ap (λ (l : List ℕ). l ++ []) (tells_none (lines text) (place_at 0 0) 0 told count (ap needs_one (sym is)) tells)
+
+  -- and where one selected line told all
+  by_front : (shown : Shown) (text : List ℕ) (count : ℕ) → needs_one shown ≡ true → 0 < count → TellsBy p job shown text true (total_if shown job.style count)
+  by_front Lines text count one some = absurd (cc)
+  by_front Matches text count one some = absurd (cc)
+  by_front Objects text count one some = absurd (cc)
+  by_front Count text count one some = absurd (cc)
+  by_front Names text count one some =
+      let is : nat_lt 0 count ≡ true = lt-ltb 0 count some in
+      ap (λ (any : Bool). if any then file_line job.style else []) is
+  by_front Nothing text count one some = refl
+
+  -- all of a text was searched
+  file_whole : (state : State) (known held meanwhile held' : Option (List ℕ)) (text told : List ℕ) → IfSome known (λ (all : List ℕ). text ≡ all)
+      → Tells p job (place_at 0 0) 0 (lines text) told state.selected → Appends held meanwhile told → (any : Bool) → EndsFile job state.selected meanwhile held' any
+      → SearchesFile p job known held held' any
+  file_whole state known held meanwhile held' text told of tells written any ends =
+      let count = state.selected in
+      record {
+        text = text;
+        of = of;
+        selected = subst (IsAny p job.invert (lines text)) (sym ends.is_any) (tells_any (lines text) (place_at 0 0) told count tells);
+        bytes = told ++ total_if job.shown job.style count;
+        tells = subst (λ (any : Bool). TellsBy p job job.shown text any (told ++ total_if job.shown job.style count)) (sym ends.is_any) (by_whole job.shown refl text told count tells);
+        written = Appends-trans held meanwhile held' told (total_if job.shown job.style count) written ends.written;
+      }
+
+  -- a line was selected that told all
+  file_front : (state : State) (known held meanwhile held' : Option (List ℕ)) (text told : List ℕ) (ls : List (List ℕ)) → IfSome known (λ (all : List ℕ). text ≡ all)
+      → Tells p job (place_at 0 0) 0 ls told state.selected → needs_one job.shown ≡ true → 0 < state.selected → (SomeLine (IsSelected p job.invert) ls → SomeLine (IsSelected p job.invert) (lines text))
+      → Appends held meanwhile told → (any : Bool) → EndsFile job state.selected meanwhile held' any → SearchesFile p job known held held' any × (any ≡ true)
+  file_front state known held meanwhile held' text told ls of tells one some front written any ends =
+      let count = state.selected in
+      let is : any ≡ true = ends.is_any ∙ lt-ltb 0 count some in
+      let none : told ≡ [] = tells_none ls (place_at 0 0) 0 told count one tells in (
+        record {
+          text = text;
+          of = of;
+          selected = subst (IsAny p job.invert (lines text)) (sym is) (front (tells_some ls (place_at 0 0) 0 told count tells refl some));
+          bytes = total_if job.shown job.style count;
+          tells = subst (λ (any : Bool). TellsBy p job job.shown text any (total_if job.shown job.style count)) (sym is) (by_front job.shown text count one some);
+          written = subst (λ (l : List ℕ). Appends held held' (l ++ total_if job.shown job.style count)) none
+              (Appends-trans held meanwhile held' told (total_if job.shown job.style count) written ends.written);
+        },
+        is,
+      )
+
+  -- what was searched of a reader, and what is asked of a file as a whole
+  pub reader_searched : (state : State) (left left' held meanwhile held' : Option (List ℕ)) → SearchesStream p job (course at_begin state held meanwhile left left')
+      → (any : Bool) → EndsFile job state.selected meanwhile held' any → SearchesReader p job left left' held held' any
+  reader_searched state left left' held meanwhile held' stream any ends =
+      let (more, known, none) = text_behind left left' (stream.searched ++ stream.rest) stream.consumed in
+      let text = (stream.searched ++ stream.rest) ++ more in
+      let to = stream.searches.searches in
+      let tells = to.tells in
+      elim stream.ends [
+        | inl (empty, end) ↦
+            let all : text ≡ stream.searched = ap (λ (l : List ℕ). (stream.searched ++ stream.rest) ++ l) (none end) ∙ append-nil (stream.searched ++ stream.rest)
+            ∙ ap (λ (l : List ℕ). stream.searched ++ l) empty ∙ append-nil stream.searched in
+            let read : (any : Bool) → IsRead job left left' any = λ any. record { bytes = stream.searched ++ stream.rest; read = stream.consumed; ended = inl end } in
+            elim stream.searches.ends [
+              | inl whole ↦
+                  let same : lines text ≡ to.searched = ap lines all ∙ to.cut ∙ ap (λ (l : List ℕ). to.searched ++ lines l) whole ∙ append-nil to.searched in
+                  record {
+                    file = file_whole state left held meanwhile held' text tells.bytes known
+                        (subst (λ (ls : List (List ℕ)). Tells p job (place_at 0 0) 0 ls tells.bytes state.selected) (sym same) tells.told) tells.written any ends;
+                    reads = read any;
+                  }
+              | inr (one, some) ↦
+                  let same : lines text ≡ to.searched ++ lines stream.searches.left = ap lines all ∙ to.cut in
+                  record {
+                    file = (file_front state left held meanwhile held' text tells.bytes to.searched known tells.told one some
+                        (λ (is : SomeLine (IsSelected p job.invert) to.searched). subst (SomeLine (IsSelected p job.invert)) (sym same) (some_front (IsSelected p job.invert) to.searched (lines stream.searches.left) is))
+                        tells.written any ends).0;
+                    reads = read any;
+                  }
+            ]
+        | inr (whole, (one, some)) ↦
+            let same : lines text ≡ (to.searched ++ lines stream.searches.left) ++ lines (stream.rest ++ more) =
+            ap lines (append_assoc stream.searched stream.rest more) ∙ lines_append stream.searched (stream.rest ++ more) whole
+            ∙ ap (λ (l : List (List ℕ)). l ++ lines (stream.rest ++ more)) to.cut in
+            let found = file_front state left held meanwhile held' text tells.bytes to.searched known tells.told one some
+            (λ (is : SomeLine (IsSelected p job.invert) to.searched). subst (SomeLine (IsSelected p job.invert)) (sym same)
+            (some_front (IsSelected p job.invert) (to.searched ++ lines stream.searches.left) (lines (stream.rest ++ more))
+            (some_front (IsSelected p job.invert) to.searched (lines stream.searches.left) is)))
+            tells.written any ends in
+            record {
+              file = found.0;
+              reads = record { bytes = stream.searched ++ stream.rest; read = stream.consumed; ended = inr (one, found.1) };
+            }
+      ]
+
+-- what follows where a file was searched
+pub if_searched : (outcome : Outcome) (P Q : Bool → Type 0) → ((any : Bool) → P any → Q any) → IfSearched outcome P → IfSearched outcome Q
+if_searched (Searched any) P Q follows is = follows any is
+if_searched Unread P Q follows is = tt
+if_searched Stopped P Q follows is = tt

@@ -1,0 +1,202 @@
+-- What was searched of a stream, put together from its reads.
+use Rattle.std.proofs.Common.{◌≡◌, inl, inr, ◌⊎◌, ℕ, ◌+◌, ◌-◌, ◌≤◌, ◌<◌, ◌==◌, Bool, true, false, List, [], ◌∷◌, ◌++◌, Option, None, Some, length, take, drop, take-append-drop, refl, sym, ◌∙◌, ap, subst, arith, append_assoc, append-nil, length-append}
+use Rattle.std.specs.Prelude.{Result, Ok, Err, OnOk}
+use Rattle.std.specs.Io.KnownBytes.{Appends, Consumes, IsAtEnd, Keeps}
+use Rattle.std.proofs.KnownBytes.{Appends-trans, Consumes-trans, Consumes-nil, Keeps-refl}
+use Rattle.std.proofs.Math.Seq.{drop-append_seam, drop-append-add}
+use Rattle.std.proofs.lemmas.List.{get_or-append-add, length-take-le}
+use Rattle.aho_base.specs.Patterns.{Patterns}
+use Rattle.acgrep.specs.Lines.{IsNewline, lines}
+use Rattle.acgrep.specs.Filled.{Fills, Reads}
+use Rattle.acgrep.specs.Streamed.{ReadsSome, SearchesLines, SearchesStream, SearchesWhole, course}
+use Rattle.acgrep.specs.Written.{EndsLine, IsSettled, SamePlace, SearchesText, after_lines}
+use Rattle.acgrep.specs.declared.print.Place.{Place}
+use Rattle.acgrep.specs.declared.select.Job.{Job}
+use Rattle.acgrep.specs.declared.select.State.{State}
+use Rattle.acgrep.proofs.Around.{front_newline}
+use Rattle.acgrep.proofs.LineLists.{ends_drop, lines_append}
+use Rattle.acgrep.proofs.Tellings.{after_append, same_lines, same_place, same_trans, tells_join}
+
+-- bytes that are kept grow by none
+keeps_nil : (x y : Option (List ℕ)) → Keeps x y → Appends x y []
+keeps_nil None y keeps = tt
+keeps_nil (Some xs) None keeps = absurd keeps
+keeps_nil (Some xs) (Some ys) keeps = keeps ∙ sym (append-nil xs)
+
+-- one read after another
+pub reads_both : (a b c : Option (List ℕ)) → Reads a b → Reads b c → Reads a c
+reads_both a b c (one, first) (other, second) = (one ++ other, Consumes-trans a b c one other first second)
+
+-- a test that answered no
+pub not_done : (done : Bool) (P : Type 0) → (P → done ≡ true) → done ≡ false → P → ⊥
+not_done done P tells not holds = let yes : done ≡ true = tells holds in absurd (cc)
+
+-- what stands behind a front ends as the whole does
+pub ends_behind : (front back : List ℕ) → EndsLine (front ++ back) → EndsLine back
+ends_behind front back ends = subst EndsLine (drop-append_seam front back) (ends_drop (front ++ back) (length front) ends)
+
+pub ends_joined : (front back : List ℕ) → EndsLine front → EndsLine back → EndsLine (front ++ back)
+ends_joined front [] one other = subst EndsLine (sym (append-nil front)) one
+ends_joined front (byte ∷ back) one other = λ some.
+    let place : length front + (length (byte ∷ back) - 1) ≡ length (front ++ (byte ∷ back)) - 1 = omega (arith, length-append front (byte ∷ back)) in
+    subst (IsNewline (front ++ (byte ∷ back))) place
+    (subst (λ (b : ℕ). (b == 10) ≡ true) (sym (get_or-append-add front (byte ∷ back) (length (byte ∷ back) - 1) 0)) (other (omega arith)))
+
+module _ (p : Patterns) (job : Job) where
+  pub searches_more : (a b c : State) (x y z : Option (List ℕ)) (front back : List ℕ) → EndsLine front → (IsSettled job b → ⊥)
+      → SearchesText p job a b x y front → SearchesText p job b c y z back → SearchesText p job a c x z (front ++ back)
+  searches_more a b c x y z front back whole goes one other =
+      let first = one.searches in
+      let second = other.searches in
+      let none : one.left ≡ [] = elim one.ends [ inl none ↦ none | inr settled ↦ absurd (goes settled) ] in
+      let all : lines front ≡ first.searched = first.cut ∙ ap (λ (l : List ℕ). first.searched ++ lines l) none ∙ append-nil first.searched in
+      let there : SamePlace job b.place (after_lines a.place first.searched) = first.placed (inr whole) in
+      record {
+        left = other.left;
+        searches = record {
+          at = length front + second.at;
+          within = omega (arith, second.within, length-append front back);
+          rest = second.rest ∙ sym (drop-append-add front back second.at);
+          searched = first.searched ++ second.searched;
+          cut = lines_append front back whole ∙ ap (λ (l : List (List ℕ)). l ++ lines back) all ∙ ap (λ (l : List (List ℕ)). first.searched ++ l) second.cut
+              ∙ sym (append_assoc first.searched second.searched (lines other.left));
+          tells = tells_join p job a b c x y z first.searched second.searched first.tells there second.tells;
+          placed = λ h. subst (λ (place : Place). SamePlace job c.place place) (sym (after_append first.searched second.searched a.place))
+              (same_trans job c.place (after_lines b.place second.searched) (after_lines (after_lines a.place first.searched) second.searched)
+              (second.placed (elim h [ inl more ↦ inl more | inr ends ↦ inr (ends_behind front back ends) ]))
+              (same_lines job second.searched b.place (after_lines a.place first.searched) there));
+        };
+        ends = other.ends;
+      }
+
+  pub stream_step : (a b c : State) (x y z l m n : Option (List ℕ)) (kept rest : List ℕ) (ended : Bool) → (IsSettled job b → ⊥)
+      → SearchesLines p job (course a b x y l m) kept → ReadsSome p job (course b c y z m n) kept rest ended → SearchesLines p job (course a c x z l n) rest
+  stream_step a b c x y z l m n kept rest ended goes so_far some =
+      let joined : (so_far.searched ++ kept) ++ some.came ≡ (so_far.searched ++ some.searched) ++ rest =
+      append_assoc so_far.searched kept some.came ∙ ap (λ (t : List ℕ). so_far.searched ++ t) some.cut ∙ sym (append_assoc so_far.searched some.searched rest) in
+      record {
+        searched = so_far.searched ++ some.searched;
+        consumed = subst (Consumes l n) joined (Consumes-trans l m n (so_far.searched ++ kept) some.came so_far.consumed some.consumed);
+        whole = ends_joined so_far.searched some.searched so_far.whole some.whole;
+        searches = searches_more a b c x y z so_far.searched some.searched so_far.whole goes so_far.searches some.searches;
+      }
+
+  pub stream_end : (a b c : State) (x y z l m : Option (List ℕ)) (kept : List ℕ) → (IsSettled job b → ⊥) → IsAtEnd m
+      → SearchesLines p job (course a b x y l m) kept → SearchesText p job b c y z kept → SearchesStream p job (course a c x z l m)
+  stream_end a b c x y z l m kept goes end so_far last = record {
+    searched = so_far.searched ++ kept;
+    rest = [];
+    consumed = subst (Consumes l m) (sym (append-nil (so_far.searched ++ kept))) so_far.consumed;
+    searches = searches_more a b c x y z so_far.searched kept so_far.whole goes so_far.searches last;
+    ends = inl (refl, end);
+  }
+
+  pub stream_stop : (a b : State) (x y l m : Option (List ℕ)) (kept : List ℕ) → IsSettled job b
+      → SearchesLines p job (course a b x y l m) kept → SearchesStream p job (course a b x y l m)
+  stream_stop a b x y l m kept settled so_far = record {
+    searched = so_far.searched;
+    rest = kept;
+    consumed = so_far.consumed;
+    searches = so_far.searches;
+    ends = inr (so_far.whole, settled);
+  }
+
+  -- the read that told the end, and the search of what is kept
+  pub stream_last : {E : Type 0} (a b c d : State) (x y z w l m n : Option (List ℕ)) (kept rest : List ℕ) (ended : Bool) (result : Result (Unit {0}) E)
+      → (IsSettled job b → ⊥) → ended ≡ true → SearchesLines p job (course a b x y l m) kept → ReadsSome p job (course b c y z m n) kept rest ended
+      → OnOk result (SearchesText p job c d z w rest) → OnOk result (SearchesStream p job (course a d x w l n))
+  stream_last a b c d x y z w l m n kept rest ended (Err error) goes is so_far some last = tt
+  stream_last a b c d x y z w l m n kept rest ended (Ok done) goes is so_far some last =
+      let ends = some.ends is in
+      stream_end a c d x z w l n rest (λ settled. goes (subst (IsSettled job) ends.1 settled)) ends.0
+      (stream_step a b c x y z l m n kept rest ended goes so_far some) last
+
+  -- nothing is searched, and what the writer holds stays
+  pub searches_none : (a : State) (x y : Option (List ℕ)) → Keeps x y → SearchesText p job a a x y []
+  searches_none a x y keeps = record {
+    left = [];
+    searches = record {
+      at = 0;
+      within = omega arith;
+      rest = refl;
+      searched = [];
+      cut = refl;
+      tells = record { bytes = []; told = (refl, refl); written = keeps_nil x y keeps };
+      placed = λ _. same_place job a.place;
+    };
+    ends = inl refl;
+  }
+
+  -- at the begin nothing was searched or read
+  pub stream_start : (a : State) (x l : Option (List ℕ)) (kept : List ℕ) → kept ≡ [] → SearchesLines p job (course a a x x l l) kept
+  stream_start a x l kept none = record {
+    searched = [];
+    consumed = subst (Consumes l l) (sym none) (Consumes-nil l);
+    whole = λ some. absurd (omega (arith, some));
+    searches = searches_none a x x (Keeps-refl x);
+  }
+
+  -- what the writer held before stays
+  pub text_kept : (a b : State) (x y z : Option (List ℕ)) (text : List ℕ) → Keeps x y → SearchesText p job a b y z text → SearchesText p job a b x z text
+  text_kept a b x y z text keeps one =
+      let to = one.searches in
+      record {
+        left = one.left;
+        searches = record {
+          at = to.at;
+          within = to.within;
+          rest = to.rest;
+          searched = to.searched;
+          cut = to.cut;
+          tells = record {
+            bytes = to.tells.bytes;
+            told = to.tells.told;
+            written = Appends-trans x y z [] to.tells.bytes (keeps_nil x y keeps) to.tells.written;
+          };
+          placed = to.placed;
+        };
+        ends = one.ends;
+      }
+
+  -- a read that gives bytes, and the search of their whole lines
+  pub reads_some : (a b : State) (x y z l m : Option (List ℕ)) (kept_before filled kept_after : List ℕ) (count : ℕ) → Keeps x y → Fills kept_before filled l m count
+      → SearchesWhole p job a b y z filled kept_after → ReadsSome p job (course a b x z l m) kept_before kept_after false
+  reads_some a b x y z l m kept_before filled kept_after count keeps fills searches = record {
+    came = fills.came;
+    searched = searches.searched;
+    consumed = fills.read;
+    cut = sym fills.behind ∙ searches.cut;
+    whole = searches.whole;
+    searches = text_kept a b x y z searches.searched keeps searches.searches;
+    ends = λ ended. absurd (cc);
+  }
+
+  -- a read that gives none
+  pub reads_none : (a : State) (x y l m : Option (List ℕ)) (kept_before kept_after : List ℕ) (count : ℕ) → Keeps x y → Fills kept_before kept_after l m count → count ≡ 0
+      → ReadsSome p job (course a a x y l m) kept_before kept_after true
+  reads_none a x y l m kept_before kept_after count keeps fills zero = record {
+    came = fills.came;
+    searched = [];
+    consumed = fills.read;
+    cut = sym fills.behind;
+    whole = λ some. absurd (omega (arith, some));
+    searches = searches_none a x y keeps;
+    ends = λ _. (fills.ended zero, refl);
+  }
+
+-- the front of bytes up to behind a newline is whole lines
+pub front_whole : (bytes : List ℕ) (whole : ℕ) → whole ≤ length bytes → (0 < whole → IsNewline bytes (whole - 1)) → EndsLine (take whole bytes)
+front_whole bytes whole within newline some =
+    let long : length (take whole bytes) ≡ whole = length-take-le whole bytes within in
+    subst (λ (n : ℕ). IsNewline (take whole bytes) (n - 1)) (sym long)
+    (front_newline bytes whole (whole - 1) (omega (arith, long, some)) (newline (omega (arith, long, some))))
+
+-- and what follows is kept
+pub whole_searched : (p : Patterns) (job : Job) (a b : State) (x y : Option (List ℕ)) (bytes kept : List ℕ) (whole : ℕ) → whole ≤ length bytes
+    → (0 < whole → IsNewline bytes (whole - 1)) → kept ≡ drop whole bytes → SearchesText p job a b x y (take whole bytes) → SearchesWhole p job a b x y bytes kept
+whole_searched p job a b x y bytes kept whole within newline rest searches = record {
+  searched = take whole bytes;
+  cut = sym (take-append-drop whole bytes) ∙ ap (λ (l : List ℕ). take whole bytes ++ l) (sym rest);
+  whole = front_whole bytes whole within newline;
+  searches = searches;
+}

@@ -1,0 +1,289 @@
+-- What is told of lines, put together from parts.
+use Rattle.std.proofs.Common.{◌≡◌, inl, inr, ◌⊎◌, ℕ, suc, ◌+◌, ◌-◌, ◌%◌, ◌^◌, ◌≤◌, ◌<◌, ◌==◌, Bool, true, false, List, [], ◌∷◌, ◌++◌, Option, None, length, take, drop, refl, sym, ◌∙◌, ap, subst, arith, append_assoc, append-nil}
+use Rattle.std.specs.Prelude.{MatchBool, if◌then◌else◌, codes, not, ◌&&◌}
+use Rattle.std.specs.Io.KnownBytes.{Appends}
+use Rattle.std.proofs.KnownBytes.{Appends-nil, Appends-trans}
+use Rattle.std.proofs.lemmas.Bool.{cases_Bool, cases_lt}
+use Rattle.std.proofs.lemmas.List.{drop_all, drop-drop, length-drop}
+use Rattle.aho_base.specs.Patterns.{Patterns}
+use Rattle.aho_base.specs.Occurrence.{Occurrence}
+use Rattle.acgrep.proofs.LineLists.{ends_drop}
+use Rattle.acgrep.specs.Lines.{lines}
+use Rattle.acgrep.specs.Objects.{objects_by}
+use Rattle.acgrep.specs.Printed.{WritesColored, color_of, colored_from, colored_line_by, head_of, match_by, matches_by, number_at, offset_at, painted, part_of}
+use Rattle.acgrep.specs.Written.{EachLine, EndsLine, HasMatch, HasNone, IsPassed, IsSelected, LineOf, SamePlace, SearchesText, SearchesTo, ShowsBy, ShowsLine, Tells, TellsLines, WritesLine, after_line, after_lines, is_numbered, one_more, place_at}
+use Rattle.acgrep.specs.declared.options.Shown.{Shown}
+use Rattle.acgrep.specs.declared.options.Shown.TheVariants.{Lines, Matches, Objects, Count, Names, Nothing}
+use Rattle.acgrep.specs.declared.print.Place.{Place}
+use Rattle.acgrep.specs.declared.print.Style.{Style}
+use Rattle.acgrep.specs.declared.select.Job.{Job}
+use Rattle.acgrep.specs.declared.select.State.{State}
+
+-- what follows a place follows one in the text
+drop_within : (n : ℕ) (text : List ℕ) → (at : ℕ) × (at ≤ length text) × (drop n text ≡ drop at text)
+drop_within n text =
+    elim (cases_lt (length text) n) [
+      | inl behind ↦ (length text, omega arith, drop_all n text (omega (arith, behind)) ∙ sym (drop_all (length text) text (omega arith)))
+      | inr within ↦ (n, within, refl)
+    ]
+
+pub same_place : (job : Job) (place : Place) → SamePlace job place place
+same_place job place = record { bytes = refl; lines = λ _. refl }
+
+pub same_trans : (job : Job) (a b c : Place) → SamePlace job a b → SamePlace job b c → SamePlace job a c
+same_trans job a b c one other = record { bytes = one.bytes ∙ other.bytes; lines = λ asked. one.lines asked ∙ other.lines asked }
+
+pub same_sym : (job : Job) (a b : Place) → SamePlace job a b → SamePlace job b a
+same_sym job a b same = record { bytes = sym same.bytes; lines = λ asked. sym (same.lines asked) }
+
+same_line : (job : Job) (a b : Place) (line : List ℕ) → SamePlace job a b → SamePlace job (after_line a line) (after_line b line)
+same_line job a b line same = record {
+  bytes = ap (λ (n : ℕ). (n + (length line + 1)) % 2 ^ 64) same.bytes;
+  lines = λ asked. ap (λ (n : ℕ). (n + 1) % 2 ^ 64) (same.lines asked);
+}
+
+pub same_lines : (job : Job) (ls : List (List ℕ)) (a b : Place) → SamePlace job a b → SamePlace job (after_lines a ls) (after_lines b ls)
+same_lines job [] a b same = same
+same_lines job (line ∷ rest) a b same = same_lines job rest (after_line a line) (after_line b line) (same_line job a b line same)
+
+pub after_append : (ls ms : List (List ℕ)) (place : Place) → after_lines place (ls ++ ms) ≡ after_lines (after_lines place ls) ms
+after_append [] ms place = refl
+after_append (line ∷ rest) ms place = after_append rest ms (after_line place line)
+
+-- where the numbers of lines are asked for they are written
+asked_numbered : (shown : Shown) (asked : Bool) → asked ≡ true → is_numbered shown asked ≡ true
+asked_numbered Lines asked is = is
+asked_numbered Matches asked is = is
+asked_numbered Objects asked is = refl
+asked_numbered Count asked is = is
+asked_numbered Names asked is = is
+asked_numbered Nothing asked is = is
+
+-- a coloured line is what is written of a line where that is asked for
+pub colored_shows : (p : Patterns) (job : Job) (place : Place) (old new : Option (List ℕ)) (line : List ℕ) → job.shown ≡ Lines → (job.style.color && not job.invert) ≡ true
+    → WritesColored old new p job.style place line → WritesLine p job place old new line
+colored_shows p job place old new line lines colored writes =
+    let bytes = colored_line_by job.style place line writes.matches in (
+      bytes,
+      subst (λ (shown : Shown). ShowsBy p shown job.invert job.style place line bytes) (sym lines)
+          (subst (λ (b : Bool). LineOf p b job.style place line bytes) (sym colored) (writes.matches, writes.found, refl)),
+      writes.written,
+    )
+
+-- what stands before a line is the same
+same_head : (job : Job) (a b : Place) (offset : ℕ) → SamePlace job a b → head_of job.style (number_at a) offset ≡ head_of job.style (number_at b) offset
+same_head job a b offset same =
+    elim (cases_Bool job.style.number) [
+      | inl asked ↦ ap (λ (n : ℕ). head_of job.style ((n + 1) % 2 ^ 64) offset) (same.lines (asked_numbered job.shown job.style.number asked))
+      | inr not ↦ rw not refl
+    ]
+
+match_same : (job : Job) (a b : Place) (line : List ℕ) (m : Occurrence) → SamePlace job a b → match_by job.style a line m ≡ match_by job.style b line m
+match_same job a b line m same =
+    let heads : head_of job.style (number_at a) (offset_at a m.start) ≡ head_of job.style (number_at b) (offset_at b m.start) =
+    same_head job a b (offset_at a m.start) same ∙ ap (λ (n : ℕ). head_of job.style (number_at b) ((n + m.start) % 2 ^ 64)) same.bytes in
+    ap (λ (head : List ℕ). if m.start == m.end then [] else head ++ (painted job.style.color (color_of (codes "01;31")) (part_of line m.start m.end) ++ codes "\n")) heads
+
+matches_same : (job : Job) (a b : Place) (line : List ℕ) (ms : List Occurrence) → SamePlace job a b → matches_by job.style a line ms ≡ matches_by job.style b line ms
+matches_same job a b line [] same = refl
+matches_same job a b line (m ∷ ms) same =
+    ap (λ (l : List ℕ). l ++ matches_by job.style a line ms) (match_same job a b line m same)
+    ∙ ap (λ (l : List ℕ). match_by job.style b line m ++ l) (matches_same job a b line ms same)
+
+place_same : (a b : Place) → a.lines ≡ b.lines → a.bytes ≡ b.bytes → a ≡ b
+place_same a b lines bytes = ap (λ (n : ℕ). place_at n a.bytes) lines ∙ ap (place_at b.lines) bytes
+
+start_same : (job : Job) (a b : Place) → SamePlace job a b → head_of job.style (number_at a) a.bytes ≡ head_of job.style (number_at b) b.bytes
+start_same job a b same = same_head job a b a.bytes same ∙ ap (λ (n : ℕ). head_of job.style (number_at b) n) same.bytes
+
+line_same : (p : Patterns) (colored : Bool) (job : Job) (a b : Place) (line bytes : List ℕ) → SamePlace job a b
+    → LineOf p colored job.style a line bytes → LineOf p colored job.style b line bytes
+line_same p true job a b line bytes same (ms, finds, is) = (ms, finds, is ∙ ap (λ (head : List ℕ). head ++ (colored_from line 0 ms ++ codes "\n")) (start_same job a b same))
+line_same p false job a b line bytes same is = is ∙ ap (λ (head : List ℕ). head ++ (line ++ codes "\n")) (start_same job a b same)
+
+by_same : (p : Patterns) (shown : Shown) (invert : Bool) (job : Job) (a b : Place) (line bytes : List ℕ)
+    → (is_numbered shown job.style.number ≡ true → a.lines ≡ b.lines) → SamePlace job a b
+    → ShowsBy p shown invert job.style a line bytes → ShowsBy p shown invert job.style b line bytes
+by_same p Lines invert job a b line bytes counted same shows = line_same p (job.style.color && not invert) job a b line bytes same shows
+by_same p Matches true job a b line bytes counted same shows = shows
+by_same p Matches false job a b line bytes counted same (ms, finds, is) = (ms, finds, is ∙ matches_same job a b line ms same)
+by_same p Objects true job a b line bytes counted same shows = shows
+by_same p Objects false job a b line bytes counted same (ms, finds, is) =
+    (ms, finds, is ∙ ap (λ (place : Place). objects_by job.style place ms) (place_same a b (counted refl) same.bytes))
+by_same p Count invert job a b line bytes counted same shows = shows
+by_same p Names invert job a b line bytes counted same shows = shows
+by_same p Nothing invert job a b line bytes counted same shows = shows
+
+-- lines tell the same from places that are the same
+pub tells_same : (p : Patterns) (job : Job) (ls : List (List ℕ)) (a b : Place) (count : ℕ) (bytes : List ℕ) (total : ℕ) → SamePlace job a b
+    → Tells p job a count ls bytes total → Tells p job b count ls bytes total
+tells_same p job [] a b count bytes total same told = told
+tells_same p job (line ∷ rest) a b count bytes total same (inl (selected, (shown, more, shows, behind, is))) =
+    inl (
+      selected,
+      (
+        shown,
+        more,
+        by_same p job.shown job.invert job a b line shown same.lines same shows,
+        tells_same p job rest (after_line a line) (after_line b line) (one_more count) more total (same_line job a b line same) behind,
+        is,
+      ),
+    )
+tells_same p job (line ∷ rest) a b count bytes total same (inr (passed, behind)) =
+    inr (passed, tells_same p job rest (after_line a line) (after_line b line) count bytes total (same_line job a b line same) behind)
+
+-- lines and those behind them
+pub tells_append : (p : Patterns) (job : Job) (ls ms : List (List ℕ)) (place : Place) (count mid total : ℕ) (bytes more : List ℕ)
+    → Tells p job place count ls bytes mid → Tells p job (after_lines place ls) mid ms more total → Tells p job place count (ls ++ ms) (bytes ++ more) total
+tells_append p job [] ms place count mid total bytes more (none, same) behind =
+    subst (λ (l : List ℕ). Tells p job place count ms (l ++ more) total) (sym none) (subst (λ (n : ℕ). Tells p job place n ms more total) same behind)
+tells_append p job (line ∷ rest) ms place count mid total bytes more (inl (selected, (shown, others, shows, told, is))) behind =
+    inl (
+      selected,
+      (
+        shown,
+        others ++ more,
+        shows,
+        tells_append p job rest ms (after_line place line) (one_more count) mid total others more told behind,
+        ap (λ (l : List ℕ). l ++ more) is ∙ append_assoc shown others more,
+      ),
+    )
+tells_append p job (line ∷ rest) ms place count mid total bytes more (inr (passed, told)) behind =
+    inr (passed, tells_append p job rest ms (after_line place line) count mid total bytes more told behind)
+
+-- where no pattern occurs in any line, and such lines are not selected, nothing is written
+tells_passed : (p : Patterns) (job : Job) (ls : List (List ℕ)) (place : Place) (count : ℕ) → job.invert ≡ false → EachLine (HasNone p) ls → Tells p job place count ls [] count
+tells_passed p job [] place count plain each = (refl, refl)
+tells_passed p job (line ∷ rest) place count plain (none, each) =
+    inr (subst (λ (b : Bool). MatchBool b (HasMatch p line) (HasNone p line)) (sym plain) none, tells_passed p job rest (after_line place line) count plain each)
+
+module _ (p : Patterns) (job : Job) where
+  -- a line that is selected
+  pub one_selected : (before after : State) (old new : Option (List ℕ)) (line : List ℕ) → IsSelected p job.invert line → after.selected ≡ one_more before.selected
+      → WritesLine p job before.place old new line → TellsLines p job before after old new (line ∷ [])
+  one_selected before after old new line selected counted (bytes, shows, written) = record {
+    bytes = bytes;
+    told = inl (selected, (bytes, [], shows, (refl, counted), sym (append-nil bytes)));
+    written = written;
+  }
+
+  -- a line that is not
+  pub one_passed : (before after : State) (old new : Option (List ℕ)) (line : List ℕ) → IsPassed p job.invert line → after.selected ≡ before.selected
+      → new ≡ old → TellsLines p job before after old new (line ∷ [])
+  one_passed before after old new line passed counted unwritten = record {
+    bytes = [];
+    told = inr (passed, (refl, counted));
+    written = subst (λ (held : Option (List ℕ)). Appends old held []) (sym unwritten) (Appends-nil old);
+  }
+
+  pub all_passed : (before after : State) (old new : Option (List ℕ)) (ls : List (List ℕ)) → job.invert ≡ false → EachLine (HasNone p) ls → after.selected ≡ before.selected
+      → new ≡ old → TellsLines p job before after old new ls
+  all_passed before after old new ls plain each counted unwritten = record {
+    bytes = [];
+    told = subst (λ (n : ℕ). Tells p job before.place before.selected ls [] n) (sym counted) (tells_passed p job ls before.place before.selected plain each);
+    written = subst (λ (held : Option (List ℕ)). Appends old held []) (sym unwritten) (Appends-nil old);
+  }
+
+  pub tells_join : (a b c : State) (x y z : Option (List ℕ)) (ls ms : List (List ℕ)) → TellsLines p job a b x y ls → SamePlace job b.place (after_lines a.place ls)
+      → TellsLines p job b c y z ms → TellsLines p job a c x z (ls ++ ms)
+  tells_join a b c x y z ls ms one same other = record {
+    bytes = one.bytes ++ other.bytes;
+    told = tells_append p job ls ms a.place a.selected b.selected c.selected one.bytes other.bytes one.told
+        (tells_same p job ms b.place (after_lines a.place ls) b.selected other.bytes c.selected same other.told);
+    written = Appends-trans x y z one.bytes other.bytes one.written other.written;
+  }
+
+  pub tells_none : (a : State) (x : Option (List ℕ)) → TellsLines p job a a x x []
+  tells_none a x = record { bytes = []; told = (refl, refl); written = Appends-nil x }
+
+  pub searches_start : (a : State) (x : Option (List ℕ)) (text : List ℕ) → SearchesTo p job a a x x text text
+  searches_start a x text = record {
+    searched = [];
+    cut = refl;
+    tells = tells_none a x;
+    placed = λ _. same_place job a.place;
+    at = 0;
+    within = omega arith;
+    rest = refl;
+  }
+
+  pub searches_join : (a b c : State) (x y z : Option (List ℕ)) (text mid left : List ℕ) → SearchesTo p job a b x y text mid → 0 < length mid
+      → SearchesTo p job b c y z mid left → SearchesTo p job a c x z text left
+  searches_join a b c x y z text mid left one some other = record {
+    searched = one.searched ++ other.searched;
+    cut = one.cut ∙ ap (λ (l : List (List ℕ)). one.searched ++ l) other.cut ∙ sym (append_assoc one.searched other.searched (lines left));
+    tells = tells_join a b c x y z one.searched other.searched one.tells (one.placed (inl some)) other.tells;
+    placed = λ h. subst (λ (place : Place). SamePlace job c.place place) (sym (after_append one.searched other.searched a.place))
+        (same_trans job c.place (after_lines b.place other.searched) (after_lines (after_lines a.place one.searched) other.searched)
+        (other.placed (elim h [ inl more ↦ inl more | inr ends ↦ inr (subst EndsLine (sym one.rest) (ends_drop text one.at ends)) ]))
+        (same_lines job other.searched b.place (after_lines a.place one.searched) (one.placed (inl some))));
+    at = one.at + other.at;
+    within =
+        let long : length mid ≡ length text - one.at = ap length one.rest ∙ length-drop one.at text in
+        omega (arith, one.within, other.within, long);
+    rest = other.rest ∙ ap (drop other.at) one.rest ∙ drop-drop other.at one.at text;
+  }
+
+  -- lines with no match, and one with a match
+  pub searches_line : (a b c : State) (x y z : Option (List ℕ)) (text front line left : List ℕ) (at : ℕ)
+      → lines text ≡ lines front ++ (line ∷ lines left) → left ≡ drop at text
+      → TellsLines p job a b x y (lines front) → SamePlace job b.place (after_lines a.place (lines front))
+      → TellsLines p job b c y z (line ∷ []) → c.place ≡ after_line b.place line → SearchesTo p job a c x z text left
+  searches_line a b c x y z text front line left at cut rest one same other placed =
+      let (from, within, same_rest) = drop_within at text in
+      record {
+        searched = lines front ++ (line ∷ []);
+        cut = cut ∙ sym (append_assoc (lines front) (line ∷ []) (lines left));
+        tells = tells_join a b c x y z (lines front) (line ∷ []) one same other;
+        placed = λ h. subst (λ (place : Place). SamePlace job c.place place) (sym (after_append (lines front) (line ∷ []) a.place))
+            (subst (λ (place : Place). SamePlace job place (after_line (after_lines a.place (lines front)) line)) (sym placed)
+            (same_line job b.place (after_lines a.place (lines front)) line same));
+        at = from;
+        within = within;
+        rest = rest ∙ same_rest;
+      }
+
+  -- all lines
+  pub searches_all : (a b : State) (x y : Option (List ℕ)) (text left : List ℕ) → left ≡ [] → TellsLines p job a b x y (lines text)
+      → (EndsLine text → SamePlace job b.place (after_lines a.place (lines text))) → SearchesTo p job a b x y text left
+  searches_all a b x y text left none told placed = record {
+    searched = lines text;
+    cut = sym (append-nil (lines text)) ∙ ap (λ (l : List ℕ). lines text ++ lines l) (sym none);
+    tells = told;
+    placed = λ h. elim h [ inl more ↦ absurd (omega (arith, more, ap length none)) | inr ends ↦ placed ends ];
+    at = length text;
+    within = omega arith;
+    rest = none ∙ sym (drop_all (length text) text (omega arith));
+  }
+
+-- selected lines so far
+pub record Passing (p : Patterns) (job : Job) (before after : State) (old new : Option (List ℕ)) (text rest : List ℕ) : Type 0 where
+  pub searched : List (List ℕ)
+  pub cut : lines text ≡ searched ++ lines rest
+  pub tells : TellsLines p job before after old new searched
+  pub placed : after.place ≡ after_lines before.place searched
+  pub each : EachLine (HasNone p) (lines rest)
+
+-- one more
+pub passing_step : (p : Patterns) (job : Job) (a b c : State) (x y z : Option (List ℕ)) (text rest line left : List ℕ) → job.invert ≡ true → lines rest ≡ line ∷ lines left
+    → c.place ≡ after_line b.place line → c.selected ≡ one_more b.selected → WritesLine p job b.place y z line → Passing p job a b x y text rest → Passing p job a c x z text left
+passing_step p job a b c x y z text rest line left invert first placed counted writes so_far =
+    let each : EachLine (HasNone p) (line ∷ lines left) = subst (EachLine (HasNone p)) first so_far.each in
+    let selected : IsSelected p job.invert line = subst (λ (b : Bool). MatchBool b (HasNone p line) (HasMatch p line)) (sym invert) each.0 in
+    let there : SamePlace job b.place (after_lines a.place so_far.searched) = subst (λ (place : Place). SamePlace job b.place place) so_far.placed (same_place job b.place) in
+    record {
+      searched = so_far.searched ++ (line ∷ []);
+      cut = so_far.cut ∙ ap (λ (l : List (List ℕ)). so_far.searched ++ l) first ∙ sym (append_assoc so_far.searched (line ∷ []) (lines left));
+      tells = tells_join p job a b c x y z so_far.searched (line ∷ []) so_far.tells there (one_selected p job b c y z line selected counted writes);
+      placed = placed ∙ ap (λ (place : Place). after_line place line) so_far.placed ∙ sym (after_append so_far.searched (line ∷ []) a.place);
+      each = each.1;
+    }
+
+-- none is left
+pub passing_end : (p : Patterns) (job : Job) (a b : State) (x y : Option (List ℕ)) (text rest : List ℕ) → rest ≡ [] → Passing p job a b x y text rest → TellsLines p job a b x y (lines text)
+passing_end p job a b x y text rest none so_far =
+    let all : lines text ≡ so_far.searched = so_far.cut ∙ ap (λ (l : List ℕ). so_far.searched ++ lines l) none ∙ append-nil so_far.searched in
+    subst (TellsLines p job a b x y) (sym all) so_far.tells
+
+pub passing_start : (p : Patterns) (job : Job) (a : State) (x : Option (List ℕ)) (text : List ℕ) → EachLine (HasNone p) (lines text) → Passing p job a a x x text text
+passing_start p job a x text each = record { searched = []; cut = refl; tells = tells_none p job a x; placed = refl; each = each }

@@ -1,0 +1,43 @@
+-- A file more was searched.
+use Rattle.std.proofs.Common.{◌≡◌, [], ◌∷◌, ◌-◌, ℕ, List, Bor, length, take, drop, subst, sym}
+use Rattle.std.proofs.Math.ListN.{get_or}
+use Rattle.acgrep.specs.Files.{names_of}
+use Rattle.acgrep.proofs.NamesSearched.{SoFar, ends_by, names_cut, so_far_end, so_far_start, so_far_step}
+use Rattle.acgrep.proofs.files.search_each.Goals as goal
+
+pub loop-rest-init : goal.loop-rest-init
+loop-rest-init g c = λ p is plain.
+    let job = c.args.job.now in
+    let holds = g.F.Open.holds c.args.files.now in
+    let names = names_of c.args.names.now in
+    let left = g.R.Read.remaining c.args.input.now in
+    let held = g.W.Write.contents c.args.output.now in
+    subst (SoFar p job holds names left held names left held) (sym c.new-seen.ensures) (so_far_start p job holds names left held)
+
+pub loop-rest-preserved : goal.loop-rest-preserved
+loop-rest-preserved g c = λ p is plain.
+    let job = c.args.job.now in
+    let holds = g.F.Open.holds c.args.files.now in
+    let names = names_of c.args.names.now in
+    let begin = g.R.Read.remaining c.args.input.now in
+    let first = g.W.Write.contents c.args.output.now in
+    let left = g.R.Read.remaining c.loop-rest.input in
+    let left' = g.R.Read.remaining c.search_name-outcome.new.input in
+    let held = g.W.Write.contents c.loop-rest.output in
+    let held' = g.W.Write.contents c.search_name-outcome.new.output in
+    let rest = c.loop-rest.rest.now in
+    let d : Bor (List ℕ) = record { ref_ptr = (0, 0); now = [] } in
+    let name = (get_or rest 0 d).now in
+    let more = names_of (take (length rest - 1) (drop 1 rest)) in
+    let cut : names_of rest ≡ name ∷ more = names_cut rest d (c.goes_on.ensures.some c.loop-rest-test.true) in
+    let so_far = subst (λ (l : List (List ℕ)). SoFar p job holds names begin first l left held c.loop-rest.seen) cut (c.loop-rest.invariant p is plain) in
+    subst (SoFar p job holds names begin first more left' held') (sym c.after-seen.ensures)
+    (so_far_step p job holds names begin first name more left left' held held' c.loop-rest.seen c.search_name-outcome.result
+    (c.goes_on.ensures.going c.loop-rest-test.true) so_far c.search_name-outcome.ensures.leaves (c.search_name-outcome.ensures.searched p is plain))
+
+pub returns : goal.returns
+returns g c = record {
+  searched = λ p is plain. so_far_end p c.args.job.now (g.F.Open.holds c.args.files.now) (names_of c.args.names.now)
+      (g.R.Read.remaining c.args.input.now) (g.W.Write.contents c.args.output.now) (names_of c.loop-rest.rest.now)
+      (g.R.Read.remaining c.loop-rest.input) (g.W.Write.contents c.loop-rest.output) c.loop-rest.seen (ends_by c.loop-rest.rest.now c.loop-rest.seen (c.goes_on.ensures.stops c.loop-rest-test.false)) (c.loop-rest.invariant p is plain);
+}

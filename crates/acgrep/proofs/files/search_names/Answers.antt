@@ -1,0 +1,17 @@
+-- The status tells what was seen.
+use Rattle.std.proofs.Common.{◌<◌, ℕ, subst, sym}
+use Rattle.acgrep.specs.Files.{AreSearchedOr, names_of}
+use Rattle.acgrep.proofs.NamesSearched.{status_searched}
+use Rattle.acgrep.proofs.files.search_names.Goals as goal
+
+pub returns-clause-searched : goal.returns-clause-searched
+returns-clause-searched g c = λ p is plain low.
+    let job = c.args.job.now in
+    let holds = g.F.Open.holds c.args.files.now in
+    let names = names_of c.args.names.now in
+    let left = g.R.Read.remaining c.args.input.now in
+    let left' = g.R.Read.remaining c.search_each-seen.new.input in
+    let held = g.W.Write.contents c.args.output.now in
+    let held' = g.W.Write.contents c.search_each-seen.new.output in
+    subst (AreSearchedOr p job holds names left left' held held') (sym c.status.ensures)
+    (status_searched p job holds names left left' held held' c.search_each-seen.result (c.search_each-seen.ensures.searched p is plain) (subst (λ (n : ℕ). n < 2) c.status.ensures low))

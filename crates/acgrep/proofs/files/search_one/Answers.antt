@@ -1,0 +1,22 @@
+-- What was searched of the reader, and what is asked of the file as a whole.
+use Rattle.std.proofs.Common.{Bool, subst}
+use Rattle.acgrep.specs.Files.{EndsFile, SearchesReader}
+use Rattle.acgrep.specs.Streamed.{SearchesStream, course}
+use Rattle.acgrep.specs.Written.{at_begin}
+use Rattle.acgrep.specs.declared.select.State.{State}
+use Rattle.acgrep.proofs.FileTellings.{if_searched, reader_searched}
+use Rattle.acgrep.proofs.files.search_one.Goals as goal
+
+pub returns-in-Ok-clause-searched : goal.returns-in-Ok-clause-searched
+returns-in-Ok-clause-searched g c = λ p is plain.
+    let job = c.args.job.now in
+    let left = g.R.Read.remaining c.args.reader.now in
+    let left' = g.R.Read.remaining c.search_stream.new.input in
+    let held = g.W.Write.contents c.args.output.now in
+    let meanwhile = g.W.Write.contents c.search_stream.new.output in
+    let held' = g.W.Write.contents c.end_file.new.output in
+    let state = c.search_stream.new.state in
+    let stream : SearchesStream p job (course at_begin state held meanwhile left left') =
+    subst (λ (first : State). SearchesStream p job (course first state held meanwhile left left')) c.new-state.ensures.begin (c.in-Ok.ensures.written p is plain) in
+    if_searched c.end_file.result (EndsFile job state.selected meanwhile held') (SearchesReader p job left left' held held')
+    (reader_searched p job state left left' held meanwhile held' stream) c.end_file.ensures.ended

@@ -1,0 +1,26 @@
+-- One line more was selected.
+use Rattle.std.proofs.Common.{◌≡◌, List, ℕ, suc, ◌<◌, ◌∷◌, length, take, drop, sym, ◌∙◌, ap, add-one, arith}
+use Rattle.std.proofs.lemmas.Grind.{common_steps}
+use Rattle.acgrep.specs.Lines.{lines}
+use Rattle.acgrep.specs.Written.{after_lines}
+use Rattle.acgrep.specs.declared.print.Place.{Place}
+use Rattle.acgrep.proofs.FirstLines.{lines_first}
+use Rattle.acgrep.proofs.Tellings.{passing_step}
+use Rattle.acgrep.proofs.select.pass_each.Goals as goal
+
+pub loop-rest-preserved : goal.loop-rest-preserved
+loop-rest-preserved g c =
+    let rest = c.loop-rest.rest.now in
+    let end = c.line_end-end.result in
+    let left = c.behind-rest.result.now in
+    let full : 0 < length rest = grind (arith, common_steps, c.is_empty.ensures, c.loop-rest-test.true) in
+    let first = lines_first rest end full c.line_end-end.ensures.within c.line_end-end.ensures.none c.line_end-end.ensures.newline in
+    let follows : left ≡ drop (suc end) rest = c.behind-rest.ensures.rest ∙ ap (λ n. drop n rest) (add-one end) in
+    let more : lines rest ≡ take end rest ∷ lines left = first ∙ ap (λ (l : List ℕ). take end rest ∷ lines l) (sym follows) in
+    let done = c.in_ok-pass_selected.ensures in
+    record {
+      placed = ap (λ (place : Place). after_lines place (lines left)) done.placed ∙ ap (after_lines c.loop-rest.state.place) (sym more) ∙ c.loop-rest.invariant.placed;
+      passed = λ p is invert each. passing_step p c.args.job.now c.args.state.now c.loop-rest.state c.pass_selected.new.state
+          (g.W.Write.contents c.args.output.now) (g.W.Write.contents c.loop-rest.output) (g.W.Write.contents c.pass_selected.new.output)
+          c.args.text.now rest (take end rest) left invert more done.placed done.counted (done.shown p is) (c.loop-rest.invariant.passed p is invert each);
+    }

@@ -1,0 +1,17 @@
+-- The lines so far were selected, and the place is behind them.
+use Rattle.std.proofs.Common.{◌≡◌, true, length}
+use Rattle.aho_base.specs.Patterns.{Patterns}
+use Rattle.acgrep.specs.Lines.{lines}
+use Rattle.acgrep.specs.Written.{EachLine, HasNone, after_lines}
+use Rattle.acgrep.proofs.Tellings.{Passing}
+use Rattle.acgrep.proofs.select.pass_each.Given as goal
+
+abbrev pub invariant-loop-rest : goal.invariant-loop-rest
+invariant-loop-rest g l = record {
+  placed : after_lines l.state.place (lines l.rest) ≡ after_lines l.initial.state.place (lines l.fn.text);
+  passed : (p : Patterns) → g.A.Automaton.is_of l.fn.automaton p → l.fn.job.invert ≡ true → EachLine (HasNone p) (lines l.fn.text)
+      → Passing p l.fn.job l.initial.state l.state (g.W.Write.contents l.initial.output) (g.W.Write.contents l.output) l.fn.text l.rest;
+}
+
+abbrev pub decreases-loop-rest : goal.decreases-loop-rest
+decreases-loop-rest g l = length l.rest

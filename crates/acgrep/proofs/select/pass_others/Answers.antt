@@ -1,0 +1,10 @@
+-- No line is selected where lines with a match are.
+use Rattle.std.proofs.Common.{refl}
+use Rattle.acgrep.specs.Lines.{lines}
+use Rattle.acgrep.proofs.Tellings.{all_passed}
+use Rattle.acgrep.proofs.select.pass_others.Goals as goal
+
+pub returns-clause-written : goal.returns-clause-written
+returns-clause-written g c = λ p is each.
+    let held = g.W.Write.contents c.args.output.now in
+    all_passed p c.args.job.now c.args.state.now c.skip.new.state held held (lines c.args.text.now) c.if-job.false each c.skip.ensures.selected refl

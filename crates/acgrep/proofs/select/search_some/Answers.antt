@@ -1,0 +1,38 @@
+-- The lines before the one that was found have no match, and it has one.
+use Rattle.std.proofs.Common.{◌≡◌, ℕ, ◌+◌, ◌-◌, List, [], ◌∷◌, ◌++◌, length, take, drop, sym, ◌∙◌, ap, subst, arith}
+use Rattle.std.specs.Prelude.{slice_range}
+use Rattle.std.proofs.lemmas.List.{drop_all}
+use Rattle.acgrep.specs.Lines.{lines}
+use Rattle.acgrep.specs.Selected.{IsFirstWith, IsNextLine}
+use Rattle.acgrep.specs.Written.{HasNone}
+use Rattle.acgrep.proofs.LineLists.{cut_lines, first_has, front_ends, front_lines, none_in_lines, take_zero}
+use Rattle.acgrep.proofs.Tellings.{searches_all, searches_line}
+use Rattle.acgrep.proofs.select.search_some.Goals as goal
+
+pub returns-in_ok-pass_matched-in-Some-clause-written : goal.returns-in_ok-pass_matched-in-Some-clause-written
+returns-in_ok-pass_matched-in-Some-clause-written g c = λ p is plain.
+    let text = c.args.text.now in
+    let line = c.in-Some.line in
+    let front = take line.start text in
+    let left = c.behind.result.now in
+    let first : IsFirstWith p text line = subst (IsNextLine p text) c.in-Some.is (c.in_ok-line.ensures.next p is plain) in
+    let cut = cut_lines p plain text line first c.requires.some ∙ ap (λ (l : List ℕ). lines front ++ (slice_range text line.start line.end ∷ lines l)) (sym c.behind.ensures.rest) in
+    let others = c.in_ok-pass_others-in-Some.ensures in
+    let matched = c.in_ok-pass_matched-in-Some.ensures in
+    searches_line p c.args.job.now c.args.state.now c.pass_others.new.state c.pass_matched.new.state
+    (g.W.Write.contents c.args.output.now) (g.W.Write.contents c.pass_others.new.output) (g.W.Write.contents c.pass_matched.new.output)
+    text front (slice_range text line.start line.end) left (line.end + 1) cut c.behind.ensures.rest
+    (others.written p is (front_lines p plain text line first)) (others.placed (front_ends p plain text line first))
+    (matched.written p is (first_has p plain text line first)) matched.placed
+
+pub returns-in_ok-pass_others-in-None-clause-written : goal.returns-in_ok-pass_others-in-None-clause-written
+returns-in_ok-pass_others-in-None-clause-written g c = λ p is plain.
+    let text = c.args.text.now in
+    let none : HasNone p text = subst (IsNextLine p text) c.in-None.is (c.in_ok-line.ensures.next p is plain) in
+    let left = take (length text - length text) (drop (length text) text) in
+    let count : length text - length text ≡ 0 = omega arith in
+    let empty : left ≡ [] = ap (λ (n : ℕ). take n (drop (length text) text)) count ∙ take_zero (drop (length text) text) in
+    let others = c.in_ok-pass_others-in-None.ensures in
+    searches_all p c.args.job.now c.args.state.now c.pass_others-in-None.new.state
+    (g.W.Write.contents c.args.output.now) (g.W.Write.contents c.pass_others-in-None.new.output)
+    text left empty (others.written p is (none_in_lines p text none)) others.placed

@@ -1,0 +1,44 @@
+-- What is left of the text was not searched yet.
+use Rattle.std.proofs.Common.{◌≡◌, ◌⊎◌, inl, inr, ◌<◌, ◌≤◌, ℕ, List, [], length, refl, sym, ◌∙◌, ap, subst, arith}
+use Rattle.acgrep.specs.Written.{HasNone, IsSettled}
+use Rattle.acgrep.proofs.Tellings.{searches_join, searches_start}
+use Rattle.acgrep.proofs.select.search_text.Goals as goal
+
+pub loop-rest-init : goal.loop-rest-init
+loop-rest-init g c = record {
+  none = λ p is plain invert zero. inl refl;
+  searched = λ p is plain. searches_start p c.args.job.now c.args.state.now (g.W.Write.contents c.args.output.now) c.args.text.now;
+}
+
+pub loop-rest-preserved : goal.loop-rest-preserved
+loop-rest-preserved g c =
+    let text = c.args.text.now in
+    let done = c.in_ok-rest.ensures in
+    record {
+      none = λ p is plain invert zero.
+          let (before, nothing) = done.none p is plain invert zero in
+          elim (c.loop-rest.invariant.none p is plain invert before) [
+            | inl same ↦ inr (subst (HasNone p) same nothing)
+            | inr none ↦ inr none
+          ];
+      searched = λ p is plain. searches_join p c.args.job.now c.args.state.now c.loop-rest.state c.search_some.new.state
+          (g.W.Write.contents c.args.output.now) (g.W.Write.contents c.loop-rest.output) (g.W.Write.contents c.search_some.new.output)
+          text c.loop-rest.rest.now c.in_ok-rest.rest.now (c.loop-rest.invariant.searched p is plain) (c.goes_on.ensures.some c.loop-rest-test.true) (done.written p is plain);
+    }
+
+pub returns-clause-written : goal.returns-clause-written
+returns-clause-written g c = λ p is plain. record {
+  left = c.loop-rest.rest.now;
+  searches = c.loop-rest.invariant.searched p is plain;
+  ends = c.goes_on.ensures.ends c.loop-rest-test.false;
+}
+
+pub returns-clause-none : goal.returns-clause-none
+returns-clause-none g c = λ p is plain invert some zero.
+    elim (c.loop-rest.invariant.none p is plain invert zero) [
+      | inl same ↦ elim (c.goes_on.ensures.ends c.loop-rest-test.false) [
+        | inl empty ↦ absurd (omega (arith, some, ap length same, ap length empty))
+        | inr settled ↦ absurd (omega (arith, zero, settled.1))
+      ]
+      | inr none ↦ none
+    ]

@@ -1,0 +1,27 @@
+-- What came is behind the bytes that were kept.
+use Rattle.std.proofs.Common.{◌≡◌, ℕ, List, take, subst}
+use Rattle.acgrep.specs.Filled.{Fills}
+use Rattle.acgrep.proofs.Streams.{reads_none, reads_some}
+use Rattle.acgrep.proofs.stream.read_some.Goals as goal
+
+pub returns-then-count-eq0-clause-read : goal.returns-then-count-eq0-clause-read
+returns-then-count-eq0-clause-read g c = λ p is plain.
+    let left = g.R.Read.remaining c.args.input.now in
+    let left' = g.R.Read.remaining c.fill.new.input in
+    let kept = take c.args.buffer.now.held c.args.buffer.now.room.items in
+    let filled = take c.fill.new.self.held c.fill.new.self.room.items in
+    let count = c.in-Ok.count in
+    reads_none p c.args.job.now c.args.state.now (g.W.Write.contents c.args.output.now) (g.W.Write.contents c.flush.new.self) left left' kept filled count
+    c.in_ok-flush.ensures.bytes (subst (λ (l : List ℕ). Fills l filled left left' count) c.in_ok-make_room.ensures.bytes c.in-Ok.ensures.filled) c.if-count-eq0.true
+
+pub returns-clause-read : goal.returns-clause-read
+returns-clause-read g c = λ p is plain.
+    let left = g.R.Read.remaining c.args.input.now in
+    let left' = g.R.Read.remaining c.fill.new.input in
+    let kept = take c.args.buffer.now.held c.args.buffer.now.room.items in
+    let filled = take c.fill.new.self.held c.fill.new.self.room.items in
+    let count = c.in-Ok.count in
+    reads_some p c.args.job.now c.args.state.now c.search_whole.new.state (g.W.Write.contents c.args.output.now) (g.W.Write.contents c.flush.new.self)
+    (g.W.Write.contents c.search_whole.new.output) left left' kept filled (take c.search_whole.new.buffer.held c.search_whole.new.buffer.room.items) count
+    c.in_ok-flush.ensures.bytes (subst (λ (l : List ℕ). Fills l filled left left' count) c.in_ok-make_room.ensures.bytes c.in-Ok.ensures.filled)
+    (c.in_ok-search_whole.ensures.searched p is plain)

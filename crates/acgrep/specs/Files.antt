@@ -1,0 +1,189 @@
+-- What is written of files, one after another.
+use Rattle.std.specs.Prelude.{◌≡◌, ◌⊎◌, ℕ, ◌||◌, nat_lt, Bool, true, false, List, [], ◌∷◌, ◌++◌, Option, IfSome, MatchBool, codes, map, if◌then◌else◌}
+use Rattle.std.specs.Borrow.{Bor}
+use Rattle.std.specs.Io.KnownBytes.{Appends, Consumes, IsAtEnd, Keeps}
+use Rattle.std.specs.Str.{bytes_eq}
+use Rattle.aho_base.specs.Patterns.{Patterns}
+use Rattle.acgrep.specs.Filled.{Reads}
+use Rattle.acgrep.specs.Lines.{lines}
+use Rattle.acgrep.specs.Printed.{count_by, file_line}
+use Rattle.acgrep.specs.Written.{EachLine, IsPassed, IsSelected, Tells, needs_one, place_at}
+use Rattle.acgrep.specs.declared.files.Outcome.{Outcome}
+use Rattle.acgrep.specs.declared.files.Outcome.TheVariants.{Searched, Unread, Stopped}
+use Rattle.acgrep.specs.declared.files.Seen.{Seen}
+use Rattle.acgrep.specs.declared.options.Shown.{Shown}
+use Rattle.acgrep.specs.declared.options.Shown.TheVariants.{Lines, Matches, Objects, Count, Names, Nothing}
+use Rattle.acgrep.specs.declared.print.Style.{Style}
+use Rattle.acgrep.specs.declared.select.Job.{Job}
+
+-- some line is so
+abbrev pub SomeLine : (List ℕ → Type 0) → List (List ℕ) → Type 0
+SomeLine P [] = ⊥
+SomeLine P (line ∷ rest) = P line ⊎ SomeLine P rest
+
+-- whether one of these lines is selected
+abbrev pub IsAny : Patterns → Bool → List (List ℕ) → Bool → Type 0
+IsAny p invert ls any = MatchBool any (SomeLine (IsSelected p invert) ls) (EachLine (IsPassed p invert) ls)
+
+-- behind the lines of a file stands their count where it is asked for
+abbrev pub count_if : Shown → Style → ℕ → List ℕ
+count_if Lines style count = []
+count_if Matches style count = []
+count_if Objects style count = []
+count_if Count style count = count_by style count
+count_if Names style count = []
+count_if Nothing style count = []
+
+-- or its name where a line is selected
+abbrev pub total_if : Shown → Style → ℕ → List ℕ
+total_if Lines style count = []
+total_if Matches style count = []
+total_if Objects style count = []
+total_if Count style count = count_by style count
+total_if Names style count = if nat_lt 0 count then file_line style else []
+total_if Nothing style count = []
+
+-- what is told of each line of a text from the begin of its file on, and the count of selected lines
+abbrev pub TellsEach : Patterns → Job → List ℕ → List ℕ → Type 0
+TellsEach p job text bytes =
+    (told : List ℕ) × (count : ℕ) × Tells p job (place_at 0 0) 0 (lines text) told count × (bytes ≡ told ++ count_if job.shown job.style count)
+
+-- what is written of a file with this text: of its lines, its name where one is selected, or nothing
+abbrev pub TellsBy : Patterns → Job → Shown → List ℕ → Bool → List ℕ → Type 0
+TellsBy p job Lines text any bytes = TellsEach p job text bytes
+TellsBy p job Matches text any bytes = TellsEach p job text bytes
+TellsBy p job Objects text any bytes = TellsEach p job text bytes
+TellsBy p job Count text any bytes = TellsEach p job text bytes
+TellsBy p job Names text any bytes = bytes ≡ (if any then file_line job.style else [])
+TellsBy p job Nothing text any bytes = bytes ≡ []
+
+-- a file was searched whose bytes are these, where they are known: that is written, and nothing else
+pub record SearchesFile (p : Patterns) (job : Job) (known held held' : Option (List ℕ)) (any : Bool) : Type 0 where
+  pub text : List ℕ
+  pub of : IfSome known (λ bytes. text ≡ bytes)
+  pub selected : IsAny p job.invert (lines text) any
+  pub bytes : List ℕ
+  pub tells : TellsBy p job job.shown text any bytes
+  pub written : Appends held held' bytes
+
+-- a reader was read to its end, or until a selected line told all
+pub record IsRead (job : Job) (left left' : Option (List ℕ)) (any : Bool) : Type 0 where
+  pub bytes : List ℕ
+  pub read : Consumes left left' bytes
+  pub ended : IsAtEnd left' ⊎ ((needs_one job.shown ≡ true) × (any ≡ true))
+
+-- all that a reader has left was searched
+pub record SearchesReader (p : Patterns) (job : Job) (left left' held held' : Option (List ℕ)) (any : Bool) : Type 0 where
+  pub file : SearchesFile p job left held held' any
+  pub reads : IsRead job left left' any
+
+-- the same is written of the file of this name
+pub record IsNamed (job : Job) (bytes : List ℕ) (named : Job) : Type 0 where
+  pub shown : named.shown ≡ job.shown
+  pub invert : named.invert ≡ job.invert
+  pub name : named.style.name.now ≡ bytes
+  pub with_name : named.style.with_name ≡ job.style.with_name
+  pub number : named.style.number ≡ job.style.number
+  pub offset : named.style.offset ≡ job.style.offset
+  pub color : named.style.color ≡ job.style.color
+
+-- '-' is standard input
+abbrev pub is_input : List ℕ → Bool
+is_input name = bytes_eq name (codes "-")
+
+-- how a file is called in what is written
+abbrev pub shown_name : List ℕ → List ℕ
+shown_name name = if is_input name then codes "(standard input)" else name
+
+-- its bytes, where they are known: what the input has left, or what is held under the name
+abbrev pub known_of : (List ℕ → Option (List ℕ)) → List ℕ → Option (List ℕ) → Option (List ℕ)
+known_of holds name left = if is_input name then left else holds name
+
+-- the file of a name was searched; `left` and `held` are what the input has left and what the output holds
+pub record SearchesName (p : Patterns) (job : Job) (holds : List ℕ → Option (List ℕ)) (name : List ℕ) (left left' held held' : Option (List ℕ)) (any : Bool) : Type 0 where
+  pub named : Job
+  pub is_named : IsNamed job (shown_name name) named
+  pub file : SearchesFile p named (known_of holds name left) held held' any
+  pub reads : MatchBool (is_input name) (IsRead named left left' any) (left' ≡ left)
+
+-- under `-q` one selected line of any file is enough
+abbrev pub is_enough : Shown → Bool → Bool
+is_enough Lines any = false
+is_enough Matches any = false
+is_enough Objects any = false
+is_enough Count any = false
+is_enough Names any = false
+is_enough Nothing any = any
+
+-- the files of these names were searched, one after another; `any` says whether a line is selected
+abbrev pub AreSearched : Patterns → Job → (List ℕ → Option (List ℕ)) → List (List ℕ) → (left left' held held' : Option (List ℕ)) → Bool → Type 0
+AreSearched p job holds [] left left' held held' any = (left' ≡ left) × Keeps held held' × (any ≡ false)
+AreSearched p job holds (name ∷ names) left left' held held' any =
+    (between : Option (List ℕ)) × (meanwhile : Option (List ℕ)) × (first : Bool) × SearchesName p job holds name left between held meanwhile first
+    × MatchBool (is_enough job.shown first)
+    ((left' ≡ between) × Keeps meanwhile held' × (any ≡ true))
+    ((others : Bool) × AreSearched p job holds names between left' meanwhile held' others × (any ≡ (first || others)))
+
+-- a file of these bytes, where they are known, has a selected line
+abbrev pub HasSelected : Patterns → Job → Option (List ℕ) → Type 0
+HasSelected p job known = (text : List ℕ) × IfSome known (λ bytes. text ≡ bytes) × SomeLine (IsSelected p job.invert) (lines text)
+
+-- only standard input is read from the input
+abbrev pub LeavesInput : List ℕ → (left left' : Option (List ℕ)) → Type 0
+LeavesInput name left left' = MatchBool (is_input name) (Reads left left') (left' ≡ left)
+
+-- one of these files has a selected line, whether those before it could be read or not
+abbrev pub OneIsSelected : Patterns → Job → (List ℕ → Option (List ℕ)) → List (List ℕ) → Option (List ℕ) → Type 0
+OneIsSelected p job holds [] left = ⊥
+OneIsSelected p job holds (name ∷ names) left =
+    HasSelected p job (known_of holds name left) ⊎ ((between : Option (List ℕ)) × LeavesInput name left between × OneIsSelected p job holds names between)
+
+-- the bytes of each name
+abbrev pub names_of : List (Bor (List ℕ)) → List (List ℕ)
+names_of names = map (λ name. name.now) names
+
+-- standard input where none is given
+abbrev pub or_input : List (List ℕ) → List (List ℕ)
+or_input [] = codes "-" ∷ []
+or_input (name ∷ names) = name ∷ names
+
+-- before any file was searched
+abbrev pub nothing_seen : Seen
+nothing_seen = record { selected = false; failed = false; ended = false }
+
+-- what was seen, and then came of a file
+abbrev pub seen_after : Shown → Seen → Outcome → Seen
+seen_after shown seen (Searched any) = record { selected = seen.selected || any; failed = seen.failed; ended = seen.ended || is_enough shown any }
+seen_after shown seen Unread = record { selected = seen.selected; failed = true; ended = seen.ended }
+seen_after shown seen Stopped = record { selected = seen.selected; failed = true; ended = true }
+
+-- what is so where a file was searched
+abbrev pub IfSearched : Outcome → (Bool → Type 0) → Type 0
+IfSearched (Searched any) P = P any
+IfSearched Unread P = Unit {0}
+IfSearched Stopped P = Unit {0}
+
+-- where an error was told it goes before all but a selected line under `-q`
+abbrev pub status_by : Shown → Seen → ℕ
+status_by shown seen =
+    if is_enough shown seen.selected then 0 else (if seen.failed then 2 else (if seen.selected then 0 else 1))
+
+-- the status of a search without an error
+abbrev pub status_of : Bool → ℕ
+status_of any = if any then 0 else 1
+
+-- the files of these names were searched, and the status tells it; under `-q` that is all, even where others cannot be read
+abbrev pub AreSearchedOr : Patterns → Job → (List ℕ → Option (List ℕ)) → List (List ℕ) → (left left' held held' : Option (List ℕ)) → ℕ → Type 0
+AreSearchedOr p job holds names left left' held held' status =
+    ((any : Bool) × AreSearched p job holds names left left' held held' any × (status ≡ status_of any))
+    ⊎ ((job.shown ≡ Nothing) × (status ≡ 0) × OneIsSelected p job holds names left)
+
+-- what is asked of a file as a whole was written
+pub record EndsFile (job : Job) (count : ℕ) (held held' : Option (List ℕ)) (any : Bool) : Type 0 where
+  pub is_any : any ≡ nat_lt 0 count
+  pub written : Appends held held' (total_if job.shown job.style count)
+
+-- what was seen is so: where no error was told all were searched, and one selected line that is enough was seen in one of them
+pub record SearchesNames (p : Patterns) (job : Job) (holds : List ℕ → Option (List ℕ)) (names : List (List ℕ)) (left left' held held' : Option (List ℕ)) (seen : Seen) : Type 0 where
+  pub searched : seen.failed ≡ false → AreSearched p job holds names left left' held held' seen.selected
+  pub found : job.shown ≡ Nothing → seen.selected ≡ true → OneIsSelected p job holds names left

@@ -1,0 +1,15 @@
+-- What a read puts behind the bytes that are held.
+use Rattle.std.specs.Prelude.{◌≡◌, ℕ, List, ◌++◌, Option, length}
+use Rattle.std.specs.Io.KnownBytes.{Consumes, IsAtEnd}
+
+-- what comes stands behind the bytes before, and nothing comes only at the end
+pub record Fills (before after : List ℕ) (left_before left_after : Option (List ℕ)) (count : ℕ) : Type 0 where
+  pub came : List ℕ
+  pub behind : after ≡ before ++ came
+  pub read : Consumes left_before left_after came
+  pub counted : length came ≡ count
+  pub ended : count ≡ 0 → IsAtEnd left_after
+
+-- some bytes were read
+abbrev pub Reads : Option (List ℕ) → Option (List ℕ) → Type 0
+Reads left left' = (bytes : List ℕ) × Consumes left left' bytes

@@ -1,0 +1,60 @@
+-- What is written of all that a reader gives.
+use Rattle.std.specs.Prelude.{◌≡◌, ◌⊎◌, ℕ, Bool, true, List, [], ◌++◌, Option}
+use Rattle.std.specs.Io.KnownBytes.{Consumes, IsAtEnd}
+use Rattle.aho_base.specs.Patterns.{Patterns}
+use Rattle.acgrep.specs.Written.{EndsLine, IsSettled, SearchesText}
+use Rattle.acgrep.specs.declared.select.Job.{Job}
+use Rattle.acgrep.specs.declared.select.State.{State}
+
+-- states, what the writer holds and what the reader has left, before and after
+pub record Course : Type 0 where
+  pub before : State
+  pub after : State
+  pub held_before : Option (List ℕ)
+  pub held_after : Option (List ℕ)
+  pub left_before : Option (List ℕ)
+  pub left_after : Option (List ℕ)
+
+abbrev pub course : State → State → Option (List ℕ) → Option (List ℕ) → Option (List ℕ) → Option (List ℕ) → Course
+course before after held_before held_after left_before left_after = record {
+  before = before;
+  after = after;
+  held_before = held_before;
+  held_after = held_after;
+  left_before = left_before;
+  left_after = left_after;
+}
+
+-- bytes that were read are searched: all that the reader had, or whole lines up to those with a selected one that tells all
+pub record SearchesStream (p : Patterns) (job : Job) (c : Course) : Type 0 where
+  pub searched : List ℕ
+  -- what was read behind them
+  pub rest : List ℕ
+  pub consumed : Consumes c.left_before c.left_after (searched ++ rest)
+  pub searches : SearchesText p job c.before c.after c.held_before c.held_after searched
+  pub ends : ((rest ≡ []) × IsAtEnd c.left_after) ⊎ (EndsLine searched × IsSettled job c.after)
+
+-- whole lines of what was read are searched, and these bytes are kept
+pub record SearchesLines (p : Patterns) (job : Job) (c : Course) (kept : List ℕ) : Type 0 where
+  pub searched : List ℕ
+  pub consumed : Consumes c.left_before c.left_after (searched ++ kept)
+  pub whole : EndsLine searched
+  pub searches : SearchesText p job c.before c.after c.held_before c.held_after searched
+
+-- bytes come behind those that are kept, and the whole lines of both are searched
+pub record ReadsSome (p : Patterns) (job : Job) (c : Course) (kept_before kept_after : List ℕ) (ended : Bool) : Type 0 where
+  pub came : List ℕ
+  pub searched : List ℕ
+  pub consumed : Consumes c.left_before c.left_after came
+  pub cut : kept_before ++ came ≡ searched ++ kept_after
+  pub whole : EndsLine searched
+  pub searches : SearchesText p job c.before c.after c.held_before c.held_after searched
+  -- at the end nothing comes and nothing is searched
+  pub ends : ended ≡ true → IsAtEnd c.left_after × (c.after ≡ c.before)
+
+-- the whole lines of bytes are searched, and what follows is kept
+pub record SearchesWhole (p : Patterns) (job : Job) (before after : State) (old new : Option (List ℕ)) (bytes kept : List ℕ) : Type 0 where
+  pub searched : List ℕ
+  pub cut : bytes ≡ searched ++ kept
+  pub whole : EndsLine searched
+  pub searches : SearchesText p job before after old new searched

@@ -1,0 +1,158 @@
+-- What is written of the lines of a text, one after another.
+use Rattle.std.specs.Prelude.{◌≡◌, ◌⊎◌, ⊤, ℕ, ◌+◌, ◌-◌, ◌%◌, ◌^◌, ◌<◌, ◌≤◌, min, Bool, true, false, not, ◌&&◌, List, [], ◌∷◌, ◌++◌, Option, None, length, drop, MatchBool}
+use Rattle.std.specs.Io.KnownBytes.{Appends}
+use Rattle.aho_base.specs.Iteration.{AreFinds}
+use Rattle.aho_base.specs.Occurrence.{Occurrence}
+use Rattle.aho_base.specs.Occurs.{OccursIn}
+use Rattle.aho_base.specs.Patterns.{Patterns}
+use Rattle.aho_base.specs.Search.{plain_search}
+use Rattle.acgrep.specs.Lines.{IsNewline, lines}
+use Rattle.acgrep.specs.Objects.{objects_by}
+use Rattle.acgrep.specs.Printed.{colored_line_by, line_by, matches_by}
+use Rattle.acgrep.specs.declared.options.Shown.{Shown}
+use Rattle.acgrep.specs.declared.options.Shown.TheVariants.{Lines, Matches, Objects, Count, Names, Nothing}
+use Rattle.acgrep.specs.declared.print.Place.{Place}
+use Rattle.acgrep.specs.declared.print.Style.{Style}
+use Rattle.acgrep.specs.declared.select.Job.{Job}
+use Rattle.acgrep.specs.declared.select.State.{State}
+
+-- a pattern occurs in a line
+abbrev pub HasMatch : Patterns → List ℕ → Type 0
+HasMatch p line = (m : Occurrence) × OccursIn p (plain_search line) m
+
+-- none does
+abbrev pub HasNone : Patterns → List ℕ → Type 0
+HasNone p line = (m : Occurrence) → OccursIn p (plain_search line) m → ⊥
+
+-- a line is selected where a pattern occurs in it, or under `invert` where none does
+abbrev pub IsSelected : Patterns → Bool → List ℕ → Type 0
+IsSelected p invert line = MatchBool invert (HasNone p line) (HasMatch p line)
+
+-- any other line is passed over
+abbrev pub IsPassed : Patterns → Bool → List ℕ → Type 0
+IsPassed p invert line = MatchBool invert (HasMatch p line) (HasNone p line)
+
+-- each line is so
+abbrev pub EachLine : (List ℕ → Type 0) → List (List ℕ) → Type 0
+EachLine P [] = ⊤
+EachLine P (line ∷ rest) = P line × EachLine P rest
+
+-- the matches of a line, as they are written
+abbrev pub MatchesOf : Patterns → Style → Place → List ℕ → List ℕ → Type 0
+MatchesOf p style place line bytes =
+    (ms : List Occurrence) × AreFinds p (plain_search line) None ms × (bytes ≡ matches_by style place line ms)
+
+-- the same as objects
+abbrev pub ObjectsOf : Patterns → Style → Place → List ℕ → List ℕ → Type 0
+ObjectsOf p style place line bytes =
+    (ms : List Occurrence) × AreFinds p (plain_search line) None ms × (bytes ≡ objects_by style place ms)
+
+-- the line with its matches in colour
+abbrev pub ColoredOf : Patterns → Style → Place → List ℕ → List ℕ → Type 0
+ColoredOf p style place line bytes =
+    (ms : List Occurrence) × AreFinds p (plain_search line) None ms × (bytes ≡ colored_line_by style place line ms)
+
+-- the line, in colour or not
+abbrev pub LineOf : Patterns → Bool → Style → Place → List ℕ → List ℕ → Type 0
+LineOf p colored style place line bytes = MatchBool colored (ColoredOf p style place line bytes) (bytes ≡ line_by style place line)
+
+-- what is written of a selected line: itself, its matches, or nothing; a line that is selected by `invert` has no match
+abbrev pub ShowsBy : Patterns → Shown → Bool → Style → Place → List ℕ → List ℕ → Type 0
+ShowsBy p Lines invert style place line bytes = LineOf p (style.color && not invert) style place line bytes
+ShowsBy p Matches invert style place line bytes = MatchBool invert (bytes ≡ []) (MatchesOf p style place line bytes)
+ShowsBy p Objects invert style place line bytes = MatchBool invert (bytes ≡ []) (ObjectsOf p style place line bytes)
+ShowsBy p Count invert style place line bytes = bytes ≡ []
+ShowsBy p Names invert style place line bytes = bytes ≡ []
+ShowsBy p Nothing invert style place line bytes = bytes ≡ []
+
+abbrev pub ShowsLine : Patterns → Job → Place → List ℕ → List ℕ → Type 0
+ShowsLine p job place line bytes = ShowsBy p job.shown job.invert job.style place line bytes
+
+-- that is written, and nothing else
+abbrev pub WritesLine : Patterns → Job → Place → Option (List ℕ) → Option (List ℕ) → List ℕ → Type 0
+WritesLine p job place old new line =
+    (bytes : List ℕ) × ShowsLine p job place line bytes × Appends old new bytes
+
+abbrev pub place_at : ℕ → ℕ → Place
+place_at count offset = record { lines = count; bytes = offset }
+
+-- the begin of a file
+abbrev pub at_begin : State
+at_begin = record { place = place_at 0 0; selected = 0 }
+
+-- the place behind a line and its newline; numbers wrap at 2^64
+abbrev pub after_line : Place → List ℕ → Place
+after_line place line = record { lines = (place.lines + 1) % 2 ^ 64; bytes = (place.bytes + (length line + 1)) % 2 ^ 64 }
+
+abbrev pub after_lines : Place → List (List ℕ) → Place
+after_lines place [] = place
+after_lines place (line ∷ rest) = after_lines (after_line place line) rest
+
+-- one selected line more; the count stays at the greatest number
+abbrev pub one_more : ℕ → ℕ
+one_more count = min (count + 1) (2 ^ 64 - 1)
+
+-- the lines from a place on: these bytes are written, and the count of selected lines goes on from `count` to `total`
+abbrev pub Tells : Patterns → Job → Place → ℕ → List (List ℕ) → List ℕ → ℕ → Type 0
+Tells p job place count [] bytes total = (bytes ≡ []) × (total ≡ count)
+Tells p job place count (line ∷ rest) bytes total =
+    (IsSelected p job.invert line × ((shown : List ℕ) × (more : List ℕ) × ShowsLine p job place line shown × Tells p job (after_line place line) (one_more count) rest more total × (bytes ≡ shown ++ more)))
+    ⊎ (IsPassed p job.invert line × Tells p job (after_line place line) count rest bytes total)
+
+-- these lines are searched: what is told of them is written, and nothing else
+pub record TellsLines (p : Patterns) (job : Job) (before after : State) (old new : Option (List ℕ)) (searched : List (List ℕ)) : Type 0 where
+  pub bytes : List ℕ
+  pub told : Tells p job before.place before.selected searched bytes after.selected
+  pub written : Appends old new bytes
+
+-- whether the numbers of lines are written: where that is asked for, and in objects
+abbrev pub is_numbered : Shown → Bool → Bool
+is_numbered Lines asked = asked
+is_numbered Matches asked = asked
+is_numbered Objects asked = true
+is_numbered Count asked = asked
+is_numbered Names asked = asked
+is_numbered Nothing asked = asked
+
+abbrev pub IsNumbered : Job → Type 0
+IsNumbered job = is_numbered job.shown job.style.number ≡ true
+
+-- two places are the same for what is written; lines are counted only where they are numbered
+pub record SamePlace (job : Job) (one other : Place) : Type 0 where
+  pub bytes : one.bytes ≡ other.bytes
+  pub lines : IsNumbered job → one.lines ≡ other.lines
+
+-- a text is empty or ends in a newline
+abbrev pub EndsLine : List ℕ → Type 0
+EndsLine text = 0 < length text → IsNewline text (length text - 1)
+
+-- the lines of a text are searched up to those that are left
+pub record SearchesTo (p : Patterns) (job : Job) (before after : State) (old new : Option (List ℕ)) (text left : List ℕ) : Type 0 where
+  -- what is left is the rest of the text
+  pub at : ℕ
+  pub within : at ≤ length text
+  pub rest : left ≡ drop at text
+  pub searched : List (List ℕ)
+  pub cut : lines text ≡ searched ++ lines left
+  pub tells : TellsLines p job before after old new searched
+  -- where a line can follow, the place is behind these lines
+  pub placed : (0 < length left) ⊎ EndsLine text → SamePlace job after.place (after_lines before.place searched)
+
+-- one selected line tells all
+abbrev pub needs_one : Shown → Bool
+needs_one Lines = false
+needs_one Matches = false
+needs_one Objects = false
+needs_one Count = false
+needs_one Names = true
+needs_one Nothing = true
+
+-- such a line was selected
+abbrev pub IsSettled : Job → State → Type 0
+IsSettled job state = (needs_one job.shown ≡ true) × (0 < state.selected)
+
+-- the lines of a text are searched: all of them, or up to a selected one that tells all
+pub record SearchesText (p : Patterns) (job : Job) (before after : State) (old new : Option (List ℕ)) (text : List ℕ) : Type 0 where
+  pub left : List ℕ
+  pub searches : SearchesTo p job before after old new text left
+  pub ends : (left ≡ []) ⊎ IsSettled job after
