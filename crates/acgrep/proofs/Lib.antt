@@ -2,8 +2,10 @@ pub mod Around
 pub mod FileTellings
 pub mod Fillings
 pub mod FirstLines
+pub mod Kept
 pub mod LineLists
 pub mod NamesSearched
 pub mod PlacesBehind
 pub mod Streams
 pub mod Tellings
+pub mod WordLists

@@ -2,7 +2,9 @@ pub mod Arguments
 pub mod Files
 pub mod Filled
 pub mod Lines
+pub mod Loading
 pub mod Printed
+pub mod Runs
 pub mod Searchers
 pub mod Selected
 pub mod Streamed
