@@ -1,5 +1,5 @@
 -- What is told of lines, put together from parts.
-use Rattle.std.proofs.Common.{◌≡◌, inl, inr, ◌⊎◌, ℕ, suc, ◌+◌, ◌-◌, ◌%◌, ◌^◌, ◌≤◌, ◌<◌, ◌==◌, Bool, true, false, List, [], ◌∷◌, ◌++◌, Option, None, length, take, drop, refl, sym, ◌∙◌, ap, subst, arith, append_assoc, append-nil}
+use Rattle.std.proofs.Common.{◌≡◌, inl, inr, ℕ, ◌+◌, ◌-◌, ◌%◌, ◌^◌, ◌≤◌, ◌<◌, ◌==◌, Bool, true, false, List, [], ◌∷◌, ◌++◌, Option, length, drop, refl, sym, ◌∙◌, ap, subst, arith, append_assoc, append-nil}
 use Rattle.std.specs.Prelude.{MatchBool, if◌then◌else◌, codes}
 use Rattle.std.specs.Io.KnownBytes.{Appends}
 use Rattle.std.proofs.KnownBytes.{Appends-nil, Appends-trans}
@@ -10,11 +10,10 @@ use Rattle.aho_base.specs.Occurrence.{Occurrence}
 use Rattle.acgrep.proofs.LineLists.{ends_drop}
 use Rattle.acgrep.specs.Lines.{lines}
 use Rattle.acgrep.specs.Printed.{color_of, head_of, line_by, match_by, matches_by, number_at, offset_at, painted, part_of}
-use Rattle.acgrep.specs.Written.{EachLine, EndsLine, HasMatch, HasNone, IsPassed, IsSelected, IsTold, SamePlace, SearchesText, SearchesTo, ShowsBy, ShowsLine, Tells, TellsLines, WritesLine, after_line, after_lines, one_more}
+use Rattle.acgrep.specs.Written.{EachLine, EndsLine, HasMatch, HasNone, IsPassed, IsSelected, SamePlace, SearchesTo, ShowsBy, Tells, TellsLines, WritesLine, after_line, after_lines, one_more}
 use Rattle.acgrep.specs.declared.options.Shown.{Shown}
 use Rattle.acgrep.specs.declared.options.Shown.TheVariants.{Lines, Matches, Objects, Count, Names, Nothing}
 use Rattle.acgrep.specs.declared.print.Place.{Place}
-use Rattle.acgrep.specs.declared.print.Style.{Style}
 use Rattle.acgrep.specs.declared.select.Job.{Job}
 use Rattle.acgrep.specs.declared.select.State.{State}
 

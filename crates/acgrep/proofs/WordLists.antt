@@ -1,21 +1,20 @@
 -- The patterns of sources, one after another, as the lines of one text.
 use Rattle.std.proofs.Common.{◌≡◌, inl, inr, ℕ, suc, zero, ◌+◌, ◌-◌, ◌≤◌, ◌<◌, ◌==◌, Bool, true, false, List, [], ◌∷◌, ◌++◌, Option, None, Some, length, take, drop, refl, sym, ◌∙◌, ap, subst, arith, append-nil, append_assoc, length-append}
-use Rattle.std.specs.Prelude.{IfSome, MatchBool, codes, map, slice_index}
+use Rattle.std.specs.Prelude.{IfSome, codes, slice_index}
 use Rattle.std.specs.Io.{StartsWith}
 use Rattle.std.specs.Io.KnownBytes.{Consumes, IsAtEnd, Keeps}
 use Rattle.std.proofs.KnownBytes.{starts_with_rest}
 use Rattle.std.proofs.Math.ListN.{get_or}
 use Rattle.std.proofs.Math.Seq.{drop-append_seam}
-use Rattle.std.proofs.lemmas.Bool.{cases_Bool, cases_lt, eqb-false}
+use Rattle.std.proofs.lemmas.Bool.{cases_Bool, eqb-false}
 use Rattle.std.proofs.lemmas.List.{take_all}
 use Rattle.memchr.specs.Find.{Nowhere}
-use Rattle.aho_base.specs.Patterns.{Patterns}
 use Rattle.aho_base.specs.declared.search.MatchKind.{MatchKind}
 use Rattle.acgrep.specs.Arguments.{Origin, origin_of}
 use Rattle.acgrep.specs.Files.{is_input}
 use Rattle.acgrep.specs.Lines.{IsNewline, joined_to, lines}
 use Rattle.acgrep.specs.Loading.{AddsText, AddsWords}
-use Rattle.acgrep.specs.Runs.{AreOf, AreWords, IsTextOf, origins_of}
+use Rattle.acgrep.specs.Runs.{AreWords, origins_of}
 use Rattle.acgrep.specs.Searchers.{patterns_by}
 use Rattle.acgrep.specs.Selected.{HoldNoNewline}
 use Rattle.acgrep.specs.Written.{EachLine, EndsLine}

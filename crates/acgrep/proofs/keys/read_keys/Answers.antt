@@ -1,6 +1,6 @@
 -- The patterns of a source more were read.
-use Rattle.std.proofs.Common.{rules, ◌≡◌, ◌≤◌, length}
-use Rattle.acgrep.proofs.WordLists.{words_end, words_next, words_start}
+use Rattle.std.proofs.Common.{rules, ◌≡◌, length}
+use Rattle.acgrep.proofs.WordLists.{words_end}
 use Rattle.acgrep.proofs.keys.read_keys.Goals as goal
 
 pub returns : goal.returns

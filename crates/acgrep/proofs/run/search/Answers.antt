@@ -1,5 +1,5 @@
 -- The automaton was built of the lines that were read.
-use Rattle.std.proofs.Common.{◌≡◌, ◌∙◌, ℕ, Bool, false, ap, length, refl, subst, sym}
+use Rattle.std.proofs.Common.{◌≡◌, ◌∙◌, ℕ, false, ap, refl, subst, sym}
 use Rattle.std.proofs.lemmas.List.{length-map}
 use Rattle.aho_base.specs.Replacement.{pieces_of}
 use Rattle.acgrep.specs.Lines.{lines}
