@@ -20,6 +20,11 @@ pub record AsksToSearch (flags : Flags) : Type 0 where
   pub no_help : flags.help ≡ false
   pub no_version : flags.version ≡ false
 
+-- neither an option nor an operand gives a pattern
+pub record GivesNone (given : Said) : Type 0 where
+  pub no_source : given.sources ≡ []
+  pub no_operand : given.operands ≡ []
+
 -- where no option gives patterns the first operand is a text of patterns
 abbrev pub sources_by : List Origin → List (List ℕ) → List Origin
 sources_by [] [] = []

@@ -6,7 +6,7 @@ ghost use Rattle.aho_base.specs.Patterns.{Patterns};
 ghost use Rattle.aho_base.specs.Replacement.{pieces_of};
 ghost use Rattle.acgrep.specs.Arguments.{said, said_by, texts};
 ghost use Rattle.acgrep.specs.Files.{AreSearchedOr, names_of, or_input};
-ghost use Rattle.acgrep.specs.Runs.{AsksToSearch, IfSaid, IsJob, Searches, SearchesFor, are_empty, is_colored, origins_of, selects_none};
+ghost use Rattle.acgrep.specs.Runs.{AsksToSearch, GivesNone, IfSaid, IsJob, Searches, SearchesFor, are_empty, is_colored, origins_of, selects_none};
 ghost use Rattle.acgrep.specs.Searchers.{IsSearcherOf};
 ghost use Rattle.acgrep.specs.Selected.{HoldNoNewline};
 
@@ -42,6 +42,10 @@ pub fn run<F: Open, R: Read, W: Write, E: Write>(
     ensures unread { said_by (texts arguments.now) ≡ None → input.new ≡ input.old }
     ensures unwritten { said_by (texts arguments.now) ≡ None
         → Keeps (W.contents output.old) (W.contents output.new) }
+
+    // A search needs a pattern.
+    ensures patternless { IfSaid arguments.now (λ said. AsksToSearch said.flags → GivesNone said
+        → result ≡ 2) }
 
     // Where the status tells of no error, the patterns were searched for in the files, one after another.
     ensures searches { IfSaid arguments.now (λ said. AsksToSearch said.flags → result < 2
@@ -97,6 +101,7 @@ fn answer<F: Open, R: Read, W: Write, E: Write>(
     errors: &mut E,
 ) -> u8
     ensures bound { result ≤ 2 }
+    ensures patternless { AsksToSearch given.now.flags → GivesNone (said given.now) → result ≡ 2 }
     ensures searches { AsksToSearch given.now.flags → result < 2
         → Searches (F.holds files.now) terminal (said given.now)
         (R.remaining input.old) (R.remaining input.new)
@@ -122,6 +127,7 @@ fn search_asked<F: Open, R: Read, W: Write, E: Write>(
     errors: &mut E,
 ) -> u8
     ensures bound { result ≤ 2 }
+    ensures patternless { GivesNone (said given.now) → result ≡ 2 }
     ensures searches { result < 2 → Searches (F.holds files.now) terminal (said given.now)
         (R.remaining input.old) (R.remaining input.new)
         (W.contents output.old) (W.contents output.new) result }
