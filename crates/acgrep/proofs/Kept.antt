@@ -8,6 +8,7 @@ use Rattle.aho_base.specs.Patterns.{Patterns}
 use Rattle.acgrep.specs.Arguments.{Origin, Said}
 use Rattle.acgrep.specs.Files.{AreSearched, AreSearchedOr, is_enough, or_input}
 use Rattle.acgrep.specs.Runs.{FindsNone, SearchesFor, SearchesWords, selects_none}
+use Rattle.acgrep.specs.Searchers.{patterns_by}
 use Rattle.acgrep.specs.declared.options.Flags.{Flags}
 use Rattle.acgrep.specs.declared.select.Job.{Job}
 
@@ -38,20 +39,24 @@ module _ (held' held'' : Option (List ℕ)) (kept : Keeps held' held'') where
   -- what was done of a search
   pub searches_kept : (holds : List ℕ → Option (List ℕ)) (terminal : Bool) (flags : Flags) (sources : List Origin) (names : List (List ℕ)) (left left' held : Option (List ℕ)) (status : ℕ)
       → SearchesFor holds terminal flags sources names left left' held held' status → SearchesFor holds terminal flags sources names left left' held held'' status
-  searches_kept holds terminal flags sources names left left' held status done = record {
-    words = done.words;
-    between = done.between;
-    read = done.read;
-    searched =
-        elim (cases_Bool (selects_none flags.invert done.words)) [
-          | inl none ↦
-              let found : FindsNone done.between left' held held' status = subst (λ (b : Bool). MatchBool b (FindsNone done.between left' held held' status) (SearchesWords holds terminal flags done.words names done.between left' held held' status)) none done.searched in
-              rw none (record { unread = found.unread; unwritten = Keeps-trans held held' held'' found.unwritten kept; none = found.none })
-          | inr some ↦
-              let found : SearchesWords holds terminal flags done.words names done.between left' held held' status = subst (λ (b : Bool). MatchBool b (FindsNone done.between left' held held' status) (SearchesWords holds terminal flags done.words names done.between left' held held' status)) some done.searched in
-              rw some (record { job = found.job; is_job = found.is_job; searched = or_kept _ found.job holds (or_input names) done.between left' held status found.searched })
-        ];
-  }
+  searches_kept holds terminal flags sources names left left' held status done =
+      let p = patterns_by flags.kind flags.ignore_case done.words in
+      let Passed = FindsNone p flags.invert done.between left' held held' status in
+      let Found = SearchesWords holds terminal flags done.words names done.between left' held held' status in
+      record {
+        words = done.words;
+        between = done.between;
+        read = done.read;
+        searched =
+            elim (cases_Bool (selects_none flags.invert done.words)) [
+              | inl none ↦
+                  let found : Passed = subst (λ (b : Bool). MatchBool b Passed Found) none done.searched in
+                  rw none (record { passed = found.passed; unread = found.unread; unwritten = Keeps-trans held held' held'' found.unwritten kept; none = found.none })
+              | inr some ↦
+                  let found : Found = subst (λ (b : Bool). MatchBool b Passed Found) some done.searched in
+                  rw some (record { job = found.job; is_job = found.is_job; searched = or_kept p found.job holds (or_input names) done.between left' held status found.searched })
+            ];
+      }
 
 -- what was said is one thing alone
 pub same_said : (told : Option Said) (given mine : Said) → told ≡ Some given → told ≡ Some mine → mine ≡ given

@@ -8,4 +8,5 @@ pub mod NamesSearched
 pub mod PlacesBehind
 pub mod Streams
 pub mod Tellings
+pub mod Unselected
 pub mod WordLists

@@ -1,10 +1,12 @@
 -- What a call searches for and in which files, by what its arguments say.
 use Rattle.std.specs.Prelude.{◌≡◌, ℕ, ◌&&◌, nat_lt, Bool, MatchBool, true, false, List, [], ◌∷◌, ◌++◌, Option, Some, IfSome, String, codes, length, map, unwrap_or}
 use Rattle.std.specs.Io.KnownBytes.{Consumes, IsAtEnd, Keeps}
+use Rattle.aho_base.specs.Patterns.{Patterns}
 use Rattle.acgrep.specs.Arguments.{Origin, Said, origin_of, said_by, shown_by, texts}
 use Rattle.acgrep.specs.Files.{AreSearchedOr, is_input, or_input}
 use Rattle.acgrep.specs.Lines.{lines}
 use Rattle.acgrep.specs.Searchers.{patterns_by}
+use Rattle.acgrep.specs.Written.{IsPassed}
 use Rattle.acgrep.specs.declared.arguments.Source.{Source}
 use Rattle.acgrep.specs.declared.options.Color.{Color}
 use Rattle.acgrep.specs.declared.options.Color.TheVariants.{Auto, Always, Never}
@@ -103,8 +105,9 @@ pub record SearchesWords (holds : List ℕ → Option (List ℕ)) (terminal : Bo
   pub is_job : IsJob flags terminal (length names) job
   pub searched : AreSearchedOr (patterns_by flags.kind flags.ignore_case words) job holds (or_input names) left left' held held' status
 
--- nothing was read and nothing written, and the status tells that no line is selected
-pub record FindsNone (left left' held held' : Option (List ℕ)) (status : ℕ) : Type 0 where
+-- no line is selected, whatever it holds: nothing was read and nothing written, and the status tells it
+pub record FindsNone (p : Patterns) (invert : Bool) (left left' held held' : Option (List ℕ)) (status : ℕ) : Type 0 where
+  pub passed : (line : List ℕ) → IsPassed p invert line
   pub unread : left' ≡ left
   pub unwritten : Keeps held held'
   pub none : status ≡ 1
@@ -114,7 +117,7 @@ pub record SearchesFor (holds : List ℕ → Option (List ℕ)) (terminal : Bool
   pub words : List (List ℕ)
   pub between : Option (List ℕ)
   pub read : AreWords holds sources left between words
-  pub searched : MatchBool (selects_none flags.invert words) (FindsNone between left' held held' status)
+  pub searched : MatchBool (selects_none flags.invert words) (FindsNone (patterns_by flags.kind flags.ignore_case words) flags.invert between left' held held' status)
       (SearchesWords holds terminal flags words names between left' held held' status)
 
 -- what was said was done; `left` is what the input has left, and `held` what the output holds
