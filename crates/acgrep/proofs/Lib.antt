@@ -3,9 +3,12 @@ pub mod Coloring
 pub mod FileTellings
 pub mod Fillings
 pub mod FirstLines
+pub mod Kept
 pub mod LineLists
 pub mod NamesSearched
 pub mod Objected
 pub mod PlacesBehind
 pub mod Streams
 pub mod Tellings
+pub mod Unselected
+pub mod WordLists

@@ -1,10 +1,8 @@
 -- The lines of a text that is cut, and patterns that occur in none of them.
-use Rattle.std.proofs.Common.{◌≡◌, inl, inr, ◌⊎◌, ℕ, suc, zero, ◌+◌, ◌-◌, ◌≤◌, ◌<◌, ◌==◌, true, false, List, [], ◌∷◌, ◌++◌, length, take, drop, refl, sym, ◌∙◌, ap, subst, arith, add-one, take-append-drop}
-use Rattle.std.specs.Prelude.{slice_index, slice_range}
-use Rattle.std.proofs.Math.ListN.{get_or}
+use Rattle.std.proofs.Common.{◌≡◌, inl, inr, ℕ, suc, ◌+◌, ◌-◌, ◌≤◌, ◌<◌, ◌==◌, true, List, [], ◌∷◌, ◌++◌, length, take, drop, refl, sym, ◌∙◌, ap, subst, arith, take-append-drop}
+use Rattle.std.specs.Prelude.{slice_range}
 use Rattle.std.proofs.lemmas.Bool.{cases_Bool, cases_lt}
-use Rattle.std.proofs.lemmas.List.{length-take-le, length-drop, get_or-drop, drop-drop, take_all}
-use Rattle.memchr.specs.Find.{Nowhere}
+use Rattle.std.proofs.lemmas.List.{length-take-le, length-drop, drop-drop, take_all}
 use Rattle.aho_base.specs.Occurrence.{Occurrence}
 use Rattle.aho_base.specs.Occurs.{Occurs, OccursIn}
 use Rattle.aho_base.specs.Bytes.{IsSameWord}
@@ -16,7 +14,7 @@ use Rattle.aho_laws.specs.CutLaws.{moved}
 use Rattle.aho_laws.proofs.ClearCuts.{Occurs-in}
 use Rattle.aho_laws.proofs.SpanTexts.{Occurs-moved, Occurs-moved_back, length_part, moved-zero, moved_back}
 use Rattle.acgrep.specs.Lines.{IsNewline, joined_to, lines}
-use Rattle.acgrep.specs.Selected.{HoldNoNewline, IsFirstWith, IsLine}
+use Rattle.acgrep.specs.Selected.{HoldNoNewline, IsFirstWith}
 use Rattle.acgrep.specs.Written.{EachLine, EndsLine, HasMatch, HasNone}
 use Rattle.acgrep.proofs.Around.{behind_newline, ends_before, front_newline, newline_behind}
 use Rattle.acgrep.proofs.FirstLines.{lines_first, lines_joined}

@@ -2,8 +2,10 @@ pub mod Arguments
 pub mod Files
 pub mod Filled
 pub mod Lines
+pub mod Loading
 pub mod Objects
 pub mod Printed
+pub mod Runs
 pub mod Searchers
 pub mod Selected
 pub mod Streamed

@@ -4,12 +4,12 @@ ghost use Rattle.std.specs.Prelude.{◌≡◌, ◌≤◌, ◌<◌, ◌⊎◌, []
 ghost use Rattle.std.specs.Io.KnownBytes.{Appends};
 ghost use Rattle.aho_base.specs.Patterns.{Patterns};
 ghost use Rattle.acgrep.specs.Filled.{Reads};
-ghost use Rattle.acgrep.specs.Files.{AreSearchedOr, EndsFile, IfSearched, IsNamed, LeavesInput, SearchesFile, SearchesName, SearchesNames, SearchesReader, is_enough, is_input, names_of, nothing_seen, or_input, seen_after, status_by, total_if};
+ghost use Rattle.acgrep.specs.Files.{AreSearchedOr, EndsFile, IfSearched, IsNamed, LeavesInput, SearchesFile, SearchesName, SearchesNames, SearchesReader, is_enough, names_of, nothing_seen, or_input, seen_after, status_by, total_if};
 ghost use Rattle.acgrep.specs.Selected.{HoldNoNewline};
 
 use crate::buffer::Buffer;
 use crate::failure::Stop;
-use crate::keys::{INPUT, INPUT_NAME, open_named, tell_fault};
+use crate::keys::{INPUT, INPUT_NAME, is_input, open_named, tell_fault};
 use crate::open::Open;
 use crate::options::Shown;
 use crate::print::{Style, put_count, put_name};
@@ -253,13 +253,6 @@ fn search_name<A: Automaton, F: Open, R: Read, W: Write, E: Write>(
     }
     let named = job_for(job, name);
     search_named(automaton, &named, files, name, buffer, output, errors)
-}
-
-/// Whether this is the name of standard input.
-fn is_input(name: &[u8]) -> bool
-    ensures { result ≡ is_input name.now }
-{
-    name == INPUT
 }
 
 /// Opens the file of a name and searches it.

@@ -1,7 +1,13 @@
 //! Reading the patterns that a call names, and telling which one is refused.
 
-ghost use Rattle.std.specs.Prelude.{IfOk};
+ghost use Rattle.std.specs.Prelude.{◌≡◌, IfOk, IfSome, OnOk, true};
 ghost use Rattle.std.specs.Io.KnownBytes.{Keeps};
+ghost use Rattle.acgrep.specs.Arguments.{origin_of};
+ghost use Rattle.acgrep.specs.Files.{is_input};
+ghost use Rattle.acgrep.specs.Lines.{lines};
+ghost use Rattle.acgrep.specs.Loading.{AddsText, AddsWords};
+ghost use Rattle.acgrep.specs.Runs.{AreWords, origins_of};
+ghost use Rattle.acgrep.specs.Written.{EndsLine};
 
 use crate::arguments::Source;
 use crate::open::Open;
@@ -30,27 +36,50 @@ pub fn read_keys<F: Open, R: Read, E: Write>(
     files: &F,
     input: &mut R,
     errors: &mut E,
-) -> Option<Keys> {
+) -> Option<Keys>
+    ensures words { IfSome result (λ keys. AreWords (F.holds files.now) (origins_of sources.now)
+        (R.remaining input.old) (R.remaining input.new) (lines keys.text.items)) }
+{
     let mut keys = Keys::new(alloc);
-    for source in sources {
-        let (name, read) = match source {
-            Source::Text(text) => (&b""[..], keys.add_text(*text).map_err(io::Error::from)),
-            Source::File(name) => (*name, read_file(&mut keys, *name, files, input)),
-        };
-        if let Err(error) = read {
-            tell_fault(name, &error, errors);
-            return None;
+    let mut rest = sources;
+    while !rest.is_empty() {
+        let source = rest[0];
+        match read_source(&mut keys, source, files, input) {
+            Ok(()) => {}
+            Err(error) => {
+                tell_fault(name_of(source), &error, errors);
+                return None;
+            }
         }
+        rest = &rest[1..];
     }
     Some(keys)
 }
 
-/// Tells why a file cannot be read, or that memory ran out.
-pub fn tell_fault<E: Write>(name: &[u8], error: &io::Error, errors: &mut E) {
-    if error.kind() == ErrorKind::OutOfMemory {
-        tell(errors, &[b"out of memory"]);
-    } else {
-        tell_of(errors, name, error);
+/// The name of the file of a source. A text has none.
+fn name_of<'a>(source: Source<'a>) -> &'a [u8] {
+    match source {
+        Source::Text(_) => b"",
+        Source::File(name) => name,
+    }
+}
+
+/// Adds the patterns of a source.
+fn read_source<F: Open, R: Read>(
+    keys: &mut Keys,
+    source: Source<'_>,
+    files: &F,
+    input: &mut R,
+) -> io::Result<()>
+    requires whole { EndsLine keys.old.text.items }
+    ensures added { OnOk result (AddsWords (F.holds files.now) (origin_of source.entry)
+        (R.remaining input.old) (R.remaining input.new)
+        (lines keys.old.text.items) (lines keys.new.text.items)) }
+    ensures ends { OnOk result (EndsLine keys.new.text.items) }
+{
+    match source {
+        Source::Text(text) => Ok(keys.add_text(text)?),
+        Source::File(name) => read_file(keys, name, files, input),
     }
 }
 
@@ -60,16 +89,53 @@ fn read_file<F: Open, R: Read>(
     name: &[u8],
     files: &F,
     input: &mut R,
-) -> io::Result<()> {
+) -> io::Result<()>
+    requires whole { EndsLine keys.old.text.items }
+    ensures added { OnOk result (AddsWords (F.holds files.now)
+        (record { is_file = true; bytes = name.now })
+        (R.remaining input.old) (R.remaining input.new)
+        (lines keys.old.text.items) (lines keys.new.text.items)) }
+    ensures ends { OnOk result (EndsLine keys.new.text.items) }
+{
     keys.begin()?;
-    let start = keys.text.len();
-    if name == INPUT {
-        input.read_to_end(&mut keys.text)?;
-    } else {
-        let mut file = open_named(files, name)?;
-        file.read_to_end(&mut keys.text)?;
+    read_text(&mut keys.text, name, files, input)?;
+    keys.end_file()?;
+    Ok(())
+}
+
+/// Adds the bytes of a file.
+fn read_text<F: Open, R: Read>(
+    text: &mut Vec<u8>,
+    name: &[u8],
+    files: &F,
+    input: &mut R,
+) -> io::Result<()>
+    ensures added { OnOk result (AddsText (F.holds files.now) name.now
+        (R.remaining input.old) (R.remaining input.new) text.old.items text.new.items) }
+{
+    if is_input(name) {
+        input.read_to_end(text)?;
+        return Ok(());
     }
-    Ok(keys.end_file(start)?)
+    let mut file = open_named(files, name)?;
+    file.read_to_end(text)?;
+    Ok(())
+}
+
+/// Whether this is the name of standard input.
+pub fn is_input(name: &[u8]) -> bool
+    ensures { result ≡ is_input name.now }
+{
+    name == INPUT
+}
+
+/// Tells why a file cannot be read, or that memory ran out.
+pub fn tell_fault<E: Write>(name: &[u8], error: &io::Error, errors: &mut E) {
+    if error.kind() == ErrorKind::OutOfMemory {
+        tell(errors, &[b"out of memory"]);
+    } else {
+        tell_of(errors, name, error);
+    }
 }
 
 /// Opens a file by the bytes of its name.

@@ -1,10 +1,11 @@
 //! Patterns: the lines of what the options give.
 
-ghost use Rattle.std.specs.Prelude.{◌≡◌, IfOk};
+ghost use Rattle.std.specs.Prelude.{◌≡◌, ◌++◌, [], IfOk, OnOk, codes};
 ghost use Rattle.aho_base.specs.Replacement.{pieces_of};
 ghost use Rattle.acgrep.specs.Lines.{lines};
+ghost use Rattle.acgrep.specs.Written.{EndsLine};
 
-use crate::lines::{behind, line_end};
+use crate::lines::{behind, line_end, line_start};
 use std::alloc::{AllocError, Global};
 
 /// The patterns of several sources, each followed by a newline, and where each source begins.
@@ -18,7 +19,9 @@ pub struct Keys {
 
 impl Keys {
     /// No source.
-    pub fn new(alloc: Global) -> Keys {
+    pub fn new(alloc: Global) -> Keys
+        ensures none { result.text.items ≡ [] }
+    {
         Keys {
             text: Vec::new(alloc),
             starts: Vec::new(alloc),
@@ -26,13 +29,18 @@ impl Keys {
     }
 
     /// Begins a source.
-    pub fn begin(&mut self) -> Result<(), AllocError> {
+    pub fn begin(&mut self) -> Result<(), AllocError>
+        ensures same { self.new.text.items ≡ self.old.text.items }
+    {
         self.starts.push(self.text.len())?;
         Ok(())
     }
 
     /// Adds a source that is a text. An empty one is one empty pattern.
-    pub fn add_text(&mut self, text: &[u8]) -> Result<(), AllocError> {
+    pub fn add_text(&mut self, text: &[u8]) -> Result<(), AllocError>
+        ensures added { OnOk result
+            (self.new.text.items ≡ self.old.text.items ++ (text.now ++ codes "\n")) }
+    {
         self.begin()?;
         self.text.extend_from_slice(text)?;
         self.text.push(b'\n')?;
@@ -40,8 +48,11 @@ impl Keys {
     }
 
     /// Ends a source that is a file. A last newline ends the last pattern, and an empty file has none.
-    pub fn end_file(&mut self, start: usize) -> Result<(), AllocError> {
-        if self.text.len() > start && self.text.last() != Some(&b'\n') {
+    pub fn end_file(&mut self) -> Result<(), AllocError>
+        ensures lines { OnOk result (lines self.new.text.items ≡ lines self.old.text.items) }
+        ensures ends { OnOk result (EndsLine self.new.text.items) }
+    {
+        if line_start(self.text.as_slice()) < self.text.len() {
             self.text.push(b'\n')?;
         }
         Ok(())

@@ -1,16 +1,21 @@
 //! A call over its arguments, files and streams.
 
-ghost use Rattle.std.specs.Prelude.{◌≡◌, ◌≤◌, ◌⊎◌, None};
+ghost use Rattle.std.specs.Prelude.{◌≡◌, ◌≤◌, ◌<◌, ◌⊎◌, None, nat_lt, unwrap_or};
+ghost use Rattle.std.specs.Io.KnownBytes.{Keeps};
 ghost use Rattle.aho_base.specs.Patterns.{Patterns};
-ghost use Rattle.acgrep.specs.Arguments.{said_by, texts};
+ghost use Rattle.aho_base.specs.Replacement.{pieces_of};
+ghost use Rattle.acgrep.specs.Arguments.{said, said_by, texts};
+ghost use Rattle.acgrep.specs.Files.{AreSearchedOr, names_of, or_input};
+ghost use Rattle.acgrep.specs.Runs.{AsksToSearch, GivesNone, IfSaid, IsJob, Searches, SearchesFor, are_empty, is_colored, origins_of, selects_none};
 ghost use Rattle.acgrep.specs.Searchers.{IsSearcherOf};
+ghost use Rattle.acgrep.specs.Selected.{HoldNoNewline};
 
 use crate::arguments::{Given, Refusal, Source, Wrong, parse};
 use crate::files::{Files, search_files};
 use crate::help::{HELP, VERSION};
 use crate::keys::{read_keys, tell_refusal};
 use crate::open::Open;
-use crate::options::Color;
+use crate::options::{Color, Flags};
 use crate::patterns::lines_of;
 use crate::print::Style;
 use crate::searcher::Searcher;
@@ -35,24 +40,43 @@ pub fn run<F: Open, R: Read, W: Write, E: Write>(
     // Wrong arguments are found first.
     ensures usage { said_by (texts arguments.now) ≡ None → result ≡ 2 }
     ensures unread { said_by (texts arguments.now) ≡ None → input.new ≡ input.old }
+    ensures unwritten { said_by (texts arguments.now) ≡ None
+        → Keeps (W.contents output.old) (W.contents output.new) }
+
+    // A search needs a pattern.
+    ensures patternless { IfSaid arguments.now (λ said. AsksToSearch said.flags → GivesNone said
+        → result ≡ 2) }
+
+    // Where the status tells of no error, the patterns were searched for in the files, one after another.
+    ensures searches { IfSaid arguments.now (λ said. AsksToSearch said.flags → result < 2
+        → Searches (F.holds files.now) terminal said
+        (R.remaining input.old) (R.remaining input.new)
+        (W.contents output.old) (W.contents output.new) result) }
 {
-    let status = match parse(alloc, arguments) {
-        Ok(given) => answer(alloc, &given, terminal, files, input, output, errors),
-        Err(Refusal::Wrong(wrong)) => {
-            tell_wrong(errors, wrong);
-            2
+    match parse(alloc, arguments) {
+        Ok(given) => {
+            let status = answer(alloc, &given, terminal, files, input, output, errors);
+            finish(status, output, errors)
         }
-        Err(Refusal::OutOfMemory) => {
-            tell(errors, &[b"out of memory"]);
-            2
+        Err(refusal) => {
+            tell_refused(refusal, errors);
+            finish(2, output, errors)
         }
-    };
-    finish(status, output, errors)
+    }
+}
+
+/// Tells why the arguments are refused.
+fn tell_refused<E: Write>(refusal: Refusal<'_>, errors: &mut E) {
+    match refusal {
+        Refusal::Wrong(wrong) => tell_wrong(errors, wrong),
+        Refusal::OutOfMemory => tell(errors, &[b"out of memory"]),
+    }
 }
 
 /// Hands on what the output keeps, and answers the status.
 fn finish<W: Write, E: Write>(status: u8, output: &mut W, errors: &mut E) -> u8
     ensures status { (result ≡ status) ⊎ (result ≡ 2) }
+    ensures kept { Keeps (W.contents output.old) (W.contents output.new) }
 {
     match output.flush() {
         Ok(()) => status,
@@ -77,6 +101,11 @@ fn answer<F: Open, R: Read, W: Write, E: Write>(
     errors: &mut E,
 ) -> u8
     ensures bound { result ≤ 2 }
+    ensures patternless { AsksToSearch given.now.flags → GivesNone (said given.now) → result ≡ 2 }
+    ensures searches { AsksToSearch given.now.flags → result < 2
+        → Searches (F.holds files.now) terminal (said given.now)
+        (R.remaining input.old) (R.remaining input.new)
+        (W.contents output.old) (W.contents output.new) result }
 {
     if given.flags.version {
         return write_text(VERSION, output, errors);
@@ -84,18 +113,38 @@ fn answer<F: Open, R: Read, W: Write, E: Write>(
     if given.flags.help {
         return write_text(HELP, output, errors);
     }
-    if !given.sources.is_empty() {
-        let sources = given.sources.as_slice();
-        let names = given.operands.as_slice();
+    search_asked(alloc, given, terminal, files, input, output, errors)
+}
+
+/// Searches as the arguments say. Where no option gives patterns the first operand does.
+fn search_asked<F: Open, R: Read, W: Write, E: Write>(
+    alloc: Global,
+    given: &Given<'_>,
+    terminal: bool,
+    files: &F,
+    input: &mut R,
+    output: &mut W,
+    errors: &mut E,
+) -> u8
+    ensures bound { result ≤ 2 }
+    ensures patternless { GivesNone (said given.now) → result ≡ 2 }
+    ensures searches { result < 2 → Searches (F.holds files.now) terminal (said given.now)
+        (R.remaining input.old) (R.remaining input.new)
+        (W.contents output.old) (W.contents output.new) result }
+{
+    let flags = &given.flags;
+    let sources = given.sources.as_slice();
+    let operands = given.operands.as_slice();
+    if !sources.is_empty() {
         return search(
-            alloc, given, terminal, sources, names, files, input, output, errors,
+            alloc, flags, terminal, sources, operands, files, input, output, errors,
         );
     }
-    match given.operands.split_first() {
+    match operands.split_first() {
         Some((pattern, names)) => {
-            let sources = [Source::Text(*pattern)];
+            let first = [Source::Text(*pattern)];
             search(
-                alloc, given, terminal, &sources, names, files, input, output, errors,
+                alloc, flags, terminal, &first, names, files, input, output, errors,
             )
         }
         None => {
@@ -121,7 +170,7 @@ fn write_text<W: Write, E: Write>(text: &[u8], output: &mut W, errors: &mut E) -
 /// Searches the files of these names for the patterns of these sources.
 fn search<F: Open, R: Read, W: Write, E: Write>(
     alloc: Global,
-    given: &Given<'_>,
+    flags: &Flags,
     terminal: bool,
     sources: &[Source<'_>],
     names: &[&[u8]],
@@ -131,6 +180,10 @@ fn search<F: Open, R: Read, W: Write, E: Write>(
     errors: &mut E,
 ) -> u8
     ensures bound { result ≤ 2 }
+    ensures searches { result < 2 → SearchesFor (F.holds files.now) terminal flags.now
+        (origins_of sources.now) (names_of names.now)
+        (R.remaining input.old) (R.remaining input.new)
+        (W.contents output.old) (W.contents output.new) result }
 {
     let Some(keys) = read_keys(alloc, sources, files, input, errors) else {
         return 2;
@@ -139,18 +192,18 @@ fn search<F: Open, R: Read, W: Write, E: Write>(
         tell(errors, &[b"out of memory"]);
         return 2;
     };
-    if selects_none(patterns.as_slice(), given.flags.invert) {
+    let words = patterns.as_slice();
+    if selects_none(words, flags.invert) {
         return 1;
     }
-    let job = job_of(given, terminal, names.len());
-    let files = Files {
+    let job = job_of(flags, terminal, names.len());
+    let named = Files {
         alloc,
         names,
         files,
     };
-    let flags = &given.flags;
-    match Searcher::build(alloc, flags.kind, flags.ignore_case, patterns.as_slice()) {
-        Ok(searcher) => search_by(&searcher, &job, &files, input, output, errors),
+    match Searcher::build(alloc, flags.kind, flags.ignore_case, words) {
+        Ok(searcher) => search_by(&searcher, &job, &named, input, output, errors),
         Err(error) => {
             tell_refusal(&keys, sources, &error, errors);
             2
@@ -169,6 +222,10 @@ fn search_by<F: Open, R: Read, W: Write, E: Write>(
 ) -> u8
     requires of { (p : Patterns) × IsSearcherOf p searcher.now }
     ensures bound { result ≤ 2 }
+    ensures searched { (p : Patterns) → IsSearcherOf p searcher.now → HoldNoNewline p → result < 2
+        → AreSearchedOr p job.now (F.holds files.now.files.now) (or_input (names_of files.now.names.now))
+        (R.remaining input.old) (R.remaining input.new)
+        (W.contents output.old) (W.contents output.new) result }
 {
     match searcher {
         Searcher::Rows(rows) => search_files(rows, job, files, input, output, errors),
@@ -178,34 +235,63 @@ fn search_by<F: Open, R: Read, W: Write, E: Write>(
 
 /// Whether it is known without reading a file that no line is selected: there is no pattern, or `-v` is given and all are empty.
 /// Then no file is opened, as with grep.
-fn selects_none(patterns: &[&[u8]], invert: bool) -> bool {
-    if invert {
-        !patterns.is_empty() && patterns.iter().all(|pattern| pattern.is_empty())
-    } else {
-        patterns.is_empty()
+fn selects_none(patterns: &[&[u8]], invert: bool) -> bool
+    ensures { result ≡ selects_none invert (pieces_of patterns.now) }
+{
+    if patterns.is_empty() {
+        return !invert;
     }
+    invert && are_empty(patterns)
 }
 
-/// What is written of each file, but for its name.
-fn job_of(given: &Given<'_>, terminal: bool, names: usize) -> Job<'static> {
-    let flags = &given.flags;
-    let color = match flags.color {
-        Color::Always => true,
-        Color::Auto => terminal,
-        Color::Never => false,
-    };
+/// Whether all patterns are empty.
+fn are_empty(patterns: &[&[u8]]) -> bool
+    ensures { result ≡ are_empty (pieces_of patterns.now) }
+{
+    let mut rest = patterns;
+    while !rest.is_empty() {
+        if !rest[0].is_empty() {
+            return false;
+        }
+        rest = &rest[1..];
+    }
+    true
+}
+
+/// What is written of each of so many files, but for its name.
+fn job_of(flags: &Flags, terminal: bool, count: usize) -> Job<'static>
+    ensures job { IsJob flags.now terminal count result }
+{
     Job {
         shown: flags.shown(),
         invert: flags.invert,
         style: Style {
             name: b"",
-            with_name: match flags.with_name {
-                Some(with_name) => with_name,
-                None => names > 1,
-            },
+            with_name: has_name(flags.with_name, count),
             number: flags.number,
             offset: flags.offset,
-            color,
+            color: is_colored(flags.color, terminal),
         },
+    }
+}
+
+/// Whether names stand before the lines of so many files.
+fn has_name(asked: Option<bool>, count: usize) -> bool
+    ensures { result ≡ unwrap_or asked (nat_lt 1 count) }
+{
+    match asked {
+        Some(with_name) => with_name,
+        None => count > 1,
+    }
+}
+
+/// Whether matches are coloured.
+fn is_colored(color: Color, terminal: bool) -> bool
+    ensures { result ≡ is_colored color terminal }
+{
+    match color {
+        Color::Always => true,
+        Color::Auto => terminal,
+        Color::Never => false,
     }
 }

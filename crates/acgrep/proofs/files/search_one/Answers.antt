@@ -1,5 +1,5 @@
 -- What was searched of the reader, and what is asked of the file as a whole.
-use Rattle.std.proofs.Common.{Bool, subst}
+use Rattle.std.proofs.Common.{subst}
 use Rattle.acgrep.specs.Files.{EndsFile, SearchesReader}
 use Rattle.acgrep.specs.Streamed.{SearchesStream, course}
 use Rattle.acgrep.specs.Written.{at_begin}

@@ -1,7 +1,6 @@
 -- The lines before the one that was found have no match, and it has one.
 use Rattle.std.proofs.Common.{◌≡◌, ℕ, ◌+◌, ◌-◌, List, [], ◌∷◌, ◌++◌, length, take, drop, sym, ◌∙◌, ap, subst, arith}
 use Rattle.std.specs.Prelude.{slice_range}
-use Rattle.std.proofs.lemmas.List.{drop_all}
 use Rattle.acgrep.specs.Lines.{lines}
 use Rattle.acgrep.specs.Selected.{IsFirstWith, IsNextLine}
 use Rattle.acgrep.specs.Written.{HasNone}

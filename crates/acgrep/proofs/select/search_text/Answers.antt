@@ -1,6 +1,6 @@
 -- What is left of the text was not searched yet.
-use Rattle.std.proofs.Common.{◌≡◌, ◌⊎◌, inl, inr, ◌<◌, ◌≤◌, ℕ, List, [], length, refl, sym, ◌∙◌, ap, subst, arith}
-use Rattle.acgrep.specs.Written.{HasNone, IsSettled}
+use Rattle.std.proofs.Common.{inl, inr, length, refl, ap, subst, arith}
+use Rattle.acgrep.specs.Written.{HasNone}
 use Rattle.acgrep.proofs.Tellings.{searches_join, searches_start}
 use Rattle.acgrep.proofs.select.search_text.Goals as goal
 

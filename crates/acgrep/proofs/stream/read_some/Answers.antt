@@ -1,5 +1,5 @@
 -- What came is behind the bytes that were kept.
-use Rattle.std.proofs.Common.{◌≡◌, ℕ, List, take, subst}
+use Rattle.std.proofs.Common.{ℕ, List, take, subst}
 use Rattle.acgrep.specs.Filled.{Fills}
 use Rattle.acgrep.proofs.Streams.{reads_none, reads_some}
 use Rattle.acgrep.proofs.stream.read_some.Goals as goal

@@ -1,5 +1,5 @@
 -- A read more, up to the end or a line that tells all.
-use Rattle.std.proofs.Common.{◌≡◌, ℕ, List, [], take, subst, ◌∙◌, ap}
+use Rattle.std.proofs.Common.{ℕ, List, [], take, subst, ◌∙◌, ap}
 use Rattle.std.specs.Prelude.{OnOk}
 use Rattle.std.proofs.KnownBytes.{Consumes-nil}
 use Rattle.acgrep.specs.Streamed.{ReadsSome, course}

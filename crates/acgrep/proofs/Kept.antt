@@ -1,0 +1,66 @@
+-- What was done is as it was where the output keeps its bytes.
+use Rattle.std.proofs.Common.{◌≡◌, inl, inr, ℕ, Bool, List, [], ◌∷◌, Option, Some, ◌∙◌, subst, sym}
+use Rattle.std.specs.Prelude.{MatchBool}
+use Rattle.std.specs.Io.KnownBytes.{Keeps}
+use Rattle.std.proofs.KnownBytes.{Keeps-trans}
+use Rattle.std.proofs.lemmas.Bool.{cases_Bool}
+use Rattle.aho_base.specs.Patterns.{Patterns}
+use Rattle.acgrep.specs.Arguments.{Origin, Said}
+use Rattle.acgrep.specs.Files.{AreSearched, AreSearchedOr, is_enough, or_input}
+use Rattle.acgrep.specs.Runs.{FindsNone, SearchesFor, SearchesWords, selects_none}
+use Rattle.acgrep.specs.Searchers.{patterns_by}
+use Rattle.acgrep.specs.declared.options.Flags.{Flags}
+use Rattle.acgrep.specs.declared.select.Job.{Job}
+
+module _ (held' held'' : Option (List ℕ)) (kept : Keeps held' held'') where
+  searched_kept : (p : Patterns) (job : Job) (holds : List ℕ → Option (List ℕ)) (names : List (List ℕ)) (left left' held : Option (List ℕ)) (any : Bool)
+      → AreSearched p job holds names left left' held held' any → AreSearched p job holds names left left' held held'' any
+  searched_kept p job holds [] left left' held any are = (are.0, Keeps-trans held held' held'' are.1 kept, are.2)
+  searched_kept p job holds (name ∷ names) left left' held any (between, meanwhile, first, one, more) = (
+    between,
+    meanwhile,
+    first,
+    one,
+    elim (cases_Bool (is_enough job.shown first)) [
+      | inl enough ↦
+          let (unread, same, is) = rw enough at more in
+          rw enough (unread, Keeps-trans meanwhile held' held'' same kept, is)
+      | inr not ↦
+          let (others, are, is) = rw not at more in
+          rw not (others, searched_kept p job holds names between left' meanwhile others are, is)
+    ],
+  )
+
+  or_kept : (p : Patterns) (job : Job) (holds : List ℕ → Option (List ℕ)) (names : List (List ℕ)) (left left' held : Option (List ℕ)) (status : ℕ)
+      → AreSearchedOr p job holds names left left' held held' status → AreSearchedOr p job holds names left left' held held'' status
+  or_kept p job holds names left left' held status (inl (any, are, is)) = inl (any, searched_kept p job holds names left left' held any are, is)
+  or_kept p job holds names left left' held status (inr one) = inr one
+
+  -- what was done of a search
+  pub searches_kept : (holds : List ℕ → Option (List ℕ)) (terminal : Bool) (flags : Flags) (sources : List Origin) (names : List (List ℕ)) (left left' held : Option (List ℕ)) (status : ℕ)
+      → SearchesFor holds terminal flags sources names left left' held held' status → SearchesFor holds terminal flags sources names left left' held held'' status
+  searches_kept holds terminal flags sources names left left' held status done =
+      let p = patterns_by flags.kind flags.ignore_case done.words in
+      let Passed = FindsNone p flags.invert done.between left' held held' status in
+      let Found = SearchesWords holds terminal flags done.words names done.between left' held held' status in
+      record {
+        words = done.words;
+        between = done.between;
+        read = done.read;
+        searched =
+            elim (cases_Bool (selects_none flags.invert done.words)) [
+              | inl none ↦
+                  let found : Passed = subst (λ (b : Bool). MatchBool b Passed Found) none done.searched in
+                  rw none (record { passed = found.passed; unread = found.unread; unwritten = Keeps-trans held held' held'' found.unwritten kept; none = found.none })
+              | inr some ↦
+                  let found : Found = subst (λ (b : Bool). MatchBool b Passed Found) some done.searched in
+                  rw some (record { job = found.job; is_job = found.is_job; searched = or_kept p found.job holds (or_input names) done.between left' held status found.searched })
+            ];
+      }
+
+-- what was said is one thing alone
+pub same_said : (told : Option Said) (given mine : Said) → told ≡ Some given → told ≡ Some mine → mine ≡ given
+same_said told given mine first second = some_same mine given (sym second ∙ first)
+  where
+    some_same : (x y : Said) → Some x ≡ Some y → x ≡ y
+    some_same x y e = cc

@@ -1,0 +1,34 @@
+-- Patterns by which no line is selected.
+use Rattle.std.proofs.Common.{◌≡◌, ℕ, Bool, true, false, List, [], ◌∷◌, length, drop, refl, sym, ap, subst, arith}
+use Rattle.std.specs.Prelude.{slice_index_or, slice_range}
+use Rattle.aho_base.specs.Bytes.{IsSameWord}
+use Rattle.aho_base.specs.Patterns.{Patterns, pattern_at}
+use Rattle.acgrep.specs.Runs.{selects_none}
+use Rattle.acgrep.specs.Written.{HasMatch, IsPassed}
+use Rattle.acgrep.proofs.LineLists.{take_zero}
+
+-- an empty pattern occurs in each line
+empty_matches : (p : Patterns) (words : List (List ℕ)) → p.words ≡ [] ∷ words → (line : List ℕ) → HasMatch p line
+empty_matches p words are line =
+    let empty : pattern_at p 0 ≡ [] = ap (λ (l : List (List ℕ)). slice_index_or l 0 []) are in
+    let none : slice_range line 0 0 ≡ [] = take_zero (drop 0 line) in
+    let same : IsSameWord p (pattern_at p 0) (slice_range line 0 0) =
+    subst (λ (word : List ℕ). IsSameWord p word (slice_range line 0 0)) (sym empty) (subst (IsSameWord p []) (sym none) refl) in (
+      record { pattern = 0; start = 0; end = 0 },
+      record {
+        numbered = omega (arith, ap length are);
+        after_start = omega arith;
+        before_end = omega arith;
+        sized = omega (arith, ap length empty);
+        same = same;
+        admitted = λ e. cc;
+      },
+    )
+
+-- where no line is selected each is passed over
+pub none_selected : (p : Patterns) (invert : Bool) (words : List (List ℕ)) → p.words ≡ words → selects_none invert words ≡ true → (line : List ℕ) → IsPassed p invert line
+none_selected p false [] are is line = λ m occurs. absurd (omega (arith, occurs.numbered, ap length are))
+none_selected p false (word ∷ words) are is line = absurd (cc)
+none_selected p true [] are is line = absurd (cc)
+none_selected p true ([] ∷ words) are is line = empty_matches p words are line
+none_selected p true ((byte ∷ bytes) ∷ words) are is line = absurd (cc)

@@ -1,0 +1,168 @@
+-- The patterns of sources, one after another, as the lines of one text.
+use Rattle.std.proofs.Common.{◌≡◌, inl, inr, ℕ, suc, zero, ◌+◌, ◌-◌, ◌≤◌, ◌<◌, ◌==◌, Bool, true, false, List, [], ◌∷◌, ◌++◌, Option, None, Some, length, take, drop, refl, sym, ◌∙◌, ap, subst, arith, append-nil, append_assoc, length-append}
+use Rattle.std.specs.Prelude.{IfSome, codes, slice_index}
+use Rattle.std.specs.Io.{StartsWith}
+use Rattle.std.specs.Io.KnownBytes.{Consumes, IsAtEnd, Keeps}
+use Rattle.std.proofs.KnownBytes.{starts_with_rest}
+use Rattle.std.proofs.Math.ListN.{get_or}
+use Rattle.std.proofs.Math.Seq.{drop-append_seam}
+use Rattle.std.proofs.lemmas.Bool.{cases_Bool, eqb-false}
+use Rattle.std.proofs.lemmas.List.{take_all}
+use Rattle.memchr.specs.Find.{Nowhere}
+use Rattle.aho_base.specs.declared.search.MatchKind.{MatchKind}
+use Rattle.acgrep.specs.Arguments.{Origin, origin_of}
+use Rattle.acgrep.specs.Files.{is_input}
+use Rattle.acgrep.specs.Lines.{IsNewline, joined_to, lines}
+use Rattle.acgrep.specs.Loading.{AddsText, AddsWords}
+use Rattle.acgrep.specs.Runs.{AreWords, origins_of}
+use Rattle.acgrep.specs.Searchers.{patterns_by}
+use Rattle.acgrep.specs.Selected.{HoldNoNewline}
+use Rattle.acgrep.specs.Written.{EachLine, EndsLine}
+use Rattle.acgrep.specs.declared.arguments.Source.{Source}
+use Rattle.acgrep.proofs.Around.{newline_behind}
+use Rattle.acgrep.proofs.FirstLines.{lines_joined}
+use Rattle.acgrep.proofs.LineLists.{lines_append}
+
+-- a text with a newline behind it ends in one
+pub ends_newline : (text : List ℕ) → EndsLine (text ++ codes "\n")
+ends_newline text some =
+    let seam : IsNewline (drop (length text) (text ++ codes "\n")) 0 = subst (λ (l : List ℕ). IsNewline l 0) (sym (drop-append_seam text (codes "\n"))) refl in
+    let long : length (text ++ codes "\n") ≡ length text + 1 = length-append text (codes "\n") in
+    let place : length text + 0 ≡ length (text ++ codes "\n") - 1 = omega (arith, long) in
+    subst (IsNewline (text ++ codes "\n")) place (newline_behind (text ++ codes "\n") (length text) 0 seam)
+
+-- a newline behind a text that ends in none makes no further line
+lines_closed : (text : List ℕ) → 0 < length text → (IsNewline text (length text - 1) → ⊥) → lines (text ++ codes "\n") ≡ lines text
+lines_closed [] some bare = absurd (omega (arith, some))
+lines_closed (byte ∷ []) some bare =
+    elim (cases_Bool (byte == 10)) [
+      | inl is ↦
+          let last : 0 ≡ length (byte ∷ []) - 1 = omega arith in
+          absurd (bare (subst (IsNewline (byte ∷ [])) last is))
+      | inr other ↦ lines_joined byte (codes "\n") other ∙ sym (lines_joined byte [] other)
+    ]
+lines_closed (byte ∷ next ∷ rest) some bare =
+    let last : suc (length (next ∷ rest) - 1) ≡ length (byte ∷ next ∷ rest) - 1 = omega arith in
+    let IH : lines ((next ∷ rest) ++ codes "\n") ≡ lines (next ∷ rest) =
+    lines_closed (next ∷ rest) (omega arith) (λ is. bare (subst (IsNewline (byte ∷ next ∷ rest)) last is)) in
+    elim (cases_Bool (byte == 10)) [
+      | inl is ↦ rw is (ap (λ (l : List (List ℕ)). [] ∷ l) IH)
+      | inr other ↦ lines_joined byte ((next ∷ rest) ++ codes "\n") other ∙ ap (joined_to byte) IH ∙ sym (lines_joined byte (next ∷ rest) other)
+    ]
+
+-- what follows the last newline is not empty: a newline behind it ends the last line
+pub lines_ended : (text : List ℕ) (start : ℕ) → start < length text → Nowhere (IsNewline text) start (length text) → lines (text ++ codes "\n") ≡ lines text
+lines_ended text start some none = lines_closed text (omega (arith, some)) (none (length text - 1) (omega (arith, some)) (omega (arith, some)))
+
+-- it is empty: the text ends in a newline
+pub ends_there : (text : List ℕ) (start : ℕ) → start ≤ length text → length text ≤ start → (0 < start → IsNewline text (start - 1)) → EndsLine text
+ends_there text start within behind newline some =
+    let same : start ≡ length text = omega (arith, within, behind) in
+    subst (λ (n : ℕ). IsNewline text (n - 1)) same (newline (omega (arith, same, some)))
+
+-- no byte of a word is a newline
+abbrev IsPlain : List ℕ → Type 0
+IsPlain word = (place : ℕ) → place < length word → slice_index word place ≡ 10 → ⊥
+
+plain_joined : (byte : ℕ) (words : List (List ℕ)) → (byte == 10) ≡ false → EachLine IsPlain words → EachLine IsPlain (joined_to byte words)
+plain_joined byte [] other plain = (plain_one byte [] other (λ place low. absurd (omega (arith, low))), tt)
+  where
+    plain_one : (byte : ℕ) (word : List ℕ) → (byte == 10) ≡ false → IsPlain word → IsPlain (byte ∷ word)
+    plain_one byte word other plain zero low = λ is. eqb-false byte 10 other is
+    plain_one byte word other plain (suc place) low = plain place (omega (arith, low))
+plain_joined byte (first ∷ rest) other plain = (plain_one byte first other plain.0, plain.1)
+  where
+    plain_one : (byte : ℕ) (word : List ℕ) → (byte == 10) ≡ false → IsPlain word → IsPlain (byte ∷ word)
+    plain_one byte word other plain zero low = λ is. eqb-false byte 10 other is
+    plain_one byte word other plain (suc place) low = plain place (omega (arith, low))
+
+-- nor is one of a line
+plain_lines : (text : List ℕ) → EachLine IsPlain (lines text)
+plain_lines [] = tt
+plain_lines (byte ∷ rest) =
+    elim (cases_Bool (byte == 10)) [
+      | inl is ↦ rw is (λ place low. absurd (omega (arith, low)), plain_lines rest)
+      | inr other ↦ subst (EachLine IsPlain) (sym (lines_joined byte rest other)) (plain_joined byte (lines rest) other (plain_lines rest))
+    ]
+
+plain_at : (words : List (List ℕ)) (number : ℕ) → EachLine IsPlain words → number < length words → IsPlain (get_or words number [])
+plain_at [] number plain low = absurd (omega (arith, low))
+plain_at (word ∷ words) zero plain low = plain.0
+plain_at (word ∷ words) (suc number) plain low = plain_at words number plain.1 (omega (arith, low))
+
+-- patterns that are lines hold no newline
+pub lines_plain : (kind : MatchKind) (ignore_case : Bool) (text : List ℕ) → HoldNoNewline (patterns_by kind ignore_case (lines text))
+lines_plain kind ignore_case text number place low within = plain_at (lines text) number (plain_lines text) low place within
+
+module _ (holds : List ℕ → Option (List ℕ)) where
+  -- all that a reader has of a file that is known
+  text_kept : (known left left' : Option (List ℕ)) (text : List ℕ) → Keeps known left → Consumes left left' text → IsAtEnd left' → IfSome known (λ (bytes : List ℕ). text ≡ bytes)
+  text_kept None left left' text kept read end = tt
+  text_kept (Some bytes) None left' text kept read end = absurd kept
+  text_kept (Some bytes) (Some all) None text kept read end = absurd read
+  text_kept (Some bytes) (Some all) (Some rest) text kept read end =
+      sym (append-nil text) ∙ ap (λ (l : List ℕ). text ++ l) (sym end) ∙ sym read ∙ kept
+
+  -- what was read of the input stands behind the bytes before
+  pub input_added : (name old new : List ℕ) (left left' : Option (List ℕ)) → is_input name ≡ true → StartsWith new old → Consumes left left' (drop (length old) new) → IsAtEnd left'
+      → AddsText holds name left left' old new
+  input_added name old new left left' is starts read end = record {
+    text = drop (length old) new;
+    grown = starts_with_rest new old starts;
+    is = rw is (read, end);
+  }
+
+  -- and so does what was read of a file
+  pub file_added : (name old new : List ℕ) (left file file' : Option (List ℕ)) → is_input name ≡ false → Keeps (holds name) file → StartsWith new old → Consumes file file' (drop (length old) new) → IsAtEnd file'
+      → AddsText holds name left left old new
+  file_added name old new left file file' is kept starts read end = record {
+    text = drop (length old) new;
+    grown = starts_with_rest new old starts;
+    is = rw is (refl, text_kept (holds name) file file' (drop (length old) new) kept read end);
+  }
+
+  -- the text of a file adds its lines
+  pub file_words : (name : List ℕ) (left left' : Option (List ℕ)) (old between new : List ℕ) → EndsLine old → AddsText holds name left left' old between → lines new ≡ lines between
+      → AddsWords holds (record { is_file = true; bytes = name }) left left' (lines old) (lines new)
+  file_words name left left' old between new ends added same = record {
+    more = lines added.text;
+    grown = same ∙ ap lines added.grown ∙ lines_append old added.text ends;
+    of = record { text = added.text; is = added.is; are = refl };
+  }
+
+  -- a text adds its lines
+  pub text_words : (text old new : List ℕ) (left : Option (List ℕ)) → EndsLine old → new ≡ old ++ (text ++ codes "\n")
+      → AddsWords holds (record { is_file = false; bytes = text }) left left (lines old) (lines new)
+  text_words text old new left ends added = record {
+    more = lines (text ++ codes "\n");
+    grown = ap lines added ∙ lines_append old (text ++ codes "\n") ends;
+    of = (refl, refl);
+  }
+
+  module _ (all : List Origin) (begin : Option (List ℕ)) where
+    -- what the sources so far gave, and what the others are to give, is what all give
+    abbrev pub AreWordsWith : List Origin → Option (List ℕ) → List (List ℕ) → Type 0
+    AreWordsWith rest left words = (left' : Option (List ℕ)) (more : List (List ℕ)) → AreWords holds rest left left' more → AreWords holds all begin left' (words ++ more)
+
+    words_more : (source : Origin) (rest : List Origin) (left left' : Option (List ℕ)) (old new : List (List ℕ)) → AreWordsWith (source ∷ rest) left old
+        → AddsWords holds source left left' old new → AreWordsWith rest left' new
+    words_more source rest left left' old new before added end more are =
+        subst (AreWords holds all begin end) (sym (append_assoc old added.more more) ∙ ap (λ (l : List (List ℕ)). l ++ more) (sym added.grown))
+        (before end (added.more ++ more) (left', added.more, more, refl, added.of, are))
+
+    -- the first of some sources, and then the others
+    pub words_next : (sources : List Source) (other : Source) (left left' : Option (List ℕ)) (old new : List (List ℕ)) → 1 ≤ length sources → AreWordsWith (origins_of sources) left old
+        → AddsWords holds (origin_of (get_or sources 0 other)) left left' old new → AreWordsWith (origins_of (take (length sources - 1) (drop 1 sources))) left' new
+    words_next [] other left left' old new some before added = absurd (omega (arith, some))
+    words_next (source ∷ []) other left left' old new some before added = words_more (origin_of source) [] left left' old new before added
+    words_next (source ∷ next ∷ sources) other left left' old new some before added =
+        subst (λ (l : List Source). AreWordsWith (origins_of l) left' new) (sym (take_all (length (source ∷ next ∷ sources) - 1) (next ∷ sources) (omega arith)))
+        (words_more (origin_of source) (origins_of (next ∷ sources)) left left' old new before added)
+
+    pub words_end : (sources : List Source) (left : Option (List ℕ)) (words : List (List ℕ)) → length sources ≡ 0 → AreWordsWith (origins_of sources) left words → AreWords holds all begin left words
+    words_end [] left words none before = subst (AreWords holds all begin left) (append-nil words) (before left [] (refl, refl))
+    words_end (source ∷ sources) left words none before = absurd (omega (arith, none))
+
+-- before the first source
+pub words_start : (holds : List ℕ → Option (List ℕ)) (all : List Origin) (begin : Option (List ℕ)) → AreWordsWith holds all begin all begin []
+words_start holds all begin left' more are = are

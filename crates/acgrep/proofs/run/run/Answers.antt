@@ -1,0 +1,24 @@
+-- What was said was done, and a flush keeps what was written.
+use Rattle.std.proofs.Common.{◌≡◌, ◌<◌, ℕ, inl, inr, arith, subst, sym}
+use Rattle.acgrep.specs.Arguments.{Said, said, said_by, texts}
+use Rattle.acgrep.specs.Runs.{AsksToSearch, Searches}
+use Rattle.acgrep.proofs.Kept.{same_said, searches_kept}
+use Rattle.acgrep.proofs.run.run.Goals as goal
+
+pub returns-in-Ok-clause-searches : goal.returns-in-Ok-clause-searches
+returns-in-Ok-clause-searches g c given is asks low =
+    let holds = g.F.Open.holds c.args.files.now in
+    let terminal = c.args.terminal in
+    let left = g.R.Read.remaining c.args.input.now in
+    let left' = g.R.Read.remaining c.answer-status.new.input in
+    let held = g.W.Write.contents c.args.output.now in
+    let held' = g.W.Write.contents c.answer-status.new.output in
+    let held'' = g.W.Write.contents c.finish.new.output in
+    let same : said c.in-Ok.given ≡ given = same_said (said_by (texts c.args.arguments.now)) given (said c.in-Ok.given) is c.in-Ok.ensures.read in
+    let status : c.finish.result ≡ c.answer-status.result = elim c.finish.ensures.status [ inl kept ↦ kept | inr two ↦ absurd (omega (arith, low, two)) ] in
+    let done : Searches holds terminal (said c.in-Ok.given) left left' held held' c.answer-status.result =
+    c.answer-status.ensures.searches (subst (λ (s : Said). AsksToSearch s.flags) (sym same) asks) (subst (λ (n : ℕ). n < 2) status low) in
+    let kept : Searches holds terminal (said c.in-Ok.given) left left' held held'' c.answer-status.result =
+    searches_kept held' held'' c.finish.ensures.kept holds terminal _ _ _ left left' held c.answer-status.result done in
+    subst (λ (n : ℕ). Searches holds terminal given left left' held held'' n) (sym status)
+    (subst (λ (s : Said). Searches holds terminal s left left' held held'' c.answer-status.result) same kept)

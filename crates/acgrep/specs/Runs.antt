@@ -1,0 +1,126 @@
+-- What a call searches for and in which files, by what its arguments say.
+use Rattle.std.specs.Prelude.{◌≡◌, ℕ, ◌&&◌, nat_lt, Bool, MatchBool, true, false, List, [], ◌∷◌, ◌++◌, Option, Some, IfSome, String, codes, length, map, unwrap_or}
+use Rattle.std.specs.Io.KnownBytes.{Consumes, IsAtEnd, Keeps}
+use Rattle.aho_base.specs.Patterns.{Patterns}
+use Rattle.acgrep.specs.Arguments.{Origin, Said, origin_of, said_by, shown_by, texts}
+use Rattle.acgrep.specs.Files.{AreSearchedOr, is_input, or_input}
+use Rattle.acgrep.specs.Lines.{lines}
+use Rattle.acgrep.specs.Searchers.{patterns_by}
+use Rattle.acgrep.specs.Written.{IsPassed}
+use Rattle.acgrep.specs.declared.arguments.Source.{Source}
+use Rattle.acgrep.specs.declared.options.Color.{Color}
+use Rattle.acgrep.specs.declared.options.Color.TheVariants.{Auto, Always, Never}
+use Rattle.acgrep.specs.declared.options.Flags.{Flags}
+use Rattle.acgrep.specs.declared.select.Job.{Job}
+
+-- what holds of what the arguments say, where they are right
+abbrev pub IfSaid : {Z : Type 0} → List (String Z) → (Said → Type 0) → Type 0
+IfSaid arguments Holds = (given : Said) → said_by (texts arguments) ≡ Some given → Holds given
+
+-- a search is asked for, and neither `--help` nor `--version`
+pub record AsksToSearch (flags : Flags) : Type 0 where
+  pub no_help : flags.help ≡ false
+  pub no_version : flags.version ≡ false
+
+-- neither an option nor an operand gives a pattern
+pub record GivesNone (given : Said) : Type 0 where
+  pub no_source : given.sources ≡ []
+  pub no_operand : given.operands ≡ []
+
+-- where no option gives patterns the first operand is a text of patterns
+abbrev pub sources_by : List Origin → List (List ℕ) → List Origin
+sources_by [] [] = []
+sources_by [] (pattern ∷ names) = record { is_file = false; bytes = pattern } ∷ []
+sources_by (source ∷ sources) operands = source ∷ sources
+
+-- and the others name files
+abbrev pub names_by : List Origin → List (List ℕ) → List (List ℕ)
+names_by [] [] = []
+names_by [] (pattern ∷ names) = names
+names_by (source ∷ sources) operands = operands
+
+-- where these patterns come from
+abbrev pub origins_of : List Source → List Origin
+origins_of sources = map origin_of sources
+
+-- the text of the file of this name: all that the input had left, or what is held under the name, where that is known;
+-- `left` is what the input has left
+abbrev pub IsTextOf : (List ℕ → Option (List ℕ)) → List ℕ → (left left' : Option (List ℕ)) → List ℕ → Type 0
+IsTextOf holds name left left' text =
+    MatchBool (is_input name) (Consumes left left' text × IsAtEnd left') ((left' ≡ left) × IfSome (holds name) (λ bytes. text ≡ bytes))
+
+-- the patterns of the file of this name are its lines
+pub record AreInFile (holds : List ℕ → Option (List ℕ)) (name : List ℕ) (left left' : Option (List ℕ)) (words : List (List ℕ)) : Type 0 where
+  pub text : List ℕ
+  pub is : IsTextOf holds name left left' text
+  pub are : words ≡ lines text
+
+-- those of a text too, of which an empty one has one
+abbrev pub AreOf : (List ℕ → Option (List ℕ)) → Origin → (left left' : Option (List ℕ)) → List (List ℕ) → Type 0
+AreOf holds source left left' words =
+    MatchBool source.is_file (AreInFile holds source.bytes left left' words) ((left' ≡ left) × (words ≡ lines (source.bytes ++ codes "\n")))
+
+-- the patterns of all sources, one after another
+abbrev pub AreWords : (List ℕ → Option (List ℕ)) → List Origin → (left left' : Option (List ℕ)) → List (List ℕ) → Type 0
+AreWords holds [] left left' words = (left' ≡ left) × (words ≡ [])
+AreWords holds (source ∷ sources) left left' words = (between : Option (List ℕ)) × (first : List (List ℕ)) × (rest : List (List ℕ))
+    × (words ≡ first ++ rest) × AreOf holds source left between first × AreWords holds sources between left' rest
+
+abbrev pub is_none : List ℕ → Bool
+is_none [] = true
+is_none (byte ∷ bytes) = false
+
+-- whether all words are empty
+abbrev pub are_empty : List (List ℕ) → Bool
+are_empty [] = true
+are_empty (word ∷ words) = is_none word && are_empty words
+
+-- whether it is known without reading a file that no line is selected: there is no pattern, or under `invert` there are empty
+-- ones alone
+abbrev pub selects_none : Bool → List (List ℕ) → Bool
+selects_none false [] = true
+selects_none false (word ∷ words) = false
+selects_none true [] = false
+selects_none true (word ∷ words) = are_empty (word ∷ words)
+
+-- whether matches are coloured
+abbrev pub is_colored : Color → Bool → Bool
+is_colored Auto terminal = terminal
+is_colored Always terminal = true
+is_colored Never terminal = false
+
+-- what is written of each of `count` files, but for its name
+pub record IsJob (flags : Flags) (terminal : Bool) (count : ℕ) (job : Job) : Type 0 where
+  pub shown : job.shown ≡ shown_by flags
+  pub invert : job.invert ≡ flags.invert
+  -- where nothing is said of names they stand before the lines of several files
+  pub with_name : job.style.with_name ≡ unwrap_or flags.with_name (nat_lt 1 count)
+  pub number : job.style.number ≡ flags.number
+  pub offset : job.style.offset ≡ flags.offset
+  pub color : job.style.color ≡ is_colored flags.color terminal
+
+-- these words were searched for in the files of these names, as the flags say
+pub record SearchesWords (holds : List ℕ → Option (List ℕ)) (terminal : Bool) (flags : Flags) (words names : List (List ℕ)) (left left' held held' : Option (List ℕ)) (status : ℕ) : Type 0 where
+  pub job : Job
+  pub is_job : IsJob flags terminal (length names) job
+  pub searched : AreSearchedOr (patterns_by flags.kind flags.ignore_case words) job holds (or_input names) left left' held held' status
+
+-- no line is selected, whatever it holds: nothing was read and nothing written, and the status tells it
+pub record FindsNone (p : Patterns) (invert : Bool) (left left' held held' : Option (List ℕ)) (status : ℕ) : Type 0 where
+  pub passed : (line : List ℕ) → IsPassed p invert line
+  pub unread : left' ≡ left
+  pub unwritten : Keeps held held'
+  pub none : status ≡ 1
+
+-- the patterns of these sources were read, and then searched for in the files of these names
+pub record SearchesFor (holds : List ℕ → Option (List ℕ)) (terminal : Bool) (flags : Flags) (sources : List Origin) (names : List (List ℕ)) (left left' held held' : Option (List ℕ)) (status : ℕ) : Type 0 where
+  pub words : List (List ℕ)
+  pub between : Option (List ℕ)
+  pub read : AreWords holds sources left between words
+  pub searched : MatchBool (selects_none flags.invert words) (FindsNone (patterns_by flags.kind flags.ignore_case words) flags.invert between left' held held' status)
+      (SearchesWords holds terminal flags words names between left' held held' status)
+
+-- what was said was done; `left` is what the input has left, and `held` what the output holds
+abbrev pub Searches : (List ℕ → Option (List ℕ)) → Bool → Said → (left left' held held' : Option (List ℕ)) → ℕ → Type 0
+Searches holds terminal given left left' held held' status =
+    SearchesFor holds terminal given.flags (sources_by given.sources given.operands) (names_by given.sources given.operands) left left' held held' status
