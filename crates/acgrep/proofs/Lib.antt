@@ -4,6 +4,7 @@ pub mod Fillings
 pub mod FirstLines
 pub mod LineLists
 pub mod NamesSearched
+pub mod Numbers
 pub mod PlacesBehind
 pub mod Streams
 pub mod Tellings
