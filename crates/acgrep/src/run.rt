@@ -207,5 +207,6 @@ fn job_of(given: &Given<'_>, terminal: bool, names: usize) -> Job<'static> {
             offset: flags.offset,
             color,
         },
+        first: flags.first,
     }
 }
