@@ -84,16 +84,16 @@ module _ (p : Patterns) (job : Job) where
       ]
 
   -- what is written of a whole text
-  by_whole : (shown : Shown) → shown ≡ job.shown → (text told : List ℕ) (count : ℕ) → Tells p job (place_at 0 0) 0 (lines text) told count
+  by_whole : (shown : Shown) → shown ≡ job.shown → (text told : List ℕ) (count : ℕ) → Tells p job (place_at 0 job.first) 0 (lines text) told count
       → TellsBy p job shown text (nat_lt 0 count) (told ++ total_if shown job.style count)
   by_whole Lines is text told count tells = (told, count, tells, ap (λ (shown : Shown). told ++ count_if shown job.style count) is)
   by_whole Matches is text told count tells = (told, count, tells, ap (λ (shown : Shown). told ++ count_if shown job.style count) is)
   by_whole Objects is text told count tells = (told, count, tells, ap (λ (shown : Shown). told ++ count_if shown job.style count) is)
   by_whole Count is text told count tells = (told, count, tells, ap (λ (shown : Shown). told ++ count_if shown job.style count) is)
   by_whole Names is text told count tells =
-      ap (λ (l : List ℕ). l ++ total_if Names job.style count) (tells_none (lines text) (place_at 0 0) 0 told count (ap needs_one (sym is)) tells)
+      ap (λ (l : List ℕ). l ++ total_if Names job.style count) (tells_none (lines text) (place_at 0 job.first) 0 told count (ap needs_one (sym is)) tells)
   by_whole Nothing is text told count tells =
-      ap (λ (l : List ℕ). l ++ []) (tells_none (lines text) (place_at 0 0) 0 told count (ap needs_one (sym is)) tells)
+      ap (λ (l : List ℕ). l ++ []) (tells_none (lines text) (place_at 0 job.first) 0 told count (ap needs_one (sym is)) tells)
 
   -- and where one selected line told all
   by_front : (shown : Shown) (text : List ℕ) (count : ℕ) → needs_one shown ≡ true → 0 < count → TellsBy p job shown text true (total_if shown job.style count)
@@ -108,14 +108,14 @@ module _ (p : Patterns) (job : Job) where
 
   -- all of a text was searched
   file_whole : (state : State) (known held meanwhile held' : Option (List ℕ)) (text told : List ℕ) → IfSome known (λ (all : List ℕ). text ≡ all)
-      → Tells p job (place_at 0 0) 0 (lines text) told state.selected → Appends held meanwhile told → (any : Bool) → EndsFile job state.selected meanwhile held' any
+      → Tells p job (place_at 0 job.first) 0 (lines text) told state.selected → Appends held meanwhile told → (any : Bool) → EndsFile job state.selected meanwhile held' any
       → SearchesFile p job known held held' any
   file_whole state known held meanwhile held' text told of tells written any ends =
       let count = state.selected in
       record {
         text = text;
         of = of;
-        selected = subst (IsAny p job.invert (lines text)) (sym ends.is_any) (tells_any (lines text) (place_at 0 0) told count tells);
+        selected = subst (IsAny p job.invert (lines text)) (sym ends.is_any) (tells_any (lines text) (place_at 0 job.first) told count tells);
         bytes = told ++ total_if job.shown job.style count;
         tells = subst (λ (any : Bool). TellsBy p job job.shown text any (told ++ total_if job.shown job.style count)) (sym ends.is_any) (by_whole job.shown refl text told count tells);
         written = Appends-trans held meanwhile held' told (total_if job.shown job.style count) written ends.written;
@@ -123,16 +123,16 @@ module _ (p : Patterns) (job : Job) where
 
   -- a line was selected that told all
   file_front : (state : State) (known held meanwhile held' : Option (List ℕ)) (text told : List ℕ) (ls : List (List ℕ)) → IfSome known (λ (all : List ℕ). text ≡ all)
-      → Tells p job (place_at 0 0) 0 ls told state.selected → needs_one job.shown ≡ true → 0 < state.selected → (SomeLine (IsSelected p job.invert) ls → SomeLine (IsSelected p job.invert) (lines text))
+      → Tells p job (place_at 0 job.first) 0 ls told state.selected → needs_one job.shown ≡ true → 0 < state.selected → (SomeLine (IsSelected p job.invert) ls → SomeLine (IsSelected p job.invert) (lines text))
       → Appends held meanwhile told → (any : Bool) → EndsFile job state.selected meanwhile held' any → SearchesFile p job known held held' any × (any ≡ true)
   file_front state known held meanwhile held' text told ls of tells one some front written any ends =
       let count = state.selected in
       let is : any ≡ true = ends.is_any ∙ lt-ltb 0 count some in
-      let none : told ≡ [] = tells_none ls (place_at 0 0) 0 told count one tells in (
+      let none : told ≡ [] = tells_none ls (place_at 0 job.first) 0 told count one tells in (
         record {
           text = text;
           of = of;
-          selected = subst (IsAny p job.invert (lines text)) (sym is) (front (tells_some ls (place_at 0 0) 0 told count tells refl some));
+          selected = subst (IsAny p job.invert (lines text)) (sym is) (front (tells_some ls (place_at 0 job.first) 0 told count tells refl some));
           bytes = total_if job.shown job.style count;
           tells = subst (λ (any : Bool). TellsBy p job job.shown text any (total_if job.shown job.style count)) (sym is) (by_front job.shown text count one some);
           written = subst (λ (l : List ℕ). Appends held held' (l ++ total_if job.shown job.style count)) none
@@ -142,7 +142,7 @@ module _ (p : Patterns) (job : Job) where
       )
 
   -- what was searched of a reader, and what is asked of a file as a whole
-  pub reader_searched : (state : State) (left left' held meanwhile held' : Option (List ℕ)) → SearchesStream p job (course at_begin state held meanwhile left left')
+  pub reader_searched : (state : State) (left left' held meanwhile held' : Option (List ℕ)) → SearchesStream p job (course (at_begin job.first) state held meanwhile left left')
       → (any : Bool) → EndsFile job state.selected meanwhile held' any → SearchesReader p job left left' held held' any
   reader_searched state left left' held meanwhile held' stream any ends =
       let (more, known, none) = text_behind left left' (stream.searched ++ stream.rest) stream.consumed in
@@ -159,7 +159,7 @@ module _ (p : Patterns) (job : Job) where
                   let same : lines text ≡ to.searched = ap lines all ∙ to.cut ∙ ap (λ (l : List ℕ). to.searched ++ lines l) whole ∙ append-nil to.searched in
                   record {
                     file = file_whole state left held meanwhile held' text tells.bytes known
-                        (subst (λ (ls : List (List ℕ)). Tells p job (place_at 0 0) 0 ls tells.bytes state.selected) (sym same) tells.told) tells.written any ends;
+                        (subst (λ (ls : List (List ℕ)). Tells p job (place_at 0 job.first) 0 ls tells.bytes state.selected) (sym same) tells.told) tells.written any ends;
                     reads = read any;
                   }
               | inr (one, some) ↦

@@ -6,6 +6,7 @@ pub mod FirstLines
 pub mod Kept
 pub mod LineLists
 pub mod NamesSearched
+pub mod Numbers
 pub mod Objected
 pub mod PlacesBehind
 pub mod Streams

@@ -1,13 +1,14 @@
 -- What the arguments, those after the program's name, say.
-use Rattle.std.specs.Prelude.{◌≡◌, ℕ, ◌==◌, ◌||◌, Bool, true, false, List, [], ◌∷◌, ◌++◌, Option, Some, None, codes, map, String, string_bytes, option_and_then, option_map, if◌then◌else◌}
-use Rattle.std.specs.Str.{bytes_eq}
+use Rattle.std.specs.Prelude.{◌≡◌, ℕ, ◌==◌, ◌^◌, ◌||◌, ◌&&◌, nat_lt, Bool, true, false, List, [], ◌∷◌, ◌++◌, Option, Some, None, codes, drop, length, map, take, String, string_bytes, option_and_then, option_map, if◌then◌else◌}
+use Rattle.std.specs.Str.{all_ascii_digits, bytes_eq}
+use Rattle.std.specs.Str.Parse.{digits_value}
 use Rattle.aho_base.specs.declared.search.MatchKind.{MatchKind}
 use Rattle.aho_base.specs.declared.search.MatchKind.TheVariants.{Standard, LeftmostFirst, LeftmostLongest}
 use Rattle.acgrep.specs.declared.arguments.Given.{Given}
 use Rattle.acgrep.specs.declared.arguments.Named.{Named}
-use Rattle.acgrep.specs.declared.arguments.Named.TheVariants.{Help, Version, Json, When, Which, WhichFollows, End}
+use Rattle.acgrep.specs.declared.arguments.Named.TheVariants.{Help, Version, Json, When, Which, WhichFollows, First, FirstFollows, End}
 use Rattle.acgrep.specs.declared.arguments.Awaited.{Awaited}
-use Rattle.acgrep.specs.declared.arguments.Awaited.TheVariants.{Fresh, Letter, Kind, Operands}
+use Rattle.acgrep.specs.declared.arguments.Awaited.TheVariants.{Fresh, Letter, Kind, Offset, Operands}
 use Rattle.acgrep.specs.declared.arguments.Refusal.{Refusal}
 use Rattle.acgrep.specs.declared.arguments.Refusal.TheVariants.{Wrong, OutOfMemory}
 use Rattle.acgrep.specs.declared.arguments.Source.{Source}
@@ -55,6 +56,19 @@ turned_on letter flags =
     else if letter == 72 then Some (record flags { with_name = Some true })
     else None
 
+-- whether this is a number below 2^64 in decimal: one digit or more, and nothing else
+abbrev pub is_number : List ℕ → Bool
+is_number digits = all_ascii_digits digits && (nat_lt 0 (length digits) && nat_lt (digits_value 10 digits) (2 ^ 64))
+
+-- that number
+abbrev pub number_by : List ℕ → Option ℕ
+number_by digits = if is_number digits then Some (digits_value 10 digits) else None
+
+-- what `--offset=` means with the number behind it
+abbrev pub offset_by : List ℕ → Option Named
+offset_by argument =
+    if bytes_eq (take 9 argument) (codes "--offset=") then option_map First (number_by (drop 9 argument)) else None
+
 -- what an argument that is a whole name means
 abbrev pub name_by : List ℕ → Option Named
 name_by argument =
@@ -70,7 +84,8 @@ name_by argument =
     else if bytes_eq argument (codes "--kind=first") then Some (Which LeftmostFirst)
     else if bytes_eq argument (codes "--kind=longest") then Some (Which LeftmostLongest)
     else if bytes_eq argument (codes "--kind=standard") then Some (Which Standard)
-    else None
+    else if bytes_eq argument (codes "--offset") then Some FirstFollows
+    else offset_by argument
 
 -- what was said, and what an argument waits for
 pub record Read : Type 0 where
@@ -104,6 +119,8 @@ named_by Json s = record { awaits = Fresh; said = record s { flags = record s.fl
 named_by (When color) s = record { awaits = Fresh; said = record s { flags = record s.flags { color = color } } }
 named_by (Which kind) s = record { awaits = Fresh; said = record s { flags = record s.flags { kind = kind } } }
 named_by WhichFollows s = record { awaits = Kind; said = s }
+named_by (First first) s = record { awaits = Fresh; said = record s { flags = record s.flags { first = first } } }
+named_by FirstFollows s = record { awaits = Offset; said = s }
 named_by End s = record { awaits = Operands; said = s }
 
 -- what stands behind a hyphen: nothing is an operand of its own, and a name that is not known is wrong
@@ -136,6 +153,7 @@ abbrev pub argument_by : Awaited → List ℕ → Said → Option Read
 argument_by Fresh argument s = fresh_by (name_by argument) argument s
 argument_by (Letter letter) argument s = Some (record { awaits = Fresh; said = with_source letter argument s })
 argument_by Kind argument s = option_map (λ kind. named_by (Which kind) s) (kind_by argument)
+argument_by Offset argument s = option_map (λ first. named_by (First first) s) (number_by argument)
 argument_by Operands argument s = Some (record { awaits = Operands; said = with_operand argument s })
 
 -- no option may wait for its argument at the end
@@ -143,6 +161,7 @@ abbrev pub ended_by : Awaited → Said → Option Said
 ended_by Fresh s = Some s
 ended_by (Letter letter) s = None
 ended_by Kind s = None
+ended_by Offset s = None
 ended_by Operands s = Some s
 
 -- one argument after another
@@ -166,6 +185,7 @@ no_flags = record {
   with_name = None;
   color = Never;
   kind = LeftmostLongest;
+  first = 0;
   help = false;
   version = false;
 }

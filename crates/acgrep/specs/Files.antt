@@ -46,7 +46,7 @@ total_if Nothing style count = []
 -- what is told of each line of a text from the begin of its file on, and the count of selected lines
 abbrev pub TellsEach : Patterns → Job → List ℕ → List ℕ → Type 0
 TellsEach p job text bytes =
-    (told : List ℕ) × (count : ℕ) × Tells p job (place_at 0 0) 0 (lines text) told count × (bytes ≡ told ++ count_if job.shown job.style count)
+    (told : List ℕ) × (count : ℕ) × Tells p job (place_at 0 job.first) 0 (lines text) told count × (bytes ≡ told ++ count_if job.shown job.style count)
 
 -- what is written of a file with this text: of its lines, its name where one is selected, or nothing
 abbrev pub TellsBy : Patterns → Job → Shown → List ℕ → Bool → List ℕ → Type 0
@@ -86,6 +86,7 @@ pub record IsNamed (job : Job) (bytes : List ℕ) (named : Job) : Type 0 where
   pub number : named.style.number ≡ job.style.number
   pub offset : named.style.offset ≡ job.style.offset
   pub color : named.style.color ≡ job.style.color
+  pub first : named.first ≡ job.first
 
 -- '-' is standard input
 abbrev pub is_input : List ℕ → Bool

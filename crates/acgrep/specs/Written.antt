@@ -76,9 +76,9 @@ WritesLine p job place old new line =
 abbrev pub place_at : ℕ → ℕ → Place
 place_at count offset = record { lines = count; bytes = offset }
 
--- the begin of a file
-abbrev pub at_begin : State
-at_begin = record { place = place_at 0 0; selected = 0 }
+-- the begin of a file whose first byte stands there
+abbrev pub at_begin : ℕ → State
+at_begin first = record { place = place_at 0 first; selected = 0 }
 
 -- the place behind a line and its newline; numbers wrap at 2^64
 abbrev pub after_line : Place → List ℕ → Place

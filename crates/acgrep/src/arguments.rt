@@ -3,7 +3,7 @@
 //! Options may be joined, take their argument joined or as the next one, and stand behind files. Two hyphens end them.
 
 ghost use Rattle.std.specs.Prelude.{◌≡◌, Some, IfOk, IfErr, OnOk, option_map, string_bytes};
-ghost use Rattle.acgrep.specs.Arguments.{IsRefused, argument_by, kind_by, letters_by, name_by, named_by, plain_by, said, said_by, taken_by, texts, with_operand, with_source};
+ghost use Rattle.acgrep.specs.Arguments.{IsRefused, argument_by, kind_by, letters_by, name_by, named_by, number_by, offset_by, plain_by, said, said_by, taken_by, texts, with_operand, with_source};
 
 use crate::options::{Color, Flags};
 use chromesquid::MatchKind;
@@ -33,6 +33,10 @@ pub enum Wrong<'a> {
     NoKind,
     /// The argument of `--kind` is none of its three.
     UnknownKind(&'a [u8]),
+    /// `--offset` has no argument.
+    NoOffset,
+    /// The argument of `--offset` is no number below 2^64.
+    NoNumber(&'a [u8]),
 }
 
 /// What the arguments say.
@@ -74,6 +78,8 @@ pub enum Awaited {
     Letter(u8),
     /// The next argument is that of `--kind`.
     Kind,
+    /// The next argument is that of `--offset`.
+    Offset,
     /// No option follows.
     Operands,
 }
@@ -93,6 +99,10 @@ pub enum Named {
     Which(MatchKind),
     /// `--kind`, whose argument is the next one
     WhichFollows,
+    /// `--offset`, with its argument
+    First(u64),
+    /// `--offset`, whose argument is the next one
+    FirstFollows,
     /// `--`
     End,
 }
@@ -116,6 +126,7 @@ pub fn parse<'a>(alloc: Global, arguments: &'a [String]) -> Result<Given<'a>, Re
     match awaited {
         Awaited::Letter(letter) => Err(Refusal::Wrong(Wrong::NoArgument(letter))),
         Awaited::Kind => Err(Refusal::Wrong(Wrong::NoKind)),
+        Awaited::Offset => Err(Refusal::Wrong(Wrong::NoOffset)),
         Awaited::Fresh | Awaited::Operands => Ok(given),
     }
 }
@@ -137,6 +148,7 @@ fn read_argument<'a>(
             Ok(Awaited::Fresh)
         }
         Awaited::Kind => read_kind(given, argument.as_str()),
+        Awaited::Offset => read_offset(given, argument.as_str()),
         Awaited::Operands => {
             add_operand(given, argument.as_bytes())?;
             Ok(Awaited::Operands)
@@ -160,6 +172,19 @@ fn read_kind<'a>(given: &mut Given<'a>, argument: &'a str) -> Result<Awaited, Re
     }
 }
 
+/// Reads the argument of `--offset`.
+fn read_offset<'a>(given: &mut Given<'a>, argument: &'a str) -> Result<Awaited, Refusal<'a>>
+    ensures read { IfOk result (λ awaited.
+        option_map (λ first. named_by (Named.First first) (said given.old)) (number_by argument.now)
+        ≡ Some (record { awaits = awaited; said = said given.new })) }
+    ensures refused { IfErr result (IsRefused (number_by argument.now)) }
+{
+    match number_of(argument) {
+        Some(first) => Ok(turn_on(given, Named::First(first))),
+        None => Err(Refusal::Wrong(Wrong::NoNumber(argument.as_bytes()))),
+    }
+}
+
 /// What an argument means that is a whole name.
 fn name_of(argument: &str) -> Option<Named>
     ensures named { result ≡ name_by argument.now }
@@ -177,7 +202,32 @@ fn name_of(argument: &str) -> Option<Named>
         "--kind=first" => Some(Named::Which(MatchKind::LeftmostFirst)),
         "--kind=longest" => Some(Named::Which(MatchKind::LeftmostLongest)),
         "--kind=standard" => Some(Named::Which(MatchKind::Standard)),
-        _ => None,
+        "--offset" => Some(Named::FirstFollows),
+        _ => offset_of(argument),
+    }
+}
+
+/// What `--offset=` means with the number behind it.
+fn offset_of(argument: &str) -> Option<Named>
+    ensures named { result ≡ offset_by argument.now }
+{
+    match argument.strip_prefix("--offset=") {
+        Some(digits) => number_of(digits).map(Named::First),
+        None => None,
+    }
+}
+
+/// The number that digits write, if there are digits alone, at least one, and it is below 2^64.
+fn number_of(digits: &str) -> Option<u64>
+    ensures number { result ≡ number_by digits.now }
+{
+    // A plus is no digit, but `parse` takes one.
+    if digits.starts_with('+') {
+        return None;
+    }
+    match digits.parse::<u64>() {
+        Ok(number) => Some(number),
+        Err(_) => None,
     }
 }
 
@@ -204,6 +254,8 @@ fn turn_on(given: &mut Given<'_>, named: Named) -> Awaited
         Named::When(color) => given.flags.color = color,
         Named::Which(kind) => given.flags.kind = kind,
         Named::WhichFollows => return Awaited::Kind,
+        Named::First(first) => given.flags.first = first,
+        Named::FirstFollows => return Awaited::Offset,
         Named::End => return Awaited::Operands,
     }
     Awaited::Fresh

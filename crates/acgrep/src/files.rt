@@ -296,7 +296,7 @@ fn search_one<A: Automaton, R: Read, W: Write, E: Write>(
         (W.contents output.old) (W.contents output.new)) }
     ensures reads { Reads (R.remaining reader.old) (R.remaining reader.new) }
 {
-    let mut state = State::new();
+    let mut state = State::new(job.first);
     match search_stream(automaton, job, buffer, reader, &mut state, output) {
         Ok(()) => end_file(job, &state, output, errors),
         Err(stop) => break_off(job, &state, &stop, output, errors),
@@ -393,5 +393,6 @@ fn job_for<'a>(job: &Job<'_>, name: &'a [u8]) -> Job<'a>
             offset: job.style.offset,
             color: job.style.color,
         },
+        first: job.first,
     }
 }

@@ -29,6 +29,7 @@ Output:
   --json                write each such match as a JSON object
   -n                    write a line's number before it
   -b                    write where it starts in its file, in bytes
+  --offset N            the first byte of each file stands at N, not at 0
   -H                    write the file's name before each line
   -h                    do not
   --color[=WHEN]        color the output: auto, always or never

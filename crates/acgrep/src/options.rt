@@ -59,6 +59,8 @@ pub struct Flags {
     pub color: Color,
     /// The last `--kind`.
     pub kind: MatchKind,
+    /// Where the first byte of each file stands: the last `--offset`.
+    pub first: u64,
     /// `--help`.
     pub help: bool,
     /// `--version`.
@@ -85,6 +87,7 @@ impl Flags {
             with_name: None,
             color: Color::Never,
             kind: MatchKind::LeftmostLongest,
+            first: 0,
             help: false,
             version: false,
         }

@@ -272,6 +272,7 @@ fn job_of(flags: &Flags, terminal: bool, count: usize) -> Job<'static>
             offset: flags.offset,
             color: is_colored(flags.color, terminal),
         },
+        first: flags.first,
     }
 }
 

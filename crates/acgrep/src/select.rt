@@ -25,6 +25,8 @@ pub struct Job<'a> {
     pub invert: bool,
     /// What stands before a line.
     pub style: Style<'a>,
+    /// Where the first byte of a file stands.
+    pub first: u64,
 }
 
 impl<'a> Job<'a> {
@@ -79,12 +81,15 @@ pub struct State {
 }
 
 impl State {
-    /// At the begin of a file.
-    pub fn new() -> State
-        ensures begin { result ≡ at_begin }
+    /// At the begin of a file whose first byte stands there.
+    pub fn new(first: u64) -> State
+        ensures begin { result ≡ at_begin first }
     {
         State {
-            place: Place { lines: 0, bytes: 0 },
+            place: Place {
+                lines: 0,
+                bytes: first,
+            },
             selected: 0,
         }
     }

@@ -51,6 +51,15 @@ pub fn tell_wrong<E: Write>(errors: &mut E, wrong: Wrong<'_>) {
                 b"'",
             ],
         ),
+        Wrong::NoOffset => tell(errors, &[b"option '--offset' needs an argument"]),
+        Wrong::NoNumber(number) => tell(
+            errors,
+            &[
+                b"option '--offset' takes a number below 2^64, not '",
+                number,
+                b"'",
+            ],
+        ),
     }
     let _ = errors.write_all(USAGE);
 }

@@ -16,7 +16,7 @@ returns-in-Ok-clause-searched g c = λ p is plain.
     let meanwhile = g.W.Write.contents c.search_stream.new.output in
     let held' = g.W.Write.contents c.end_file.new.output in
     let state = c.search_stream.new.state in
-    let stream : SearchesStream p job (course at_begin state held meanwhile left left') =
+    let stream : SearchesStream p job (course (at_begin job.first) state held meanwhile left left') =
     subst (λ (first : State). SearchesStream p job (course first state held meanwhile left left')) c.new-state.ensures.begin (c.in-Ok.ensures.written p is plain) in
     if_searched c.end_file.result (EndsFile job state.selected meanwhile held') (SearchesReader p job left left' held held')
     (reader_searched p job state left left' held meanwhile held' stream) c.end_file.ensures.ended
