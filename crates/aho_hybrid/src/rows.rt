@@ -92,7 +92,10 @@ impl Rows {
             work.tick();
             return self.row_entry(sid, byte);
         }
-        self.deep_step(sid, byte, work)
+        let mut looks = Work::new();
+        let next = self.deep_step(sid, byte, &mut looks);
+        add_looks(work, looks.count());
+        next
     }
 
     /// Where the byte leads from a state with a row.
@@ -107,6 +110,7 @@ impl Rows {
     }
 
     /// Where the byte leads from a deep state: down the links until a state takes it.
+    #[inline(never)]
     fn deep_step(&self, from: StateID, byte: u8, work: &mut Work) -> StateID
         requires sound { IsSoundLayout self.now }
         requires state { IsStateIn self.now from }
@@ -218,6 +222,17 @@ impl Rows {
     {
         let pattern = self.lists[self.list_place(sid) + 1 + index];
         PatternID::new_unchecked(pattern.as_usize())
+    }
+}
+
+/// So many look-ups more.
+#[inline(always)]
+fn add_looks(work: &mut Work, looks: u128)
+    requires room { work.old + looks < 2 ^ 128 }
+    ensures added { work.new ≡ work.old + looks }
+{
+    for _ in 0..looks {
+        work.tick();
     }
 }
 
