@@ -98,6 +98,8 @@ pub record IsJob (flags : Flags) (terminal : Bool) (count : ℕ) (job : Job) : T
   pub number : job.style.number ≡ flags.number
   pub offset : job.style.offset ≡ flags.offset
   pub color : job.style.color ≡ is_colored flags.color terminal
+  -- where the first byte of each file stands
+  pub first : job.first ≡ flags.first
 
 -- these words were searched for in the files of these names, as the flags say
 pub record SearchesWords (holds : List ℕ → Option (List ℕ)) (terminal : Bool) (flags : Flags) (words names : List (List ℕ)) (left left' held held' : Option (List ℕ)) (status : ℕ) : Type 0 where
