@@ -1,10 +1,10 @@
 -- The place behind a text of whole lines.
-use Rattle.std.proofs.Common.{◌≡◌, ℕ, zero, suc, ◌+◌, ◌-◌, ◌%◌, ◌^◌, ◌<◌, ◌==◌, true, List, [], ◌∷◌, length, take, inl, inr, refl, sym, ◌∙◌, ap, arith}
+use Rattle.std.proofs.Common.{◌≡◌, ℕ, zero, suc, ◌+◌, ◌-◌, ◌%◌, ◌^◌, ◌<◌, ◌==◌, List, [], ◌∷◌, length, take, inl, inr, refl, sym, ◌∙◌, ap, arith}
 use Rattle.std.proofs.lemmas.Bool.{cases_Bool}
 use Rattle.std.proofs.Math.Nat.{mod-add-mod, mod-eq_of_lt, mod-lt}
 use Rattle.std.specs.Prelude.{slice_index}
 use Rattle.memchr.specs.Find.{is_byte, places, places_from}
-use Rattle.acgrep.specs.Lines.{IsNewline, joined_to, lines}
+use Rattle.acgrep.specs.Lines.{joined_to, lines}
 use Rattle.acgrep.specs.Written.{EndsLine, IsNumbered, SamePlace, after_line, after_lines}
 use Rattle.acgrep.specs.declared.print.Place.{Place}
 use Rattle.acgrep.specs.declared.select.Job.{Job}

@@ -1,5 +1,5 @@
 -- What is told of lines, put together from parts.
-use Rattle.std.proofs.Common.{◌≡◌, inl, inr, ◌⊎◌, ℕ, suc, ◌+◌, ◌-◌, ◌%◌, ◌^◌, ◌≤◌, ◌<◌, ◌==◌, Bool, true, false, List, [], ◌∷◌, ◌++◌, Option, None, length, take, drop, refl, sym, ◌∙◌, ap, subst, arith, append_assoc, append-nil}
+use Rattle.std.proofs.Common.{◌≡◌, inl, inr, ℕ, ◌+◌, ◌-◌, ◌%◌, ◌^◌, ◌≤◌, ◌<◌, ◌==◌, Bool, true, false, List, [], ◌∷◌, ◌++◌, Option, length, drop, refl, sym, ◌∙◌, ap, subst, arith, append_assoc, append-nil}
 use Rattle.std.specs.Prelude.{MatchBool, if◌then◌else◌, codes, not, ◌&&◌}
 use Rattle.std.specs.Io.KnownBytes.{Appends}
 use Rattle.std.proofs.KnownBytes.{Appends-nil, Appends-trans}
@@ -11,7 +11,7 @@ use Rattle.acgrep.proofs.LineLists.{ends_drop}
 use Rattle.acgrep.specs.Lines.{lines}
 use Rattle.acgrep.specs.Objects.{objects_by}
 use Rattle.acgrep.specs.Printed.{WritesColored, color_of, colored_from, colored_line_by, head_of, match_by, matches_by, number_at, offset_at, painted, part_of}
-use Rattle.acgrep.specs.Written.{EachLine, EndsLine, HasMatch, HasNone, IsPassed, IsSelected, LineOf, SamePlace, SearchesText, SearchesTo, ShowsBy, ShowsLine, Tells, TellsLines, WritesLine, after_line, after_lines, is_numbered, one_more, place_at}
+use Rattle.acgrep.specs.Written.{EachLine, EndsLine, HasMatch, HasNone, IsPassed, IsSelected, LineOf, SamePlace, SearchesTo, ShowsBy, Tells, TellsLines, WritesLine, after_line, after_lines, is_numbered, one_more, place_at}
 use Rattle.acgrep.specs.declared.options.Shown.{Shown}
 use Rattle.acgrep.specs.declared.options.Shown.TheVariants.{Lines, Matches, Objects, Count, Names, Nothing}
 use Rattle.acgrep.specs.declared.print.Place.{Place}
