@@ -66,11 +66,12 @@ AreWords holds [] left left' words = (left' ≡ left) × (words ≡ [])
 AreWords holds (source ∷ sources) left left' words = (between : Option (List ℕ)) × (first : List (List ℕ)) × (rest : List (List ℕ))
     × (words ≡ first ++ rest) × AreOf holds source left between first × AreWords holds sources between left' rest
 
+-- whether a word is empty
 abbrev pub is_none : List ℕ → Bool
 is_none [] = true
 is_none (byte ∷ bytes) = false
 
--- whether all words are empty
+-- whether all are
 abbrev pub are_empty : List (List ℕ) → Bool
 are_empty [] = true
 are_empty (word ∷ words) = is_none word && are_empty words
