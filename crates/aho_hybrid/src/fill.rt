@@ -1,29 +1,26 @@
 //! The states of a `Hybrid`, made from an `NFA`'s: rows for those near the start, and records for the others, each in the
 //! order of the `NFA`'s numbers.
 
-ghost use Rattle.std.specs.Prelude.{◌≡◌, ◌⊎◌, ℕ, List, true, [], ◌∷◌, ◌++◌, ◌+◌, ◌*◌, ◌<◌, ◌≤◌, length, nat_eq, slice_index_or, sum_by, if◌then◌else◌, IfOk, IfErr, OnOk};
+ghost use Rattle.std.specs.Prelude.{◌≡◌, ℕ, List, true, [], ◌∷◌, ◌++◌, ◌+◌, ◌*◌, ◌<◌, ◌≤◌, length, slice_index_or, IfOk, IfErr, OnOk};
 ghost use Rattle.aho_base.specs.Numbers.{greatest_index};
 ghost use Rattle.aho_base.specs.Patterns.{Patterns};
 ghost use Rattle.aho_build.specs.Walking.{IsState};
-ghost use Rattle.aho_corasick.specs.ReadOut.{states_of, special_of, classes_of};
-ghost use Rattle.aho_table.specs.Alphabet.{class_of, class_count};
-ghost use Rattle.aho_table.specs.Table.{fail_id, matches_in, state_at};
+ghost use Rattle.aho_corasick.specs.ReadOut.{states_of, classes_of};
+ghost use Rattle.aho_table.specs.Alphabet.{class_count};
+ghost use Rattle.aho_table.specs.Table.{matches_in};
 ghost use Rattle.aho_hybrid.specs.Layout.{IsSoundLayout, stride_of};
 ghost use Rattle.aho_hybrid.specs.Reading.{IsLayoutOf};
-ghost use Rattle.aho_hybrid.specs.Filled.{AreFirst, AreMarked, AreNumbers, AreRows, HasEntries, HasRowBefore, HasSizes, Fits, IsDeepState, IsFilled, IsListAt, IsNear, IsOutOfMemory, IsPlaced, IsPlan, IsRefused, IsRowDepth, IsShallow, IsStep, IsToldBy, IsTooLarge, deep_count, flat, is_deep, leads_in, list_words, lists_size, moves_size, moves_words, refusal_of, number_at, number_in, plan_of, rows_count, rows_size, source_in, states_size, told_size, transition_words};
+ghost use Rattle.aho_hybrid.specs.Filled.{AreFirst, AreMarked, AreNumbers, AreRows, HasEntries, HasRowBefore, HasSizes, Fits, IsDeepState, IsFilled, IsListAt, IsNear, IsOutOfMemory, IsPlaced, IsPlan, IsRefused, IsRowDepth, IsShallow, IsStep, IsToldBy, flat, is_deep, leads_in, list_words, number_at, number_in, plan_of, rows_size, states_size};
 
+use crate::budget::{RECORD_SIZE, dense_size, either, is_deep, row_depth, source_of};
 use crate::rows::Rows;
 use aho_base::error::BuildError;
 use aho_base::search::{Anchored, SmallIndex, StateID};
-use aho_build::special::Special;
 use aho_corasick::noncontiguous::NFA;
 use aho_search::automaton::Automaton;
 use aho_table::alphabet::ByteClasses;
 use aho_table::links::{DEAD, FAIL, Matches, Transitions};
 use std::alloc::Global;
-
-/// The words of a deep state's record.
-const RECORD_SIZE: usize = 5;
 
 /// How the states of an `NFA` are laid out.
 #[derive(Drop)]
@@ -95,164 +92,6 @@ pub fn rows_of(alloc: Global, nfa: &NFA, budget: usize, skips: bool) -> Result<R
         list_low: filled.list_low,
         deep_low: filled.deep_low,
     })
-}
-
-/// How many entries all rows have, where all that is laid out fits.
-fn dense_size(nfa: &NFA, stride: usize, row_depth: usize) -> Result<usize, BuildError>
-    requires stride { stride ≡ stride_of (classes_of nfa.now) }
-    requires bounded { stride ≤ 257 }
-    ensures dense { IfOk result (λ dense.
-        dense ≡ rows_size row_depth (states_of nfa.now) (classes_of nfa.now)) }
-    ensures fits { IfOk result (λ dense. Fits nfa.now row_depth) }
-    ensures refused { IfErr result (λ error. error ≡ refusal_of nfa.now row_depth) }
-{
-    let with_rows = rows_count(nfa, row_depth);
-    let dense = with_rows * stride;
-    let size = dense + (nfa.states_len() - with_rows) * RECORD_SIZE;
-    fit(size)?;
-    fit(lists_size(nfa))?;
-    fit(moves_size(nfa, row_depth))?;
-    Ok(dense)
-}
-
-/// Refuses a size that is above the greatest index.
-fn fit(size: usize) -> Result<(), BuildError>
-    ensures fits { OnOk result (size ≤ greatest_index) }
-    ensures refused { IfErr result (IsTooLarge size) }
-{
-    if size > SmallIndex::MAX.as_usize() {
-        return Err(BuildError::StateIDOverflow {
-            max: SmallIndex::MAX.as_usize() as u64,
-            requested: size as u64,
-        });
-    }
-    Ok(())
-}
-
-/// How many words the lists of all states have, or the greatest `usize`.
-fn lists_size(nfa: &NFA) -> usize
-    ensures size { result ≡ told_size (lists_size nfa.now) }
-{
-    let mut size: usize = 1;
-    for index in 0..nfa.states_len() {
-        size = size.saturating_add(list_words(nfa, index));
-    }
-    size
-}
-
-/// How many words the list of a state has, or the greatest `usize`.
-fn list_words(nfa: &NFA, index: usize) -> usize
-    requires within { index < length (states_of nfa.now) }
-    requires small { index ≤ greatest_index }
-    ensures words { result ≡ told_size (list_words
-        (matches_in (states_of nfa.now) (source_in (special_of nfa.now) index))) }
-{
-    let len = nfa.match_len(source_of(nfa.special(), index));
-    if len == 0 {
-        return 0;
-    }
-    len.saturating_add(1)
-}
-
-/// How many words the transitions of all states without rows have, or the greatest `usize`.
-fn moves_size(nfa: &NFA, row_depth: usize) -> usize
-    ensures size { result ≡ told_size (moves_size nfa.now row_depth) }
-{
-    let mut size: usize = 0;
-    for index in 0..nfa.states_len() {
-        size = size.saturating_add(moves_words(nfa, row_depth, index));
-    }
-    size
-}
-
-/// How many words the transitions of a state have, if it has no row, or the greatest `usize`.
-fn moves_words(nfa: &NFA, row_depth: usize, index: usize) -> usize
-    requires within { index < length (states_of nfa.now) }
-    requires small { index ≤ greatest_index }
-    ensures words { result ≡ told_size
-        (moves_words row_depth (special_of nfa.now) (states_of nfa.now) index) }
-{
-    if !is_deep(nfa, index, row_depth) {
-        return 0;
-    }
-    transitions_words(nfa.transitions(source_of(nfa.special(), index)))
-}
-
-/// How many words these transitions have, or the greatest `usize`.
-fn transitions_words(transitions: Transitions<'_>) -> usize
-    ensures words { result ≡ told_size (sum_by transition_words transitions.entry) }
-{
-    let mut words: usize = 0;
-    for (_, next) in transitions {
-        words = words.saturating_add(transition_words(next));
-    }
-    words
-}
-
-/// How many words a transition has that leads here.
-fn transition_words(next: StateID) -> usize
-    ensures words { result ≡ (if nat_eq next fail_id then 0 else 2) }
-{
-    if next == FAIL { 0 } else { 2 }
-}
-
-/// Whether a state is deeper.
-fn is_deep(nfa: &NFA, index: usize, depth: usize) -> bool
-    requires within { index < length (states_of nfa.now) }
-    requires small { index ≤ greatest_index }
-    ensures deep { result ≡ is_deep depth (state_at (states_of nfa.now) index) }
-{
-    nfa.depth(StateID::new_unchecked(index)) > depth
-}
-
-/// The first of two numbers, or the second.
-fn either(first: bool, one: usize, other: usize) -> usize
-    ensures either { result ≡ (if first then one else other) }
-{
-    if first { one } else { other }
-}
-
-/// How deep the deepest state is.
-fn deepest(nfa: &NFA) -> usize
-    ensures deepest { deep_count result (states_of nfa.now) ≡ 0 }
-{
-    let mut most = 0;
-    for index in 0..nfa.states_len() {
-        most = most.max(nfa.depth(StateID::new_unchecked(index)));
-    }
-    most
-}
-
-/// How many states are no deeper.
-fn rows_count(nfa: &NFA, depth: usize) -> usize
-    ensures count { result ≡ rows_count depth (states_of nfa.now) }
-    ensures bound { result ≤ length (states_of nfa.now) }
-    ensures small { length (states_of nfa.now) ≤ greatest_index + 1 }
-{
-    let mut count = 0;
-    for index in 0..nfa.states_len() {
-        count = either(is_deep(nfa, index, depth), count, count + 1);
-    }
-    count
-}
-
-/// The greatest depth down to which the rows of all states take at most so many bytes, or 0.
-fn row_depth(nfa: &NFA, stride: usize, budget: usize) -> usize
-    requires stride { stride ≡ stride_of (classes_of nfa.now) }
-    requires bounded { stride ≤ 257 }
-    ensures depth { IsRowDepth (states_of nfa.now) (classes_of nfa.now) budget result }
-{
-    let mut low = 0;
-    let mut high = deepest(nfa);
-    'halves: while low < high {
-        let middle = high - (high - low) / 2;
-        if rows_count(nfa, middle) * stride * 4 <= budget {
-            low = middle;
-        } else {
-            high = middle - 1;
-        }
-    }
-    low
 }
 
 /// The number of each state: the place of its row, or that of its record behind all rows.
@@ -474,21 +313,6 @@ fn first_bytes(classes: &ByteClasses) -> [u8; 256]
         firsts[classes.get(byte) as usize] = byte;
     }
     firsts
-}
-
-/// The state whose row stands at the place of this one: its own, and for FAIL and the anchored start, which no unanchored
-/// search holds, that of the unanchored start.
-fn source_of(special: &Special, index: usize) -> StateID
-    requires small { index ≤ greatest_index }
-    ensures source { result ≡ source_in special.now index }
-{
-    if index == DEAD.as_usize() {
-        return DEAD;
-    }
-    if index == FAIL.as_usize() || index == special.start_anchored_id.as_usize() {
-        return special.start_unanchored_id;
-    }
-    StateID::new_unchecked(index)
 }
 
 /// The number below which states may list a pattern, with one state more: its row or record ends here, and it lists so many.

@@ -2,6 +2,7 @@
 #![tactic(auto)]
 
 pub mod answers;
+mod budget;
 mod fill;
 pub mod hybrid;
 mod rows;

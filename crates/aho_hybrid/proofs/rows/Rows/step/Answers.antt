@@ -1,4 +1,4 @@
-use Rattle.std.proofs.Common.{◌+◌, ◌<◌, ◌≤◌, ℕ, arith}
+use Rattle.std.proofs.Common.{◌<◌, arith}
 use Rattle.aho_hybrid.specs.Reading.{next-paid}
 use Rattle.aho_hybrid.proofs.rows.Rows.step.Goals as goal
 

@@ -5,7 +5,7 @@ use Rattle.aho_corasick.specs.ReadOut.{states_of}
 use Rattle.aho_table.specs.Table.{state_at}
 use Rattle.aho_hybrid.specs.Filled.{is_deep, rows_count}
 use Rattle.aho_hybrid.proofs.Counting.{deep-more, row-more, rows-all, rows-first}
-use Rattle.aho_hybrid.proofs.fill.rows_count.Goals as goal
+use Rattle.aho_hybrid.proofs.budget.rows_count.Goals as goal
 
 pub loop-index-init : goal.loop-index-init
 loop-index-init c = record { counted = sym (rows-first c.args.depth (states_of c.args.nfa.now)); bound = omega arith }

@@ -1,7 +1,7 @@
 use Rattle.std.proofs.Common.{◌+◌, ◌-◌, ◌*◌, ◌<◌, ◌≤◌}
 use Rattle.aho_corasick.specs.ReadOut.{classes_of, states_of}
 use Rattle.aho_hybrid.specs.Filled.{deep_count, rows_size}
-use Rattle.aho_hybrid.proofs.fill.row_depth.Given as goal
+use Rattle.aho_hybrid.proofs.budget.row_depth.Given as goal
 
 abbrev pub invariant-halves : goal.invariant-halves
 invariant-halves l = record {

@@ -3,7 +3,7 @@ use Rattle.std.specs.Prelude.{min}
 use Rattle.aho_corasick.specs.ReadOut.{special_of, states_of}
 use Rattle.aho_hybrid.specs.Filled.{moves_below, moves_words, told_size}
 use Rattle.aho_hybrid.proofs.Sizes.{moves-first, moves-more, told-add, told-small}
-use Rattle.aho_hybrid.proofs.fill.moves_size.Goals as goal
+use Rattle.aho_hybrid.proofs.budget.moves_size.Goals as goal
 
 pub loop-index-init : goal.loop-index-init
 loop-index-init c =

@@ -1,7 +1,7 @@
 use Rattle.std.proofs.Common.{◌≡◌, length, arith}
 use Rattle.aho_corasick.specs.ReadOut.{states_of}
 use Rattle.aho_hybrid.proofs.Counting.{none-deep}
-use Rattle.aho_hybrid.proofs.fill.deepest.Goals as goal
+use Rattle.aho_hybrid.proofs.budget.deepest.Goals as goal
 
 pub returns : goal.returns
 returns c =

@@ -6,7 +6,7 @@ use Rattle.std.specs.List.{sum_by}
 use Rattle.std.specs.Prelude.{min}
 use Rattle.aho_hybrid.specs.Filled.{told_size, transition_words}
 use Rattle.aho_hybrid.proofs.Sizes.{told-add, told-small}
-use Rattle.aho_hybrid.proofs.fill.transitions_words.Goals as goal
+use Rattle.aho_hybrid.proofs.budget.transitions_words.Goals as goal
 
 pub loop-next-init : goal.loop-next-init
 loop-next-init c = sym (told-small 0 (omega arith))

@@ -1,6 +1,6 @@
 use Rattle.std.proofs.Common.{arith}
 use Rattle.std.proofs.Math.Nat.{mul-le-mul_right}
-use Rattle.aho_hybrid.proofs.fill.row_depth.Goals as goal
+use Rattle.aho_hybrid.proofs.budget.row_depth.Goals as goal
 
 pub overflow_mul-rows_count : goal.overflow_mul-rows_count
 overflow_mul-rows_count c =

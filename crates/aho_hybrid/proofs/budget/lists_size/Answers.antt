@@ -4,7 +4,7 @@ use Rattle.aho_corasick.specs.ReadOut.{special_of, states_of}
 use Rattle.aho_table.specs.Table.{matches_in}
 use Rattle.aho_hybrid.specs.Filled.{list_words, lists_below, source_in, told_size}
 use Rattle.aho_hybrid.proofs.Sizes.{lists-first, lists-more, told-add, told-small}
-use Rattle.aho_hybrid.proofs.fill.lists_size.Goals as goal
+use Rattle.aho_hybrid.proofs.budget.lists_size.Goals as goal
 
 pub loop-index-init : goal.loop-index-init
 loop-index-init c =

@@ -7,7 +7,7 @@ use Rattle.aho_corasick.specs.ReadOut.{classes_of, states_of}
 use Rattle.aho_hybrid.specs.Filled.{lists_size, moves_size, refusal_of, told_size}
 use Rattle.aho_hybrid.proofs.Numbering.{size-of}
 use Rattle.aho_hybrid.proofs.Sizes.{lists-refused, moves-refused, states-refused, told-above, told-again, told-fits}
-use Rattle.aho_hybrid.proofs.fill.dense_size.Goals as goal
+use Rattle.aho_hybrid.proofs.budget.dense_size.Goals as goal
 
 pub returns-in_err-fit-clause-refused : goal.returns-in_err-fit-clause-refused
 returns-in_err-fit-clause-refused c =
