@@ -25,7 +25,7 @@ pub enum Wrong<'a> {
     NoPattern,
     /// No option has this letter.
     UnknownLetter(u8),
-    /// No option has this name, or its argument is wrong.
+    /// No option has this name.
     UnknownName(&'a [u8]),
     /// The option of this letter has no argument.
     NoArgument(u8),
@@ -33,6 +33,8 @@ pub enum Wrong<'a> {
     NoKind,
     /// The argument of `--kind` is none of its three.
     UnknownKind(&'a [u8]),
+    /// The argument of `--color` is none of its three.
+    UnknownColor(&'a [u8]),
     /// `--offset` has no argument.
     NoOffset,
     /// The argument of `--offset` is no number below 2^64.
@@ -268,12 +270,25 @@ fn read_plain<'a>(given: &mut Given<'a>, argument: &'a [u8]) -> Result<Awaited, 
     ensures refused { IfErr result (IsRefused (plain_by argument.now (said given.old))) }
 {
     match argument {
-        [b'-', b'-', ..] => Err(Refusal::Wrong(Wrong::UnknownName(argument))),
+        [b'-', b'-', ..] => Err(Refusal::Wrong(wrong_name(argument))),
         [b'-', _, ..] => read_letters(given, &argument[1..]),
         _ => {
             add_operand(given, argument)?;
             Ok(Awaited::Fresh)
         }
+    }
+}
+
+/// Why an argument that begins with two hyphens is wrong: its name, or what stands behind the name.
+fn wrong_name(argument: &[u8]) -> Wrong<'_> {
+    if let Some(kind) = argument.strip_prefix(b"--kind=") {
+        Wrong::UnknownKind(kind)
+    } else if let Some(color) = argument.strip_prefix(b"--color=") {
+        Wrong::UnknownColor(color)
+    } else if let Some(number) = argument.strip_prefix(b"--offset=") {
+        Wrong::NoNumber(number)
+    } else {
+        Wrong::UnknownName(argument)
     }
 }
 

@@ -1,7 +1,7 @@
 //! The texts of `--help` and `--version`.
 
 /// What `--version` writes.
-pub const VERSION: &[u8] = b"acgrep 0.1\n";
+pub const VERSION: &[u8] = b"acgrep 0.1.0\n";
 
 /// What a call with wrong arguments writes behind the reason.
 pub const USAGE: &[u8] =
@@ -18,8 +18,8 @@ Patterns:
   -f FILE               search for each line of FILE
   -i                    ASCII letters are the same in both cases
   -v                    select the lines in which no pattern occurs
-  --kind KIND           which of several matches -o and --json write:
-                        longest (the default), first or standard
+  --kind KIND           which of several matches -o, --json and --color
+                        take: longest (the default), first or standard
 
 Output:
   -c                    write how many lines are selected
@@ -31,7 +31,7 @@ Output:
   -b                    write where it starts in its file, in bytes
   --offset N            the first byte of each file stands at N, not at 0
   -H                    write the file's name before each line
-  -h                    do not
+  -h                    do not write it
   --color[=WHEN]        color the output: auto, always or never
 
 Others:

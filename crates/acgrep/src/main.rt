@@ -24,7 +24,7 @@ mod tell;
 
 use open::System;
 use run::run;
-use std::io::{BufWriter, IsTerminal};
+use std::io::{BufWriter, IsTerminal, Write};
 use std::process::ExitCode;
 use std::{env, io};
 use tell::{tell, tell_of};
@@ -37,7 +37,7 @@ fn main(rt: HostRuntime) -> ExitCode {
     let given = match given_arguments(&rt) {
         Ok(given) => given,
         Err(error) => {
-            tell_of(&mut errors, b"arguments", &error);
+            tell_unread(&mut errors, &error);
             return ExitCode::from(2);
         }
     };
@@ -68,6 +68,14 @@ fn given_arguments(rt: &HostRuntime) -> io::Result<Vec<String>> {
         }
     }
     Ok(arguments)
+}
+
+/// Tells why the arguments cannot be read.
+fn tell_unread<E: Write>(errors: &mut E, error: &io::Error) {
+    match error.kind() {
+        io::ErrorKind::InvalidData => tell(errors, &[b"an argument is not UTF-8"]),
+        _ => tell_of(errors, b"arguments", error),
+    }
 }
 
 /// Whether the terminal has colours: it has a name, and is not called dumb.

@@ -51,6 +51,14 @@ pub fn tell_wrong<E: Write>(errors: &mut E, wrong: Wrong<'_>) {
                 b"'",
             ],
         ),
+        Wrong::UnknownColor(name) => tell(
+            errors,
+            &[
+                b"option '--color' takes auto, always or never, not '",
+                name,
+                b"'",
+            ],
+        ),
         Wrong::NoOffset => tell(errors, &[b"option '--offset' needs an argument"]),
         Wrong::NoNumber(number) => tell(
             errors,

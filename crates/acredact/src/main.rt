@@ -1,4 +1,4 @@
-//! `acredact [-i] [--kind KIND] (-e PATTERN | -f FILE | -t TABLE).. [--with TEXT] [FILE]..` writes each FILE with a text in the
+//! `acredact [-i] [--kind KIND] (-e PATTERN | -f FILE | -t TABLE).. [--with TEXT] [--count] [FILE]..` writes each FILE with a text in the
 //! place of each match of some patterns: `[redacted]`, TEXT, or the pattern's own of a TABLE. No FILE, or `-`, is standard input.
 //!
 //! The status is 0 where all was redacted. It is 2 where the arguments or the patterns are wrong, memory runs out, or a file
