@@ -1,4 +1,5 @@
 pub mod Around
+pub mod Beginnings
 pub mod Coloring
 pub mod FileTellings
 pub mod Fillings

@@ -394,5 +394,6 @@ fn job_for<'a>(job: &Job<'_>, name: &'a [u8]) -> Job<'a>
             color: job.style.color,
         },
         first: job.first,
+        alloc: job.alloc,
     }
 }
