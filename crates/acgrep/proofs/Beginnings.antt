@@ -43,11 +43,11 @@ page_begins p job place old new line before after bytes none same (shown, shows,
 }
 
 module _ (p : Patterns) (job : Job) where
-  starts_none : (place : Place) (ls : List (List ℕ)) → StartsNext p job place ls []
+  pub starts_none : (place : Place) (ls : List (List ℕ)) → StartsNext p job place ls []
   starts_none place [] = refl
   starts_none place (line ∷ rest) = inl refl
 
-  starts_more : (place : Place) (ls ms : List (List ℕ)) (begun : List ℕ) → StartsNext p job place ls begun → StartsNext p job place (ls ++ ms) begun
+  pub starts_more : (place : Place) (ls ms : List (List ℕ)) (begun : List ℕ) → StartsNext p job place ls begun → StartsNext p job place (ls ++ ms) begun
   starts_more place [] ms begun none = subst (StartsNext p job place ms) (sym none) (starts_none place ms)
   starts_more place (line ∷ rest) ms begun starts = starts
 

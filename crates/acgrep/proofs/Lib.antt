@@ -11,6 +11,7 @@ pub mod Numbers
 pub mod Objected
 pub mod PlacesBehind
 pub mod Streams
+pub mod StreamsBegun
 pub mod Tellings
 pub mod Unselected
 pub mod WordLists
