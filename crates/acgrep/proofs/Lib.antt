@@ -2,6 +2,7 @@ pub mod Around
 pub mod Beginnings
 pub mod Coloring
 pub mod FileTellings
+pub mod FilesBegun
 pub mod Fillings
 pub mod FirstLines
 pub mod Kept
