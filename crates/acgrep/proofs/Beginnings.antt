@@ -1,11 +1,11 @@
 -- A beginning of what is told of lines, put together from parts.
-use Rattle.std.proofs.Common.{◌≡◌, inl, inr, ◌⊎◌, ℕ, ◌+◌, ◌≤◌, ◌<◌, Bool, true, List, [], ◌∷◌, ◌++◌, Option, Some, length, take, drop, take-append-drop, refl, sym, ◌∙◌, ap, subst, arith, append_assoc, append-nil}
+use Rattle.std.proofs.Common.{◌≡◌, inl, inr, ℕ, ◌<◌, Bool, true, List, [], ◌∷◌, ◌++◌, Option, Some, length, take, drop, take-append-drop, refl, sym, ◌∙◌, ap, subst, append_assoc, append-nil}
 use Rattle.std.specs.Prelude.{MatchBool, None, Result, Ok, Err, OnErr}
 use Rattle.std.specs.Io.KnownBytes.{Appends, Keeps}
-use Rattle.std.proofs.KnownBytes.{Appends-nil, Appends-trans}
+use Rattle.std.proofs.KnownBytes.{Appends-trans}
 use Rattle.aho_base.specs.Patterns.{Patterns}
 use Rattle.acgrep.specs.Lines.{lines}
-use Rattle.acgrep.specs.Written.{AppendsBeginning, BeginsLine, BeginsLines, EachLine, HasMatch, HasNone, IsSelected, SamePlace, SearchesTo, StartsLine, StartsNext, TellsLines, WritesLine, after_lines}
+use Rattle.acgrep.specs.Written.{AppendsBeginning, BeginsLine, BeginsLines, EachLine, HasMatch, HasNone, IsSelected, SamePlace, SearchesTo, StartsNext, TellsLines, WritesLine, after_lines}
 use Rattle.acgrep.specs.declared.print.Place.{Place}
 use Rattle.acgrep.specs.declared.select.Job.{Job}
 use Rattle.acgrep.specs.declared.select.State.{State}

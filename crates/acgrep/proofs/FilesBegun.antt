@@ -1,12 +1,12 @@
 -- What is written of a file that is not searched to its end.
-use Rattle.std.proofs.Common.{◌≡◌, inl, inr, ◌⊎◌, ℕ, Bool, true, false, List, [], ◌∷◌, ◌++◌, Option, None, Some, IfSome, drop, take, take-append-drop, refl, sym, ◌∙◌, ap, subst, append_assoc, append-nil}
-use Rattle.std.specs.Io.KnownBytes.{Appends, IsAtEnd, Keeps}
+use Rattle.std.proofs.Common.{◌≡◌, inl, inr, ◌⊎◌, ℕ, Bool, List, [], ◌∷◌, ◌++◌, Option, None, Some, IfSome, drop, take, take-append-drop, refl, sym, ◌∙◌, ap, subst, append_assoc, append-nil}
+use Rattle.std.specs.Io.KnownBytes.{Appends, Keeps}
 use Rattle.std.proofs.KnownBytes.{Appends-trans, Keeps-trans}
 use Rattle.aho_base.specs.Patterns.{Patterns}
-use Rattle.acgrep.specs.Files.{AreBegun, BeginsFile, BeginsName, BeginsTotal, IfBroken, total_if}
+use Rattle.acgrep.specs.Files.{AreBegun, BeginsFile, BeginsTotal, IfBroken, total_if}
 use Rattle.acgrep.specs.Lines.{lines}
 use Rattle.acgrep.specs.Streamed.{BeginsStream, course}
-use Rattle.acgrep.specs.Written.{AppendsBeginning, EndsLine, ShowsBy, StartsNext, after_lines, at_begin, place_at}
+use Rattle.acgrep.specs.Written.{AppendsBeginning, ShowsBy, StartsNext, after_lines, at_begin, place_at}
 use Rattle.acgrep.specs.declared.files.Outcome.{Outcome}
 use Rattle.acgrep.specs.declared.files.Outcome.TheVariants.{Searched, Unread, Stopped}
 use Rattle.acgrep.specs.declared.options.Shown.{Shown}

@@ -1,13 +1,12 @@
 -- A search of a stream that is broken off, put together from its reads.
-use Rattle.std.proofs.Common.{◌≡◌, inl, inr, ◌⊎◌, ℕ, ◌-◌, ◌≤◌, ◌<◌, Bool, true, List, [], ◌∷◌, ◌++◌, Option, length, take, drop, take-append-drop, refl, sym, ◌∙◌, ap, subst, arith, append_assoc, append-nil}
-use Rattle.std.specs.Io.KnownBytes.{Appends, Consumes, IsAtEnd, Keeps}
+use Rattle.std.proofs.Common.{◌≡◌, inl, inr, ℕ, ◌-◌, ◌≤◌, ◌<◌, Bool, true, List, [], ◌++◌, Option, length, take, drop, take-append-drop, refl, sym, ◌∙◌, ap, subst, arith, append_assoc, append-nil}
+use Rattle.std.specs.Io.KnownBytes.{Appends, Consumes, Keeps}
 use Rattle.std.proofs.KnownBytes.{Consumes-trans}
 use Rattle.aho_base.specs.Patterns.{Patterns}
 use Rattle.acgrep.specs.Filled.{Fills}
 use Rattle.acgrep.specs.Lines.{IsNewline, lines}
 use Rattle.acgrep.specs.Streamed.{BeginsSome, BeginsStream, BeginsWhole, ReadsSome, SearchesLines, SearchesStream, course}
 use Rattle.acgrep.specs.Written.{BeginsLines, EndsLine, IsSettled, SamePlace, SearchesText, after_lines}
-use Rattle.acgrep.specs.declared.print.Place.{Place}
 use Rattle.acgrep.specs.declared.select.Job.{Job}
 use Rattle.acgrep.specs.declared.select.State.{State}
 use Rattle.acgrep.proofs.Beginnings.{begins_join, begins_kept, begins_none, kept_nil, starts_none}
