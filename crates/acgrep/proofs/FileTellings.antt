@@ -39,7 +39,7 @@ some_front P (line ∷ ls) ms (inl here) = inl here
 some_front P (line ∷ ls) ms (inr later) = inr (some_front P ls ms later)
 
 -- the text of a reader of which some bytes were read
-text_behind : (left left' : Option (List ℕ)) (bytes : List ℕ) → Consumes left left' bytes
+pub text_behind : (left left' : Option (List ℕ)) (bytes : List ℕ) → Consumes left left' bytes
     → (more : List ℕ) × IfSome left (λ (all : List ℕ). bytes ++ more ≡ all) × (IsAtEnd left' → more ≡ [])
 text_behind None left' bytes read = ([], tt, λ _. refl)
 text_behind (Some all) None bytes read = absurd read

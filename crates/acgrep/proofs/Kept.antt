@@ -7,10 +7,11 @@ use Rattle.std.proofs.lemmas.Bool.{cases_Bool}
 use Rattle.aho_base.specs.Patterns.{Patterns}
 use Rattle.acgrep.specs.Arguments.{Origin, Said}
 use Rattle.acgrep.specs.Files.{AreSearched, AreSearchedOr, is_enough, or_input}
-use Rattle.acgrep.specs.Runs.{FindsNone, SearchesFor, SearchesWords, selects_none}
+use Rattle.acgrep.specs.Runs.{BeginsFor, FindsNone, SearchesFor, SearchesWords, selects_none}
 use Rattle.acgrep.specs.Searchers.{patterns_by}
 use Rattle.acgrep.specs.declared.options.Flags.{Flags}
 use Rattle.acgrep.specs.declared.select.Job.{Job}
+use Rattle.acgrep.proofs.FilesBegun.{begun_kept}
 
 module _ (held' held'' : Option (List ℕ)) (kept : Keeps held' held'') where
   searched_kept : (p : Patterns) (job : Job) (holds : List ℕ → Option (List ℕ)) (names : List (List ℕ)) (left left' held : Option (List ℕ)) (any : Bool)
@@ -57,6 +58,19 @@ module _ (held' held'' : Option (List ℕ)) (kept : Keeps held' held'') where
                   rw some (record { job = found.job; is_job = found.is_job; searched = or_kept p found.job holds (or_input names) done.between left' held status found.searched })
             ];
       }
+
+  -- what was begun
+  pub begins_held : (holds : List ℕ → Option (List ℕ)) (terminal : Bool) (flags : Flags) (sources : List Origin) (names : List (List ℕ)) (left held : Option (List ℕ))
+      → BeginsFor holds terminal flags sources names left held held' → BeginsFor holds terminal flags sources names left held held''
+  begins_held holds terminal flags sources names left held (inl keeps) = inl (Keeps-trans held held' held'' keeps kept)
+  begins_held holds terminal flags sources names left held (inr begins) = inr (record {
+    words = begins.words;
+    between = begins.between;
+    read = begins.read;
+    job = begins.job;
+    is_job = begins.is_job;
+    begun = begun_kept (patterns_by flags.kind flags.ignore_case begins.words) begins.job holds held' held'' kept (or_input names) begins.between held begins.begun;
+  })
 
 -- what was said is one thing alone
 pub same_said : (told : Option Said) (given mine : Said) → told ≡ Some given → told ≡ Some mine → mine ≡ given

@@ -1,6 +1,8 @@
 pub mod Around
+pub mod Beginnings
 pub mod Coloring
 pub mod FileTellings
+pub mod FilesBegun
 pub mod Fillings
 pub mod FirstLines
 pub mod Kept
@@ -10,6 +12,7 @@ pub mod Numbers
 pub mod Objected
 pub mod PlacesBehind
 pub mod Streams
+pub mod StreamsBegun
 pub mod Tellings
 pub mod Unselected
 pub mod WordLists

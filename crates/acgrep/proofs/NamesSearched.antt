@@ -6,7 +6,7 @@ use Rattle.std.proofs.Math.ListN.{get_or}
 use Rattle.std.proofs.lemmas.Bool.{cases_Bool}
 use Rattle.std.proofs.lemmas.List.{take_all}
 use Rattle.aho_base.specs.Patterns.{Patterns}
-use Rattle.acgrep.specs.Files.{AreSearched, AreSearchedOr, HasSelected, IfSearched, IsAny, LeavesInput, OneIsSelected, SearchesName, SearchesNames, is_enough, known_of, names_of, nothing_seen, or_input, seen_after, status_by, status_of}
+use Rattle.acgrep.specs.Files.{AreBegun, AreSearched, AreSearchedOr, BeginsName, HasSelected, IfBroken, IfSearched, IsAny, LeavesInput, OneIsSelected, SearchesName, SearchesNames, is_enough, known_of, names_of, nothing_seen, or_input, seen_after, status_by, status_of}
 use Rattle.acgrep.specs.Lines.{lines}
 use Rattle.acgrep.specs.declared.files.Outcome.{Outcome}
 use Rattle.acgrep.specs.declared.files.Outcome.TheVariants.{Searched, Unread, Stopped}
@@ -53,6 +53,7 @@ module _ (p : Patterns) (job : Job) (holds : List ℕ → Option (List ℕ)) (na
         → AreSearched p job holds names begin left' held₀ held' (seen.selected || any)
     pub finds : OneIsSelected p job holds rest left → OneIsSelected p job holds names begin
     pub found : job.shown ≡ Nothing → seen.selected ≡ true → OneIsSelected p job holds names begin
+    pub begun : (held' : Option (List ℕ)) → AreBegun p job holds rest left held held' → AreBegun p job holds names begin held₀ held'
 
   -- in a file that was searched
   name_has : (name : List ℕ) (left left' held held' : Option (List ℕ)) → SearchesName p job holds name left left' held held' true → HasSelected p job (known_of holds name left)
@@ -62,8 +63,8 @@ module _ (p : Patterns) (job : Job) (holds : List ℕ → Option (List ℕ)) (na
   -- one file more
   pub so_far_step : (name : List ℕ) (rest : List (List ℕ)) (left left' held held' : Option (List ℕ)) (seen : Seen) (outcome : Outcome) → seen.ended ≡ false
       → SoFar (name ∷ rest) left held seen → LeavesInput name left left' → IfSearched outcome (SearchesName p job holds name left left' held held')
-      → SoFar rest left' held' (seen_after job.shown seen outcome)
-  so_far_step name rest left left' held held' seen (Searched first) goes so_far leaves searched = record {
+      → IfBroken outcome (BeginsName p job holds name left held held') → SoFar rest left' held' (seen_after job.shown seen outcome)
+  so_far_step name rest left left' held held' seen (Searched first) goes so_far leaves searched broken = record {
     ended = λ clean ends.
         let enough : is_enough job.shown first ≡ true = subst (λ (b : Bool). (b || is_enough job.shown first) ≡ true) goes ends in
         let only = enough_only job.shown first enough in (
@@ -83,18 +84,21 @@ module _ (p : Patterns) (job : Job) (holds : List ℕ → Option (List ℕ)) (na
               let here : first ≡ true = subst (λ (b : Bool). (b || first) ≡ true) not is in
               so_far.finds (inl (name_has name left left' held held' (subst (SearchesName p job holds name left left' held held') here searched)))
         ];
+    begun = λ held'' more. so_far.begun held'' (inr (left', held', leaves, inl (first, searched), more));
   }
-  so_far_step name rest left left' held held' seen Unread goes so_far leaves searched = record {
+  so_far_step name rest left left' held held' seen Unread goes so_far leaves searched broken = record {
     ended = λ clean ends. absurd (cc);
     on = λ clean next left'' held'' others more. absurd (cc);
     finds = λ one. so_far.finds (inr (left', leaves, one));
     found = so_far.found;
+    begun = λ held'' more. so_far.begun held'' (inr (left', held', leaves, inr broken, more));
   }
-  so_far_step name rest left left' held held' seen Stopped goes so_far leaves searched = record {
+  so_far_step name rest left left' held held' seen Stopped goes so_far leaves searched broken = record {
     ended = λ clean ends. absurd (cc);
     on = λ clean next left'' held'' others more. absurd (cc);
     finds = λ one. so_far.finds (inr (left', leaves, one));
     found = so_far.found;
+    begun = λ held'' more. so_far.begun held'' (inr (left', held', leaves, inr broken, more));
   }
 
   -- none is left, or nothing more is to be searched
@@ -119,6 +123,7 @@ so_far_start p job holds names left held = record {
   on = λ clean next left' held' any searched. searched;
   finds = λ one. one;
   found = λ quiet is. absurd (cc);
+  begun = λ held' more. more;
 }
 
 -- the status tells it

@@ -18,7 +18,7 @@ use Rattle.acgrep.proofs.LineLists.{ends_drop, lines_append}
 use Rattle.acgrep.proofs.Tellings.{after_append, same_lines, same_place, same_trans, tells_join}
 
 -- bytes that are kept grow by none
-keeps_nil : (x y : Option (List ℕ)) → Keeps x y → Appends x y []
+pub keeps_nil : (x y : Option (List ℕ)) → Keeps x y → Appends x y []
 keeps_nil None y keeps = tt
 keeps_nil (Some xs) None keeps = absurd keeps
 keeps_nil (Some xs) (Some ys) keeps = keeps ∙ sym (append-nil xs)

@@ -35,7 +35,7 @@ same_trans job a b c one other = record { bytes = one.bytes ∙ other.bytes; lin
 pub same_sym : (job : Job) (a b : Place) → SamePlace job a b → SamePlace job b a
 same_sym job a b same = record { bytes = sym same.bytes; lines = λ asked. sym (same.lines asked) }
 
-same_line : (job : Job) (a b : Place) (line : List ℕ) → SamePlace job a b → SamePlace job (after_line a line) (after_line b line)
+pub same_line : (job : Job) (a b : Place) (line : List ℕ) → SamePlace job a b → SamePlace job (after_line a line) (after_line b line)
 same_line job a b line same = record {
   bytes = ap (λ (n : ℕ). (n + (length line + 1)) % 2 ^ 64) same.bytes;
   lines = λ asked. ap (λ (n : ℕ). (n + 1) % 2 ^ 64) (same.lines asked);
@@ -100,7 +100,7 @@ line_same : (p : Patterns) (colored : Bool) (job : Job) (a b : Place) (line byte
 line_same p true job a b line bytes same (ms, finds, is) = (ms, finds, is ∙ ap (λ (head : List ℕ). head ++ (colored_from line 0 ms ++ codes "\n")) (start_same job a b same))
 line_same p false job a b line bytes same is = is ∙ ap (λ (head : List ℕ). head ++ (line ++ codes "\n")) (start_same job a b same)
 
-by_same : (p : Patterns) (shown : Shown) (invert : Bool) (job : Job) (a b : Place) (line bytes : List ℕ)
+pub by_same : (p : Patterns) (shown : Shown) (invert : Bool) (job : Job) (a b : Place) (line bytes : List ℕ)
     → (is_numbered shown job.style.number ≡ true → a.lines ≡ b.lines) → SamePlace job a b
     → ShowsBy p shown invert job.style a line bytes → ShowsBy p shown invert job.style b line bytes
 by_same p Lines invert job a b line bytes counted same shows = line_same p (job.style.color && not invert) job a b line bytes same shows

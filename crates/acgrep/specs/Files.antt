@@ -7,7 +7,7 @@ use Rattle.aho_base.specs.Patterns.{Patterns}
 use Rattle.acgrep.specs.Filled.{Reads}
 use Rattle.acgrep.specs.Lines.{lines}
 use Rattle.acgrep.specs.Printed.{count_by, file_line}
-use Rattle.acgrep.specs.Written.{EachLine, IsPassed, IsSelected, Tells, needs_one, place_at}
+use Rattle.acgrep.specs.Written.{EachLine, IsPassed, IsSelected, StartsNext, Tells, after_lines, needs_one, place_at}
 use Rattle.acgrep.specs.declared.files.Outcome.{Outcome}
 use Rattle.acgrep.specs.declared.files.Outcome.TheVariants.{Searched, Unread, Stopped}
 use Rattle.acgrep.specs.declared.files.Seen.{Seen}
@@ -188,3 +188,47 @@ pub record EndsFile (job : Job) (count : ℕ) (held held' : Option (List ℕ)) (
 pub record SearchesNames (p : Patterns) (job : Job) (holds : List ℕ → Option (List ℕ)) (names : List (List ℕ)) (left left' held held' : Option (List ℕ)) (seen : Seen) : Type 0 where
   pub searched : seen.failed ≡ false → AreSearched p job holds names left left' held held' seen.selected
   pub found : job.shown ≡ Nothing → seen.selected ≡ true → OneIsSelected p job holds names left
+
+-- a beginning of what is asked of a file as a whole is written, of which so many lines were selected
+pub record BeginsTotal (job : Job) (count : ℕ) (held held' : Option (List ℕ)) : Type 0 where
+  pub begun : List ℕ
+  pub missing : List ℕ
+  pub cut : total_if job.shown job.style count ≡ begun ++ missing
+  pub written : Appends held held' begun
+
+-- a file whose bytes are these, where they are known, was not searched to its end, or not all was written: what is told of some
+-- first lines is, and then no more than a beginning of what is shown of the next, or of what is asked of the file as a whole
+pub record BeginsFile (p : Patterns) (job : Job) (known held held' : Option (List ℕ)) : Type 0 where
+  pub text : List ℕ
+  pub of : IfSome known (λ bytes. text ≡ bytes)
+  pub first : List (List ℕ)
+  pub left : List (List ℕ)
+  pub cut : lines text ≡ first ++ left
+  pub told : List ℕ
+  pub count : ℕ
+  pub tells : Tells p job (place_at 0 job.first) 0 first told count
+  pub begun : List ℕ
+  pub starts : StartsNext p job (after_lines (place_at 0 job.first) first) left begun ⊎ ((missing : List ℕ) × (total_if job.shown job.style count ≡ begun ++ missing))
+  pub written : Appends held held' (told ++ begun)
+
+-- what is so where a file was not searched
+abbrev pub IfBroken : Outcome → Type 0 → Type 0
+IfBroken (Searched any) P = Unit {0}
+IfBroken Unread P = P
+IfBroken Stopped P = P
+
+-- that of the file of a name
+pub record BeginsName (p : Patterns) (job : Job) (holds : List ℕ → Option (List ℕ)) (name : List ℕ) (left held held' : Option (List ℕ)) : Type 0 where
+  pub named : Job
+  pub is_named : IsNamed job (shown_name name) named
+  pub file : BeginsFile p named (known_of holds name left) held held'
+
+-- of some first ones of the files of these names, one after another, all that is asked is written, or a beginning of it; and
+-- nothing else
+abbrev pub AreBegun : Patterns → Job → (List ℕ → Option (List ℕ)) → List (List ℕ) → (left held held' : Option (List ℕ)) → Type 0
+AreBegun p job holds [] left held held' = Keeps held held'
+AreBegun p job holds (name ∷ names) left held held' =
+    Keeps held held'
+    ⊎ ((between : Option (List ℕ)) × (meanwhile : Option (List ℕ)) × LeavesInput name left between
+    × (((any : Bool) × SearchesName p job holds name left between held meanwhile any) ⊎ BeginsName p job holds name left held meanwhile)
+    × AreBegun p job holds names between meanwhile held')

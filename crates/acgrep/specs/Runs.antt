@@ -1,9 +1,9 @@
 -- What a call searches for and in which files, by what its arguments say.
-use Rattle.std.specs.Prelude.{◌≡◌, ℕ, ◌&&◌, nat_lt, Bool, MatchBool, true, false, List, [], ◌∷◌, ◌++◌, Option, Some, IfSome, String, codes, length, map, unwrap_or}
+use Rattle.std.specs.Prelude.{◌≡◌, ◌⊎◌, ℕ, ◌&&◌, nat_lt, Bool, MatchBool, true, false, List, [], ◌∷◌, ◌++◌, Option, Some, IfSome, String, codes, length, map, unwrap_or}
 use Rattle.std.specs.Io.KnownBytes.{Consumes, IsAtEnd, Keeps}
 use Rattle.aho_base.specs.Patterns.{Patterns}
 use Rattle.acgrep.specs.Arguments.{Origin, Said, origin_of, said_by, shown_by, texts}
-use Rattle.acgrep.specs.Files.{AreSearchedOr, is_input, or_input}
+use Rattle.acgrep.specs.Files.{AreBegun, AreSearchedOr, is_input, or_input}
 use Rattle.acgrep.specs.Lines.{lines}
 use Rattle.acgrep.specs.Searchers.{patterns_by}
 use Rattle.acgrep.specs.Written.{IsPassed}
@@ -127,3 +127,22 @@ pub record SearchesFor (holds : List ℕ → Option (List ℕ)) (terminal : Bool
 abbrev pub Searches : (List ℕ → Option (List ℕ)) → Bool → Said → (left left' held held' : Option (List ℕ)) → ℕ → Type 0
 Searches holds terminal given left left' held held' status =
     SearchesFor holds terminal given.flags (sources_by given.sources given.operands) (names_by given.sources given.operands) left left' held held' status
+
+-- the patterns of these sources were read, and of some first ones of the files of these names that is written which is asked, or a
+-- beginning of it
+pub record BeginsWords (holds : List ℕ → Option (List ℕ)) (terminal : Bool) (flags : Flags) (sources : List Origin) (names : List (List ℕ)) (left held held' : Option (List ℕ)) : Type 0 where
+  pub words : List (List ℕ)
+  pub between : Option (List ℕ)
+  pub read : AreWords holds sources left between words
+  pub job : Job
+  pub is_job : IsJob flags terminal (length names) job
+  pub begun : AreBegun (patterns_by flags.kind flags.ignore_case words) job holds (or_input names) between held held'
+
+-- or nothing is
+abbrev pub BeginsFor : (List ℕ → Option (List ℕ)) → Bool → Flags → List Origin → List (List ℕ) → (left held held' : Option (List ℕ)) → Type 0
+BeginsFor holds terminal flags sources names left held held' = Keeps held held' ⊎ BeginsWords holds terminal flags sources names left held held'
+
+-- whatever comes of what was said: what is written is a beginning of what is asked
+abbrev pub Begins : (List ℕ → Option (List ℕ)) → Bool → Said → (left held held' : Option (List ℕ)) → Type 0
+Begins holds terminal given left held held' =
+    BeginsFor holds terminal given.flags (sources_by given.sources given.operands) (names_by given.sources given.operands) left held held'

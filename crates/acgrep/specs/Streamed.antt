@@ -2,7 +2,8 @@
 use Rattle.std.specs.Prelude.{◌≡◌, ◌⊎◌, ℕ, Bool, true, List, [], ◌++◌, Option}
 use Rattle.std.specs.Io.KnownBytes.{Consumes, IsAtEnd}
 use Rattle.aho_base.specs.Patterns.{Patterns}
-use Rattle.acgrep.specs.Written.{EndsLine, IsSettled, SearchesText}
+use Rattle.acgrep.specs.Lines.{lines}
+use Rattle.acgrep.specs.Written.{BeginsLines, EndsLine, IsSettled, SearchesText}
 use Rattle.acgrep.specs.declared.select.Job.{Job}
 use Rattle.acgrep.specs.declared.select.State.{State}
 
@@ -58,3 +59,31 @@ pub record SearchesWhole (p : Patterns) (job : Job) (before after : State) (old 
   pub cut : bytes ≡ searched ++ kept
   pub whole : EndsLine searched
   pub searches : SearchesText p job before after old new searched
+
+-- the same of a search that is broken off: of the lines of these bytes a beginning of what is told was written
+pub record BeginsStream (p : Patterns) (job : Job) (c : Course) : Type 0 where
+  pub searched : List ℕ
+  -- what was read behind them
+  pub rest : List ℕ
+  pub consumed : Consumes c.left_before c.left_after (searched ++ rest)
+  pub begins : BeginsLines p job c.before c.after.selected c.held_before c.held_after (lines searched)
+  -- the lines are whole ones
+  pub ends : EndsLine searched ⊎ ((rest ≡ []) × IsAtEnd c.left_after)
+
+-- bytes come behind those that are kept, and of the whole lines of both a beginning of what is told is written
+pub record BeginsSome (p : Patterns) (job : Job) (c : Course) (kept : List ℕ) : Type 0 where
+  pub came : List ℕ
+  pub searched : List ℕ
+  pub rest : List ℕ
+  pub consumed : Consumes c.left_before c.left_after came
+  pub cut : kept ++ came ≡ searched ++ rest
+  pub whole : EndsLine searched
+  pub begins : BeginsLines p job c.before c.after.selected c.held_before c.held_after (lines searched)
+
+-- of the whole lines of bytes a beginning of what is told is written
+pub record BeginsWhole (p : Patterns) (job : Job) (before after : State) (old new : Option (List ℕ)) (bytes : List ℕ) : Type 0 where
+  pub searched : List ℕ
+  pub rest : List ℕ
+  pub cut : bytes ≡ searched ++ rest
+  pub whole : EndsLine searched
+  pub begins : BeginsLines p job before after.selected old new (lines searched)

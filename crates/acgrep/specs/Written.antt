@@ -1,5 +1,5 @@
 -- What is written of the lines of a text, one after another.
-use Rattle.std.specs.Prelude.{◌≡◌, ◌⊎◌, ⊤, ℕ, ◌+◌, ◌-◌, ◌%◌, ◌^◌, ◌<◌, ◌≤◌, min, Bool, true, false, not, ◌&&◌, List, [], ◌∷◌, ◌++◌, Option, None, length, drop, MatchBool}
+use Rattle.std.specs.Prelude.{◌≡◌, ◌⊎◌, ⊤, ℕ, ◌+◌, ◌-◌, ◌%◌, ◌^◌, ◌<◌, ◌≤◌, min, Bool, true, false, not, ◌&&◌, List, [], ◌∷◌, ◌++◌, Option, None, length, drop, MatchBool, take}
 use Rattle.std.specs.Io.KnownBytes.{Appends}
 use Rattle.aho_base.specs.Iteration.{AreFinds}
 use Rattle.aho_base.specs.Occurrence.{Occurrence}
@@ -156,3 +156,37 @@ pub record SearchesText (p : Patterns) (job : Job) (before after : State) (old n
   pub left : List ℕ
   pub searches : SearchesTo p job before after old new text left
   pub ends : (left ≡ []) ⊎ IsSettled job after
+
+-- a beginning of these bytes is written, and nothing else
+abbrev pub AppendsBeginning : Option (List ℕ) → Option (List ℕ) → List ℕ → Type 0
+AppendsBeginning old new bytes = (count : ℕ) × (count ≤ length bytes) × Appends old new (take count bytes)
+
+-- a beginning of what is shown of a line
+pub record StartsLine (p : Patterns) (job : Job) (place : Place) (line begun : List ℕ) : Type 0 where
+  pub shown : List ℕ
+  pub shows : ShowsLine p job place line shown
+  pub missing : List ℕ
+  pub cut : shown ≡ begun ++ missing
+
+-- that is written or nothing
+pub record BeginsLine (p : Patterns) (job : Job) (place : Place) (old new : Option (List ℕ)) (line : List ℕ) : Type 0 where
+  pub begun : List ℕ
+  pub starts : (begun ≡ []) ⊎ StartsLine p job place line begun
+  pub written : Appends old new begun
+
+-- a beginning of what is shown of the first of these lines if it is selected, or nothing
+abbrev pub StartsNext : Patterns → Job → Place → List (List ℕ) → List ℕ → Type 0
+StartsNext p job place [] begun = begun ≡ []
+StartsNext p job place (line ∷ rest) begun = (begun ≡ []) ⊎ (IsSelected p job.invert line × StartsLine p job place line begun)
+
+-- what is told of some first ones of these lines is written, and then no more than a beginning of what is shown of the next;
+-- `count` is how many lines were selected then
+pub record BeginsLines (p : Patterns) (job : Job) (before : State) (count : ℕ) (old new : Option (List ℕ)) (ls : List (List ℕ)) : Type 0 where
+  pub first : List (List ℕ)
+  pub left : List (List ℕ)
+  pub cut : ls ≡ first ++ left
+  pub told : List ℕ
+  pub tells : Tells p job before.place before.selected first told count
+  pub begun : List ℕ
+  pub starts : StartsNext p job (after_lines before.place first) left begun
+  pub written : Appends old new (told ++ begun)

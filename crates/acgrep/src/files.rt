@@ -4,7 +4,7 @@ ghost use Rattle.std.specs.Prelude.{◌≡◌, ◌≤◌, ◌<◌, ◌⊎◌, []
 ghost use Rattle.std.specs.Io.KnownBytes.{Appends};
 ghost use Rattle.aho_base.specs.Patterns.{Patterns};
 ghost use Rattle.acgrep.specs.Filled.{Reads};
-ghost use Rattle.acgrep.specs.Files.{AreSearchedOr, EndsFile, IfSearched, IsNamed, LeavesInput, SearchesFile, SearchesName, SearchesNames, SearchesReader, is_enough, names_of, nothing_seen, or_input, seen_after, status_by, total_if};
+ghost use Rattle.acgrep.specs.Files.{AreBegun, AreSearchedOr, BeginsFile, BeginsName, BeginsTotal, EndsFile, IfBroken, IfSearched, IsNamed, LeavesInput, SearchesFile, SearchesName, SearchesNames, SearchesReader, is_enough, names_of, nothing_seen, or_input, seen_after, status_by, total_if};
 ghost use Rattle.acgrep.specs.Selected.{HoldNoNewline};
 
 use crate::buffer::Buffer;
@@ -12,6 +12,7 @@ use crate::failure::Stop;
 use crate::keys::{INPUT, INPUT_NAME, is_input, open_named, tell_fault};
 use crate::open::Open;
 use crate::options::Shown;
+use crate::page::write_page;
 use crate::print::{Style, put_count, put_name};
 use crate::select::{Job, State};
 use crate::stream::search_stream;
@@ -130,6 +131,11 @@ pub fn search_files<A: Automaton, F: Open, R: Read, W: Write, E: Write>(
         → AreSearchedOr p job.now (F.holds files.now.files.now) (or_input (names_of files.now.names.now))
         (R.remaining input.old) (R.remaining input.new)
         (W.contents output.old) (W.contents output.new) result }
+
+    // Whatever the status, a beginning of what is asked is written.
+    ensures begun { (p : Patterns) → A.is_of automaton.now p → HoldNoNewline p
+        → AreBegun p job.now (F.holds files.now.files.now) (or_input (names_of files.now.names.now))
+        (R.remaining input.old) (W.contents output.old) (W.contents output.new) }
 {
     if files.names.is_empty() {
         let names = [INPUT];
@@ -173,6 +179,9 @@ fn search_names<A: Automaton, F: Open, R: Read, W: Write, E: Write>(
         → AreSearchedOr p job.now (F.holds files.now) (names_of names.now)
         (R.remaining input.old) (R.remaining input.new)
         (W.contents output.old) (W.contents output.new) result }
+    ensures begun { (p : Patterns) → A.is_of automaton.now p → HoldNoNewline p
+        → AreBegun p job.now (F.holds files.now) (names_of names.now)
+        (R.remaining input.old) (W.contents output.old) (W.contents output.new) }
 {
     let Ok(mut buffer) = Buffer::new(alloc) else {
         tell(errors, &[b"out of memory"]);
@@ -207,6 +216,9 @@ fn search_each<A: Automaton, F: Open, R: Read, W: Write, E: Write>(
         → SearchesNames p job.now (F.holds files.now) (names_of names.now)
         (R.remaining input.old) (R.remaining input.new)
         (W.contents output.old) (W.contents output.new) result }
+    ensures begun { (p : Patterns) → A.is_of automaton.now p → HoldNoNewline p
+        → AreBegun p job.now (F.holds files.now) (names_of names.now)
+        (R.remaining input.old) (W.contents output.old) (W.contents output.new) }
 {
     let mut seen = Seen::new();
     let mut rest = names;
@@ -245,6 +257,9 @@ fn search_name<A: Automaton, F: Open, R: Read, W: Write, E: Write>(
         → IfSearched result (SearchesName p job.now (F.holds files.now) name.now
         (R.remaining input.old) (R.remaining input.new)
         (W.contents output.old) (W.contents output.new)) }
+    ensures begun { (p : Patterns) → A.is_of automaton.now p → HoldNoNewline p
+        → IfBroken result (BeginsName p job.now (F.holds files.now) name.now
+        (R.remaining input.old) (W.contents output.old) (W.contents output.new)) }
     ensures leaves { LeavesInput name.now (R.remaining input.old) (R.remaining input.new) }
 {
     if is_input(name) {
@@ -268,6 +283,9 @@ fn search_named<A: Automaton, F: Open, W: Write, E: Write>(
     requires of { (p : Patterns) × A.is_of automaton.now p }
     ensures searched { (p : Patterns) → A.is_of automaton.now p → HoldNoNewline p
         → IfSearched result (SearchesFile p job.now (F.holds files.now name.now)
+        (W.contents output.old) (W.contents output.new)) }
+    ensures begun { (p : Patterns) → A.is_of automaton.now p → HoldNoNewline p
+        → IfBroken result (BeginsFile p job.now (F.holds files.now name.now)
         (W.contents output.old) (W.contents output.new)) }
 {
     match open_named(files, name) {
@@ -294,6 +312,9 @@ fn search_one<A: Automaton, R: Read, W: Write, E: Write>(
         → IfSearched result (SearchesReader p job.now
         (R.remaining reader.old) (R.remaining reader.new)
         (W.contents output.old) (W.contents output.new)) }
+    ensures begun { (p : Patterns) → A.is_of automaton.now p → HoldNoNewline p
+        → IfBroken result (BeginsFile p job.now (R.remaining reader.old)
+        (W.contents output.old) (W.contents output.new)) }
     ensures reads { Reads (R.remaining reader.old) (R.remaining reader.new) }
 {
     let mut state = State::new(job.first);
@@ -311,6 +332,8 @@ fn end_file<W: Write, E: Write>(
     errors: &mut E,
 ) -> Outcome
     ensures ended { IfSearched result (EndsFile job.now state.now.selected
+        (W.contents output.old) (W.contents output.new)) }
+    ensures begun { IfBroken result (BeginsTotal job.now state.now.selected
         (W.contents output.old) (W.contents output.new)) }
 {
     match put_total(job, state.selected, output) {
@@ -331,6 +354,7 @@ fn break_off<W: Write, E: Write>(
     errors: &mut E,
 ) -> Outcome
     ensures unsearched { IfSearched result (λ any. ⊥) }
+    ensures begun { BeginsTotal job.now state.now.selected (W.contents output.old) (W.contents output.new) }
 {
     let _ = output.flush();
     if tell_stop(job.style.name, stop, errors) {
@@ -345,8 +369,19 @@ fn break_off<W: Write, E: Write>(
     }
 }
 
-/// Writes what is asked of a file as a whole, of which this many lines were selected.
+/// Writes what is asked of a file as a whole, of which this many lines were selected. It is put together first.
 fn put_total<W: Write>(job: &Job<'_>, selected: u64, output: &mut W) -> io::Result<()>
+    ensures written { OnOk result (Appends (W.contents output.old) (W.contents output.new)
+        (total_if job.now.shown job.now.style selected)) }
+    ensures begun { BeginsTotal job.now selected (W.contents output.old) (W.contents output.new) }
+{
+    let mut page = Vec::new(job.alloc);
+    put_asked(job, selected, &mut page)?;
+    write_page(output, page.as_slice())
+}
+
+/// Puts together what is asked of a file as a whole, of which this many lines were selected.
+fn put_asked<W: Write>(job: &Job<'_>, selected: u64, output: &mut W) -> io::Result<()>
     ensures written { OnOk result (Appends (W.contents output.old) (W.contents output.new)
         (total_if job.now.shown job.now.style selected)) }
 {
@@ -394,5 +429,6 @@ fn job_for<'a>(job: &Job<'_>, name: &'a [u8]) -> Job<'a>
             color: job.style.color,
         },
         first: job.first,
+        alloc: job.alloc,
     }
 }

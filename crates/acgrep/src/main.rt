@@ -14,6 +14,7 @@ mod keys;
 mod lines;
 mod open;
 mod options;
+mod page;
 mod patterns;
 mod print;
 mod run;

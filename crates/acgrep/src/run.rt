@@ -5,8 +5,8 @@ ghost use Rattle.std.specs.Io.KnownBytes.{Keeps};
 ghost use Rattle.aho_base.specs.Patterns.{Patterns};
 ghost use Rattle.aho_base.specs.Replacement.{pieces_of};
 ghost use Rattle.acgrep.specs.Arguments.{said, said_by, texts};
-ghost use Rattle.acgrep.specs.Files.{AreSearchedOr, names_of, or_input};
-ghost use Rattle.acgrep.specs.Runs.{AsksToSearch, GivesNone, IfSaid, IsJob, Searches, SearchesFor, are_empty, is_colored, origins_of, selects_none};
+ghost use Rattle.acgrep.specs.Files.{AreBegun, AreSearchedOr, names_of, or_input};
+ghost use Rattle.acgrep.specs.Runs.{AsksToSearch, Begins, BeginsFor, GivesNone, IfSaid, IsJob, Searches, SearchesFor, are_empty, is_colored, origins_of, selects_none};
 ghost use Rattle.acgrep.specs.Searchers.{IsSearcherOf};
 ghost use Rattle.acgrep.specs.Selected.{HoldNoNewline};
 
@@ -52,6 +52,12 @@ pub fn run<F: Open, R: Read, W: Write, E: Write>(
         → Searches (F.holds files.now) terminal said
         (R.remaining input.old) (R.remaining input.new)
         (W.contents output.old) (W.contents output.new) result) }
+
+    // Whatever the status, what is written is a beginning of what is asked: the files are told one after another, and one that
+    // cannot be read, or to whose end the output cannot be written, by some first lines and a beginning of what follows.
+    ensures begins { IfSaid arguments.now (λ said. AsksToSearch said.flags
+        → Begins (F.holds files.now) terminal said
+        (R.remaining input.old) (W.contents output.old) (W.contents output.new)) }
 {
     match parse(alloc, arguments) {
         Ok(given) => {
@@ -106,6 +112,9 @@ fn answer<F: Open, R: Read, W: Write, E: Write>(
         → Searches (F.holds files.now) terminal (said given.now)
         (R.remaining input.old) (R.remaining input.new)
         (W.contents output.old) (W.contents output.new) result }
+    ensures begins { AsksToSearch given.now.flags
+        → Begins (F.holds files.now) terminal (said given.now)
+        (R.remaining input.old) (W.contents output.old) (W.contents output.new) }
 {
     if given.flags.version {
         return write_text(VERSION, output, errors);
@@ -131,6 +140,8 @@ fn search_asked<F: Open, R: Read, W: Write, E: Write>(
     ensures searches { result < 2 → Searches (F.holds files.now) terminal (said given.now)
         (R.remaining input.old) (R.remaining input.new)
         (W.contents output.old) (W.contents output.new) result }
+    ensures begins { Begins (F.holds files.now) terminal (said given.now)
+        (R.remaining input.old) (W.contents output.old) (W.contents output.new) }
 {
     let flags = &given.flags;
     let sources = given.sources.as_slice();
@@ -184,6 +195,9 @@ fn search<F: Open, R: Read, W: Write, E: Write>(
         (origins_of sources.now) (names_of names.now)
         (R.remaining input.old) (R.remaining input.new)
         (W.contents output.old) (W.contents output.new) result }
+    ensures begins { BeginsFor (F.holds files.now) terminal flags.now
+        (origins_of sources.now) (names_of names.now)
+        (R.remaining input.old) (W.contents output.old) (W.contents output.new) }
 {
     let Some(keys) = read_keys(alloc, sources, files, input, errors) else {
         return 2;
@@ -196,7 +210,7 @@ fn search<F: Open, R: Read, W: Write, E: Write>(
     if selects_none(words, flags.invert) {
         return 1;
     }
-    let job = job_of(flags, terminal, names.len());
+    let job = job_of(alloc, flags, terminal, names.len());
     let named = Files {
         alloc,
         names,
@@ -226,6 +240,9 @@ fn search_by<F: Open, R: Read, W: Write, E: Write>(
         → AreSearchedOr p job.now (F.holds files.now.files.now) (or_input (names_of files.now.names.now))
         (R.remaining input.old) (R.remaining input.new)
         (W.contents output.old) (W.contents output.new) result }
+    ensures begun { (p : Patterns) → IsSearcherOf p searcher.now → HoldNoNewline p
+        → AreBegun p job.now (F.holds files.now.files.now) (or_input (names_of files.now.names.now))
+        (R.remaining input.old) (W.contents output.old) (W.contents output.new) }
 {
     match searcher {
         Searcher::Rows(rows) => search_files(rows, job, files, input, output, errors),
@@ -259,7 +276,7 @@ fn are_empty(patterns: &[&[u8]]) -> bool
 }
 
 /// What is written of each of so many files, but for its name.
-fn job_of(flags: &Flags, terminal: bool, count: usize) -> Job<'static>
+fn job_of(alloc: Global, flags: &Flags, terminal: bool, count: usize) -> Job<'static>
     ensures job { IsJob flags.now terminal count result }
 {
     Job {
@@ -273,6 +290,7 @@ fn job_of(flags: &Flags, terminal: bool, count: usize) -> Job<'static>
             color: is_colored(flags.color, terminal),
         },
         first: flags.first,
+        alloc,
     }
 }
 

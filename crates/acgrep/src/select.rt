@@ -1,19 +1,21 @@
 //! Which lines of a text are selected, and what is written of them.
 
-ghost use Rattle.std.specs.Prelude.{◌≡◌, ◌+◌, ◌%◌, ◌^◌, ◌↔◌, ◌⊎◌, ◌&&◌, ◌≤◌, ◌<◌, [], ◌∷◌, IfOk, IfSome, IsTrue, OnOk, false, not, true, length};
+ghost use Rattle.std.specs.Prelude.{◌≡◌, ◌+◌, ◌%◌, ◌^◌, ◌↔◌, ◌⊎◌, ◌&&◌, ◌≤◌, ◌<◌, [], ◌∷◌, IfOk, IfSome, IsTrue, OnErr, OnOk, false, not, true, length};
 ghost use Rattle.memchr.specs.Find.{is_byte, places};
 ghost use Rattle.aho_base.specs.Patterns.{Patterns};
 ghost use Rattle.acgrep.specs.Lines.{lines};
 ghost use Rattle.acgrep.specs.Selected.{HoldNoNewline, IsLine, IsNextLine, IsNoneSelected};
-ghost use Rattle.acgrep.specs.Written.{EachLine, EndsLine, HasMatch, HasNone, IsNumbered, IsSettled, SamePlace, SearchesText, SearchesTo, TellsLines, after_line, after_lines, at_begin, WritesLine, is_numbered, needs_one, one_more, place_at};
+ghost use Rattle.acgrep.specs.Written.{BeginsLine, BeginsLines, EachLine, EndsLine, HasMatch, HasNone, IsNumbered, IsSelected, IsSettled, SamePlace, SearchesText, SearchesTo, TellsLines, after_line, after_lines, at_begin, WritesLine, is_numbered, needs_one, one_more, place_at};
 
 use crate::failure::Stop;
 use crate::json::put_objects;
 use crate::lines::{behind, line_end, line_start};
 use crate::options::Shown;
+use crate::page::write_page;
 use crate::print::{Place, Style, put_colored_line, put_line, put_matches};
 use chromesquid::{Automaton, Input, Span};
 use memchr::memchr_iter;
+use std::alloc::Global;
 use std::io::Write;
 
 /// What is written of which lines of a file.
@@ -27,6 +29,8 @@ pub struct Job<'a> {
     pub style: Style<'a>,
     /// Where the first byte of a file stands.
     pub first: u64,
+    /// The allocator.
+    pub alloc: Global,
 }
 
 impl<'a> Job<'a> {
@@ -142,6 +146,11 @@ pub fn search_text<A: Automaton, W: Write>(
     ensures written { (p : Patterns) → A.is_of automaton.now p → HoldNoNewline p →
         OnOk result (SearchesText p job.now state.old state.new
         (W.contents output.old) (W.contents output.new) text.now) }
+
+    // Where it fails a beginning of that is.
+    ensures begun { (p : Patterns) → A.is_of automaton.now p → HoldNoNewline p →
+        OnErr result (BeginsLines p job.now state.old state.new.selected
+        (W.contents output.old) (W.contents output.new) (lines text.now)) }
 {
     let mut rest = text;
     while job.goes_on(rest, state) {
@@ -166,6 +175,9 @@ fn search_some<'t, A: Automaton, W: Write>(
     ensures written { (p : Patterns) → A.is_of automaton.now p → HoldNoNewline p →
         IfOk result (λ left. SearchesTo p job.now state.old state.new
         (W.contents output.old) (W.contents output.new) text.now left.now) }
+    ensures begun { (p : Patterns) → A.is_of automaton.now p → HoldNoNewline p →
+        OnErr result (BeginsLines p job.now state.old state.new.selected
+        (W.contents output.old) (W.contents output.new) (lines text.now)) }
 {
     match next_line(automaton, text)? {
         Some(line) => {
@@ -194,6 +206,9 @@ fn pass_matched<A: Automaton, W: Write>(
     ensures written { (p : Patterns) → A.is_of automaton.now p → HasMatch p line.now
         → OnOk result (TellsLines p job.now state.old state.new
         (W.contents output.old) (W.contents output.new) (line.now ∷ [])) }
+    ensures begun { (p : Patterns) → A.is_of automaton.now p → HasMatch p line.now
+        → OnErr result (BeginsLines p job.now state.old state.new.selected
+        (W.contents output.old) (W.contents output.new) (line.now ∷ [])) }
 {
     if job.invert {
         state.place = behind_line(state.place, line);
@@ -216,6 +231,9 @@ fn pass_selected<A: Automaton, W: Write>(
     ensures shown { (p : Patterns) → A.is_of automaton.now p → OnOk result
         (WritesLine p job.now state.old.place
         (W.contents output.old) (W.contents output.new) line.now) }
+    ensures begun { (p : Patterns) → A.is_of automaton.now p → IsSelected p job.now.invert line.now
+        → OnErr result (BeginsLines p job.now state.old state.new.selected
+        (W.contents output.old) (W.contents output.new) (line.now ∷ [])) }
 {
     show(automaton, job, line, state.place, output)?;
     state.selected = state.selected.saturating_add(1);
@@ -240,6 +258,10 @@ fn pass_others<A: Automaton, W: Write>(
         → EachLine (HasNone p) (lines text.now)
         → OnOk result (TellsLines p job.now state.old state.new
         (W.contents output.old) (W.contents output.new) (lines text.now)) }
+    ensures begun { (p : Patterns) → A.is_of automaton.now p
+        → EachLine (HasNone p) (lines text.now)
+        → OnErr result (BeginsLines p job.now state.old state.new.selected
+        (W.contents output.old) (W.contents output.new) (lines text.now)) }
 {
     if job.invert {
         return pass_each(automaton, job, text, state, output);
@@ -261,6 +283,10 @@ fn pass_each<A: Automaton, W: Write>(
     ensures written { (p : Patterns) → A.is_of automaton.now p → job.now.invert ≡ true
         → EachLine (HasNone p) (lines text.now)
         → OnOk result (TellsLines p job.now state.old state.new
+        (W.contents output.old) (W.contents output.new) (lines text.now)) }
+    ensures begun { (p : Patterns) → A.is_of automaton.now p → job.now.invert ≡ true
+        → EachLine (HasNone p) (lines text.now)
+        → OnErr result (BeginsLines p job.now state.old state.new.selected
         (W.contents output.old) (W.contents output.new) (lines text.now)) }
 {
     let mut rest = text;
@@ -321,8 +347,29 @@ fn newlines(text: &[u8]) -> u64
     memchr_iter(b'\n', text).count() as u64
 }
 
-/// Writes what is asked of a selected line.
+/// Writes what is asked of a selected line. It is put together first: where the output cannot be written to the end, what is
+/// there is a beginning of it.
 fn show<A: Automaton, W: Write>(
+    automaton: &A,
+    job: &Job<'_>,
+    line: &[u8],
+    place: Place,
+    output: &mut W,
+) -> Result<(), Stop>
+    requires of { (p : Patterns) × A.is_of automaton.now p }
+    ensures shown { (p : Patterns) → A.is_of automaton.now p → OnOk result
+        (WritesLine p job.now place (W.contents output.old) (W.contents output.new) line.now) }
+    ensures begun { (p : Patterns) → A.is_of automaton.now p → OnErr result
+        (BeginsLine p job.now place (W.contents output.old) (W.contents output.new) line.now) }
+{
+    let mut page = Vec::new(job.alloc);
+    put_shown(automaton, job, line, place, &mut page)?;
+    write_page(output, page.as_slice())?;
+    Ok(())
+}
+
+/// Puts together what is asked of a selected line.
+fn put_shown<A: Automaton, W: Write>(
     automaton: &A,
     job: &Job<'_>,
     line: &[u8],

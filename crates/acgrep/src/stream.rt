@@ -1,11 +1,11 @@
 //! Searching what a reader gives, in memory that is bounded by its longest line.
 
-ghost use Rattle.std.specs.Prelude.{◌≤◌, ◌-◌, ◌<◌, IfOk, OnOk, length, take};
+ghost use Rattle.std.specs.Prelude.{◌≤◌, ◌-◌, ◌<◌, IfOk, OnErr, OnOk, length, take};
 ghost use Rattle.aho_base.specs.Patterns.{Patterns};
 ghost use Rattle.acgrep.specs.Filled.{Reads};
 ghost use Rattle.acgrep.specs.Lines.{IsNewline};
 ghost use Rattle.acgrep.specs.Selected.{HoldNoNewline};
-ghost use Rattle.acgrep.specs.Streamed.{ReadsSome, SearchesStream, SearchesWhole, course};
+ghost use Rattle.acgrep.specs.Streamed.{BeginsSome, BeginsStream, BeginsWhole, ReadsSome, SearchesStream, SearchesWhole, course};
 
 use crate::buffer::Buffer;
 use crate::failure::Stop;
@@ -27,6 +27,12 @@ pub fn search_stream<A: Automaton, R: Read, W: Write>(
     requires of { (p : Patterns) × A.is_of automaton.now p }
     ensures written { (p : Patterns) → A.is_of automaton.now p → HoldNoNewline p →
         OnOk result (SearchesStream p job.now (course state.old state.new
+        (W.contents output.old) (W.contents output.new)
+        (R.remaining input.old) (R.remaining input.new))) }
+
+    // Where it fails a beginning of that is written.
+    ensures begun { (p : Patterns) → A.is_of automaton.now p → HoldNoNewline p →
+        OnErr result (BeginsStream p job.now (course state.old state.new
         (W.contents output.old) (W.contents output.new)
         (R.remaining input.old) (R.remaining input.new))) }
 
@@ -60,6 +66,11 @@ fn read_some<A: Automaton, R: Read, W: Write>(
         (W.contents output.old) (W.contents output.new)
         (R.remaining input.old) (R.remaining input.new))
         (take buffer.old.held buffer.old.room.items) (take buffer.new.held buffer.new.room.items)) }
+    ensures begun { (p : Patterns) → A.is_of automaton.now p → HoldNoNewline p →
+        OnErr result (BeginsSome p job.now (course state.old state.new
+        (W.contents output.old) (W.contents output.new)
+        (R.remaining input.old) (R.remaining input.new))
+        (take buffer.old.held buffer.old.room.items)) }
     ensures reads { Reads (R.remaining input.old) (R.remaining input.new) }
 {
     output.flush()?;
@@ -89,6 +100,10 @@ fn search_whole<A: Automaton, W: Write>(
         OnOk result (SearchesWhole p job.now state.old state.new
         (W.contents output.old) (W.contents output.new)
         (take buffer.old.held buffer.old.room.items) (take buffer.new.held buffer.new.room.items)) }
+    ensures begun { (p : Patterns) → A.is_of automaton.now p → HoldNoNewline p →
+        OnErr result (BeginsWhole p job.now state.old state.new
+        (W.contents output.old) (W.contents output.new)
+        (take buffer.old.held buffer.old.room.items)) }
 {
     let whole = whole_lines(buffer.bytes(), count);
     search_text(automaton, job, &buffer.bytes()[..whole], state, output)?;

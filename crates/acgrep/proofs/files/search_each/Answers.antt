@@ -2,6 +2,8 @@
 use Rattle.std.proofs.Common.{◌≡◌, [], ◌∷◌, ◌-◌, ℕ, List, Bor, length, take, drop, subst, sym}
 use Rattle.std.proofs.Math.ListN.{get_or}
 use Rattle.acgrep.specs.Files.{names_of}
+use Rattle.std.proofs.KnownBytes.{Keeps-refl}
+use Rattle.acgrep.proofs.FilesBegun.{begun_none}
 use Rattle.acgrep.proofs.NamesSearched.{SoFar, ends_by, names_cut, so_far_end, so_far_start, so_far_step}
 use Rattle.acgrep.proofs.files.search_each.Goals as goal
 
@@ -33,11 +35,16 @@ loop-rest-preserved g c = λ p is plain.
     let so_far = subst (λ (l : List (List ℕ)). SoFar p job holds names begin first l left held c.loop-rest.seen) cut (c.loop-rest.invariant p is plain) in
     subst (SoFar p job holds names begin first more left' held') (sym c.after-seen.ensures)
     (so_far_step p job holds names begin first name more left left' held held' c.loop-rest.seen c.search_name-outcome.result
-    (c.goes_on.ensures.going c.loop-rest-test.true) so_far c.search_name-outcome.ensures.leaves (c.search_name-outcome.ensures.searched p is plain))
+    (c.goes_on.ensures.going c.loop-rest-test.true) so_far c.search_name-outcome.ensures.leaves (c.search_name-outcome.ensures.searched p is plain)
+    (c.search_name-outcome.ensures.begun p is plain))
 
-pub returns : goal.returns
-returns g c = record {
-  searched = λ p is plain. so_far_end p c.args.job.now (g.F.Open.holds c.args.files.now) (names_of c.args.names.now)
-      (g.R.Read.remaining c.args.input.now) (g.W.Write.contents c.args.output.now) (names_of c.loop-rest.rest.now)
-      (g.R.Read.remaining c.loop-rest.input) (g.W.Write.contents c.loop-rest.output) c.loop-rest.seen (ends_by c.loop-rest.rest.now c.loop-rest.seen (c.goes_on.ensures.stops c.loop-rest-test.false)) (c.loop-rest.invariant p is plain);
-}
+pub returns-clause-searched : goal.returns-clause-searched
+returns-clause-searched g c = λ p is plain. so_far_end p c.args.job.now (g.F.Open.holds c.args.files.now) (names_of c.args.names.now)
+    (g.R.Read.remaining c.args.input.now) (g.W.Write.contents c.args.output.now) (names_of c.loop-rest.rest.now)
+    (g.R.Read.remaining c.loop-rest.input) (g.W.Write.contents c.loop-rest.output) c.loop-rest.seen (ends_by c.loop-rest.rest.now c.loop-rest.seen (c.goes_on.ensures.stops c.loop-rest-test.false)) (c.loop-rest.invariant p is plain)
+
+pub returns-clause-begun : goal.returns-clause-begun
+returns-clause-begun g c = λ p is plain.
+    let held = g.W.Write.contents c.loop-rest.output in
+    (c.loop-rest.invariant p is plain).begun held
+    (begun_none p c.args.job.now (g.F.Open.holds c.args.files.now) (names_of c.loop-rest.rest.now) (g.R.Read.remaining c.loop-rest.input) held held (Keeps-refl held))

@@ -1,6 +1,8 @@
 -- The status tells what was seen.
 use Rattle.std.proofs.Common.{◌<◌, ℕ, subst, sym}
 use Rattle.acgrep.specs.Files.{AreSearchedOr, names_of}
+use Rattle.std.proofs.KnownBytes.{Keeps-refl}
+use Rattle.acgrep.proofs.FilesBegun.{begun_none}
 use Rattle.acgrep.proofs.NamesSearched.{status_searched}
 use Rattle.acgrep.proofs.files.search_names.Goals as goal
 
@@ -15,3 +17,8 @@ returns-clause-searched g c = λ p is plain low.
     let held' = g.W.Write.contents c.search_each-seen.new.output in
     subst (AreSearchedOr p job holds names left left' held held') (sym c.status.ensures)
     (status_searched p job holds names left left' held held' c.search_each-seen.result (c.search_each-seen.ensures.searched p is plain) (subst (λ (n : ℕ). n < 2) c.status.ensures low))
+
+pub returns-in_default-clause-begun : goal.returns-in_default-clause-begun
+returns-in_default-clause-begun g c = λ p is plain.
+    let held = g.W.Write.contents c.args.output.now in
+    begun_none p c.args.job.now (g.F.Open.holds c.args.files.now) (names_of c.args.names.now) (g.R.Read.remaining c.args.input.now) held held (Keeps-refl held)

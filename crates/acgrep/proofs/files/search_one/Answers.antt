@@ -1,10 +1,12 @@
 -- What was searched of the reader, and what is asked of the file as a whole.
 use Rattle.std.proofs.Common.{subst}
 use Rattle.acgrep.specs.Files.{EndsFile, SearchesReader}
-use Rattle.acgrep.specs.Streamed.{SearchesStream, course}
+use Rattle.acgrep.specs.Streamed.{BeginsStream, SearchesStream, course}
 use Rattle.acgrep.specs.Written.{at_begin}
 use Rattle.acgrep.specs.declared.select.State.{State}
 use Rattle.acgrep.proofs.FileTellings.{if_searched, reader_searched}
+use Rattle.acgrep.proofs.FilesBegun.{file_begins, if_broken, on_broken}
+use Rattle.acgrep.proofs.StreamsBegun.{stream_whole}
 use Rattle.acgrep.proofs.files.search_one.Goals as goal
 
 pub returns-in-Ok-clause-searched : goal.returns-in-Ok-clause-searched
@@ -20,3 +22,29 @@ returns-in-Ok-clause-searched g c = λ p is plain.
     subst (λ (first : State). SearchesStream p job (course first state held meanwhile left left')) c.new-state.ensures.begin (c.in-Ok.ensures.written p is plain) in
     if_searched c.end_file.result (EndsFile job state.selected meanwhile held') (SearchesReader p job left left' held held')
     (reader_searched p job state left left' held meanwhile held' stream) c.end_file.ensures.ended
+
+pub returns-in-Ok-clause-begun : goal.returns-in-Ok-clause-begun
+returns-in-Ok-clause-begun g c = λ p is plain.
+    let job = c.args.job.now in
+    let left = g.R.Read.remaining c.args.reader.now in
+    let left' = g.R.Read.remaining c.search_stream.new.input in
+    let held = g.W.Write.contents c.args.output.now in
+    let meanwhile = g.W.Write.contents c.search_stream.new.output in
+    let state = c.search_stream.new.state in
+    let stream : SearchesStream p job (course (at_begin job.first) state held meanwhile left left') =
+    subst (λ (first : State). SearchesStream p job (course first state held meanwhile left left')) c.new-state.ensures.begin (c.in-Ok.ensures.written p is plain) in
+    if_broken c.end_file.result
+    (file_begins p job state left left' held meanwhile (g.W.Write.contents c.end_file.new.output) (stream_whole p job (at_begin job.first) state held meanwhile left left' stream))
+    c.end_file.ensures.begun
+
+pub returns-in-Err-clause-begun : goal.returns-in-Err-clause-begun
+returns-in-Err-clause-begun g c = λ p is plain.
+    let job = c.args.job.now in
+    let left = g.R.Read.remaining c.args.reader.now in
+    let left' = g.R.Read.remaining c.search_stream.new.input in
+    let held = g.W.Write.contents c.args.output.now in
+    let meanwhile = g.W.Write.contents c.search_stream.new.output in
+    let state = c.search_stream.new.state in
+    let stream : BeginsStream p job (course (at_begin job.first) state held meanwhile left left') =
+    subst (λ (first : State). BeginsStream p job (course first state held meanwhile left left')) c.new-state.ensures.begin (c.in-Err.ensures.begun p is plain) in
+    on_broken c.break_off.result (file_begins p job state left left' held meanwhile (g.W.Write.contents c.break_off.new.output) stream c.break_off.ensures.begun)

@@ -1,5 +1,5 @@
 -- The automaton was built of the lines that were read.
-use Rattle.std.proofs.Common.{◌≡◌, ◌∙◌, ℕ, false, true, ap, refl, subst, sym}
+use Rattle.std.proofs.Common.{◌≡◌, ◌∙◌, ℕ, false, true, ap, inl, inr, refl, subst, sym}
 use Rattle.std.proofs.KnownBytes.{Keeps-refl}
 use Rattle.std.proofs.lemmas.List.{length-map}
 use Rattle.aho_base.specs.Replacement.{pieces_of}
@@ -51,3 +51,30 @@ returns-then-selects_none-clause-searches g c low =
         none = refl;
       });
     }
+
+pub returns-in-Ok-build-clause-begins : goal.returns-in-Ok-build-clause-begins
+returns-in-Ok-build-clause-begins g c =
+    let flags = c.args.flags.now in
+    let text = c.in-Some.keys.text.items in
+    let same : pieces_of c.as_slice-words.result.now ≡ lines text = ap pieces_of c.as_slice-words.ensures.value ∙ c.in-Ok.ensures.lines ∙ ap lines c.as_slice.ensures.value in
+    let asked = patterns_by flags.kind flags.ignore_case (lines text) in
+    inr (record {
+      words = lines text;
+      between = g.R.Read.remaining c.read_keys.new.input;
+      read = c.in-Some.ensures.words;
+      job = c.job_of-job.result;
+      is_job = subst (λ (count : ℕ). IsJob flags c.args.terminal count c.job_of-job.result) (sym (length-map c.args.names.now (λ name. name.now))) c.job_of-job.ensures.job;
+      begun = c.search_by.ensures.begun asked (c.in-Ok-build.ensures.of asked refl (record { words_are = sym same; rule = refl })) (lines_plain flags.kind flags.ignore_case text);
+    })
+
+pub returns-in_default-clause-begins : goal.returns-in_default-clause-begins
+returns-in_default-clause-begins g c = inl (Keeps-refl (g.W.Write.contents c.args.output.now))
+
+pub returns-in_default-lines_of-clause-begins : goal.returns-in_default-lines_of-clause-begins
+returns-in_default-lines_of-clause-begins g c = inl (Keeps-refl (g.W.Write.contents c.args.output.now))
+
+pub returns-then-selects_none-clause-begins : goal.returns-then-selects_none-clause-begins
+returns-then-selects_none-clause-begins g c = inl (Keeps-refl (g.W.Write.contents c.args.output.now))
+
+pub returns-clause-begins : goal.returns-clause-begins
+returns-clause-begins g c = inl (Keeps-refl (g.W.Write.contents c.args.output.now))

@@ -4,6 +4,7 @@ use Rattle.std.proofs.lemmas.Grind.{common_steps}
 use Rattle.acgrep.specs.Lines.{lines}
 use Rattle.acgrep.specs.Written.{after_lines}
 use Rattle.acgrep.specs.declared.print.Place.{Place}
+use Rattle.acgrep.proofs.Beginnings.{begins_passing, on_err}
 use Rattle.acgrep.proofs.FirstLines.{lines_first}
 use Rattle.acgrep.proofs.Tellings.{passing_step}
 use Rattle.acgrep.proofs.select.pass_each.Goals as goal
@@ -24,3 +25,14 @@ loop-rest-preserved g c =
           (g.W.Write.contents c.args.output.now) (g.W.Write.contents c.loop-rest.output) (g.W.Write.contents c.pass_selected.new.output)
           c.args.text.now rest (take end rest) left invert more done.placed done.counted (done.shown p is) (c.loop-rest.invariant.passed p is invert each);
     }
+
+pub returns-in_err-pass_selected-clause-begun : goal.returns-in_err-pass_selected-clause-begun
+returns-in_err-pass_selected-clause-begun g c = λ p is invert each.
+    let rest = c.loop-rest.rest.now in
+    let end = c.line_end-end.result in
+    let left = drop (suc end) rest in
+    let full : 0 < length rest = grind (arith, common_steps, c.is_empty.ensures, c.loop-rest-test.true) in
+    let more : lines rest ≡ take end rest ∷ lines left = lines_first rest end full c.line_end-end.ensures.within c.line_end-end.ensures.none c.line_end-end.ensures.newline in
+    on_err c.from_residual.result (begins_passing p c.args.job.now c.args.state.now c.loop-rest.state c.pass_selected.new.state.selected
+    (g.W.Write.contents c.args.output.now) (g.W.Write.contents c.loop-rest.output) (g.W.Write.contents c.pass_selected.new.output)
+    c.args.text.now rest (take end rest) left invert more (c.loop-rest.invariant.passed p is invert each) (c.in_err-pass_selected.ensures.begun p is))

@@ -18,3 +18,9 @@ returns-clause-written g c = λ p is has.
     on_both c.pass_selected.result _ _ _
     (λ counted shown. one_selected p c.args.job.now c.args.state.now c.pass_selected.new.state (held c.args.output.now) (held c.pass_selected.new.output) line selected counted shown)
     c.pass_selected.ensures.counted (c.pass_selected.ensures.shown p is)
+
+pub returns-clause-begun : goal.returns-clause-begun
+returns-clause-begun g c = λ p is has.
+    let line = c.args.line.now in
+    let selected : IsSelected p c.args.job.now.invert line = subst (λ (b : Bool). MatchBool b (HasNone p line) (HasMatch p line)) (sym c.if-job.false) has in
+    c.pass_selected.ensures.begun p is selected

@@ -4,6 +4,8 @@ use Rattle.std.specs.Prelude.{slice_range}
 use Rattle.acgrep.specs.Lines.{lines}
 use Rattle.acgrep.specs.Selected.{IsFirstWith, IsNextLine}
 use Rattle.acgrep.specs.Written.{HasNone}
+use Rattle.std.proofs.KnownBytes.{Appends-nil}
+use Rattle.acgrep.proofs.Beginnings.{begins_front, begins_line, begins_none, on_err}
 use Rattle.acgrep.proofs.LineLists.{cut_lines, first_has, front_ends, front_lines, none_in_lines, take_zero}
 use Rattle.acgrep.proofs.Tellings.{searches_all, searches_line}
 use Rattle.acgrep.proofs.select.search_some.Goals as goal
@@ -35,3 +37,38 @@ returns-in_ok-pass_others-in-None-clause-written g c = λ p is plain.
     searches_all p c.args.job.now c.args.state.now c.pass_others-in-None.new.state
     (g.W.Write.contents c.args.output.now) (g.W.Write.contents c.pass_others-in-None.new.output)
     text left empty (others.written p is (none_in_lines p text none)) others.placed
+
+pub returns-in_err-line-clause-begun : goal.returns-in_err-line-clause-begun
+returns-in_err-line-clause-begun g c = λ p is plain.
+    let held = g.W.Write.contents c.args.output.now in
+    on_err c.from_residual.result (begins_none p c.args.job.now c.args.state.now held held (lines c.args.text.now) (Appends-nil held))
+
+pub returns-in_err-pass_others-in-Some-clause-begun : goal.returns-in_err-pass_others-in-Some-clause-begun
+returns-in_err-pass_others-in-Some-clause-begun g c = λ p is plain.
+    let text = c.args.text.now in
+    let line = c.in-Some.line in
+    let front = take line.start text in
+    let first : IsFirstWith p text line = subst (IsNextLine p text) c.in-Some.is (c.in_ok-line.ensures.next p is plain) in
+    on_err c.from_residual-in_err-pass_others-in-Some.result (begins_front p c.args.job.now c.args.state.now c.pass_others.new.state.selected
+    (g.W.Write.contents c.args.output.now) (g.W.Write.contents c.pass_others.new.output) text front
+    (slice_range text line.start line.end ∷ lines (drop (line.end + 1) text)) (cut_lines p plain text line first c.requires.some)
+    (c.in_err-pass_others-in-Some.ensures.begun p is (front_lines p plain text line first)))
+
+pub returns-in_err-pass_matched-in-Some-clause-begun : goal.returns-in_err-pass_matched-in-Some-clause-begun
+returns-in_err-pass_matched-in-Some-clause-begun g c = λ p is plain.
+    let text = c.args.text.now in
+    let line = c.in-Some.line in
+    let front = take line.start text in
+    let first : IsFirstWith p text line = subst (IsNextLine p text) c.in-Some.is (c.in_ok-line.ensures.next p is plain) in
+    let others = c.in_ok-pass_others-in-Some.ensures in
+    on_err c.from_residual-in_err-pass_matched-in-Some.result
+    (begins_line p c.args.job.now c.args.state.now c.pass_others.new.state c.pass_matched.new.state.selected
+    (g.W.Write.contents c.args.output.now) (g.W.Write.contents c.pass_others.new.output) (g.W.Write.contents c.pass_matched.new.output)
+    text front (slice_range text line.start line.end) (drop (line.end + 1) text) (cut_lines p plain text line first c.requires.some)
+    (others.written p is (front_lines p plain text line first)) (others.placed (front_ends p plain text line first))
+    (c.in_err-pass_matched-in-Some.ensures.begun p is (first_has p plain text line first)))
+
+pub returns-in_err-pass_others-in-None-clause-begun : goal.returns-in_err-pass_others-in-None-clause-begun
+returns-in_err-pass_others-in-None-clause-begun g c = λ p is plain.
+    let none : HasNone p c.args.text.now = subst (IsNextLine p c.args.text.now) c.in-None.is (c.in_ok-line.ensures.next p is plain) in
+    on_err c.from_residual-in_err-pass_others-in-None.result (c.in_err-pass_others-in-None.ensures.begun p is (none_in_lines p c.args.text.now none))

@@ -1,6 +1,7 @@
 -- What is left of the text was not searched yet.
 use Rattle.std.proofs.Common.{inl, inr, length, refl, ap, subst, arith}
 use Rattle.acgrep.specs.Written.{HasNone}
+use Rattle.acgrep.proofs.Beginnings.{begins_rest, on_err}
 use Rattle.acgrep.proofs.Tellings.{searches_join, searches_start}
 use Rattle.acgrep.proofs.select.search_text.Goals as goal
 
@@ -42,3 +43,9 @@ returns-clause-none g c = λ p is plain invert some zero.
       ]
       | inr none ↦ none
     ]
+
+pub returns-in_err-rest-clause-begun : goal.returns-in_err-rest-clause-begun
+returns-in_err-rest-clause-begun g c = λ p is plain.
+    on_err c.from_residual.result (begins_rest p c.args.job.now c.args.state.now c.loop-rest.state c.search_some.new.state.selected
+    (g.W.Write.contents c.args.output.now) (g.W.Write.contents c.loop-rest.output) (g.W.Write.contents c.search_some.new.output)
+    c.args.text.now c.loop-rest.rest.now (c.loop-rest.invariant.searched p is plain) (c.goes_on.ensures.some c.loop-rest-test.true) (c.in_err-rest.ensures.begun p is plain))

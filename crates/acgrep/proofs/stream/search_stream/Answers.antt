@@ -1,11 +1,15 @@
 -- A read more, up to the end or a line that tells all.
 use Rattle.std.proofs.Common.{ℕ, List, [], take, subst, ◌∙◌, ap}
-use Rattle.std.specs.Prelude.{OnOk}
+use Rattle.std.specs.Prelude.{OnErr, OnOk}
+use Rattle.std.proofs.lemmas.Result.{on_err_weaker}
 use Rattle.std.proofs.KnownBytes.{Consumes-nil}
 use Rattle.acgrep.specs.Streamed.{ReadsSome, course}
-use Rattle.acgrep.specs.Written.{IsSettled, SearchesText}
+use Rattle.acgrep.specs.Lines.{lines}
+use Rattle.acgrep.specs.Written.{BeginsLines, IsSettled, SearchesText}
+use Rattle.acgrep.proofs.Beginnings.{on_err}
 use Rattle.acgrep.proofs.LineLists.{take_zero}
 use Rattle.acgrep.proofs.Streams.{not_done, reads_both, stream_last, stream_start, stream_step, stream_stop}
+use Rattle.acgrep.proofs.StreamsBegun.{stream_begins, stream_begins_stop, stream_last_begins}
 use Rattle.acgrep.proofs.stream.search_stream.Goals as goal
 
 pub loop-init : goal.loop-init
@@ -54,3 +58,30 @@ loop-preserved g c = record {
       (not_done c.is_done.result (IsSettled c.args.job.now c.loop.state) c.is_done.ensures.settled.1 c.if-is_done.false) (c.loop.invariant.searched p is plain) (c.in_ok-read_some.ensures.read p is plain);
   reads = reads_both (g.R.Read.remaining c.args.input.now) (g.R.Read.remaining c.loop.input) (g.R.Read.remaining c.read_some.new.input) c.loop.invariant.reads c.read_some.ensures.reads;
 }
+
+pub returns-in_err-read_some-clause-begun : goal.returns-in_err-read_some-clause-begun
+returns-in_err-read_some-clause-begun g c = λ p is plain.
+    on_err c.from_residual.result (stream_begins p c.args.job.now c.args.state.now c.loop.state c.read_some.new.state (g.W.Write.contents c.args.output.now)
+    (g.W.Write.contents c.loop.output) (g.W.Write.contents c.read_some.new.output)
+    (g.R.Read.remaining c.args.input.now) (g.R.Read.remaining c.loop.input) (g.R.Read.remaining c.read_some.new.input) (take c.loop.buffer.held c.loop.buffer.room.items)
+    (not_done c.is_done.result (IsSettled c.args.job.now c.loop.state) c.is_done.ensures.settled.1 c.if-is_done.false) (c.loop.invariant.searched p is plain) (c.in_err-read_some.ensures.begun p is plain))
+
+pub returns-then-branch-clause-begun : goal.returns-then-branch-clause-begun
+returns-then-branch-clause-begun g c = λ p is plain.
+    let kept = take c.read_some.new.buffer.held c.read_some.new.buffer.room.items in
+    let some : ReadsSome p c.args.job.now (course c.loop.state c.read_some.new.state (g.W.Write.contents c.loop.output) (g.W.Write.contents c.read_some.new.output)
+    (g.R.Read.remaining c.loop.input) (g.R.Read.remaining c.read_some.new.input)) (take c.loop.buffer.held c.loop.buffer.room.items) kept c.in_ok-read_some.field-0 =
+    c.in_ok-read_some.ensures.read p is plain in
+    on_err_weaker c.search_text.result
+    (stream_last_begins p c.args.job.now c.args.state.now c.loop.state c.read_some.new.state c.search_text.new.state (g.W.Write.contents c.args.output.now)
+    (g.W.Write.contents c.loop.output) (g.W.Write.contents c.read_some.new.output) (g.W.Write.contents c.search_text.new.output)
+    (g.R.Read.remaining c.args.input.now) (g.R.Read.remaining c.loop.input) (g.R.Read.remaining c.read_some.new.input) (take c.loop.buffer.held c.loop.buffer.room.items) kept
+    c.in_ok-read_some.field-0
+    (not_done c.is_done.result (IsSettled c.args.job.now c.loop.state) c.is_done.ensures.settled.1 c.if-is_done.false) c.if-branch.true (c.loop.invariant.searched p is plain) some)
+    (subst (λ (l : List ℕ). OnErr c.search_text.result (BeginsLines p c.args.job.now c.read_some.new.state c.search_text.new.state.selected (g.W.Write.contents c.read_some.new.output) (g.W.Write.contents c.search_text.new.output) (lines l)))
+    c.bytes.ensures.bytes (c.search_text.ensures.begun p is plain))
+
+pub returns-clause-begun : goal.returns-clause-begun
+returns-clause-begun g c = λ p is plain.
+    stream_begins_stop p c.args.job.now c.args.state.now c.loop.state (g.W.Write.contents c.args.output.now) (g.W.Write.contents c.loop.output)
+    (g.R.Read.remaining c.args.input.now) (g.R.Read.remaining c.loop.input) (take c.loop.buffer.held c.loop.buffer.room.items) (c.loop.invariant.searched p is plain)

@@ -1,0 +1,191 @@
+-- What is written of a file that is not searched to its end.
+use Rattle.std.proofs.Common.{◌≡◌, inl, inr, ◌⊎◌, ℕ, Bool, List, [], ◌∷◌, ◌++◌, Option, None, Some, IfSome, drop, take, take-append-drop, refl, sym, ◌∙◌, ap, subst, append_assoc, append-nil}
+use Rattle.std.specs.Io.KnownBytes.{Appends, Keeps}
+use Rattle.std.proofs.KnownBytes.{Appends-trans, Keeps-trans}
+use Rattle.aho_base.specs.Patterns.{Patterns}
+use Rattle.acgrep.specs.Files.{AreBegun, BeginsFile, BeginsTotal, IfBroken, total_if}
+use Rattle.acgrep.specs.Lines.{lines}
+use Rattle.acgrep.specs.Streamed.{BeginsStream, course}
+use Rattle.acgrep.specs.Written.{AppendsBeginning, ShowsBy, StartsNext, after_lines, at_begin, place_at}
+use Rattle.acgrep.specs.declared.files.Outcome.{Outcome}
+use Rattle.acgrep.specs.declared.files.Outcome.TheVariants.{Searched, Unread, Stopped}
+use Rattle.acgrep.specs.declared.options.Shown.{Shown}
+use Rattle.acgrep.specs.declared.options.Shown.TheVariants.{Lines, Matches, Objects, Count, Names, Nothing}
+use Rattle.acgrep.specs.declared.print.Place.{Place}
+use Rattle.acgrep.specs.declared.print.Style.{Style}
+use Rattle.acgrep.specs.declared.select.Job.{Job}
+use Rattle.acgrep.specs.declared.select.State.{State}
+use Rattle.acgrep.proofs.Beginnings.{kept_nil, starts_more, starts_none}
+use Rattle.acgrep.proofs.FileTellings.{text_behind}
+use Rattle.acgrep.proofs.LineLists.{lines_append}
+
+-- what holds whatever the outcome
+pub on_broken : {P : Type 0} (outcome : Outcome) → P → IfBroken outcome P
+on_broken (Searched any) holds = tt
+on_broken Unread holds = holds
+on_broken Stopped holds = holds
+
+pub if_broken : {P Q : Type 0} (outcome : Outcome) → (P → Q) → IfBroken outcome P → IfBroken outcome Q
+if_broken (Searched any) follows broken = tt
+if_broken Unread follows broken = follows broken
+if_broken Stopped follows broken = follows broken
+
+-- nothing of the total is written
+pub total_none : (job : Job) (count : ℕ) (x y : Option (List ℕ)) → Keeps x y → BeginsTotal job count x y
+total_none job count x y keeps = record { begun = []; missing = total_if job.shown job.style count; cut = refl; written = kept_nil x y keeps }
+
+pub total_kept : (job : Job) (count : ℕ) (x y z : Option (List ℕ)) → Keeps x y → BeginsTotal job count y z → BeginsTotal job count x z
+total_kept job count x y z keeps begins = record {
+  begun = begins.begun;
+  missing = begins.missing;
+  cut = begins.cut;
+  written = Appends-trans x y z [] begins.begun (kept_nil x y keeps) begins.written;
+}
+
+-- what was put together is written, or a beginning of it
+pub total_begins : (job : Job) (count : ℕ) (x y : Option (List ℕ)) (before after bytes : List ℕ) → before ≡ [] → bytes ≡ after
+    → Appends (Some before) (Some after) (total_if job.shown job.style count) → AppendsBeginning x y bytes → BeginsTotal job count x y
+total_begins job count x y before after bytes none same is (n, within, written) = record {
+  begun = take n bytes;
+  missing = drop n bytes;
+  cut = sym (same ∙ is ∙ ap (λ (l : List ℕ). l ++ total_if job.shown job.style count) none) ∙ sym (take-append-drop n bytes);
+  written = written;
+}
+
+pub total_bytes : (before after bytes total : List ℕ) → before ≡ [] → bytes ≡ after → Appends (Some before) (Some after) total → bytes ≡ total
+total_bytes before after bytes total none same is = same ∙ is ∙ ap (λ (l : List ℕ). l ++ total) none
+
+nil_front : (xs ys : List ℕ) → [] ≡ xs ++ ys → xs ≡ []
+nil_front [] ys same = refl
+nil_front (x ∷ xs) ys same = absurd (cc)
+
+-- of what is shown of lines and what is asked of the file as a whole one is nothing
+one_none : (p : Patterns) (shown : Shown) (invert : Bool) (style : Style) (place : Place) (line all begun more : List ℕ) (count : ℕ) (total missing : List ℕ)
+    → ShowsBy p shown invert style place line all → all ≡ begun ++ more → total_if shown style count ≡ total ++ missing → (begun ≡ []) ⊎ (total ≡ [])
+one_none p Lines invert style place line all begun more count total missing shows is cut = inr (nil_front total missing cut)
+one_none p Matches invert style place line all begun more count total missing shows is cut = inr (nil_front total missing cut)
+one_none p Objects invert style place line all begun more count total missing shows is cut = inr (nil_front total missing cut)
+one_none p Count invert style place line all begun more count total missing shows is cut = inl (nil_front begun more (sym shows ∙ is))
+one_none p Names invert style place line all begun more count total missing shows is cut = inl (nil_front begun more (sym shows ∙ is))
+one_none p Nothing invert style place line all begun more count total missing shows is cut = inl (nil_front begun more (sym shows ∙ is))
+
+module _ (p : Patterns) (job : Job) where
+  either_none : (place : Place) (left : List (List ℕ)) (begun : List ℕ) (count : ℕ) (total missing : List ℕ) → StartsNext p job place left begun
+      → total_if job.shown job.style count ≡ total ++ missing → (begun ≡ []) ⊎ (total ≡ [])
+  either_none place [] begun count total missing none cut = inl none
+  either_none place (line ∷ rest) begun count total missing (inl none) cut = inl none
+  either_none place (line ∷ rest) begun count total missing (inr (selected, starts)) cut =
+      one_none p job.shown job.invert job.style place line starts.shown begun starts.missing count total missing starts.shows starts.cut cut
+
+  -- a stream that was broken off, and a beginning of what is asked of the file as a whole
+  pub file_begins : (state : State) (left left' held meanwhile held' : Option (List ℕ)) → BeginsStream p job (course (at_begin job.first) state held meanwhile left left')
+      → BeginsTotal job state.selected meanwhile held' → BeginsFile p job left held held'
+  file_begins state left left' held meanwhile held' stream total =
+      let (more, known, none) = text_behind left left' (stream.searched ++ stream.rest) stream.consumed in
+      let text = (stream.searched ++ stream.rest) ++ more in
+      let begins = stream.begins in
+      let start = after_lines (place_at 0 job.first) begins.first in
+      let (others, cut) : (others : List (List ℕ)) × (lines text ≡ lines stream.searched ++ others) =
+      elim stream.ends [
+        | inl whole ↦ (lines (stream.rest ++ more), ap lines (append_assoc stream.searched stream.rest more) ∙ lines_append stream.searched (stream.rest ++ more) whole)
+        | inr (empty, end) ↦ (
+          [],
+          ap lines (ap (λ (l : List ℕ). (stream.searched ++ stream.rest) ++ l) (none end) ∙ append-nil (stream.searched ++ stream.rest)
+              ∙ ap (λ (l : List ℕ). stream.searched ++ l) empty ∙ append-nil stream.searched) ∙ sym (append-nil (lines stream.searched)),
+        )
+      ] in
+      let all : lines text ≡ begins.first ++ (begins.left ++ others) = cut ∙ ap (λ (l : List (List ℕ)). l ++ others) begins.cut ∙ append_assoc begins.first begins.left others in
+      let written : Appends held held' ((begins.told ++ begins.begun) ++ total.begun) =
+      Appends-trans held meanwhile held' (begins.told ++ begins.begun) total.begun begins.written total.written in
+      elim (either_none start begins.left begins.begun state.selected total.begun total.missing begins.starts total.cut) [
+        | inl no_line ↦ record {
+          text = text;
+          of = known;
+          first = begins.first;
+          left = begins.left ++ others;
+          cut = all;
+          told = begins.told;
+          count = state.selected;
+          tells = begins.tells;
+          begun = total.begun;
+          starts = inr (total.missing, total.cut);
+          written = subst (λ (l : List ℕ). Appends held held' (l ++ total.begun)) (ap (λ (l : List ℕ). begins.told ++ l) no_line ∙ append-nil begins.told) written;
+        }
+        | inr no_total ↦ record {
+          text = text;
+          of = known;
+          first = begins.first;
+          left = begins.left ++ others;
+          cut = all;
+          told = begins.told;
+          count = state.selected;
+          tells = begins.tells;
+          begun = begins.begun;
+          starts = inl (starts_more p job start begins.left others begins.begun begins.starts);
+          written = subst (Appends held held') (ap (λ (l : List ℕ). (begins.told ++ begins.begun) ++ l) no_total ∙ append-nil (begins.told ++ begins.begun)) written;
+        }
+      ]
+
+  -- nothing is written of a file
+  pub file_none : (known held held' : Option (List ℕ)) → Keeps held held' → BeginsFile p job known held held'
+  file_none None held held' keeps = record {
+    text = [];
+    of = tt;
+    first = [];
+    left = [];
+    cut = refl;
+    told = [];
+    count = 0;
+    tells = (refl, refl);
+    begun = [];
+    starts = inl refl;
+    written = kept_nil held held' keeps;
+  }
+  file_none (Some bytes) held held' keeps = record {
+    text = bytes;
+    of = refl;
+    first = [];
+    left = lines bytes;
+    cut = refl;
+    told = [];
+    count = 0;
+    tells = (refl, refl);
+    begun = [];
+    starts = inl (starts_none p job (place_at 0 job.first) (lines bytes));
+    written = kept_nil held held' keeps;
+  }
+
+of_kept : (known known' : Option (List ℕ)) (text : List ℕ) → Keeps known known' → IfSome known' (λ (bytes : List ℕ). text ≡ bytes) → IfSome known (λ (bytes : List ℕ). text ≡ bytes)
+of_kept None known' text keeps of = tt
+of_kept (Some xs) None text keeps of = absurd keeps
+of_kept (Some xs) (Some ys) text keeps of = of ∙ keeps
+
+-- the bytes of the file are those of its reader
+pub file_known : (p : Patterns) (job : Job) (known known' held held' : Option (List ℕ)) → Keeps known known' → BeginsFile p job known' held held' → BeginsFile p job known held held'
+file_known p job known known' held held' keeps begins = record {
+  text = begins.text;
+  of = of_kept known known' begins.text keeps begins.of;
+  first = begins.first;
+  left = begins.left;
+  cut = begins.cut;
+  told = begins.told;
+  count = begins.count;
+  tells = begins.tells;
+  begun = begins.begun;
+  starts = begins.starts;
+  written = begins.written;
+}
+
+module _ (p : Patterns) (job : Job) (holds : List ℕ → Option (List ℕ)) where
+  -- nothing is written
+  pub begun_none : (names : List (List ℕ)) (left held held' : Option (List ℕ)) → Keeps held held' → AreBegun p job holds names left held held'
+  begun_none [] left held held' keeps = keeps
+  begun_none (name ∷ names) left held held' keeps = inl keeps
+
+  -- the output keeps what it holds
+  pub begun_kept : (held' held'' : Option (List ℕ)) → Keeps held' held'' → (names : List (List ℕ)) (left held : Option (List ℕ)) → AreBegun p job holds names left held held'
+      → AreBegun p job holds names left held held''
+  begun_kept held' held'' kept [] left held begun = Keeps-trans held held' held'' begun kept
+  begun_kept held' held'' kept (name ∷ names) left held (inl keeps) = inl (Keeps-trans held held' held'' keeps kept)
+  begun_kept held' held'' kept (name ∷ names) left held (inr (between, meanwhile, leaves, one, more)) =
+      inr (between, meanwhile, leaves, one, begun_kept held' held'' kept names between meanwhile more)

@@ -1,0 +1,126 @@
+-- A search of a stream that is broken off, put together from its reads.
+use Rattle.std.proofs.Common.{◌≡◌, inl, inr, ℕ, ◌-◌, ◌≤◌, ◌<◌, Bool, true, List, [], ◌++◌, Option, length, take, drop, take-append-drop, refl, sym, ◌∙◌, ap, subst, arith, append_assoc, append-nil}
+use Rattle.std.specs.Io.KnownBytes.{Appends, Consumes, Keeps}
+use Rattle.std.proofs.KnownBytes.{Consumes-trans}
+use Rattle.aho_base.specs.Patterns.{Patterns}
+use Rattle.acgrep.specs.Filled.{Fills}
+use Rattle.acgrep.specs.Lines.{IsNewline, lines}
+use Rattle.acgrep.specs.Streamed.{BeginsSome, BeginsStream, BeginsWhole, ReadsSome, SearchesLines, SearchesStream, course}
+use Rattle.acgrep.specs.Written.{BeginsLines, EndsLine, IsSettled, SamePlace, SearchesText, after_lines}
+use Rattle.acgrep.specs.declared.select.Job.{Job}
+use Rattle.acgrep.specs.declared.select.State.{State}
+use Rattle.acgrep.proofs.Beginnings.{begins_join, begins_kept, begins_none, kept_nil, starts_none}
+use Rattle.acgrep.proofs.LineLists.{lines_append}
+use Rattle.acgrep.proofs.Streams.{ends_joined, front_whole, stream_step}
+
+module _ (p : Patterns) (job : Job) where
+  -- a text that was searched, and a beginning of what follows
+  begins_after : (a b : State) (count : ℕ) (x y z : Option (List ℕ)) (front back : List ℕ) → EndsLine front → (IsSettled job b → ⊥)
+      → SearchesText p job a b x y front → BeginsLines p job b count y z (lines back) → BeginsLines p job a count x z (lines (front ++ back))
+  begins_after a b count x y z front back whole goes one other =
+      let first = one.searches in
+      let none : one.left ≡ [] = elim one.ends [ inl none ↦ none | inr settled ↦ absurd (goes settled) ] in
+      let all : lines front ≡ first.searched = first.cut ∙ ap (λ (l : List ℕ). first.searched ++ lines l) none ∙ append-nil first.searched in
+      let there : SamePlace job b.place (after_lines a.place first.searched) = first.placed (inr whole) in
+      subst (BeginsLines p job a count x z) (sym (lines_append front back whole ∙ ap (λ (l : List (List ℕ)). l ++ lines back) all))
+      (begins_join p job a b count x y z first.searched (lines back) first.tells there other)
+
+  -- what was told of a text is a beginning too
+  begins_whole : (a b : State) (x y : Option (List ℕ)) (text : List ℕ) → SearchesText p job a b x y text → BeginsLines p job a b.selected x y (lines text)
+  begins_whole a b x y text one =
+      let to = one.searches in
+      record {
+        first = to.searched;
+        left = lines one.left;
+        cut = to.cut;
+        told = to.tells.bytes;
+        tells = to.tells.told;
+        begun = [];
+        starts = starts_none p job (after_lines a.place to.searched) (lines one.left);
+        written = subst (Appends x y) (sym (append-nil to.tells.bytes)) to.tells.written;
+      }
+
+  -- the front of bytes up to behind a newline was begun
+  pub whole_begins : (a : State) (count : ℕ) (b : State) (x y : Option (List ℕ)) (bytes : List ℕ) (whole : ℕ) → count ≡ b.selected → whole ≤ length bytes
+      → (0 < whole → IsNewline bytes (whole - 1)) → BeginsLines p job a count x y (lines (take whole bytes)) → BeginsWhole p job a b x y bytes
+  whole_begins a count b x y bytes whole same within newline begins = record {
+    searched = take whole bytes;
+    rest = drop whole bytes;
+    cut = sym (take-append-drop whole bytes);
+    whole = front_whole bytes whole within newline;
+    begins = subst (λ (n : ℕ). BeginsLines p job a n x y (lines (take whole bytes))) same begins;
+  }
+
+  -- bytes came, and nothing is written
+  pub some_none : (a : State) (x y l m : Option (List ℕ)) (kept came : List ℕ) → Keeps x y → Consumes l m came → BeginsSome p job (course a a x y l m) kept
+  some_none a x y l m kept came keeps read = record {
+    came = came;
+    searched = [];
+    rest = kept ++ came;
+    consumed = read;
+    cut = refl;
+    whole = λ some. absurd (omega (arith, some));
+    begins = begins_none p job a x y [] (kept_nil x y keeps);
+  }
+
+  -- bytes came, and of their whole lines a beginning is written
+  pub some_begins : (a b : State) (x y z l m : Option (List ℕ)) (kept filled : List ℕ) (count : ℕ) → Keeps x y → Fills kept filled l m count
+      → BeginsWhole p job a b y z filled → BeginsSome p job (course a b x z l m) kept
+  some_begins a b x y z l m kept filled count keeps fills begins = record {
+    came = fills.came;
+    searched = begins.searched;
+    rest = begins.rest;
+    consumed = fills.read;
+    cut = sym fills.behind ∙ begins.cut;
+    whole = begins.whole;
+    begins = begins_kept p job a b.selected x y z (lines begins.searched) keeps begins.begins;
+  }
+
+  -- what was read so far, and a read that is broken off
+  pub stream_begins : (a b c : State) (x y z l m n : Option (List ℕ)) (kept : List ℕ) → (IsSettled job b → ⊥)
+      → SearchesLines p job (course a b x y l m) kept → BeginsSome p job (course b c y z m n) kept → BeginsStream p job (course a c x z l n)
+  stream_begins a b c x y z l m n kept goes so_far some =
+      let joined : (so_far.searched ++ kept) ++ some.came ≡ (so_far.searched ++ some.searched) ++ some.rest =
+      append_assoc so_far.searched kept some.came ∙ ap (λ (t : List ℕ). so_far.searched ++ t) some.cut ∙ sym (append_assoc so_far.searched some.searched some.rest) in
+      record {
+        searched = so_far.searched ++ some.searched;
+        rest = some.rest;
+        consumed = subst (Consumes l n) joined (Consumes-trans l m n (so_far.searched ++ kept) some.came so_far.consumed some.consumed);
+        begins = begins_after a b c.selected x y z so_far.searched some.searched so_far.whole goes so_far.searches some.begins;
+        ends = inl (ends_joined so_far.searched some.searched so_far.whole some.whole);
+      }
+
+  -- the read that told the end, and a search of what is kept that is broken off
+  pub stream_last_begins : (a b c d : State) (x y z w l m n : Option (List ℕ)) (kept rest : List ℕ) (ended : Bool) → (IsSettled job b → ⊥) → ended ≡ true
+      → SearchesLines p job (course a b x y l m) kept → ReadsSome p job (course b c y z m n) kept rest ended → BeginsLines p job c d.selected z w (lines rest)
+      → BeginsStream p job (course a d x w l n)
+  stream_last_begins a b c d x y z w l m n kept rest ended goes is so_far some last =
+      let ends = some.ends is in
+      let mid : SearchesLines p job (course a c x z l n) rest = stream_step p job a b c x y z l m n kept rest ended goes so_far some in
+      record {
+        searched = mid.searched ++ rest;
+        rest = [];
+        consumed = subst (Consumes l n) (sym (append-nil (mid.searched ++ rest))) mid.consumed;
+        begins = begins_after a c d.selected x z w mid.searched rest mid.whole (λ settled. goes (subst (IsSettled job) ends.1 settled)) mid.searches last;
+        ends = inr (refl, ends.0);
+      }
+
+  -- nothing more is read
+  pub stream_begins_stop : (a b : State) (x y l m : Option (List ℕ)) (kept : List ℕ) → SearchesLines p job (course a b x y l m) kept → BeginsStream p job (course a b x y l m)
+  stream_begins_stop a b x y l m kept so_far = record {
+    searched = so_far.searched;
+    rest = kept;
+    consumed = so_far.consumed;
+    begins = begins_whole a b x y so_far.searched so_far.searches;
+    ends = inl so_far.whole;
+  }
+
+  -- a stream that was searched
+  pub stream_whole : (a b : State) (x y l m : Option (List ℕ)) → SearchesStream p job (course a b x y l m) → BeginsStream p job (course a b x y l m)
+  stream_whole a b x y l m stream = record {
+    searched = stream.searched;
+    rest = stream.rest;
+    consumed = stream.consumed;
+    begins = begins_whole a b x y stream.searched stream.searches;
+    ends = elim stream.ends [ inl end ↦ inr end | inr (whole, settled) ↦ inl whole ];
+  }

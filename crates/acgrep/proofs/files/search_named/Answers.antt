@@ -1,0 +1,14 @@
+-- The bytes of the file are those of its reader.
+use Rattle.acgrep.proofs.FilesBegun.{file_known, file_none, if_broken}
+use Rattle.acgrep.proofs.files.search_named.Goals as goal
+
+pub returns-in-Ok-clause-begun : goal.returns-in-Ok-clause-begun
+returns-in-Ok-clause-begun g c = λ p is plain.
+    if_broken c.search_one.result
+    (file_known p c.args.job.now (g.F.Open.holds c.args.files.now c.args.name.now) (g.F.File.Read.remaining c.in-Ok.file)
+    (g.W.Write.contents c.args.output.now) (g.W.Write.contents c.search_one.new.output) c.in-Ok.ensures.told)
+    (c.search_one.ensures.begun p is plain)
+
+pub returns-in-Err-clause-begun : goal.returns-in-Err-clause-begun
+returns-in-Err-clause-begun g c = λ p is plain.
+    file_none p c.args.job.now (g.F.Open.holds c.args.files.now c.args.name.now) (g.W.Write.contents c.args.output.now) (g.W.Write.contents c.flush.new.self) c.flush.ensures.bytes
