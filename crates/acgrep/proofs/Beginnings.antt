@@ -1,6 +1,6 @@
 -- A beginning of what is told of lines, put together from parts.
-use Rattle.std.proofs.Common.{◌≡◌, inl, inr, ℕ, ◌<◌, Bool, true, List, [], ◌∷◌, ◌++◌, Option, Some, length, take, drop, take-append-drop, refl, sym, ◌∙◌, ap, subst, append_assoc, append-nil}
-use Rattle.std.specs.Prelude.{MatchBool, None, Result, Ok, Err, OnErr}
+use Rattle.std.proofs.Common.{◌≡◌, inl, inr, ℕ, ◌<◌, Bool, true, List, [], ◌∷◌, ◌++◌, Option, Some, length, take, drop, take-append-drop, refl, sym, ◌∙◌, ap, subst, append_assoc}
+use Rattle.std.specs.Prelude.{MatchBool, Result, Ok, Err, OnErr}
 use Rattle.std.specs.Io.KnownBytes.{Appends, Keeps}
 use Rattle.std.proofs.KnownBytes.{Appends-trans}
 use Rattle.aho_base.specs.Patterns.{Patterns}
@@ -9,18 +9,13 @@ use Rattle.acgrep.specs.Written.{AppendsBeginning, BeginsLine, BeginsLines, Each
 use Rattle.acgrep.specs.declared.print.Place.{Place}
 use Rattle.acgrep.specs.declared.select.Job.{Job}
 use Rattle.acgrep.specs.declared.select.State.{State}
+use Rattle.acgrep.proofs.Streams.{keeps_nil}
 use Rattle.acgrep.proofs.Tellings.{Passing, after_append, by_same, same_lines, same_place, tells_append, tells_same}
 
 -- what holds whatever the result
 pub on_err : {T E : Type 0} {P : Type 0} (r : Result T E) → P → OnErr r P
 on_err (Ok x) holds = tt
 on_err (Err e) holds = holds
-
--- bytes that are kept grow by none
-pub kept_nil : (x y : Option (List ℕ)) → Keeps x y → Appends x y []
-kept_nil None y keeps = tt
-kept_nil (Some xs) None keeps = absurd keeps
-kept_nil (Some xs) (Some ys) keeps = keeps ∙ sym (append-nil xs)
 
 -- what was put together for a line is written
 pub page_writes : (p : Patterns) (job : Job) (place : Place) (old new : Option (List ℕ)) (line before after bytes : List ℕ) → before ≡ [] → bytes ≡ after
@@ -132,7 +127,7 @@ module _ (p : Patterns) (job : Job) where
     tells = begins.tells;
     begun = begins.begun;
     starts = begins.starts;
-    written = Appends-trans x y z [] (begins.told ++ begins.begun) (kept_nil x y keeps) begins.written;
+    written = Appends-trans x y z [] (begins.told ++ begins.begun) (keeps_nil x y keeps) begins.written;
   }
 
   -- selected lines so far, and a beginning of the next

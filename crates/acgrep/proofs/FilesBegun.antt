@@ -15,9 +15,10 @@ use Rattle.acgrep.specs.declared.print.Place.{Place}
 use Rattle.acgrep.specs.declared.print.Style.{Style}
 use Rattle.acgrep.specs.declared.select.Job.{Job}
 use Rattle.acgrep.specs.declared.select.State.{State}
-use Rattle.acgrep.proofs.Beginnings.{kept_nil, starts_more, starts_none}
+use Rattle.acgrep.proofs.Beginnings.{starts_more, starts_none}
 use Rattle.acgrep.proofs.FileTellings.{text_behind}
 use Rattle.acgrep.proofs.LineLists.{lines_append}
+use Rattle.acgrep.proofs.Streams.{keeps_nil}
 
 -- what holds whatever the outcome
 pub on_broken : {P : Type 0} (outcome : Outcome) → P → IfBroken outcome P
@@ -32,14 +33,14 @@ if_broken Stopped follows broken = follows broken
 
 -- nothing of the total is written
 pub total_none : (job : Job) (count : ℕ) (x y : Option (List ℕ)) → Keeps x y → BeginsTotal job count x y
-total_none job count x y keeps = record { begun = []; missing = total_if job.shown job.style count; cut = refl; written = kept_nil x y keeps }
+total_none job count x y keeps = record { begun = []; missing = total_if job.shown job.style count; cut = refl; written = keeps_nil x y keeps }
 
 pub total_kept : (job : Job) (count : ℕ) (x y z : Option (List ℕ)) → Keeps x y → BeginsTotal job count y z → BeginsTotal job count x z
 total_kept job count x y z keeps begins = record {
   begun = begins.begun;
   missing = begins.missing;
   cut = begins.cut;
-  written = Appends-trans x y z [] begins.begun (kept_nil x y keeps) begins.written;
+  written = Appends-trans x y z [] begins.begun (keeps_nil x y keeps) begins.written;
 }
 
 -- what was put together is written, or a beginning of it
@@ -139,7 +140,7 @@ module _ (p : Patterns) (job : Job) where
     tells = (refl, refl);
     begun = [];
     starts = inl refl;
-    written = kept_nil held held' keeps;
+    written = keeps_nil held held' keeps;
   }
   file_none (Some bytes) held held' keeps = record {
     text = bytes;
@@ -152,7 +153,7 @@ module _ (p : Patterns) (job : Job) where
     tells = (refl, refl);
     begun = [];
     starts = inl (starts_none p job (place_at 0 job.first) (lines bytes));
-    written = kept_nil held held' keeps;
+    written = keeps_nil held held' keeps;
   }
 
 of_kept : (known known' : Option (List ℕ)) (text : List ℕ) → Keeps known known' → IfSome known' (λ (bytes : List ℕ). text ≡ bytes) → IfSome known (λ (bytes : List ℕ). text ≡ bytes)

@@ -9,9 +9,9 @@ use Rattle.acgrep.specs.Streamed.{BeginsSome, BeginsStream, BeginsWhole, ReadsSo
 use Rattle.acgrep.specs.Written.{BeginsLines, EndsLine, IsSettled, SamePlace, SearchesText, after_lines}
 use Rattle.acgrep.specs.declared.select.Job.{Job}
 use Rattle.acgrep.specs.declared.select.State.{State}
-use Rattle.acgrep.proofs.Beginnings.{begins_join, begins_kept, begins_none, kept_nil, starts_none}
+use Rattle.acgrep.proofs.Beginnings.{begins_join, begins_kept, begins_none, starts_none}
 use Rattle.acgrep.proofs.LineLists.{lines_append}
-use Rattle.acgrep.proofs.Streams.{ends_joined, front_whole, stream_step}
+use Rattle.acgrep.proofs.Streams.{ends_joined, front_whole, keeps_nil, stream_step}
 
 module _ (p : Patterns) (job : Job) where
   -- a text that was searched, and a beginning of what follows
@@ -60,7 +60,7 @@ module _ (p : Patterns) (job : Job) where
     consumed = read;
     cut = refl;
     whole = λ some. absurd (omega (arith, some));
-    begins = begins_none p job a x y [] (kept_nil x y keeps);
+    begins = begins_none p job a x y [] (keeps_nil x y keeps);
   }
 
   -- bytes came, and of their whole lines a beginning is written

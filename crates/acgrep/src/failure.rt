@@ -17,6 +17,17 @@ pub enum Stop {
     Write(io::Error),
 }
 
+impl Stop {
+    /// The same where the output is memory: what cannot be written there is for want of memory.
+    pub fn in_memory(self) -> Stop {
+        match self {
+            Stop::Search(error) => Stop::Search(error),
+            Stop::OutOfMemory | Stop::Write(_) => Stop::OutOfMemory,
+            Stop::Read(error) => Stop::Read(error),
+        }
+    }
+}
+
 impl From<MatchError> for Stop {
     fn from(error: MatchError) -> Stop {
         Stop::Search(error)

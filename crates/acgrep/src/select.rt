@@ -363,9 +363,10 @@ fn show<A: Automaton, W: Write>(
         (BeginsLine p job.now place (W.contents output.old) (W.contents output.new) line.now) }
 {
     let mut page = Vec::new(job.alloc);
-    put_shown(automaton, job, line, place, &mut page)?;
-    write_page(output, page.as_slice())?;
-    Ok(())
+    match put_shown(automaton, job, line, place, &mut page) {
+        Ok(()) => Ok(write_page(output, page.as_slice())?),
+        Err(stop) => Err(stop.in_memory()),
+    }
 }
 
 /// Puts together what is asked of a selected line.
