@@ -187,6 +187,7 @@ fn search_names<A: Automaton, F: Open, R: Read, W: Write, E: Write>(
         tell(errors, &[b"out of memory"]);
         return 2;
     };
+    let mut page = Vec::new(alloc);
     let seen = search_each(
         automaton,
         job,
@@ -194,6 +195,7 @@ fn search_names<A: Automaton, F: Open, R: Read, W: Write, E: Write>(
         names,
         &mut buffer,
         input,
+        &mut page,
         output,
         errors,
     );
@@ -208,6 +210,7 @@ fn search_each<A: Automaton, F: Open, R: Read, W: Write, E: Write>(
     names: &[&[u8]],
     buffer: &mut Buffer,
     input: &mut R,
+    page: &mut Vec<u8>,
     output: &mut W,
     errors: &mut E,
 ) -> Seen
@@ -224,7 +227,7 @@ fn search_each<A: Automaton, F: Open, R: Read, W: Write, E: Write>(
     let mut rest = names;
     while goes_on(rest, seen) {
         let outcome = search_name(
-            automaton, job, files, rest[0], buffer, input, output, errors,
+            automaton, job, files, rest[0], buffer, input, page, output, errors,
         );
         seen = seen.after(job.shown, outcome);
         rest = &rest[1..];
@@ -249,6 +252,7 @@ fn search_name<A: Automaton, F: Open, R: Read, W: Write, E: Write>(
     name: &[u8],
     buffer: &mut Buffer,
     input: &mut R,
+    page: &mut Vec<u8>,
     output: &mut W,
     errors: &mut E,
 ) -> Outcome
@@ -264,10 +268,10 @@ fn search_name<A: Automaton, F: Open, R: Read, W: Write, E: Write>(
 {
     if is_input(name) {
         let named = job_for(job, INPUT_NAME);
-        return search_one(automaton, &named, buffer, input, output, errors);
+        return search_one(automaton, &named, buffer, input, page, output, errors);
     }
     let named = job_for(job, name);
-    search_named(automaton, &named, files, name, buffer, output, errors)
+    search_named(automaton, &named, files, name, buffer, page, output, errors)
 }
 
 /// Opens the file of a name and searches it.
@@ -277,6 +281,7 @@ fn search_named<A: Automaton, F: Open, W: Write, E: Write>(
     files: &F,
     name: &[u8],
     buffer: &mut Buffer,
+    page: &mut Vec<u8>,
     output: &mut W,
     errors: &mut E,
 ) -> Outcome
@@ -289,7 +294,7 @@ fn search_named<A: Automaton, F: Open, W: Write, E: Write>(
         (W.contents output.old) (W.contents output.new)) }
 {
     match open_named(files, name) {
-        Ok(mut file) => search_one(automaton, job, buffer, &mut file, output, errors),
+        Ok(mut file) => search_one(automaton, job, buffer, &mut file, page, output, errors),
         Err(error) => {
             let _ = output.flush();
             tell_fault(name, &error, errors);
@@ -304,6 +309,7 @@ fn search_one<A: Automaton, R: Read, W: Write, E: Write>(
     job: &Job<'_>,
     buffer: &mut Buffer,
     reader: &mut R,
+    page: &mut Vec<u8>,
     output: &mut W,
     errors: &mut E,
 ) -> Outcome
@@ -318,9 +324,9 @@ fn search_one<A: Automaton, R: Read, W: Write, E: Write>(
     ensures reads { Reads (R.remaining reader.old) (R.remaining reader.new) }
 {
     let mut state = State::new(job.first);
-    match search_stream(automaton, job, buffer, reader, &mut state, output) {
-        Ok(()) => end_file(job, &state, output, errors),
-        Err(stop) => break_off(job, &state, &stop, output, errors),
+    match search_stream(automaton, job, buffer, reader, &mut state, page, output) {
+        Ok(()) => end_file(job, &state, page, output, errors),
+        Err(stop) => break_off(job, &state, &stop, page, output, errors),
     }
 }
 
@@ -328,6 +334,7 @@ fn search_one<A: Automaton, R: Read, W: Write, E: Write>(
 fn end_file<W: Write, E: Write>(
     job: &Job<'_>,
     state: &State,
+    page: &mut Vec<u8>,
     output: &mut W,
     errors: &mut E,
 ) -> Outcome
@@ -336,7 +343,7 @@ fn end_file<W: Write, E: Write>(
     ensures begun { IfBroken result (BeginsTotal job.now state.now.selected
         (W.contents output.old) (W.contents output.new)) }
 {
-    match put_total(job, state.selected, output) {
+    match put_total(job, state.selected, page, output) {
         Ok(()) => Outcome::Searched(state.selected > 0),
         Err(error) => {
             tell_write(errors, &error);
@@ -350,6 +357,7 @@ fn break_off<W: Write, E: Write>(
     job: &Job<'_>,
     state: &State,
     stop: &Stop,
+    page: &mut Vec<u8>,
     output: &mut W,
     errors: &mut E,
 ) -> Outcome
@@ -360,7 +368,7 @@ fn break_off<W: Write, E: Write>(
     if tell_stop(job.style.name, stop, errors) {
         return Outcome::Stopped;
     }
-    match put_total(job, state.selected, output) {
+    match put_total(job, state.selected, page, output) {
         Ok(()) => Outcome::Unread,
         Err(error) => {
             tell_write(errors, &error);
@@ -370,13 +378,18 @@ fn break_off<W: Write, E: Write>(
 }
 
 /// Writes what is asked of a file as a whole, of which this many lines were selected. It is put together first.
-fn put_total<W: Write>(job: &Job<'_>, selected: u64, output: &mut W) -> io::Result<()>
+fn put_total<W: Write>(
+    job: &Job<'_>,
+    selected: u64,
+    page: &mut Vec<u8>,
+    output: &mut W,
+) -> io::Result<()>
     ensures written { OnOk result (Appends (W.contents output.old) (W.contents output.new)
         (total_if job.now.shown job.now.style selected)) }
     ensures begun { BeginsTotal job.now selected (W.contents output.old) (W.contents output.new) }
 {
-    let mut page = Vec::new(job.alloc);
-    put_asked(job, selected, &mut page)?;
+    page.clear();
+    put_asked(job, selected, page)?;
     write_page(output, page.as_slice())
 }
 
@@ -429,6 +442,5 @@ fn job_for<'a>(job: &Job<'_>, name: &'a [u8]) -> Job<'a>
             color: job.style.color,
         },
         first: job.first,
-        alloc: job.alloc,
     }
 }

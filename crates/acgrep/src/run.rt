@@ -210,7 +210,7 @@ fn search<F: Open, R: Read, W: Write, E: Write>(
     if selects_none(words, flags.invert) {
         return 1;
     }
-    let job = job_of(alloc, flags, terminal, names.len());
+    let job = job_of(flags, terminal, names.len());
     let named = Files {
         alloc,
         names,
@@ -276,7 +276,7 @@ fn are_empty(patterns: &[&[u8]]) -> bool
 }
 
 /// What is written of each of so many files, but for its name.
-fn job_of(alloc: Global, flags: &Flags, terminal: bool, count: usize) -> Job<'static>
+fn job_of(flags: &Flags, terminal: bool, count: usize) -> Job<'static>
     ensures job { IsJob flags.now terminal count result }
 {
     Job {
@@ -290,7 +290,6 @@ fn job_of(alloc: Global, flags: &Flags, terminal: bool, count: usize) -> Job<'st
             color: is_colored(flags.color, terminal),
         },
         first: flags.first,
-        alloc,
     }
 }
 

@@ -15,7 +15,6 @@ use crate::page::write_page;
 use crate::print::{Place, Style, put_colored_line, put_line, put_matches};
 use chromesquid::{Automaton, Input, Span};
 use memchr::memchr_iter;
-use std::alloc::Global;
 use std::io::Write;
 
 /// What is written of which lines of a file.
@@ -29,8 +28,6 @@ pub struct Job<'a> {
     pub style: Style<'a>,
     /// Where the first byte of a file stands.
     pub first: u64,
-    /// The allocator.
-    pub alloc: Global,
 }
 
 impl<'a> Job<'a> {
@@ -134,6 +131,7 @@ pub fn search_text<A: Automaton, W: Write>(
     job: &Job<'_>,
     text: &[u8],
     state: &mut State,
+    page: &mut Vec<u8>,
     output: &mut W,
 ) -> Result<(), Stop>
     requires of { (p : Patterns) × A.is_of automaton.now p }
@@ -154,7 +152,7 @@ pub fn search_text<A: Automaton, W: Write>(
 {
     let mut rest = text;
     while job.goes_on(rest, state) {
-        rest = search_some(automaton, job, rest, state, output)?;
+        rest = search_some(automaton, job, rest, state, page, output)?;
     }
     Ok(())
 }
@@ -165,6 +163,7 @@ fn search_some<'t, A: Automaton, W: Write>(
     job: &Job<'_>,
     text: &'t [u8],
     state: &mut State,
+    page: &mut Vec<u8>,
     output: &mut W,
 ) -> Result<&'t [u8], Stop>
     requires of { (p : Patterns) × A.is_of automaton.now p }
@@ -181,12 +180,19 @@ fn search_some<'t, A: Automaton, W: Write>(
 {
     match next_line(automaton, text)? {
         Some(line) => {
-            pass_others(automaton, job, &text[..line.start], state, output)?;
-            pass_matched(automaton, job, &text[line.start..line.end], state, output)?;
+            pass_others(automaton, job, &text[..line.start], state, page, output)?;
+            pass_matched(
+                automaton,
+                job,
+                &text[line.start..line.end],
+                state,
+                page,
+                output,
+            )?;
             Ok(behind(text, line.end))
         }
         None => {
-            pass_others(automaton, job, text, state, output)?;
+            pass_others(automaton, job, text, state, page, output)?;
             Ok(&text[text.len()..])
         }
     }
@@ -198,6 +204,7 @@ fn pass_matched<A: Automaton, W: Write>(
     job: &Job<'_>,
     line: &[u8],
     state: &mut State,
+    page: &mut Vec<u8>,
     output: &mut W,
 ) -> Result<(), Stop>
     requires of { (p : Patterns) × A.is_of automaton.now p }
@@ -214,7 +221,7 @@ fn pass_matched<A: Automaton, W: Write>(
         state.place = behind_line(state.place, line);
         return Ok(());
     }
-    pass_selected(automaton, job, line, state, output)
+    pass_selected(automaton, job, line, state, page, output)
 }
 
 /// Goes over a selected line.
@@ -223,6 +230,7 @@ fn pass_selected<A: Automaton, W: Write>(
     job: &Job<'_>,
     line: &[u8],
     state: &mut State,
+    page: &mut Vec<u8>,
     output: &mut W,
 ) -> Result<(), Stop>
     requires of { (p : Patterns) × A.is_of automaton.now p }
@@ -235,7 +243,7 @@ fn pass_selected<A: Automaton, W: Write>(
         → OnErr result (BeginsLines p job.now state.old state.new.selected
         (W.contents output.old) (W.contents output.new) (line.now ∷ [])) }
 {
-    show(automaton, job, line, state.place, output)?;
+    show(automaton, job, line, state.place, page, output)?;
     state.selected = state.selected.saturating_add(1);
     state.place = behind_line(state.place, line);
     Ok(())
@@ -247,6 +255,7 @@ fn pass_others<A: Automaton, W: Write>(
     job: &Job<'_>,
     text: &[u8],
     state: &mut State,
+    page: &mut Vec<u8>,
     output: &mut W,
 ) -> Result<(), Stop>
     requires of { (p : Patterns) × A.is_of automaton.now p }
@@ -264,7 +273,7 @@ fn pass_others<A: Automaton, W: Write>(
         (W.contents output.old) (W.contents output.new) (lines text.now)) }
 {
     if job.invert {
-        return pass_each(automaton, job, text, state, output);
+        return pass_each(automaton, job, text, state, page, output);
     }
     skip(job, text, state);
     Ok(())
@@ -276,6 +285,7 @@ fn pass_each<A: Automaton, W: Write>(
     job: &Job<'_>,
     text: &[u8],
     state: &mut State,
+    page: &mut Vec<u8>,
     output: &mut W,
 ) -> Result<(), Stop>
     requires of { (p : Patterns) × A.is_of automaton.now p }
@@ -292,7 +302,7 @@ fn pass_each<A: Automaton, W: Write>(
     let mut rest = text;
     while !rest.is_empty() {
         let end = line_end(rest);
-        pass_selected(automaton, job, &rest[..end], state, output)?;
+        pass_selected(automaton, job, &rest[..end], state, page, output)?;
         rest = behind(rest, end);
     }
     Ok(())
@@ -354,6 +364,7 @@ fn show<A: Automaton, W: Write>(
     job: &Job<'_>,
     line: &[u8],
     place: Place,
+    page: &mut Vec<u8>,
     output: &mut W,
 ) -> Result<(), Stop>
     requires of { (p : Patterns) × A.is_of automaton.now p }
@@ -362,8 +373,8 @@ fn show<A: Automaton, W: Write>(
     ensures begun { (p : Patterns) → A.is_of automaton.now p → OnErr result
         (BeginsLine p job.now place (W.contents output.old) (W.contents output.new) line.now) }
 {
-    let mut page = Vec::new(job.alloc);
-    match put_shown(automaton, job, line, place, &mut page) {
+    page.clear();
+    match put_shown(automaton, job, line, place, page) {
         Ok(()) => Ok(write_page(output, page.as_slice())?),
         Err(stop) => Err(stop.in_memory()),
     }

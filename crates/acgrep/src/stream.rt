@@ -22,6 +22,7 @@ pub fn search_stream<A: Automaton, R: Read, W: Write>(
     buffer: &mut Buffer,
     input: &mut R,
     state: &mut State,
+    page: &mut Vec<u8>,
     output: &mut W,
 ) -> Result<(), Stop>
     requires of { (p : Patterns) × A.is_of automaton.now p }
@@ -44,8 +45,8 @@ pub fn search_stream<A: Automaton, R: Read, W: Write>(
         if job.is_done(state) {
             return Ok(());
         }
-        if read_some(automaton, job, buffer, input, state, output)? {
-            return search_text(automaton, job, buffer.bytes(), state, output);
+        if read_some(automaton, job, buffer, input, state, page, output)? {
+            return search_text(automaton, job, buffer.bytes(), state, page, output);
         }
     }
     Err(Stop::Read(io::Error::other("too many reads")))
@@ -58,6 +59,7 @@ fn read_some<A: Automaton, R: Read, W: Write>(
     buffer: &mut Buffer,
     input: &mut R,
     state: &mut State,
+    page: &mut Vec<u8>,
     output: &mut W,
 ) -> Result<bool, Stop>
     requires of { (p : Patterns) × A.is_of automaton.now p }
@@ -82,7 +84,7 @@ fn read_some<A: Automaton, R: Read, W: Write>(
     if count == 0 {
         return Ok(true);
     }
-    search_whole(automaton, job, buffer, count, state, output)?;
+    search_whole(automaton, job, buffer, count, state, page, output)?;
     Ok(false)
 }
 
@@ -93,6 +95,7 @@ fn search_whole<A: Automaton, W: Write>(
     buffer: &mut Buffer,
     count: usize,
     state: &mut State,
+    page: &mut Vec<u8>,
     output: &mut W,
 ) -> Result<(), Stop>
     requires of { (p : Patterns) × A.is_of automaton.now p }
@@ -106,7 +109,14 @@ fn search_whole<A: Automaton, W: Write>(
         (take buffer.old.held buffer.old.room.items)) }
 {
     let whole = whole_lines(buffer.bytes(), count);
-    search_text(automaton, job, &buffer.bytes()[..whole], state, output)?;
+    search_text(
+        automaton,
+        job,
+        &buffer.bytes()[..whole],
+        state,
+        page,
+        output,
+    )?;
     buffer.drop_front(whole);
     Ok(())
 }
