@@ -1,4 +1,4 @@
-//! Searching what a reader gives, in memory that is bounded by its longest line.
+//! Searching what a reader gives, in memory that is bounded by its longest line and by what is written of one line.
 
 ghost use Rattle.std.specs.Prelude.{◌≤◌, ◌-◌, ◌<◌, IfOk, OnErr, OnOk, length, take};
 ghost use Rattle.aho_base.specs.Patterns.{Patterns};
