@@ -25,11 +25,13 @@ pub fn tell_of<E: Write, D: Display>(errors: &mut E, name: &[u8], error: &D) {
     tell(errors, &[name, b": ", text.as_str().as_bytes()]);
 }
 
-/// Writes why the output cannot be written. Where nobody reads it any more, nobody waits for that: a program that is ended by
-/// the signal for it says nothing either.
+/// Writes why the output cannot be written, or put together in memory. Where nobody reads it any more, nobody waits for that: a
+/// program that is ended by the signal for it says nothing either.
 pub fn tell_write<E: Write>(errors: &mut E, error: &io::Error) {
-    if error.kind() != ErrorKind::BrokenPipe {
-        tell_of(errors, b"write error", error);
+    match error.kind() {
+        ErrorKind::BrokenPipe => {}
+        ErrorKind::OutOfMemory => tell(errors, &[b"out of memory"]),
+        _ => tell_of(errors, b"write error", error),
     }
 }
 
