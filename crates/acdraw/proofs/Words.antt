@@ -8,11 +8,11 @@ use Rattle.std.proofs.lemmas.Bool.{cases_Bool, and_parts, cases_eq, cond-true, c
 use Rattle.std.proofs.lemmas.Bool.Decides.{nat_tests}
 use Rattle.std.proofs.lemmas.List.{append_assoc, append-nil, length-append}
 use Rattle.std.proofs.lemmas.List.Elements.{All-map}
-use Rattle.aho_base.specs.Bytes.{folded, folded_word}
-use Rattle.aho_base.specs.Patterns.{Patterns, pattern_at}
-use Rattle.aho_base.specs.Trie.{is_node, pattern_word}
+use Rattle.aho_core.specs.Bytes.{folded, folded_word}
+use Rattle.aho_core.specs.Patterns.{Patterns, pattern_at}
+use Rattle.aho_core.specs.Trie.{is_node, pattern_word}
 use Rattle.aho_laws.proofs.Kept.{is_node-front, is_node-true}
-use Rattle.aho_base.specs.Failure.{is_cut}
+use Rattle.aho_core.specs.Failure.{is_cut}
 use Rattle.aho_table.specs.Table.{State, IsRising, dead_id, fail_id, state_at, transition_at, next_in, depth_in}
 use Rattle.aho_table.proofs.TransitionLists.{transition_at-same, transition_at-other}
 use Rattle.aho_build.specs.Automaton.{IsAutomaton, ListsExactly, missing_from}

@@ -11,8 +11,8 @@ use crate::picture::arrows::Arrow;
 use crate::picture::runs::Run;
 use crate::picture::{Node, Picture};
 use crate::text::DotText;
-use aho_base::search::StateID;
 use aho_corasick::links::DEAD;
+use aho_core::search::StateID;
 use std::alloc::{AllocError, Global};
 
 /// The text of a picture: its states, then their arrows.

@@ -5,9 +5,9 @@ ghost use Rattle.std.specs.List.{All};
 ghost use Rattle.aho_corasick.specs.ReadOut.{states_of};
 ghost use Rattle.acdraw.specs.Picture.{IsDrawn, IsPicture, drawn_of, is_drawn};
 
-use aho_base::search::{PatternID, StateID};
 use aho_corasick::links::{FAIL, Matches};
 use aho_corasick::noncontiguous::NFA;
+use aho_core::search::{PatternID, StateID};
 use arrows::{Arrow, arrows_of};
 use std::alloc::{AllocError, Global};
 use words::word_of;

@@ -3,7 +3,7 @@ use Rattle.std.proofs.Common.{◌≡◌, inl, inr, ℕ, ◌<◌, Bool, true, Lis
 use Rattle.std.specs.Prelude.{MatchBool, Result, Ok, Err, OnErr}
 use Rattle.std.specs.Io.KnownBytes.{Appends, Keeps}
 use Rattle.std.proofs.KnownBytes.{Appends-trans}
-use Rattle.aho_base.specs.Patterns.{Patterns}
+use Rattle.aho_core.specs.Patterns.{Patterns}
 use Rattle.acgrep.specs.Lines.{lines}
 use Rattle.acgrep.specs.Written.{AppendsBeginning, BeginsLine, BeginsLines, EachLine, HasMatch, HasNone, IsSelected, SamePlace, SearchesTo, StartsNext, TellsLines, WritesLine, after_lines}
 use Rattle.acgrep.specs.declared.print.Place.{Place}

@@ -4,7 +4,7 @@ use Rattle.std.specs.Io.KnownBytes.{Appends}
 use Rattle.std.specs.Prelude.{Bool, true, codes, if◌then◌else◌}
 use Rattle.std.proofs.KnownBytes.{Appends-nil, Appends-trans}
 use Rattle.std.proofs.lemmas.Bool.{ne_eqb}
-use Rattle.aho_base.specs.Occurrence.{Occurrence}
+use Rattle.aho_core.specs.Occurrence.{Occurrence}
 use Rattle.acgrep.specs.Printed.{behind_match, color_of, colored_by, colored_from, painted, part_of}
 
 -- what stands before a match that is not empty, and then the match

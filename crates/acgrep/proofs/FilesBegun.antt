@@ -2,7 +2,7 @@
 use Rattle.std.proofs.Common.{◌≡◌, inl, inr, ◌⊎◌, ℕ, Bool, List, [], ◌∷◌, ◌++◌, Option, None, Some, IfSome, drop, take, take-append-drop, refl, sym, ◌∙◌, ap, subst, append_assoc, append-nil}
 use Rattle.std.specs.Io.KnownBytes.{Appends, Keeps}
 use Rattle.std.proofs.KnownBytes.{Appends-trans, Keeps-trans}
-use Rattle.aho_base.specs.Patterns.{Patterns}
+use Rattle.aho_core.specs.Patterns.{Patterns}
 use Rattle.acgrep.specs.Files.{AreBegun, BeginsFile, BeginsTotal, IfBroken, total_if}
 use Rattle.acgrep.specs.Lines.{lines}
 use Rattle.acgrep.specs.Streamed.{BeginsStream, course}

@@ -5,7 +5,7 @@ use Rattle.std.proofs.KnownBytes.{Keeps-refl}
 use Rattle.std.proofs.Math.ListN.{get_or}
 use Rattle.std.proofs.lemmas.Bool.{cases_Bool}
 use Rattle.std.proofs.lemmas.List.{take_all}
-use Rattle.aho_base.specs.Patterns.{Patterns}
+use Rattle.aho_core.specs.Patterns.{Patterns}
 use Rattle.acgrep.specs.Files.{AreBegun, AreSearched, AreSearchedOr, BeginsName, HasSelected, IfBroken, IfSearched, IsAny, LeavesInput, OneIsSelected, SearchesName, SearchesNames, is_enough, known_of, names_of, nothing_seen, or_input, seen_after, status_by, status_of}
 use Rattle.acgrep.specs.Lines.{lines}
 use Rattle.acgrep.specs.declared.files.Outcome.{Outcome}

@@ -5,7 +5,7 @@ use Rattle.std.specs.Prelude.{Bool, codes, decimal, if◌then◌else◌}
 use Rattle.std.proofs.KnownBytes.{Appends-trans}
 use Rattle.std.proofs.lemmas.Bool.{ne_eqb}
 use Rattle.std.proofs.lemmas.List.Concat.{flat_map-append}
-use Rattle.aho_base.specs.Occurrence.{Occurrence}
+use Rattle.aho_core.specs.Occurrence.{Occurrence}
 use Rattle.acgrep.specs.Objects.{escaped, number_named, object_by, objects_by}
 use Rattle.acgrep.specs.Printed.{number_at, offset_at}
 use Rattle.acgrep.specs.declared.print.Place.{Place}

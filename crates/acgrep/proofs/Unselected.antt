@@ -1,8 +1,8 @@
 -- Patterns by which no line is selected.
 use Rattle.std.proofs.Common.{◌≡◌, ℕ, Bool, true, false, List, [], ◌∷◌, length, drop, refl, sym, ap, subst, arith}
 use Rattle.std.specs.Prelude.{slice_index_or, slice_range}
-use Rattle.aho_base.specs.Bytes.{IsSameWord}
-use Rattle.aho_base.specs.Patterns.{Patterns, pattern_at}
+use Rattle.aho_core.specs.Bytes.{IsSameWord}
+use Rattle.aho_core.specs.Patterns.{Patterns, pattern_at}
 use Rattle.acgrep.specs.Runs.{selects_none}
 use Rattle.acgrep.specs.Written.{HasMatch, IsPassed}
 use Rattle.acgrep.proofs.LineLists.{take_zero}

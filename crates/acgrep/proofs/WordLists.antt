@@ -9,7 +9,7 @@ use Rattle.std.proofs.Math.Seq.{drop-append_seam}
 use Rattle.std.proofs.lemmas.Bool.{cases_Bool, eqb-false}
 use Rattle.std.proofs.lemmas.List.{take_all}
 use Rattle.memchr.specs.Find.{Nowhere}
-use Rattle.aho_base.specs.declared.search.MatchKind.{MatchKind}
+use Rattle.aho_core.specs.declared.search.MatchKind.{MatchKind}
 use Rattle.acgrep.specs.Arguments.{Origin, origin_of}
 use Rattle.acgrep.specs.Files.{is_input}
 use Rattle.acgrep.specs.Lines.{IsNewline, joined_to, lines}

@@ -1,7 +1,7 @@
 -- What a call searches for and in which files, by what its arguments say.
 use Rattle.std.specs.Prelude.{◌≡◌, ◌⊎◌, ℕ, ◌&&◌, nat_lt, Bool, MatchBool, true, false, List, [], ◌∷◌, ◌++◌, Option, Some, IfSome, String, codes, length, map, unwrap_or}
 use Rattle.std.specs.Io.KnownBytes.{Consumes, IsAtEnd, Keeps}
-use Rattle.aho_base.specs.Patterns.{Patterns}
+use Rattle.aho_core.specs.Patterns.{Patterns}
 use Rattle.acgrep.specs.Arguments.{Origin, Said, origin_of, said_by, shown_by, texts}
 use Rattle.acgrep.specs.Files.{AreBegun, AreSearchedOr, is_input, or_input}
 use Rattle.acgrep.specs.Lines.{lines}

@@ -1,7 +1,7 @@
 -- What the automaton of a call is of.
 use Rattle.std.specs.Prelude.{◌≡◌, ℕ, Bool, false, List}
-use Rattle.aho_base.specs.Patterns.{Patterns}
-use Rattle.aho_base.specs.declared.search.MatchKind.{MatchKind}
+use Rattle.aho_core.specs.Patterns.{Patterns}
+use Rattle.aho_core.specs.declared.search.MatchKind.{MatchKind}
 use Rattle.aho_build.specs.Settings.{default_settings}
 use Rattle.aho_build.specs.declared.settings.Settings.{Settings}
 use Rattle.aho_corasick.specs.contracts.noncontiguous.NFAAutomaton.TheImpl.{ghosts as of_nfa}

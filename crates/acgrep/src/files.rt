@@ -2,7 +2,7 @@
 
 ghost use Rattle.std.specs.Prelude.{◌≡◌, ◌≤◌, ◌<◌, ◌⊎◌, [], IsTrue, OnOk, false, length, true};
 ghost use Rattle.std.specs.Io.KnownBytes.{Appends};
-ghost use Rattle.aho_base.specs.Patterns.{Patterns};
+ghost use Rattle.aho_core.specs.Patterns.{Patterns};
 ghost use Rattle.acgrep.specs.Filled.{Reads};
 ghost use Rattle.acgrep.specs.Files.{AreBegun, AreSearchedOr, BeginsFile, BeginsName, BeginsTotal, EndsFile, IfBroken, IfSearched, IsNamed, LeavesInput, SearchesFile, SearchesName, SearchesNames, SearchesReader, is_enough, names_of, nothing_seen, or_input, seen_after, status_by, total_if};
 ghost use Rattle.acgrep.specs.Selected.{HoldNoNewline};

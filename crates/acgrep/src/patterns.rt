@@ -1,7 +1,7 @@
 //! Patterns: the lines of what the options give.
 
 ghost use Rattle.std.specs.Prelude.{◌≡◌, ◌++◌, [], IfOk, OnOk, codes};
-ghost use Rattle.aho_base.specs.Replacement.{pieces_of};
+ghost use Rattle.aho_core.specs.Replacement.{pieces_of};
 ghost use Rattle.acgrep.specs.Lines.{lines};
 ghost use Rattle.acgrep.specs.Written.{EndsLine};
 

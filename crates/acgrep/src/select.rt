@@ -2,7 +2,7 @@
 
 ghost use Rattle.std.specs.Prelude.{◌≡◌, ◌+◌, ◌%◌, ◌^◌, ◌↔◌, ◌⊎◌, ◌&&◌, ◌≤◌, ◌<◌, [], ◌∷◌, IfOk, IfSome, IsTrue, OnErr, OnOk, false, not, true, length};
 ghost use Rattle.memchr.specs.Find.{is_byte, places};
-ghost use Rattle.aho_base.specs.Patterns.{Patterns};
+ghost use Rattle.aho_core.specs.Patterns.{Patterns};
 ghost use Rattle.acgrep.specs.Lines.{lines};
 ghost use Rattle.acgrep.specs.Selected.{HoldNoNewline, IsLine, IsNextLine, IsNoneSelected};
 ghost use Rattle.acgrep.specs.Written.{BeginsLine, BeginsLines, EachLine, EndsLine, HasMatch, HasNone, IsNumbered, IsSelected, IsSettled, SamePlace, SearchesText, SearchesTo, TellsLines, after_line, after_lines, at_begin, WritesLine, is_numbered, needs_one, one_more, place_at};

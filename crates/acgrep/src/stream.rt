@@ -1,7 +1,7 @@
 //! Searching what a reader gives, in memory that is bounded by its longest line and by what is written of one line.
 
 ghost use Rattle.std.specs.Prelude.{◌≤◌, ◌-◌, ◌<◌, IfOk, OnErr, OnOk, length, take};
-ghost use Rattle.aho_base.specs.Patterns.{Patterns};
+ghost use Rattle.aho_core.specs.Patterns.{Patterns};
 ghost use Rattle.acgrep.specs.Filled.{Reads};
 ghost use Rattle.acgrep.specs.Lines.{IsNewline};
 ghost use Rattle.acgrep.specs.Selected.{HoldNoNewline};

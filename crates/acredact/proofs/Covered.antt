@@ -2,18 +2,18 @@
 use Rattle.std.proofs.Common.{◌≡◌, ◌⊎◌, inl, inr, ℕ, ◌≤◌, ◌<◌, ◌+◌, Bool, false, List, [], ◌∷◌, length, map, Option, Some, None, refl, sym, subst, ap, arith, le_refl}
 use Rattle.std.specs.Prelude.{MatchBool, nat_eq, ◌&&◌, slice_index_or, zero, suc}
 use Rattle.std.proofs.lemmas.Bool.{MatchBool-at_false, cases_lt, ne_eqb}
-use Rattle.aho_base.specs.Answer.{IsAnswer}
-use Rattle.aho_base.specs.Iteration.{AreFinds, IsNextFind, repeats_end}
-use Rattle.aho_base.specs.Laws.{shortest}
-use Rattle.aho_base.specs.Listing.{IsMember}
-use Rattle.aho_base.specs.Occurrence.{Occurrence}
-use Rattle.aho_base.specs.Occurs.{Occurs}
-use Rattle.aho_base.specs.Order.{IsBefore}
-use Rattle.aho_base.specs.Patterns.{Patterns}
-use Rattle.aho_base.specs.Search.{plain_search}
-use Rattle.aho_base.specs.declared.search.Anchored.TheVariants.{No}
-use Rattle.aho_base.specs.declared.search.MatchKind.{MatchKind}
-use Rattle.aho_base.specs.declared.search.MatchKind.TheVariants.{LeftmostFirst, LeftmostLongest, Standard}
+use Rattle.aho_core.specs.Answer.{IsAnswer}
+use Rattle.aho_core.specs.Iteration.{AreFinds, IsNextFind, repeats_end}
+use Rattle.aho_core.specs.Laws.{shortest}
+use Rattle.aho_core.specs.Listing.{IsMember}
+use Rattle.aho_core.specs.Occurrence.{Occurrence}
+use Rattle.aho_core.specs.Occurs.{Occurs}
+use Rattle.aho_core.specs.Order.{IsBefore}
+use Rattle.aho_core.specs.Patterns.{Patterns}
+use Rattle.aho_core.specs.Search.{plain_search}
+use Rattle.aho_core.specs.declared.search.Anchored.TheVariants.{No}
+use Rattle.aho_core.specs.declared.search.MatchKind.{MatchKind}
+use Rattle.aho_core.specs.declared.search.MatchKind.TheVariants.{LeftmostFirst, LeftmostLongest, Standard}
 use Rattle.aho_stream.specs.After.{search_from}
 use Rattle.acredact.specs.Secrets.{IsTouched, NoSecretLeft}
 

@@ -2,7 +2,7 @@
 use Rattle.std.proofs.Common.{◌≡◌, ℕ, List, length, map, sym, ap, ◌∙◌}
 use Rattle.std.proofs.lemmas.List.{length-map}
 use Rattle.std.specs.Borrow.{Bor}
-use Rattle.aho_base.specs.Replacement.{pieces_of}
+use Rattle.aho_core.specs.Replacement.{pieces_of}
 use Rattle.acredact.specs.Tables.{Secret}
 
 -- slices that show what is made of some secrets are as many

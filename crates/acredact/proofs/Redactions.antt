@@ -9,19 +9,19 @@ use Rattle.std.proofs.KnownBytes.{Appends-kept, Appends-nil, Appends-trans, Cons
 use Rattle.std.proofs.Math.Seq.{take-length}
 use Rattle.std.proofs.lemmas.Bool.{cases_lt}
 use Rattle.std.proofs.lemmas.List.Elements.{All-append, All-cons, All-nil}
-use Rattle.aho_base.specs.Iteration.{AreFinds}
-use Rattle.aho_base.specs.Laws.{shortest}
-use Rattle.aho_base.specs.Patterns.{Patterns}
-use Rattle.aho_base.specs.Replacement.{replaced}
-use Rattle.aho_base.specs.Search.{plain_search}
-use Rattle.aho_base.specs.declared.error.MatchErrorKind.TheVariants.{UnsupportedEmpty}
-use Rattle.aho_base.specs.declared.error.stream.StreamError.{StreamError}
-use Rattle.aho_base.specs.declared.error.stream.StreamError.TheVariants.{Match as Refused}
+use Rattle.aho_core.specs.Iteration.{AreFinds}
+use Rattle.aho_core.specs.Laws.{shortest}
+use Rattle.aho_core.specs.Patterns.{Patterns}
+use Rattle.aho_core.specs.Replacement.{replaced}
+use Rattle.aho_core.specs.Search.{plain_search}
+use Rattle.aho_core.specs.declared.error.MatchErrorKind.TheVariants.{UnsupportedEmpty}
+use Rattle.aho_core.specs.declared.error.stream.StreamError.{StreamError}
+use Rattle.aho_core.specs.declared.error.stream.StreamError.TheVariants.{Match as Refused}
 use Rattle.aho_devices.specs.Counts.{counted}
 use Rattle.aho_devices.specs.declared.device.Sink.{Ghosts as SinkGhosts}
 use Rattle.aho_devices.specs.declared.device.Source.{Ghosts as SourceGhosts}
 use Rattle.aho_laws.proofs.Iterations.{finds-exist, finds-unique}
-use Rattle.aho_search.specs.declared.automaton.Automaton.{Ghosts}
+use Rattle.aho_automaton.specs.declared.automaton.Automaton.{Ghosts}
 use Rattle.aho_stream.specs.Replacing.{BeginsStream, ReplacesStream}
 use Rattle.acredact.specs.Arguments.{names_of}
 use Rattle.acredact.specs.Runs.{AreBegun, AreRedacted, IsRedactedFile, IsRedactedKnown, IsRedactedText, IsRedaction, IsTold, is_input}

@@ -2,14 +2,14 @@
 use Rattle.std.specs.Prelude.{◌≡◌, ℕ, ◌<◌, Bool, List, None, length, true}
 use Rattle.std.specs.Io.{StartsWith}
 use Rattle.std.specs.Io.KnownBytes.{Appends}
-use Rattle.aho_base.specs.Iteration.{AreFinds}
-use Rattle.aho_base.specs.Listing.{IsMember}
-use Rattle.aho_base.specs.Occurrence.{Occurrence}
-use Rattle.aho_base.specs.Occurs.{Occurs}
-use Rattle.aho_base.specs.Patterns.{Patterns}
-use Rattle.aho_base.specs.Replacement.{replaced}
-use Rattle.aho_base.specs.Search.{plain_search}
-use Rattle.aho_base.specs.declared.search.Anchored.TheVariants.{No}
+use Rattle.aho_core.specs.Iteration.{AreFinds}
+use Rattle.aho_core.specs.Listing.{IsMember}
+use Rattle.aho_core.specs.Occurrence.{Occurrence}
+use Rattle.aho_core.specs.Occurs.{Occurs}
+use Rattle.aho_core.specs.Patterns.{Patterns}
+use Rattle.aho_core.specs.Replacement.{replaced}
+use Rattle.aho_core.specs.Search.{plain_search}
+use Rattle.aho_core.specs.declared.search.Anchored.TheVariants.{No}
 use Rattle.aho_devices.specs.declared.device.Sink.{Ghosts as SinkGhosts}
 use Rattle.aho_devices.specs.declared.device.Source.{Ghosts as SourceGhosts}
 use Rattle.aho_stream.specs.Replacing.{MayBe, SourceGave}

@@ -6,7 +6,7 @@ ghost use Rattle.acredact.specs.declared.arguments.Expects.TheVariants.{Any, Val
 ghost use Rattle.acredact.specs.declared.arguments.Mistake.TheVariants.{OutOfMemory, Unknown};
 ghost use Rattle.acredact.specs.declared.arguments.Reading.TheVariants.{Wrong};
 
-use aho_base::search::MatchKind;
+use aho_core::search::MatchKind;
 use std::alloc::Global;
 
 /// What an argument is, or the option that it is the value of.

@@ -2,7 +2,7 @@
 
 use crate::failure::write_number;
 use crate::patterns::{Rule, escaped};
-use aho_base::error::StreamError;
+use aho_core::error::StreamError;
 use aho_devices::device::Sink;
 use aho_devices::write::write_whole;
 use std::alloc::{AllocError, Global};

@@ -2,7 +2,7 @@
 
 use crate::arguments::{Mistake, name_of};
 use crate::patterns::{BadLine, LineFault};
-use aho_base::error::{BuildError, StreamError};
+use aho_core::error::{BuildError, StreamError};
 use aho_devices::device::Sink;
 use aho_devices::write::write_whole;
 use itoa::write_digits;

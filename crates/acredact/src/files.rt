@@ -1,8 +1,8 @@
 //! The redaction of files, one after another.
 
 ghost use Rattle.std.specs.Prelude.{◌≡◌, ◌&&◌, None, Ok, OnOk, length, true};
-ghost use Rattle.aho_base.specs.Patterns.{Patterns};
-ghost use Rattle.aho_base.specs.Replacement.{pieces_of};
+ghost use Rattle.aho_core.specs.Patterns.{Patterns};
+ghost use Rattle.aho_core.specs.Replacement.{pieces_of};
 ghost use Rattle.programs.specs.Streams.{bytes_held, bytes_left};
 ghost use Rattle.acredact.specs.Arguments.{names_of};
 ghost use Rattle.acredact.specs.Runs.{AreBegun, AreRedacted, IsReady, IsRedactedFile, IsRedactedKnown, IsRedactedText, is_input};
@@ -11,10 +11,10 @@ ghost use Rattle.acredact.specs.Secrets.{IsBegun, IsRedacted};
 use crate::failure::{Reason, tell};
 use crate::folder::Folder;
 use crate::redact::{redact, redact_counting};
-use aho_base::error::StreamError;
+use aho_automaton::automaton::Automaton;
+use aho_core::error::StreamError;
 use aho_devices::adapters::{FromRead, FromWrite};
 use aho_devices::device::{Sink, Source};
-use aho_search::automaton::Automaton;
 use std::alloc::Global;
 use std::io::{Read, Write};
 

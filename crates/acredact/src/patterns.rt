@@ -2,7 +2,7 @@
 
 ghost use Rattle.std.specs.Prelude.{◌≡◌, ◌+◌, ◌<◌, ◌≤◌, ◌∷◌, ◌++◌, Bool, Err, IfErr, IfNone, IfOk, IfSome, OnOk, false, length, map, slice_index, true, ◌≢◌, []};
 ghost use Rattle.std.specs.Io.BufRead.{strip_last};
-ghost use Rattle.aho_base.specs.Replacement.{pieces_of};
+ghost use Rattle.aho_core.specs.Replacement.{pieces_of};
 ghost use Rattle.acredact.specs.declared.patterns.LineFault.TheVariants.{EmptyPattern};
 ghost use Rattle.acredact.specs.Tables.{Holds, IsAdded, IsWithout, escape_of, escaped, lines_of, patterns_in, piece_by, secret_of, secrets_of};
 

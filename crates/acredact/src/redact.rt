@@ -2,17 +2,17 @@
 
 ghost use Rattle.std.specs.Prelude.{◌≡◌, [], OnErr, OnOk, length, slice_index_or};
 ghost use Rattle.std.specs.Io.KnownBytes.{Appends};
-ghost use Rattle.aho_base.specs.Patterns.{Patterns};
-ghost use Rattle.aho_base.specs.Replacement.{pieces_of};
+ghost use Rattle.aho_core.specs.Patterns.{Patterns};
+ghost use Rattle.aho_core.specs.Replacement.{pieces_of};
 ghost use Rattle.aho_devices.specs.Counts.{AppendsBeginning};
 ghost use Rattle.acredact.specs.Runs.{IsReady};
 ghost use Rattle.acredact.specs.Secrets.{IsBegun, IsRedacted};
 
-use aho_base::error::StreamError;
-use aho_base::search::Match;
+use aho_automaton::automaton::Automaton;
+use aho_core::error::StreamError;
+use aho_core::search::Match;
 use aho_devices::device::{Sink, Source};
 use aho_devices::write::write_whole;
-use aho_search::automaton::Automaton;
 use aho_stream::replace::{try_stream_replace_all, try_stream_replace_all_with};
 use std::alloc::Global;
 

@@ -1,20 +1,20 @@
 //! The automata by which is searched. Both are of the same patterns: which of them searches changes only the speed.
 
 ghost use Rattle.std.specs.Prelude.{◌≡◌, IfOk, IfSome};
-ghost use Rattle.aho_base.specs.Patterns.{Patterns};
-ghost use Rattle.aho_base.specs.Replacement.{pieces_of};
+ghost use Rattle.aho_core.specs.Patterns.{Patterns};
+ghost use Rattle.aho_core.specs.Replacement.{pieces_of};
 ghost use Rattle.aho_prefilter.specs.Prefilter.{IsPrefilterOf};
 ghost use Rattle.programs.specs.Asked.{ArePatterns};
 ghost use Rattle.acredact.specs.Arguments.{all_given};
 ghost use Rattle.acredact.specs.Runs.{asked_patterns, settings_by};
 
 use crate::arguments::{Item, Word, has, kind_of};
-use aho_base::error::BuildError;
+use aho_automaton::automaton::Automaton;
 use aho_corasick::noncontiguous::{Builder, NFA};
+use aho_core::error::BuildError;
 use aho_hybrid::hybrid::{DEFAULT_BUDGET, Hybrid};
 use aho_prefilter::laws::held_serves_each_kind;
 use aho_prefilter::prefilter::{PackedBuilder, Prefilter};
-use aho_search::automaton::Automaton;
 use std::alloc::{AllocError, Global};
 
 /// The automaton of these patterns, by the match kind and the case rule that are given.

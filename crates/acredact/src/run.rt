@@ -1,8 +1,8 @@
 //! A call of the program over its arguments, files and streams.
 
 ghost use Rattle.std.specs.Prelude.{◌≡◌, ◌≤◌, ◌⊎◌, Ok, IfOk, IfSome, OnOk, None, length, true};
-ghost use Rattle.aho_base.specs.Patterns.{Patterns};
-ghost use Rattle.aho_base.specs.Replacement.{pieces_of};
+ghost use Rattle.aho_core.specs.Patterns.{Patterns};
+ghost use Rattle.aho_core.specs.Replacement.{pieces_of};
 ghost use Rattle.programs.specs.Streams.{bytes_held, bytes_left, Unwritten};
 ghost use Rattle.acredact.specs.Arguments.{AsksToRedact, IfAsked, all_given, given_by, names_of, texts};
 ghost use Rattle.acredact.specs.Runs.{AreBegun, AreRedacted, BeginsToRedact, Redacts, asked_patterns, names_asked, pieces_asked, text_asked};
@@ -17,11 +17,11 @@ use crate::folder::Folder;
 use crate::load::rules;
 use crate::patterns::{Rule, patterns_of, replacements_of};
 use crate::rows::{build, rows_of};
-use aho_base::error::StreamError;
+use aho_automaton::automaton::Automaton;
+use aho_core::error::StreamError;
 use aho_devices::adapters::{FromRead, FromWrite};
 use aho_devices::device::Sink;
 use aho_devices::write::write_whole;
-use aho_search::automaton::Automaton;
 use programs::failure;
 use std::alloc::{AllocError, Global};
 use std::io::{Read, Write};

@@ -1,8 +1,8 @@
-//! What every multi-pattern search speaks of: numbers, spans, matches, inputs and texts, and the definitions of what a
-//! search answers.
+//! What a caller of any search names: spans, matches, inputs and texts, prefilters, and errors. Its items are defined in
+//! `aho_core` and `aho_prefilter`, where their contracts and definitions stand.
 #![tactic(auto)]
 
-pub mod error;
-pub mod impls;
-pub mod letters;
 pub mod search;
+
+pub use aho_core::error;
+pub use aho_prefilter::prefilter;

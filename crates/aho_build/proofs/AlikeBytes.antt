@@ -1,8 +1,8 @@
 -- Bytes that end no node lead alike from every state, so classes in which the other bytes are alone serve for dense rows.
 use Rattle.std.proofs.Common.{◌≡◌, ◌≢◌, ℕ, ◌<◌, ◌≤◌, Bool, true, false, cond, List, [], length, Option, Some, sym, ap, ◌∙◌, inl, inr, arith}
 use Rattle.std.proofs.lemmas.Bool.{cases_eq, false_from_ne_true, MatchBool-at_false}
-use Rattle.aho_base.specs.Patterns.{Patterns}
-use Rattle.aho_base.specs.Trie.{is_node}
+use Rattle.aho_core.specs.Patterns.{Patterns}
+use Rattle.aho_core.specs.Trie.{is_node}
 use Rattle.aho_table.specs.Alphabet.{AreOfOneClass, HasItsEdges}
 use Rattle.aho_table.specs.Table.{State, LeadsAlike, fail_id, next_in, state_at, transition_at}
 use Rattle.aho_table.proofs.Classes.{alone}

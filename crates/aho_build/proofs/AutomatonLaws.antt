@@ -3,13 +3,13 @@ use Rattle.std.proofs.Common.{◌≡◌, ◌⊎◌, ℕ, inl, inr, Bool, true, f
 use Rattle.std.specs.Prelude.{Option, Some, None, nat_eq, nat_lt, ◌&&◌}
 use Rattle.std.proofs.lemmas.Bool.{cases_eq, cond-true, eqb-true, lt-ltb}
 use Rattle.std.proofs.lemmas.Bool.Decides.{nat_tests}
-use Rattle.aho_base.specs.declared.search.Anchored.{Anchored}
-use Rattle.aho_base.specs.declared.search.Anchored.TheVariants.{No, Yes}
-use Rattle.aho_base.specs.declared.search.MatchKind.{MatchKind}
-use Rattle.aho_base.specs.Held.{held_after}
-use Rattle.aho_base.specs.Laws.{Reads}
-use Rattle.aho_base.specs.Patterns.{Patterns}
-use Rattle.aho_base.specs.Trie.{is_node}
+use Rattle.aho_core.specs.declared.search.Anchored.{Anchored}
+use Rattle.aho_core.specs.declared.search.Anchored.TheVariants.{No, Yes}
+use Rattle.aho_core.specs.declared.search.MatchKind.{MatchKind}
+use Rattle.aho_core.specs.Held.{held_after}
+use Rattle.aho_core.specs.Laws.{Reads}
+use Rattle.aho_core.specs.Patterns.{Patterns}
+use Rattle.aho_core.specs.Trie.{is_node}
 use Rattle.aho_laws.proofs.Kept.{is_node-root}
 use Rattle.aho_laws.proofs.NamedStates.{reads_by_words}
 use Rattle.aho_laws.proofs.StepLaw.{held_after-push}

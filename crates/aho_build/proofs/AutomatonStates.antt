@@ -3,13 +3,13 @@
 use Rattle.std.proofs.Common.{◌≡◌, ◌≢◌, inl, inr, ℕ, ◌+◌, ◌<◌, cond, List, [], ◌∷◌, ◌++◌, refl, sym, ◌∙◌, ap, subst, arith}
 use Rattle.std.specs.Prelude.{Option, Some, None, is_none, nat_eq}
 use Rattle.std.proofs.lemmas.Bool.{cases_Bool, cond-true, cond-false, eq-eqb, ne_eqb}
-use Rattle.aho_base.specs.declared.search.Anchored.{Anchored}
-use Rattle.aho_base.specs.declared.search.Anchored.TheVariants.{No, Yes}
-use Rattle.aho_base.specs.Bytes.{folded}
-use Rattle.aho_base.specs.MatchList.{matches_of}
-use Rattle.aho_base.specs.Patterns.{Patterns}
-use Rattle.aho_base.specs.Step.{follow, lookups, depth_of}
-use Rattle.aho_base.specs.Trie.{is_node}
+use Rattle.aho_core.specs.declared.search.Anchored.{Anchored}
+use Rattle.aho_core.specs.declared.search.Anchored.TheVariants.{No, Yes}
+use Rattle.aho_core.specs.Bytes.{folded}
+use Rattle.aho_core.specs.MatchList.{matches_of}
+use Rattle.aho_core.specs.Patterns.{Patterns}
+use Rattle.aho_core.specs.Step.{follow, lookups, depth_of}
+use Rattle.aho_core.specs.Trie.{is_node}
 use Rattle.aho_laws.proofs.ByLinks.{matches-root}
 use Rattle.aho_laws.proofs.StepLaw.{follow-node}
 use Rattle.aho_table.specs.Table.{State, dead_id, fail_id, next_in, fail_in, matches_in}

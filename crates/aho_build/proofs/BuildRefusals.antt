@@ -2,9 +2,9 @@
 use Rattle.std.proofs.Common.{◌≡◌, ℕ, ◌+◌, ◌*◌, ◌<◌, ◌≤◌, Bool, inl, inr, List, Option, Some, ◌∙◌, ap, subst, arith}
 use Rattle.std.specs.Iterator.{Drains}
 use denote.Ref.{Bor}
-use Rattle.aho_base.specs.declared.error.BuildError.{BuildError}
-use Rattle.aho_base.specs.declared.error.BuildError.TheVariants.{StateIDOverflow}
-use Rattle.aho_base.specs.Patterns.{Patterns}
+use Rattle.aho_core.specs.declared.error.BuildError.{BuildError}
+use Rattle.aho_core.specs.declared.error.BuildError.TheVariants.{StateIDOverflow}
+use Rattle.aho_core.specs.Patterns.{Patterns}
 use Rattle.aho_table.specs.Refusal.{IsRefusalOf}
 use Rattle.aho_build.specs.declared.settings.Settings.{Settings}
 use Rattle.aho_build.specs.Items.{patterns_of, HasYielded, IsFailure, IsStopped}

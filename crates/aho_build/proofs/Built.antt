@@ -3,8 +3,8 @@
 use Rattle.std.proofs.Common.{◌≡◌, ℕ, List, [], ◌∷◌, ◌∙◌, ap, arith, inl, inr}
 use Rattle.std.specs.Prelude.{Option, Some, MatchBool}
 use Rattle.std.proofs.lemmas.Bool.{cases_eq}
-use Rattle.aho_base.specs.Patterns.{Patterns}
-use Rattle.aho_base.specs.Trie.{is_node}
+use Rattle.aho_core.specs.Patterns.{Patterns}
+use Rattle.aho_core.specs.Trie.{is_node}
 use Rattle.aho_table.specs.Table.{State, next_in}
 use Rattle.aho_build.specs.Automaton.{AreNodes, IsAutomaton, missing_from}
 use Rattle.aho_build.specs.Starts.{root_loop}

@@ -5,7 +5,7 @@ use Rattle.std.proofs.lemmas.Bool.{cases_Bool, eqb-true, eqb-false, eq-eqb, ne_e
 use Rattle.std.proofs.lemmas.Bool.Decides.{nat_tests}
 use Rattle.std.proofs.lemmas.List.Folds.{list_any_more}
 use Rattle.aho_table.specs.Alphabet.{is_edge}
-use Rattle.aho_base.specs.Bytes.{folded_by, opposite}
+use Rattle.aho_core.specs.Bytes.{folded_by, opposite}
 use Rattle.aho_build.specs.Dense.{has_folded, is_parted_by}
 use Rattle.aho_build.proofs.Child.{same_letter, other_letter}
 

@@ -5,7 +5,7 @@ use Rattle.std.proofs.lemmas.Bool.Decides.{nat_tests}
 use Rattle.std.proofs.lemmas.List.{length_push, length-set}
 use Rattle.aho_table.specs.Table.{State, new_state, state_at, next_in, depth_in, fail_in, matches_in, transition_at, with_transition, set_transition, lists_transition, lists_byte, IsRising, IsLedTo, transitions_count}
 use Rattle.aho_table.specs.declared.links.Child.TheVariants.{Added as AddedState}
-use Rattle.aho_base.specs.Bytes.{folded_by, opposite}
+use Rattle.aho_core.specs.Bytes.{folded_by, opposite}
 use Rattle.aho_build.specs.TrieGrowth.{Grows, HasChild, ListsMore, missing_in}
 use Rattle.aho_table.proofs.TransitionLists.{transition_at-with_transition, transition_at-with_transition_other}
 use Rattle.aho_build.proofs.ListedBytes.{transitions_count-set_transition, matches_count-set_transition, lists_byte-set_transition, lists_byte-set_transition_other, AllRising-set_transition, transitions_count-push, matches_count-push}

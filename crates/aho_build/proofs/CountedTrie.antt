@@ -7,10 +7,10 @@ use Rattle.std.proofs.lemmas.List.{get_or_default, get_or_push, get_or_past, len
 use Rattle.std.proofs.lemmas.List.Sums.{sum_by-append}
 use Rattle.std.specs.Prelude.{count_by, sum_by}
 use Rattle.std.specs.List.{range_with_len}
-use Rattle.aho_base.specs.Among.{is_node_among}
-use Rattle.aho_base.specs.Bytes.{folded, folded_word, opposite, folded_by}
-use Rattle.aho_base.specs.Patterns.{Patterns}
-use Rattle.aho_base.specs.Trie.{begins, is_kept, pattern_word}
+use Rattle.aho_core.specs.Among.{is_node_among}
+use Rattle.aho_core.specs.Bytes.{folded, folded_word, opposite, folded_by}
+use Rattle.aho_core.specs.Patterns.{Patterns}
+use Rattle.aho_core.specs.Trie.{begins, is_kept, pattern_word}
 use Rattle.aho_build.specs.TrieGrowth.{Grows, HasChild, ListsMore, EndsAt, missing_in, missing_both}
 use Rattle.aho_build.specs.Trie.{AreListed, HoldsFirst, HoldsWith, longer, missing_at, IsTrie, IsTrieOf, IsTrieWith, names_before, names_of}
 use Rattle.aho_build.specs.StateNames.{name_at}

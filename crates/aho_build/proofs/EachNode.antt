@@ -3,10 +3,10 @@ use Rattle.std.proofs.Common.{◌≡◌, ◌≢◌, ◌↔◌, ◌⊎◌, inl, i
 use Rattle.std.proofs.Math.Bool.{or-false}
 use Rattle.std.proofs.lemmas.Bool.{cases_Bool, cases_lt, or_cases, or_left, or_right}
 use Rattle.std.proofs.lemmas.List.{append_assoc, append-nil, length_push}
-use Rattle.aho_base.specs.Among.{is_node_among}
-use Rattle.aho_base.specs.Listing.{IsMember, IsListedBy}
-use Rattle.aho_base.specs.Patterns.{Patterns}
-use Rattle.aho_base.specs.Trie.{begins, is_kept, is_node, pattern_word}
+use Rattle.aho_core.specs.Among.{is_node_among}
+use Rattle.aho_core.specs.Listing.{IsMember, IsListedBy}
+use Rattle.aho_core.specs.Patterns.{Patterns}
+use Rattle.aho_core.specs.Trie.{begins, is_kept, is_node, pattern_word}
 use Rattle.aho_laws.proofs.Begins.{begins-from, begins-true, begins_length, begins_shorter, begins_trans, begins_whole}
 use Rattle.aho_laws.proofs.Inserted.{is_node_among-all}
 use Rattle.aho_laws.proofs.Listed.{listed-append, member-left, member-of_append, member-right}

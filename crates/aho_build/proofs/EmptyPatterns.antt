@@ -4,9 +4,9 @@ use Rattle.std.specs.Prelude.{Option}
 use Rattle.std.proofs.lemmas.Bool.{cases_Bool, lt-ltb}
 use Rattle.std.proofs.lemmas.List.Folds.{Any-from_list_any, list_any_at}
 use Rattle.std.proofs.lemmas.List.{nil_from_length}
-use Rattle.aho_base.specs.MatchList.{own_matches}
-use Rattle.aho_base.specs.Patterns.{Patterns, pattern_at}
-use Rattle.aho_base.specs.Trie.{pattern_word}
+use Rattle.aho_core.specs.MatchList.{own_matches}
+use Rattle.aho_core.specs.Patterns.{Patterns, pattern_at}
+use Rattle.aho_core.specs.Trie.{pattern_word}
 use Rattle.aho_laws.proofs.Kept.{own-first, left_out}
 use Rattle.aho_laws.proofs.Stands.{length-pattern_word}
 use Rattle.aho_prefilter.specs.Prefilter.{has_empty, is_empty}

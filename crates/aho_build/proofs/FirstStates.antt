@@ -2,9 +2,9 @@
 use Rattle.std.proofs.Common.{◌≡◌, ◌≢◌, ℕ, zero, suc, ◌+◌, ◌<◌, Bool, true, false, List, [], ◌∷◌, ◌++◌, length, Option, Some, MatchBool, cond, get_or, add-zero, add_assoc, refl, sym, ap, subst, ◌∙◌, inl, inr, arith}
 use Rattle.std.proofs.lemmas.Bool.{cases_eq}
 use Rattle.std.proofs.lemmas.List.{get_or_default, length-set}
-use Rattle.aho_base.specs.Among.{is_node_among}
-use Rattle.aho_base.specs.Bytes.{folded_word}
-use Rattle.aho_base.specs.Patterns.{Patterns}
+use Rattle.aho_core.specs.Among.{is_node_among}
+use Rattle.aho_core.specs.Bytes.{folded_word}
+use Rattle.aho_core.specs.Patterns.{Patterns}
 use Rattle.aho_laws.proofs.Inserted.{is_node_among-none, own_among-none}
 use Rattle.aho_build.specs.FirstStates.{root_id, anchored_id}
 use Rattle.aho_build.specs.Trie.{AreListed, HoldsFirst, names_of, longer, missing_at, IsTrieOf}

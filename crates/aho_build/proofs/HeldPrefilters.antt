@@ -1,7 +1,7 @@
 -- What an automaton holds is a prefilter of its patterns.
 use Rattle.std.proofs.Common.{◌≡◌, Bool, true, false, refl, sym, subst, IfSome}
 use Rattle.std.specs.Prelude.{Option, Some, None, if◌then◌else◌}
-use Rattle.aho_base.specs.Patterns.{Patterns}
+use Rattle.aho_core.specs.Patterns.{Patterns}
 use Rattle.aho_build.specs.Prefilters.{held_by}
 use Rattle.aho_build.specs.declared.settings.Settings.{Settings}
 use Rattle.aho_prefilter.specs.Prefilter.{IsPrefilterOf, held_for}

@@ -3,7 +3,7 @@ use Rattle.std.proofs.Common.{◌≡◌, ℕ, zero, suc, ◌+◌, ◌<◌, ◌�
 use Rattle.std.proofs.lemmas.Bool.{and_parts, cases_eq, eqb-true}
 use Rattle.std.specs.Prelude.{count_by}
 use Rattle.std.specs.List.{list_all, range_with_len}
-use Rattle.aho_base.specs.Bytes.{folded_by, opposite}
+use Rattle.aho_core.specs.Bytes.{folded_by, opposite}
 
 -- what a test says of each number of a range
 all-range : (f : ℕ → Bool) (a n k : ℕ) → list_all f (range_with_len a n) ≡ true → a ≤ k → k < a + n → f k ≡ true

@@ -2,11 +2,11 @@
 use Rattle.std.proofs.Common.{◌≡◌, ℕ, zero, suc, ◌+◌, ◌<◌, ◌≤◌, ◌≢◌, ◌⊎◌, Bool, true, false, cond, List, [], ◌∷◌, ◌++◌, length, get_or, Option, Some, None, refl, sym, ap, subst, ◌∙◌, inl, inr, arith}
 use Rattle.std.proofs.lemmas.Bool.{cases_Bool, cases_eq, cases_lt, MatchBool-at_true, MatchBool-at_false}
 use Rattle.std.proofs.lemmas.List.{length_push}
-use Rattle.aho_base.specs.Bytes.{folded}
-use Rattle.aho_base.specs.Failure.{failure_of, is_cut}
-use Rattle.aho_base.specs.MatchList.{matches_of}
-use Rattle.aho_base.specs.Patterns.{Patterns}
-use Rattle.aho_base.specs.Trie.{is_node}
+use Rattle.aho_core.specs.Bytes.{folded}
+use Rattle.aho_core.specs.Failure.{failure_of, is_cut}
+use Rattle.aho_core.specs.MatchList.{matches_of}
+use Rattle.aho_core.specs.Patterns.{Patterns}
+use Rattle.aho_core.specs.Trie.{is_node}
 use Rattle.aho_laws.proofs.ByLinks.{failure-is_node, matches-root}
 use Rattle.aho_build.specs.FailureLinks.{CanStep, IsLinking}
 use Rattle.aho_build.specs.Starts.{root_loop}

@@ -4,11 +4,11 @@ use Rattle.std.proofs.Math.ListN.{set}
 use Rattle.std.proofs.lemmas.Bool.{cases_eq, cases_lt, eq-eqb, ne_eqb}
 use Rattle.std.proofs.lemmas.List.{length-set, length_push, get_or_append_left, get_or_push}
 use Rattle.std.proofs.lemmas.List.Sums.{sum_by-set}
-use Rattle.aho_base.specs.Bytes.{folded}
-use Rattle.aho_base.specs.Failure.{failure_of}
-use Rattle.aho_base.specs.MatchList.{own_matches, matches_of}
-use Rattle.aho_base.specs.Patterns.{Patterns}
-use Rattle.aho_base.specs.Trie.{is_node}
+use Rattle.aho_core.specs.Bytes.{folded}
+use Rattle.aho_core.specs.Failure.{failure_of}
+use Rattle.aho_core.specs.MatchList.{own_matches, matches_of}
+use Rattle.aho_core.specs.Patterns.{Patterns}
+use Rattle.aho_core.specs.Trie.{is_node}
 use Rattle.aho_laws.proofs.ByLinks.{matches-next}
 use Rattle.aho_build.specs.FailureLinks.{IsLinked, IsLinking, linked_state, unlinked_count}
 use Rattle.aho_build.specs.Starts.{IsReady, IsDead, IsAnchoredStart, root_loop}

@@ -3,12 +3,12 @@
 use Rattle.std.proofs.Common.{◌≡◌, ◌≢◌, ◌⊎◌, inl, inr, ℕ, ◌+◌, ◌<◌, ◌≤◌, true, false, cond, List, [], ◌∷◌, length, refl, sym, ◌∙◌, ap, subst, arith}
 use Rattle.std.specs.Prelude.{Option, Some, None, nat_eq}
 use Rattle.std.proofs.lemmas.Bool.{cases_Bool, cond-true, cond-false, eq-eqb, ne_eqb, MatchBool-at_true, MatchBool-at_false}
-use Rattle.aho_base.specs.declared.search.Anchored.TheVariants.{No}
-use Rattle.aho_base.specs.Bytes.{folded}
-use Rattle.aho_base.specs.Failure.{is_cut, failure_of}
-use Rattle.aho_base.specs.Patterns.{Patterns}
-use Rattle.aho_base.specs.Step.{follow, lookups, depth_of}
-use Rattle.aho_base.specs.Trie.{is_node}
+use Rattle.aho_core.specs.declared.search.Anchored.TheVariants.{No}
+use Rattle.aho_core.specs.Bytes.{folded}
+use Rattle.aho_core.specs.Failure.{is_cut, failure_of}
+use Rattle.aho_core.specs.Patterns.{Patterns}
+use Rattle.aho_core.specs.Step.{follow, lookups, depth_of}
+use Rattle.aho_core.specs.Trie.{is_node}
 use Rattle.aho_laws.proofs.LinkedStates.{Grown, Linked, taken, failed}
 use Rattle.aho_laws.proofs.StepLaw.{follow-root}
 use Rattle.aho_table.specs.Table.{State, dead_id, fail_id, next_in, fail_in, depth_in}

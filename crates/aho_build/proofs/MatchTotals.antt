@@ -5,12 +5,12 @@ use Rattle.std.proofs.Math.ListN.{set}
 use Rattle.std.proofs.lemmas.Bool.{cases_eq}
 use Rattle.std.proofs.lemmas.List.{length-set, length-append, length-map, get_or-map}
 use Rattle.std.proofs.lemmas.List.Sums.{sum_by-cons, sum_by-set}
-use Rattle.aho_base.specs.declared.error.BuildError.{BuildError}
-use Rattle.aho_base.specs.declared.error.BuildError.TheVariants.{StateIDOverflow}
-use Rattle.aho_base.specs.MatchList.{own_matches, matches_of}
-use Rattle.aho_base.specs.Failure.{failure_of}
-use Rattle.aho_base.specs.Patterns.{Patterns}
-use Rattle.aho_base.specs.Trie.{is_node}
+use Rattle.aho_core.specs.declared.error.BuildError.{BuildError}
+use Rattle.aho_core.specs.declared.error.BuildError.TheVariants.{StateIDOverflow}
+use Rattle.aho_core.specs.MatchList.{own_matches, matches_of}
+use Rattle.aho_core.specs.Failure.{failure_of}
+use Rattle.aho_core.specs.Patterns.{Patterns}
+use Rattle.aho_core.specs.Trie.{is_node}
 use Rattle.aho_laws.proofs.ByLinks.{matches-root, matches-next}
 use Rattle.aho_laws.proofs.Inserted.{own_among-all}
 use Rattle.aho_build.specs.FailureLinks.{IsLinking, append_matches, linked_state}

@@ -4,12 +4,12 @@ use Rattle.std.proofs.lemmas.List.{get_or_append_left, get_or_push, length_push,
 use Rattle.std.specs.Prelude.{filter, sum_by}
 use Rattle.std.specs.List.{flat_map, list_any, range_with_len}
 use denote.Ref.{Bor}
-use Rattle.aho_base.specs.declared.search.MatchKind.{MatchKind}
-use Rattle.aho_base.specs.declared.search.MatchKind.TheVariants.{Standard, LeftmostFirst, LeftmostLongest}
-use Rattle.aho_base.specs.Among.{is_node_among, own_among}
-use Rattle.aho_base.specs.Bytes.{folded_word}
-use Rattle.aho_base.specs.Patterns.{Patterns}
-use Rattle.aho_base.specs.Trie.{begins, is_kept, is_word, kept_by, pattern_word}
+use Rattle.aho_core.specs.declared.search.MatchKind.{MatchKind}
+use Rattle.aho_core.specs.declared.search.MatchKind.TheVariants.{Standard, LeftmostFirst, LeftmostLongest}
+use Rattle.aho_core.specs.Among.{is_node_among, own_among}
+use Rattle.aho_core.specs.Bytes.{folded_word}
+use Rattle.aho_core.specs.Patterns.{Patterns}
+use Rattle.aho_core.specs.Trie.{begins, is_kept, is_word, kept_by, pattern_word}
 use Rattle.aho_build.specs.Prefilters.{Collects}
 use Rattle.aho_build.specs.declared.compiler.prefilter.PrefilterPatterns.{PrefilterPatterns}
 use Rattle.aho_build.specs.declared.settings.Settings.{Settings}

@@ -8,7 +8,7 @@ use Rattle.std.proofs.lemmas.List.Edits.{length-swap}
 use Rattle.aho_table.specs.Table.{State, Tables, dead_id, fail_id, depth_in, has_row, state_at}
 use Rattle.aho_table.specs.Remapping.{transposed, place_of_state}
 use Rattle.aho_table.proofs.Renumbered.{swap-at, transposed-twice}
-use Rattle.aho_base.specs.Patterns.{Patterns}
+use Rattle.aho_core.specs.Patterns.{Patterns}
 use Rattle.aho_build.specs.declared.special.Special.{Special}
 use Rattle.aho_build.specs.Built.{IsBuilt}
 use Rattle.aho_build.specs.FirstStates.{root_id, anchored_id}

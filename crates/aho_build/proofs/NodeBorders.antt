@@ -3,9 +3,9 @@ use Rattle.std.proofs.Common.{◌≡◌, ℕ, ◌+◌, ◌<◌, Bool, true, ◌&
 use Rattle.std.proofs.lemmas.Bool.{eqb-true, eq-eqb, or_cases, or_left, or_right, and_from}
 use Rattle.std.proofs.lemmas.List.{get_or-map, get_or_append_left, get_or_push, length-map, length-append, length_push}
 use Rattle.std.proofs.lemmas.List.Folds.{list_any_at}
-use Rattle.aho_base.specs.Bytes.{folded, folded_by}
-use Rattle.aho_base.specs.Patterns.{Patterns, pattern_at}
-use Rattle.aho_base.specs.Trie.{is_kept, is_node, pattern_word}
+use Rattle.aho_core.specs.Bytes.{folded, folded_by}
+use Rattle.aho_core.specs.Patterns.{Patterns, pattern_at}
+use Rattle.aho_core.specs.Trie.{is_kept, is_node, pattern_word}
 use Rattle.aho_laws.specs.TrieLaws.{BeginsKept}
 use Rattle.aho_laws.proofs.Begins.{any-from}
 use Rattle.aho_laws.proofs.Kept.{is_node-reads}

@@ -5,9 +5,9 @@ use Rattle.std.proofs.lemmas.Bool.{cases_lt, and_parts, and_from, or_cases, or_l
 use Rattle.std.proofs.lemmas.List.{length_push, length-append, append-nil}
 use Rattle.std.specs.Prelude.{bytes_eq}
 use Rattle.std.proofs.lemmas.Slice.Eq.{bytes_eq-Decides}
-use Rattle.aho_base.specs.Patterns.{Patterns}
-use Rattle.aho_base.specs.Trie.{begins, is_kept, is_word, pattern_word}
-use Rattle.aho_base.specs.Among.{is_node_among, own_among}
+use Rattle.aho_core.specs.Patterns.{Patterns}
+use Rattle.aho_core.specs.Trie.{begins, is_kept, is_word, pattern_word}
+use Rattle.aho_core.specs.Among.{is_node_among, own_among}
 use Rattle.aho_laws.proofs.Inserted.{is_node_among-more, own_among-more}
 use Rattle.aho_laws.proofs.Begins.{begins-true, begins-from, begins_trans, two_cuts, is_word-true, any-true, any-from, first_passing}
 use Rattle.aho_build.proofs.OneWordMore.{also}

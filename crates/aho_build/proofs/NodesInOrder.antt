@@ -5,9 +5,9 @@ use Rattle.std.proofs.lemmas.List.{append-nil, length_push, map-append, take_all
 use Rattle.std.proofs.lemmas.List.FromFn.{filter_of_map_range_with_len_more}
 use Rattle.std.specs.Prelude.{filter}
 use Rattle.std.specs.List.{flat_map, list_any, range_with_len}
-use Rattle.aho_base.specs.Among.{is_node_among}
-use Rattle.aho_base.specs.Patterns.{Patterns}
-use Rattle.aho_base.specs.Trie.{begins, is_kept, pattern_word}
+use Rattle.aho_core.specs.Among.{is_node_among}
+use Rattle.aho_core.specs.Patterns.{Patterns}
+use Rattle.aho_core.specs.Trie.{begins, is_kept, pattern_word}
 use Rattle.aho_laws.proofs.Begins.{begins-from}
 use Rattle.aho_laws.proofs.Ranges.{filter-range_with_len_more}
 use Rattle.aho_build.proofs.Nodes.{is_node_among-front}

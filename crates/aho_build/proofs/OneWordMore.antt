@@ -5,9 +5,9 @@ use Rattle.std.proofs.lemmas.Bool.Decides.{nat_tests}
 use Rattle.std.proofs.lemmas.List.{get_or_append_left, get_or_past, length_push, same_from_push, map-append}
 use Rattle.std.specs.Prelude.{bytes_eq}
 use Rattle.std.proofs.lemmas.Slice.Eq.{bytes_eq-Decides}
-use Rattle.aho_base.specs.Bytes.{folded, folded_word, folded_by}
+use Rattle.aho_core.specs.Bytes.{folded, folded_word, folded_by}
 use Rattle.aho_table.specs.Table.{State, new_state, next_in, fail_in, depth_in, matches_in}
-use Rattle.aho_base.specs.Patterns.{Patterns}
+use Rattle.aho_core.specs.Patterns.{Patterns}
 use Rattle.aho_build.specs.TrieGrowth.{Grows}
 use Rattle.aho_build.specs.StateNames.{name_at}
 use Rattle.aho_build.specs.Trie.{longer, missing_at, IsTrie, ListsByWord, AreFirst}

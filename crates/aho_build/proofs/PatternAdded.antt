@@ -2,9 +2,9 @@
 use Rattle.std.proofs.Common.{◌≡◌, ◌≢◌, ℕ, ◌+◌, ◌<◌, Bool, true, false, ◌&&◌, ◌||◌, List, [], ◌∷◌, ◌++◌, length, Option, Some, None, MatchBool, refl, sym, ap, subst, ◌∙◌, inl, inr, arith}
 use Rattle.std.proofs.lemmas.Bool.{cases_Bool, cases_eq}
 use Rattle.std.proofs.lemmas.List.{length-set}
-use Rattle.aho_base.specs.Among.{is_node_among, own_among}
-use Rattle.aho_base.specs.Patterns.{Patterns}
-use Rattle.aho_base.specs.Trie.{begins, is_kept, is_word, pattern_word}
+use Rattle.aho_core.specs.Among.{is_node_among, own_among}
+use Rattle.aho_core.specs.Patterns.{Patterns}
+use Rattle.aho_core.specs.Trie.{begins, is_kept, is_word, pattern_word}
 use Rattle.aho_laws.proofs.Begins.{is_word-true, is_word-from}
 use Rattle.aho_table.specs.Table.{State, state_at, next_in, fail_in, depth_in, matches_in, transition_at, push_match}
 use Rattle.aho_build.specs.StateNames.{name_at}

@@ -1,8 +1,8 @@
 -- Why a state has no child for a byte.
 use Rattle.std.proofs.Common.{◌≡◌, ℕ, ◌+◌, ◌<◌, Bool, true, false, not, cond, nat_eq, List, [], ◌∷◌, ◌++◌, length, ne_eqb, ap, ◌∙◌, inl, inr, arith}
 use Rattle.std.proofs.lemmas.Bool.{cases_Bool}
-use Rattle.aho_base.specs.declared.error.BuildError.{BuildError}
-use Rattle.aho_base.specs.Bytes.{opposite}
+use Rattle.aho_core.specs.declared.error.BuildError.{BuildError}
+use Rattle.aho_core.specs.Bytes.{opposite}
 use Rattle.aho_build.specs.TrieGrowth.{IsChildRefusal, missing_in, missing_both}
 use Rattle.aho_table.specs.Refusal.{refusal_at}
 use Rattle.aho_table.specs.Table.{State, new_state, state_at, next_in, set_transition, lists_byte, IsRising, transitions_count}

@@ -7,8 +7,8 @@ use Rattle.std.proofs.lemmas.List.Folds.{find-append}
 use Rattle.std.specs.Prelude.{find, map, sum_by}
 use Rattle.std.specs.List.{flat_map, range_with_len}
 use Rattle.std.specs.Option.{option_or}
-use Rattle.aho_base.specs.Patterns.{Patterns, pattern_at}
-use Rattle.aho_base.specs.Trie.{is_kept}
+use Rattle.aho_core.specs.Patterns.{Patterns, pattern_at}
+use Rattle.aho_core.specs.Trie.{is_kept}
 use Rattle.aho_laws.proofs.Ranges.{range_with_len-add}
 use Rattle.aho_build.specs.declared.settings.Settings.{Settings}
 use Rattle.aho_build.specs.Settings.{in_force}

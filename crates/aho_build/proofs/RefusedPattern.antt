@@ -4,11 +4,11 @@ use Rattle.std.proofs.lemmas.Bool.{cases_Bool, cases_eq, cases_lt, or_parts, Mat
 use Rattle.std.proofs.lemmas.List.{take-append-drop, take-map, take-take, length_push, length-append}
 use Rattle.std.proofs.lemmas.List.Sums.{sum_by-append}
 use Rattle.std.specs.Prelude.{sum_by}
-use Rattle.aho_base.specs.declared.error.BuildError.{BuildError}
-use Rattle.aho_base.specs.Among.{is_node_among, own_among}
-use Rattle.aho_base.specs.Bytes.{folded, folded_word}
-use Rattle.aho_base.specs.Patterns.{Patterns}
-use Rattle.aho_base.specs.Trie.{begins, is_kept, pattern_word}
+use Rattle.aho_core.specs.declared.error.BuildError.{BuildError}
+use Rattle.aho_core.specs.Among.{is_node_among, own_among}
+use Rattle.aho_core.specs.Bytes.{folded, folded_word}
+use Rattle.aho_core.specs.Patterns.{Patterns}
+use Rattle.aho_core.specs.Trie.{begins, is_kept, pattern_word}
 use Rattle.aho_laws.proofs.Begins.{begins-from}
 use Rattle.aho_laws.proofs.Inserted.{left_out-walk}
 use Rattle.aho_build.specs.declared.settings.Settings.{Settings}

@@ -1,7 +1,7 @@
 -- The shortest of some lengths.
 use Rattle.std.proofs.Common.{◌≡◌, ℕ, ◌≤◌, List, [], ◌∷◌, arith}
 use Rattle.std.specs.Prelude.{min}
-use Rattle.aho_base.specs.Laws.{shortest}
+use Rattle.aho_core.specs.Laws.{shortest}
 
 shortest-bound : (ns : List ℕ) → shortest ns ≤ 18446744073709551615
 shortest-bound [] = omega arith

@@ -1,11 +1,11 @@
 -- Sizes and causes of a few patterns, computed.
 use Rattle.std.specs.Prelude.{◌≡◌, ℕ, true, false, List, [], ◌∷◌, codes, Some, None, refl}
-use Rattle.aho_base.specs.declared.search.MatchKind.{MatchKind}
-use Rattle.aho_base.specs.declared.search.MatchKind.TheVariants.{Standard, LeftmostFirst}
-use Rattle.aho_base.specs.Failure.{is_cut}
-use Rattle.aho_base.specs.MatchList.{own_matches}
-use Rattle.aho_base.specs.Patterns.{Patterns}
-use Rattle.aho_base.specs.Trie.{is_kept, is_node, pattern_word}
+use Rattle.aho_core.specs.declared.search.MatchKind.{MatchKind}
+use Rattle.aho_core.specs.declared.search.MatchKind.TheVariants.{Standard, LeftmostFirst}
+use Rattle.aho_core.specs.Failure.{is_cut}
+use Rattle.aho_core.specs.MatchList.{own_matches}
+use Rattle.aho_core.specs.Patterns.{Patterns}
+use Rattle.aho_core.specs.Trie.{is_kept, is_node, pattern_word}
 use Rattle.aho_build.specs.Sizes.{states_size, transitions_size, matches_size}
 use Rattle.aho_build.specs.Dense.{memory_size}
 use Rattle.aho_build.specs.Refusals.{cause, growth, row_growth, PatternNumber, PatternLength, TableIndex}

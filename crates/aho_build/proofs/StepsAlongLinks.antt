@@ -1,10 +1,10 @@
 -- A step of a build, along the links that it has made so far.
 use Rattle.std.proofs.Common.{◌≡◌, ℕ, ◌<◌, ◌≤◌, ◌≢◌, List, ◌∷◌, length, Option, Some, None, refl, sym, subst, ◌∙◌, arith}
-use Rattle.aho_base.specs.declared.search.Anchored.TheVariants.{No}
-use Rattle.aho_base.specs.Bytes.{folded}
-use Rattle.aho_base.specs.Failure.{failure_of}
-use Rattle.aho_base.specs.Patterns.{Patterns}
-use Rattle.aho_base.specs.Step.{depth_of, follow}
+use Rattle.aho_core.specs.declared.search.Anchored.TheVariants.{No}
+use Rattle.aho_core.specs.Bytes.{folded}
+use Rattle.aho_core.specs.Failure.{failure_of}
+use Rattle.aho_core.specs.Patterns.{Patterns}
+use Rattle.aho_core.specs.Step.{depth_of, follow}
 use Rattle.aho_laws.proofs.ByLinks.{failure-is_node}
 use Rattle.aho_build.specs.FailureLinks.{CanStep, CanStepBySome, StepsTo}
 use Rattle.aho_build.specs.FirstStates.{root_id}

@@ -8,10 +8,10 @@ use Rattle.std.specs.Prelude.{find, sum_by}
 use Rattle.std.specs.List.{All}
 use Rattle.std.specs.Result.{IfErr, IsErrAnd}
 use denote.Ref.{Bor}
-use Rattle.aho_base.specs.declared.error.BuildError.{BuildError}
-use Rattle.aho_base.specs.declared.error.BuildError.TheVariants.{PatternIDOverflow, PatternTooLong}
-use Rattle.aho_base.specs.Patterns.{Patterns, pattern_at}
-use Rattle.aho_base.specs.Trie.{is_kept}
+use Rattle.aho_core.specs.declared.error.BuildError.{BuildError}
+use Rattle.aho_core.specs.declared.error.BuildError.TheVariants.{PatternIDOverflow, PatternTooLong}
+use Rattle.aho_core.specs.Patterns.{Patterns, pattern_at}
+use Rattle.aho_core.specs.Trie.{is_kept}
 use Rattle.aho_build.specs.declared.settings.Settings.{Settings}
 use Rattle.aho_build.specs.Settings.{in_force}
 use Rattle.aho_build.specs.TrieGrowth.{AreWithin, IsPatternRefusal}

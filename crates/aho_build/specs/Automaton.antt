@@ -1,16 +1,16 @@
 -- What it means that a table is the automaton of some patterns, whatever numbers its states have, and which of its states
 -- may be held after a word.
 use Rattle.std.specs.Prelude.{◌≡◌, ◌≢◌, ℕ, ◌+◌, ◌<◌, ◌||◌, ◌&&◌, if◌then◌else◌, Bool, true, List, [], ◌∷◌, map, length, nat_eq, nat_lt, Option, Some, None, MatchBool}
-use Rattle.aho_base.specs.declared.search.Anchored.{Anchored}
-use Rattle.aho_base.specs.declared.search.Anchored.TheVariants.{No, Yes}
-use Rattle.aho_base.specs.declared.search.MatchKind.{MatchKind}
-use Rattle.aho_base.specs.Bytes.{folded, folded_word}
-use Rattle.aho_base.specs.Failure.{is_cut}
-use Rattle.aho_base.specs.Held.{held_after}
-use Rattle.aho_base.specs.MatchList.{own_matches}
-use Rattle.aho_base.specs.Patterns.{Patterns}
-use Rattle.aho_base.specs.Step.{follow, lookups}
-use Rattle.aho_base.specs.Trie.{is_node}
+use Rattle.aho_core.specs.declared.search.Anchored.{Anchored}
+use Rattle.aho_core.specs.declared.search.Anchored.TheVariants.{No, Yes}
+use Rattle.aho_core.specs.declared.search.MatchKind.{MatchKind}
+use Rattle.aho_core.specs.Bytes.{folded, folded_word}
+use Rattle.aho_core.specs.Failure.{is_cut}
+use Rattle.aho_core.specs.Held.{held_after}
+use Rattle.aho_core.specs.MatchList.{own_matches}
+use Rattle.aho_core.specs.Patterns.{Patterns}
+use Rattle.aho_core.specs.Step.{follow, lookups}
+use Rattle.aho_core.specs.Trie.{is_node}
 use Rattle.aho_table.specs.Table.{State, Tables, dead_id, fail_id, new_state, state_at, lists_byte, next_in, fail_in, depth_in, matches_in, transitions_count, matches_count}
 use Rattle.aho_prefilter.specs.Prefilter.{prefilter_bytes}
 use Rattle.aho_build.specs.declared.settings.Settings.{Settings}

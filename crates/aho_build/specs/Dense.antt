@@ -2,15 +2,15 @@
 -- refused.
 use Rattle.std.specs.Prelude.{◌≡◌, ℕ, ◌+◌, ◌*◌, ◌<◌, ◌≤◌, ◌⊎◌, ◌&&◌, ◌||◌, nat_eq, Bool, not, List, [], ◌∷◌, length, drop, nat_lt}
 use Rattle.std.specs.List.{count_by, list_any, range_with_len}
-use Rattle.aho_base.specs.Patterns.{Patterns, pattern_at}
-use Rattle.aho_base.specs.Trie.{is_kept}
-use Rattle.aho_base.specs.declared.error.BuildError.{BuildError}
-use Rattle.aho_base.specs.declared.error.BuildError.TheVariants.{StateIDOverflow, OutOfMemory}
+use Rattle.aho_core.specs.Patterns.{Patterns, pattern_at}
+use Rattle.aho_core.specs.Trie.{is_kept}
+use Rattle.aho_core.specs.declared.error.BuildError.{BuildError}
+use Rattle.aho_core.specs.declared.error.BuildError.TheVariants.{StateIDOverflow, OutOfMemory}
 use Rattle.aho_table.specs.Alphabet.{class_count, is_border}
 use Rattle.aho_table.specs.Table.{State, fail_id, state_at, has_row}
 use Rattle.aho_build.specs.Sizes.{tables_bytes, nodes, states_size, transitions_size, matches_size}
 use Rattle.aho_build.specs.Trie.{HoldsFirst}
-use Rattle.aho_base.specs.Bytes.{folded_by}
+use Rattle.aho_core.specs.Bytes.{folded_by}
 use Rattle.aho_build.specs.TrieGrowth.{IsNumbered}
 use Rattle.aho_build.specs.declared.settings.Settings.{Settings}
 

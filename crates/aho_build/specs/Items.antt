@@ -2,9 +2,9 @@
 use Rattle.std.specs.Prelude.{List, None, Option, Some, length, map, take, ℕ, ◌<◌, ◌≡◌, ◌⊎◌}
 use Rattle.std.specs.Iterator.{Drains, Yields}
 use denote.Ref.{Bor}
-use Rattle.aho_base.specs.Patterns.{Patterns}
-use Rattle.aho_base.specs.declared.error.BuildError.{BuildError}
-use Rattle.aho_base.specs.declared.error.BuildError.TheVariants.{OutOfMemory}
+use Rattle.aho_core.specs.Patterns.{Patterns}
+use Rattle.aho_core.specs.declared.error.BuildError.{BuildError}
+use Rattle.aho_core.specs.declared.error.BuildError.TheVariants.{OutOfMemory}
 use Rattle.aho_build.specs.Refusals.{Growth, IsAccepted, IsCause, cause, refusal_of}
 use Rattle.aho_build.specs.declared.settings.Settings.{Settings}
 

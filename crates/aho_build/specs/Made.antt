@@ -1,7 +1,7 @@
 -- What the phases of a build make of the patterns.
 use Rattle.std.specs.Prelude.{◌≡◌, map, length}
 use Rattle.std.specs.Option.{is_some}
-use Rattle.aho_base.specs.Patterns.{Patterns}
+use Rattle.aho_core.specs.Patterns.{Patterns}
 use Rattle.aho_prefilter.specs.Prefilter.{has_empty}
 use Rattle.aho_table.specs.Table.{matches_in}
 use Rattle.aho_build.specs.Automaton.{IsOf}

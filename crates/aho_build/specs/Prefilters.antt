@@ -1,6 +1,6 @@
 -- Which prefilter an automaton holds, and what of it is collected while its patterns are taken.
 use Rattle.std.specs.Prelude.{◌≡◌, true, false, if◌then◌else◌, Option, Some, None}
-use Rattle.aho_base.specs.Patterns.{Patterns}
+use Rattle.aho_core.specs.Patterns.{Patterns}
 use Rattle.aho_prefilter.specs.Prefilter.{held_for}
 use Rattle.aho_prefilter.specs.Taken.{HasTaken}
 use Rattle.aho_prefilter.specs.declared.prefilter.Searcher.{Searcher}

@@ -2,11 +2,11 @@
 -- them that is above its limit.
 use Rattle.std.specs.Prelude.{Bool, List, None, Option, Some, [], find, flat_map, if◌then◌else◌, length, map, nat_lt, sum_by, ℕ, ◌++◌, ◌*◌, ◌+◌, ◌-◌, ◌∷◌, ◌≡◌}
 use Rattle.std.specs.List.{range_with_len}
-use Rattle.aho_base.specs.MatchList.{matches_of}
-use Rattle.aho_base.specs.Patterns.{Patterns, numbers, pattern_at}
-use Rattle.aho_base.specs.Trie.{is_kept}
-use Rattle.aho_base.specs.declared.error.BuildError.{BuildError}
-use Rattle.aho_base.specs.declared.error.BuildError.TheVariants.{PatternIDOverflow, PatternTooLong, StateIDOverflow}
+use Rattle.aho_core.specs.MatchList.{matches_of}
+use Rattle.aho_core.specs.Patterns.{Patterns, numbers, pattern_at}
+use Rattle.aho_core.specs.Trie.{is_kept}
+use Rattle.aho_core.specs.declared.error.BuildError.{BuildError}
+use Rattle.aho_core.specs.declared.error.BuildError.TheVariants.{PatternIDOverflow, PatternTooLong, StateIDOverflow}
 use Rattle.aho_build.specs.Dense.{classes_size, rows_size}
 use Rattle.aho_build.specs.Settings.{in_force}
 use Rattle.aho_build.specs.Sizes.{kept_before, matches_size, new_nodes, nodes_before, transitions_for}

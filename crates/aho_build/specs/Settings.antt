@@ -1,7 +1,7 @@
 -- The settings that a build begins with, and the limits in force.
 use Rattle.std.specs.Prelude.{false, min, true}
-use Rattle.aho_base.specs.Numbers.{greatest_index}
-use Rattle.aho_base.specs.declared.search.MatchKind.TheVariants.{Standard}
+use Rattle.aho_core.specs.Numbers.{greatest_index}
+use Rattle.aho_core.specs.declared.search.MatchKind.TheVariants.{Standard}
 use Rattle.aho_build.specs.declared.settings.Limits.{Limits}
 use Rattle.aho_build.specs.declared.settings.Settings.{Settings}
 

@@ -2,10 +2,10 @@
 -- them.
 use Rattle.std.specs.Prelude.{List, Some, [], count_by, filter, flat_map, if◌then◌else◌, length, map, nat_eq, nat_lt, not, slice_index, sum_by, take, ℕ, ◌*◌, ◌++◌, ◌+◌, ◌-◌, ◌≡◌}
 use Rattle.std.specs.List.{list_any, range_with_len}
-use Rattle.aho_base.specs.Bytes.{folded}
-use Rattle.aho_base.specs.MatchList.{matches_of}
-use Rattle.aho_base.specs.Patterns.{Patterns}
-use Rattle.aho_base.specs.Trie.{begins, is_kept, pattern_word}
+use Rattle.aho_core.specs.Bytes.{folded}
+use Rattle.aho_core.specs.MatchList.{matches_of}
+use Rattle.aho_core.specs.Patterns.{Patterns}
+use Rattle.aho_core.specs.Trie.{begins, is_kept, pattern_word}
 use Rattle.aho_table.specs.Table.{State, matches_count, transitions_count}
 
 -- the numbers below this one of the patterns that are kept

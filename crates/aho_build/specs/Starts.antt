@@ -1,11 +1,11 @@
 -- The starts made ready: DEAD, the root that takes every byte, and the anchored start, before any link is made.
 use Rattle.std.specs.Prelude.{◌≡◌, ◌≢◌, ℕ, ◌<◌, ◌≤◌, nat_eq, nat_lt, ◌&&◌, if◌then◌else◌, Bool, true, List, [], ◌∷◌, ◌++◌, length, Option, Some}
-use Rattle.aho_base.specs.declared.search.MatchKind.{MatchKind}
-use Rattle.aho_base.specs.Bytes.{folded}
-use Rattle.aho_base.specs.Failure.{is_cut, is_leftmost}
-use Rattle.aho_base.specs.MatchList.{own_matches}
-use Rattle.aho_base.specs.Patterns.{Patterns}
-use Rattle.aho_base.specs.Trie.{is_node}
+use Rattle.aho_core.specs.declared.search.MatchKind.{MatchKind}
+use Rattle.aho_core.specs.Bytes.{folded}
+use Rattle.aho_core.specs.Failure.{is_cut, is_leftmost}
+use Rattle.aho_core.specs.MatchList.{own_matches}
+use Rattle.aho_core.specs.Patterns.{Patterns}
+use Rattle.aho_core.specs.Trie.{is_node}
 use Rattle.aho_build.specs.StateNames.{name_at}
 use Rattle.aho_build.specs.Trie.{IsTrie}
 use Rattle.aho_table.specs.Table.{fail_id, dead_id, State, state_at, next_in, fail_in, depth_in, matches_in, lists_byte}

@@ -1,9 +1,9 @@
 -- When a table is the trie of some words.
 use Rattle.std.specs.Prelude.{Bool, List, MatchBool, None, Option, Some, [], false, length, map, true, ℕ, ◌++◌, ◌<◌, ◌||◌, ◌∷◌, ◌≡◌, ◌≢◌, ◌≤◌}
-use Rattle.aho_base.specs.Among.{is_node_among, own_among}
-use Rattle.aho_base.specs.Bytes.{folded, folded_word}
-use Rattle.aho_base.specs.Patterns.{Patterns}
-use Rattle.aho_base.specs.Trie.{begins}
+use Rattle.aho_core.specs.Among.{is_node_among, own_among}
+use Rattle.aho_core.specs.Bytes.{folded, folded_word}
+use Rattle.aho_core.specs.Patterns.{Patterns}
+use Rattle.aho_core.specs.Trie.{begins}
 use Rattle.aho_table.specs.Table.{AllRising, State, dead_id, depth_in, fail_id, fail_in, lists_byte, matches_in, next_in}
 use Rattle.aho_build.specs.FirstStates.{anchored_id, root_id}
 use Rattle.aho_build.specs.Sizes.{HasNodes, IsCountedTrie, kept_before, nodes_before, nodes_with}

@@ -1,14 +1,14 @@
 -- How the trie grows: by one state, by the bytes of one pattern, by one pattern, and from the four first states.
 use Rattle.std.specs.Prelude.{Bool, List, MatchBool, None, Option, Some, [], false, if◌then◌else◌, length, nat_eq, not, sum_by, take, true, ℕ, ◌&&◌, ◌+◌, ◌<◌, ◌≡◌, ◌≢◌, ◌≤◌, ◌⊎◌}
 use Rattle.std.specs.List.{All}
-use Rattle.aho_base.specs.Bytes.{folded_by, opposite}
-use Rattle.aho_base.specs.Among.{own_among}
-use Rattle.aho_base.specs.Bytes.{folded_word}
-use Rattle.aho_base.specs.Patterns.{Patterns, pattern_at}
-use Rattle.aho_base.specs.Trie.{is_kept, pattern_word}
-use Rattle.aho_base.specs.declared.error.BuildError.{BuildError}
-use Rattle.aho_base.specs.declared.search.MatchKind.{MatchKind}
-use Rattle.aho_base.specs.declared.search.MatchKind.TheVariants.{LeftmostFirst, LeftmostLongest, Standard}
+use Rattle.aho_core.specs.Bytes.{folded_by, opposite}
+use Rattle.aho_core.specs.Among.{own_among}
+use Rattle.aho_core.specs.Bytes.{folded_word}
+use Rattle.aho_core.specs.Patterns.{Patterns, pattern_at}
+use Rattle.aho_core.specs.Trie.{is_kept, pattern_word}
+use Rattle.aho_core.specs.declared.error.BuildError.{BuildError}
+use Rattle.aho_core.specs.declared.search.MatchKind.{MatchKind}
+use Rattle.aho_core.specs.declared.search.MatchKind.TheVariants.{LeftmostFirst, LeftmostLongest, Standard}
 use Rattle.aho_table.specs.Refusal.{IsRefusalOf}
 use Rattle.aho_table.specs.Table.{AllRising, IsRising, State, depth_in, fail_id, fail_in, lists_byte, matches_count, matches_in, next_in, state_at, transitions_count}
 use Rattle.aho_build.specs.Settings.{in_force}

@@ -1,8 +1,8 @@
 -- What a step needs of a table, whatever it was built from: numbers alone.
 use Rattle.std.specs.Prelude.{◌≡◌, ◌≢◌, ℕ, zero, suc, ◌+◌, ◌<◌, ◌≤◌, List, nat_eq, if◌then◌else◌, length}
-use Rattle.aho_base.specs.Numbers.{greatest_index}
-use Rattle.aho_base.specs.declared.search.Anchored.{Anchored}
-use Rattle.aho_base.specs.declared.search.Anchored.TheVariants.{No, Yes}
+use Rattle.aho_core.specs.Numbers.{greatest_index}
+use Rattle.aho_core.specs.declared.search.Anchored.{Anchored}
+use Rattle.aho_core.specs.declared.search.Anchored.TheVariants.{No, Yes}
 use Rattle.aho_table.specs.Table.{State, dead_id, fail_id, next_in, fail_in, depth_in}
 use Rattle.aho_build.specs.declared.special.Special.{Special}
 

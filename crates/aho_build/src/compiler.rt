@@ -15,7 +15,7 @@ pub mod starts;
 pub mod trie;
 
 use crate::settings::Settings;
-use aho_base::error::BuildError;
+use aho_core::error::BuildError;
 pub use compiled::Compiled;
 use std::alloc::Global;
 

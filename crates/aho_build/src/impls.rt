@@ -1,7 +1,7 @@
 //! What the impls of std's traits answer, each the contract of a function.
 
 ghost use Rattle.std.specs.Prelude.{◌≡◌};
-ghost use Rattle.aho_base.specs.Impls.{ClonesTheSame, EqualsTheSame};
+ghost use Rattle.aho_core.specs.Impls.{ClonesTheSame, EqualsTheSame};
 ghost use Rattle.aho_build.specs.declared.settings.Settings.{Settings};
 ghost use Rattle.aho_build.specs.Settings.{default_settings};
 

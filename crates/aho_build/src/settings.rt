@@ -3,7 +3,7 @@
 ghost use Rattle.std.specs.Prelude.{◌≡◌};
 ghost use Rattle.aho_build.specs.Settings.{default_settings};
 
-use aho_base::search::{MatchKind, PatternID, SmallIndex, StateID};
+use aho_core::search::{MatchKind, PatternID, SmallIndex, StateID};
 
 /// The greatest numbers that a build may use. A limit above its type's `MAX` counts as `MAX`.
 #[derive(Clone, Copy, Debug, PartialEq, Eq)]

@@ -1,14 +1,14 @@
 //! The sizes of an automaton's tables: their bytes, and laws, each the contract of a function that does nothing.
 
 ghost use Rattle.std.specs.Prelude.{◌≡◌, ◌≢◌, ◌+◌, ◌<◌, ◌≤◌, ◌^◌, ◌↔◌, true, List, ℕ, [], length};
-ghost use Rattle.aho_base.specs.Listing.{IsMember, IsListedBy};
-ghost use Rattle.aho_base.specs.Patterns.{Patterns};
-ghost use Rattle.aho_base.specs.Trie.{is_node};
-ghost use Rattle.aho_base.specs.Numbers.{greatest_index};
+ghost use Rattle.aho_core.specs.Listing.{IsMember, IsListedBy};
+ghost use Rattle.aho_core.specs.Patterns.{Patterns};
+ghost use Rattle.aho_core.specs.Trie.{is_node};
+ghost use Rattle.aho_core.specs.Numbers.{greatest_index};
 ghost use Rattle.aho_build.specs.Automaton.{memory_of};
 ghost use Rattle.aho_build.specs.Sizes.{nodes};
 
-use aho_base::search::SmallIndex;
+use aho_core::search::SmallIndex;
 use aho_table::links::Table;
 
 /// The stated bytes of a state.

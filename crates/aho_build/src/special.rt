@@ -1,6 +1,6 @@
 //! The states of an automaton that are not like the others.
 
-use aho_base::search::StateID;
+use aho_core::search::StateID;
 
 /// The numbers by which an automaton knows its special states. DEAD and FAIL have the same numbers in each automaton; behind
 /// them stand the states that list a pattern and are no start, then the two starts, then the rest.

@@ -1,12 +1,12 @@
 //! One step over a table of states.
 
 ghost use Rattle.std.specs.Prelude.{◌≡◌, ◌+◌, ◌<◌, ◌≤◌, ◌^◌};
-ghost use Rattle.aho_base.specs.Steps.{IsPaid};
+ghost use Rattle.aho_core.specs.Steps.{IsPaid};
 ghost use Rattle.aho_table.specs.Table.{depth_in};
 ghost use Rattle.aho_build.specs.Automaton.{FollowsWords, CountsAsWords};
 ghost use Rattle.aho_build.specs.Walking.{IsSound, IsState, step_in};
 
-use aho_base::search::{Anchored, StateID, Work};
+use aho_core::search::{Anchored, StateID, Work};
 use aho_table::links::{DEAD, FAIL, Table};
 
 /// The state that the byte leads to from a state, with the look-ups added to the work.

@@ -1,8 +1,8 @@
 -- When one automaton is a clone of another.
 use Rattle.std.specs.Prelude.{◌≡◌, ◌↔◌, ℕ, List}
-use Rattle.aho_base.specs.declared.search.Anchored.{Anchored}
-use Rattle.aho_base.specs.Patterns.{Patterns}
-use Rattle.aho_search.specs.declared.automaton.Automaton.{Ghosts}
+use Rattle.aho_core.specs.declared.search.Anchored.{Anchored}
+use Rattle.aho_core.specs.Patterns.{Patterns}
+use Rattle.aho_automaton.specs.declared.automaton.Automaton.{Ghosts}
 use Rattle.aho_corasick.specs.ReadOut.{states_of, special_of, classes_of, dense_rows_of}
 use Rattle.aho_corasick.specs.declared.noncontiguous.NFA.{NFA}
 

@@ -1,8 +1,8 @@
 -- What is read out of an automaton, state by state, and what it means in the words of the patterns.
 use Rattle.std.specs.Prelude.{◌≡◌, ℕ, ◌<◌, Bool, List, [], ◌∷◌, true, false, nat_eq, Option, Some, None, if◌then◌else◌}
-use Rattle.aho_base.specs.Failure.{failure_of}
-use Rattle.aho_base.specs.Patterns.{Patterns}
-use Rattle.aho_base.specs.Trie.{is_node}
+use Rattle.aho_core.specs.Failure.{failure_of}
+use Rattle.aho_core.specs.Patterns.{Patterns}
+use Rattle.aho_core.specs.Trie.{is_node}
 use Rattle.aho_table.specs.Table.{State, dead_id, fail_id, lists_transition, transition_at}
 use Rattle.aho_build.specs.Automaton.{IsAutomaton, IsOf, missing_from}
 use Rattle.aho_build.specs.StateNames.{name_at}

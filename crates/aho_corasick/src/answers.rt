@@ -2,25 +2,25 @@
 //! patterns, their match kind and their case rule changes an answer.
 
 ghost use Rattle.std.specs.Prelude.{◌≡◌, ◌+◌, ◌*◌, ◌≤◌, IfOk, IsOk, None, length, string_bytes, vec_items, List};
-ghost use Rattle.aho_base.specs.Answer.{IsAnswer};
-ghost use Rattle.aho_base.specs.Best.{IsBestOrNone};
-ghost use Rattle.aho_base.specs.Iteration.{AreFinds};
-ghost use Rattle.aho_base.specs.Occurrence.{Occurrence};
-ghost use Rattle.aho_base.specs.Occurs.{Occurs};
-ghost use Rattle.aho_base.specs.Overlapping.{all_occurrences};
-ghost use Rattle.aho_base.specs.Patterns.{Patterns};
-ghost use Rattle.aho_base.specs.Replacement.{on_boundaries, pieces_of, replaced};
-ghost use Rattle.aho_base.specs.Search.{plain_search};
-ghost use Rattle.aho_base.specs.declared.search.Anchored.TheVariants.{No};
-ghost use Rattle.aho_base.specs.declared.search.MatchKind.TheVariants.{Standard};
-ghost use Rattle.aho_search.specs.Finding.{HoldsOfFinds};
-ghost use Rattle.aho_search.specs.Reading.{ReadsEachOnce, bytes_read};
+ghost use Rattle.aho_core.specs.Answer.{IsAnswer};
+ghost use Rattle.aho_core.specs.Best.{IsBestOrNone};
+ghost use Rattle.aho_core.specs.Iteration.{AreFinds};
+ghost use Rattle.aho_core.specs.Occurrence.{Occurrence};
+ghost use Rattle.aho_core.specs.Occurs.{Occurs};
+ghost use Rattle.aho_core.specs.Overlapping.{all_occurrences};
+ghost use Rattle.aho_core.specs.Patterns.{Patterns};
+ghost use Rattle.aho_core.specs.Replacement.{on_boundaries, pieces_of, replaced};
+ghost use Rattle.aho_core.specs.Search.{plain_search};
+ghost use Rattle.aho_core.specs.declared.search.Anchored.TheVariants.{No};
+ghost use Rattle.aho_core.specs.declared.search.MatchKind.TheVariants.{Standard};
+ghost use Rattle.aho_automaton.specs.Finding.{HoldsOfFinds};
+ghost use Rattle.aho_automaton.specs.Reading.{ReadsEachOnce, bytes_read};
 
 use crate::noncontiguous::NFA;
-use aho_base::error::ReplaceError;
-use aho_base::search::{Anchored, Input, Match, Span};
+use aho_automaton::automaton::{Automaton, Counted, find_in};
+use aho_core::error::ReplaceError;
+use aho_core::search::{Anchored, Input, Match, Span};
 use aho_prefilter::text::Text;
-use aho_search::automaton::{Automaton, Counted, find_in};
 use std::alloc::{AllocError, Global};
 
 /// The best occurrence of a span of a text, none where nothing occurs in it, and how many transitions were looked up for it.

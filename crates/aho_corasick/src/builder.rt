@@ -4,12 +4,12 @@ ghost use Rattle.std.specs.Prelude.{◌≡◌};
 ghost use Rattle.aho_build.specs.Settings.{default_settings};
 
 use crate::noncontiguous::NFA;
-use aho_base::error::BuildError;
-use aho_base::search::MatchKind;
+use aho_automaton::automaton::Automaton;
 use aho_build::compiler;
 pub use aho_build::settings::Limits;
 use aho_build::settings::Settings;
-use aho_search::automaton::Automaton;
+use aho_core::error::BuildError;
+use aho_core::search::MatchKind;
 use std::alloc::Global;
 use std::marker::Model;
 

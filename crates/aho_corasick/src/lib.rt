@@ -17,13 +17,14 @@ pub mod builder;
 pub mod impls;
 pub mod noncontiguous;
 
-pub use aho_base::error::{BuildError, Fault, MatchError, ReplaceError, StreamError};
-pub use aho_base::search::{Anchored, Input, Match, MatchKind, PatternID, Span, StateID};
+pub use aho_automaton::automaton::Automaton;
+pub use aho_build::special;
+pub use aho_core::error::{BuildError, Fault, MatchError, ReplaceError, StreamError};
+pub use aho_core::search::{Anchored, Input, Match, MatchKind, PatternID, Span, StateID};
 pub use aho_devices::adapters::{FromRead, FromWrite};
 pub use aho_devices::device::{Sink, Source};
-pub use aho_search::automaton::Automaton;
 pub use aho_stream::chunks::{StreamChunk, StreamChunkIter};
 pub use aho_stream::finds::{StreamFindIter, try_stream_find_iter};
 pub use aho_stream::progress::StreamPiece;
 pub use aho_stream::replace::{try_stream_replace_all, try_stream_replace_all_with};
-pub use aho_table::links;
+pub use aho_table::{alphabet, links, remapper};

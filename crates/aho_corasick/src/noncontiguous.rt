@@ -2,8 +2,8 @@
 //! looked for further down the failure links.
 
 ghost use Rattle.std.specs.Prelude.{◌≡◌, ◌+◌, ◌<◌, ◌≤◌, ◌^◌, ℕ, length, IfOk, is_some};
-ghost use Rattle.aho_base.specs.Laws.{shortest, longest};
-ghost use Rattle.aho_base.specs.Numbers.{greatest_index};
+ghost use Rattle.aho_core.specs.Laws.{shortest, longest};
+ghost use Rattle.aho_core.specs.Numbers.{greatest_index};
 ghost use Rattle.aho_build.specs.Shuffled.{AreNumbered};
 ghost use Rattle.aho_build.specs.Walking.{IsSound, AreStarts};
 ghost use Rattle.aho_prefilter.specs.Prefilter.{prefilter_bytes};
@@ -11,14 +11,14 @@ ghost use Rattle.aho_prefilter.specs.Prefilter.{prefilter_bytes};
 mod read_out;
 
 pub use crate::builder::{Builder, Limits};
-use aho_base::error::{BuildError, MatchError};
-use aho_base::search::{Anchored, MatchKind, PatternID, SmallIndex, StateID, Work};
+use aho_automaton::automaton::Automaton;
 use aho_build::compiler::Compiled;
 use aho_build::sizes::tables_bytes;
 pub use aho_build::special::Special;
 use aho_build::steps;
+use aho_core::error::{BuildError, MatchError};
+use aho_core::search::{Anchored, MatchKind, PatternID, SmallIndex, StateID, Work};
 use aho_prefilter::prefilter::Prefilter;
-use aho_search::automaton::Automaton;
 use aho_table::links::{DEAD, Table};
 use std::alloc::{AllocError, Global};
 
@@ -63,8 +63,8 @@ pub struct NFA {
 impl NFA {
     ghost use Rattle.std.specs.Prelude.{◌+◌, ℕ, List, IfOk, IfErr, IfSome, is_some};
     ghost use Rattle.std.specs.Iterator.{IsFinite};
-    ghost use Rattle.aho_base.specs.declared.search.Anchored.{Anchored};
-    ghost use Rattle.aho_base.specs.Patterns.{Patterns};
+    ghost use Rattle.aho_core.specs.declared.search.Anchored.{Anchored};
+    ghost use Rattle.aho_core.specs.Patterns.{Patterns};
     ghost use Rattle.aho_build.specs.Automaton.{IsOf, memory_of};
     ghost use Rattle.aho_build.specs.Dense.{AreDense, HasBorders};
     ghost use Rattle.aho_build.specs.Items.{IsFailure, OfAccepted};
@@ -162,11 +162,11 @@ impl NFA {
 
 impl Automaton for NFA {
     ghost use Rattle.std.specs.Prelude.{◌+◌, ℕ, IfSome, false, is_some, nat_eq, Ok};
-    ghost use Rattle.aho_base.specs.Bytes.{folded};
-    ghost use Rattle.aho_base.specs.Held.{held_after};
-    ghost use Rattle.aho_base.specs.Patterns.{Patterns};
-    ghost use Rattle.aho_base.specs.declared.search.Anchored.TheVariants.{No};
-    ghost use Rattle.aho_base.specs.Step.{lookups};
+    ghost use Rattle.aho_core.specs.Bytes.{folded};
+    ghost use Rattle.aho_core.specs.Held.{held_after};
+    ghost use Rattle.aho_core.specs.Patterns.{Patterns};
+    ghost use Rattle.aho_core.specs.declared.search.Anchored.TheVariants.{No};
+    ghost use Rattle.aho_core.specs.Step.{lookups};
     ghost use Rattle.aho_build.specs.Dense.{HasBorders};
     ghost use Rattle.aho_build.specs.Automaton.{IsOf, IsHeld, start_of, is_special_in, is_start_in, memory_of};
     ghost use Rattle.aho_prefilter.specs.Prefilter.{IsPrefilterOf};

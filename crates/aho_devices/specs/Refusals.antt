@@ -1,7 +1,7 @@
 -- Which error a call of a stream's devices answered.
 use Rattle.std.specs.Prelude.{Bool, true, false, Result, Ok, Err, ⊤}
-use Rattle.aho_base.specs.declared.error.stream.StreamError.{StreamError}
-use Rattle.aho_base.specs.declared.error.stream.StreamError.TheVariants.{Match, Read, Write, WriteZero, Memory, PositionLimit}
+use Rattle.aho_core.specs.declared.error.stream.StreamError.{StreamError}
+use Rattle.aho_core.specs.declared.error.stream.StreamError.TheVariants.{Match, Read, Write, WriteZero, Memory, PositionLimit}
 
 -- the source failed
 abbrev pub is_read_fault : {A : Type 0} → Result A StreamError → Bool

@@ -7,7 +7,7 @@ ghost use Rattle.aho_devices.specs.Refusals.{is_write_fault, is_write_of_nothing
 
 use crate::calls::{CalledReader, CalledWriter};
 use crate::device::{Sink, Source};
-use aho_base::error::{Fault, StreamError};
+use aho_core::error::{Fault, StreamError};
 use std::io::{Read, Write};
 
 /// A source that reads from a reader of std. Once a read gave nothing the reader is at its end, and it is called no more

@@ -2,13 +2,13 @@
 
 ghost use Rattle.std.specs.Prelude.{◌≡◌, ◌<◌, ◌≤◌, ◌+◌, ◌-◌, ◌↔◌, ◌⊎◌, ◌==◌, max, [], ℕ, length, take, drop, vec_len, vec_capacity, IfOk, IfErr, OnErr, MatchResult, IsTrue, is_err, true, false, Err};
 ghost use Rattle.std.specs.Io.KnownBytes.{Consumes, Keeps};
-ghost use Rattle.aho_base.specs.Numbers.{greatest_index};
+ghost use Rattle.aho_core.specs.Numbers.{greatest_index};
 ghost use Rattle.aho_devices.specs.Buffer.{Buffered, Gains, capacity_for, rolled, saw_end};
 ghost use Rattle.aho_devices.specs.Counts.{counted, moves_nothing};
 ghost use Rattle.aho_devices.specs.Refusals.{is_read_fault, IsFillRefusal};
 
 use crate::device::Source;
-use aho_base::error::{Fault, StreamError};
+use aho_core::error::{Fault, StreamError};
 use std::alloc::{AllocError, Global};
 use std::marker::Model;
 

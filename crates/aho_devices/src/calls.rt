@@ -11,7 +11,7 @@ ghost use Rattle.std.specs.IoError.{error_kind};
 ghost use Rattle.aho_devices.specs.Counts.{counted};
 ghost use Rattle.aho_devices.specs.Refusals.{IsWriteRefusal};
 
-use aho_base::error::{Fault, StreamError};
+use aho_core::error::{Fault, StreamError};
 use std::io;
 use std::io::{ErrorKind, Read, Write};
 

@@ -5,7 +5,7 @@ ghost use Rattle.std.specs.Io.KnownBytes.{Appends, Consumes, Keeps};
 ghost use Rattle.aho_devices.specs.Counts.{counted, is_empty_read, is_empty_write};
 ghost use Rattle.aho_devices.specs.Refusals.{is_write_fault, is_write_of_nothing, IsWriteRefusal};
 
-use aho_base::error::{Fault, StreamError};
+use aho_core::error::{Fault, StreamError};
 
 /// What gives the bytes of a stream.
 ///

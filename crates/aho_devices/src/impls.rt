@@ -1,6 +1,6 @@
 //! What the impls of std's traits answer, each the contract of a function. `Debug` and `Drop` have no meaning to state.
 
-ghost use Rattle.aho_base.specs.Impls.{ClonesTheSame, EqualsTheSame};
+ghost use Rattle.aho_core.specs.Impls.{ClonesTheSame, EqualsTheSame};
 
 use crate::buffer::Filled;
 

@@ -6,7 +6,7 @@ ghost use Rattle.aho_devices.specs.Counts.{counted, AppendsBeginning};
 ghost use Rattle.aho_devices.specs.Refusals.{is_write_fault, is_write_of_nothing, IsWriteRefusal};
 
 use crate::device::Sink;
-use aho_base::error::{Fault, StreamError};
+use aho_core::error::{Fault, StreamError};
 
 /// A sink that takes all and keeps nothing.
 #[derive(Clone, Copy)]

@@ -1,11 +1,11 @@
 -- Where a byte leads along the links: where the word's step does, and bytes of one class lead alike.
 use Rattle.std.proofs.Common.{◌≡◌, ◌≢◌, ℕ, zero, suc, ◌<◌, false, Bool, List, Option, nat_eq, sym, ap, subst, refl, ◌∙◌, inl, inr, arith, eq-eqb}
 use Rattle.std.proofs.lemmas.Bool.{cases_eq, cond-true, false_from_ne_true}
-use Rattle.aho_base.specs.Bytes.{folded}
-use Rattle.aho_base.specs.Patterns.{Patterns}
-use Rattle.aho_base.specs.Step.{follow}
-use Rattle.aho_base.specs.Trie.{is_node}
-use Rattle.aho_base.specs.declared.search.Anchored.TheVariants.{No}
+use Rattle.aho_core.specs.Bytes.{folded}
+use Rattle.aho_core.specs.Patterns.{Patterns}
+use Rattle.aho_core.specs.Step.{follow}
+use Rattle.aho_core.specs.Trie.{is_node}
+use Rattle.aho_core.specs.declared.search.Anchored.TheVariants.{No}
 use Rattle.aho_build.proofs.AutomatonStates.{held-failed, held-taken}
 use Rattle.aho_build.proofs.LinkedNodes.{IsNamed, named-state, other_next, state-named}
 use Rattle.aho_build.proofs.NodeBorders.{edges-node}

@@ -4,7 +4,7 @@ use Rattle.std.proofs.Math.Nat.{mul_comm}
 use Rattle.std.proofs.lemmas.Bool.{both_ways, cases_eq}
 use Rattle.std.proofs.lemmas.List.{append-nil, get_or-append_right, get_or_append_left, get_or_push, length-append, length_push}
 use Rattle.std.proofs.lemmas.Nat.{mul-add-lt}
-use Rattle.aho_base.specs.Numbers.{greatest_index}
+use Rattle.aho_core.specs.Numbers.{greatest_index}
 use Rattle.aho_table.specs.Alphabet.{class_count}
 use Rattle.aho_table.specs.Table.{IsRising, depth_in, fail_in, matches_in}
 use Rattle.aho_hybrid.specs.Filled.{AreRecords, AreRows, HasEntries, IsDeepState, IsListAt, IsPartAt, IsPlaced, IsRecord, IsShallow, IsStep, Parts, leads_in, moves_of, number_in, row_in, record_at, source_in, source_of, transitions_of}

@@ -1,7 +1,7 @@
 -- A row that is near tells where bytes lead from a state whose links lead to it.
 use Rattle.std.proofs.Common.{◌≡◌, ◌≢◌, ℕ, zero, suc, ◌+◌, ◌<◌, ◌≤◌, Bool, true, false, List, [], ◌∷◌, ◌++◌, length, get_or, set, nat_eq, refl, sym, ap, subst, ◌∙◌, inl, inr, arith, eq-eqb, eqb-true, ne_eqb, get_or-set_same, get_or-set_other}
 use Rattle.std.proofs.lemmas.Bool.{both_ways, cases_eq, cond-true, cond-false}
-use Rattle.aho_base.specs.declared.search.Anchored.TheVariants.{No}
+use Rattle.aho_core.specs.declared.search.Anchored.TheVariants.{No}
 use Rattle.aho_build.proofs.StepResults.{along-linked, dead-stays}
 use Rattle.aho_build.specs.Walking.{IsSound, IsState, links_left, step_along, step_in}
 use Rattle.aho_table.proofs.TransitionLists.{transition_at-other, transition_at-same}

@@ -3,7 +3,7 @@ use Rattle.std.proofs.Common.{◌≡◌, ℕ, ◌+◌, ◌-◌, ◌*◌, ◌<◌
 use Rattle.std.proofs.Math.Nat.{mul-le-mul_right}
 use Rattle.std.proofs.lemmas.Bool.{cases_Bool, cond-false, cond-true}
 use Rattle.std.proofs.lemmas.List.{get_or_append_left, get_or_push, length_push}
-use Rattle.aho_base.specs.Numbers.{greatest_index}
+use Rattle.aho_core.specs.Numbers.{greatest_index}
 use Rattle.aho_table.specs.Table.{State, state_at}
 use Rattle.aho_hybrid.specs.Filled.{AreNumbers, is_deep, number_of, record_at, row_at, rows_count, rows_size, states_size}
 use Rattle.aho_hybrid.specs.Layout.{stride_of}

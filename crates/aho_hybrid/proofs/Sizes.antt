@@ -6,9 +6,9 @@ use Rattle.std.proofs.lemmas.List.FromFn.{map-range_with_len_more}
 use Rattle.std.proofs.lemmas.List.Sums.{sum_by-cons, sum_by_push}
 use Rattle.std.specs.List.{range_with_len, sum, sum_by}
 use Rattle.std.specs.Prelude.{if◌then◌else◌, min, nat_lt}
-use Rattle.aho_base.specs.Numbers.{greatest_index}
-use Rattle.aho_base.specs.declared.error.BuildError.{BuildError}
-use Rattle.aho_base.specs.declared.error.BuildError.TheVariants.{StateIDOverflow, OutOfMemory}
+use Rattle.aho_core.specs.Numbers.{greatest_index}
+use Rattle.aho_core.specs.declared.error.BuildError.{BuildError}
+use Rattle.aho_core.specs.declared.error.BuildError.TheVariants.{StateIDOverflow, OutOfMemory}
 use Rattle.aho_build.specs.declared.special.Special.{Special}
 use Rattle.aho_corasick.specs.ReadOut.{classes_of, states_of}
 use Rattle.aho_corasick.specs.declared.noncontiguous.NFA.{NFA}

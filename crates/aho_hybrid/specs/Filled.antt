@@ -1,10 +1,10 @@
 -- The states of an automaton that is read out, as they are laid out.
 use Rattle.std.specs.Prelude.{◌≡◌, ℕ, ◌+◌, ◌*◌, ◌-◌, ◌^◌, ◌<◌, ◌≤◌, ◌||◌, Bool, not, false, true, List, [], ◌∷◌, ◌++◌, length, map, min, take, nat_eq, nat_lt, slice_index_or, if◌then◌else◌, IfSome}
 use Rattle.std.specs.List.{count_by, range_with_len, sum, sum_by}
-use Rattle.aho_base.specs.Numbers.{greatest_index}
-use Rattle.aho_base.specs.declared.error.BuildError.{BuildError}
-use Rattle.aho_base.specs.declared.error.BuildError.TheVariants.{StateIDOverflow, OutOfMemory}
-use Rattle.aho_base.specs.declared.search.Anchored.TheVariants.{No}
+use Rattle.aho_core.specs.Numbers.{greatest_index}
+use Rattle.aho_core.specs.declared.error.BuildError.{BuildError}
+use Rattle.aho_core.specs.declared.error.BuildError.TheVariants.{StateIDOverflow, OutOfMemory}
+use Rattle.aho_core.specs.declared.search.Anchored.TheVariants.{No}
 use Rattle.aho_build.specs.Walking.{IsState, step_in}
 use Rattle.aho_build.specs.declared.special.Special.{Special}
 use Rattle.aho_table.specs.Alphabet.{class_of, class_count}

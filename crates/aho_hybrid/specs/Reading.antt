@@ -4,15 +4,15 @@ use Rattle.std.proofs.lemmas.Bool.{both_ways, cases_Bool, cond-true, cond-false,
 use Rattle.std.proofs.lemmas.List.Elements.{All-nil, All-push}
 use Rattle.std.specs.Prelude.{Option, Some, None, is_none, is_some, nat_lt, ◌||◌, if◌then◌else◌}
 use Rattle.std.specs.List.{All}
-use Rattle.aho_base.specs.Bytes.{folded}
-use Rattle.aho_base.specs.Held.{held_after}
-use Rattle.aho_base.specs.Laws.{Reads}
-use Rattle.aho_base.specs.MatchList.{matches_of}
-use Rattle.aho_base.specs.Patterns.{Patterns}
-use Rattle.aho_base.specs.Step.{follow}
-use Rattle.aho_base.specs.declared.search.Anchored.{Anchored}
-use Rattle.aho_base.specs.declared.search.Anchored.TheVariants.{No, Yes}
-use Rattle.aho_base.specs.declared.search.MatchKind.{MatchKind}
+use Rattle.aho_core.specs.Bytes.{folded}
+use Rattle.aho_core.specs.Held.{held_after}
+use Rattle.aho_core.specs.Laws.{Reads}
+use Rattle.aho_core.specs.MatchList.{matches_of}
+use Rattle.aho_core.specs.Patterns.{Patterns}
+use Rattle.aho_core.specs.Step.{follow}
+use Rattle.aho_core.specs.declared.search.Anchored.{Anchored}
+use Rattle.aho_core.specs.declared.search.Anchored.TheVariants.{No, Yes}
+use Rattle.aho_core.specs.declared.search.MatchKind.{MatchKind}
 use Rattle.aho_laws.proofs.NamedStates.{reads_by_words}
 use Rattle.aho_laws.proofs.StepLaw.{held_after-push}
 use Rattle.aho_table.proofs.Classes.{class_of-count}

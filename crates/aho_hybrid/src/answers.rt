@@ -1,15 +1,15 @@
 //! What users of a `Hybrid` may rest on besides its calls: it answers each unanchored search as its `NFA` does.
 
 ghost use Rattle.std.specs.Prelude.{◌≡◌};
-ghost use Rattle.aho_base.specs.Answer.{IsAnswer};
-ghost use Rattle.aho_base.specs.Patterns.{Patterns};
-ghost use Rattle.aho_base.specs.declared.search.Anchored.TheVariants.{No};
+ghost use Rattle.aho_core.specs.Answer.{IsAnswer};
+ghost use Rattle.aho_core.specs.Patterns.{Patterns};
+ghost use Rattle.aho_core.specs.declared.search.Anchored.TheVariants.{No};
 
 use crate::hybrid::Hybrid;
-use aho_base::search::{Input, Match};
+use aho_automaton::automaton::Automaton;
 use aho_corasick::answers::answer_of as answer_of_nfa;
 use aho_corasick::noncontiguous::NFA;
-use aho_search::automaton::Automaton;
+use aho_core::search::{Input, Match};
 
 /// What `try_find` answers to an unanchored input: no such search is refused.
 ///

@@ -1,17 +1,17 @@
 //! How many rows a budget of bytes holds, and how many words the other parts of a `Hybrid` take.
 
 ghost use Rattle.std.specs.Prelude.{◌≡◌, ◌+◌, ◌<◌, ◌≤◌, length, nat_eq, sum_by, if◌then◌else◌, IfOk, IfErr, OnOk};
-ghost use Rattle.aho_base.specs.Numbers.{greatest_index};
+ghost use Rattle.aho_core.specs.Numbers.{greatest_index};
 ghost use Rattle.aho_corasick.specs.ReadOut.{states_of, special_of, classes_of};
 ghost use Rattle.aho_table.specs.Table.{fail_id, matches_in, state_at};
 ghost use Rattle.aho_hybrid.specs.Layout.{stride_of};
 ghost use Rattle.aho_hybrid.specs.Filled.{Fits, IsRowDepth, IsTooLarge, deep_count, is_deep, list_words, lists_size, moves_size, moves_words, refusal_of, rows_count, rows_size, source_in, told_size, transition_words};
 
-use aho_base::error::BuildError;
-use aho_base::search::{SmallIndex, StateID};
+use aho_automaton::automaton::Automaton;
 use aho_build::special::Special;
 use aho_corasick::noncontiguous::NFA;
-use aho_search::automaton::Automaton;
+use aho_core::error::BuildError;
+use aho_core::search::{SmallIndex, StateID};
 use aho_table::links::{DEAD, FAIL, Transitions};
 
 /// The words of a deep state's record.

@@ -2,8 +2,8 @@
 //! order of the `NFA`'s numbers.
 
 ghost use Rattle.std.specs.Prelude.{◌≡◌, ℕ, List, true, [], ◌∷◌, ◌++◌, ◌+◌, ◌*◌, ◌<◌, ◌≤◌, length, slice_index_or, IfOk, IfErr, OnOk};
-ghost use Rattle.aho_base.specs.Numbers.{greatest_index};
-ghost use Rattle.aho_base.specs.Patterns.{Patterns};
+ghost use Rattle.aho_core.specs.Numbers.{greatest_index};
+ghost use Rattle.aho_core.specs.Patterns.{Patterns};
 ghost use Rattle.aho_build.specs.Walking.{IsState};
 ghost use Rattle.aho_corasick.specs.ReadOut.{states_of, classes_of};
 ghost use Rattle.aho_table.specs.Alphabet.{class_count};
@@ -14,10 +14,10 @@ ghost use Rattle.aho_hybrid.specs.Filled.{AreFirst, AreMarked, AreNumbers, AreRo
 
 use crate::budget::{RECORD_SIZE, dense_size, either, is_deep, row_depth, source_of};
 use crate::rows::Rows;
-use aho_base::error::BuildError;
-use aho_base::search::{Anchored, SmallIndex, StateID};
+use aho_automaton::automaton::Automaton;
 use aho_corasick::noncontiguous::NFA;
-use aho_search::automaton::Automaton;
+use aho_core::error::BuildError;
+use aho_core::search::{Anchored, SmallIndex, StateID};
 use aho_table::alphabet::ByteClasses;
 use aho_table::links::{DEAD, FAIL, Matches, Transitions};
 use std::alloc::Global;

@@ -2,19 +2,19 @@
 
 ghost use Rattle.std.specs.Prelude.{◌≡◌, ◌+◌, ◌<◌, ◌≤◌, ◌^◌, ℕ, length, IfErr, IfOk, IsOk};
 ghost use Rattle.std.specs.Option.{option_map};
-ghost use Rattle.aho_base.specs.Laws.{shortest, longest};
-ghost use Rattle.aho_base.specs.Numbers.{greatest_index};
-ghost use Rattle.aho_base.specs.declared.error.BuildError.TheVariants.{OutOfMemory};
+ghost use Rattle.aho_core.specs.Laws.{shortest, longest};
+ghost use Rattle.aho_core.specs.Numbers.{greatest_index};
+ghost use Rattle.aho_core.specs.declared.error.BuildError.TheVariants.{OutOfMemory};
 ghost use Rattle.aho_prefilter.specs.Prefilter.{prefilter_bytes};
 ghost use Rattle.aho_hybrid.specs.Layout.{IsSoundLayout};
 
 use crate::fill::rows_of;
 use crate::rows::Rows;
-use aho_base::error::{BuildError, MatchError};
-use aho_base::search::{Anchored, MatchKind, PatternID, SmallIndex, StateID, Work};
+use aho_automaton::automaton::Automaton;
 use aho_corasick::noncontiguous::NFA;
+use aho_core::error::{BuildError, MatchError};
+use aho_core::search::{Anchored, MatchKind, PatternID, SmallIndex, StateID, Work};
 use aho_prefilter::prefilter::Prefilter;
-use aho_search::automaton::Automaton;
 use std::alloc::{AllocError, Global};
 
 /// How many bytes the rows of `from_nfa` take at most, but for those of the states without depth.
@@ -41,8 +41,8 @@ pub struct Hybrid {
 
 impl Hybrid {
     ghost use Rattle.std.specs.Prelude.{IfSome};
-    ghost use Rattle.aho_base.specs.Patterns.{Patterns};
-    ghost use Rattle.aho_base.specs.declared.search.Anchored.TheVariants.{No};
+    ghost use Rattle.aho_core.specs.Patterns.{Patterns};
+    ghost use Rattle.aho_core.specs.declared.search.Anchored.TheVariants.{No};
     ghost use Rattle.aho_corasick.specs.Clones.{IsCloneOf};
     ghost use Rattle.aho_corasick.specs.ReadOut.{classes_of, states_of};
     ghost use Rattle.aho_hybrid.specs.Filled.{Fits, HasSizes, IsRefused, IsRowDepth, default_budget};
@@ -187,7 +187,7 @@ impl Hybrid {
 
 impl Automaton for Hybrid {
     ghost use Rattle.std.specs.Prelude.{ℕ, IfSome, nat_eq};
-    ghost use Rattle.aho_base.specs.Patterns.{Patterns};
+    ghost use Rattle.aho_core.specs.Patterns.{Patterns};
     ghost use Rattle.aho_prefilter.specs.Prefilter.{IsPrefilterOf};
     ghost use Rattle.aho_hybrid.specs.Layout.{IsStateIn, IsHeldIn, depth_in, is_marked_in, is_special_in, lookups_in, next_in, list_in, start_in, memory_in};
     ghost use Rattle.aho_hybrid.specs.Reading.{IsLayoutOf, alike_of, reads_of, plain_of, unmarked_of, dead_shallow_of, starts_shallow_of};

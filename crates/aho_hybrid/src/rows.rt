@@ -2,10 +2,10 @@
 //! and one more for the state's list. Deeper ones have records: a link, and a transition for each byte that they take.
 
 ghost use Rattle.std.specs.Prelude.{◌≡◌, ◌+◌, ◌*◌, ◌<◌, ◌≤◌, ◌^◌, length, nat_lt, slice_get, take, drop, Some, IfOk};
-ghost use Rattle.aho_base.specs.Numbers.{greatest_index};
+ghost use Rattle.aho_core.specs.Numbers.{greatest_index};
 ghost use Rattle.aho_hybrid.specs.Layout.{HasRow, IsDeep, IsSoundLayout, IsStateIn, child_in, child_of, depth_in, link_in, next_in, list_in, list_place, looks_in, is_marked_in, is_special_in, entry_in, record_size, word_in};
 
-use aho_base::search::{PatternID, SmallIndex, StateID, Work};
+use aho_core::search::{PatternID, SmallIndex, StateID, Work};
 use aho_table::alphabet::ByteClasses;
 use std::alloc::AllocError;
 use std::marker::Model;

@@ -3,19 +3,19 @@ use Rattle.std.proofs.Common.{◌≡◌, ◌⊎◌, inl, inr, ℕ, ◌+◌, ◌�
 use Rattle.std.specs.Prelude.{MatchBool, nat_eq}
 use Rattle.std.specs.List.{filter}
 use Rattle.std.proofs.lemmas.Bool.{cases_lt, eq-eqb, eqb-true, MatchBool-at_true}
-use Rattle.aho_base.specs.declared.search.Anchored.{Anchored}
-use Rattle.aho_base.specs.declared.search.Anchored.TheVariants.{No, Yes}
-use Rattle.aho_base.specs.declared.search.MatchKind.{MatchKind}
-use Rattle.aho_base.specs.declared.search.MatchKind.TheVariants.{Standard, LeftmostFirst, LeftmostLongest}
-use Rattle.aho_base.specs.Answer.{IsAnswer, IsEarliestAnswer, IsFront, OccursUpTo}
-use Rattle.aho_base.specs.Best.{IsBest, IsBestOrNone}
-use Rattle.aho_base.specs.Listing.{IsMember}
-use Rattle.aho_base.specs.Occurrence.{Occurrence}
-use Rattle.aho_base.specs.Occurs.{Occurs, OccursIn}
-use Rattle.aho_base.specs.Order.{IsBefore, IsLessOr}
-use Rattle.aho_base.specs.Overlapping.{all_occurrences}
-use Rattle.aho_base.specs.Patterns.{Patterns, pattern_at}
-use Rattle.aho_base.specs.Search.{Search}
+use Rattle.aho_core.specs.declared.search.Anchored.{Anchored}
+use Rattle.aho_core.specs.declared.search.Anchored.TheVariants.{No, Yes}
+use Rattle.aho_core.specs.declared.search.MatchKind.{MatchKind}
+use Rattle.aho_core.specs.declared.search.MatchKind.TheVariants.{Standard, LeftmostFirst, LeftmostLongest}
+use Rattle.aho_core.specs.Answer.{IsAnswer, IsEarliestAnswer, IsFront, OccursUpTo}
+use Rattle.aho_core.specs.Best.{IsBest, IsBestOrNone}
+use Rattle.aho_core.specs.Listing.{IsMember}
+use Rattle.aho_core.specs.Occurrence.{Occurrence}
+use Rattle.aho_core.specs.Occurs.{Occurs, OccursIn}
+use Rattle.aho_core.specs.Order.{IsBefore, IsLessOr}
+use Rattle.aho_core.specs.Overlapping.{all_occurrences}
+use Rattle.aho_core.specs.Patterns.{Patterns, pattern_at}
+use Rattle.aho_core.specs.Search.{Search}
 use Rattle.aho_laws.proofs.Listings.{all_occurrences-has, all_occurrences-only}
 use Rattle.aho_laws.proofs.Members.{member-filter, member-of_filter}
 use Rattle.aho_laws.proofs.Orders.{IsBefore-total, IsBefore-trans, IsBest-unique, IsBestOrNone-same, IsBestOrNone-unique}

@@ -7,7 +7,7 @@ use Rattle.std.proofs.lemmas.List.{append-nil, nil_from_length}
 use Rattle.std.proofs.lemmas.Bool.Decides.{Decides-eqb}
 use Rattle.std.proofs.lemmas.List.Elements.{All-nil, All-cons}
 use Rattle.std.proofs.lemmas.Slice.Eq.{starts_is, bytes_eq-Decides}
-use Rattle.aho_base.specs.Trie.{begins, is_word}
+use Rattle.aho_core.specs.Trie.{begins, is_word}
 
 -- the rest of a word after another that begins it
 abbrev pub Begins : List ℕ → List ℕ → Type 0

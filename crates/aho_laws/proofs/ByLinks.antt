@@ -3,18 +3,18 @@ use Rattle.std.proofs.Common.{◌≡◌, inl, inr, ℕ, ◌<◌, ◌≤◌, Bool
 use Rattle.std.specs.Prelude.{Option, Some, None}
 use Rattle.std.proofs.lemmas.Bool.{cases_Bool, cases_lt, cond-true, cond-false, false_from_ne_true, and_parts, and_from}
 use Rattle.std.proofs.lemmas.List.{append-nil, length_push}
-use Rattle.aho_base.specs.declared.search.Anchored.TheVariants.{No}
-use Rattle.aho_base.specs.declared.search.MatchKind.TheVariants.{LeftmostFirst}
+use Rattle.aho_core.specs.declared.search.Anchored.TheVariants.{No}
+use Rattle.aho_core.specs.declared.search.MatchKind.TheVariants.{LeftmostFirst}
 use Rattle.aho_laws.proofs.Begins.{Begins, begins_shorter, begins_whole}
 use Rattle.aho_laws.proofs.Kept.{keeper, kept-no_longer, is_cut-true, is_cut-from, is_cut-more, own-first, left_out}
 use Rattle.aho_laws.proofs.StepLaw.{failure_of-push, state-is_node}
 use Rattle.aho_laws.proofs.Listed.{never_cut, matches_of-state_after, own_of_uncut}
 use Rattle.aho_laws.proofs.LookUps.{depth-state_after}
-use Rattle.aho_base.specs.Failure.{failure_of, is_cut, is_leftmost, state_after}
-use Rattle.aho_base.specs.MatchList.{leftmost_matches, matches_of, own_matches, suffix_matches}
-use Rattle.aho_base.specs.Patterns.{Patterns}
-use Rattle.aho_base.specs.Step.{depth_of, follow}
-use Rattle.aho_base.specs.Trie.{is_kept, is_node, pattern_word}
+use Rattle.aho_core.specs.Failure.{failure_of, is_cut, is_leftmost, state_after}
+use Rattle.aho_core.specs.MatchList.{leftmost_matches, matches_of, own_matches, suffix_matches}
+use Rattle.aho_core.specs.Patterns.{Patterns}
+use Rattle.aho_core.specs.Step.{depth_of, follow}
+use Rattle.aho_core.specs.Trie.{is_kept, is_node, pattern_word}
 
 -- whether a list has no element
 abbrev pub is_empty : List ℕ → Bool

@@ -3,10 +3,10 @@ use Rattle.std.proofs.Common.{◌≡◌, inl, inr, ℕ, ◌≤◌, Bool, true, f
 use Rattle.std.specs.Prelude.{MatchBool, slice_range}
 use Rattle.std.proofs.lemmas.List.{append_assoc}
 use Rattle.std.proofs.lemmas.List.Folds.{drop_split}
-use Rattle.aho_base.specs.ClosureRun.{ClosureRun, CopiesWhole}
-use Rattle.aho_base.specs.Listing.{IsListedBy, IsMember}
-use Rattle.aho_base.specs.Occurrence.{Occurrence}
-use Rattle.aho_base.specs.Replacement.{replaced_from}
+use Rattle.aho_core.specs.ClosureRun.{ClosureRun, CopiesWhole}
+use Rattle.aho_core.specs.Listing.{IsListedBy, IsMember}
+use Rattle.aho_core.specs.Occurrence.{Occurrence}
+use Rattle.aho_core.specs.Replacement.{replaced_from}
 use Rattle.aho_laws.specs.SearchLaws.{EndsBefore}
 
 module _ {F S E : Type 0} (bytes_of : S → List ℕ) (calls : F → Occurrence → List ℕ → S → Result Bool E → F → S → Type 0) (haystack : List ℕ) where

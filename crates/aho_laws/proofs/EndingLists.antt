@@ -5,23 +5,23 @@ use Rattle.std.specs.List.{range_with_len}
 use Rattle.std.proofs.lemmas.Bool.{cases_Bool, cond-true, cond-false}
 use Rattle.std.proofs.lemmas.List.{append-nil, append_assoc, map-append, drop_at, take_at, length_push, drop-map, take-append-drop}
 use Rattle.std.proofs.lemmas.List.Elements.{filter_agree}
-use Rattle.aho_base.specs.declared.search.Anchored.TheVariants.{No, Yes}
+use Rattle.aho_core.specs.declared.search.Anchored.TheVariants.{No, Yes}
 use Rattle.aho_laws.proofs.Begins.{any_agree}
 use Rattle.aho_laws.proofs.Kept.{every_kept}
 use Rattle.aho_laws.proofs.Stands.{Stands, from_occurs, to_occurs, length-folded, length-pattern_word}
 use Rattle.aho_laws.proofs.Listed.{Ends, ListedBefore, listed-weaker, suffix-state, suffix-member, suffix-has, suffix-listed}
 use Rattle.aho_laws.proofs.Standard.{ends_word}
-use Rattle.aho_base.specs.Bytes.{folded, folded_word, is_same_word}
-use Rattle.aho_base.specs.Failure.{is_leftmost}
-use Rattle.aho_base.specs.Held.{held_after}
-use Rattle.aho_base.specs.Laws.{patterns_ending}
-use Rattle.aho_base.specs.Listing.{IsListedBy, IsMember}
-use Rattle.aho_base.specs.MatchList.{leftmost_matches, matches_of, own_matches, suffix_matches}
-use Rattle.aho_base.specs.Occurrence.{Occurrence, occurrence}
-use Rattle.aho_base.specs.Occurs.{Occurs}
-use Rattle.aho_base.specs.Overlapping.{begins_some, occurrences_at}
-use Rattle.aho_base.specs.Patterns.{Patterns, numbers, pattern_at}
-use Rattle.aho_base.specs.Trie.{begins, is_kept, is_node, is_word, pattern_word}
+use Rattle.aho_core.specs.Bytes.{folded, folded_word, is_same_word}
+use Rattle.aho_core.specs.Failure.{is_leftmost}
+use Rattle.aho_core.specs.Held.{held_after}
+use Rattle.aho_core.specs.Laws.{patterns_ending}
+use Rattle.aho_core.specs.Listing.{IsListedBy, IsMember}
+use Rattle.aho_core.specs.MatchList.{leftmost_matches, matches_of, own_matches, suffix_matches}
+use Rattle.aho_core.specs.Occurrence.{Occurrence, occurrence}
+use Rattle.aho_core.specs.Occurs.{Occurs}
+use Rattle.aho_core.specs.Overlapping.{begins_some, occurrences_at}
+use Rattle.aho_core.specs.Patterns.{Patterns, numbers, pattern_at}
+use Rattle.aho_core.specs.Trie.{begins, is_kept, is_node, is_word, pattern_word}
 use Rattle.aho_laws.specs.TrieLaws.{IsLongerOrFirst, IsSuffixOf}
 
 -- the occurrence of a pattern that ends at a place

@@ -1,9 +1,9 @@
 -- The laws of an automaton hold of the definitions at every short word over two or three letters, for the three kinds and
 -- the lists of patterns that make trouble.
 use Rattle.std.specs.Prelude.{◌≡◌, true, false, [], ◌∷◌, codes, refl}
-use Rattle.aho_base.specs.Failure.{is_cut}
-use Rattle.aho_base.specs.MatchList.{own_matches}
-use Rattle.aho_base.specs.Trie.{is_kept, is_node, pattern_word}
+use Rattle.aho_core.specs.Failure.{is_cut}
+use Rattle.aho_core.specs.MatchList.{own_matches}
+use Rattle.aho_core.specs.Trie.{is_kept, is_node, pattern_word}
 use Rattle.aho_laws.proofs.LawTests.{broken}
 
 no_patterns : broken 5 (codes "ab") false ([]) ≡ []

@@ -1,9 +1,9 @@
 -- The laws of an automaton hold of the definitions for every list of two patterns of up to three letters, and of three
 -- patterns of up to two. There are two letters; one list stands for the one with the letters exchanged.
 use Rattle.std.specs.Prelude.{◌≡◌, ℕ, true, false, List, [], ◌∷◌, flat_map, codes, refl}
-use Rattle.aho_base.specs.Failure.{is_cut}
-use Rattle.aho_base.specs.MatchList.{own_matches}
-use Rattle.aho_base.specs.Trie.{is_kept, is_node, pattern_word}
+use Rattle.aho_core.specs.Failure.{is_cut}
+use Rattle.aho_core.specs.MatchList.{own_matches}
+use Rattle.aho_core.specs.Trie.{is_kept, is_node, pattern_word}
 use Rattle.aho_laws.proofs.LawTests.{Broken, broken, words_up_to}
 
 -- what a pattern breaks before each pattern of up to three letters

@@ -2,17 +2,17 @@
 use Rattle.std.proofs.Common.{◌≡◌, ◌⊎◌, inl, inr, ℕ, ◌+◌, ◌-◌, ◌<◌, ◌≤◌, true, false, List, [], ◌∷◌, ◌++◌, length, refl, sym, ◌∙◌, ap, arith}
 use Rattle.std.specs.Prelude.{Some, None}
 use Rattle.std.proofs.lemmas.Bool.{cases_Bool, cases_lt, cond-true, cond-false}
-use Rattle.aho_base.specs.declared.search.Anchored.{Anchored}
-use Rattle.aho_base.specs.declared.search.Anchored.TheVariants.{No, Yes}
+use Rattle.aho_core.specs.declared.search.Anchored.{Anchored}
+use Rattle.aho_core.specs.declared.search.Anchored.TheVariants.{No, Yes}
 use Rattle.aho_laws.proofs.Begins.{Begins}
 use Rattle.aho_laws.proofs.Kept.{is_cut-from, starts_here}
 use Rattle.aho_laws.proofs.StepLaw.{state-node, state-cut, state-shorter}
 use Rattle.aho_laws.proofs.Stands.{Stands, begins_at, stands_length}
-use Rattle.aho_base.specs.Failure.{is_cut, is_leftmost, state_after}
-use Rattle.aho_base.specs.MatchList.{leftmost_matches, own_matches}
-use Rattle.aho_base.specs.Occurrence.{Occurrence}
-use Rattle.aho_base.specs.Patterns.{Patterns}
-use Rattle.aho_base.specs.Trie.{is_node, pattern_word}
+use Rattle.aho_core.specs.Failure.{is_cut, is_leftmost, state_after}
+use Rattle.aho_core.specs.MatchList.{leftmost_matches, own_matches}
+use Rattle.aho_core.specs.Occurrence.{Occurrence}
+use Rattle.aho_core.specs.Patterns.{Patterns}
+use Rattle.aho_core.specs.Trie.{is_node, pattern_word}
 
 -- nothing starts before v in z, and something starts at v, or nothing occurs
 pub record Front (p : Patterns) (anchored : Anchored) (z pre v : List ℕ) : Type 0 where

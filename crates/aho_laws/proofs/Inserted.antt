@@ -4,13 +4,13 @@ use Rattle.std.proofs.Common.{◌≡◌, ◌≢◌, ℕ, zero, suc, ◌+◌, ◌
 use Rattle.std.specs.Prelude.{filter}
 use Rattle.std.specs.List.{list_any, range_with_len}
 use Rattle.std.proofs.lemmas.Bool.{and_parts, and_from}
-use Rattle.aho_base.specs.declared.search.MatchKind.TheVariants.{LeftmostFirst}
+use Rattle.aho_core.specs.declared.search.MatchKind.TheVariants.{LeftmostFirst}
 use Rattle.aho_laws.proofs.Begins.{is_word-true, is_word-from, first_passing, none_passing}
 use Rattle.aho_laws.proofs.ByLinks.{left_out_by_kept, left_out_from}
-use Rattle.aho_base.specs.Among.{own_among, is_node_among}
-use Rattle.aho_base.specs.MatchList.{own_matches}
-use Rattle.aho_base.specs.Patterns.{Patterns}
-use Rattle.aho_base.specs.Trie.{begins, is_kept, is_node, is_word, pattern_word}
+use Rattle.aho_core.specs.Among.{own_among, is_node_among}
+use Rattle.aho_core.specs.MatchList.{own_matches}
+use Rattle.aho_core.specs.Patterns.{Patterns}
+use Rattle.aho_core.specs.Trie.{begins, is_kept, is_node, is_word, pattern_word}
 
 -- one number more in a range
 filter-range_more : (f : ℕ → Bool) (a n k : ℕ) → a + n ≡ k → filter f (range_with_len a (suc n)) ≡ filter f (range_with_len a n) ++ cond (f k) (k ∷ []) []

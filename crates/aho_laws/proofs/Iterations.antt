@@ -2,14 +2,14 @@
 use Rattle.std.proofs.Common.{◌≡◌, ◌⊎◌, inl, inr, ℕ, zero, suc, ◌+◌, ◌≤◌, ◌<◌, Bool, true, false, List, [], ◌∷◌, length, Option, Some, None, refl, sym, ◌∙◌, ap, subst, arith}
 use Rattle.std.specs.Prelude.{MatchBool, nat_eq}
 use Rattle.std.proofs.lemmas.Bool.{cases_Bool, cases_lt, eq-eqb, and_from, MatchBool-at_true, MatchBool-at_false}
-use Rattle.aho_base.specs.declared.search.Anchored.TheVariants.{No}
-use Rattle.aho_base.specs.Answer.{IsAnswer}
-use Rattle.aho_base.specs.Iteration.{AreFinds, IsNextFind, repeats_end}
-use Rattle.aho_base.specs.Listing.{IsListedBy, IsMember}
-use Rattle.aho_base.specs.Occurrence.{Occurrence}
-use Rattle.aho_base.specs.Occurs.{Occurs}
-use Rattle.aho_base.specs.Patterns.{Patterns}
-use Rattle.aho_base.specs.Search.{Search}
+use Rattle.aho_core.specs.declared.search.Anchored.TheVariants.{No}
+use Rattle.aho_core.specs.Answer.{IsAnswer}
+use Rattle.aho_core.specs.Iteration.{AreFinds, IsNextFind, repeats_end}
+use Rattle.aho_core.specs.Listing.{IsListedBy, IsMember}
+use Rattle.aho_core.specs.Occurrence.{Occurrence}
+use Rattle.aho_core.specs.Occurs.{Occurs}
+use Rattle.aho_core.specs.Patterns.{Patterns}
+use Rattle.aho_core.specs.Search.{Search}
 use Rattle.aho_laws.specs.SearchLaws.{EndsBefore, IsFollowedBy}
 use Rattle.aho_laws.proofs.Members.{listed-by_weaker}
 use Rattle.aho_laws.proofs.Answers.{IsAnswer-exists, IsAnswer-occurs, IsAnswer-unique, Occurs-unanchored}

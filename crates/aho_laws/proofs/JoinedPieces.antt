@@ -4,13 +4,13 @@ use Rattle.std.specs.Prelude.{slice_index_or, slice_range}
 use Rattle.std.proofs.lemmas.Bool.{cases_lt}
 use Rattle.std.proofs.lemmas.List.{drop-append-le, map-append, take-append-le}
 use Rattle.std.proofs.Math.Seq.{drop-append-add, take-append-add}
-use Rattle.aho_base.specs.Bytes.{folded, folded_word}
-use Rattle.aho_base.specs.Iteration.{AreFinds}
-use Rattle.aho_base.specs.Listing.{IsListedBy, IsMember}
-use Rattle.aho_base.specs.Occurrence.{Occurrence}
-use Rattle.aho_base.specs.Patterns.{Patterns, pattern_at}
-use Rattle.aho_base.specs.Replacement.{replaced, replaced_from}
-use Rattle.aho_base.specs.Search.{plain_search}
+use Rattle.aho_core.specs.Bytes.{folded, folded_word}
+use Rattle.aho_core.specs.Iteration.{AreFinds}
+use Rattle.aho_core.specs.Listing.{IsListedBy, IsMember}
+use Rattle.aho_core.specs.Occurrence.{Occurrence}
+use Rattle.aho_core.specs.Patterns.{Patterns, pattern_at}
+use Rattle.aho_core.specs.Replacement.{replaced, replaced_from}
+use Rattle.aho_core.specs.Search.{plain_search}
 use Rattle.aho_laws.specs.CutLaws.{AreCutBehind, AreSearched, EndsIn, IsClear, NoneHolds, NoneIsEmpty, Piece, joined, moved, placed, replaced_apart}
 use Rattle.aho_laws.specs.SearchLaws.{EndsBefore}
 use Rattle.aho_laws.proofs.ClearCuts.{Occurs-full, best-find}

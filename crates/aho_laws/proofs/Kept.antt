@@ -3,13 +3,13 @@ use Rattle.std.proofs.Common.{◌≡◌, ◌≢◌, ◌↔◌, ◌⊎◌, inl, i
 use Rattle.std.specs.List.{list_any, All}
 use Rattle.std.proofs.lemmas.Bool.{cases_Bool, cases_lt, and_parts, and_from, lt-ltb, ltb-true, not-false, not-true, false_from_ne_true}
 use Rattle.std.proofs.lemmas.List.{append-nil, length_push as length-push}
-use Rattle.aho_base.specs.declared.search.MatchKind.{MatchKind}
-use Rattle.aho_base.specs.declared.search.MatchKind.TheVariants.{Standard, LeftmostFirst, LeftmostLongest}
+use Rattle.aho_core.specs.declared.search.MatchKind.{MatchKind}
+use Rattle.aho_core.specs.declared.search.MatchKind.TheVariants.{Standard, LeftmostFirst, LeftmostLongest}
 use Rattle.aho_laws.proofs.Begins.{Begins, begins-true, begins-from, begins_trans, begins_shorter, is_word-true, is_word-from, any-true, any-from, first_passing, none_passing, all_passing}
-use Rattle.aho_base.specs.Failure.{is_cut, is_leftmost}
-use Rattle.aho_base.specs.MatchList.{own_matches}
-use Rattle.aho_base.specs.Patterns.{Patterns, numbers}
-use Rattle.aho_base.specs.Trie.{begins, is_kept, is_node, is_word, kept_by, pattern_word}
+use Rattle.aho_core.specs.Failure.{is_cut, is_leftmost}
+use Rattle.aho_core.specs.MatchList.{own_matches}
+use Rattle.aho_core.specs.Patterns.{Patterns, numbers}
+use Rattle.aho_core.specs.Trie.{begins, is_kept, is_node, is_word, kept_by, pattern_word}
 use Rattle.aho_laws.specs.TrieLaws.{BeginsKept, IsBegun}
 
 -- the kinds, by the test of the leftmost ones

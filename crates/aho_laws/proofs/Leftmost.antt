@@ -3,21 +3,21 @@ use Rattle.std.proofs.Common.{◌≡◌, ◌⊎◌, inl, inr, ℕ, ◌+◌, ◌<
 use Rattle.std.specs.Prelude.{Option, Some, None}
 use Rattle.std.proofs.lemmas.Bool.{cases_lt, cases_eq}
 use Rattle.std.proofs.lemmas.List.{append-nil, append_assoc, length_push}
-use Rattle.aho_base.specs.declared.search.Anchored.{Anchored}
-use Rattle.aho_base.specs.declared.search.Anchored.TheVariants.{Yes}
-use Rattle.aho_base.specs.declared.search.MatchKind.TheVariants.{LeftmostFirst, LeftmostLongest}
+use Rattle.aho_core.specs.declared.search.Anchored.{Anchored}
+use Rattle.aho_core.specs.declared.search.Anchored.TheVariants.{Yes}
+use Rattle.aho_core.specs.declared.search.MatchKind.TheVariants.{LeftmostFirst, LeftmostLongest}
 use Rattle.aho_laws.proofs.Begins.{Begins, begins_trans, begins_whole, begins_length}
 use Rattle.aho_laws.proofs.Kept.{leftmost_kinds, keeper, kept-no_longer, is_cut-true, own-first, left_out, past_dead, all_kept}
 use Rattle.aho_laws.proofs.Orders.{same_occurrence}
 use Rattle.aho_laws.proofs.Stands.{Stands, BestIn, stands_length, stands_more, stands_less, stands_at, begins_at, before_later, before_number, before_longer, best_starts, best_number}
 use Rattle.aho_laws.proofs.Fronts.{Front}
-use Rattle.aho_base.specs.Failure.{is_cut, is_leftmost}
-use Rattle.aho_base.specs.Laws.{first_of_two}
-use Rattle.aho_base.specs.MatchList.{own_matches}
-use Rattle.aho_base.specs.Occurrence.{Occurrence}
-use Rattle.aho_base.specs.Order.{IsBefore}
-use Rattle.aho_base.specs.Patterns.{Patterns}
-use Rattle.aho_base.specs.Trie.{is_kept, is_node, pattern_word}
+use Rattle.aho_core.specs.Failure.{is_cut, is_leftmost}
+use Rattle.aho_core.specs.Laws.{first_of_two}
+use Rattle.aho_core.specs.MatchList.{own_matches}
+use Rattle.aho_core.specs.Occurrence.{Occurrence}
+use Rattle.aho_core.specs.Order.{IsBefore}
+use Rattle.aho_core.specs.Patterns.{Patterns}
+use Rattle.aho_core.specs.Trie.{is_kept, is_node, pattern_word}
 
 -- what the first of a word's own patterns tells, where the word is v in pre ++ v, up to the end
 abbrev pub told_at : List ℕ → ℕ → List ℕ → Option Occurrence

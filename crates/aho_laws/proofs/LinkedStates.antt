@@ -4,15 +4,15 @@ use Rattle.std.proofs.Common.{◌≡◌, inl, inr, ℕ, ◌+◌, ◌<◌, ◌≤
 use Rattle.std.specs.Prelude.{Option, Some, None}
 use Rattle.std.specs.Option.{option_map}
 use Rattle.std.proofs.lemmas.Bool.{cases_Bool, cond-false}
-use Rattle.aho_base.specs.declared.search.Anchored.TheVariants.{No, Yes}
+use Rattle.aho_core.specs.declared.search.Anchored.TheVariants.{No, Yes}
 use Rattle.aho_laws.proofs.StepLaw.{follow-node, follow-failure}
 use Rattle.aho_laws.proofs.LookUps.{lookups-taken, lookups-failure}
 use Rattle.aho_laws.proofs.ByLinks.{failure-is_node}
-use Rattle.aho_base.specs.Bytes.{folded}
-use Rattle.aho_base.specs.Failure.{failure_of}
-use Rattle.aho_base.specs.Patterns.{Patterns}
-use Rattle.aho_base.specs.Step.{depth_of, follow, lookups}
-use Rattle.aho_base.specs.Trie.{is_node}
+use Rattle.aho_core.specs.Bytes.{folded}
+use Rattle.aho_core.specs.Failure.{failure_of}
+use Rattle.aho_core.specs.Patterns.{Patterns}
+use Rattle.aho_core.specs.Step.{depth_of, follow, lookups}
+use Rattle.aho_core.specs.Trie.{is_node}
 
 -- by a test of nodes, as that of the first patterns: the valid states have nodes as their words, or none; a transition
 -- leads to the longer node where there is one, and from a dead state to a dead one

@@ -8,11 +8,11 @@ use Rattle.std.proofs.lemmas.List.Elements.{All-nil, All-append, All-weaker}
 use Rattle.aho_laws.proofs.Begins.{is_word-true, is_word-from}
 use Rattle.aho_laws.proofs.Kept.{is_cut-true, is_cut-from, own-all, own-not_node, all_kept}
 use Rattle.aho_laws.proofs.StepLaw.{state-node, state-cut, state-shorter}
-use Rattle.aho_base.specs.Failure.{is_cut, is_leftmost, state_after}
-use Rattle.aho_base.specs.Listing.{IsListedBy, IsMember}
-use Rattle.aho_base.specs.MatchList.{leftmost_matches, matches_of, matches_of_word, own_matches, suffix_matches}
-use Rattle.aho_base.specs.Patterns.{Patterns}
-use Rattle.aho_base.specs.Trie.{is_kept, is_node, is_word, pattern_word}
+use Rattle.aho_core.specs.Failure.{is_cut, is_leftmost, state_after}
+use Rattle.aho_core.specs.Listing.{IsListedBy, IsMember}
+use Rattle.aho_core.specs.MatchList.{leftmost_matches, matches_of, matches_of_word, own_matches, suffix_matches}
+use Rattle.aho_core.specs.Patterns.{Patterns}
+use Rattle.aho_core.specs.Trie.{is_kept, is_node, is_word, pattern_word}
 
 -- a word that ends another
 abbrev pub Ends : List ℕ → List ℕ → Type 0

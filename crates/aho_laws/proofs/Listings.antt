@@ -3,17 +3,17 @@ use Rattle.std.proofs.Common.{◌≡◌, ℕ, ◌+◌, ◌-◌, ◌<◌, ◌≤�
 use Rattle.std.specs.Prelude.{slice_range}
 use Rattle.std.specs.List.{filter}
 use Rattle.std.proofs.lemmas.List.Edits.{length-between}
-use Rattle.aho_base.specs.declared.search.Anchored.TheVariants.{No}
-use Rattle.aho_base.specs.declared.search.MatchKind.TheVariants.{Standard}
-use Rattle.aho_base.specs.Bytes.{folded_word, is_same_word, IsSameWord}
-use Rattle.aho_base.specs.Listing.{IsMember, IsListedBy}
-use Rattle.aho_base.specs.Occurrence.{Occurrence, occurrence}
-use Rattle.aho_base.specs.Occurs.{Occurs}
-use Rattle.aho_base.specs.Order.{IsBefore}
-use Rattle.aho_base.specs.Overlapping.{all_occurrences, anchored_occurrences, begins_some, occurrences_at, occurrences_ending, places}
-use Rattle.aho_base.specs.Patterns.{Patterns, numbers, pattern_at}
+use Rattle.aho_core.specs.declared.search.Anchored.TheVariants.{No}
+use Rattle.aho_core.specs.declared.search.MatchKind.TheVariants.{Standard}
+use Rattle.aho_core.specs.Bytes.{folded_word, is_same_word, IsSameWord}
+use Rattle.aho_core.specs.Listing.{IsMember, IsListedBy}
+use Rattle.aho_core.specs.Occurrence.{Occurrence, occurrence}
+use Rattle.aho_core.specs.Occurs.{Occurs}
+use Rattle.aho_core.specs.Order.{IsBefore}
+use Rattle.aho_core.specs.Overlapping.{all_occurrences, anchored_occurrences, begins_some, occurrences_at, occurrences_ending, places}
+use Rattle.aho_core.specs.Patterns.{Patterns, numbers, pattern_at}
 use Rattle.aho_laws.specs.SearchLaws.{IsFrontOfPattern}
-use Rattle.aho_base.specs.Trie.{begins, pattern_word}
+use Rattle.aho_core.specs.Trie.{begins, pattern_word}
 use Rattle.aho_laws.proofs.Begins.{any-true, any-from, begins-true, begins-from}
 use Rattle.aho_laws.proofs.Members.{member-flat_map, member-of_flat_map, member-range, member-of_range, member-filter, member-of_filter, member-map, member-of_map, listed-flat_map_range, listed-filter, listed-map, listed-range, listed-by_weaker}
 use Rattle.aho_laws.proofs.SameWords.{is_same_word-Decides, IsSameWord-length}

@@ -1,14 +1,14 @@
 -- The definitions of states, failure links, lists and look-ups beside a literal reading of each, at every short word.
 use Rattle.std.specs.Prelude.{◌≡◌, ℕ, zero, suc, ◌+◌, ◌-◌, Bool, true, false, ◌&&◌, nat_eq, List, [], ◌∷◌, ◌++◌, length, flat_map, drop, find, bytes_eq, codes, Option, Some, None, unwrap_or, refl, if◌then◌else◌}
 use Rattle.std.specs.List.{list_any, list_all, range_with_len}
-use Rattle.aho_base.specs.declared.search.Anchored.TheVariants.{No}
-use Rattle.aho_base.specs.declared.search.MatchKind.{MatchKind}
-use Rattle.aho_base.specs.declared.search.MatchKind.TheVariants.{Standard, LeftmostFirst, LeftmostLongest}
-use Rattle.aho_base.specs.Failure.{is_leftmost, is_cut, state_after, failure_of}
-use Rattle.aho_base.specs.MatchList.{own_matches, matches_of_word}
-use Rattle.aho_base.specs.Patterns.{Patterns, numbers}
-use Rattle.aho_base.specs.Step.{lookups}
-use Rattle.aho_base.specs.Trie.{is_kept, is_node, pattern_word, begins}
+use Rattle.aho_core.specs.declared.search.Anchored.TheVariants.{No}
+use Rattle.aho_core.specs.declared.search.MatchKind.{MatchKind}
+use Rattle.aho_core.specs.declared.search.MatchKind.TheVariants.{Standard, LeftmostFirst, LeftmostLongest}
+use Rattle.aho_core.specs.Failure.{is_leftmost, is_cut, state_after, failure_of}
+use Rattle.aho_core.specs.MatchList.{own_matches, matches_of_word}
+use Rattle.aho_core.specs.Patterns.{Patterns, numbers}
+use Rattle.aho_core.specs.Step.{lookups}
+use Rattle.aho_core.specs.Trie.{is_kept, is_node, pattern_word, begins}
 use Rattle.aho_laws.proofs.LawTests.{is_same_state, words_up_to}
 
 -- ---- the literal readings

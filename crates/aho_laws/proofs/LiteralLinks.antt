@@ -2,19 +2,19 @@
 use Rattle.std.proofs.Common.{◌≡◌, ◌≢◌, ◌↔◌, inl, inr, ℕ, zero, suc, ◌+◌, ◌<◌, ◌≤◌, true, false, List, [], ◌∷◌, ◌++◌, length, refl, sym, ◌∙◌, ap, subst, arith, length-append}
 use Rattle.std.specs.Prelude.{Option, Some, None}
 use Rattle.std.proofs.lemmas.Bool.{cases_Bool, cond-true, cond-false}
-use Rattle.aho_base.specs.declared.search.Anchored.TheVariants.{No}
-use Rattle.aho_base.specs.declared.search.MatchKind.TheVariants.{Standard}
+use Rattle.aho_core.specs.declared.search.Anchored.TheVariants.{No}
+use Rattle.aho_core.specs.declared.search.MatchKind.TheVariants.{Standard}
 use Rattle.aho_laws.proofs.ByLinks.{failure-is_node}
 use Rattle.aho_laws.proofs.Kept.{is_cut-from, is_cut-true, other_than_standard, standard_only}
 use Rattle.aho_laws.proofs.Stands.{Stands, from_occurs, to_occurs, length-folded, stands_at}
 use Rattle.aho_laws.proofs.LiteralReadings.{dead-occurrence, live-occurrences, longest_node, longest_node-is, longest_node-size, state-longest}
 use Rattle.aho_laws.proofs.LookUps.{lookups-taken, lookups-failure}
-use Rattle.aho_base.specs.Bytes.{folded, folded_word}
-use Rattle.aho_base.specs.Failure.{failure_of, is_cut, is_leftmost, state_after}
-use Rattle.aho_base.specs.Occurrence.{Occurrence}
-use Rattle.aho_base.specs.Patterns.{Patterns}
-use Rattle.aho_base.specs.Step.{lookups}
-use Rattle.aho_base.specs.Trie.{is_node, pattern_word}
+use Rattle.aho_core.specs.Bytes.{folded, folded_word}
+use Rattle.aho_core.specs.Failure.{failure_of, is_cut, is_leftmost, state_after}
+use Rattle.aho_core.specs.Occurrence.{Occurrence}
+use Rattle.aho_core.specs.Patterns.{Patterns}
+use Rattle.aho_core.specs.Step.{lookups}
+use Rattle.aho_core.specs.Trie.{is_node, pattern_word}
 use Rattle.aho_laws.specs.TrieLaws.{FollowsLinks, IsLongestNode, IsTrieState, OccursBefore, Takes}
 
 module _ (p : Patterns) where

@@ -4,19 +4,19 @@ use Rattle.std.proofs.Common.{◌≡◌, ◌≢◌, ◌↔◌, inl, inr, ℕ, �
 use Rattle.std.specs.Prelude.{Option, Some, None}
 use Rattle.std.proofs.lemmas.Bool.{cases_Bool, cond-true, cond-false}
 use Rattle.std.proofs.lemmas.List.{append-nil, map-append, take-append-drop, take-map, take_at}
-use Rattle.aho_base.specs.declared.search.Anchored.TheVariants.{No, Yes}
-use Rattle.aho_base.specs.declared.search.MatchKind.TheVariants.{Standard}
+use Rattle.aho_core.specs.declared.search.Anchored.TheVariants.{No, Yes}
+use Rattle.aho_core.specs.declared.search.MatchKind.TheVariants.{Standard}
 use Rattle.aho_laws.proofs.Begins.{Begins}
 use Rattle.aho_laws.proofs.Kept.{is_node-root, is_node-from, is_node-true, is_cut-true, every_kept, other_than_standard, standard_only}
 use Rattle.aho_laws.proofs.StepLaw.{state-node, state-cut, state-shorter, dead_leftmost}
 use Rattle.aho_laws.proofs.Stands.{Stands, from_occurs, to_occurs, length-folded, stands_at}
 use Rattle.aho_laws.proofs.Fronts.{live_front}
-use Rattle.aho_base.specs.Bytes.{IsSameWord, folded, folded_word}
-use Rattle.aho_base.specs.Failure.{is_cut, is_leftmost, state_after}
-use Rattle.aho_base.specs.Held.{held_after}
-use Rattle.aho_base.specs.Occurrence.{Occurrence}
-use Rattle.aho_base.specs.Patterns.{Patterns, pattern_at}
-use Rattle.aho_base.specs.Trie.{is_node, pattern_word}
+use Rattle.aho_core.specs.Bytes.{IsSameWord, folded, folded_word}
+use Rattle.aho_core.specs.Failure.{is_cut, is_leftmost, state_after}
+use Rattle.aho_core.specs.Held.{held_after}
+use Rattle.aho_core.specs.Occurrence.{Occurrence}
+use Rattle.aho_core.specs.Patterns.{Patterns, pattern_at}
+use Rattle.aho_core.specs.Trie.{is_node, pattern_word}
 use Rattle.aho_laws.specs.TrieLaws.{IsLongestNode, OccursBefore}
 
 module _ (p : Patterns) where

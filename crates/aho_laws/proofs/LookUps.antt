@@ -3,16 +3,16 @@ use Rattle.std.proofs.Common.{◌≡◌, inl, inr, ℕ, ◌+◌, ◌*◌, ◌≤
 use Rattle.std.specs.Prelude.{Option, Some, None}
 use Rattle.std.proofs.lemmas.Bool.{cases_Bool, cond-true, cond-false}
 use Rattle.std.proofs.lemmas.List.{append_assoc, append-nil, length_push, length-map}
-use Rattle.aho_base.specs.declared.search.Anchored.{Anchored}
-use Rattle.aho_base.specs.declared.search.Anchored.TheVariants.{No, Yes}
+use Rattle.aho_core.specs.declared.search.Anchored.{Anchored}
+use Rattle.aho_core.specs.declared.search.Anchored.TheVariants.{No, Yes}
 use Rattle.aho_laws.proofs.Kept.{is_cut-more, is_node-root}
 use Rattle.aho_laws.proofs.StepLaw.{state-node, state-cut, state-shorter, not_node-more, not_cut-more, held_after-push}
-use Rattle.aho_base.specs.Bytes.{folded, folded_word}
-use Rattle.aho_base.specs.Failure.{failure_of, is_cut, state_after}
-use Rattle.aho_base.specs.Held.{held_after}
-use Rattle.aho_base.specs.Patterns.{Patterns}
-use Rattle.aho_base.specs.Step.{depth_of, follow, follow_along, lookups, lookups_along, lookups_from}
-use Rattle.aho_base.specs.Trie.{is_node}
+use Rattle.aho_core.specs.Bytes.{folded, folded_word}
+use Rattle.aho_core.specs.Failure.{failure_of, is_cut, state_after}
+use Rattle.aho_core.specs.Held.{held_after}
+use Rattle.aho_core.specs.Patterns.{Patterns}
+use Rattle.aho_core.specs.Step.{depth_of, follow, follow_along, lookups, lookups_along, lookups_from}
+use Rattle.aho_core.specs.Trie.{is_node}
 
 -- a state is counted once
 at_most_one : (b : Bool) → cond b 1 0 ≤ 1

@@ -2,7 +2,7 @@
 use Rattle.std.proofs.Common.{◌≡◌, ℕ, zero, suc, ◌+◌, ◌<◌, ◌≤◌, Bool, true, false, List, [], ◌∷◌, map, inl, inr, refl, arith, subst, sym, ap, ◌∙◌}
 use Rattle.std.proofs.lemmas.Bool.{cases_eq, cases_Bool, cond-true, cond-false}
 use Rattle.std.specs.List.{flat_map, filter, range_with_len}
-use Rattle.aho_base.specs.Listing.{IsMember, IsListedBy}
+use Rattle.aho_core.specs.Listing.{IsMember, IsListedBy}
 use Rattle.aho_laws.proofs.Listed.{member-left, member-right, member-of_append, listed-append}
 
 pub member-flat_map : {X A : Type 0} (f : X → List A) (xs : List X) (x : X) (a : A) → IsMember xs x → IsMember (f x) a → IsMember (flat_map f xs) a

@@ -1,17 +1,17 @@
 -- States of any kind that are held as the words are have the laws.
 use Rattle.std.proofs.Common.{◌≡◌, ℕ, ◌+◌, ◌≤◌, Bool, true, List, [], ◌∷◌, ◌++◌, length, map, refl, sym, ◌∙◌, ap, subst}
 use Rattle.std.specs.Prelude.{Option, Some, is_none}
-use Rattle.aho_base.specs.declared.search.Anchored.{Anchored}
-use Rattle.aho_base.specs.declared.search.Anchored.TheVariants.{No, Yes}
-use Rattle.aho_base.specs.declared.search.MatchKind.{MatchKind}
+use Rattle.aho_core.specs.declared.search.Anchored.{Anchored}
+use Rattle.aho_core.specs.declared.search.Anchored.TheVariants.{No, Yes}
+use Rattle.aho_core.specs.declared.search.MatchKind.{MatchKind}
 use Rattle.aho_laws.proofs.StepLaw.{held_after-push}
 use Rattle.aho_laws.proofs.WordAutomaton.{word_automaton}
-use Rattle.aho_base.specs.Bytes.{folded}
-use Rattle.aho_base.specs.Held.{held_after, is_root}
-use Rattle.aho_base.specs.Laws.{BestAfter, Fits, Reads, better, longest, told}
-use Rattle.aho_base.specs.MatchList.{matches_of}
-use Rattle.aho_base.specs.Patterns.{Patterns}
-use Rattle.aho_base.specs.Step.{follow}
+use Rattle.aho_core.specs.Bytes.{folded}
+use Rattle.aho_core.specs.Held.{held_after, is_root}
+use Rattle.aho_core.specs.Laws.{BestAfter, Fits, Reads, better, longest, told}
+use Rattle.aho_core.specs.MatchList.{matches_of}
+use Rattle.aho_core.specs.Patterns.{Patterns}
+use Rattle.aho_core.specs.Step.{follow}
 
 -- an automaton has the laws where its held states list what the words' states do, are dead where those are, and are starts
 -- only where those are the root and they are held before the first byte

@@ -1,12 +1,12 @@
 -- The order of occurrences, and the best of a set of them.
 use Rattle.std.proofs.Common.{◌≡◌, ◌⊎◌, inl, inr, ℕ, ◌+◌, ◌<◌, length, Option, Some, None, refl, sym, ◌∙◌, ap, subst, arith}
 use Rattle.std.proofs.lemmas.Bool.{cases_order, cases_lt}
-use Rattle.aho_base.specs.declared.search.MatchKind.{MatchKind}
-use Rattle.aho_base.specs.declared.search.MatchKind.TheVariants.{Standard, LeftmostFirst, LeftmostLongest}
-use Rattle.aho_base.specs.Best.{IsBest, IsBestOrNone}
-use Rattle.aho_base.specs.Occurrence.{Occurrence, occurrence}
-use Rattle.aho_base.specs.Order.{IsBefore, IsLessOr, IsMoreOr}
-use Rattle.aho_base.specs.Patterns.{Patterns, pattern_at}
+use Rattle.aho_core.specs.declared.search.MatchKind.{MatchKind}
+use Rattle.aho_core.specs.declared.search.MatchKind.TheVariants.{Standard, LeftmostFirst, LeftmostLongest}
+use Rattle.aho_core.specs.Best.{IsBest, IsBestOrNone}
+use Rattle.aho_core.specs.Occurrence.{Occurrence, occurrence}
+use Rattle.aho_core.specs.Order.{IsBefore, IsLessOr, IsMoreOr}
+use Rattle.aho_core.specs.Patterns.{Patterns, pattern_at}
 
 pub IsBefore-irreflexive : (kind : MatchKind) (x : Occurrence) → IsBefore kind x x → ⊥
 IsBefore-irreflexive Standard x h = grind arith

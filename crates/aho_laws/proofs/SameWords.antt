@@ -3,8 +3,8 @@ use Rattle.std.proofs.Common.{◌≡◌, ℕ, ◌<◌, List, length, get_or, sym
 use Rattle.std.proofs.lemmas.List.{same_lists, get_or-map, length-map}
 use Rattle.std.specs.Bool.{Decides}
 use Rattle.std.proofs.lemmas.Slice.Eq.{bytes_eq-Decides}
-use Rattle.aho_base.specs.Bytes.{folded, folded_word, IsSameByte, IsSameWord, is_same_word}
-use Rattle.aho_base.specs.Patterns.{Patterns}
+use Rattle.aho_core.specs.Bytes.{folded, folded_word, IsSameByte, IsSameWord, is_same_word}
+use Rattle.aho_core.specs.Patterns.{Patterns}
 
 module _ (p : Patterns) where
   -- words of one length whose bytes are the same are the same

@@ -1,14 +1,14 @@
 -- The list of all occurrences of a span, from that of its bytes as a text of their own.
 use Rattle.std.proofs.Common.{◌≡◌, ℕ, ◌+◌, ◌-◌, ◌≤◌, List, length, map, sym, subst, arith}
 use Rattle.std.specs.Prelude.{slice_range}
-use Rattle.aho_base.specs.declared.search.Anchored.TheVariants.{No}
-use Rattle.aho_base.specs.declared.search.MatchKind.TheVariants.{Standard}
-use Rattle.aho_base.specs.Listing.{IsMember}
-use Rattle.aho_base.specs.Occurrence.{Occurrence}
-use Rattle.aho_base.specs.Occurs.{Occurs}
-use Rattle.aho_base.specs.Order.{IsBefore}
-use Rattle.aho_base.specs.Overlapping.{all_occurrences}
-use Rattle.aho_base.specs.Patterns.{Patterns}
+use Rattle.aho_core.specs.declared.search.Anchored.TheVariants.{No}
+use Rattle.aho_core.specs.declared.search.MatchKind.TheVariants.{Standard}
+use Rattle.aho_core.specs.Listing.{IsMember}
+use Rattle.aho_core.specs.Occurrence.{Occurrence}
+use Rattle.aho_core.specs.Occurs.{Occurs}
+use Rattle.aho_core.specs.Order.{IsBefore}
+use Rattle.aho_core.specs.Overlapping.{all_occurrences}
+use Rattle.aho_core.specs.Patterns.{Patterns}
 use Rattle.aho_laws.specs.CutLaws.{moved}
 use Rattle.aho_laws.proofs.ClearCuts.{Occurs-in}
 use Rattle.aho_laws.proofs.Listings.{all_occurrences-has, all_occurrences-listed, all_occurrences-only}

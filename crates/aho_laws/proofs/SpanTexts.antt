@@ -3,17 +3,17 @@ use Rattle.std.proofs.Common.{◌≡◌, inl, inr, ℕ, ◌+◌, ◌-◌, ◌≤
 use Rattle.std.specs.Prelude.{slice_range}
 use Rattle.std.proofs.lemmas.List.{take-take, drop-drop, drop-take, length-take}
 use Rattle.std.proofs.Math.Seq.{drop-append_seam, take-append_seam, take-length}
-use Rattle.aho_base.specs.declared.search.Anchored.TheVariants.{No}
-use Rattle.aho_base.specs.declared.search.MatchKind.{MatchKind}
-use Rattle.aho_base.specs.declared.search.MatchKind.TheVariants.{Standard, LeftmostFirst, LeftmostLongest}
-use Rattle.aho_base.specs.Best.{IsBestOrNone}
-use Rattle.aho_base.specs.Bytes.{IsSameWord}
-use Rattle.aho_base.specs.Iteration.{AreFinds}
-use Rattle.aho_base.specs.Occurrence.{Occurrence}
-use Rattle.aho_base.specs.Occurs.{Occurs}
-use Rattle.aho_base.specs.Order.{IsBefore}
-use Rattle.aho_base.specs.Patterns.{Patterns, pattern_at}
-use Rattle.aho_base.specs.Search.{plain_search}
+use Rattle.aho_core.specs.declared.search.Anchored.TheVariants.{No}
+use Rattle.aho_core.specs.declared.search.MatchKind.{MatchKind}
+use Rattle.aho_core.specs.declared.search.MatchKind.TheVariants.{Standard, LeftmostFirst, LeftmostLongest}
+use Rattle.aho_core.specs.Best.{IsBestOrNone}
+use Rattle.aho_core.specs.Bytes.{IsSameWord}
+use Rattle.aho_core.specs.Iteration.{AreFinds}
+use Rattle.aho_core.specs.Occurrence.{Occurrence}
+use Rattle.aho_core.specs.Occurs.{Occurs}
+use Rattle.aho_core.specs.Order.{IsBefore}
+use Rattle.aho_core.specs.Patterns.{Patterns, pattern_at}
+use Rattle.aho_core.specs.Search.{plain_search}
 use Rattle.aho_laws.specs.CutLaws.{IsClear, NoneIsEmpty, moved, span_search}
 use Rattle.aho_laws.proofs.ClearCuts.{best-find, find-best, finds-clear}
 

@@ -3,24 +3,24 @@ use Rattle.std.proofs.Common.{◌≡◌, ◌⊎◌, inl, inr, ℕ, ◌+◌, ◌-
 use Rattle.std.specs.Prelude.{Option, Some, None}
 use Rattle.std.proofs.lemmas.Bool.{cases_lt, cases_eq}
 use Rattle.std.proofs.lemmas.List.{append-nil, length_push, nil_from_length}
-use Rattle.aho_base.specs.declared.search.Anchored.{Anchored}
-use Rattle.aho_base.specs.declared.search.Anchored.TheVariants.{No, Yes}
-use Rattle.aho_base.specs.declared.search.MatchKind.{MatchKind}
-use Rattle.aho_base.specs.declared.search.MatchKind.TheVariants.{Standard, LeftmostFirst, LeftmostLongest}
+use Rattle.aho_core.specs.declared.search.Anchored.{Anchored}
+use Rattle.aho_core.specs.declared.search.Anchored.TheVariants.{No, Yes}
+use Rattle.aho_core.specs.declared.search.MatchKind.{MatchKind}
+use Rattle.aho_core.specs.declared.search.MatchKind.TheVariants.{Standard, LeftmostFirst, LeftmostLongest}
 use Rattle.aho_laws.proofs.Begins.{begins_whole}
 use Rattle.aho_laws.proofs.Kept.{keeper, own-first, own-none, every_kept}
 use Rattle.aho_laws.proofs.Orders.{same_occurrence}
 use Rattle.aho_laws.proofs.Stands.{Stands, BestIn, stands_length, stands_more, stands_less, stands_at, begins_at}
 use Rattle.aho_laws.proofs.Leftmost.{told_at}
 use Rattle.aho_laws.proofs.Listed.{Ends, ListedBefore, suffix-member, suffix-has, suffix-listed}
-use Rattle.aho_base.specs.Failure.{is_leftmost}
-use Rattle.aho_base.specs.Laws.{first_of_two}
-use Rattle.aho_base.specs.Listing.{IsListedBy, IsMember}
-use Rattle.aho_base.specs.MatchList.{own_matches, suffix_matches}
-use Rattle.aho_base.specs.Occurrence.{Occurrence}
-use Rattle.aho_base.specs.Order.{IsBefore}
-use Rattle.aho_base.specs.Patterns.{Patterns}
-use Rattle.aho_base.specs.Trie.{is_kept, pattern_word}
+use Rattle.aho_core.specs.Failure.{is_leftmost}
+use Rattle.aho_core.specs.Laws.{first_of_two}
+use Rattle.aho_core.specs.Listing.{IsListedBy, IsMember}
+use Rattle.aho_core.specs.MatchList.{own_matches, suffix_matches}
+use Rattle.aho_core.specs.Occurrence.{Occurrence}
+use Rattle.aho_core.specs.Order.{IsBefore}
+use Rattle.aho_core.specs.Patterns.{Patterns}
+use Rattle.aho_core.specs.Trie.{is_kept, pattern_word}
 
 -- of two it prefers the one that ends first, and at one end the one that starts first, then the lesser number
 pub before_end : (kind : MatchKind) (m n : Occurrence) → is_leftmost kind ≡ false → m.end < n.end → IsBefore kind m n

@@ -3,20 +3,20 @@ use Rattle.std.proofs.Common.{◌≡◌, ◌⊎◌, inl, inr, ℕ, ◌+◌, ◌-
 use Rattle.std.specs.Prelude.{Option, Some, None, slice_range}
 use Rattle.std.proofs.lemmas.List.{length-map, map-append, take-append-drop, take-map, drop-map, take_at, drop_at, nil_from_length}
 use Rattle.std.proofs.lemmas.List.Folds.{drop_split}
-use Rattle.aho_base.specs.declared.search.Anchored.{Anchored}
-use Rattle.aho_base.specs.declared.search.Anchored.TheVariants.{Yes}
-use Rattle.aho_base.specs.declared.search.MatchKind.{MatchKind}
-use Rattle.aho_base.specs.declared.search.MatchKind.TheVariants.{Standard, LeftmostFirst, LeftmostLongest}
+use Rattle.aho_core.specs.declared.search.Anchored.{Anchored}
+use Rattle.aho_core.specs.declared.search.Anchored.TheVariants.{Yes}
+use Rattle.aho_core.specs.declared.search.MatchKind.{MatchKind}
+use Rattle.aho_core.specs.declared.search.MatchKind.TheVariants.{Standard, LeftmostFirst, LeftmostLongest}
 use Rattle.aho_laws.proofs.Begins.{Begins, two_cuts}
-use Rattle.aho_base.specs.Best.{IsBestOrNone}
-use Rattle.aho_base.specs.Bytes.{folded, folded_word}
-use Rattle.aho_base.specs.Failure.{is_leftmost}
-use Rattle.aho_base.specs.Laws.{BestAfter}
-use Rattle.aho_base.specs.Occurrence.{Occurrence}
-use Rattle.aho_base.specs.Occurs.{Occurs}
-use Rattle.aho_base.specs.Order.{IsBefore}
-use Rattle.aho_base.specs.Patterns.{Patterns, pattern_at}
-use Rattle.aho_base.specs.Trie.{pattern_word}
+use Rattle.aho_core.specs.Best.{IsBestOrNone}
+use Rattle.aho_core.specs.Bytes.{folded, folded_word}
+use Rattle.aho_core.specs.Failure.{is_leftmost}
+use Rattle.aho_core.specs.Laws.{BestAfter}
+use Rattle.aho_core.specs.Occurrence.{Occurrence}
+use Rattle.aho_core.specs.Occurs.{Occurs}
+use Rattle.aho_core.specs.Order.{IsBefore}
+use Rattle.aho_core.specs.Patterns.{Patterns, pattern_at}
+use Rattle.aho_core.specs.Trie.{pattern_word}
 
 -- the match's pattern stands in the word w: w is a front, the pattern, and a rest
 pub record Stands (p : Patterns) (anchored : Anchored) (w : List ℕ) (m : Occurrence) : Type 0 where

@@ -3,18 +3,18 @@ use Rattle.std.proofs.Common.{◌≡◌, inl, inr, ℕ, ◌<◌, ◌≤◌, true
 use Rattle.std.specs.Prelude.{Some}
 use Rattle.std.proofs.lemmas.Bool.{cases_Bool, cases_lt}
 use Rattle.std.proofs.lemmas.List.{append-nil, map-append}
-use Rattle.aho_base.specs.declared.search.Anchored.TheVariants.{No}
+use Rattle.aho_core.specs.declared.search.Anchored.TheVariants.{No}
 use Rattle.aho_laws.proofs.Kept.{is_cut-true, past_dead}
 use Rattle.aho_laws.proofs.StepLaw.{state-node, state-shorter}
 use Rattle.aho_laws.proofs.Stands.{Stands, from_occurs, length-folded, stands_length, begins_at}
 use Rattle.aho_laws.proofs.Fronts.{moved_back, stands_back, live_front}
-use Rattle.aho_base.specs.Bytes.{folded, folded_word}
-use Rattle.aho_base.specs.Failure.{is_cut, is_leftmost, state_after}
-use Rattle.aho_base.specs.Held.{held_after}
-use Rattle.aho_base.specs.Occurrence.{Occurrence}
-use Rattle.aho_base.specs.Occurs.{Occurs}
-use Rattle.aho_base.specs.Patterns.{Patterns}
-use Rattle.aho_base.specs.Trie.{is_node}
+use Rattle.aho_core.specs.Bytes.{folded, folded_word}
+use Rattle.aho_core.specs.Failure.{is_cut, is_leftmost, state_after}
+use Rattle.aho_core.specs.Held.{held_after}
+use Rattle.aho_core.specs.Occurrence.{Occurrence}
+use Rattle.aho_core.specs.Occurs.{Occurs}
+use Rattle.aho_core.specs.Patterns.{Patterns}
+use Rattle.aho_core.specs.Trie.{is_node}
 
 module _ (p : Patterns) where
   -- Standard: whatever ends past the word starts in the state's word, or later

@@ -3,15 +3,15 @@ use Rattle.std.proofs.Common.{◌≡◌, inl, inr, ℕ, true, false, cond, List,
 use Rattle.std.specs.Prelude.{Option, Some, None}
 use Rattle.std.proofs.lemmas.Bool.{cases_Bool, cond-false}
 use Rattle.std.proofs.lemmas.List.{map_push}
-use Rattle.aho_base.specs.declared.search.Anchored.{Anchored}
-use Rattle.aho_base.specs.declared.search.Anchored.TheVariants.{No, Yes}
+use Rattle.aho_core.specs.declared.search.Anchored.{Anchored}
+use Rattle.aho_core.specs.declared.search.Anchored.TheVariants.{No, Yes}
 use Rattle.aho_laws.proofs.Kept.{is_node-root, is_node-front, is_cut-more, is_cut-before, is_cut-true}
-use Rattle.aho_base.specs.Bytes.{folded, folded_word}
-use Rattle.aho_base.specs.Failure.{failure_of, is_cut, is_leftmost, state_after}
-use Rattle.aho_base.specs.Held.{held_after}
-use Rattle.aho_base.specs.Patterns.{Patterns}
-use Rattle.aho_base.specs.Step.{follow}
-use Rattle.aho_base.specs.Trie.{is_node}
+use Rattle.aho_core.specs.Bytes.{folded, folded_word}
+use Rattle.aho_core.specs.Failure.{failure_of, is_cut, is_leftmost, state_after}
+use Rattle.aho_core.specs.Held.{held_after}
+use Rattle.aho_core.specs.Patterns.{Patterns}
+use Rattle.aho_core.specs.Step.{follow}
+use Rattle.aho_core.specs.Trie.{is_node}
 
 module _ (p : Patterns) where
   -- the state after a nonempty word, by cases

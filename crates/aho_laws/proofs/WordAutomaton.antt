@@ -5,10 +5,10 @@ use Rattle.std.specs.List.{All}
 use Rattle.std.proofs.lemmas.Bool.{cases_Bool, cases_lt, cond-true, cond-false, eq-eqb, ne_eqb}
 use Rattle.std.proofs.lemmas.List.{append-nil, length_push, map_push, map-append, length-map, get_or-map}
 use Rattle.std.proofs.lemmas.List.Elements.{All-nil, All-weaker, All-head}
-use Rattle.aho_base.specs.declared.search.Anchored.{Anchored}
-use Rattle.aho_base.specs.declared.search.Anchored.TheVariants.{No, Yes}
-use Rattle.aho_base.specs.declared.search.MatchKind.{MatchKind}
-use Rattle.aho_base.specs.declared.search.MatchKind.TheVariants.{Standard, LeftmostFirst, LeftmostLongest}
+use Rattle.aho_core.specs.declared.search.Anchored.{Anchored}
+use Rattle.aho_core.specs.declared.search.Anchored.TheVariants.{No, Yes}
+use Rattle.aho_core.specs.declared.search.MatchKind.{MatchKind}
+use Rattle.aho_core.specs.declared.search.MatchKind.TheVariants.{Standard, LeftmostFirst, LeftmostLongest}
 use Rattle.aho_laws.proofs.Begins.{begins_length}
 use Rattle.aho_laws.proofs.ByLinks.{matches-root}
 use Rattle.aho_laws.proofs.Kept.{other_than_standard, own-first, own-not_node, is_node-true, is_cut-true}
@@ -21,14 +21,14 @@ use Rattle.aho_laws.proofs.Standard.{told_ending, best_at_start, standard_furthe
 use Rattle.aho_laws.proofs.EndingLists.{held-patterns_ending, anchored-lists, is_none-held_after}
 use Rattle.aho_laws.proofs.Starts.{start_half}
 use Rattle.aho_laws.proofs.LiteralReadings.{live-occurrences}
-use Rattle.aho_base.specs.Bytes.{folded, folded_word}
-use Rattle.aho_base.specs.Failure.{is_leftmost, state_after}
-use Rattle.aho_base.specs.Held.{held_after, is_root}
-use Rattle.aho_base.specs.Laws.{BestAfter, Fits, Reads, better, first_of_two, longest, told}
-use Rattle.aho_base.specs.MatchList.{leftmost_matches, matches_of, matches_of_word, own_matches, suffix_matches}
-use Rattle.aho_base.specs.Occurrence.{Occurrence}
-use Rattle.aho_base.specs.Patterns.{Patterns}
-use Rattle.aho_base.specs.Trie.{is_node, pattern_word}
+use Rattle.aho_core.specs.Bytes.{folded, folded_word}
+use Rattle.aho_core.specs.Failure.{is_leftmost, state_after}
+use Rattle.aho_core.specs.Held.{held_after, is_root}
+use Rattle.aho_core.specs.Laws.{BestAfter, Fits, Reads, better, first_of_two, longest, told}
+use Rattle.aho_core.specs.MatchList.{leftmost_matches, matches_of, matches_of_word, own_matches, suffix_matches}
+use Rattle.aho_core.specs.Occurrence.{Occurrence}
+use Rattle.aho_core.specs.Patterns.{Patterns}
+use Rattle.aho_core.specs.Trie.{is_node, pattern_word}
 
 -- which of two the kinds take
 better_leftmost : (kind : MatchKind) (r t : Option Occurrence) → is_leftmost kind ≡ true → better kind r t ≡ first_of_two t r

@@ -1,20 +1,20 @@
 -- Worked examples, computed from the definitions.
 use Rattle.std.specs.Prelude.{◌≡◌, ℕ, Bool, true, false, List, [], ◌∷◌, length, map, take, slice_index_or, codes, Option, Some, None, refl}
 use Rattle.std.specs.List.{range_with_len}
-use Rattle.aho_base.specs.declared.search.Anchored.{Anchored}
-use Rattle.aho_base.specs.declared.search.Anchored.TheVariants.{No, Yes}
-use Rattle.aho_base.specs.declared.search.MatchKind.{MatchKind}
-use Rattle.aho_base.specs.declared.search.MatchKind.TheVariants.{Standard, LeftmostFirst, LeftmostLongest}
-use Rattle.aho_base.specs.Bytes.{folded, is_same_word}
-use Rattle.aho_base.specs.Failure.{is_cut, failure_of}
-use Rattle.aho_base.specs.Held.{held_after}
-use Rattle.aho_base.specs.MatchList.{matches_of, own_matches}
-use Rattle.aho_base.specs.Occurrence.{Occurrence}
-use Rattle.aho_base.specs.Overlapping.{all_occurrences, overlapping}
-use Rattle.aho_base.specs.Patterns.{Patterns, numbers}
-use Rattle.aho_base.specs.Replacement.{replaced}
-use Rattle.aho_base.specs.Step.{lookups, lookups_along}
-use Rattle.aho_base.specs.Trie.{is_kept, is_node, pattern_word}
+use Rattle.aho_core.specs.declared.search.Anchored.{Anchored}
+use Rattle.aho_core.specs.declared.search.Anchored.TheVariants.{No, Yes}
+use Rattle.aho_core.specs.declared.search.MatchKind.{MatchKind}
+use Rattle.aho_core.specs.declared.search.MatchKind.TheVariants.{Standard, LeftmostFirst, LeftmostLongest}
+use Rattle.aho_core.specs.Bytes.{folded, is_same_word}
+use Rattle.aho_core.specs.Failure.{is_cut, failure_of}
+use Rattle.aho_core.specs.Held.{held_after}
+use Rattle.aho_core.specs.MatchList.{matches_of, own_matches}
+use Rattle.aho_core.specs.Occurrence.{Occurrence}
+use Rattle.aho_core.specs.Overlapping.{all_occurrences, overlapping}
+use Rattle.aho_core.specs.Patterns.{Patterns, numbers}
+use Rattle.aho_core.specs.Replacement.{replaced}
+use Rattle.aho_core.specs.Step.{lookups, lookups_along}
+use Rattle.aho_core.specs.Trie.{is_kept, is_node, pattern_word}
 
 abbrev exact : MatchKind → List (List ℕ) → Patterns
 exact kind words = record { words = words; kind = kind; ignore_case = false }

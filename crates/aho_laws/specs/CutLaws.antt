@@ -1,15 +1,15 @@
 -- What the laws of a text that is cut say of patterns, of places and of pieces.
 use Rattle.std.specs.Prelude.{◌≡◌, ◌⊎◌, ℕ, ◌+◌, ◌-◌, ◌<◌, ◌≤◌, max, false, nat_le, nat_lt, if◌then◌else◌, List, [], ◌∷◌, ◌++◌, None, filter, flat_map, length, map}
-use Rattle.aho_base.specs.declared.search.Anchored.TheVariants.{No}
-use Rattle.aho_base.specs.Bytes.{IsSameByte}
-use Rattle.aho_base.specs.Iteration.{AreFinds}
-use Rattle.aho_base.specs.Laws.{longest}
-use Rattle.aho_base.specs.Listing.{IsMember}
-use Rattle.aho_base.specs.Occurrence.{Occurrence}
-use Rattle.aho_base.specs.Occurs.{Occurs}
-use Rattle.aho_base.specs.Patterns.{Patterns, pattern_at}
-use Rattle.aho_base.specs.Replacement.{replaced}
-use Rattle.aho_base.specs.Search.{Search, plain_search}
+use Rattle.aho_core.specs.declared.search.Anchored.TheVariants.{No}
+use Rattle.aho_core.specs.Bytes.{IsSameByte}
+use Rattle.aho_core.specs.Iteration.{AreFinds}
+use Rattle.aho_core.specs.Laws.{longest}
+use Rattle.aho_core.specs.Listing.{IsMember}
+use Rattle.aho_core.specs.Occurrence.{Occurrence}
+use Rattle.aho_core.specs.Occurs.{Occurs}
+use Rattle.aho_core.specs.Patterns.{Patterns, pattern_at}
+use Rattle.aho_core.specs.Replacement.{replaced}
+use Rattle.aho_core.specs.Search.{Search, plain_search}
 
 -- the plain search of a span of a haystack
 abbrev pub span_search : List ℕ → ℕ → ℕ → Search

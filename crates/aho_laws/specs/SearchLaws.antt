@@ -3,10 +3,10 @@ use Rattle.std.specs.Prelude.{◌≡◌, ℕ, ◌<◌, ◌≤◌, Bool, List, �
 use Rattle.std.specs.Borrow.{Bor, MutBor}
 use Rattle.std.specs.Fn.{Mut}
 use Rattle.std.specs.declared.alloc.AllocError.{AllocError}
-use Rattle.aho_base.specs.Bytes.{folded_word}
-use Rattle.aho_base.specs.ClosureRun.{CalledOn}
-use Rattle.aho_base.specs.Occurrence.{Occurrence}
-use Rattle.aho_base.specs.Patterns.{Patterns, pattern_at}
+use Rattle.aho_core.specs.Bytes.{folded_word}
+use Rattle.aho_core.specs.ClosureRun.{CalledOn}
+use Rattle.aho_core.specs.Occurrence.{Occurrence}
+use Rattle.aho_core.specs.Patterns.{Patterns, pattern_at}
 
 -- the first range ends before the second starts, or where it does
 abbrev pub EndsBefore : Occurrence → Occurrence → Type 0

@@ -1,18 +1,18 @@
 -- What is proved of the word automaton, and of what its states say.
 use Rattle.std.specs.Prelude.{◌≡◌, ℕ, zero, suc, ◌+◌, ◌<◌, ◌≤◌, true, false, List, [], ◌∷◌, ◌++◌, map, drop, length, Option, Some, None, is_none}
-use Rattle.aho_base.specs.declared.search.Anchored.{Anchored}
-use Rattle.aho_base.specs.declared.search.Anchored.TheVariants.{No}
-use Rattle.aho_base.specs.Bytes.{IsSameWord}
-use Rattle.aho_base.specs.Failure.{failure_of}
-use Rattle.aho_base.specs.Held.{held_after, is_root}
-use Rattle.aho_base.specs.Laws.{Reads}
-use Rattle.aho_base.specs.MatchList.{matches_of}
-use Rattle.aho_base.specs.Occurrence.{Occurrence}
-use Rattle.aho_base.specs.Occurs.{Occurs}
-use Rattle.aho_base.specs.Order.{IsMoreOr}
-use Rattle.aho_base.specs.Patterns.{Patterns, pattern_at}
-use Rattle.aho_base.specs.Step.{depth_of, follow, lookups}
-use Rattle.aho_base.specs.Trie.{is_kept, is_node, pattern_word}
+use Rattle.aho_core.specs.declared.search.Anchored.{Anchored}
+use Rattle.aho_core.specs.declared.search.Anchored.TheVariants.{No}
+use Rattle.aho_core.specs.Bytes.{IsSameWord}
+use Rattle.aho_core.specs.Failure.{failure_of}
+use Rattle.aho_core.specs.Held.{held_after, is_root}
+use Rattle.aho_core.specs.Laws.{Reads}
+use Rattle.aho_core.specs.MatchList.{matches_of}
+use Rattle.aho_core.specs.Occurrence.{Occurrence}
+use Rattle.aho_core.specs.Occurs.{Occurs}
+use Rattle.aho_core.specs.Order.{IsMoreOr}
+use Rattle.aho_core.specs.Patterns.{Patterns, pattern_at}
+use Rattle.aho_core.specs.Step.{depth_of, follow, lookups}
+use Rattle.aho_core.specs.Trie.{is_kept, is_node, pattern_word}
 
 -- by the state that is held after a word, what it lists, whether it is dead and whether it is the root, the laws hold
 abbrev pub HasLaws : Patterns → Type 0

@@ -1,16 +1,16 @@
 //! Laws of a text that is cut: when its parts can be searched apart, and what their answers are together.
 
 ghost use Rattle.std.specs.Prelude.{◌≡◌, ◌≤◌, ◌↔◌, ◌∷◌, ◌++◌, ◌+◌, ℕ, List, length, map, slice_range, None};
-ghost use Rattle.aho_base.specs.Iteration.{AreFinds};
-ghost use Rattle.aho_base.specs.Listing.{IsMember, IsListedBy};
-ghost use Rattle.aho_base.specs.Occurrence.{Occurrence};
-ghost use Rattle.aho_base.specs.Order.{IsBefore};
-ghost use Rattle.aho_base.specs.Overlapping.{all_occurrences};
-ghost use Rattle.aho_base.specs.Patterns.{Patterns};
-ghost use Rattle.aho_base.specs.Replacement.{replaced};
-ghost use Rattle.aho_base.specs.Search.{plain_search};
+ghost use Rattle.aho_core.specs.Iteration.{AreFinds};
+ghost use Rattle.aho_core.specs.Listing.{IsMember, IsListedBy};
+ghost use Rattle.aho_core.specs.Occurrence.{Occurrence};
+ghost use Rattle.aho_core.specs.Order.{IsBefore};
+ghost use Rattle.aho_core.specs.Overlapping.{all_occurrences};
+ghost use Rattle.aho_core.specs.Patterns.{Patterns};
+ghost use Rattle.aho_core.specs.Replacement.{replaced};
+ghost use Rattle.aho_core.specs.Search.{plain_search};
 ghost use Rattle.aho_laws.specs.CutLaws.{AreCutBehind, AreSearched, IsClear, NoneHolds, NoneIsEmpty, Piece, chosen, ending_behind, joined, moved, overlap_start, placed, replaced_apart, span_search};
-ghost use Rattle.aho_base.specs.declared.search.MatchKind.TheVariants.{Standard};
+ghost use Rattle.aho_core.specs.declared.search.MatchKind.TheVariants.{Standard};
 
 /// The bytes of a span may be searched as a text of their own. Its finds, moved on by the span's start,
 /// are the finds of the span, where no pattern is empty. Its list of all occurrences, moved on alike, is

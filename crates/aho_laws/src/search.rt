@@ -1,25 +1,25 @@
 //! Laws of what a search, an iteration, a listing and a replacement answer.
 
 ghost use Rattle.std.specs.Prelude.{◌≡◌, ◌≤◌, ◌⊎◌, ◌↔◌, ◌++◌, ℕ, true, false, List, Option, length, slice_range, IsCharBoundary, Ok, Some, None};
-ghost use Rattle.aho_base.specs.Answer.{IsAnswer};
-ghost use Rattle.aho_base.specs.Best.{IsBest, IsBestOrNone};
-ghost use Rattle.aho_base.specs.ClosureRun.{RunsInMemory};
-ghost use Rattle.aho_base.specs.Iteration.{AreFinds};
-ghost use Rattle.aho_base.specs.Listing.{IsMember, IsListedBy};
-ghost use Rattle.aho_base.specs.Occurrence.{Occurrence};
-ghost use Rattle.aho_base.specs.Occurs.{Occurs, OccursIn};
-ghost use Rattle.aho_base.specs.Order.{IsBefore};
-ghost use Rattle.aho_base.specs.Overlapping.{all_occurrences, anchored_occurrences};
-ghost use Rattle.aho_base.specs.Patterns.{Patterns};
-ghost use Rattle.aho_base.specs.Replacement.{is_char_boundary, on_boundaries, replaced, replaced_by};
-ghost use Rattle.aho_base.specs.Search.{Search, plain_search};
+ghost use Rattle.aho_core.specs.Answer.{IsAnswer};
+ghost use Rattle.aho_core.specs.Best.{IsBest, IsBestOrNone};
+ghost use Rattle.aho_core.specs.ClosureRun.{RunsInMemory};
+ghost use Rattle.aho_core.specs.Iteration.{AreFinds};
+ghost use Rattle.aho_core.specs.Listing.{IsMember, IsListedBy};
+ghost use Rattle.aho_core.specs.Occurrence.{Occurrence};
+ghost use Rattle.aho_core.specs.Occurs.{Occurs, OccursIn};
+ghost use Rattle.aho_core.specs.Order.{IsBefore};
+ghost use Rattle.aho_core.specs.Overlapping.{all_occurrences, anchored_occurrences};
+ghost use Rattle.aho_core.specs.Patterns.{Patterns};
+ghost use Rattle.aho_core.specs.Replacement.{is_char_boundary, on_boundaries, replaced, replaced_by};
+ghost use Rattle.aho_core.specs.Search.{Search, plain_search};
 ghost use Rattle.aho_laws.specs.SearchLaws.{AppendsMatched, EndsBefore, IsFollowedBy, IsFrontOfPattern};
-ghost use Rattle.aho_base.specs.declared.search.Anchored.{Anchored};
-ghost use Rattle.aho_base.specs.declared.search.Anchored.TheVariants.{No};
-ghost use Rattle.aho_base.specs.declared.search.MatchKind.{MatchKind};
-ghost use Rattle.aho_base.specs.declared.search.MatchKind.TheVariants.{Standard};
+ghost use Rattle.aho_core.specs.declared.search.Anchored.{Anchored};
+ghost use Rattle.aho_core.specs.declared.search.Anchored.TheVariants.{No};
+ghost use Rattle.aho_core.specs.declared.search.MatchKind.{MatchKind};
+ghost use Rattle.aho_core.specs.declared.search.MatchKind.TheVariants.{Standard};
 
-use aho_base::search::Match;
+use aho_core::search::Match;
 use std::alloc::AllocError;
 
 /// Each match kind orders strictly: nothing is before itself, and what is before a second that is

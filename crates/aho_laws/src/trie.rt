@@ -1,19 +1,19 @@
 //! Laws of the trie: its words are the states of an automaton, and its definitions mean what they literally say.
 
 ghost use Rattle.std.specs.Prelude.{◌≡◌, ◌≤◌, ◌⊎◌, ◌↔◌, ℕ, true, List, Option, length, ◌≢◌, ◌+◌, ◌*◌, ◌<◌, false, [], ◌∷◌, ◌++◌, Some, None, take};
-ghost use Rattle.aho_base.specs.Bytes.{IsSameWord, folded, folded_word};
-ghost use Rattle.aho_base.specs.Failure.{failure_of};
-ghost use Rattle.aho_base.specs.Held.{held_after};
-ghost use Rattle.aho_base.specs.Laws.{patterns_ending};
-ghost use Rattle.aho_base.specs.Listing.{IsMember, IsListedBy};
-ghost use Rattle.aho_base.specs.MatchList.{matches_of, own_matches};
-ghost use Rattle.aho_base.specs.Patterns.{Patterns, pattern_at};
-ghost use Rattle.aho_base.specs.Step.{follow, lookups, lookups_along};
-ghost use Rattle.aho_base.specs.Trie.{is_kept, is_node};
+ghost use Rattle.aho_core.specs.Bytes.{IsSameWord, folded, folded_word};
+ghost use Rattle.aho_core.specs.Failure.{failure_of};
+ghost use Rattle.aho_core.specs.Held.{held_after};
+ghost use Rattle.aho_core.specs.Laws.{patterns_ending};
+ghost use Rattle.aho_core.specs.Listing.{IsMember, IsListedBy};
+ghost use Rattle.aho_core.specs.MatchList.{matches_of, own_matches};
+ghost use Rattle.aho_core.specs.Patterns.{Patterns, pattern_at};
+ghost use Rattle.aho_core.specs.Step.{follow, lookups, lookups_along};
+ghost use Rattle.aho_core.specs.Trie.{is_kept, is_node};
 ghost use Rattle.aho_laws.specs.TrieLaws.{BeginsKept, FollowsLinks, HasLaws, IsBegun, IsCounted, IsLongerOrFirst, IsLongestNode, IsOwnPattern, IsSuffixOf, IsTrieState, OccursBefore};
-ghost use Rattle.aho_base.specs.declared.search.Anchored.{Anchored};
-ghost use Rattle.aho_base.specs.declared.search.Anchored.TheVariants.{No, Yes};
-ghost use Rattle.aho_base.specs.declared.search.MatchKind.TheVariants.{Standard, LeftmostFirst};
+ghost use Rattle.aho_core.specs.declared.search.Anchored.{Anchored};
+ghost use Rattle.aho_core.specs.declared.search.Anchored.TheVariants.{No, Yes};
+ghost use Rattle.aho_core.specs.declared.search.MatchKind.TheVariants.{Standard, LeftmostFirst};
 
 /// The words of the trie, with one dead state, are the states of an automaton that has the laws:
 /// for all patterns, match kinds, case rules and anchorings. Its look-ups are paid by the length of

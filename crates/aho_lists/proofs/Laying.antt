@@ -4,7 +4,7 @@ use Rattle.std.specs.Prelude.{OnOk, is_ok, slice_range}
 use Rattle.std.proofs.lemmas.List.{take-append-le, drop-append-le, length-drop, length-take-le, length-append, append_assoc, append-nil}
 use Rattle.std.specs.List.{All}
 use Rattle.std.proofs.lemmas.List.Elements.{All-get_or, All-append, All-from_get_or}
-use Rattle.aho_base.specs.Numbers.{greatest_index}
+use Rattle.aho_core.specs.Numbers.{greatest_index}
 use Rattle.aho_lists.proofs.Patterns.{length-patterns_at, patterns_at-small}
 use Rattle.aho_lists.specs.Words.{room, length_mark, length_at, patterns_at, laid, AreLaid}
 

@@ -4,7 +4,7 @@ use Rattle.std.proofs.lemmas.Bool.{cases_eq, cases_lt}
 use Rattle.std.proofs.lemmas.List.{get_or_past, get_or_append_left, get_or-append-add, get_or-replicate, length-replicate, length-append}
 use Rattle.std.proofs.lemmas.Grind.{get_or_default_zero}
 use Rattle.std.proofs.Math.Seq.{get_or-append_seam}
-use Rattle.aho_base.specs.Numbers.{greatest_index}
+use Rattle.aho_core.specs.Numbers.{greatest_index}
 use Rattle.aho_lists.specs.Words.{room, length_mark, word_at, told, length_at, patterns_at, is_closed, laid, HasPatterns, AreLaid, IsLengthened}
 use Rattle.aho_lists.proofs.Patterns.{told-small, told-room, told-mark, told-some, length_at-zero, length_at-some, some_at, place_within, list_within, length-patterns_at, get_or-patterns_at, pattern_small, patterns_are, same_patterns, is_closed-below, closed-below}
 

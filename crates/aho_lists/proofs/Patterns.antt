@@ -7,7 +7,7 @@ use Rattle.std.proofs.lemmas.List.{get_or_past, get_or-take, get_or-drop, length
 use Rattle.std.proofs.lemmas.List.FromFn.{length-map-range_with_len, get_or-map-range_with_len}
 use Rattle.std.proofs.lemmas.List.Elements.{All-from_get_or}
 use Rattle.std.proofs.lemmas.Grind.{get_or_default_zero, same_number_lists}
-use Rattle.aho_base.specs.Numbers.{greatest_index}
+use Rattle.aho_core.specs.Numbers.{greatest_index}
 use Rattle.aho_lists.specs.Lists.{PatternLists, list_at, closed_at, IsList, IsListed, IsOwnNumber}
 use Rattle.aho_lists.specs.Words.{room, length_mark, word_at, told, length_at, patterns_at, pattern_lists, is_closed, closed_lists, pattern_store, IsHeld, HasPatterns, AreLaid}
 

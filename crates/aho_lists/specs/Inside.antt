@@ -1,6 +1,6 @@
 -- The vectors of the stores: what stands at each place.
 use Rattle.std.specs.Prelude.{◌≡◌, ◌≢◌, ℕ, ◌+◌, ◌<◌, ◌≤◌, List, [], ◌∷◌, ◌++◌, length, slice_index_or, slice_set}
-use Rattle.aho_base.specs.Numbers.{greatest_index}
+use Rattle.aho_core.specs.Numbers.{greatest_index}
 use Rattle.aho_lists.specs.Rings.{Entries, AreRings, IsPassed}
 use Rattle.aho_lists.specs.Renaming.{IsLed}
 use Rattle.aho_lists.specs.declared.transitions.Transition.{Transition}

@@ -1,7 +1,7 @@
 -- Why a store refuses to grow.
 use Rattle.std.specs.Prelude.{◌≡◌, ℕ, ◌+◌, ◌<◌, ◌⊎◌, nat_lt, if◌then◌else◌}
-use Rattle.aho_base.specs.declared.error.BuildError.{BuildError}
-use Rattle.aho_base.specs.declared.error.BuildError.TheVariants.{StateIDOverflow, OutOfMemory}
+use Rattle.aho_core.specs.declared.error.BuildError.{BuildError}
+use Rattle.aho_core.specs.declared.error.BuildError.TheVariants.{StateIDOverflow, OutOfMemory}
 
 -- the refusal of an entry at this index: the limit, where the index is above it, else out of memory
 abbrev pub refusal_at : ℕ → ℕ → BuildError

@@ -3,7 +3,7 @@
 -- stands is closed: it cannot grow there.
 use Rattle.std.specs.Prelude.{◌≡◌, ◌≢◌, ◌⊎◌, ℕ, zero, suc, ◌+◌, ◌-◌, ◌<◌, ◌≤◌, Bool, true, List, ◌∷◌, drop, length, map, nat_lt, if◌then◌else◌, slice_index_or, take}
 use Rattle.std.specs.List.{range_with_len}
-use Rattle.aho_base.specs.Numbers.{greatest_index}
+use Rattle.aho_core.specs.Numbers.{greatest_index}
 use Rattle.aho_lists.specs.Lists.{PatternLists}
 
 -- the word of a place where nothing stands

@@ -10,14 +10,14 @@
 ghost use Rattle.std.specs.Prelude.{◌≡◌, ◌⊎◌, ◌≤◌, ◌+◌, ◌<◌, ◌∷◌, ◌++◌, [], true, false, length, IfOk, IfErr, OnOk, OnErr, min, slice_get};
 ghost use Rattle.std.specs.List.{All};
 ghost use Rattle.std.specs.Iterator.{YieldsFirst, item_count};
-ghost use Rattle.aho_base.specs.Numbers.{greatest_index};
+ghost use Rattle.aho_core.specs.Numbers.{greatest_index};
 ghost use Rattle.aho_lists.specs.Refusal.{refusal_at, IsRefusalOf};
 ghost use Rattle.aho_lists.specs.Lists.{list_at, closed_at, IsList, IsListed, IsOwnNumber};
 
 use crate::places::overflow;
 use crate::words::{join_patterns, len_at, pattern_at, push_pattern, words_from};
-use aho_base::error::BuildError;
-use aho_base::search::{PatternID, SmallIndex};
+use aho_core::error::BuildError;
+use aho_core::search::{PatternID, SmallIndex};
 use std::alloc::{AllocError, Global};
 use std::iter::FusedIterator;
 use std::marker::Model;
@@ -192,7 +192,7 @@ pub struct Matches<'t> {
 impl<'t> Model for Matches<'t> {
     ghost use Rattle.std.specs.Prelude.{ℕ, List, ◌≤◌};
     ghost use Rattle.std.specs.List.{All};
-    ghost use Rattle.aho_base.specs.Numbers.{greatest_index};
+    ghost use Rattle.aho_core.specs.Numbers.{greatest_index};
 
     ghost Value = { List ℕ };
 

@@ -1,12 +1,12 @@
 //! What both stores do: a step along a list, and a refusal.
 
 ghost use Rattle.std.specs.Prelude.{true, ◌↔◌, ◌⊎◌, ◌<◌, ◌≡◌, ◌+◌, ◌≤◌};
-ghost use Rattle.aho_base.specs.Numbers.{greatest_index};
-ghost use Rattle.aho_base.specs.declared.error.BuildError.TheVariants.{StateIDOverflow};
+ghost use Rattle.aho_core.specs.Numbers.{greatest_index};
+ghost use Rattle.aho_core.specs.declared.error.BuildError.TheVariants.{StateIDOverflow};
 ghost use Rattle.aho_lists.specs.Rings.{place_after as after_place, IsBesideBehind};
 
-use aho_base::error::BuildError;
-use aho_base::search::StateID;
+use aho_core::error::BuildError;
+use aho_core::search::StateID;
 
 /// Where a walk goes from the entry at this place, which links to `link`: to the end where the list ends there.
 pub(crate) fn place_after(link: StateID, at: StateID, last: StateID) -> Option<StateID>

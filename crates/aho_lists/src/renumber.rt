@@ -3,7 +3,7 @@
 ghost use Rattle.aho_lists.specs.Renaming.{IsLed};
 
 use crate::transitions::FAIL;
-use aho_base::search::StateID;
+use aho_core::search::StateID;
 
 /// The number that the closure answers. FAIL names no state, and stays.
 pub fn renamed<F: Fn(StateID) -> StateID>(sid: StateID, map: &F) -> StateID

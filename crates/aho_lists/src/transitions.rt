@@ -6,7 +6,7 @@
 
 ghost use Rattle.std.specs.Prelude.{◌≡◌, ℕ, ◌≢◌, ◌+◌, ◌<◌, ◌≤◌, ◌∷◌, ◌++◌, [], length, true, IsOk, IfOk, IfErr, OnOk, OnErr, min, slice_get, unwrap_or};
 ghost use Rattle.std.specs.Iterator.{YieldsFirst, item_count};
-ghost use Rattle.aho_base.specs.Numbers.{greatest_index};
+ghost use Rattle.aho_core.specs.Numbers.{greatest_index};
 ghost use Rattle.aho_lists.specs.Refusal.{refusal_at};
 ghost use Rattle.aho_lists.specs.Rings.{AreRings, AreSideBySide, IsRun};
 ghost use Rattle.aho_lists.specs.Lists.{list_at, IsList};
@@ -17,8 +17,8 @@ ghost use Rattle.std.specs.List.{AllZip};
 
 use crate::places::{are_beside, beside_alone, beside_behind, overflow, place_after};
 use crate::renumber::renamed;
-use aho_base::error::BuildError;
-use aho_base::search::{SmallIndex, StateID};
+use aho_core::error::BuildError;
+use aho_core::search::{SmallIndex, StateID};
 use std::alloc::{AllocError, Global};
 use std::iter::FusedIterator;
 use std::marker::Model;

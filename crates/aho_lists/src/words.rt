@@ -5,10 +5,10 @@
 //! grow there, so that more than one owner may keep its number.
 
 ghost use Rattle.std.specs.Prelude.{◌≡◌, ◌≢◌, ◌⊎◌, ◌+◌, ◌-◌, ◌<◌, ◌≤◌, ◌∷◌, ◌++◌, [], ℕ, true, length, replicate, take, drop, IfOk, OnOk, OnErr};
-ghost use Rattle.aho_base.specs.Numbers.{greatest_index};
+ghost use Rattle.aho_core.specs.Numbers.{greatest_index};
 ghost use Rattle.aho_lists.specs.Words.{word_at as the_word, room, length_at, patterns_at, is_closed, laid, IsHeld, HasPatterns, AreLaid, IsPut, IsLengthened, IsClosed};
 
-use aho_base::search::PatternID;
+use aho_core::search::PatternID;
 use std::alloc::AllocError;
 
 /// What stands where room is.

@@ -6,9 +6,9 @@ use Rattle.std.proofs.lemmas.Bool.{cases_eq, cases_lt}
 use Rattle.std.proofs.lemmas.Bool.Decides.{nat_tests}
 use Rattle.std.proofs.lemmas.List.Elements.{Contains-append_left, Contains-append_right, Contains-push}
 use Rattle.std.proofs.lemmas.List.Folds.{list_any_at}
-use Rattle.aho_base.specs.declared.search.MatchKind.{MatchKind}
-use Rattle.aho_base.specs.Bytes.{folded_by, opposite}
-use Rattle.aho_base.specs.Patterns.{Patterns, pattern_at}
+use Rattle.aho_core.specs.declared.search.MatchKind.{MatchKind}
+use Rattle.aho_core.specs.Bytes.{folded_by, opposite}
+use Rattle.aho_core.specs.Patterns.{Patterns, pattern_at}
 use Rattle.aho_prefilter.specs.FirstBytes.{begins_by, cases_of, first_bytes, has_byte, with_byte}
 use Rattle.aho_prefilter.specs.Inside.{few, few_of, search_for_few, whole_of}
 use Rattle.aho_prefilter.specs.Prefilter.{AllBeginWithin, BeginsWithin, IsOnlyPattern, IsPrefilterOf, has_empty, held_for, is_empty, is_searched_whole, search_for, with_word}

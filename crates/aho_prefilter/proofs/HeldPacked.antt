@@ -7,8 +7,8 @@ use Rattle.std.proofs.lemmas.Bool.Decides.{nat_tests}
 use Rattle.std.proofs.lemmas.List.{length-append}
 use Rattle.std.proofs.lemmas.List.Folds.{list_any_at, list_any-append}
 use Rattle.std.proofs.lemmas.List.Sums.{fold-append}
-use Rattle.aho_base.specs.declared.search.MatchKind.{MatchKind}
-use Rattle.aho_base.specs.Patterns.{Patterns, pattern_at}
+use Rattle.aho_core.specs.declared.search.MatchKind.{MatchKind}
+use Rattle.aho_core.specs.Patterns.{Patterns, pattern_at}
 use Rattle.aho_prefilter.specs.Packed.{packed_none, packed_of, packed_with}
 use Rattle.aho_prefilter.specs.Prefilter.{IsPrefilterOf, gives_way, has_short, held_for, held_or_packed, is_short, packed_for, with_word}
 use Rattle.aho_prefilter.specs.declared.prefilter.Searcher.{Searcher}

@@ -2,11 +2,11 @@
 use Rattle.std.proofs.Common.{◌≡◌, ℕ, ◌+◌, ◌-◌, ◌<◌, ◌≤◌, List, length, get_or, sym, ap, ◌∙◌, arith}
 use Rattle.std.specs.Prelude.{None, Some, slice_range}
 use Rattle.std.proofs.lemmas.List.{get_or-map, length-map}
-use Rattle.aho_base.specs.declared.search.Anchored.TheVariants.{No}
-use Rattle.aho_base.specs.Bytes.{folded, IsSameByte, IsSameWord}
-use Rattle.aho_base.specs.Occurrence.{Occurrence}
-use Rattle.aho_base.specs.Occurs.{Occurs}
-use Rattle.aho_base.specs.Patterns.{Patterns, pattern_at}
+use Rattle.aho_core.specs.declared.search.Anchored.TheVariants.{No}
+use Rattle.aho_core.specs.Bytes.{folded, IsSameByte, IsSameWord}
+use Rattle.aho_core.specs.Occurrence.{Occurrence}
+use Rattle.aho_core.specs.Occurs.{Occurs}
+use Rattle.aho_core.specs.Patterns.{Patterns, pattern_at}
 use Rattle.aho_prefilter.specs.Candidate.{IsPossibleStart, NothingOccurs}
 use Rattle.aho_prefilter.specs.Packed.{IsFirstMet, packed_of}
 use Rattle.aho_prefilter.proofs.PackedSound.{found_before, none_stands, StandsAt}

@@ -9,7 +9,7 @@ use Rattle.std.proofs.lemmas.Grind.{get_or-set_at}
 use Rattle.std.proofs.lemmas.List.{get_or-map, get_or-set_other, length-map, length-set}
 use Rattle.std.proofs.Math.ListN.{get_or-eq_default}
 use Rattle.std.proofs.lemmas.Nat.Bits.{bit_at_and, bit_at_or, bit_at-lt, bit_at-pow_same, bit_at-zero}
-use Rattle.aho_base.specs.Bytes.{folded_by, opposite}
+use Rattle.aho_core.specs.Bytes.{folded_by, opposite}
 use Rattle.aho_prefilter.specs.Packed.{IsFirstMet, MeetsAt, group_of, groups_at, groups_of, masks_with, masks_with_all, masks_with_cases, masks_with_place, no_masks, packed_none, packed_of, packed_with}
 use Rattle.aho_prefilter.specs.declared.packed.Masks.{Masks}
 use Rattle.aho_prefilter.specs.declared.packed.Packed.{Packed}

@@ -4,11 +4,11 @@ use Rattle.std.specs.Prelude.{slice_range, slice_index, slice_index_or}
 use Rattle.std.specs.List.{Contains}
 use Rattle.std.proofs.lemmas.List.{ext_get_or, get_or-map, length-map, length-take}
 use Rattle.memchr.specs.Find.{OccursAt, Passes}
-use Rattle.aho_base.specs.declared.search.Anchored.TheVariants.{No}
-use Rattle.aho_base.specs.Bytes.{folded, folded_word, IsSameByte, IsSameWord}
-use Rattle.aho_base.specs.Occurrence.{Occurrence, occurrence}
-use Rattle.aho_base.specs.Occurs.{Occurs}
-use Rattle.aho_base.specs.Patterns.{Patterns, pattern_at}
+use Rattle.aho_core.specs.declared.search.Anchored.TheVariants.{No}
+use Rattle.aho_core.specs.Bytes.{folded, folded_word, IsSameByte, IsSameWord}
+use Rattle.aho_core.specs.Occurrence.{Occurrence, occurrence}
+use Rattle.aho_core.specs.Occurs.{Occurs}
+use Rattle.aho_core.specs.Patterns.{Patterns, pattern_at}
 use Rattle.aho_prefilter.specs.Prefilter.{AllBeginWithin, IsOnlyPattern}
 
 -- how long a part is, and what stands in it

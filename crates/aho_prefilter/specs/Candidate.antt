@@ -1,10 +1,10 @@
 -- What a prefilter answers for a span of a haystack. All is said of unanchored searches.
 use Rattle.std.specs.Prelude.{ℕ, ◌+◌, ◌<◌, ◌≤◌, List, Option, Some, None as Nothing}
-use Rattle.aho_base.specs.declared.search.Anchored.TheVariants.{No}
-use Rattle.aho_base.specs.Best.{IsBest}
-use Rattle.aho_base.specs.Occurrence.{Occurrence}
-use Rattle.aho_base.specs.Occurs.{Occurs}
-use Rattle.aho_base.specs.Patterns.{Patterns}
+use Rattle.aho_core.specs.declared.search.Anchored.TheVariants.{No}
+use Rattle.aho_core.specs.Best.{IsBest}
+use Rattle.aho_core.specs.Occurrence.{Occurrence}
+use Rattle.aho_core.specs.Occurs.{Occurs}
+use Rattle.aho_core.specs.Patterns.{Patterns}
 use Rattle.aho_prefilter.specs.declared.prefilter.Candidate.{Candidate}
 use Rattle.aho_prefilter.specs.declared.prefilter.Candidate.TheVariants.{None, Match, PossibleStartOfMatch}
 

@@ -1,7 +1,7 @@
 -- What a prefilter answers, exactly: it stops at the first place of the span at which what it looks for stands.
 use Rattle.std.specs.Prelude.{◌≡◌, ℕ, ◌+◌, List, length, Option, Some, None as Nothing, slice_range}
 use Rattle.memchr.specs.Find.{FindsNeedle, IsFirstByte, is_byte, is_byte2, is_byte3}
-use Rattle.aho_base.specs.Occurrence.{occurrence}
+use Rattle.aho_core.specs.Occurrence.{occurrence}
 use Rattle.aho_prefilter.specs.Packed.{IsFirstMet}
 use Rattle.aho_prefilter.specs.declared.prefilter.Candidate.{Candidate}
 use Rattle.aho_prefilter.specs.declared.prefilter.Candidate.TheVariants.{None, Match, PossibleStartOfMatch}

@@ -1,8 +1,8 @@
 -- With which bytes the patterns begin.
 use Rattle.std.specs.Prelude.{◌≢◌, ℕ, ◌<◌, Bool, List, [], ◌∷◌, ◌++◌, length, slice_index, nat_eq, if◌then◌else◌}
 use Rattle.std.specs.List.{flat_map, fold, list_any}
-use Rattle.aho_base.specs.Bytes.{IsSameByte, opposite}
-use Rattle.aho_base.specs.Patterns.{Patterns, pattern_at}
+use Rattle.aho_core.specs.Bytes.{IsSameByte, opposite}
+use Rattle.aho_core.specs.Patterns.{Patterns, pattern_at}
 
 -- the byte and, under the case rule, its other case
 abbrev pub cases_of : Bool → ℕ → List ℕ

@@ -1,7 +1,7 @@
 -- How the builder keeps what a prefilter depends on.
 use Rattle.std.specs.Prelude.{ℕ, Bool, not, ◌&&◌, List, [], ◌∷◌, Option, Some, None as Nothing, if◌then◌else◌}
 use Rattle.std.specs.List.{fold}
-use Rattle.aho_base.specs.Patterns.{Patterns, pattern_at}
+use Rattle.aho_core.specs.Patterns.{Patterns, pattern_at}
 use Rattle.aho_prefilter.specs.FirstBytes.{cases_of, first_bytes, has_byte}
 use Rattle.aho_prefilter.specs.Prefilter.{has_empty, is_searched_whole, with_word}
 use Rattle.aho_prefilter.specs.declared.prefilter.Searcher.{Searcher}

@@ -2,7 +2,7 @@
 use Rattle.std.specs.Prelude.{◌≡◌, ◌≢◌, ℕ, ◌+◌, ◌<◌, ◌/◌, ◌%◌, ◌^◌, Bool, List, length, map, replicate, slice_index, slice_set, nat_lt, if◌then◌else◌, bit_and, bit_or, Option}
 use Rattle.std.specs.List.{fold}
 use Rattle.memchr.specs.Find.{IsFirst}
-use Rattle.aho_base.specs.Bytes.{opposite}
+use Rattle.aho_core.specs.Bytes.{opposite}
 use Rattle.aho_prefilter.specs.declared.packed.Masks.{Masks}
 use Rattle.aho_prefilter.specs.declared.packed.Packed.{Packed}
 

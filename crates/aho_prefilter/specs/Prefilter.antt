@@ -3,9 +3,9 @@ use Rattle.std.specs.Prelude.{◌≡◌, ℕ, ◌<◌, Bool, true, false, not, �
 use Rattle.std.specs.Char.{is_ascii, is_ascii_alphanumeric}
 use Rattle.std.specs.List.{Contains, list_any}
 use Rattle.std.specs.Option.{option_or}
-use Rattle.aho_base.specs.Bytes.{IsSameByte}
-use Rattle.aho_base.specs.Patterns.{Patterns, pattern_at}
-use Rattle.aho_base.specs.declared.search.MatchKind.{MatchKind}
+use Rattle.aho_core.specs.Bytes.{IsSameByte}
+use Rattle.aho_core.specs.Patterns.{Patterns, pattern_at}
+use Rattle.aho_core.specs.declared.search.MatchKind.{MatchKind}
 use Rattle.aho_prefilter.specs.FirstBytes.{first_bytes}
 use Rattle.aho_prefilter.specs.declared.prefilter.Searcher.{Searcher}
 use Rattle.aho_prefilter.specs.declared.prefilter.Searcher.TheVariants.{Memmem, Memchr, Memchr2, Memchr3, Packed}

@@ -2,7 +2,7 @@
 -- have been.
 use Rattle.std.specs.Prelude.{◌≡◌, ◌-◌, false, length}
 use Rattle.std.specs.Option.{option_map}
-use Rattle.aho_base.specs.Patterns.{Patterns}
+use Rattle.aho_core.specs.Patterns.{Patterns}
 use Rattle.aho_prefilter.specs.Inside.{few_of, whole_of}
 use Rattle.aho_prefilter.specs.Packed.{packed_of}
 use Rattle.aho_prefilter.specs.Prefilter.{has_short}

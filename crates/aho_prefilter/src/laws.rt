@@ -3,12 +3,12 @@
 
 ghost use Rattle.std.specs.Prelude.{◌≡◌, ◌≤◌, ◌↔◌, ℕ, Bool, List, Some, None, false};
 ghost use Rattle.std.specs.List.{Contains};
-ghost use Rattle.aho_base.specs.Answer.{IsAnswer};
-ghost use Rattle.aho_base.specs.Occurrence.{Occurrence};
-ghost use Rattle.aho_base.specs.Patterns.{Patterns};
-ghost use Rattle.aho_base.specs.Search.{search_of};
-ghost use Rattle.aho_base.specs.declared.search.Anchored.TheVariants.{No};
-ghost use Rattle.aho_base.specs.declared.search.MatchKind.{MatchKind};
+ghost use Rattle.aho_core.specs.Answer.{IsAnswer};
+ghost use Rattle.aho_core.specs.Occurrence.{Occurrence};
+ghost use Rattle.aho_core.specs.Patterns.{Patterns};
+ghost use Rattle.aho_core.specs.Search.{search_of};
+ghost use Rattle.aho_core.specs.declared.search.Anchored.TheVariants.{No};
+ghost use Rattle.aho_core.specs.declared.search.MatchKind.{MatchKind};
 ghost use Rattle.aho_prefilter.specs.Candidate.{AllStartFrom, IsCandidate, IsWholeMatch, NoneStarts, NoneStartsBefore, NothingOccurs, place_of};
 ghost use Rattle.aho_prefilter.specs.FirstBytes.{IsEachOnce, IsFirstOf, first_bytes};
 ghost use Rattle.aho_prefilter.specs.Prefilter.{IsPrefilterOf, held_for, held_or_packed, under};

@@ -21,7 +21,7 @@ ghost use Rattle.std.specs.Int.{bit_at};
 ghost use Rattle.memchr.specs.Find.{IsFirst};
 ghost use Rattle.aho_prefilter.specs.Packed.{HasLanes, IsFirstMet, MeetsAt, groups_at, groups_of, masks_with, masks_with_all, masks_with_cases, masks_with_place, no_masks, packed_with};
 
-use aho_base::letters::opposite_ascii_case;
+use aho_core::letters::opposite_ascii_case;
 use std::simd::prelude::*;
 
 /// How many places are looked at at once.

@@ -1,7 +1,7 @@
 //! What a prefilter holds, and what it answers.
 
 ghost use Rattle.std.specs.Prelude.{◌≡◌, ◌<◌, ◌≤◌, ◌^◌, length, true, IfOk, IfErr};
-ghost use Rattle.aho_base.specs.Patterns.{Patterns};
+ghost use Rattle.aho_core.specs.Patterns.{Patterns};
 ghost use Rattle.aho_prefilter.specs.Candidate.{IsCandidate, place_of};
 ghost use Rattle.aho_prefilter.specs.Finding.{FindsFirst, StopsFirst};
 ghost use Rattle.aho_prefilter.specs.Prefilter.{IsPrefilterOf, is_whole, bytes_held};
@@ -12,7 +12,7 @@ mod needle;
 mod packed_builder;
 
 use crate::packed::Packed;
-use aho_base::search::{Match, PatternID, Span};
+use aho_core::search::{Match, PatternID, Span};
 pub use builder::PrefilterBuilder;
 use memchr::{memchr, memchr2, memchr3};
 use needle::Needle;

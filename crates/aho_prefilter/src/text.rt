@@ -1,13 +1,13 @@
 //! A text that hands out each byte at most once, and lets prefilters look ahead.
 
 ghost use Rattle.std.specs.Prelude.{◌≡◌, ℕ, List, ◌+◌, ◌<◌, ◌≤◌, length, slice_index};
-ghost use Rattle.aho_base.specs.Patterns.{Patterns};
+ghost use Rattle.aho_core.specs.Patterns.{Patterns};
 ghost use Rattle.aho_prefilter.specs.Candidate.{IsCandidate};
 ghost use Rattle.aho_prefilter.specs.Finding.{FindsFirst};
 ghost use Rattle.aho_prefilter.specs.Prefilter.{IsPrefilterOf};
 
 use crate::prefilter::{Candidate, Prefilter};
-use aho_base::search::Span;
+use aho_core::search::Span;
 
 /// A text that hands out each of its bytes at most once, from the first to the last.
 pub trait Text {

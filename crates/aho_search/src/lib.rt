@@ -1,10 +1,8 @@
-//! Automata with their laws, and the search that every automaton has.
+//! The searches that every automaton has: in memory, with replacement, and in streams. Its items are defined in
+//! `aho_automaton`, `aho_devices` and `aho_stream`, where their contracts and definitions stand.
 #![tactic(auto)]
 
-pub mod automaton;
-pub mod find;
-pub mod iter;
-pub mod overlapping;
-pub mod patience;
-pub mod replace;
-pub mod walk;
+pub mod stream;
+
+pub use aho_automaton::{automaton, replace};
+pub use aho_devices::buffer;

@@ -2,21 +2,21 @@
 use Rattle.std.proofs.Common.{◌≡◌, ℕ, ◌+◌, ◌-◌, ◌*◌, ◌^◌, ◌<◌, ◌≤◌, inl, inr, Bool, true, false, List, [], ◌++◌, length, take, map, refl, sym, ◌∙◌, ap, subst, arith, append_assoc, length-append}
 use Rattle.std.specs.Prelude.{Option, Some, None, IfSome, slice_range}
 use Rattle.std.proofs.lemmas.Bool.{cases_lt}
-use Rattle.aho_base.specs.Answer.{IsAnswer}
-use Rattle.aho_base.specs.Laws.{BestAfter, Reads, longest, shortest}
-use Rattle.aho_base.specs.Occurrence.{Occurrence}
-use Rattle.aho_base.specs.Occurs.{Occurs}
-use Rattle.aho_base.specs.Patterns.{Patterns}
-use Rattle.aho_base.specs.declared.search.Anchored.{Anchored}
-use Rattle.aho_base.specs.declared.search.Anchored.TheVariants.{No}
-use Rattle.aho_base.specs.declared.search.MatchKind.{MatchKind}
-use Rattle.aho_base.specs.declared.search.MatchKind.TheVariants.{Standard}
+use Rattle.aho_core.specs.Answer.{IsAnswer}
+use Rattle.aho_core.specs.Laws.{BestAfter, Reads, longest, shortest}
+use Rattle.aho_core.specs.Occurrence.{Occurrence}
+use Rattle.aho_core.specs.Occurs.{Occurs}
+use Rattle.aho_core.specs.Patterns.{Patterns}
+use Rattle.aho_core.specs.declared.search.Anchored.{Anchored}
+use Rattle.aho_core.specs.declared.search.Anchored.TheVariants.{No}
+use Rattle.aho_core.specs.declared.search.MatchKind.{MatchKind}
+use Rattle.aho_core.specs.declared.search.MatchKind.TheVariants.{Standard}
 use Rattle.aho_devices.specs.Buffer.{Buffered, capacity_for}
 use Rattle.std.proofs.Math.Nat.{le-mul_of_pos_right}
 use Rattle.aho_prefilter.specs.Candidate.{NoneStartsBefore}
-use Rattle.aho_search.proofs.Origins.{skipped}
-use Rattle.aho_search.proofs.Places.{into_part, length_part, moved_back, narrowed, no_part, part_join, part_of_part}
-use Rattle.aho_search.specs.declared.automaton.Automaton.{Ghosts}
+use Rattle.aho_automaton.proofs.Origins.{skipped}
+use Rattle.aho_automaton.proofs.Places.{into_part, length_part, moved_back, narrowed, no_part, part_join, part_of_part}
+use Rattle.aho_automaton.specs.declared.automaton.Automaton.{Ghosts}
 use Rattle.aho_stream.specs.After.{IsAfter, IsInHand, MayFollow, kept_for, search_from, word_of}
 use Rattle.aho_stream.specs.Refills.{Refills}
 use Rattle.aho_stream.specs.Walking.{WalksOn}

@@ -6,18 +6,18 @@ use Rattle.std.specs.Iterator.Runs.{Run, YieldsRun}
 use Rattle.std.specs.Io.KnownBytes.{Consumes}
 use Rattle.std.proofs.KnownBytes.{Consumes-nil, Consumes-trans}
 use Rattle.std.proofs.Math.Bool.{or-false, or_assoc}
-use Rattle.aho_base.specs.declared.error.stream.StreamError.{StreamError}
-use Rattle.aho_base.specs.declared.error.stream.StreamError.TheVariants.{Match as Refused, Read as ReadFault, Write, WriteZero, Memory, PositionLimit}
-use Rattle.aho_base.specs.Answer.{IsAnswer}
-use Rattle.aho_base.specs.Iteration.{AreFinds, IsNextFind}
-use Rattle.aho_base.specs.Laws.{shortest}
-use Rattle.aho_base.specs.Occurrence.{Occurrence}
-use Rattle.aho_base.specs.Patterns.{Patterns}
-use Rattle.aho_base.specs.Search.{Search}
+use Rattle.aho_core.specs.declared.error.stream.StreamError.{StreamError}
+use Rattle.aho_core.specs.declared.error.stream.StreamError.TheVariants.{Match as Refused, Read as ReadFault, Write, WriteZero, Memory, PositionLimit}
+use Rattle.aho_core.specs.Answer.{IsAnswer}
+use Rattle.aho_core.specs.Iteration.{AreFinds, IsNextFind}
+use Rattle.aho_core.specs.Laws.{shortest}
+use Rattle.aho_core.specs.Occurrence.{Occurrence}
+use Rattle.aho_core.specs.Patterns.{Patterns}
+use Rattle.aho_core.specs.Search.{Search}
 use Rattle.aho_devices.specs.Counts.{counted}
 use Rattle.aho_devices.specs.declared.device.Source.{Ghosts as SourceGhosts}
-use Rattle.aho_search.specs.Finding.{AreFirstFinds}
-use Rattle.aho_search.specs.declared.automaton.Automaton.{Ghosts}
+use Rattle.aho_automaton.specs.Finding.{AreFirstFinds}
+use Rattle.aho_automaton.specs.declared.automaton.Automaton.{Ghosts}
 use Rattle.aho_stream.specs.After.{IsAfter, MayFollow, search_from}
 use Rattle.aho_stream.specs.Chunks.{ends_between}
 use Rattle.aho_stream.specs.FindRuns.{FindsAll, FindsAlong, FindsSoFar, is_limit_among, matches_among}

@@ -2,14 +2,14 @@
 use Rattle.std.proofs.Common.{◌≡◌, ℕ, inl, inr, Bool, true, false, List, ◌++◌, refl, sym, ◌∙◌, ap, subst, append_assoc}
 use Rattle.std.specs.Prelude.{Option, Some, None, Result, Ok, Err}
 use Rattle.std.proofs.KnownBytes.{Consumes-trans}
-use Rattle.aho_base.specs.Answer.{IsAnswer}
-use Rattle.aho_base.specs.Occurrence.{Occurrence}
-use Rattle.aho_base.specs.Patterns.{Patterns}
-use Rattle.aho_base.specs.declared.error.stream.StreamError.{StreamError}
-use Rattle.aho_base.specs.declared.error.stream.StreamError.TheVariants.{Match as Refused, Read as ReadFault, Write, WriteZero, Memory, PositionLimit}
+use Rattle.aho_core.specs.Answer.{IsAnswer}
+use Rattle.aho_core.specs.Occurrence.{Occurrence}
+use Rattle.aho_core.specs.Patterns.{Patterns}
+use Rattle.aho_core.specs.declared.error.stream.StreamError.{StreamError}
+use Rattle.aho_core.specs.declared.error.stream.StreamError.TheVariants.{Match as Refused, Read as ReadFault, Write, WriteZero, Memory, PositionLimit}
 use Rattle.aho_devices.specs.Counts.{counted}
 use Rattle.aho_devices.specs.Refusals.{is_read_fault}
-use Rattle.aho_search.specs.declared.automaton.Automaton.{Ghosts}
+use Rattle.aho_automaton.specs.declared.automaton.Automaton.{Ghosts}
 use Rattle.aho_stream.specs.After.{IsAfter, search_from}
 use Rattle.aho_stream.specs.Chunks.{Advances, DiesAt, ReadsOn, Tells, TellsError, TellsEnd, TellsMatch, TellsPlain, ends_between, match_told, tells_limit}
 use Rattle.aho_stream.specs.Finds.{Finds, FindsEnd, FindsError, FindsMatch}

@@ -2,7 +2,7 @@
 use Rattle.std.proofs.Common.{◌≡◌, ℕ, ◌+◌, ◌-◌, ◌≤◌, List, ◌++◌, length, take, drop, refl, sym, ◌∙◌, ap, arith, append_assoc, length-append}
 use Rattle.std.specs.Prelude.{slice_range}
 use Rattle.std.proofs.lemmas.List.{take-append-drop, take-append-le, take_all, drop-append-le, drop_at, length-drop}
-use Rattle.aho_search.proofs.Places.{part_join}
+use Rattle.aho_automaton.proofs.Places.{part_join}
 use Rattle.aho_stream.specs.After.{EndsIn}
 
 -- bytes end in what is left of their last ones

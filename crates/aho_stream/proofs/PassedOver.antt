@@ -3,20 +3,20 @@ use Rattle.std.proofs.Common.{◌≡◌, ℕ, ◌+◌, ◌-◌, ◌≤◌, inl, 
 use Rattle.std.specs.Prelude.{slice_range}
 use Rattle.std.proofs.lemmas.Bool.{cases_Bool}
 use Rattle.std.proofs.lemmas.List.{drop-map, drop_at, map-append}
-use Rattle.aho_base.specs.Bytes.{folded, folded_word}
-use Rattle.aho_base.specs.Failure.{is_cut, state_after}
-use Rattle.aho_base.specs.Held.{held_after}
-use Rattle.aho_base.specs.Occurrence.{Occurrence}
-use Rattle.aho_base.specs.Occurs.{Occurs}
-use Rattle.aho_base.specs.Patterns.{Patterns, pattern_at}
-use Rattle.aho_base.specs.Trie.{is_node, pattern_word}
-use Rattle.aho_base.specs.declared.search.Anchored.TheVariants.{No}
+use Rattle.aho_core.specs.Bytes.{folded, folded_word}
+use Rattle.aho_core.specs.Failure.{is_cut, state_after}
+use Rattle.aho_core.specs.Held.{held_after}
+use Rattle.aho_core.specs.Occurrence.{Occurrence}
+use Rattle.aho_core.specs.Occurs.{Occurs}
+use Rattle.aho_core.specs.Patterns.{Patterns, pattern_at}
+use Rattle.aho_core.specs.Trie.{is_node, pattern_word}
+use Rattle.aho_core.specs.declared.search.Anchored.TheVariants.{No}
 use Rattle.aho_laws.proofs.Begins.{begins_trans}
 use Rattle.aho_laws.proofs.Kept.{is_cut-true, is_node-true}
 use Rattle.aho_laws.proofs.SpanTexts.{Occurs-moved}
 use Rattle.aho_laws.proofs.Stands.{Stands, length-folded, stands_at, to_occurs}
 use Rattle.aho_laws.proofs.StepLaw.{state-shorter}
-use Rattle.aho_search.proofs.Places.{length_part, part_join}
+use Rattle.aho_automaton.proofs.Places.{length_part, part_join}
 use Rattle.aho_stream.specs.After.{NothingBegins}
 use Rattle.aho_stream.proofs.GivenBytes.{part_with_more}
 

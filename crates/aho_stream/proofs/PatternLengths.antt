@@ -1,11 +1,11 @@
 -- How long what occurs is.
 use Rattle.std.proofs.Common.{◌≡◌, ℕ, suc, zero, ◌+◌, ◌<◌, ◌≤◌, List, [], ◌∷◌, length, map, ap, subst, arith}
 use Rattle.std.specs.Prelude.{slice_index_or}
-use Rattle.aho_base.specs.declared.search.Anchored.{Anchored}
-use Rattle.aho_base.specs.Laws.{longest, shortest}
-use Rattle.aho_base.specs.Occurrence.{Occurrence}
-use Rattle.aho_base.specs.Occurs.{Occurs}
-use Rattle.aho_base.specs.Patterns.{Patterns}
+use Rattle.aho_core.specs.declared.search.Anchored.{Anchored}
+use Rattle.aho_core.specs.Laws.{longest, shortest}
+use Rattle.aho_core.specs.Occurrence.{Occurrence}
+use Rattle.aho_core.specs.Occurs.{Occurs}
+use Rattle.aho_core.specs.Patterns.{Patterns}
 
 shortest_bounds : (words : List (List ℕ)) (k : ℕ) → k < length words → shortest (map length words) ≤ length (slice_index_or words k [])
 shortest_bounds [] k within = absurd (omega (arith, within))

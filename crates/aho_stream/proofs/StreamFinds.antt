@@ -5,15 +5,15 @@ use Rattle.std.specs.Io.{StartsWith}
 use Rattle.std.proofs.lemmas.Bool.{MatchBool-at_false, lt-ltb, le-ltb, ne_eqb}
 use Rattle.std.proofs.lemmas.List.{drop_all, take_at}
 use Rattle.std.proofs.lemmas.List.Folds.{drop_split}
-use Rattle.aho_base.specs.Answer.{IsAnswer}
-use Rattle.aho_base.specs.Iteration.{AreFinds, IsNextFind, repeats_end}
-use Rattle.aho_base.specs.Laws.{shortest}
-use Rattle.aho_base.specs.Occurrence.{Occurrence}
-use Rattle.aho_base.specs.Patterns.{Patterns}
-use Rattle.aho_base.specs.Replacement.{replaced_from}
-use Rattle.aho_base.specs.Search.{plain_search}
-use Rattle.aho_search.proofs.NextFinds.{finds-next, finds-none}
-use Rattle.aho_search.proofs.Places.{no_part, part_join}
+use Rattle.aho_core.specs.Answer.{IsAnswer}
+use Rattle.aho_core.specs.Iteration.{AreFinds, IsNextFind, repeats_end}
+use Rattle.aho_core.specs.Laws.{shortest}
+use Rattle.aho_core.specs.Occurrence.{Occurrence}
+use Rattle.aho_core.specs.Patterns.{Patterns}
+use Rattle.aho_core.specs.Replacement.{replaced_from}
+use Rattle.aho_core.specs.Search.{plain_search}
+use Rattle.aho_automaton.proofs.NextFinds.{finds-next, finds-none}
+use Rattle.aho_automaton.proofs.Places.{no_part, part_join}
 use Rattle.std.specs.Prelude.{map}
 use Rattle.aho_stream.specs.After.{search_from}
 use Rattle.aho_stream.specs.Replacing.{replaced_up_to}

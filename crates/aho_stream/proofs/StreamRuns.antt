@@ -8,19 +8,19 @@ use Rattle.std.proofs.KnownBytes.{Appends-nil, Appends-trans}
 use Rattle.std.proofs.lemmas.Bool.{lt-ltb, le-ltb}
 use Rattle.std.proofs.lemmas.List.{drop_all, drop-take, length-drop, length-take, take-take}
 use Rattle.std.proofs.lemmas.List.Folds.{drop_split}
-use Rattle.aho_base.specs.declared.error.stream.StreamError.{StreamError}
-use Rattle.aho_base.specs.Answer.{IsAnswer}
-use Rattle.aho_base.specs.ClosureRun.{CalledOn, ClosureRun}
-use Rattle.aho_base.specs.Iteration.{AreFinds}
-use Rattle.aho_base.specs.Laws.{shortest}
-use Rattle.aho_base.specs.Occurrence.{Occurrence}
-use Rattle.aho_base.specs.Patterns.{Patterns}
-use Rattle.aho_base.specs.Search.{plain_search}
+use Rattle.aho_core.specs.declared.error.stream.StreamError.{StreamError}
+use Rattle.aho_core.specs.Answer.{IsAnswer}
+use Rattle.aho_core.specs.ClosureRun.{CalledOn, ClosureRun}
+use Rattle.aho_core.specs.Iteration.{AreFinds}
+use Rattle.aho_core.specs.Laws.{shortest}
+use Rattle.aho_core.specs.Occurrence.{Occurrence}
+use Rattle.aho_core.specs.Patterns.{Patterns}
+use Rattle.aho_core.specs.Search.{plain_search}
 use Rattle.aho_devices.specs.Counts.{counted}
 use Rattle.aho_devices.specs.Refusals.{IsFillRefusal, IsWriteRefusal, is_write_fault, is_write_of_nothing}
 use Rattle.aho_devices.specs.declared.device.Sink.{Ghosts as SinkGhosts}
-use Rattle.aho_search.proofs.NextFinds.{finds-next, finds-none}
-use Rattle.aho_search.proofs.Places.{no_part, part_join}
+use Rattle.aho_automaton.proofs.NextFinds.{finds-next, finds-none}
+use Rattle.aho_automaton.proofs.Places.{no_part, part_join}
 use Rattle.aho_stream.specs.After.{search_from}
 use Rattle.aho_stream.specs.StreamRun.{CallsOn, SinkTakes, starting_before}
 use Rattle.aho_stream.proofs.PatternLengths.{occurs_some}

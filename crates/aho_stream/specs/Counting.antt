@@ -1,13 +1,13 @@
 -- What a count of all matches of a stream answers.
 use Rattle.std.specs.Prelude.{◌≡◌, ℕ, true, List, [], Result, IfOk, None, length}
 use Rattle.std.specs.Io.KnownBytes.{Consumes}
-use Rattle.aho_base.specs.Iteration.{AreFinds}
-use Rattle.aho_base.specs.Occurrence.{Occurrence}
-use Rattle.aho_base.specs.Patterns.{Patterns}
-use Rattle.aho_base.specs.Search.{plain_search}
-use Rattle.aho_base.specs.declared.error.stream.StreamError.{StreamError}
+use Rattle.aho_core.specs.Iteration.{AreFinds}
+use Rattle.aho_core.specs.Occurrence.{Occurrence}
+use Rattle.aho_core.specs.Patterns.{Patterns}
+use Rattle.aho_core.specs.Search.{plain_search}
+use Rattle.aho_core.specs.declared.error.stream.StreamError.{StreamError}
 use Rattle.aho_devices.specs.declared.device.Source.{Ghosts as SourceGhosts}
-use Rattle.aho_search.specs.declared.automaton.Automaton.{Ghosts}
+use Rattle.aho_automaton.specs.declared.automaton.Automaton.{Ghosts}
 use Rattle.aho_stream.specs.Iterators.{HasGiven, automaton_of}
 use Rattle.aho_stream.specs.declared.chunks.StreamChunkIter.{StreamChunkIter}
 

@@ -1,7 +1,7 @@
 -- What a search of a stream that has not begun is seen as.
 use Rattle.std.specs.Prelude.{[]}
-use Rattle.aho_base.specs.Patterns.{Patterns}
-use Rattle.aho_search.specs.declared.automaton.Automaton.{Ghosts}
+use Rattle.aho_core.specs.Patterns.{Patterns}
+use Rattle.aho_automaton.specs.declared.automaton.Automaton.{Ghosts}
 use Rattle.aho_stream.specs.After.{IsAfter}
 use Rattle.aho_stream.specs.declared.start.StreamStart.{StreamStart}
 

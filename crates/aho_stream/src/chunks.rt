@@ -4,9 +4,9 @@ ghost use Rattle.std.specs.Prelude.{◌≡◌, ◌+◌, ◌*◌, ◌≤◌, ◌|
 ghost use Rattle.std.specs.Borrow.{sem};
 ghost use Rattle.std.specs.Io.BufRead.{Rests};
 ghost use Rattle.std.specs.Io.KnownBytes.{Keeps};
-ghost use Rattle.aho_base.specs.Patterns.{Patterns};
-ghost use Rattle.aho_base.specs.declared.search.Anchored.TheVariants.{No};
-ghost use Rattle.aho_base.specs.declared.search.MatchKind.TheVariants.{Standard};
+ghost use Rattle.aho_core.specs.Patterns.{Patterns};
+ghost use Rattle.aho_core.specs.declared.search.Anchored.TheVariants.{No};
+ghost use Rattle.aho_core.specs.declared.search.MatchKind.TheVariants.{Standard};
 ghost use Rattle.aho_devices.specs.Counts.{counted};
 ghost use Rattle.aho_devices.specs.Refusals.{is_write_fault, is_write_of_nothing, IsWriteRefusal};
 ghost use Rattle.aho_stream.specs.After.{greatest_position};
@@ -19,12 +19,12 @@ ghost use mir.Syntax.{named};
 use crate::pieces::next_piece;
 use crate::progress::{StreamPiece, StreamProgress};
 use crate::start::{MAX_POSITION, StreamStart};
-use aho_base::error::StreamError;
-use aho_base::search::Match;
+use aho_automaton::automaton::Automaton;
+use aho_automaton::walk::{Counted, Walk};
+use aho_core::error::StreamError;
+use aho_core::search::Match;
 use aho_devices::device::{Sink, Source};
 use aho_devices::write::Nowhere;
-use aho_search::automaton::Automaton;
-use aho_search::walk::{Counted, Walk};
 use std::alloc::Global;
 
 /// A chunk of a stream, which lends its bytes and its match.

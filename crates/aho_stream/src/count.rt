@@ -5,9 +5,9 @@ ghost use Rattle.aho_stream.specs.Counting.{CountsAll};
 ghost use Rattle.aho_stream.specs.Iterators.{IsFresh};
 
 use crate::chunks::{StreamChunk, StreamChunkIter};
-use aho_base::error::StreamError;
+use aho_automaton::automaton::Automaton;
+use aho_core::error::StreamError;
 use aho_devices::device::Source;
-use aho_search::automaton::Automaton;
 
 /// How many matches the stream has.
 ///

@@ -2,8 +2,8 @@
 
 ghost use Rattle.std.specs.Iterator.Runs.{EachRunFrom};
 ghost use Rattle.std.specs.Prelude.{◌≡◌, IfOk, false};
-ghost use Rattle.aho_base.specs.Patterns.{Patterns};
-ghost use Rattle.aho_base.specs.declared.search.Anchored.TheVariants.{No};
+ghost use Rattle.aho_core.specs.Patterns.{Patterns};
+ghost use Rattle.aho_core.specs.declared.search.Anchored.TheVariants.{No};
 ghost use Rattle.aho_stream.specs.After.{greatest_position};
 ghost use Rattle.aho_stream.specs.FindRuns.{FindsAlong, RunFindsAll, RunFindsFirst};
 ghost use Rattle.aho_stream.specs.Finds.{FindsNext};
@@ -11,10 +11,10 @@ ghost use Rattle.aho_stream.specs.Iterators.{CanGoOn, HasNotBegun, automaton_of}
 ghost use Rattle.aho_stream.specs.Replacing.{Refuses};
 
 use crate::chunks::StreamChunkIter;
-use aho_base::error::StreamError;
-use aho_base::search::Match;
+use aho_automaton::automaton::Automaton;
+use aho_core::error::StreamError;
+use aho_core::search::Match;
 use aho_devices::device::Source;
-use aho_search::automaton::Automaton;
 use std::alloc::Global;
 
 /// The matches of a stream, one after another. Their places count from the first byte that the source gave.

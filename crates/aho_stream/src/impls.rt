@@ -1,6 +1,6 @@
 //! What the impls of std's traits answer, each the contract of a function. `Drop` has no meaning to state.
 
-ghost use Rattle.aho_base.specs.Impls.{ClonesTheSame};
+ghost use Rattle.aho_core.specs.Impls.{ClonesTheSame};
 
 use crate::chunks::StreamChunk;
 use crate::progress::StreamPiece;

@@ -7,8 +7,8 @@ ghost use Rattle.aho_stream.specs.Chunks.{TellsNext};
 use crate::progress::{StreamPiece, StreamProgress};
 use crate::settle::{is_settled, walk_on};
 use crate::skip::{is_at_beginning, skip};
-use aho_base::search::Match;
-use aho_search::walk::Walk;
+use aho_automaton::walk::Walk;
+use aho_core::search::Match;
 
 /// Walks on over what was read and not walked yet, until the match in hand is settled or, where it may wait, in a start with
 /// nothing in hand.

@@ -9,11 +9,11 @@ ghost use Rattle.aho_stream.specs.Chunks.{match_told};
 ghost use Rattle.aho_stream.specs.Refills.{GainsFew, Refills, is_limit};
 ghost use Rattle.aho_stream.specs.declared.progress.StreamPiece.TheVariants.{NonMatch};
 
-use aho_base::error::StreamError;
-use aho_base::search::{Match, Span, StateID};
+use aho_automaton::patience::{PATIENCE, patience_after};
+use aho_core::error::StreamError;
+use aho_core::search::{Match, Span, StateID};
 use aho_devices::buffer::Buffer;
 use aho_devices::device::{Sink, Source};
-use aho_search::patience::{PATIENCE, patience_after};
 
 /// What a call of `advance` tells, without its bytes.
 #[derive(Clone, Copy)]

@@ -1,12 +1,12 @@
 //! Replacement in streams.
 
 ghost use Rattle.std.specs.Prelude.{◌⊎◌, ◌≡◌, ◌≢◌, ◌≤◌, ℕ, Ok, Err, IfErr, OnErr, OnOk, false, length, true};
-ghost use Rattle.aho_base.specs.Laws.{shortest};
-ghost use Rattle.aho_base.specs.Patterns.{Patterns};
-ghost use Rattle.aho_base.specs.Replacement.{pieces_of};
-ghost use Rattle.aho_base.specs.declared.error.MatchErrorKind.{MatchErrorKind};
-ghost use Rattle.aho_base.specs.declared.error.MatchErrorKind.TheVariants.{UnsupportedEmpty};
-ghost use Rattle.aho_base.specs.declared.search.Anchored.TheVariants.{No};
+ghost use Rattle.aho_core.specs.Laws.{shortest};
+ghost use Rattle.aho_core.specs.Patterns.{Patterns};
+ghost use Rattle.aho_core.specs.Replacement.{pieces_of};
+ghost use Rattle.aho_core.specs.declared.error.MatchErrorKind.{MatchErrorKind};
+ghost use Rattle.aho_core.specs.declared.error.MatchErrorKind.TheVariants.{UnsupportedEmpty};
+ghost use Rattle.aho_core.specs.declared.search.Anchored.TheVariants.{No};
 ghost use Rattle.aho_devices.specs.Buffer.{capacity_for};
 ghost use Rattle.aho_devices.specs.Counts.{counted};
 ghost use Rattle.aho_devices.specs.Refusals.{IsFillRefusal, is_read_fault, is_write_fault, is_write_of_nothing};
@@ -20,11 +20,11 @@ ghost use Rattle.aho_stream.specs.Replacing.{GaveAsMany, IsMakingRefusal, IsStre
 use crate::chunks::StreamChunkIter;
 use crate::progress::StreamPiece;
 use crate::start::StreamStart;
-use aho_base::error::StreamError;
-use aho_base::search::Match;
+use aho_automaton::automaton::Automaton;
+use aho_core::error::StreamError;
+use aho_core::search::Match;
 use aho_devices::device::{Sink, Source};
 use aho_devices::write::write_whole;
-use aho_search::automaton::Automaton;
 use std::alloc::Global;
 
 /// What is written for a chunk: its bytes, or the piece of its match.

@@ -1,14 +1,14 @@
 //! The walk over the bytes of a stream, from where it stands up to where the next match is known.
 
 ghost use Rattle.std.specs.Prelude.{◌≡◌, ◌+◌, ◌*◌, ◌<◌, ◌≤◌, ◌^◌, None, false, true, length};
-ghost use Rattle.aho_base.specs.Laws.{Fits, better};
-ghost use Rattle.aho_base.specs.declared.search.MatchKind.TheVariants.{Standard};
+ghost use Rattle.aho_core.specs.Laws.{Fits, better};
+ghost use Rattle.aho_core.specs.declared.search.MatchKind.TheVariants.{Standard};
 ghost use Rattle.aho_stream.specs.After.{settles};
 ghost use Rattle.aho_stream.specs.Walking.{IsHeldAt, WalksFrom, told_here};
 
-use aho_base::search::{Anchored, Match, MatchKind, StateID};
-use aho_search::find::{looks_at, told_at};
-use aho_search::walk::Walk;
+use aho_automaton::find::{looks_at, told_at};
+use aho_automaton::walk::Walk;
+use aho_core::search::{Anchored, Match, MatchKind, StateID};
 
 /// How far a walk over some bytes came.
 #[derive(Clone, Copy)]

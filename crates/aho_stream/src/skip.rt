@@ -6,15 +6,15 @@
 //! were not read yet: these bytes are walked.
 
 ghost use Rattle.std.specs.Prelude.{◌≡◌, ◌+◌, ◌-◌, ◌<◌, ◌≤◌, ◌^◌, false, length};
-ghost use Rattle.aho_base.specs.Patterns.{Patterns};
+ghost use Rattle.aho_core.specs.Patterns.{Patterns};
 ghost use Rattle.aho_prefilter.specs.Candidate.{NoneStartsBefore};
 ghost use Rattle.aho_prefilter.specs.Prefilter.{IsPrefilterOf};
 ghost use Rattle.aho_stream.specs.After.{IsUnderWay, OnlyPasses, StaysAfter, starts_over};
 
 use crate::progress::StreamProgress;
-use aho_base::search::Span;
+use aho_automaton::walk::Walk;
+use aho_core::search::Span;
 use aho_prefilter::prefilter::Prefilter;
-use aho_search::walk::Walk;
 
 /// How many of these bytes begin no match, whatever follows them, where no match has more than `longest` bytes.
 fn passable(prefilter: &Prefilter, bytes: &[u8], longest: usize) -> usize

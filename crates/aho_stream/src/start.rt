@@ -1,21 +1,21 @@
 //! How a search of a stream begins: all its memory is taken, and nothing is read.
 
 ghost use Rattle.std.specs.Prelude.{◌≡◌, ◌≤◌, min, ℕ, List, [], Ok, Err, IfOk, IfErr, false};
-ghost use Rattle.aho_base.specs.Laws.{shortest};
-ghost use Rattle.aho_base.specs.Patterns.{Patterns};
-ghost use Rattle.aho_base.specs.declared.error.MatchErrorKind.TheVariants.{UnsupportedEmpty};
-ghost use Rattle.aho_base.specs.declared.search.Anchored.TheVariants.{No};
+ghost use Rattle.aho_core.specs.Laws.{shortest};
+ghost use Rattle.aho_core.specs.Patterns.{Patterns};
+ghost use Rattle.aho_core.specs.declared.error.MatchErrorKind.TheVariants.{UnsupportedEmpty};
+ghost use Rattle.aho_core.specs.declared.search.Anchored.TheVariants.{No};
 ghost use Rattle.aho_stream.specs.After.{IsBegun, greatest_position};
 ghost use Rattle.aho_stream.specs.Iterators.{automaton_of, lookups_of};
 ghost use Rattle.aho_stream.specs.Replacing.{IsMakingRefusal, Refuses};
 
 use crate::chunks::StreamChunkIter;
 use crate::progress::StreamProgress;
-use aho_base::error::{MatchError, StreamError};
-use aho_base::search::{Anchored, StateID};
+use aho_automaton::automaton::Automaton;
+use aho_core::error::{MatchError, StreamError};
+use aho_core::search::{Anchored, StateID};
 use aho_devices::buffer::Buffer;
 use aho_devices::device::Source;
-use aho_search::automaton::Automaton;
 use std::alloc::Global;
 
 /// The most bytes that a stream may give: 2^63 - 1.

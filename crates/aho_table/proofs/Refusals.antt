@@ -1,8 +1,8 @@
 -- Why a table is not to have so many entries.
 use Rattle.std.proofs.Common.{◌≡◌, ℕ, ◌+◌, ◌<◌, ◌≤◌, Bool, cond, nat_lt, ap, ◌∙◌, subst, inl, inr, arith}
 use Rattle.std.proofs.lemmas.Bool.{cases_Bool, ltb-true}
-use Rattle.aho_base.specs.declared.error.BuildError.{BuildError}
-use Rattle.aho_base.specs.declared.error.BuildError.TheVariants.{StateIDOverflow, OutOfMemory}
+use Rattle.aho_core.specs.declared.error.BuildError.{BuildError}
+use Rattle.aho_core.specs.declared.error.BuildError.TheVariants.{StateIDOverflow, OutOfMemory}
 use Rattle.aho_table.specs.Refusal.{IsRefusalOf, refusal_at}
 
 -- what a table was refused is also refused of more

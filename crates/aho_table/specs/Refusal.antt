@@ -1,7 +1,7 @@
 -- Why a table refuses to grow.
 use Rattle.std.specs.Prelude.{◌≡◌, ℕ, ◌⊎◌, false, List, length, nat_lt, if◌then◌else◌}
-use Rattle.aho_base.specs.declared.error.BuildError.{BuildError}
-use Rattle.aho_base.specs.declared.error.BuildError.TheVariants.{StateIDOverflow, OutOfMemory}
+use Rattle.aho_core.specs.declared.error.BuildError.{BuildError}
+use Rattle.aho_core.specs.declared.error.BuildError.TheVariants.{StateIDOverflow, OutOfMemory}
 pub use Rattle.aho_lists.specs.Refusal.{refusal_at, IsRefusalOf}
 use Rattle.aho_table.specs.Table.{State, lists_byte, transitions_count}
 

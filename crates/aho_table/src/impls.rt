@@ -1,6 +1,6 @@
 //! What the impls of std's traits answer, each the contract of a function.
 
-ghost use Rattle.aho_base.specs.Impls.{ClonesTheSame};
+ghost use Rattle.aho_core.specs.Impls.{ClonesTheSame};
 
 use crate::links::Child;
 

@@ -1,7 +1,7 @@
 //! The states of an automaton with their transitions, match lists and failure links.
 
 ghost use Rattle.std.specs.Prelude.{◌≡◌, ◌≢◌, ◌+◌, ◌<◌, ◌≤◌, ◌^◌, [], ◌∷◌, ◌++◌, length, true, false, Bool, IsTrue, ◌↔◌, IsOk, IfOk, IfErr, OnOk, OnErr, min, slice_get, nat_lt, ℕ, List};
-ghost use Rattle.aho_base.specs.Numbers.{greatest_index};
+ghost use Rattle.aho_core.specs.Numbers.{greatest_index};
 ghost use Rattle.aho_table.specs.Refusal.{refusal_at, row_refusal_at, IsRefusalOf, IsLeadRefusal};
 ghost use Rattle.aho_table.specs.Alphabet.{no_borders, class_count};
 ghost use Rattle.aho_table.specs.Table.{State, fail_id, IsRising, new_state, transition_in, next_in, matches_in, fail_in, depth_in, set_transition, push_match, append_matches, set_fail_of, state_at, lists_byte, transitions_count, matches_count, AllRising, IsWithinLimit, IsLedTo, LeadsAlike, with_row, without_row, no_rows, rows_led};
@@ -11,8 +11,8 @@ mod rows;
 mod states;
 
 use crate::alphabet::ByteClasses;
-use aho_base::error::BuildError;
-use aho_base::search::{PatternID, SmallIndex, StateID, Work};
+use aho_core::error::BuildError;
+use aho_core::search::{PatternID, SmallIndex, StateID, Work};
 pub use aho_lists::matches::Matches;
 /// What `Table::follow` answers where no transition is listed.
 pub use aho_lists::transitions::{FAIL, Transitions};

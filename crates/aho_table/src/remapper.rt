@@ -2,11 +2,11 @@
 //! number that the state has now.
 
 ghost use Rattle.std.specs.Prelude.{◌≡◌, ◌+◌, ◌≤◌, ◌<◌, ℕ, List, length, map, slice_index, slice_set, IfOk};
-ghost use Rattle.aho_base.specs.Numbers.{greatest_index};
+ghost use Rattle.aho_core.specs.Numbers.{greatest_index};
 ghost use Rattle.std.specs.List.{AllZip, range_with_len, swap};
 ghost use Rattle.aho_table.specs.Remapping.{transposed, place_of_state};
 
-use aho_base::search::StateID;
+use aho_core::search::StateID;
 use std::alloc::{AllocError, Global};
 use std::marker::Model;
 

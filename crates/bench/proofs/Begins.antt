@@ -7,9 +7,9 @@ use Rattle.std.proofs.lemmas.Bool.{cases_Bool}
 use Rattle.std.proofs.lemmas.Bool.Decides.{same_from_decides}
 use Rattle.std.proofs.lemmas.List.{length-map, take-map, take-append-drop}
 use Rattle.aho_laws.proofs.Begins.{begins-true, begins-from, any-true}
-use Rattle.aho_base.specs.Bytes.{folded, folded_word, IsSameWord, is_same_word}
-use Rattle.aho_base.specs.Patterns.{Patterns}
-use Rattle.aho_base.specs.Trie.{begins}
+use Rattle.aho_core.specs.Bytes.{folded, folded_word, IsSameWord, is_same_word}
+use Rattle.aho_core.specs.Patterns.{Patterns}
+use Rattle.aho_core.specs.Trie.{begins}
 use Rattle.aho_laws.proofs.SameWords.{is_same_word-Decides}
 
 module _ (p : Patterns) (word pattern : List ℕ) where

@@ -3,12 +3,12 @@ use Rattle.std.proofs.Common.{◌≡◌, ℕ, ◌+◌, ◌<◌, ◌≤◌, lengt
 use Rattle.std.specs.Prelude.{slice_range}
 use Rattle.std.proofs.lemmas.Bool.{cases_lt, cases_eq}
 use Rattle.std.proofs.lemmas.List.Edits.{length-between}
-use Rattle.aho_base.specs.Best.{IsBest}
-use Rattle.aho_base.specs.Bytes.{IsSameWord, is_same_word}
-use Rattle.aho_base.specs.declared.search.Anchored.TheVariants.{Yes}
-use Rattle.aho_base.specs.Occurrence.{Occurrence, occurrence}
-use Rattle.aho_base.specs.Patterns.{Patterns, pattern_at}
-use Rattle.aho_base.specs.Search.{Search}
+use Rattle.aho_core.specs.Best.{IsBest}
+use Rattle.aho_core.specs.Bytes.{IsSameWord, is_same_word}
+use Rattle.aho_core.specs.declared.search.Anchored.TheVariants.{Yes}
+use Rattle.aho_core.specs.Occurrence.{Occurrence, occurrence}
+use Rattle.aho_core.specs.Patterns.{Patterns, pattern_at}
+use Rattle.aho_core.specs.Search.{Search}
 use Rattle.bench.specs.Range.{OccursAt}
 use Rattle.aho_laws.proofs.Orders.{same_occurrence}
 use Rattle.aho_laws.proofs.SameWords.{IsSameWord-length, is_same_word-Decides}

@@ -1,10 +1,10 @@
 -- The best of two sets of occurrences together.
 use Rattle.std.proofs.Common.{◌≡◌, ◌⊎◌, ◌+◌, inl, inr, sym, subst, length, Option, Some, None}
-use Rattle.aho_base.specs.Best.{IsBest, IsBestOrNone}
-use Rattle.aho_base.specs.declared.search.MatchKind.{MatchKind}
-use Rattle.aho_base.specs.Occurrence.{Occurrence}
-use Rattle.aho_base.specs.Order.{IsBefore}
-use Rattle.aho_base.specs.Patterns.{Patterns, pattern_at}
+use Rattle.aho_core.specs.Best.{IsBest, IsBestOrNone}
+use Rattle.aho_core.specs.declared.search.MatchKind.{MatchKind}
+use Rattle.aho_core.specs.Occurrence.{Occurrence}
+use Rattle.aho_core.specs.Order.{IsBefore}
+use Rattle.aho_core.specs.Patterns.{Patterns, pattern_at}
 use Rattle.bench.specs.Better.{IsBetter}
 use Rattle.aho_laws.proofs.Orders.{IsBefore-trans, IsBefore-total}
 

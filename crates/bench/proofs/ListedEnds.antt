@@ -1,10 +1,10 @@
 -- Where the occurrences of a span end.
 use Rattle.std.proofs.Common.{◌≡◌, ℕ, zero, suc, ◌<◌, ◌≤◌, List, [], ◌∷◌, length, get_or, inl, inr, refl, subst, arith}
 use Rattle.aho_laws.proofs.Listings.{all_occurrences-only}
-use Rattle.aho_base.specs.Listing.{IsMember}
-use Rattle.aho_base.specs.Occurrence.{Occurrence}
-use Rattle.aho_base.specs.Overlapping.{all_occurrences}
-use Rattle.aho_base.specs.Patterns.{Patterns}
+use Rattle.aho_core.specs.Listing.{IsMember}
+use Rattle.aho_core.specs.Occurrence.{Occurrence}
+use Rattle.aho_core.specs.Overlapping.{all_occurrences}
+use Rattle.aho_core.specs.Patterns.{Patterns}
 
 -- an occurrence ends in the span
 abbrev pub EndsWithin : ℕ → ℕ → Occurrence → Type 0

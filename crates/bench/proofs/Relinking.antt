@@ -5,7 +5,7 @@ use Rattle.std.proofs.Math.Seq.{set-append_seam}
 use Rattle.std.proofs.lemmas.List.{set-set, set-get_or, take_more, take_all}
 use Rattle.std.specs.List.{count_by}
 use Rattle.std.proofs.lemmas.List.Sums.{sum_by-cons}
-use Rattle.aho_base.specs.Patterns.{Patterns}
+use Rattle.aho_core.specs.Patterns.{Patterns}
 use Rattle.aho_table.specs.Table.{State, Tables, IsRising, new_state, state_at, with_transition, set_transition, push_match, set_fail_of}
 use Rattle.aho_table.proofs.States.{state_at-set_same, state_at-push_new}
 use Rattle.aho_table.proofs.TransitionLists.{with_transition-more}

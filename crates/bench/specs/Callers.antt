@@ -1,6 +1,6 @@
 -- The settings of the callers.
 use Rattle.std.specs.Prelude.{true, false}
-use Rattle.aho_base.specs.declared.search.MatchKind.TheVariants.{LeftmostFirst}
+use Rattle.aho_core.specs.declared.search.MatchKind.TheVariants.{LeftmostFirst}
 use Rattle.aho_build.specs.Settings.{default_settings}
 use Rattle.aho_build.specs.declared.settings.Settings.{Settings}
 

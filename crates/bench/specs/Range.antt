@@ -1,9 +1,9 @@
 -- What occurs at one range, or ends at one place, of what is searched.
 use Rattle.std.specs.Prelude.{◌≡◌, ℕ}
-use Rattle.aho_base.specs.Occurrence.{Occurrence}
-use Rattle.aho_base.specs.Occurs.{OccursIn}
-use Rattle.aho_base.specs.Patterns.{Patterns}
-use Rattle.aho_base.specs.Search.{Search}
+use Rattle.aho_core.specs.Occurrence.{Occurrence}
+use Rattle.aho_core.specs.Occurs.{OccursIn}
+use Rattle.aho_core.specs.Patterns.{Patterns}
+use Rattle.aho_core.specs.Search.{Search}
 
 -- from `start` up to `end`
 abbrev pub OccursAt : Patterns → Search → ℕ → ℕ → Occurrence → Type 0

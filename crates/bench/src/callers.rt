@@ -2,35 +2,35 @@
 
 ghost use Rattle.std.specs.Io.KnownBytes.{Appends, Consumes};
 ghost use Rattle.std.specs.Prelude.{◌≡◌, ◌+◌, ◌*◌, ◌-◌, ◌<◌, ◌≤◌, ◌^◌, ℕ, List, IfOk, IfSome, false, true, length, IsOk, None, map};
-ghost use Rattle.aho_base.specs.Answer.{IsAnswer};
-ghost use Rattle.aho_base.specs.Best.{IsBestOrNone};
-ghost use Rattle.aho_base.specs.Iteration.{AreFinds};
-ghost use Rattle.aho_base.specs.Occurrence.{Occurrence};
-ghost use Rattle.aho_base.specs.Occurs.{Occurs};
-ghost use Rattle.aho_base.specs.Overlapping.{all_occurrences};
-ghost use Rattle.aho_base.specs.Patterns.{Patterns};
-ghost use Rattle.aho_base.specs.Replacement.{pieces_of, replaced};
-ghost use Rattle.aho_base.specs.Search.{search_of, plain_search};
-ghost use Rattle.aho_base.specs.declared.search.Anchored.TheVariants.{No, Yes};
-ghost use Rattle.aho_base.specs.declared.search.MatchKind.TheVariants.{Standard};
+ghost use Rattle.aho_core.specs.Answer.{IsAnswer};
+ghost use Rattle.aho_core.specs.Best.{IsBestOrNone};
+ghost use Rattle.aho_core.specs.Iteration.{AreFinds};
+ghost use Rattle.aho_core.specs.Occurrence.{Occurrence};
+ghost use Rattle.aho_core.specs.Occurs.{Occurs};
+ghost use Rattle.aho_core.specs.Overlapping.{all_occurrences};
+ghost use Rattle.aho_core.specs.Patterns.{Patterns};
+ghost use Rattle.aho_core.specs.Replacement.{pieces_of, replaced};
+ghost use Rattle.aho_core.specs.Search.{search_of, plain_search};
+ghost use Rattle.aho_core.specs.declared.search.Anchored.TheVariants.{No, Yes};
+ghost use Rattle.aho_core.specs.declared.search.MatchKind.TheVariants.{Standard};
 ghost use Rattle.aho_build.specs.Items.{patterns_of};
 ghost use Rattle.aho_build.specs.Settings.{default_settings};
 ghost use Rattle.aho_prefilter.specs.Candidate.{NoneStartsBefore, NothingOccurs};
 ghost use Rattle.aho_prefilter.specs.Prefilter.{IsPrefilterOf};
-ghost use Rattle.aho_search.specs.Finding.{AreFirstFinds, places};
+ghost use Rattle.aho_automaton.specs.Finding.{AreFirstFinds, places};
 ghost use Rattle.bench.specs.Callers.{both_cases, without_help};
 
-use aho_base::error::{BuildError, MatchError, ReplaceError, StreamError};
-use aho_base::search::{Anchored, Input, Match, MatchKind, Span};
+use aho_automaton::automaton::{Automaton, Counted, WithPrefilter, find_in};
 use aho_corasick::answers::{answer_of, best_occurrence};
 use aho_corasick::noncontiguous::{Builder, NFA};
+use aho_core::error::{BuildError, MatchError, ReplaceError, StreamError};
+use aho_core::search::{Anchored, Input, Match, MatchKind, Span};
 use aho_devices::buffer::Buffer;
 use aho_devices::device::{Sink, Source};
 use aho_devices::write::write_whole;
 use aho_prefilter::laws::candidates_tell_where;
 use aho_prefilter::prefilter::{PackedBuilder, Prefilter, PrefilterBuilder};
 use aho_prefilter::text::Bytes;
-use aho_search::automaton::{Automaton, Counted, WithPrefilter, find_in};
 use std::alloc::{AllocError, Global};
 
 /// The automaton of these patterns as a new builder builds it.

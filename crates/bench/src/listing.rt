@@ -1,14 +1,14 @@
 //! Every occurrence of a span, and the matches of iteration.
 
 ghost use Rattle.std.specs.Prelude.{◌≡◌, ◌+◌, ◌<◌, ◌≤◌, ◌++◌, length, slice_range, OnOk, IfOk, IfSome, Some, None, suc};
-ghost use Rattle.aho_base.specs.Bytes.{folded_word};
-ghost use Rattle.aho_base.specs.Iteration.{IsNextFind, AreFinds};
-ghost use Rattle.aho_base.specs.Overlapping.{occurrences_at, occurrences_ending, all_occurrences, anchored_occurrences, begins_some};
-ghost use Rattle.aho_base.specs.Trie.{begins, pattern_word};
+ghost use Rattle.aho_core.specs.Bytes.{folded_word};
+ghost use Rattle.aho_core.specs.Iteration.{IsNextFind, AreFinds};
+ghost use Rattle.aho_core.specs.Overlapping.{occurrences_at, occurrences_ending, all_occurrences, anchored_occurrences, begins_some};
+ghost use Rattle.aho_core.specs.Trie.{begins, pattern_word};
 
 use crate::pattern_set::PatternSet;
 use crate::plain::{is_same_word, match_at, plain, stands_at};
-use aho_base::search::{Input, Match, Span};
+use aho_core::search::{Input, Match, Span};
 use std::alloc::{AllocError, Global};
 
 /// Adds the occurrences at one range, by number.

@@ -3,10 +3,10 @@
 
 ghost use Rattle.bench.specs.OneByte.{one_pattern};
 
-use aho_base::error::MatchError;
-use aho_base::search::{Anchored, MatchKind, PatternID, StateID, Work};
+use aho_automaton::automaton::Automaton;
+use aho_core::error::MatchError;
+use aho_core::search::{Anchored, MatchKind, PatternID, StateID, Work};
 use aho_prefilter::prefilter::Prefilter;
-use aho_search::automaton::Automaton;
 use std::marker::Model;
 
 /// The automaton of a single pattern of one byte, under `Standard`. It has no start for anchored searches.
@@ -34,7 +34,7 @@ impl OneByte {
 
 impl Automaton for OneByte {
     ghost use Rattle.std.specs.Prelude.{◌≡◌, ℕ, [], ◌∷◌, ◌<◌, true, false, refl, None};
-    ghost use Rattle.aho_base.specs.declared.search.MatchKind.TheVariants.{Standard};
+    ghost use Rattle.aho_core.specs.declared.search.MatchKind.TheVariants.{Standard};
     ghost use Rattle.bench.specs.OneByte.{IsHeldByOne, alike_one, all_special, is_start_of_one, list_of, next_of, one_pattern, reads_one, start_of_one};
 
     ghost is_of = { λ one p. p ≡ one_pattern one };

@@ -1,10 +1,10 @@
 //! What the plain searches look for.
 
 ghost use Rattle.std.specs.Prelude.{◌≡◌, ◌+◌, ◌<◌, ◌≤◌, length, map};
-ghost use Rattle.aho_base.specs.Numbers.{greatest_index};
-ghost use Rattle.aho_base.specs.Patterns.{Patterns, pattern_at};
+ghost use Rattle.aho_core.specs.Numbers.{greatest_index};
+ghost use Rattle.aho_core.specs.Patterns.{Patterns, pattern_at};
 
-use aho_base::search::MatchKind;
+use aho_core::search::MatchKind;
 use std::marker::Model;
 
 /// The patterns of a search, with the match kind and the case rule.
@@ -29,7 +29,7 @@ impl Drop for PatternSet<'_> {
 
 impl<'p> Model for PatternSet<'p> {
     ghost use Rattle.std.specs.Prelude.{◌≤◌, length, map};
-    ghost use Rattle.aho_base.specs.Patterns.{Patterns};
+    ghost use Rattle.aho_core.specs.Patterns.{Patterns};
 
     ghost Value = { Patterns };
 
@@ -44,7 +44,7 @@ impl<'p> Model for PatternSet<'p> {
 }
 
 impl<'p> PatternSet<'p> {
-    ghost use Rattle.aho_base.specs.Patterns.{Patterns, pattern_at};
+    ghost use Rattle.aho_core.specs.Patterns.{Patterns, pattern_at};
 
     /// These patterns, searched for by this match kind. `ignore_case` makes an ASCII letter the same in both cases.
     ///

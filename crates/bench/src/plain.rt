@@ -1,19 +1,19 @@
 //! The search that tries each pattern at each range of the span.
 
 ghost use Rattle.std.specs.Prelude.{◌≡◌, ◌<◌, ◌≤◌, ◌↔◌, length, slice_range, IsTrue};
-ghost use Rattle.aho_base.specs.Answer.{IsAnswer, IsEarliestAnswer};
-ghost use Rattle.aho_base.specs.Best.{IsBestOrNone};
-ghost use Rattle.aho_base.specs.Bytes.{folded, is_same_word};
-ghost use Rattle.aho_base.specs.declared.search.Anchored.TheVariants.{Yes};
-ghost use Rattle.aho_base.specs.Occurrence.{occurrence};
-ghost use Rattle.aho_base.specs.Occurs.{OccursIn};
-ghost use Rattle.aho_base.specs.Order.{IsBefore};
-ghost use Rattle.aho_base.specs.Patterns.{pattern_at};
+ghost use Rattle.aho_core.specs.Answer.{IsAnswer, IsEarliestAnswer};
+ghost use Rattle.aho_core.specs.Best.{IsBestOrNone};
+ghost use Rattle.aho_core.specs.Bytes.{folded, is_same_word};
+ghost use Rattle.aho_core.specs.declared.search.Anchored.TheVariants.{Yes};
+ghost use Rattle.aho_core.specs.Occurrence.{occurrence};
+ghost use Rattle.aho_core.specs.Occurs.{OccursIn};
+ghost use Rattle.aho_core.specs.Order.{IsBefore};
+ghost use Rattle.aho_core.specs.Patterns.{pattern_at};
 ghost use Rattle.bench.specs.Better.{IsBetter};
 ghost use Rattle.bench.specs.Range.{OccursAt, OccursEndingAt};
 
 use crate::pattern_set::PatternSet;
-use aho_base::search::{Anchored, Input, Match, MatchKind, PatternID, Span};
+use aho_core::search::{Anchored, Input, Match, MatchKind, PatternID, Span};
 
 /// A byte as it is compared.
 fn folded_byte(patterns: &PatternSet<'_>, byte: u8) -> u8

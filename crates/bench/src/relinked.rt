@@ -1,21 +1,21 @@
 //! An automaton that is made anew from what another one tells of its states.
 
 ghost use Rattle.std.specs.Prelude.{◌≡◌, ◌+◌, ◌<◌, ◌≤◌, [], ◌∷◌, ◌++◌, length, slice_set, IfOk, IfErr, OnOk};
-ghost use Rattle.aho_base.specs.Laws.{shortest, longest};
-ghost use Rattle.aho_base.specs.Numbers.{greatest_index};
+ghost use Rattle.aho_core.specs.Laws.{shortest, longest};
+ghost use Rattle.aho_core.specs.Numbers.{greatest_index};
 ghost use Rattle.aho_build.specs.Walking.{IsSound, AreStarts};
 ghost use Rattle.aho_corasick.specs.ReadOut.{states_of};
 ghost use Rattle.aho_table.specs.Table.{IsRising, state_at};
 ghost use Rattle.bench.specs.Relinked.{IsRefused};
 
-use aho_base::error::{BuildError, MatchError};
-use aho_base::search::{Anchored, MatchKind, PatternID, SmallIndex, StateID, Work};
+use aho_automaton::automaton::Automaton;
 use aho_build::sizes::tables_bytes;
 use aho_build::special::Special;
 use aho_build::steps;
 use aho_corasick::noncontiguous::NFA;
+use aho_core::error::{BuildError, MatchError};
+use aho_core::search::{Anchored, MatchKind, PatternID, SmallIndex, StateID, Work};
 use aho_prefilter::prefilter::Prefilter;
-use aho_search::automaton::Automaton;
 use aho_table::links::{DEAD, Matches, Table, Transitions};
 use std::alloc::Global;
 
@@ -38,7 +38,7 @@ pub struct Relinked {
 }
 
 impl Relinked {
-    ghost use Rattle.aho_base.specs.Patterns.{Patterns};
+    ghost use Rattle.aho_core.specs.Patterns.{Patterns};
     ghost use Rattle.aho_build.specs.Dense.{memory_size};
 
     /// An automaton of all that the `NFA` is of.
@@ -141,11 +141,11 @@ fn add_matches(table: &mut Table, sid: StateID, matches: Matches<'_>) -> Result<
 
 impl Automaton for Relinked {
     ghost use Rattle.std.specs.Prelude.{ℕ, false, nat_eq, Ok, None};
-    ghost use Rattle.aho_base.specs.Bytes.{folded};
-    ghost use Rattle.aho_base.specs.Held.{held_after};
-    ghost use Rattle.aho_base.specs.Patterns.{Patterns};
-    ghost use Rattle.aho_base.specs.declared.search.Anchored.TheVariants.{No};
-    ghost use Rattle.aho_base.specs.Step.{lookups};
+    ghost use Rattle.aho_core.specs.Bytes.{folded};
+    ghost use Rattle.aho_core.specs.Held.{held_after};
+    ghost use Rattle.aho_core.specs.Patterns.{Patterns};
+    ghost use Rattle.aho_core.specs.declared.search.Anchored.TheVariants.{No};
+    ghost use Rattle.aho_core.specs.Step.{lookups};
     ghost use Rattle.aho_build.specs.Automaton.{IsOf, IsHeld, start_of, is_special_in, is_start_in, memory_of};
     ghost use Rattle.aho_build.specs.Walking.{IsState, step_in};
     ghost use Rattle.aho_build.proofs.AutomatonLaws.{alike_of, reads_of, plain_of, dead_shallow_of, starts_shallow_of};

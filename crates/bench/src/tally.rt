@@ -1,11 +1,11 @@
 //! An automaton that counts the calls of its steps.
 
-ghost use Rattle.aho_base.specs.Patterns.{Patterns};
+ghost use Rattle.aho_core.specs.Patterns.{Patterns};
 
-use aho_base::error::MatchError;
-use aho_base::search::{Anchored, MatchKind, PatternID, StateID, Work};
+use aho_automaton::automaton::Automaton;
+use aho_core::error::MatchError;
+use aho_core::search::{Anchored, MatchKind, PatternID, StateID, Work};
 use aho_prefilter::prefilter::Prefilter;
-use aho_search::automaton::Automaton;
 use std::cell::Cell;
 
 /// Another automaton, with counts of the calls of `step` and of `next_state`.

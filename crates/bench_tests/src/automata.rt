@@ -1,11 +1,11 @@
 //! Automata to test, and what is read off them by their own calls.
 
 ghost use Rattle.std.specs.Prelude.{◌≡◌};
-ghost use Rattle.aho_base.specs.Patterns.{Patterns};
+ghost use Rattle.aho_core.specs.Patterns.{Patterns};
 
-use aho_base::search::{Anchored, MatchKind, StateID};
+use aho_automaton::automaton::Automaton;
 use aho_corasick::noncontiguous::{Builder, NFA};
-use aho_search::automaton::Automaton;
+use aho_core::search::{Anchored, MatchKind, StateID};
 use bench::relinked::Relinked;
 use std::alloc::{AllocError, Global};
 use std::process::Abort;

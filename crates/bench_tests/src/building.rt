@@ -1,13 +1,13 @@
 //! What a builder builds, and what its limits refuse.
 
-ghost use Rattle.aho_base.specs.Patterns.{Patterns};
+ghost use Rattle.aho_core.specs.Patterns.{Patterns};
 
 use crate::asserts::{assert_in, assert_same, assert_same_in};
 use crate::automata::{builder_of, nfa_by, nfa_of};
-use aho_base::error::BuildError;
-use aho_base::search::{Input, Match, MatchKind, PatternID};
+use aho_automaton::automaton::Automaton;
 use aho_corasick::noncontiguous::{Builder, Limits, NFA};
-use aho_search::automaton::Automaton;
+use aho_core::error::BuildError;
+use aho_core::search::{Input, Match, MatchKind, PatternID};
 use std::alloc::{AllocError, Global};
 use std::process::Abort;
 use std::test::Fail;

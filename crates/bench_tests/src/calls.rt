@@ -4,8 +4,8 @@ ghost use Rattle.std.specs.Prelude.{◌+◌, ◌<◌, ◌^◌};
 
 use crate::asserts::{assert_in, assert_same, assert_same_in};
 use crate::automata::{listed, nfa_of, nfa_with, start_of, state_after};
-use aho_base::search::{Anchored, MatchKind, PatternID, StateID, Work};
-use aho_search::automaton::Automaton;
+use aho_automaton::automaton::Automaton;
+use aho_core::search::{Anchored, MatchKind, PatternID, StateID, Work};
 use bench::one_byte::OneByte;
 use std::alloc::{AllocError, Global};
 use std::process::Abort;

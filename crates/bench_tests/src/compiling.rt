@@ -1,9 +1,9 @@
 //! How large a build becomes: which patterns share states, which are left out, and which states have dense rows.
 
 use crate::asserts::assert_same_in;
-use aho_base::search::{Input, MatchKind};
+use aho_automaton::automaton::Automaton;
 use aho_corasick::noncontiguous::Builder;
-use aho_search::automaton::Automaton;
+use aho_core::search::{Input, MatchKind};
 use std::test::Fail;
 
 #[test]

@@ -1,8 +1,8 @@
 //! What errors write.
 
 use crate::asserts::assert_same;
-use aho_base::error::{BuildError, Fault, MatchError, ReplaceError, StreamError};
-use aho_base::search::{MatchKind, PatternID};
+use aho_core::error::{BuildError, Fault, MatchError, ReplaceError, StreamError};
+use aho_core::search::{MatchKind, PatternID};
 use std::alloc::AllocError;
 use std::test::Fail;
 

@@ -1,17 +1,17 @@
 //! An automaton with rows near the start, made from what an `NFA` tells: what it answers, lists and costs, and its own calls.
 
 ghost use Rattle.std.specs.Prelude.{◌+◌, ◌<◌, ◌≤◌, length};
-ghost use Rattle.aho_base.specs.Patterns.{Patterns};
+ghost use Rattle.aho_core.specs.Patterns.{Patterns};
 
 use crate::asserts::{assert_same, assert_same_in};
 use crate::automata::{listed, nfa_with, start_of, state_after};
 use crate::inputs::{KINDS, Random};
 use crate::overlaps::found_by_iterator;
-use aho_base::error::MatchError;
-use aho_base::search::{Anchored, Input, MatchKind, PatternID, Span};
+use aho_automaton::automaton::{Automaton, Counted, find_in};
+use aho_core::error::MatchError;
+use aho_core::search::{Anchored, Input, MatchKind, PatternID, Span};
 use aho_hybrid::hybrid::Hybrid;
 use aho_prefilter::text::Bytes;
-use aho_search::automaton::{Automaton, Counted, find_in};
 use bench::listing::{all, finds};
 use bench::pattern_set::PatternSet;
 use bench::plain::plain;

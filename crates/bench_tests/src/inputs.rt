@@ -2,14 +2,14 @@
 //! what it lists.
 
 ghost use Rattle.std.specs.Prelude.{◌+◌, ◌<◌, ◌≤◌, length};
-ghost use Rattle.aho_base.specs.Patterns.{Patterns};
+ghost use Rattle.aho_core.specs.Patterns.{Patterns};
 
 use crate::asserts::assert_same_in;
 use crate::automata::{DEPTHS, builder_of, nfa_by, nfa_with};
 use crate::overlaps::{found_by_calls, found_by_iterator};
-use aho_base::search::{Anchored, Input, MatchKind, PatternID, Span};
+use aho_automaton::automaton::Automaton;
 use aho_corasick::noncontiguous::{Limits, NFA};
-use aho_search::automaton::Automaton;
+use aho_core::search::{Anchored, Input, MatchKind, PatternID, Span};
 use bench::callers::all_matches;
 use bench::listing::{all, anchored, finds};
 use bench::pattern_set::PatternSet;

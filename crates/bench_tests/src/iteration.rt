@@ -1,13 +1,13 @@
 //! Iteration, one call at a time, and over other automata.
 
-ghost use Rattle.aho_base.specs.Patterns.{Patterns};
+ghost use Rattle.aho_core.specs.Patterns.{Patterns};
 
 use crate::asserts::{assert_same, assert_same_in};
 use crate::automata::nfa_of;
-use aho_base::error::MatchError;
-use aho_base::search::{Anchored, Input, Match, MatchKind, Span};
+use aho_automaton::automaton::Automaton;
 use aho_corasick::noncontiguous::NFA;
-use aho_search::automaton::Automaton;
+use aho_core::error::MatchError;
+use aho_core::search::{Anchored, Input, Match, MatchKind, Span};
 use bench::callers::{first_matches, match_ends, matches_in};
 use bench::one_byte::OneByte;
 use bench::tally::Tally;

@@ -4,8 +4,8 @@ ghost use Rattle.std.specs.Prelude.{◌≡◌};
 ghost use Rattle.aho_lists.specs.Lists.{IsList};
 
 use crate::asserts::assert_same;
-use aho_base::error::BuildError;
-use aho_base::search::{PatternID, StateID};
+use aho_core::error::BuildError;
+use aho_core::search::{PatternID, StateID};
 use aho_lists::matches::MatchLists;
 use aho_lists::transitions::{FAIL, TransitionLists};
 use std::process::Abort;

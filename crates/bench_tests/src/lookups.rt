@@ -1,17 +1,17 @@
 //! What searches over an automaton cost: look-ups of transitions, bytes read, and calls of its steps.
 
 ghost use Rattle.std.specs.Prelude.{◌+◌, ◌<◌, ◌≤◌, ◌^◌, length};
-ghost use Rattle.aho_base.specs.Patterns.{Patterns};
+ghost use Rattle.aho_core.specs.Patterns.{Patterns};
 
 use crate::asserts::{assert_in, assert_same, assert_same_in};
 use crate::automata::{DEPTHS, nfa_with, relinked_of};
 use crate::reading::Reading;
-use aho_base::error::MatchError;
-use aho_base::search::{Anchored, Input, MatchKind, Span};
+use aho_automaton::automaton::{Automaton, Counted, find_in};
 use aho_corasick::answers::best_occurrence;
 use aho_corasick::noncontiguous::NFA;
+use aho_core::error::MatchError;
+use aho_core::search::{Anchored, Input, MatchKind, Span};
 use aho_prefilter::text::{Bytes, Text};
-use aho_search::automaton::{Automaton, Counted, find_in};
 use bench::one_byte::OneByte;
 use bench::relinked::Relinked;
 use bench::tally::Tally;

@@ -4,9 +4,9 @@ ghost use Rattle.std.specs.Prelude.{◌≡◌, ◌<◌, length};
 
 use crate::asserts::{assert_same, assert_same_in};
 use crate::automata::{nfa_with, state_after};
-use aho_base::search::{Anchored, MatchKind, SmallIndex, StateID, Work};
+use aho_automaton::automaton::Automaton;
 use aho_build::special::Special;
-use aho_search::automaton::Automaton;
+use aho_core::search::{Anchored, MatchKind, SmallIndex, StateID, Work};
 use aho_table::links::{DEAD, FAIL, Table};
 use aho_table::remapper::Remapper;
 use std::alloc::Global;

@@ -1,9 +1,9 @@
 //! The automaton of one byte answers as it is set.
 
 use crate::asserts::assert_same;
-use aho_base::error::MatchErrorKind;
-use aho_base::search::{Anchored, Input, MatchKind, PatternID, Span};
-use aho_search::automaton::Automaton;
+use aho_automaton::automaton::Automaton;
+use aho_core::error::MatchErrorKind;
+use aho_core::search::{Anchored, Input, MatchKind, PatternID, Span};
 use bench::one_byte::OneByte;
 use std::test::Fail;
 

@@ -1,14 +1,14 @@
 //! Overlapping search: what its calls and its iterator find, one after another, and what they refuse.
 
 ghost use Rattle.std.specs.Prelude.{◌≡◌, ◌≤◌};
-ghost use Rattle.aho_base.specs.Patterns.{Patterns};
-ghost use Rattle.aho_base.specs.Progress.{without_match};
+ghost use Rattle.aho_core.specs.Patterns.{Patterns};
+ghost use Rattle.aho_core.specs.Progress.{without_match};
 
 use crate::asserts::{assert_same, assert_same_in};
 use crate::automata::{nfa_of, nfa_with};
-use aho_base::error::MatchError;
-use aho_base::search::{Anchored, Input, Match, MatchKind, PatternID, Span};
-use aho_search::automaton::{Automaton, OverlappingState};
+use aho_automaton::automaton::{Automaton, OverlappingState};
+use aho_core::error::MatchError;
+use aho_core::search::{Anchored, Input, Match, MatchKind, PatternID, Span};
 use bench::one_byte::OneByte;
 use bench::tally::Tally;
 use std::alloc::{AllocError, Global};

@@ -1,11 +1,11 @@
 //! Prefilters: the worked table, and random patterns against the plain program.
 
 ghost use Rattle.std.specs.Prelude.{◌+◌, ◌<◌, ◌≤◌, length};
-ghost use Rattle.aho_base.specs.Numbers.{greatest_index};
+ghost use Rattle.aho_core.specs.Numbers.{greatest_index};
 
 use crate::asserts::{assert_in, assert_same, assert_same_in};
 use crate::inputs::{KINDS, Random};
-use aho_base::search::{Input, Match, MatchKind, PatternID, Span};
+use aho_core::search::{Input, Match, MatchKind, PatternID, Span};
 use aho_prefilter::prefilter::{Candidate, PackedBuilder, Prefilter, PrefilterBuilder};
 use bench::callers::{automaton_of, find_by, packed_prefilter_of};
 use bench::pattern_set::PatternSet;

@@ -5,9 +5,9 @@ ghost use Rattle.aho_corasick.specs.ReadOut.{states_of};
 
 use crate::asserts::{assert_same, assert_same_in};
 use crate::automata::{listed, nfa_of, nfa_with, state_after};
-use aho_base::search::{Anchored, MatchKind, PatternID, StateID};
 use aho_corasick::links::{DEAD, FAIL};
 use aho_corasick::noncontiguous::NFA;
+use aho_core::search::{Anchored, MatchKind, PatternID, StateID};
 use std::alloc::{AllocError, Global};
 use std::process::Abort;
 use std::test::Fail;

@@ -2,7 +2,7 @@
 
 ghost use Rattle.std.specs.Prelude.{◌≡◌, ◌≤◌};
 
-use aho_base::search::Span;
+use aho_core::search::Span;
 use aho_prefilter::prefilter::{Candidate, Prefilter};
 use aho_prefilter::text::Text;
 

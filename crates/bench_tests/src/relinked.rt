@@ -2,8 +2,8 @@
 
 use crate::asserts::assert_same;
 use crate::automata::{listed, nfa_with, relinked_of, state_after};
-use aho_base::search::{Anchored, MatchKind};
-use aho_search::automaton::Automaton;
+use aho_automaton::automaton::Automaton;
+use aho_core::search::{Anchored, MatchKind};
 use std::alloc::{AllocError, Global};
 use std::process::Abort;
 use std::test::Fail;

@@ -1,13 +1,13 @@
 //! Replacement in memory: worked rows, and short inputs against a plain replacement that goes from byte to byte.
 
-ghost use Rattle.aho_base.specs.Patterns.{Patterns};
+ghost use Rattle.aho_core.specs.Patterns.{Patterns};
 
 use crate::asserts::{assert_same, assert_same_in};
 use crate::automata::{nfa_of, relinked_of};
-use aho_base::error::ReplaceError;
-use aho_base::search::{Input, Match, MatchKind, PatternID};
+use aho_automaton::automaton::Automaton;
 use aho_corasick::noncontiguous::NFA;
-use aho_search::automaton::Automaton;
+use aho_core::error::ReplaceError;
+use aho_core::search::{Input, Match, MatchKind, PatternID};
 use bench::listing::finds;
 use bench::one_byte::OneByte;
 use bench::pattern_set::PatternSet;

@@ -2,13 +2,13 @@
 //! can check by hand. One table; the test goes over it with the plain program and with the automaton.
 
 ghost use Rattle.std.specs.Prelude.{◌+◌, ◌≤◌, length};
-ghost use Rattle.aho_base.specs.Patterns.{Patterns};
+ghost use Rattle.aho_core.specs.Patterns.{Patterns};
 
 use crate::asserts::{assert_in, assert_same_in};
 use crate::automata::{DEPTHS, nfa_of, nfa_with, relinked_of};
 use crate::overlaps::{found_by_calls, found_by_iterator};
-use aho_base::search::{Anchored, Input, Match, MatchKind, PatternID, Span};
-use aho_search::automaton::Automaton;
+use aho_automaton::automaton::Automaton;
+use aho_core::search::{Anchored, Input, Match, MatchKind, PatternID, Span};
 use bench::listing::{all, anchored, finds};
 use bench::pattern_set::PatternSet;
 use bench::plain::plain;

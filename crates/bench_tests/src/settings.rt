@@ -1,17 +1,17 @@
 //! Two automata of the same patterns, of which the second has neither dense rows nor a prefilter: they answer the same, and
 //! what they should.
 
-ghost use Rattle.aho_base.specs.Patterns.{Patterns};
+ghost use Rattle.aho_core.specs.Patterns.{Patterns};
 
 use crate::asserts::assert_same;
-use aho_base::search::{Input, Match, MatchKind};
+use aho_automaton::automaton::Automaton;
 use aho_corasick::answers::{
     settings_do_not_change_answers, settings_do_not_change_finds,
     settings_do_not_change_overlapping_finds, settings_do_not_change_replaced_bytes,
     settings_do_not_change_replaced_text,
 };
 use aho_corasick::noncontiguous::NFA;
-use aho_search::automaton::Automaton;
+use aho_core::search::{Input, Match, MatchKind};
 use bench::callers::{helpless_automaton, standard_automaton};
 use std::alloc::{AllocError, Global};
 use std::process::Abort;

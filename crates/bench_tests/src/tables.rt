@@ -5,8 +5,8 @@ ghost use Rattle.std.specs.Iterator.{IsFinite};
 ghost use Rattle.aho_table.specs.Table.{fail_id, state_at};
 
 use crate::asserts::assert_same;
-use aho_base::error::BuildError;
-use aho_base::search::{PatternID, SmallIndex, StateID, Work};
+use aho_core::error::BuildError;
+use aho_core::search::{PatternID, SmallIndex, StateID, Work};
 use aho_table::alphabet::ByteClassSet;
 use aho_table::links::{DEAD, FAIL, Table};
 use std::alloc::{AllocError, Global};

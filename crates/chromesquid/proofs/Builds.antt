@@ -11,8 +11,8 @@ use Rattle.std.specs.Iterator.Runs.{WholeRun}
 use Rattle.std.specs.Slice.Iter.{iter_rest}
 use Rattle.std.specs.declared.iter.Copied.{Copied}
 use denote.Ref.{Bor}
-use Rattle.aho_base.specs.Patterns.{Patterns}
-use Rattle.aho_base.specs.declared.error.BuildError.{BuildError}
+use Rattle.aho_core.specs.Patterns.{Patterns}
+use Rattle.aho_core.specs.declared.error.BuildError.{BuildError}
 use Rattle.aho_build.specs.Items.{HasYielded, IsFailure, IsFirstRefused, OfAccepted, patterns_of}
 use Rattle.aho_build.specs.Refusals.{Growth, cause}
 use Rattle.aho_build.specs.declared.settings.Settings.{Settings}

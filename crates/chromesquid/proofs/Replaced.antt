@@ -5,9 +5,9 @@ use Rattle.std.specs.Fn.{Mut}
 use Rattle.std.specs.Iterator.Runs.{EachRunFrom}
 use Rattle.std.specs.Prelude.{◌+◌, ◌≤◌, Result, IfErr, OnErr, OnOk, length}
 use Rattle.std.proofs.lemmas.Result.{IfErr-weaker, on_err_weaker, on_ok_weaker}
-use Rattle.aho_base.specs.Occurrence.{Occurrence}
-use Rattle.aho_base.specs.Patterns.{Patterns}
-use Rattle.aho_base.specs.declared.error.stream.StreamError.{StreamError}
+use Rattle.aho_core.specs.Occurrence.{Occurrence}
+use Rattle.aho_core.specs.Patterns.{Patterns}
+use Rattle.aho_core.specs.declared.error.stream.StreamError.{StreamError}
 use Rattle.aho_devices.specs.Refusals.{IsFillRefusal}
 use Rattle.aho_devices.specs.declared.device.Sink.{Ghosts as SinkGhosts}
 use Rattle.aho_devices.specs.declared.device.Source.{Ghosts as SourceGhosts}

@@ -1,8 +1,8 @@
 -- Why a build of some patterns fails.
 use Rattle.std.specs.Prelude.{Some, ◌≡◌, ◌⊎◌}
-use Rattle.aho_base.specs.Patterns.{Patterns}
-use Rattle.aho_base.specs.declared.error.BuildError.{BuildError}
-use Rattle.aho_base.specs.declared.error.BuildError.TheVariants.{OutOfMemory}
+use Rattle.aho_core.specs.Patterns.{Patterns}
+use Rattle.aho_core.specs.declared.error.BuildError.{BuildError}
+use Rattle.aho_core.specs.declared.error.BuildError.TheVariants.{OutOfMemory}
 use Rattle.aho_build.specs.Refusals.{Growth, cause, refusal_of}
 use Rattle.aho_build.specs.declared.settings.Settings.{Settings}
 

@@ -1,13 +1,13 @@
 -- The automaton that searches is one of several kinds: each member of it is that of the automaton that is held.
 use Rattle.std.specs.Prelude.{◌≡◌, ◌⊎◌, ℕ, List, [], Bool, true, false, Option, None, IfSome, Result, if◌then◌else◌}
-use Rattle.aho_base.specs.Held.{held_after}
-use Rattle.aho_base.specs.Laws.{Reads}
-use Rattle.aho_base.specs.Patterns.{Patterns}
-use Rattle.aho_base.specs.declared.error.BuildError.TheVariants.{StateIDOverflow}
-use Rattle.aho_base.specs.declared.error.MatchErrorKind.{MatchErrorKind}
-use Rattle.aho_base.specs.declared.search.Anchored.{Anchored}
-use Rattle.aho_base.specs.declared.search.Anchored.TheVariants.{No}
-use Rattle.aho_base.specs.declared.search.MatchKind.{MatchKind}
+use Rattle.aho_core.specs.Held.{held_after}
+use Rattle.aho_core.specs.Laws.{Reads}
+use Rattle.aho_core.specs.Patterns.{Patterns}
+use Rattle.aho_core.specs.declared.error.BuildError.TheVariants.{StateIDOverflow}
+use Rattle.aho_core.specs.declared.error.MatchErrorKind.{MatchErrorKind}
+use Rattle.aho_core.specs.declared.search.Anchored.{Anchored}
+use Rattle.aho_core.specs.declared.search.Anchored.TheVariants.{No}
+use Rattle.aho_core.specs.declared.search.MatchKind.{MatchKind}
 use Rattle.aho_build.specs.declared.settings.Settings.{Settings}
 use Rattle.aho_corasick.specs.contracts.noncontiguous.NFAAutomaton.TheImpl.{ghosts as of_nfa}
 use Rattle.aho_corasick.specs.contracts.noncontiguous.NFAAutomaton.TheImpl.Laws.{alike-law as nfa-alike, dead_shallow-law as nfa-dead_shallow, laws-law as nfa-laws, plain-law as nfa-plain, prefilters-law as nfa-prefilters, starts_shallow-law as nfa-starts_shallow, unmarked-law as nfa-unmarked}

@@ -1,20 +1,20 @@
 -- The definitions that a caller's contract names, from one place.
-pub use Rattle.aho_base.specs.Answer.{IsAnswer}
-pub use Rattle.aho_base.specs.ClosureRun.{RunsInMemory}
-pub use Rattle.aho_base.specs.Iteration.{AreFinds}
-pub use Rattle.aho_base.specs.Laws.{longest, shortest}
-pub use Rattle.aho_base.specs.Occurrence.{Occurrence}
-pub use Rattle.aho_base.specs.Overlapping.{all_occurrences}
-pub use Rattle.aho_base.specs.Patterns.{Patterns}
-pub use Rattle.aho_base.specs.Replacement.{on_boundaries, pieces_of, replaced}
-pub use Rattle.aho_base.specs.Search.{Search, plain_search, search_of}
-pub use Rattle.aho_base.specs.declared.search.Anchored.TheVariants.{No, Yes}
-pub use Rattle.aho_base.specs.declared.search.MatchKind.TheVariants.{LeftmostFirst, LeftmostLongest, Standard}
+pub use Rattle.aho_core.specs.Answer.{IsAnswer}
+pub use Rattle.aho_core.specs.ClosureRun.{RunsInMemory}
+pub use Rattle.aho_core.specs.Iteration.{AreFinds}
+pub use Rattle.aho_core.specs.Laws.{longest, shortest}
+pub use Rattle.aho_core.specs.Occurrence.{Occurrence}
+pub use Rattle.aho_core.specs.Overlapping.{all_occurrences}
+pub use Rattle.aho_core.specs.Patterns.{Patterns}
+pub use Rattle.aho_core.specs.Replacement.{on_boundaries, pieces_of, replaced}
+pub use Rattle.aho_core.specs.Search.{Search, plain_search, search_of}
+pub use Rattle.aho_core.specs.declared.search.Anchored.TheVariants.{No, Yes}
+pub use Rattle.aho_core.specs.declared.search.MatchKind.TheVariants.{LeftmostFirst, LeftmostLongest, Standard}
 pub use Rattle.aho_build.specs.Automaton.{memory_for}
 pub use Rattle.aho_build.specs.Items.{patterns_of}
 pub use Rattle.aho_build.specs.Refusals.{cause}
 pub use Rattle.aho_build.specs.Settings.{default_settings}
-pub use Rattle.aho_search.specs.Finding.{AreFirstFinds, HoldsOfFinds}
+pub use Rattle.aho_automaton.specs.Finding.{AreFirstFinds, HoldsOfFinds}
 pub use Rattle.aho_stream.specs.FindRuns.{is_limit_among}
 pub use Rattle.aho_stream.specs.StreamRun.{RefusesUntouched}
 pub use Rattle.chromesquid.specs.Building.{IsFailureOf}

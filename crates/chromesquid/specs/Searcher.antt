@@ -1,17 +1,17 @@
 -- What a searcher is seen as, and which patterns it was built from.
 use Rattle.std.specs.Prelude.{◌≡◌, ◌≤◌, ℕ, List, Bool, true, false, Option, None, Some, Result, Err, IsOk, is_some, length, if◌then◌else◌}
-use Rattle.aho_base.specs.Answer.{IsAnswer}
-use Rattle.aho_base.specs.Laws.{shortest}
-use Rattle.aho_base.specs.Occurrence.{Occurrence}
-use Rattle.aho_base.specs.Patterns.{Patterns}
-use Rattle.aho_base.specs.Search.{Search}
+use Rattle.aho_core.specs.Answer.{IsAnswer}
+use Rattle.aho_core.specs.Laws.{shortest}
+use Rattle.aho_core.specs.Occurrence.{Occurrence}
+use Rattle.aho_core.specs.Patterns.{Patterns}
+use Rattle.aho_core.specs.Search.{Search}
 use Rattle.aho_build.specs.Settings.{default_settings}
 use Rattle.aho_build.specs.declared.settings.Settings.{Settings}
-use Rattle.aho_base.specs.declared.error.MatchErrorKind.{MatchErrorKind}
-use Rattle.aho_base.specs.declared.error.MatchErrorKind.TheVariants.{InvalidInputAnchored, InvalidInputUnanchored}
-use Rattle.aho_base.specs.declared.search.Anchored.{Anchored}
-use Rattle.aho_base.specs.declared.search.Anchored.TheVariants.{No, Yes}
-use Rattle.aho_base.specs.declared.search.MatchKind.{MatchKind}
+use Rattle.aho_core.specs.declared.error.MatchErrorKind.{MatchErrorKind}
+use Rattle.aho_core.specs.declared.error.MatchErrorKind.TheVariants.{InvalidInputAnchored, InvalidInputUnanchored}
+use Rattle.aho_core.specs.declared.search.Anchored.{Anchored}
+use Rattle.aho_core.specs.declared.search.Anchored.TheVariants.{No, Yes}
+use Rattle.aho_core.specs.declared.search.MatchKind.{MatchKind}
 use Rattle.chromesquid.specs.Engine.{kind_in}
 use Rattle.chromesquid.specs.contracts.engine.EngineAutomaton.TheImpl.{ghosts}
 use Rattle.chromesquid.specs.declared.engine.Engine.{Engine}

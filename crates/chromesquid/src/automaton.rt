@@ -3,10 +3,10 @@
 use crate::engine::Engine;
 use crate::kinds::{is_allowed, refusal_of};
 use crate::searcher::AhoCorasick;
-use aho_base::error::MatchError;
-use aho_base::search::{Anchored, MatchKind, PatternID, StateID, Work};
+use aho_automaton::automaton::Automaton;
+use aho_core::error::MatchError;
+use aho_core::search::{Anchored, MatchKind, PatternID, StateID, Work};
 use aho_prefilter::prefilter::Prefilter;
-use aho_search::automaton::Automaton;
 
 impl Automaton for AhoCorasick {
     ghost use Rattle.chromesquid.specs.Engine.{alike_by, dead_shallow_by, laws_by, plain_by, prefilters_by, starts_shallow_by, unmarked_by};

@@ -3,7 +3,7 @@
 ghost use Rattle.std.specs.Prelude.{◌≡◌, IfErr, IfOk, None, length, map};
 ghost use Rattle.std.specs.Iterator.{IsFinite};
 ghost use Rattle.std.specs.Iterator.Runs.{WholeRun};
-ghost use Rattle.aho_base.specs.Patterns.{Patterns};
+ghost use Rattle.aho_core.specs.Patterns.{Patterns};
 ghost use Rattle.aho_build.specs.Automaton.{memory_for};
 ghost use Rattle.aho_build.specs.Items.{IsFailure, OfAccepted, patterns_of};
 ghost use Rattle.aho_build.specs.Refusals.{cause};
@@ -14,11 +14,11 @@ ghost use Rattle.chromesquid.specs.declared.kinds.AhoCorasickKind.TheVariants.{N
 use crate::engine::Engine;
 use crate::kinds::{AhoCorasickKind, StartKind, kind_for};
 use crate::searcher::AhoCorasick;
-use aho_base::error::BuildError;
-use aho_base::search::MatchKind;
+use aho_automaton::automaton::Automaton;
 use aho_build::settings::{Limits, Settings};
 use aho_corasick::noncontiguous::{Builder, NFA};
-use aho_search::automaton::Automaton;
+use aho_core::error::BuildError;
+use aho_core::search::MatchKind;
 use std::alloc::Global;
 use std::marker::Model;
 

@@ -1,10 +1,10 @@
 //! The automaton that searches: one of several kinds. Each of its calls is that of the automaton that is held.
 
 ghost use Rattle.std.specs.Prelude.{◌≡◌, ◌<◌, ◌≤◌, ℕ, Err, IfErr, IfOk, IfSome, IsOk, None, Ok};
-ghost use Rattle.aho_base.specs.Answer.{IsAnswer};
-ghost use Rattle.aho_base.specs.Patterns.{Patterns};
-ghost use Rattle.aho_base.specs.declared.error.BuildError.TheVariants.{OutOfMemory};
-ghost use Rattle.aho_base.specs.declared.error.MatchErrorKind.{MatchErrorKind};
+ghost use Rattle.aho_core.specs.Answer.{IsAnswer};
+ghost use Rattle.aho_core.specs.Patterns.{Patterns};
+ghost use Rattle.aho_core.specs.declared.error.BuildError.TheVariants.{OutOfMemory};
+ghost use Rattle.aho_core.specs.declared.error.MatchErrorKind.{MatchErrorKind};
 ghost use Rattle.aho_build.specs.Items.{patterns_of};
 ghost use Rattle.aho_corasick.specs.Clones.{IsCloneOf};
 ghost use Rattle.aho_prefilter.specs.Prefilter.{IsPrefilterOf};
@@ -13,13 +13,13 @@ ghost use Rattle.chromesquid.specs.declared.kinds.AhoCorasickKind.TheVariants.{H
 
 use crate::kinds::AhoCorasickKind;
 use crate::prefilters::prefilter_of;
-use aho_base::error::{BuildError, MatchError};
-use aho_base::search::{Anchored, Input, Match, MatchKind, PatternID, StateID, Work};
+use aho_automaton::automaton::Automaton;
 use aho_build::settings::Settings;
 use aho_corasick::noncontiguous::NFA;
+use aho_core::error::{BuildError, MatchError};
+use aho_core::search::{Anchored, Input, Match, MatchKind, PatternID, StateID, Work};
 use aho_hybrid::hybrid::{DEFAULT_BUDGET, Hybrid};
 use aho_prefilter::prefilter::Prefilter;
-use aho_search::automaton::Automaton;
 use std::alloc::{AllocError, Global};
 
 /// An automaton of one of the kinds.

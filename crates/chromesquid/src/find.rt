@@ -2,27 +2,27 @@
 
 ghost use Rattle.std.specs.Prelude.{◌≡◌, ◌≢◌, ◌*◌, ◌<◌, ◌≤◌, IfErr, IfOk, IsOk, Ok, Err, None, true, false, length};
 ghost use Rattle.std.specs.Iterator.{UpTo};
-ghost use Rattle.aho_base.specs.Answer.{IsAnswer};
-ghost use Rattle.aho_base.specs.Patterns.{Patterns};
-ghost use Rattle.aho_base.specs.declared.error.MatchErrorKind.TheVariants.{InvalidInputAnchored, InvalidInputUnanchored, UnsupportedOverlapping};
-ghost use Rattle.aho_base.specs.declared.search.Anchored.TheVariants.{No, Yes};
-ghost use Rattle.aho_base.specs.declared.search.MatchKind.TheVariants.{Standard};
-ghost use Rattle.aho_search.specs.Finding.{GivesFinds, GivesFirstFinds, places};
-ghost use Rattle.aho_search.specs.Fused.{IsFused};
-ghost use Rattle.aho_search.specs.Overlaps.{ListsAll, ListsFirst};
+ghost use Rattle.aho_core.specs.Answer.{IsAnswer};
+ghost use Rattle.aho_core.specs.Patterns.{Patterns};
+ghost use Rattle.aho_core.specs.declared.error.MatchErrorKind.TheVariants.{InvalidInputAnchored, InvalidInputUnanchored, UnsupportedOverlapping};
+ghost use Rattle.aho_core.specs.declared.search.Anchored.TheVariants.{No, Yes};
+ghost use Rattle.aho_core.specs.declared.search.MatchKind.TheVariants.{Standard};
+ghost use Rattle.aho_automaton.specs.Finding.{GivesFinds, GivesFirstFinds, places};
+ghost use Rattle.aho_automaton.specs.Fused.{IsFused};
+ghost use Rattle.aho_automaton.specs.Overlaps.{ListsAll, ListsFirst};
 
 use crate::input::Searchable;
 use crate::kinds::{is_allowed, refusal_of};
 use crate::searcher::AhoCorasick;
-use aho_base::error::MatchError;
-use aho_base::search::{Input, Match};
-use aho_search::automaton::Automaton;
+use aho_automaton::automaton::Automaton;
+use aho_core::error::MatchError;
+use aho_core::search::{Input, Match};
 
 /// The matches of a search, one after another.
-pub type FindIter<'a, 'h> = aho_search::automaton::FindIter<'a, 'h, AhoCorasick>;
+pub type FindIter<'a, 'h> = aho_automaton::automaton::FindIter<'a, 'h, AhoCorasick>;
 
 /// All matches of a search, those that overlap too, one after another.
-pub type FindOverlappingIter<'a, 'h> = aho_search::automaton::FindOverlappingIter<
+pub type FindOverlappingIter<'a, 'h> = aho_automaton::automaton::FindOverlappingIter<
     'a,
     'h,
     AhoCorasick,

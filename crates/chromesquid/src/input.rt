@@ -1,9 +1,9 @@
 //! What can be searched.
 
 ghost use Rattle.std.specs.Prelude.{◌≡◌, string_bytes};
-ghost use Rattle.aho_base.specs.Search.{Search, plain_search};
+ghost use Rattle.aho_core.specs.Search.{Search, plain_search};
 
-use aho_base::search::Input;
+use aho_core::search::Input;
 
 /// What can be searched: bytes or a text, the whole of it, or an `Input`.
 pub trait Searchable<'h> {

@@ -3,8 +3,8 @@
 ghost use Rattle.std.specs.Prelude.{◌≡◌, IfErr, Err, IsOk, true, false};
 ghost use Rattle.chromesquid.specs.Searcher.{allows, kind_for, refusal_of};
 
-use aho_base::error::MatchError;
-use aho_base::search::Anchored;
+use aho_core::error::MatchError;
+use aho_core::search::Anchored;
 
 /// Which automaton searches. No answer depends on it.
 #[derive(Clone, Copy, Debug, PartialEq, Eq)]

@@ -12,15 +12,15 @@ pub mod replace;
 pub mod searcher;
 pub mod stream;
 
-pub use aho_base::error::{
+pub use aho_automaton::automaton::{Automaton, OverlappingState};
+pub use aho_corasick::noncontiguous::Limits;
+pub use aho_core::error::{
     BuildError, Fault, MatchError, MatchErrorKind, ReplaceError, StreamError,
 };
-pub use aho_base::search::{Anchored, Input, Match, MatchKind, PatternID, Span};
-pub use aho_corasick::noncontiguous::Limits;
+pub use aho_core::search::{Anchored, Input, Match, MatchKind, PatternID, Span};
 pub use aho_devices::adapters::{FromRead, FromWrite};
 pub use aho_devices::device::{Sink, Source};
 pub use aho_devices::write::write_whole;
-pub use aho_search::automaton::{Automaton, OverlappingState};
 pub use builder::AhoCorasickBuilder;
 pub use find::{FindIter, FindOverlappingIter};
 pub use input::Searchable;

@@ -1,13 +1,13 @@
 //! The prefilter that rows hold, which may be a packed search.
 
 ghost use Rattle.std.specs.Prelude.{◌≡◌, IfErr, IfOk, IfSome};
-ghost use Rattle.aho_base.specs.declared.error.BuildError.TheVariants.{OutOfMemory};
+ghost use Rattle.aho_core.specs.declared.error.BuildError.TheVariants.{OutOfMemory};
 ghost use Rattle.aho_build.specs.Items.{patterns_of};
 ghost use Rattle.aho_prefilter.specs.Prefilter.{IsPrefilterOf, held_or_packed};
 ghost use Rattle.chromesquid.specs.Engine.{held_in_rows};
 
-use aho_base::error::BuildError;
 use aho_build::settings::Settings;
+use aho_core::error::BuildError;
 use aho_prefilter::prefilter::{PackedBuilder, Prefilter};
 use std::alloc::{AllocError, Global};
 

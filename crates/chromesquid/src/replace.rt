@@ -1,18 +1,18 @@
 //! Replacement in memory.
 
 ghost use Rattle.std.specs.Prelude.{◌≡◌, Err, IfOk, Ok, OnOk, alloc_error, false, length, string_bytes, vec_items};
-ghost use Rattle.aho_base.specs.ClosureRun.{RunsInMemory};
-ghost use Rattle.aho_base.specs.Replacement.{on_boundaries, pieces_of, replaced};
-ghost use Rattle.aho_base.specs.declared.error.MatchErrorKind.{MatchErrorKind};
-ghost use Rattle.aho_base.specs.declared.error.MatchErrorKind.TheVariants.{InvalidInputUnanchored};
-ghost use Rattle.aho_base.specs.declared.error.replace.ReplaceError.{ReplaceError};
-ghost use Rattle.aho_base.specs.declared.search.Anchored.TheVariants.{No};
-ghost use Rattle.aho_search.specs.Finding.{HoldsOfFinds};
+ghost use Rattle.aho_core.specs.ClosureRun.{RunsInMemory};
+ghost use Rattle.aho_core.specs.Replacement.{on_boundaries, pieces_of, replaced};
+ghost use Rattle.aho_core.specs.declared.error.MatchErrorKind.{MatchErrorKind};
+ghost use Rattle.aho_core.specs.declared.error.MatchErrorKind.TheVariants.{InvalidInputUnanchored};
+ghost use Rattle.aho_core.specs.declared.error.replace.ReplaceError.{ReplaceError};
+ghost use Rattle.aho_core.specs.declared.search.Anchored.TheVariants.{No};
+ghost use Rattle.aho_automaton.specs.Finding.{HoldsOfFinds};
 
 use crate::searcher::AhoCorasick;
-use aho_base::error::ReplaceError;
-use aho_base::search::Match;
-use aho_search::automaton::Automaton;
+use aho_automaton::automaton::Automaton;
+use aho_core::error::ReplaceError;
+use aho_core::search::Match;
 use std::alloc::{AllocError, Global};
 
 impl AhoCorasick {

@@ -3,10 +3,10 @@
 ghost use Rattle.std.specs.Prelude.{◌≡◌, ◌≤◌, IfErr, IfOk, None, length, map};
 ghost use Rattle.std.specs.Iterator.{IsFinite};
 ghost use Rattle.std.specs.Iterator.Runs.{WholeRun};
-ghost use Rattle.aho_base.specs.Laws.{longest, shortest};
-ghost use Rattle.aho_base.specs.Numbers.{greatest_index};
-ghost use Rattle.aho_base.specs.Patterns.{Patterns};
-ghost use Rattle.aho_base.specs.declared.search.MatchKind.TheVariants.{Standard};
+ghost use Rattle.aho_core.specs.Laws.{longest, shortest};
+ghost use Rattle.aho_core.specs.Numbers.{greatest_index};
+ghost use Rattle.aho_core.specs.Patterns.{Patterns};
+ghost use Rattle.aho_core.specs.declared.search.MatchKind.TheVariants.{Standard};
 ghost use Rattle.aho_build.specs.Automaton.{memory_for};
 ghost use Rattle.aho_build.specs.Items.{IsFailure, OfAccepted, patterns_of};
 ghost use Rattle.aho_build.specs.Refusals.{cause};
@@ -19,9 +19,9 @@ ghost use Rattle.chromesquid.specs.declared.kinds.StartKind.TheVariants.{Unancho
 use crate::builder::AhoCorasickBuilder;
 use crate::engine::Engine;
 use crate::kinds::{AhoCorasickKind, StartKind};
-use aho_base::error::BuildError;
-use aho_base::search::MatchKind;
-use aho_search::automaton::Automaton;
+use aho_automaton::automaton::Automaton;
+use aho_core::error::BuildError;
+use aho_core::search::MatchKind;
 use std::alloc::{AllocError, Global};
 use std::marker::Model;
 
@@ -33,7 +33,7 @@ pub struct AhoCorasick {
 }
 
 impl Model for AhoCorasick {
-    ghost use Rattle.aho_base.specs.Patterns.{Patterns};
+    ghost use Rattle.aho_core.specs.Patterns.{Patterns};
     ghost use Rattle.chromesquid.specs.Searcher.{IsBuiltFrom, Searcher};
 
     ghost Value = { Searcher };

@@ -1,14 +1,14 @@
 //! Builds and clones.
 
-ghost use Rattle.aho_base.specs.Patterns.{Patterns};
+ghost use Rattle.aho_core.specs.Patterns.{Patterns};
 ghost use Rattle.std.specs.Prelude.{IfOk};
 
 use crate::wants::{Want, Wrong};
-use aho_base::error::BuildError;
-use aho_base::search::{Input, MatchKind};
+use aho_automaton::automaton::Automaton;
 use aho_corasick::answers::answer_of;
 use aho_corasick::noncontiguous::{Builder, NFA};
-use aho_search::automaton::Automaton;
+use aho_core::error::BuildError;
+use aho_core::search::{Input, MatchKind};
 use std::alloc::Global;
 
 /// Words that nest, share first and last bytes and have letters, so that a build grows in every way it can.

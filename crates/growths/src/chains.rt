@@ -3,7 +3,7 @@
 ghost use Rattle.std.specs.Prelude.{◌≡◌, ◌<◌, ℕ, [], length, ⊤};
 
 use crate::wants::{Want, Wrong};
-use aho_base::search::StateID;
+use aho_core::search::StateID;
 use aho_table::remapper::{Remappable, Remapper};
 use std::alloc::Global;
 

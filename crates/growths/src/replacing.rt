@@ -1,13 +1,13 @@
 //! Replacement in memory.
 
-ghost use Rattle.aho_base.specs.Patterns.{Patterns};
+ghost use Rattle.aho_core.specs.Patterns.{Patterns};
 ghost use Rattle.std.specs.Prelude.{◌≡◌, IfOk, length};
 
 use crate::builds::automaton;
 use crate::wants::{Want, Wrong};
-use aho_base::error::ReplaceError;
+use aho_automaton::automaton::Automaton;
 use aho_corasick::noncontiguous::{Builder, NFA};
-use aho_search::automaton::Automaton;
+use aho_core::error::ReplaceError;
 use std::alloc::Global;
 
 /// Each gap is longer than all before it, so that each copy grows what it is copied to.

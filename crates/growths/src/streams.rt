@@ -1,16 +1,16 @@
 //! Streams.
 
 ghost use Rattle.std.specs.Prelude.{◌≡◌, None, length, true};
-ghost use Rattle.aho_base.specs.Patterns.{Patterns};
+ghost use Rattle.aho_core.specs.Patterns.{Patterns};
 
 use crate::builds::automaton;
 use crate::wants::{Want, Wrong};
-use aho_base::error::{Fault, StreamError};
+use aho_automaton::automaton::Automaton;
 use aho_corasick::noncontiguous::Builder;
+use aho_core::error::{Fault, StreamError};
 use aho_devices::adapters::FromRead;
 use aho_devices::device::{Sink, Source};
 use aho_devices::write::write_whole;
-use aho_search::automaton::Automaton;
 use aho_stream::chunks::StreamChunkIter;
 use aho_stream::replace::{try_stream_replace_all, try_stream_replace_all_with};
 use std::alloc::Global;

@@ -1,7 +1,7 @@
 -- The lines of the first of some matches are a beginning of the lines of all, and so are all of them.
 use Rattle.std.proofs.Common.{ℕ, List, ◌++◌}
 use Rattle.std.proofs.lemmas.Grind.{flat_map-append}
-use Rattle.aho_base.specs.Occurrence.{Occurrence}
+use Rattle.aho_core.specs.Occurrence.{Occurrence}
 use Rattle.std.specs.declared.io.traits.Write.{Ghosts as Writers}
 use Rattle.aho_devices.specs.declared.adapters.FromWrite.{FromWrite}
 use Rattle.programs.specs.Answers.{BeginsMatches, Begun, PrintsMatches, line_of, lines_of}

@@ -2,7 +2,7 @@
 use Rattle.std.proofs.Common.{arith, ◌≡◌, ℕ, ◌%◌, ◌<◌, List, [], ◌∷◌, length, map, ap, sym, ◌∙◌, refl}
 use Prim.Native.Nat.{suc}
 use denote.Ref.{Bor}
-use Rattle.aho_base.specs.Replacement.{pieces_of}
+use Rattle.aho_core.specs.Replacement.{pieces_of}
 use Rattle.programs.specs.Asked.{at_even, at_odd}
 
 -- an even number of arguments below two is none

@@ -5,12 +5,12 @@ use Rattle.std.specs.Io.KnownBytes.{Appends, Consumes, IsAtEnd}
 use Rattle.std.specs.List.{flat_map}
 use Rattle.std.specs.declared.io.traits.Read.{Ghosts as Readers}
 use Rattle.std.specs.declared.io.traits.Write.{Ghosts as Writers}
-use Rattle.aho_base.specs.Iteration.{AreFinds}
-use Rattle.aho_base.specs.Occurrence.{Occurrence}
-use Rattle.aho_base.specs.Overlapping.{all_occurrences}
-use Rattle.aho_base.specs.Patterns.{Patterns}
-use Rattle.aho_base.specs.Replacement.{replaced}
-use Rattle.aho_base.specs.Search.{plain_search}
+use Rattle.aho_core.specs.Iteration.{AreFinds}
+use Rattle.aho_core.specs.Occurrence.{Occurrence}
+use Rattle.aho_core.specs.Overlapping.{all_occurrences}
+use Rattle.aho_core.specs.Patterns.{Patterns}
+use Rattle.aho_core.specs.Replacement.{replaced}
+use Rattle.aho_core.specs.Search.{plain_search}
 use Rattle.aho_stream.specs.After.{kept_for}
 use Rattle.aho_stream.specs.Replacing.{MayBe, piece_for, replaced_up_to}
 use Rattle.aho_devices.specs.Counts.{AppendsBeginning}

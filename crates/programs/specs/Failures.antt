@@ -1,8 +1,8 @@
 -- What a failure is told by: its status and its text.
 use Rattle.std.specs.Prelude.{◌≡◌, ℕ, Bool, true, false, List, ◌++◌, codes, Result, Ok, Err, ⊤}
-use Rattle.aho_base.specs.declared.error.stream.StreamError.{StreamError}
-use Rattle.aho_base.specs.declared.error.stream.StreamError.TheVariants.{Match as Refused, Read as ReadFailed, Write as WriteFailed, WriteZero as TookNothing, Memory, PositionLimit as LimitMet}
-use Rattle.aho_base.specs.Texts.{build_error_text, match_error_text}
+use Rattle.aho_core.specs.declared.error.stream.StreamError.{StreamError}
+use Rattle.aho_core.specs.declared.error.stream.StreamError.TheVariants.{Match as Refused, Read as ReadFailed, Write as WriteFailed, WriteZero as TookNothing, Memory, PositionLimit as LimitMet}
+use Rattle.aho_core.specs.Texts.{build_error_text, match_error_text}
 use Rattle.programs.specs.declared.failure.Failure.{Failure}
 use Rattle.programs.specs.declared.failure.Failure.TheVariants.{Usage, Build, Search, OutOfMemory, PositionLimit, Read, Write, WriteZero}
 

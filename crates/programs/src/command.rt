@@ -4,7 +4,7 @@ ghost use Rattle.std.specs.Prelude.{◌≡◌, ◌%◌, IfSome, length, option_m
 ghost use Rattle.programs.specs.Asked.{asked_for, ignores_case, kind_of, replacing_for};
 ghost use Rattle.programs.specs.Arguments.{kind_by, patterns_by, cased_by, find_by, asked_by, replacing_by, texts};
 
-use aho_base::search::MatchKind;
+use aho_core::search::MatchKind;
 
 /// Which matches of some patterns are printed.
 #[derive(Clone, Copy)]

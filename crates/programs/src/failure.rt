@@ -2,7 +2,7 @@
 
 ghost use Rattle.std.specs.Prelude.{◌≡◌, IfOk};
 
-use aho_base::error::{BuildError, MatchError, StreamError};
+use aho_core::error::{BuildError, MatchError, StreamError};
 use std::alloc::AllocError;
 use std::fmt;
 use std::fmt::{InlineText, Write};

@@ -9,7 +9,7 @@ ghost use Rattle.programs.specs.Failures.{IsOfWrite};
 ghost use Rattle.programs.specs.Streams.{bytes_held, WritesBeginning, WritesBytes};
 
 use crate::failure::Failure;
-use aho_base::search::Match;
+use aho_core::search::Match;
 use aho_devices::adapters::FromWrite;
 use aho_devices::device::Sink;
 use aho_devices::write;

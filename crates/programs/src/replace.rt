@@ -1,8 +1,8 @@
 //! What `acfind replace` does: replacement from a reader to a writer, through a buffer of fixed length.
 
 ghost use Rattle.std.specs.Prelude.{◌≡◌, ◌%◌, ◌⊎◌, ⊤, true, IfErr, IfOk, IfSome, OnOk, length};
-ghost use Rattle.aho_base.specs.Patterns.{Patterns};
-ghost use Rattle.aho_base.specs.Replacement.{pieces_of};
+ghost use Rattle.aho_core.specs.Patterns.{Patterns};
+ghost use Rattle.aho_core.specs.Replacement.{pieces_of};
 ghost use Rattle.programs.specs.Answers.{LeavesReplacement, WritesReplacement};
 ghost use Rattle.programs.specs.Arguments.{texts};
 ghost use Rattle.programs.specs.Asked.{BuildsReplacing, Replacing, at_even, at_odd, patterns_to_replace, replacing_for};
@@ -12,9 +12,9 @@ ghost use Rattle.programs.specs.Streams.{contents, Unread};
 use crate::failure::Failure;
 use crate::print::flush;
 use crate::rows::rows_of;
+use aho_automaton::automaton::Automaton;
 use aho_corasick::noncontiguous::NFA;
 use aho_devices::adapters::{FromRead, FromWrite};
-use aho_search::automaton::Automaton;
 use aho_stream::replace::try_stream_replace_all;
 use std::alloc::{AllocError, Global};
 use std::io::{Read, Write};

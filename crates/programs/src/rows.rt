@@ -1,19 +1,19 @@
 //! The automaton with rows by which `acfind` searches, and its prefilter. Both are made for speed: no answer depends on them.
 
 ghost use Rattle.std.specs.Prelude.{◌≡◌, ◌≤◌, IfOk, IfSome, IsOk, map, string_bytes};
-ghost use Rattle.aho_base.specs.Patterns.{Patterns};
-ghost use Rattle.aho_base.specs.Replacement.{pieces_of};
-ghost use Rattle.aho_base.specs.declared.search.Anchored.TheVariants.{No};
+ghost use Rattle.aho_core.specs.Patterns.{Patterns};
+ghost use Rattle.aho_core.specs.Replacement.{pieces_of};
+ghost use Rattle.aho_core.specs.declared.search.Anchored.TheVariants.{No};
 ghost use Rattle.aho_prefilter.specs.Prefilter.{IsPrefilterOf};
 ghost use Rattle.programs.specs.Asked.{asked_for, asked_patterns, ArePatterns, patterns_to_replace};
 
 use crate::command::Request;
-use aho_base::error::BuildError;
+use aho_automaton::automaton::Automaton;
 use aho_corasick::noncontiguous::NFA;
+use aho_core::error::BuildError;
 use aho_hybrid::hybrid::{DEFAULT_BUDGET, Hybrid};
 use aho_prefilter::laws::held_serves_each_kind;
 use aho_prefilter::prefilter::{PackedBuilder, Prefilter};
-use aho_search::automaton::Automaton;
 use std::alloc::{AllocError, Global};
 
 /// The prefilter of these patterns, which may be a packed search, if there is one.

@@ -2,9 +2,9 @@
 
 ghost use Rattle.std.specs.Prelude.{IfErr, IfOk, IfSome, IsOk, OnOk, true, ◌≡◌, ◌<◌, ◌≤◌, ◌⊎◌, ⊤};
 ghost use Rattle.std.specs.Io.KnownBytes.{Consumes, IsAtEnd};
-ghost use Rattle.aho_base.specs.Patterns.{Patterns};
-ghost use Rattle.aho_base.specs.declared.search.Anchored.TheVariants.{No};
-ghost use Rattle.aho_base.specs.declared.search.MatchKind.TheVariants.{Standard};
+ghost use Rattle.aho_core.specs.Patterns.{Patterns};
+ghost use Rattle.aho_core.specs.declared.search.Anchored.TheVariants.{No};
+ghost use Rattle.aho_core.specs.declared.search.MatchKind.TheVariants.{Standard};
 ghost use Rattle.programs.specs.Answers.{AreFindsIn, AreMatches, BeginsLine, BeginsMatches, Begun, LeavesMatches, LeavesReplacement, Prints, PrintsAll, PrintsIfDone, PrintsMatches, TellsFailure, WritesIfDone, WritesReplacement, status_of};
 ghost use Rattle.programs.specs.Arguments.{AreWrong, AskForNone, IfAsked, IfReplacing};
 ghost use Rattle.programs.specs.Asked.{Builds, BuildsReplacing, asked_for, asked_patterns, kind_of, settings_for};
@@ -19,11 +19,11 @@ use crate::failure::Failure;
 use crate::print::{print, write_whole};
 use crate::replace::replace;
 use crate::rows::rows_for;
-use aho_base::search::Input;
+use aho_automaton::automaton::Automaton;
 use aho_corasick::noncontiguous::{Builder, NFA};
+use aho_core::search::Input;
 use aho_devices::adapters::{FromRead, FromWrite};
 use aho_devices::device::Source;
-use aho_search::automaton::Automaton;
 use std::alloc::Global;
 use std::io::{Read, Write};
 

@@ -5,11 +5,11 @@ ghost use Rattle.aho_build.specs.Items.{patterns_of};
 ghost use Rattle.aho_build.specs.Settings.{default_settings};
 ghost use Rattle.aho_prefilter.specs.Prefilter.{IsPrefilterOf};
 
-use aho_base::error::BuildError;
-use aho_base::search::MatchKind;
+use aho_automaton::automaton::Automaton;
 use aho_corasick::noncontiguous::{Builder, NFA};
+use aho_core::error::BuildError;
+use aho_core::search::MatchKind;
 use aho_prefilter::prefilter::{PackedBuilder, Prefilter};
-use aho_search::automaton::Automaton;
 use anyhow::Result;
 use std::alloc::{AllocError, Global};
 

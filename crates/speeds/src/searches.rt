@@ -1,17 +1,17 @@
 //! Searches of a text, with the time that they take.
 
 ghost use Rattle.std.specs.Prelude.{◌≡◌};
-ghost use Rattle.aho_base.specs.Patterns.{Patterns};
+ghost use Rattle.aho_core.specs.Patterns.{Patterns};
 ghost use Rattle.aho_build.specs.Items.{patterns_of};
 ghost use Rattle.aho_build.specs.Settings.{default_settings};
 
 use crate::automata::{automaton_of, lines_of, packed_of};
 use crate::trial::{Searched, Skips, Trial};
-use aho_base::error::MatchError;
-use aho_base::search::Input;
+use aho_automaton::automaton::{Automaton, WithPrefilter};
 use aho_corasick::noncontiguous::NFA;
+use aho_core::error::MatchError;
+use aho_core::search::Input;
 use aho_hybrid::hybrid::{DEFAULT_BUDGET, Hybrid};
-use aho_search::automaton::{Automaton, WithPrefilter};
 use anyhow::{Result, bail};
 use std::alloc::Global;
 use std::time::{CpuClock, Duration};

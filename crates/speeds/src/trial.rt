@@ -1,6 +1,6 @@
 //! What is measured, as the arguments say it.
 
-use aho_base::search::MatchKind;
+use aho_core::search::MatchKind;
 use anyhow::{Result, bail};
 
 /// By which automaton the text is searched.

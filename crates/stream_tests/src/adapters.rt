@@ -2,7 +2,7 @@
 //! call of a device fails, so what the one call of each adapter hands on is shown here.
 
 use crate::asserts::{assert_in, assert_same, assert_same_in};
-use aho_base::error::{Fault, StreamError};
+use aho_core::error::{Fault, StreamError};
 use aho_devices::adapters::{FromRead, FromWrite};
 use aho_devices::buffer::{Buffer, Filled};
 use aho_devices::device::{Sink, Source};

@@ -1,18 +1,18 @@
 //! A caller of the search of a stream, with what it may promise in turn: it collects all matches.
 
 ghost use Rattle.std.specs.Prelude.{◌≡◌, IfOk, ℕ, List, None, true};
-ghost use Rattle.aho_base.specs.Iteration.{AreFinds};
-ghost use Rattle.aho_base.specs.Patterns.{Patterns};
-ghost use Rattle.aho_base.specs.Search.{plain_search};
+ghost use Rattle.aho_core.specs.Iteration.{AreFinds};
+ghost use Rattle.aho_core.specs.Patterns.{Patterns};
+ghost use Rattle.aho_core.specs.Search.{plain_search};
 ghost use Rattle.aho_stream.specs.FindRuns.{FindsAlong};
 ghost use Rattle.aho_stream.specs.Finds.{FindsNext};
 ghost use Rattle.aho_stream.specs.Iterators.{automaton_of};
 ghost use Rattle.aho_stream.specs.Replacing.{SourceGave};
 
-use aho_base::error::StreamError;
-use aho_base::search::Match;
+use aho_automaton::automaton::Automaton;
+use aho_core::error::StreamError;
+use aho_core::search::Match;
 use aho_devices::device::Source;
-use aho_search::automaton::Automaton;
 use aho_stream::finds::{StreamFindIter, try_stream_find_iter};
 use std::alloc::Global;
 

@@ -1,11 +1,11 @@
 //! What the buffer and `write_whole` do with devices that cut, end and fail.
 
 ghost use Rattle.std.specs.Prelude.{◌≤◌};
-ghost use Rattle.aho_base.specs.Numbers.{greatest_index};
+ghost use Rattle.aho_core.specs.Numbers.{greatest_index};
 
 use crate::asserts::assert_same;
 use crate::scripted::{ScriptedSink, ScriptedSource, Turn};
-use aho_base::error::{Fault, StreamError};
+use aho_core::error::{Fault, StreamError};
 use aho_devices::adapters::{FromRead, FromWrite};
 use aho_devices::buffer::{Buffer, Filled};
 use aho_devices::device::Source;

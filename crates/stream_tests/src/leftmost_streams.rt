@@ -1,15 +1,15 @@
 //! Streams of the leftmost kinds: worked rows, and random streams of the three kinds against plain iteration.
 
-ghost use Rattle.aho_base.specs.Patterns.{Patterns};
+ghost use Rattle.aho_core.specs.Patterns.{Patterns};
 
 use crate::asserts::{assert_in, assert_same, assert_same_in};
 use crate::automata::{nfa_holding, nfa_of, state_after};
 use crate::scripted::{ScriptedSource, Turn};
 use crate::stream_finds::{ONE_BYTE, Told, found_of, told_under};
 use crate::streams::{Numbers, behind, written};
-use aho_base::error::StreamError;
-use aho_base::search::{Input, MatchKind, PatternID};
-use aho_search::automaton::Automaton;
+use aho_automaton::automaton::Automaton;
+use aho_core::error::StreamError;
+use aho_core::search::{Input, MatchKind, PatternID};
 use bench::listing::finds;
 use bench::pattern_set::PatternSet;
 use std::alloc::{AllocError, Global};

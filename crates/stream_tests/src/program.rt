@@ -1,8 +1,8 @@
 //! Runs of the program over arguments and bytes in memory, and over devices that fail. Each message names its case.
 
 use crate::asserts::{assert_in, assert_same_in};
-use aho_base::error::{BuildError, MatchError};
-use aho_base::search::{MatchKind, PatternID};
+use aho_core::error::{BuildError, MatchError};
+use aho_core::search::{MatchKind, PatternID};
 use aho_devices::adapters::{FromRead, FromWrite};
 use programs::failure::Failure;
 use programs::run::{report, run};

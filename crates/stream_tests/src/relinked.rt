@@ -1,17 +1,17 @@
 //! Streams over an automaton that is made from what another one tells, over one that holds a prefilter, and over one with rows: with
 //! them each does what the other one does.
 
-ghost use Rattle.aho_base.specs.Patterns.{Patterns};
+ghost use Rattle.aho_core.specs.Patterns.{Patterns};
 
 use crate::asserts::{assert_in, assert_same, assert_same_in};
 use crate::automata::{nfa_holding, nfa_of, relinked_of};
 use crate::scripted::{ScriptedSink, ScriptedSource, Turn};
 use crate::stream_finds::{Told, told_under};
-use aho_base::error::StreamError;
-use aho_base::search::MatchKind;
+use aho_automaton::automaton::Automaton;
+use aho_core::error::StreamError;
+use aho_core::search::MatchKind;
 use aho_devices::write::write_whole;
 use aho_hybrid::hybrid::Hybrid;
-use aho_search::automaton::Automaton;
 use aho_stream::replace::{try_stream_replace_all, try_stream_replace_all_with};
 use std::alloc::Global;
 use std::process::Abort;

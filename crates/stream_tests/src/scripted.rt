@@ -2,7 +2,7 @@
 
 ghost use Rattle.std.specs.Prelude.{◌≡◌, Some, true};
 
-use aho_base::error::{Fault, StreamError};
+use aho_core::error::{Fault, StreamError};
 use aho_devices::device::{Sink, Source};
 use std::alloc::Global;
 

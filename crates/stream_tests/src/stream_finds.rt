@@ -1,14 +1,14 @@
 //! The matches and the chunks of streams, whose sources cut, end and fail.
 
-ghost use Rattle.aho_base.specs.Patterns.{Patterns};
+ghost use Rattle.aho_core.specs.Patterns.{Patterns};
 
 use crate::asserts::{assert_same, assert_same_in};
 use crate::automata::nfa_of;
 use crate::collect::matches_of;
 use crate::scripted::{ScriptedSource, Turn};
-use aho_base::error::{Fault, MatchError, StreamError};
-use aho_base::search::{Match, MatchKind};
-use aho_search::automaton::Automaton;
+use aho_automaton::automaton::Automaton;
+use aho_core::error::{Fault, MatchError, StreamError};
+use aho_core::search::{Match, MatchKind};
 use aho_stream::chunks::StreamChunkIter;
 use aho_stream::finds::try_stream_find_iter;
 use bench::one_byte::OneByte;

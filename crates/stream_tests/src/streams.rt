@@ -2,16 +2,16 @@
 //! replacement in memory.
 
 ghost use Rattle.std.specs.Prelude.{◌≡◌, length};
-ghost use Rattle.aho_base.specs.Patterns.{Patterns};
+ghost use Rattle.aho_core.specs.Patterns.{Patterns};
 
 use crate::asserts::{assert_in, assert_same, assert_same_in};
 use crate::automata::nfa_of;
 use crate::scripted::{ScriptedSink, ScriptedSource, Turn};
 use crate::stream_finds::ONE_BYTE;
-use aho_base::error::{Fault, MatchError, StreamError};
-use aho_base::search::{Input, Match, MatchKind};
+use aho_automaton::automaton::Automaton;
+use aho_core::error::{Fault, MatchError, StreamError};
+use aho_core::search::{Input, Match, MatchKind};
 use aho_devices::write::write_whole;
-use aho_search::automaton::Automaton;
 use aho_stream::chunks::{StreamChunk, StreamChunkIter};
 use aho_stream::replace::{replace_stream, try_stream_replace_all, try_stream_replace_all_with};
 use aho_stream::start::StreamStart;

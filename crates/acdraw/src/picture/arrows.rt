@@ -6,8 +6,8 @@ ghost use Rattle.aho_table.specs.Table.{fail_id};
 ghost use Rattle.acdraw.specs.Arrows.{AreArrowsOf, IsJoined, LeadsTo, runs_to};
 
 use super::runs::{Run, runs_of};
-use aho_base::search::StateID;
 use aho_corasick::links::{FAIL, Transitions};
+use aho_core::search::StateID;
 use std::alloc::{AllocError, Global};
 
 /// An arrow from a state to another.

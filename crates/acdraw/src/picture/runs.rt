@@ -4,8 +4,8 @@ ghost use Rattle.std.specs.Prelude.{◌≡◌, ◌≤◌, ◌+◌, ◌++◌, ◌
 ghost use Rattle.std.specs.Option.{option_to_list};
 ghost use Rattle.acdraw.specs.Runs.{AreApart, Adjoins, all_pairs};
 
-use aho_base::search::StateID;
 use aho_corasick::links::Transitions;
+use aho_core::search::StateID;
 use std::alloc::{AllocError, Global};
 
 /// A run of bytes that lead to one state.

@@ -4,9 +4,9 @@ ghost use Rattle.std.specs.Prelude.{◌<◌, length, IfOk, IfSome, IsNone};
 ghost use Rattle.aho_corasick.specs.ReadOut.{states_of};
 ghost use Rattle.acdraw.specs.Words.{IsLastTo, IsReachedBy, IsUnreached, IsWordOf, Leads};
 
-use aho_base::search::StateID;
 use aho_corasick::links::Transitions;
 use aho_corasick::noncontiguous::NFA;
+use aho_core::search::StateID;
 use std::alloc::{AllocError, Global};
 
 /// How a state is reached: from a state that is nearer to the start, by a byte.

@@ -4,7 +4,7 @@ ghost use Rattle.std.specs.Prelude.{◌≡◌, ℕ, ◌<◌, ◌||◌, [], ◌�
 ghost use Rattle.aho_table.specs.Alphabet.{is_border};
 ghost use Rattle.aho_build.specs.Dense.{is_parted_by};
 
-use aho_base::letters::opposite_ascii_case;
+use aho_core::letters::opposite_ascii_case;
 use aho_table::alphabet::ByteClassSet;
 
 /// Sets borders around the byte, and around its other case where case is ignored.

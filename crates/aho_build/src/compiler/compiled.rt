@@ -1,12 +1,12 @@
 //! What a build makes of some patterns.
 
 ghost use Rattle.std.specs.Prelude.{◌+◌, ◌≤◌, length, is_some};
-ghost use Rattle.aho_base.specs.Numbers.{greatest_index};
+ghost use Rattle.aho_core.specs.Numbers.{greatest_index};
 ghost use Rattle.aho_table.specs.Table.{matches_in};
 ghost use Rattle.aho_build.specs.Shuffled.{IsInOrder, starts_match};
 
 use crate::special::Special;
-use aho_base::search::SmallIndex;
+use aho_core::search::SmallIndex;
 use aho_prefilter::prefilter::Prefilter;
 use aho_table::links::Table;
 

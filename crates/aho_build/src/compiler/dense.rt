@@ -4,8 +4,8 @@ ghost use Rattle.std.specs.Prelude.{◌≡◌, ℕ, ◌<◌, ◌≤◌, length, 
 ghost use Rattle.aho_table.specs.Table.{state_at, LeadsAlike};
 ghost use Rattle.aho_build.specs.Dense.{is_dense, AreDense, dense_count, row_start, AreWithinLimit, IsRowRefusal};
 
-use aho_base::error::BuildError;
-use aho_base::search::StateID;
+use aho_core::error::BuildError;
+use aho_core::search::StateID;
 use aho_table::alphabet::ByteClasses;
 use aho_table::links::Table;
 

@@ -1,7 +1,7 @@
 //! The second half of a build: the start states, the failure links, and the patterns that are listed along them.
 
 ghost use Rattle.std.specs.Prelude.{◌≡◌, ◌≢◌, ◌+◌, ◌<◌, ◌≤◌, [], ◌∷◌, ◌++◌, length, vec_len, slice_index, OnOk, IfErr, IsOk};
-ghost use Rattle.aho_base.specs.declared.error.BuildError.TheVariants.{OutOfMemory};
+ghost use Rattle.aho_core.specs.declared.error.BuildError.TheVariants.{OutOfMemory};
 ghost use Rattle.aho_table.specs.Table.{state_at, next_in, fail_in, matches_in, transitions_count, matches_count};
 ghost use Rattle.aho_table.specs.Refusal.{IsRefusalOf};
 ghost use Rattle.aho_build.specs.FirstStates.{root_id, anchored_id};
@@ -10,8 +10,8 @@ ghost use Rattle.aho_build.specs.FailureLinks.{rows_of, append_matches, linked_s
 ghost use Rattle.aho_build.specs.Built.{IsReadyBySome, BuildsReady};
 
 use crate::compiler::starts::{anchored_start, unanchored_start};
-use aho_base::error::BuildError;
-use aho_base::search::{MatchKind, StateID, Work};
+use aho_core::error::BuildError;
+use aho_core::search::{MatchKind, StateID, Work};
 use aho_table::links::{DEAD, FAIL, Table};
 use std::alloc::Global;
 

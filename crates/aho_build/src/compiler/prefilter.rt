@@ -1,7 +1,7 @@
 //! The prefilter of a build: its patterns are collected while the trie is made.
 
 ghost use Rattle.std.specs.Prelude.{◌≡◌, [], IfOk, OnOk, Ok};
-ghost use Rattle.aho_base.specs.Patterns.{Patterns};
+ghost use Rattle.aho_core.specs.Patterns.{Patterns};
 ghost use Rattle.aho_build.specs.Prefilters.{Collects, held_by};
 ghost use Rattle.aho_build.specs.declared.settings.Settings.{Settings};
 ghost use Rattle.aho_prefilter.specs.Prefilter.{with_word};

@@ -1,14 +1,14 @@
 //! The last phase of a build: the states get the numbers that they keep.
 
 ghost use Rattle.std.specs.Prelude.{◌≡◌, ◌+◌, ◌<◌, ◌≤◌, [], length, IfOk, OnOk, OnErr};
-ghost use Rattle.aho_base.specs.Numbers.{greatest_index};
+ghost use Rattle.aho_core.specs.Numbers.{greatest_index};
 ghost use Rattle.std.specs.List.{range_with_len};
 ghost use Rattle.aho_build.specs.FirstStates.{anchored_id};
 ghost use Rattle.aho_build.specs.Shuffled.{AreGathered, AreShuffled, RowsAreMoved};
 
 use crate::compiler::starts::{anchored_start, unanchored_start};
 use crate::special::Special;
-use aho_base::search::StateID;
+use aho_core::search::StateID;
 use aho_table::links::Table;
 use aho_table::remapper::Remapper;
 use std::alloc::{AllocError, Global};

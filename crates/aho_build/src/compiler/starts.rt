@@ -3,7 +3,7 @@
 ghost use Rattle.std.specs.Prelude.{◌≡◌};
 ghost use Rattle.aho_build.specs.FirstStates.{root_id, anchored_id};
 
-use aho_base::search::StateID;
+use aho_core::search::StateID;
 
 /// The root of the trie, from which each pattern's bytes are led: the start of the searches that are not anchored.
 pub fn unanchored_start() -> StateID

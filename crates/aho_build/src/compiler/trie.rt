@@ -2,9 +2,9 @@
 
 ghost use Rattle.std.specs.Prelude.{◌≡◌, ◌&&◌, ◌+◌, ◌<◌, ◌≤◌, ◌↔◌, [], length, min, nat_lt, IsOk, IfOk, IfErr, OnOk};
 ghost use Rattle.std.specs.Iterator.{IsFinite};
-ghost use Rattle.aho_base.specs.Numbers.{greatest_index};
-ghost use Rattle.aho_base.specs.declared.error.BuildError.TheVariants.{PatternIDOverflow, PatternTooLong};
-ghost use Rattle.aho_base.specs.Patterns.{Patterns};
+ghost use Rattle.aho_core.specs.Numbers.{greatest_index};
+ghost use Rattle.aho_core.specs.declared.error.BuildError.TheVariants.{PatternIDOverflow, PatternTooLong};
+ghost use Rattle.aho_core.specs.Patterns.{Patterns};
 ghost use Rattle.aho_build.specs.TrieGrowth.{HasChild, IsFilledBelow, leaves_out, AwaitsWord, AddsWord, AddsPattern, IsChildRefusal, IsWordRefusal, AreWithin};
 ghost use Rattle.aho_build.specs.Trie.{HoldsFirst};
 ghost use Rattle.aho_table.specs.Refusal.{IsRefusalOf};
@@ -19,9 +19,9 @@ use crate::compiler::borders::set_bytes;
 use crate::compiler::prefilter::PrefilterPatterns;
 use crate::compiler::starts::unanchored_start;
 use crate::settings::Settings;
-use aho_base::error::BuildError;
-use aho_base::letters::opposite_ascii_case;
-use aho_base::search::{MatchKind, PatternID, SmallIndex, StateID};
+use aho_core::error::BuildError;
+use aho_core::letters::opposite_ascii_case;
+use aho_core::search::{MatchKind, PatternID, SmallIndex, StateID};
 use aho_table::alphabet::ByteClassSet;
 use aho_table::links::{Child, Table};
 use std::alloc::Global;

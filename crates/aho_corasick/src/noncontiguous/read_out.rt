@@ -1,11 +1,11 @@
 //! What an automaton tells of its states, for whoever makes another one from it.
 
 ghost use Rattle.std.specs.Prelude.{◌≡◌, ◌+◌, ℕ, ◌<◌, ◌≤◌, List, length, map, Ok, Option, is_some};
-ghost use Rattle.aho_base.specs.MatchList.{matches_of};
-ghost use Rattle.aho_base.specs.Numbers.{greatest_index};
-ghost use Rattle.aho_base.specs.Patterns.{Patterns};
-ghost use Rattle.aho_base.specs.Step.{depth_of};
-ghost use Rattle.aho_base.specs.declared.search.Anchored.TheVariants.{No, Yes};
+ghost use Rattle.aho_core.specs.MatchList.{matches_of};
+ghost use Rattle.aho_core.specs.Numbers.{greatest_index};
+ghost use Rattle.aho_core.specs.Patterns.{Patterns};
+ghost use Rattle.aho_core.specs.Step.{depth_of};
+ghost use Rattle.aho_core.specs.declared.search.Anchored.TheVariants.{No, Yes};
 ghost use Rattle.aho_build.specs.Dense.{HasBorders};
 ghost use Rattle.aho_build.specs.Shuffled.{IsInOrder};
 ghost use Rattle.aho_build.specs.Sizes.{states_size};
@@ -16,9 +16,9 @@ ghost use Rattle.aho_corasick.specs.ReadOut.{states_of, special_of, classes_of, 
 ghost use Rattle.aho_table.specs.Table.{IsRising, state_at, fail_in, depth_in, matches_in};
 
 use super::NFA;
-use aho_base::search::{SmallIndex, StateID};
+use aho_automaton::automaton::Automaton;
 use aho_build::special::Special;
-use aho_search::automaton::Automaton;
+use aho_core::search::{SmallIndex, StateID};
 use aho_table::alphabet::ByteClasses;
 use aho_table::links::{Matches, Transitions};
 

@@ -2,7 +2,7 @@
 
 ghost use Rattle.std.specs.Prelude.{◌≡◌, ◌<◌, [], length, true, IfOk, IfErr, IfSome, OnOk, OnErr, Ok, vec_items};
 ghost use Rattle.std.specs.Option.{option_map};
-ghost use Rattle.aho_base.specs.Patterns.{Patterns};
+ghost use Rattle.aho_core.specs.Patterns.{Patterns};
 ghost use Rattle.aho_prefilter.specs.Prefilter.{held_for, is_searched_whole, with_word, IsPrefilterOf};
 ghost use Rattle.aho_prefilter.specs.Inside.{search_for_few};
 

@@ -4,7 +4,7 @@ ghost use Rattle.std.specs.Prelude.{◌≡◌};
 ghost use Rattle.aho_prefilter.specs.FirstBytes.{has_byte};
 ghost use Rattle.aho_prefilter.specs.Inside.{bytes_of, few_with, few_with_word};
 
-use aho_base::letters::opposite_ascii_case;
+use aho_core::letters::opposite_ascii_case;
 
 /// The bytes with which patterns begin, each once.
 #[derive(Clone, Copy)]

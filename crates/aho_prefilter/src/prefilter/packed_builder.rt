@@ -2,7 +2,7 @@
 
 ghost use Rattle.std.specs.Prelude.{◌≡◌, ◌<◌, [], length, true, OnOk, OnErr, IfOk, IfErr, IfSome, Ok};
 ghost use Rattle.std.specs.Option.{option_map};
-ghost use Rattle.aho_base.specs.Patterns.{Patterns};
+ghost use Rattle.aho_core.specs.Patterns.{Patterns};
 ghost use Rattle.aho_prefilter.specs.Prefilter.{IsPrefilterOf, gives_way, held_or_packed, is_searched_whole, is_word_byte, packed_for, stops_in_words, with_word};
 ghost use Rattle.aho_prefilter.specs.Taken.{AreFingerprints, HasTakenPacked};
 

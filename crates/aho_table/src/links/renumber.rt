@@ -4,7 +4,7 @@ ghost use Rattle.aho_table.specs.Renaming.{IsRenamed};
 
 use super::Table;
 use crate::remapper::Remappable;
-use aho_base::search::StateID;
+use aho_core::search::StateID;
 
 impl Remappable for Table {
     ghost use Rattle.std.specs.Prelude.{[], Bool};

@@ -8,7 +8,7 @@ ghost use Rattle.aho_table.specs.Renaming.{IsLed};
 ghost use Rattle.aho_table.specs.Inside.{row_next, IsRow, IsRowAdded};
 
 use crate::alphabet::{ByteClassSet, ByteClasses};
-use aho_base::search::StateID;
+use aho_core::search::StateID;
 use aho_lists::renumber::renamed;
 use aho_lists::transitions::{FAIL, Transitions};
 use std::alloc::{AllocError, Global};

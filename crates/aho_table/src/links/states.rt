@@ -1,16 +1,16 @@
 //! States that share one vector of transitions and one of patterns.
 
 ghost use Rattle.std.specs.Prelude.{◌≡◌, ◌+◌, ◌<◌, ◌≤◌, [], ◌∷◌, ◌++◌, length, true, IsOk, IfOk, IfErr, OnOk, OnErr, min, slice_get, slice_set, nat_lt, ℕ, List};
-ghost use Rattle.aho_base.specs.Numbers.{greatest_index};
-ghost use Rattle.aho_base.specs.declared.error.BuildError.TheVariants.{StateIDOverflow};
+ghost use Rattle.aho_core.specs.Numbers.{greatest_index};
+ghost use Rattle.aho_core.specs.declared.error.BuildError.TheVariants.{StateIDOverflow};
 ghost use Rattle.aho_table.specs.Refusal.{refusal_at, IsRefusalOf};
 ghost use Rattle.aho_table.specs.Table.{State, IsRising, new_state, transition_in, next_in, matches_in, fail_in, depth_in, set_transition, push_match, append_matches, set_fail_of, state_at, lists_byte, transitions_count, matches_count, AllRising, IsWithinLimit};
 ghost use Rattle.std.specs.List.{AllZip, swap};
 ghost use Rattle.aho_table.specs.Renaming.{IsRenamed};
 ghost use Rattle.aho_table.specs.Inside.{record_at, IsLinkLed};
 
-use aho_base::error::BuildError;
-use aho_base::search::{PatternID, SmallIndex, StateID};
+use aho_core::error::BuildError;
+use aho_core::search::{PatternID, SmallIndex, StateID};
 use aho_lists::matches::{MatchLists, Matches};
 use aho_lists::renumber::renamed;
 use aho_lists::transitions::{FAIL, TransitionLists, Transitions};

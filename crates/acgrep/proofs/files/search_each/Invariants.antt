@@ -1,6 +1,6 @@
 -- The files so far were searched.
 use Rattle.std.proofs.Common.{length}
-use Rattle.aho_base.specs.Patterns.{Patterns}
+use Rattle.aho_core.specs.Patterns.{Patterns}
 use Rattle.acgrep.specs.Files.{names_of}
 use Rattle.acgrep.specs.Selected.{HoldNoNewline}
 use Rattle.acgrep.proofs.NamesSearched.{SoFar}

@@ -2,7 +2,7 @@
 use Rattle.std.proofs.Common.{◌≡◌, ◌∙◌, ℕ, false, true, ap, inl, inr, refl, subst, sym}
 use Rattle.std.proofs.KnownBytes.{Keeps-refl}
 use Rattle.std.proofs.lemmas.List.{length-map}
-use Rattle.aho_base.specs.Replacement.{pieces_of}
+use Rattle.aho_core.specs.Replacement.{pieces_of}
 use Rattle.acgrep.specs.Lines.{lines}
 use Rattle.acgrep.specs.Runs.{IsJob, selects_none}
 use Rattle.acgrep.specs.Searchers.{patterns_by}

@@ -3,8 +3,8 @@ use Rattle.std.proofs.Common.{◌∙◌, sym, ap, subst, arith, refl, Bool, List
 use Rattle.std.proofs.lemmas.List.{take_all}
 use Rattle.std.proofs.lemmas.Option.{IfSome_then}
 use Rattle.std.proofs.lemmas.Result.{IfOk-weaker}
-use Rattle.aho_base.specs.Replacement.{pieces_of}
-use Rattle.aho_base.specs.declared.search.MatchKind.TheVariants.{Standard}
+use Rattle.aho_core.specs.Replacement.{pieces_of}
+use Rattle.aho_core.specs.declared.search.MatchKind.TheVariants.{Standard}
 use Rattle.aho_prefilter.specs.Taken.{HasTakenPacked}
 use Rattle.acgrep.specs.Searchers.{patterns_by}
 use Rattle.acgrep.proofs.searcher.prefilter_of.Goals as goal

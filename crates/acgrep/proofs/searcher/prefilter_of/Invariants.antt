@@ -1,7 +1,7 @@
 -- The patterns before the place of the loop were added.
 use Rattle.std.proofs.Common.{take}
-use Rattle.aho_base.specs.Replacement.{pieces_of}
-use Rattle.aho_base.specs.declared.search.MatchKind.TheVariants.{Standard}
+use Rattle.aho_core.specs.Replacement.{pieces_of}
+use Rattle.aho_core.specs.declared.search.MatchKind.TheVariants.{Standard}
 use Rattle.aho_prefilter.specs.Taken.{HasTakenPacked}
 use Rattle.acgrep.specs.Searchers.{patterns_by}
 use Rattle.acgrep.proofs.searcher.prefilter_of.Given as goal

@@ -1,6 +1,6 @@
 -- The lines so far were selected, and the place is behind them.
 use Rattle.std.proofs.Common.{◌≡◌, true, length}
-use Rattle.aho_base.specs.Patterns.{Patterns}
+use Rattle.aho_core.specs.Patterns.{Patterns}
 use Rattle.acgrep.specs.Lines.{lines}
 use Rattle.acgrep.specs.Written.{EachLine, HasNone, after_lines}
 use Rattle.acgrep.proofs.Tellings.{Passing}

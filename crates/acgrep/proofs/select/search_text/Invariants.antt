@@ -1,6 +1,6 @@
 -- Until a line is selected nothing is passed, or nothing occurs; and what is told of the lines that were searched is written.
 use Rattle.std.proofs.Common.{◌≡◌, ◌⊎◌, false, length}
-use Rattle.aho_base.specs.Patterns.{Patterns}
+use Rattle.aho_core.specs.Patterns.{Patterns}
 use Rattle.acgrep.specs.Selected.{HoldNoNewline}
 use Rattle.acgrep.specs.Written.{HasNone, SearchesTo}
 use Rattle.acgrep.proofs.select.search_text.Given as goal

@@ -1,6 +1,6 @@
 -- The whole lines that were read so far are searched, and what follows them is in the buffer.
 use Rattle.std.proofs.Common.{take}
-use Rattle.aho_base.specs.Patterns.{Patterns}
+use Rattle.aho_core.specs.Patterns.{Patterns}
 use Rattle.acgrep.specs.Filled.{Reads}
 use Rattle.acgrep.specs.Selected.{HoldNoNewline}
 use Rattle.acgrep.specs.Streamed.{SearchesLines, course}

@@ -1,7 +1,7 @@
 -- The files so far are redacted, where all were read; and in any case they are begun.
 use Rattle.std.proofs.Common.{◌≡◌, Option, List, ℕ, false, length, true}
-use Rattle.aho_base.specs.Patterns.{Patterns}
-use Rattle.aho_base.specs.Replacement.{pieces_of}
+use Rattle.aho_core.specs.Patterns.{Patterns}
+use Rattle.aho_core.specs.Replacement.{pieces_of}
 use Rattle.programs.specs.Streams.{bytes_held, bytes_left}
 use Rattle.acredact.specs.Arguments.{names_of}
 use Rattle.acredact.specs.Runs.{AreBegun, AreRedacted}

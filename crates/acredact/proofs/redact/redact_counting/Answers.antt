@@ -1,6 +1,6 @@
 -- What the closure writes is the piece of each match.
 use Rattle.std.proofs.Common.{rules, ◌≡◌, refl}
-use Rattle.aho_base.specs.Replacement.{pieces_of}
+use Rattle.aho_core.specs.Replacement.{pieces_of}
 use Rattle.acredact.proofs.Counted.{counted_of}
 use Rattle.acredact.proofs.redact.redact_counting.Goals as goal
 

@@ -3,7 +3,7 @@ use Rattle.std.proofs.Common.{◌∙◌, sym, ap, subst, arith, refl, Bool, List
 use Rattle.std.proofs.lemmas.List.{take_all}
 use Rattle.std.proofs.lemmas.Option.{IfSome_then}
 use Rattle.std.proofs.lemmas.Result.{IfOk-weaker}
-use Rattle.aho_base.specs.Replacement.{pieces_of}
+use Rattle.aho_core.specs.Replacement.{pieces_of}
 use Rattle.aho_prefilter.specs.Taken.{HasTakenPacked}
 use Rattle.programs.specs.Asked.{standard_patterns}
 use Rattle.acredact.proofs.rows.prefilter_of.Goals as goal

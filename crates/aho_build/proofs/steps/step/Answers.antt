@@ -1,6 +1,6 @@
 use Rattle.std.proofs.Common.{◌≡◌, ◌≢◌, ◌<◌, ◌∙◌, sym, subst, arith, ap}
-use Rattle.aho_base.specs.Bytes.{folded}
-use Rattle.aho_base.specs.Step.{follow}
+use Rattle.aho_core.specs.Bytes.{folded}
+use Rattle.aho_core.specs.Step.{follow}
 use Rattle.aho_build.specs.Automaton.{IsHeldAs}
 use Rattle.aho_table.specs.Table.{fail_id, next_in, fail_in}
 use Rattle.aho_build.specs.Walking.{links_left, step_along}

@@ -1,9 +1,9 @@
 -- The step from the state that is looked at now leads where the whole step does, and its look-ups are those still to come.
 use Rattle.std.proofs.Common.{◌≡◌, ℕ, ◌+◌, ◌<◌, ◌≤◌, List}
 use Rattle.std.specs.Prelude.{Option}
-use Rattle.aho_base.specs.Bytes.{folded}
-use Rattle.aho_base.specs.Patterns.{Patterns}
-use Rattle.aho_base.specs.Step.{follow, lookups}
+use Rattle.aho_core.specs.Bytes.{folded}
+use Rattle.aho_core.specs.Patterns.{Patterns}
+use Rattle.aho_core.specs.Step.{follow, lookups}
 use Rattle.aho_build.specs.Automaton.{IsAutomaton, IsHeldAs}
 use Rattle.aho_build.specs.declared.special.Special.{Special}
 use Rattle.aho_build.specs.Walking.{IsState, links_left, step_along, step_in}

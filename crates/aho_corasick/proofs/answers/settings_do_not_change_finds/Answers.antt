@@ -1,7 +1,7 @@
 use Rattle.std.proofs.Common.{◌≡◌, rules, subst}
 use Rattle.std.specs.Prelude.{None}
-use Rattle.aho_base.specs.Iteration.{AreFinds}
-use Rattle.aho_base.specs.Search.{Search}
+use Rattle.aho_core.specs.Iteration.{AreFinds}
+use Rattle.aho_core.specs.Search.{Search}
 use Rattle.aho_laws.proofs.Iterations.{finds-unique}
 use Rattle.aho_corasick.proofs.answers.settings_do_not_change_finds.Goals as goal
 

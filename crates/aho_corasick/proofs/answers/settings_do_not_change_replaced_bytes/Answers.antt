@@ -1,6 +1,6 @@
 use Rattle.std.proofs.Common.{◌∙◌, arith, sym}
 use Rattle.std.specs.Prelude.{None}
-use Rattle.aho_base.specs.Search.{plain_search}
+use Rattle.aho_core.specs.Search.{plain_search}
 use Rattle.aho_laws.proofs.Iterations.{finds-exist}
 use Rattle.aho_corasick.proofs.answers.settings_do_not_change_replaced_bytes.Goals as goal
 

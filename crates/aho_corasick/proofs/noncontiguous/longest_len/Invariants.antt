@@ -1,6 +1,6 @@
 use Rattle.std.proofs.Common.{◌≡◌, ◌≤◌, drop}
 use Rattle.std.specs.Prelude.{max}
-use Rattle.aho_base.specs.Laws.{longest}
+use Rattle.aho_core.specs.Laws.{longest}
 use Rattle.aho_corasick.proofs.noncontiguous.longest_len.Given as goal
 
 abbrev pub invariant-loop-len : goal.invariant-loop-len

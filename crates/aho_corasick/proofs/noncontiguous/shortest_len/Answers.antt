@@ -1,6 +1,6 @@
 use Rattle.std.proofs.Common.{◌≡◌, [], drop, ap, arith}
 use Rattle.std.proofs.Math.ListN.{drop_of_length-le}
-use Rattle.aho_base.specs.Laws.{shortest}
+use Rattle.aho_core.specs.Laws.{shortest}
 use Rattle.aho_build.proofs.ShortestLength.{min-shortest}
 use Rattle.aho_corasick.proofs.noncontiguous.shortest_len.Goals as goal
 

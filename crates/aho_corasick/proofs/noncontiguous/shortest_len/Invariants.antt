@@ -1,6 +1,6 @@
 use Rattle.std.proofs.Common.{◌≡◌, ◌≤◌, drop}
 use Rattle.std.specs.Prelude.{min}
-use Rattle.aho_base.specs.Laws.{shortest}
+use Rattle.aho_core.specs.Laws.{shortest}
 use Rattle.aho_corasick.proofs.noncontiguous.shortest_len.Given as goal
 
 abbrev pub invariant-loop-len : goal.invariant-loop-len

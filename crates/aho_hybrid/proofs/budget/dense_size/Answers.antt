@@ -1,7 +1,7 @@
 use Rattle.std.proofs.Common.{◌≡◌, ◌∙◌, ℕ, arith, ap, sym}
-use Rattle.aho_base.specs.Numbers.{greatest_index}
-use Rattle.aho_base.specs.declared.error.BuildError.{BuildError}
-use Rattle.aho_base.specs.declared.error.BuildError.TheVariants.{StateIDOverflow}
+use Rattle.aho_core.specs.Numbers.{greatest_index}
+use Rattle.aho_core.specs.declared.error.BuildError.{BuildError}
+use Rattle.aho_core.specs.declared.error.BuildError.TheVariants.{StateIDOverflow}
 use Rattle.aho_build.proofs.StoppedBuilds.{IfErr-given}
 use Rattle.aho_corasick.specs.ReadOut.{classes_of, states_of}
 use Rattle.aho_hybrid.specs.Filled.{lists_size, moves_size, refusal_of, told_size}

@@ -1,8 +1,8 @@
 use Rattle.std.proofs.Common.{None, arith, sym, subst}
-use Rattle.aho_base.specs.declared.search.MatchKind.{MatchKind}
-use Rattle.aho_base.specs.Listing.{IsListedBy}
-use Rattle.aho_base.specs.Order.{IsBefore}
-use Rattle.aho_base.specs.Overlapping.{all_occurrences}
+use Rattle.aho_core.specs.declared.search.MatchKind.{MatchKind}
+use Rattle.aho_core.specs.Listing.{IsListedBy}
+use Rattle.aho_core.specs.Order.{IsBefore}
+use Rattle.aho_core.specs.Overlapping.{all_occurrences}
 use Rattle.aho_laws.proofs.ClearCuts.{finds-chosen}
 use Rattle.aho_laws.proofs.Listings.{all_occurrences-has, all_occurrences-only, all_occurrences-listed}
 use Rattle.aho_laws.proofs.cuts.finds_are_chosen.Goals as goal

@@ -1,6 +1,6 @@
 use Rattle.std.proofs.Common.{None, arith}
-use Rattle.aho_base.specs.ClosureRun.{CalledOn}
-use Rattle.aho_base.specs.Search.{plain_search}
+use Rattle.aho_core.specs.ClosureRun.{CalledOn}
+use Rattle.aho_core.specs.Search.{plain_search}
 use Rattle.aho_laws.proofs.ClosureRuns.{ClosureRun-own}
 use Rattle.aho_laws.proofs.Iterations.{finds-apart, finds-ordered}
 use Rattle.aho_laws.proofs.search.appending_the_matched_bytes.Goals as goal

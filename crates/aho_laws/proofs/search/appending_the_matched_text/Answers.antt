@@ -1,7 +1,7 @@
 use Rattle.std.proofs.Common.{None, arith}
-use Rattle.aho_base.specs.ClosureRun.{CalledOn}
-use Rattle.aho_base.specs.Replacement.{is_on_boundaries, on_boundaries}
-use Rattle.aho_base.specs.Search.{plain_search}
+use Rattle.aho_core.specs.ClosureRun.{CalledOn}
+use Rattle.aho_core.specs.Replacement.{is_on_boundaries, on_boundaries}
+use Rattle.aho_core.specs.Search.{plain_search}
 use Rattle.aho_laws.specs.SearchLaws.{EndsBefore}
 use Rattle.aho_laws.proofs.ClosureRuns.{ClosureRun-own}
 use Rattle.aho_laws.proofs.Iterations.{finds-apart, finds-ordered}

@@ -1,11 +1,11 @@
 use Rattle.std.proofs.Common.{◌≡◌, ◌∙◌, None, List, false}
 use Rattle.std.specs.Prelude.{slice_range}
-use Rattle.aho_base.specs.Iteration.{AreFinds}
-use Rattle.aho_base.specs.Listing.{IsMember}
-use Rattle.aho_base.specs.Occurrence.{Occurrence}
-use Rattle.aho_base.specs.Patterns.{Patterns, pattern_at}
-use Rattle.aho_base.specs.Replacement.{is_on_boundaries, on_boundaries, replaced_by}
-use Rattle.aho_base.specs.Search.{Search}
+use Rattle.aho_core.specs.Iteration.{AreFinds}
+use Rattle.aho_core.specs.Listing.{IsMember}
+use Rattle.aho_core.specs.Occurrence.{Occurrence}
+use Rattle.aho_core.specs.Patterns.{Patterns, pattern_at}
+use Rattle.aho_core.specs.Replacement.{is_on_boundaries, on_boundaries, replaced_by}
+use Rattle.aho_core.specs.Search.{Search}
 use Rattle.aho_laws.specs.SearchLaws.{EndsBefore}
 use Rattle.aho_laws.proofs.Iterations.{finds-apart, finds-occur, finds-ordered}
 use Rattle.aho_laws.proofs.Members.{listed-filter, member-of_filter}

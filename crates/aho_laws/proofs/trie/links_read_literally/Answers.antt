@@ -1,4 +1,4 @@
-use Rattle.aho_base.specs.Bytes.{folded, folded_word}
+use Rattle.aho_core.specs.Bytes.{folded, folded_word}
 use Rattle.aho_laws.proofs.LiteralLinks.{failure-dead, failure-longest}
 use Rattle.aho_laws.proofs.trie.links_read_literally.Goals as goal
 

@@ -1,8 +1,8 @@
 use Rattle.std.proofs.Common.{◌≡◌, ◌≢◌, ℕ, true, List, [], ◌∷◌, refl}
 use Rattle.std.specs.Prelude.{Some}
-use Rattle.aho_base.specs.MatchList.{matches_of, own_matches}
-use Rattle.aho_base.specs.Patterns.{Patterns}
-use Rattle.aho_base.specs.Failure.{is_leftmost}
+use Rattle.aho_core.specs.MatchList.{matches_of, own_matches}
+use Rattle.aho_core.specs.Patterns.{Patterns}
+use Rattle.aho_core.specs.Failure.{is_leftmost}
 use Rattle.aho_laws.proofs.ByLinks.{matches-linked, matches-next, matches-own, matches-root}
 use Rattle.aho_laws.proofs.Kept.{other_than_standard}
 use Rattle.aho_laws.proofs.Listed.{own-has, own-listed, own-member}

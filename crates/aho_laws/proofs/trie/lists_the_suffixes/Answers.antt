@@ -1,6 +1,6 @@
 use Rattle.std.proofs.Common.{ap}
 use Rattle.aho_laws.proofs.EndingLists.{held-longest_first, held-member, held-patterns_ending}
-use Rattle.aho_base.specs.Failure.{is_leftmost}
+use Rattle.aho_core.specs.Failure.{is_leftmost}
 use Rattle.aho_laws.proofs.trie.lists_the_suffixes.Goals as goal
 
 pub returns-clause-members : goal.returns-clause-members

@@ -1,5 +1,5 @@
 use Rattle.aho_laws.proofs.LiteralReadings.{held-anchored, held-dead, held-longest, longest_node, longest_node-is}
-use Rattle.aho_base.specs.Bytes.{folded_word}
+use Rattle.aho_core.specs.Bytes.{folded_word}
 use Rattle.aho_laws.proofs.trie.reads_literally.Goals as goal
 
 pub returns-clause-some : goal.returns-clause-some

@@ -1,7 +1,7 @@
 -- What each turn of the loop counts, and what is counted at the end.
 use Rattle.std.proofs.Common.{◌≡◌, Bor, Result, Some, Ok, ap, arith, ◌∙◌, length, map}
-use Rattle.aho_base.specs.Patterns.{Patterns}
-use Rattle.aho_base.specs.declared.error.stream.StreamError.{StreamError}
+use Rattle.aho_core.specs.Patterns.{Patterns}
+use Rattle.aho_core.specs.declared.error.stream.StreamError.{StreamError}
 use Rattle.aho_stream.specs.declared.chunks.StreamChunk.{StreamChunk}
 use Rattle.aho_stream.specs.declared.chunks.StreamChunk.TheVariants.{NonMatch, Match}
 use Rattle.aho_stream.proofs.Countings.{counts_all, counts_error, go_match, go_plain, goes_on, going_first, match_more, plain_more, small, smaller}

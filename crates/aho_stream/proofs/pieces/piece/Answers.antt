@@ -1,10 +1,10 @@
 use Rattle.std.proofs.Common.{◌≡◌, ◌+◌, ◌≤◌, ◌∙◌, inl, inr, ap, subst, arith, List, ℕ}
 use Rattle.std.specs.Prelude.{Option, Some, None, IfSome}
 use Rattle.std.proofs.lemmas.Bool.{cases_lt}
-use Rattle.aho_base.specs.Patterns.{Patterns}
+use Rattle.aho_core.specs.Patterns.{Patterns}
 use Rattle.aho_stream.specs.After.{IsAfter}
 use Rattle.aho_stream.specs.Chunks.{TellsChunk, TellsMatch}
-use Rattle.aho_search.proofs.Places.{moved}
+use Rattle.aho_automaton.proofs.Places.{moved}
 use Rattle.aho_stream.specs.declared.progress.StreamProgress.{StreamProgress}
 use Rattle.aho_stream.proofs.Reported.{gap_clear, in_hand_within, match_told, outside_clear, reported}
 use Rattle.aho_stream.proofs.pieces.piece.Given.{Over}

@@ -1,6 +1,6 @@
 use Rattle.std.proofs.Common.{◌≡◌, ◌-◌, ap, sym, subst, arith, List, ℕ, length}
 use Rattle.std.specs.Prelude.{slice_range}
-use Rattle.aho_search.proofs.Places.{length_part}
+use Rattle.aho_automaton.proofs.Places.{length_part}
 use Rattle.aho_stream.specs.After.{word_of}
 use Rattle.aho_stream.specs.Walking.{WalksOn}
 use Rattle.aho_stream.proofs.Afters.{after_walked}

@@ -1,6 +1,6 @@
 -- How the loop over the chunks begins, goes on and ends.
 use Rattle.std.proofs.Common.{◌≡◌, ◌++◌, refl, ◌∙◌, ap, arith, Some}
-use Rattle.aho_base.specs.Patterns.{Patterns}
+use Rattle.aho_core.specs.Patterns.{Patterns}
 use Rattle.aho_stream.proofs.Replacings.{begins_ahead, begins_chunk, begins_still, err_given, going_first, going_kept, going_on, less_room, limit_met, replaces_all, up_to_still}
 use Rattle.aho_stream.proofs.replace.replace_chunks.Goals as goal
 

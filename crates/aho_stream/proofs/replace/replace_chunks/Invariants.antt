@@ -1,6 +1,6 @@
 -- What the loop over the chunks keeps.
 use Rattle.std.proofs.Common.{◌≡◌, ◌-◌, false}
-use Rattle.aho_base.specs.Replacement.{pieces_of}
+use Rattle.aho_core.specs.Replacement.{pieces_of}
 use Rattle.aho_stream.proofs.Replacings.{Going}
 use Rattle.aho_stream.proofs.replace.replace_chunks.Given as goal
 

@@ -1,7 +1,7 @@
 -- How the loop over the chunks begins, goes on and ends.
 use Rattle.std.proofs.Common.{rules, of_calls, ◌≡◌, ◌++◌, refl, ◌∙◌, ap, subst, arith, Some, None, Ok}
-use Rattle.aho_base.specs.ClosureRun.{CalledOn}
-use Rattle.aho_base.specs.Patterns.{Patterns}
+use Rattle.aho_core.specs.ClosureRun.{CalledOn}
+use Rattle.aho_core.specs.Patterns.{Patterns}
 use Rattle.aho_devices.specs.Counts.{counted}
 use Rattle.aho_stream.specs.Chunks.{tells_read_fault}
 use Rattle.aho_stream.specs.declared.progress.StreamPiece.{StreamPiece}

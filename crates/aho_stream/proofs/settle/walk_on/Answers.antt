@@ -1,11 +1,11 @@
 -- What the walk found, and each turn of the loop.
 use Rattle.std.proofs.Common.{◌≡◌, ◌+◌, refl, sym, ◌∙◌, ap, subst, arith, false, ℕ, ◌++◌, take, length, List}
 use Rattle.std.specs.Prelude.{Option}
-use Rattle.aho_base.specs.Laws.{BestAfter, better, told}
-use Rattle.aho_base.specs.Occurrence.{Occurrence}
-use Rattle.aho_base.specs.Patterns.{Patterns}
-use Rattle.aho_base.specs.declared.search.Anchored.TheVariants.{No}
-use Rattle.aho_search.proofs.Told.{better-none}
+use Rattle.aho_core.specs.Laws.{BestAfter, better, told}
+use Rattle.aho_core.specs.Occurrence.{Occurrence}
+use Rattle.aho_core.specs.Patterns.{Patterns}
+use Rattle.aho_core.specs.declared.search.Anchored.TheVariants.{No}
+use Rattle.aho_automaton.proofs.Told.{better-none}
 use Rattle.aho_stream.specs.After.{is_settled}
 use Rattle.aho_stream.specs.Walking.{WalksOn}
 use Rattle.aho_stream.proofs.Walks.{best_of_more, one_more, still_unsettled, walks_all, walks_settled}

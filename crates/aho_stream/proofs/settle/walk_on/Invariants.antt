@@ -1,8 +1,8 @@
 -- What the loop keeps.
 use Rattle.std.proofs.Common.{◌≡◌, ◌+◌, ◌*◌, ◌≤◌, ◌++◌, ℕ, List, false, take, length}
-use Rattle.aho_base.specs.Laws.{BestAfter}
-use Rattle.aho_base.specs.Patterns.{Patterns}
-use Rattle.aho_base.specs.declared.search.Anchored.TheVariants.{No}
+use Rattle.aho_core.specs.Laws.{BestAfter}
+use Rattle.aho_core.specs.Patterns.{Patterns}
+use Rattle.aho_core.specs.declared.search.Anchored.TheVariants.{No}
 use Rattle.aho_stream.specs.After.{is_settled}
 use Rattle.aho_stream.proofs.settle.walk_on.Given as goal
 

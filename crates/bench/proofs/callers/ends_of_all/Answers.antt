@@ -1,8 +1,8 @@
 -- What came when the loop ended is all that the iterator gives.
 use Rattle.std.proofs.Common.{◌∙◌, sym, ap, map}
 use Rattle.std.proofs.iter.SoFar.{exit_by}
-use Rattle.aho_base.specs.Overlapping.{all_occurrences}
-use Rattle.aho_base.specs.Search.{Search}
+use Rattle.aho_core.specs.Overlapping.{all_occurrences}
+use Rattle.aho_core.specs.Search.{Search}
 use Rattle.bench.proofs.callers.ends_of_all.Goals as goal
 
 pub loop-m-init-derived : goal.loop-m-init-derived

@@ -1,8 +1,8 @@
 -- The iterator may be called, and what is collected is all that it gives.
 use Rattle.std.proofs.Common.{◌∙◌, ap}
 use Rattle.std.proofs.lemmas.Result.{IfOk-weaker}
-use Rattle.aho_base.specs.Overlapping.{all_occurrences}
-use Rattle.aho_base.specs.Search.{Search}
+use Rattle.aho_core.specs.Overlapping.{all_occurrences}
+use Rattle.aho_core.specs.Search.{Search}
 use Rattle.bench.proofs.callers.find_all.Goals as goal
 
 pub collect-requires-clause-can : goal.collect-requires-clause-can

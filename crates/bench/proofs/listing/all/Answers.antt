@@ -1,6 +1,6 @@
 use Rattle.std.proofs.Common.{arith, ℕ, ap, ◌∙◌, ◌-◌, ◌+◌, ◌≤◌, ◌≡◌, []}
 use Rattle.std.specs.List.{range_with_len, flat_map}
-use Rattle.aho_base.specs.Overlapping.{occurrences_ending}
+use Rattle.aho_core.specs.Overlapping.{occurrences_ending}
 use Rattle.aho_laws.proofs.Ranges.{places_step, places_end}
 use Rattle.bench.proofs.listing.all.Goals as goal
 use Rattle.bench.proofs.listing.all.Goals.{else-loop-end-test, then-loop-end-test+in_ok-push_ending+else-end-end-end}

@@ -1,7 +1,7 @@
 use Rattle.std.proofs.Common.{◌≡◌, ◌-◌, ◌+◌, ◌≤◌}
 use Rattle.std.specs.Prelude.{flat_map}
 use Rattle.std.specs.List.{range_with_len}
-use Rattle.aho_base.specs.Overlapping.{occurrences_ending}
+use Rattle.aho_core.specs.Overlapping.{occurrences_ending}
 use Rattle.bench.proofs.listing.all.Given as goal
 
 abbrev pub invariant-loop-end : goal.invariant-loop-end

@@ -1,6 +1,6 @@
 use Rattle.std.proofs.Common.{◌≡◌, take}
 use Rattle.std.specs.Prelude.{filter, slice_range}
-use Rattle.aho_base.specs.Overlapping.{begins_some}
+use Rattle.aho_core.specs.Overlapping.{begins_some}
 use Rattle.bench.proofs.listing.anchored.Given as goal
 
 abbrev pub invariant-loop-m : goal.invariant-loop-m

@@ -1,6 +1,6 @@
 use Rattle.std.proofs.Common.{arith}
 use Rattle.std.proofs.lemmas.Grind.{common_steps}
-use Rattle.aho_base.specs.Trie.{pattern_word}
+use Rattle.aho_core.specs.Trie.{pattern_word}
 use Rattle.bench.proofs.Begins.{is_same_word-front, begins-longer}
 use Rattle.bench.proofs.listing.begins_pattern.Goals as goal
 

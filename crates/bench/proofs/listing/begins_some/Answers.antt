@@ -1,8 +1,8 @@
 use Rattle.std.proofs.Common.{arith, length, sym, ◌∙◌, ℕ}
 use Rattle.std.specs.Prelude.{slice_range}
 use Rattle.aho_laws.proofs.Begins.{any-from}
-use Rattle.aho_base.specs.Bytes.{folded_word}
-use Rattle.aho_base.specs.Trie.{begins, pattern_word}
+use Rattle.aho_core.specs.Bytes.{folded_word}
+use Rattle.aho_core.specs.Trie.{begins, pattern_word}
 use Rattle.bench.proofs.Begins.{list_any-none}
 use Rattle.bench.proofs.listing.begins_some.Goals as goal
 

@@ -1,6 +1,6 @@
 use Rattle.std.proofs.Common.{◌≡◌, ◌<◌, ℕ, false}
-use Rattle.aho_base.specs.Bytes.{folded_word}
-use Rattle.aho_base.specs.Trie.{begins, pattern_word}
+use Rattle.aho_core.specs.Bytes.{folded_word}
+use Rattle.aho_core.specs.Trie.{begins, pattern_word}
 use Rattle.bench.proofs.listing.begins_some.Given as goal
 
 abbrev pub invariant-loop-number : goal.invariant-loop-number

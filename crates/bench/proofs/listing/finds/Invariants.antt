@@ -1,7 +1,7 @@
 use Rattle.std.proofs.Common.{◌≡◌, ◌+◌, ◌-◌, ◌*◌, ◌++◌, List, None, Some, cond}
 use Rattle.std.specs.Prelude.{◌⊎◌, is_none}
-use Rattle.aho_base.specs.Occurrence.{Occurrence}
-use Rattle.aho_base.specs.Iteration.{AreFinds}
+use Rattle.aho_core.specs.Occurrence.{Occurrence}
+use Rattle.aho_core.specs.Iteration.{AreFinds}
 use Rattle.bench.proofs.listing.finds.Given as goal
 
 abbrev pub invariant-loop-m : goal.invariant-loop-m

@@ -1,9 +1,9 @@
 use Rattle.std.proofs.Common.{arith, ℕ, ◌≡◌, ◌++◌, ◌∷◌, [], ◌∙◌, sym, true, false}
 use Rattle.std.specs.Prelude.{slice_range}
 use Rattle.std.proofs.lemmas.Grind.{common_steps}
-use Rattle.aho_base.specs.Bytes.{is_same_word}
-use Rattle.aho_base.specs.Occurrence.{occurrence}
-use Rattle.aho_base.specs.Patterns.{pattern_at}
+use Rattle.aho_core.specs.Bytes.{is_same_word}
+use Rattle.aho_core.specs.Occurrence.{occurrence}
+use Rattle.aho_core.specs.Patterns.{pattern_at}
 use Rattle.aho_laws.proofs.Ranges.{tested_step, untested_step}
 use Rattle.bench.proofs.listing.push_at.Goals as goal
 use Rattle.bench.proofs.listing.push_at.Goals.{then-stands_at+in_ok-push, else-stands_at}

@@ -1,9 +1,9 @@
 use Rattle.std.proofs.Common.{◌≡◌, ◌++◌, map}
 use Rattle.std.specs.Prelude.{filter, slice_range}
 use Rattle.std.specs.List.{range_with_len}
-use Rattle.aho_base.specs.Bytes.{is_same_word}
-use Rattle.aho_base.specs.Occurrence.{occurrence}
-use Rattle.aho_base.specs.Patterns.{pattern_at}
+use Rattle.aho_core.specs.Bytes.{is_same_word}
+use Rattle.aho_core.specs.Occurrence.{occurrence}
+use Rattle.aho_core.specs.Patterns.{pattern_at}
 use Rattle.bench.proofs.listing.push_at.Given as goal
 
 abbrev pub invariant-loop-number : goal.invariant-loop-number

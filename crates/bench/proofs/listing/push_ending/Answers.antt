@@ -1,5 +1,5 @@
 use Rattle.std.proofs.Common.{◌≤◌, ◌≡◌, ℕ, arith}
-use Rattle.aho_base.specs.Overlapping.{occurrences_at}
+use Rattle.aho_core.specs.Overlapping.{occurrences_at}
 use Rattle.aho_laws.proofs.Ranges.{places_step, places_end}
 use Rattle.bench.proofs.listing.push_ending.Goals as goal
 

@@ -1,7 +1,7 @@
 use Rattle.std.proofs.Common.{◌≡◌, ◌∙◌, sym, ap, arith, List, ℕ, true}
 use Rattle.std.specs.Prelude.{slice_range}
-use Rattle.aho_base.specs.Bytes.{is_same_word}
-use Rattle.aho_base.specs.Patterns.{pattern_at}
+use Rattle.aho_core.specs.Bytes.{is_same_word}
+use Rattle.aho_core.specs.Patterns.{pattern_at}
 use Rattle.bench.proofs.BestAtRange.{IsBest-at_range}
 use Rattle.bench.proofs.plain.best_at.Goals as goal
 

@@ -1,7 +1,7 @@
 use Rattle.std.proofs.Common.{◌≡◌, ℕ, ◌<◌, false}
 use Rattle.std.specs.Prelude.{slice_range}
-use Rattle.aho_base.specs.Bytes.{is_same_word}
-use Rattle.aho_base.specs.Patterns.{pattern_at}
+use Rattle.aho_core.specs.Bytes.{is_same_word}
+use Rattle.aho_core.specs.Patterns.{pattern_at}
 use Rattle.bench.proofs.plain.best_at.Given as goal
 
 abbrev pub invariant-loop-number : goal.invariant-loop-number

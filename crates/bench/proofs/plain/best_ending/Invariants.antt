@@ -1,5 +1,5 @@
 use Rattle.std.proofs.Common.{◌<◌}
-use Rattle.aho_base.specs.Best.{IsBestOrNone}
+use Rattle.aho_core.specs.Best.{IsBestOrNone}
 use Rattle.bench.specs.Range.{OccursEndingAt}
 use Rattle.bench.proofs.plain.best_ending.Given as goal
 

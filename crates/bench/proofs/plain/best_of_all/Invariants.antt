@@ -1,6 +1,6 @@
 use Rattle.std.proofs.Common.{◌<◌}
-use Rattle.aho_base.specs.Best.{IsBestOrNone}
-use Rattle.aho_base.specs.Occurs.{OccursIn}
+use Rattle.aho_core.specs.Best.{IsBestOrNone}
+use Rattle.aho_core.specs.Occurs.{OccursIn}
 use Rattle.bench.proofs.plain.best_of_all.Given as goal
 
 abbrev pub invariant-loop-end : goal.invariant-loop-end

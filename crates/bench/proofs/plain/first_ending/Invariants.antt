@@ -1,6 +1,6 @@
 use Rattle.std.proofs.Common.{◌<◌}
-use Rattle.aho_base.specs.Occurrence.{Occurrence}
-use Rattle.aho_base.specs.Occurs.{OccursIn}
+use Rattle.aho_core.specs.Occurrence.{Occurrence}
+use Rattle.aho_core.specs.Occurs.{OccursIn}
 use Rattle.bench.proofs.plain.first_ending.Given as goal
 
 abbrev pub invariant-loop-end : goal.invariant-loop-end

@@ -1,5 +1,5 @@
 use Rattle.std.proofs.Common.{◌≡◌, ℕ, ◌<◌, get_or}
-use Rattle.aho_base.specs.Bytes.{folded}
+use Rattle.aho_core.specs.Bytes.{folded}
 use Rattle.bench.proofs.plain.is_same_word.Given as goal
 
 abbrev pub invariant-loop-i : goal.invariant-loop-i

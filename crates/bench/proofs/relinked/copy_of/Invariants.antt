@@ -1,5 +1,5 @@
 use Rattle.std.proofs.Common.{◌≡◌, take}
-use Rattle.aho_base.specs.Numbers.{greatest_index}
+use Rattle.aho_core.specs.Numbers.{greatest_index}
 use Rattle.aho_corasick.specs.ReadOut.{states_of}
 use Rattle.bench.proofs.relinked.copy_of.Given as goal
 

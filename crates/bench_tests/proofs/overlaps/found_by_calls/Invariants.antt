@@ -1,7 +1,7 @@
 -- The state fits the search, whatever was found so far.
 use Rattle.std.proofs.Common.{ℕ}
-use Rattle.aho_base.specs.Patterns.{Patterns}
-use Rattle.aho_base.specs.Progress.{FitsSearch}
+use Rattle.aho_core.specs.Patterns.{Patterns}
+use Rattle.aho_core.specs.Progress.{FitsSearch}
 use Rattle.bench_tests.proofs.overlaps.found_by_calls.Given as goal
 
 abbrev pub invariant-loop : goal.invariant-loop

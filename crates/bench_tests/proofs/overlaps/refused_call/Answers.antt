@@ -1,11 +1,11 @@
 -- A leftmost automaton finds none, whatever the state, so each state fits it.
 use Rattle.std.proofs.Common.{◌≡◌, ℕ, List, refl, subst}
-use Rattle.aho_base.specs.declared.search.Anchored.{Anchored}
-use Rattle.aho_base.specs.declared.search.MatchKind.{MatchKind}
-use Rattle.aho_base.specs.declared.search.MatchKind.TheVariants.{LeftmostFirst}
-use Rattle.aho_base.specs.Patterns.{Patterns}
-use Rattle.aho_base.specs.Progress.{FitsBy, FitsSearch, Progress}
-use Rattle.aho_base.specs.Search.{Search}
+use Rattle.aho_core.specs.declared.search.Anchored.{Anchored}
+use Rattle.aho_core.specs.declared.search.MatchKind.{MatchKind}
+use Rattle.aho_core.specs.declared.search.MatchKind.TheVariants.{LeftmostFirst}
+use Rattle.aho_core.specs.Patterns.{Patterns}
+use Rattle.aho_core.specs.Progress.{FitsBy, FitsSearch, Progress}
+use Rattle.aho_core.specs.Search.{Search}
 use Rattle.bench_tests.proofs.overlaps.refused_call.Goals as goal
 
 leftmost_fits : (valid : ℕ → Type 0) (held : Anchored → List ℕ → ℕ → Type 0) (p : Patterns) (search : Search) (progress : Progress) → LeftmostFirst ≡ p.kind → FitsSearch valid held p search progress 0

@@ -1,15 +1,15 @@
 -- An iterator that may be called may be called again, also after none.
 use Rattle.std.proofs.Common.{ℕ, ◌+◌, List, sym, subst, min, length}
 use Rattle.std.specs.Prelude.{Option, Result}
-use Rattle.aho_base.specs.declared.error.MatchErrorKind.{MatchErrorKind}
-use Rattle.aho_base.specs.declared.search.Anchored.{Anchored}
-use Rattle.aho_base.specs.declared.search.MatchKind.{MatchKind}
-use Rattle.aho_base.specs.Occurrence.{Occurrence}
-use Rattle.aho_base.specs.Overlapping.{overlapping}
-use Rattle.aho_base.specs.Patterns.{Patterns}
-use Rattle.aho_base.specs.Progress.{Progress}
-use Rattle.aho_base.specs.Search.{Search}
-use Rattle.aho_search.specs.Overlaps.{CanGive, GivesOverlapping}
+use Rattle.aho_core.specs.declared.error.MatchErrorKind.{MatchErrorKind}
+use Rattle.aho_core.specs.declared.search.Anchored.{Anchored}
+use Rattle.aho_core.specs.declared.search.MatchKind.{MatchKind}
+use Rattle.aho_core.specs.Occurrence.{Occurrence}
+use Rattle.aho_core.specs.Overlapping.{overlapping}
+use Rattle.aho_core.specs.Patterns.{Patterns}
+use Rattle.aho_core.specs.Progress.{Progress}
+use Rattle.aho_core.specs.Search.{Search}
+use Rattle.aho_automaton.specs.Overlaps.{CanGive, GivesOverlapping}
 use Rattle.bench_tests.proofs.overlaps.three_calls.Goals as goal
 
 module _ {A : Type 0} (is_of : A → Patterns → Type 0) (kind : A → MatchKind) (start : A → Anchored → Result ℕ MatchErrorKind) (valid : A → ℕ → Type 0) (held : A → Patterns → Anchored → List ℕ → ℕ → Type 0) where

@@ -1,6 +1,6 @@
 -- Nothing is left of an even number of arguments below two.
 use Rattle.std.proofs.Common.{◌++◌, sym, ap, ◌∙◌, append-nil}
-use Rattle.aho_base.specs.Replacement.{pieces_of}
+use Rattle.aho_core.specs.Replacement.{pieces_of}
 use Rattle.programs.proofs.Pairs.{none_at_even, none_at_odd}
 use Rattle.programs.proofs.replace.split.Goals as goal
 

@@ -1,6 +1,6 @@
 -- What is left of the arguments gives what is left of the patterns and of the pieces.
 use Rattle.std.proofs.Common.{◌≡◌, ◌%◌, ◌++◌, length, map, string_bytes}
-use Rattle.aho_base.specs.Replacement.{pieces_of}
+use Rattle.aho_core.specs.Replacement.{pieces_of}
 use Rattle.programs.specs.Asked.{at_even, at_odd}
 use Rattle.programs.proofs.replace.split.Given as goal
 

@@ -1,6 +1,6 @@
 -- The bytes of the arguments before the place of the loop are held.
 use Rattle.std.proofs.Common.{◌≡◌, map, string_bytes, take}
-use Rattle.aho_base.specs.Replacement.{pieces_of}
+use Rattle.aho_core.specs.Replacement.{pieces_of}
 use Rattle.programs.proofs.rows.bytes_of.Given as goal
 
 abbrev pub invariant-loop-argument : goal.invariant-loop-argument

@@ -1,6 +1,6 @@
 -- The patterns before the place of the loop were added.
 use Rattle.std.proofs.Common.{take}
-use Rattle.aho_base.specs.Replacement.{pieces_of}
+use Rattle.aho_core.specs.Replacement.{pieces_of}
 use Rattle.aho_prefilter.specs.Taken.{HasTakenPacked}
 use Rattle.programs.specs.Asked.{standard_patterns}
 use Rattle.programs.proofs.rows.prefilter_of.Given as goal

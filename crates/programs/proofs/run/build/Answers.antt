@@ -2,7 +2,7 @@
 use Rattle.std.proofs.Common.{rules, ◌≡◌, subst, List, ℕ, map, string_bytes, Bor}
 use Rattle.std.proofs.lemmas.Iterator.{items_from_drains, YieldsList-from_slice, YieldsList-from_map_by}
 use Rattle.std.specs.Prelude.{None}
-use Rattle.aho_base.specs.Patterns.{Patterns}
+use Rattle.aho_core.specs.Patterns.{Patterns}
 use Rattle.aho_build.specs.Refusals.{cause}
 use Rattle.aho_build.specs.declared.settings.Settings.{Settings}
 use Rattle.aho_corasick.specs.contracts.noncontiguous.NFAAutomaton.TheImpl.{ghosts}

@@ -1,9 +1,9 @@
 -- What was found so far begins the finds.
 use Rattle.std.proofs.Common.{rules, None, arith}
-use Rattle.aho_base.specs.Iteration.{AreFinds}
-use Rattle.aho_base.specs.Search.{plain_search}
-use Rattle.aho_search.specs.Finding.{AreFirstFinds}
-use Rattle.aho_search.proofs.NextFinds.{finds-begun}
+use Rattle.aho_core.specs.Iteration.{AreFinds}
+use Rattle.aho_core.specs.Search.{plain_search}
+use Rattle.aho_automaton.specs.Finding.{AreFirstFinds}
+use Rattle.aho_automaton.proofs.NextFinds.{finds-begun}
 use Rattle.programs.proofs.Matches.{begun-first}
 use Rattle.programs.proofs.run.print_finds.Goals as goal
 

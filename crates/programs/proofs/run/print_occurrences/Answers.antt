@@ -1,8 +1,8 @@
 -- What was listed so far begins the listing.
 use Rattle.std.proofs.Common.{rules, ◌≡◌, List, length, take, drop, ap, ◌∙◌, ◌++◌}
 use Rattle.std.proofs.lemmas.List.{take-append-drop}
-use Rattle.aho_base.specs.Occurrence.{Occurrence}
-use Rattle.aho_base.specs.Overlapping.{all_occurrences}
+use Rattle.aho_core.specs.Occurrence.{Occurrence}
+use Rattle.aho_core.specs.Overlapping.{all_occurrences}
 use Rattle.programs.proofs.Matches.{begun-first}
 use Rattle.programs.proofs.run.print_occurrences.Goals as goal
 

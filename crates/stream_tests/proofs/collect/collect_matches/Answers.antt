@@ -1,8 +1,8 @@
 -- How the loop over the matches goes on, and what was collected at its end.
 use Rattle.std.proofs.Common.{◌≡◌, ◌++◌, ◌∷◌, [], List, Option, Some, None, Result, Ok, ◌∙◌, ap, map, subst, sym}
 use Rattle.std.specs.Iterator.{Yields}
-use Rattle.aho_base.specs.Occurrence.{Occurrence}
-use Rattle.aho_base.specs.declared.error.stream.StreamError.{StreamError}
+use Rattle.aho_core.specs.Occurrence.{Occurrence}
+use Rattle.aho_core.specs.declared.error.stream.StreamError.{StreamError}
 use Rattle.aho_stream.specs.Finds.{FindsNext}
 use Rattle.aho_stream.proofs.Collected.{all_found, found, goes_on, less_to_find, no_limit_found, yields_more}
 use Rattle.aho_stream.proofs.FindRuns.{find_steps}

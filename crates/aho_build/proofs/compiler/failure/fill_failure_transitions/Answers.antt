@@ -1,6 +1,6 @@
 use Rattle.std.proofs.Common.{◌≡◌, ◌≤◌, ◌<◌, ◌++◌, ◌∷◌, [], ◌∙◌, refl, sym, subst, ap, arith, length, get_or, ℕ, List}
 use Rattle.std.proofs.lemmas.List.{get_or_default}
-use Rattle.aho_base.specs.Trie.{is_node}
+use Rattle.aho_core.specs.Trie.{is_node}
 use Rattle.aho_build.specs.FailureLinks.{IsLinking, IsReadyRefusal, rows_of}
 use Rattle.aho_build.specs.Starts.{root_loop}
 use Rattle.aho_build.specs.Sizes.{matches_size}

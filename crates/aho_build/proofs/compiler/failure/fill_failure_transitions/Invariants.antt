@@ -1,5 +1,5 @@
 use Rattle.std.proofs.Common.{◌≡◌, ◌≤◌, ◌+◌, ◌-◌, ℕ, List, Option, vec_len, slice_index}
-use Rattle.aho_base.specs.Patterns.{Patterns}
+use Rattle.aho_core.specs.Patterns.{Patterns}
 use Rattle.aho_build.specs.Starts.{IsReady}
 use Rattle.aho_build.specs.FailureLinks.{IsLinking, OnlyCopies, unlinked_count}
 use Rattle.aho_build.proofs.compiler.failure.fill_failure_transitions.Given as goal

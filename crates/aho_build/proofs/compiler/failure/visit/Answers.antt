@@ -1,6 +1,6 @@
 use Rattle.std.proofs.Common.{◌≡◌, ◌≢◌, ◌∙◌, sym, inl, arith}
 use Rattle.std.proofs.lemmas.Result.{on_ok_weaker, IfErr-weaker}
-use Rattle.aho_base.specs.declared.error.BuildError.TheVariants.{OutOfMemory}
+use Rattle.aho_core.specs.declared.error.BuildError.TheVariants.{OutOfMemory}
 use Rattle.aho_build.specs.FailureLinks.{IsLinkingRefusal}
 use Rattle.aho_table.specs.Table.{fail_id, fail_in}
 use Rattle.aho_build.proofs.NumberTests.{same-false, differ-false}

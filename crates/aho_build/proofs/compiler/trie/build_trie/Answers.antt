@@ -1,7 +1,7 @@
 use Rattle.std.proofs.Common.{◌≡◌, ◌∙◌, refl, ◌++◌, ◌∷◌, ℕ, [], length, rules, subst}
 use Rattle.std.specs.Iterator.{Yields}
 use Rattle.std.proofs.iter.Next.{Yields-more}
-use Rattle.aho_base.specs.declared.error.BuildError.TheVariants.{PatternTooLong}
+use Rattle.aho_core.specs.declared.error.BuildError.TheVariants.{PatternTooLong}
 use Rattle.aho_build.specs.TrieGrowth.{IsPatternRefusal}
 use Rattle.aho_table.specs.Table.{IsWithinLimit}
 use Rattle.aho_build.specs.Items.{patterns_of, IsTrieFailure}

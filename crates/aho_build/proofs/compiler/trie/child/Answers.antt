@@ -1,6 +1,6 @@
 -- The byte leads to a child, and so does its other case where it has one.
 use Rattle.std.proofs.Common.{◌≡◌, ◌&&◌, ℕ, Bool, false, not, nat_eq, eq-eqb, ◌∙◌, ap, subst, sym}
-use Rattle.aho_base.specs.Bytes.{opposite}
+use Rattle.aho_core.specs.Bytes.{opposite}
 use Rattle.aho_build.specs.TrieGrowth.{HasChild, IsChildRefusal}
 use Rattle.aho_table.specs.Refusal.{refusal_at}
 use Rattle.aho_table.specs.Table.{Tables, IsLedTo, transitions_count}

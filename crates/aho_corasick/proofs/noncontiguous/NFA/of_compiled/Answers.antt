@@ -1,5 +1,5 @@
 use Rattle.std.proofs.Common.{◌∙◌, sym, ap, arith}
-use Rattle.aho_base.specs.Laws.{longest}
+use Rattle.aho_core.specs.Laws.{longest}
 use Rattle.aho_build.proofs.SoundAutomata.{IsSound-automaton, AreStarts-automaton}
 use Rattle.aho_corasick.proofs.noncontiguous.NFA.of_compiled.Goals as goal
 

@@ -2,8 +2,8 @@
 use Rattle.std.proofs.Common.{◌≡◌, ℕ, List, Option, Bool, rules, nat_eq, sym, ap, subst, ◌∙◌}
 use Rattle.std.specs.List.{each_same}
 use Rattle.std.specs.Prelude.{IfSome}
-use Rattle.aho_base.specs.Patterns.{Patterns}
-use Rattle.aho_base.specs.declared.search.Anchored.{Anchored}
+use Rattle.aho_core.specs.Patterns.{Patterns}
+use Rattle.aho_core.specs.declared.search.Anchored.{Anchored}
 use Rattle.aho_prefilter.specs.Prefilter.{IsPrefilterOf}
 use Rattle.aho_prefilter.specs.declared.prefilter.Searcher.{Searcher}
 use Rattle.aho_hybrid.specs.Layout.{IsHeldIn, IsStateIn, Layout, depth_in, is_marked_in, is_special_in, list_in, lookups_in, memory_in, next_in, start_in}

@@ -1,6 +1,6 @@
 -- The word of the place is the pattern.
 use Rattle.std.proofs.Common.{◌+◌, ◌<◌, ◌≤◌, ℕ, List, Some, length, sym, ap, subst, ◌∙◌, arith}
-use Rattle.aho_base.specs.Numbers.{greatest_index}
+use Rattle.aho_core.specs.Numbers.{greatest_index}
 use Rattle.aho_lists.specs.Lists.{list_at}
 use Rattle.aho_lists.specs.Words.{word_at, length_at, pattern_lists}
 use Rattle.aho_lists.proofs.Patterns.{length-list_at, get-list_at, list_within, pattern_small}

@@ -1,7 +1,7 @@
 -- A walk begins at the first pattern of the list.
 use Rattle.std.proofs.Common.{◌≡◌, ◌≤◌, ℕ, List, length, take, drop, sym, ap, subst, ◌∙◌, arith}
 use Rattle.std.specs.List.{All}
-use Rattle.aho_base.specs.Numbers.{greatest_index}
+use Rattle.aho_core.specs.Numbers.{greatest_index}
 use Rattle.aho_lists.specs.Lists.{IsList}
 use Rattle.aho_lists.specs.Words.{length_at, patterns_at, pattern_lists, IsHeld}
 use Rattle.aho_lists.proofs.Patterns.{held_of, own_within, list_at-pattern_lists, patterns_at-small}

@@ -2,7 +2,7 @@
 use Rattle.std.proofs.Common.{◌≤◌, ℕ, List, drop, ap, subst}
 use Rattle.std.specs.List.{All}
 use Rattle.std.proofs.lemmas.List.Elements.{All-drop}
-use Rattle.aho_base.specs.Numbers.{greatest_index}
+use Rattle.aho_core.specs.Numbers.{greatest_index}
 use Rattle.aho_lists.proofs.matches.MatchesIterator.next.Goals as goal
 
 pub invariant_of-self : goal.invariant_of-self

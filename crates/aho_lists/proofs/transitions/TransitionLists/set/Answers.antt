@@ -7,7 +7,7 @@ use Rattle.aho_lists.specs.Lists.{Lists, list_at, IsList}
 use Rattle.aho_lists.specs.TransitionList.{with_transition, set_transition_in, number_after, lists_transition}
 use Rattle.aho_lists.specs.Inside.{transition_of, transition_entries, redirected, linked_behind, IsOn, IsGapBehind}
 use Rattle.aho_lists.specs.declared.transitions.Transition.{Transition}
-use Rattle.aho_base.specs.declared.error.BuildError.{BuildError}
+use Rattle.aho_core.specs.declared.error.BuildError.{BuildError}
 use Rattle.aho_lists.specs.Refusal.{refusal_at}
 use Rattle.aho_lists.proofs.TransitionStores.{set_transition_in-empty, number_after-empty}
 use Rattle.aho_lists.proofs.Results.{is_zero, is_some, IfErr-given, OnOk-more, IfOk-from}

@@ -4,7 +4,7 @@ use Rattle.aho_lists.specs.Rings.{AreSideBySide}
 use Rattle.aho_lists.specs.Inside.{transition_entries, IsStore}
 use Rattle.aho_lists.proofs.Sides.{side-started}
 use Rattle.aho_lists.specs.declared.transitions.Transition.{Transition}
-use Rattle.aho_base.specs.declared.error.BuildError.{BuildError}
+use Rattle.aho_core.specs.declared.error.BuildError.{BuildError}
 use Rattle.aho_lists.specs.Refusal.{refusal_at}
 use Rattle.aho_lists.proofs.Results.{IfErr-given}
 use Rattle.aho_lists.proofs.Stores.{length-lists_of, list_at-zero, same_store}

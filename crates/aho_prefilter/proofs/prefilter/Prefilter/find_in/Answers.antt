@@ -1,6 +1,6 @@
 use Rattle.std.proofs.Common.{◌≡◌, ◌+◌, ℕ, List, length, ap, refl, subst, ◌∙◌}
 use Rattle.std.specs.Prelude.{Some, None}
-use Rattle.aho_base.specs.Occurrence.{occurrence}
+use Rattle.aho_core.specs.Occurrence.{occurrence}
 use Rattle.aho_prefilter.specs.Finding.{FindsFirst, answer_at}
 use Rattle.aho_prefilter.specs.declared.prefilter.Candidate.TheVariants.{Match, PossibleStartOfMatch, None as Nothing}
 use Rattle.aho_prefilter.specs.declared.prefilter.Searcher.{Searcher}

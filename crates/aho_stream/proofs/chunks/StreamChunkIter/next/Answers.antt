@@ -1,12 +1,12 @@
 -- What each way out lends.
 use Rattle.std.proofs.Common.{◌≡◌, ◌++◌, ◌∙◌, ◌||◌, ◌⊎◌, true, List, ℕ, ◌≤◌, Option, Result, Some, None, Ok, Err, Bor, refl, sym, ap, subst}
 use Rattle.std.specs.Prelude.{slice_range}
-use Rattle.aho_base.specs.declared.error.stream.StreamError.{StreamError}
-use Rattle.aho_base.specs.Occurrence.{Occurrence}
-use Rattle.aho_base.specs.Patterns.{Patterns}
+use Rattle.aho_core.specs.declared.error.stream.StreamError.{StreamError}
+use Rattle.aho_core.specs.Occurrence.{Occurrence}
+use Rattle.aho_core.specs.Patterns.{Patterns}
 use Rattle.aho_devices.specs.Counts.{counted}
 use Rattle.aho_devices.specs.declared.device.Source.{Ghosts as SourceGhosts}
-use Rattle.aho_search.specs.declared.automaton.Automaton.{Ghosts}
+use Rattle.aho_automaton.specs.declared.automaton.Automaton.{Ghosts}
 use Rattle.aho_stream.specs.Chunks.{Fills, FillsNothing, Tells, ends_between, match_told, piece_of, tells_error, tells_limit, tells_read_fault}
 use Rattle.aho_stream.specs.Iterators.{Advanced, HasGiven, Lends, LendsThese, automaton_of, chunk_lent, lookups_of, told_lent}
 use Rattle.aho_stream.specs.declared.chunks.StreamChunk.{StreamChunk}

@@ -2,9 +2,9 @@
 use Rattle.std.proofs.Common.{◌≡◌, ◌≤◌, ◌++◌, ◌∙◌, Bool, true, ◌||◌, ap, refl, sym, subst, List, ℕ}
 use Rattle.std.specs.Prelude.{Option, Some, None, Result, Ok, Err}
 use Rattle.std.proofs.Math.Bool.{or-false}
-use Rattle.aho_base.specs.Patterns.{Patterns}
-use Rattle.aho_base.specs.Occurrence.{Occurrence}
-use Rattle.aho_base.specs.declared.error.stream.StreamError.{StreamError}
+use Rattle.aho_core.specs.Patterns.{Patterns}
+use Rattle.aho_core.specs.Occurrence.{Occurrence}
+use Rattle.aho_core.specs.declared.error.stream.StreamError.{StreamError}
 use Rattle.aho_devices.specs.Counts.{counted}
 use Rattle.aho_stream.specs.Chunks.{Advances, ReadsOn, Tells, ends_between, tells_limit, tells_read_fault}
 use Rattle.aho_stream.specs.Finds.{Finds}

@@ -1,4 +1,4 @@
-use Rattle.aho_base.specs.declared.search.Anchored.TheVariants.{No}
+use Rattle.aho_core.specs.declared.search.Anchored.TheVariants.{No}
 use Rattle.chromesquid.proofs.Built.{start_of, start_refused}
 use Rattle.chromesquid.proofs.Replaced.{begun_of, near_of, replaced_of}
 use Rattle.chromesquid.proofs.searcher.AhoCorasick.try_stream_replace_all.Goals as goal

@@ -1,4 +1,4 @@
-use Rattle.aho_base.specs.declared.search.Anchored.TheVariants.{No}
+use Rattle.aho_core.specs.declared.search.Anchored.TheVariants.{No}
 use Rattle.std.proofs.Common.{inl, inr}
 use Rattle.chromesquid.proofs.Built.{start_of, start_refused}
 use Rattle.chromesquid.proofs.Replaced.{run_of}

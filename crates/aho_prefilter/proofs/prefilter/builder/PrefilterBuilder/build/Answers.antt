@@ -1,6 +1,6 @@
 use Rattle.std.proofs.Common.{◌≡◌, sym, ap, ◌∙◌}
 use Rattle.std.specs.Prelude.{Some}
-use Rattle.aho_base.specs.Patterns.{Patterns}
+use Rattle.aho_core.specs.Patterns.{Patterns}
 use Rattle.aho_prefilter.specs.Inside.{search_for_few}
 use Rattle.aho_prefilter.specs.Prefilter.{held_for}
 use Rattle.aho_prefilter.specs.Taken.{HasTaken}

@@ -1,0 +1,58 @@
+-- Each way out of the loop answers, and each turn keeps its invariant.
+use Rattle.std.proofs.Common.{◌≤◌, ℕ, List, sym, ◌∙◌, arith}
+use Rattle.aho_core.specs.Patterns.{Patterns}
+use Rattle.aho_prefilter.specs.Candidate.{NoneStartsBefore}
+use Rattle.aho_prefilter.proofs.Skips.{NothingOccurs-answer}
+use Rattle.aho_automaton.proofs.Origins.{answer_from_origin}
+use Rattle.aho_automaton.proofs.Skipping.{carried_on, no_candidate, origin_of, whole_answers}
+use Rattle.aho_automaton.proofs.find.find_skipping.Goals as goal
+
+pub returns-in_default-into_option-clause-found : goal.returns-in_default-into_option-clause-found
+returns-in_default-into_option-clause-found g c p of =
+    let is = rw (c.skips.invariant.same_walk, c.skips.invariant.same_text) at c.candidate_in-candidate.ensures.candidate in
+    NothingOccurs-answer p (g.T.Text.bytes c.args.text.now) c.args.span.start c.args.span.end c.args.earliest
+    (no_candidate p (g.T.Text.bytes c.args.text.now) c.args.span.start c.args.span.end c.skips.at c.candidate_in-candidate.result (c.skips.invariant.carries p of) (is p of) (sym c.into_option.ensures.place ∙ c.in_default-into_option.is))
+
+pub returns-in-Answer-clause-found : goal.returns-in-Answer-clause-found
+returns-in-Answer-clause-found g c p of =
+    let is = rw (c.skips.invariant.same_walk, c.skips.invariant.same_text) at c.candidate_in-candidate.ensures.candidate in
+    let told = origin_of p (g.T.Text.bytes c.args.text.now) c.args.span.start c.args.span.end c.skips.at c.in-Some.origin c.candidate_in-candidate.result (c.skips.invariant.carries p of) (is p of) (sym c.into_option.ensures.place ∙ c.in-Some.is) in
+    let found = rw (c.skips.invariant.same_walk, c.skips.invariant.same_text) at c.in-Answer.ensures.found in
+    answer_from_origin p (g.T.Text.bytes c.args.text.now) c.args.span.start c.in-Some.origin c.args.span.end (omega (arith, told.0, c.skips.invariant.after_start)) c.args.earliest _ told.2 (found p of)
+
+pub returns-then-patience-eq0-clause-found : goal.returns-then-patience-eq0-clause-found
+returns-then-patience-eq0-clause-found g c p of =
+    let is = rw (c.skips.invariant.same_walk, c.skips.invariant.same_text) at c.candidate_in-candidate.ensures.candidate in
+    let told = origin_of p (g.T.Text.bytes c.args.text.now) c.args.span.start c.args.span.end c.skips.at c.in-Some.origin c.candidate_in-candidate.result (c.skips.invariant.carries p of) (is p of) (sym c.into_option.ensures.place ∙ c.in-Some.is) in
+    let found = rw (c.skips.invariant.same_walk, c.skips.invariant.same_text) at c.find_to_end.ensures.found in
+    answer_from_origin p (g.T.Text.bytes c.args.text.now) c.args.span.start c.in-Some.origin c.args.span.end (omega (arith, told.0, c.skips.invariant.after_start)) c.args.earliest _ told.2 (found p of)
+
+pub skips-preserved : goal.skips-preserved
+skips-preserved g c =
+    let bytes : List ℕ = g.T.Text.bytes c.args.text.now in
+    let is = rw (c.skips.invariant.same_walk, c.skips.invariant.same_text) at c.candidate_in-candidate.ensures.candidate in
+    let told : (p : Patterns) → g.W.Of.Automaton.is_of (g.W.Walk.of c.args.walk.now) p → (c.skips.at ≤ c.in-Some.origin) × (c.in-Some.origin ≤ c.args.span.end) × NoneStartsBefore p bytes c.args.span.start c.args.span.end c.in-Some.origin =
+    λ p of. origin_of p bytes c.args.span.start c.args.span.end c.skips.at c.in-Some.origin c.candidate_in-candidate.result (c.skips.invariant.carries p of) (is p of) (sym c.into_option.ensures.place ∙ c.in-Some.is) in
+    let here = told c.requires.of.0 c.requires.of.1 in
+    let from : c.skips.at ≤ c.in-Some.origin = here.0 in
+    let waits = c.in-Waits.ensures.waits_within in
+    let goes = rw (c.skips.invariant.same_walk, c.skips.invariant.same_text) at c.in-Waits.ensures.waits_for in
+    record {
+      same_walk = c.find_from.ensures.same_walk ∙ c.skips.invariant.same_walk;
+      same_text = c.find_from.ensures.same_text ∙ c.skips.invariant.same_text;
+      after_start = omega (arith, waits.0, c.skips.invariant.after_start);
+      before_end = omega (arith, waits.1);
+      unread = omega (arith, waits.2);
+      forward = omega (arith, c.find_from.ensures.forward, c.skips.invariant.forward);
+      paid = omega (arith, c.find_from.ensures.two_a_byte, c.skips.invariant.paid, c.skips.invariant.reads_grow, c.find_from.ensures.reads_grow);
+      once = omega (arith, c.find_from.ensures.once, c.skips.invariant.once, c.skips.invariant.unread, c.skips.invariant.after_start, c.find_from.ensures.forward, waits.2, waits.0);
+      reads_grow = omega (arith, c.skips.invariant.reads_grow, c.find_from.ensures.reads_grow);
+      grows = omega (arith, c.find_from.ensures.grows, c.skips.invariant.grows);
+      carries = λ p of. carried_on p bytes c.args.span.start c.in-Some.origin c.args.span.end c.in-Waits.place (omega (arith, c.skips.invariant.after_start)) (told p of).2 (goes p of);
+    }
+
+pub returns-then-not-earliest-clause-found : goal.returns-then-not-earliest-clause-found
+returns-then-not-earliest-clause-found g c p of =
+    let is = rw (c.skips.invariant.same_walk, c.skips.invariant.same_text) at c.candidate_in-candidate.ensures.candidate in
+    whole_answers p (g.T.Text.bytes c.args.text.now) c.args.span.start c.args.span.end c.skips.at c.args.earliest _ c.if-not-earliest.true (omega (arith, c.skips.invariant.after_start)) (c.skips.invariant.carries p of)
+    (rw c.in-Match.is at (is p of))

@@ -1,0 +1,10 @@
+//! Automata with their laws, and the search that every automaton has.
+#![tactic(auto)]
+
+pub mod automaton;
+pub mod find;
+pub mod iter;
+pub mod overlapping;
+pub mod patience;
+pub mod replace;
+pub mod walk;
