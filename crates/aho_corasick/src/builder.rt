@@ -13,8 +13,8 @@ use aho_core::search::MatchKind;
 use std::alloc::Global;
 use std::marker::Model;
 
-/// How an automaton is built: the match kind, the case rule, the limits, whether a prefilter may be held, and a setting that
-/// is kept for later layouts.
+/// How an automaton is built: the match kind, the case rule, the limits, whether a prefilter may be held, and down to which
+/// depth states have dense rows.
 #[derive(Clone, Drop)]
 pub struct Builder {
     settings: Settings,
