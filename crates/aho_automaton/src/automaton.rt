@@ -98,7 +98,7 @@ pub trait Automaton {
     /// The search of the prefilter that is held.
     ghost prefilter: { Self → Option Searcher };
 
-    /// Whether searches of streams skip by the prefilter that is held. None does unless the automaton says so.
+    /// Whether searches of streams skip by the prefilter that is held. They do not unless the automaton says so.
     ghost skips_streams: { Self → Bool } = { λ _. false };
 
     /// The state in which a search begins.
@@ -179,10 +179,7 @@ pub trait Automaton {
     /// none elsewhere.
     fn stream_prefilter(&self) -> Option<&Prefilter>
         ensures prefilter { option_map (λ held. held.now) result
-            ≡ if skips_streams self.now then prefilter self.now else None }
-    {
-        None
-    }
+            ≡ if skips_streams self.now then prefilter self.now else None };
 
     /// How many patterns the state lists.
     fn match_len(&self, sid: StateID) -> usize

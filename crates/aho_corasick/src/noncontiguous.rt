@@ -255,6 +255,11 @@ impl Automaton for NFA {
         self.prefilter.as_ref()
     }
 
+    /// None: a stream walks each byte.
+    fn stream_prefilter(&self) -> Option<&Prefilter> {
+        None
+    }
+
     fn match_len(&self, sid: StateID) -> usize {
         self.table.match_len(sid)
     }

@@ -321,6 +321,32 @@ fn each_byte_of_a_stream_is_stepped_once(rt: HostRuntime) -> Result<(), Fail> {
     is_stepped_once(&rt, rt.alloc(), false)
 }
 
+/// Whether the first bytes of a stream are held back up to its second read, which fails.
+fn are_held_back<A: Automaton>(
+    rt: &impl Abort,
+    alloc: Global,
+    automaton: &A,
+    given: &[u8],
+    wanted: bool,
+) -> Result<(), Fail>
+    requires of { (p : Patterns) × A.is_of automaton.now p }
+{
+    let turns = [Turn::Move(64), Turn::Fail];
+    let mut source = ScriptedSource::new(given, &turns);
+    let mut chunks = StreamChunkIter::new(alloc, automaton, &mut source)?;
+    let failed = matches!(chunks.advance(), Some(Err(_)));
+    assert_same_in(rt, given, failed, wanted);
+    Ok(())
+}
+
+#[test]
+fn bytes_are_held_back_where_a_match_may_begin(rt: HostRuntime) -> Result<(), Fail> {
+    let nfa = nfa_of(&rt, rt.alloc(), &[b"abcdefgh"], MatchKind::Standard, false);
+    are_held_back(&rt, rt.alloc(), &nfa, b"zzz", false)?;
+    are_held_back(&rt, rt.alloc(), &nfa, b"zzza", true)?;
+    are_held_back(&rt, rt.alloc(), &nfa, b"zzzax", false)
+}
+
 #[test]
 fn an_empty_read_ends_a_stream(rt: HostRuntime) -> Result<(), Fail> {
     let nfa = nfa_of(&rt, rt.alloc(), WORDS, MatchKind::Standard, false);
