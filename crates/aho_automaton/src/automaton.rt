@@ -5,7 +5,7 @@
 //! a search off these lists. What it takes for that to be the right answer are the trait's laws: whoever implements the
 //! trait proves them once, and each search is proved from them alone.
 
-ghost use Rattle.std.specs.Prelude.{◌≡◌, ℕ, List, [], ◌∷◌, ◌++◌, Bool, true, false, Option, Result, IsOk, IfOk, IfErr, Ok, Err, None, Some, IfSome, ◌+◌, ◌-◌, ◌<◌, ◌≤◌, ◌^◌, ◌↔◌, IsTrue, length, slice_get, slice_index, ◌≢◌, ◌*◌, OnOk, alloc_error, string_bytes, vec_items};
+ghost use Rattle.std.specs.Prelude.{◌≡◌, if◌then◌else◌, ℕ, List, [], ◌∷◌, ◌++◌, Bool, true, false, Option, Result, IsOk, IfOk, IfErr, Ok, Err, None, Some, IfSome, ◌+◌, ◌-◌, ◌<◌, ◌≤◌, ◌^◌, ◌↔◌, IsTrue, length, slice_get, slice_index, ◌≢◌, ◌*◌, OnOk, alloc_error, string_bytes, vec_items};
 ghost use Rattle.std.specs.Iterator.{UpTo};
 ghost use Rattle.std.specs.Option.{option_map};
 ghost use Rattle.aho_core.specs.Answer.{IsAnswer};
@@ -98,6 +98,9 @@ pub trait Automaton {
     /// The search of the prefilter that is held.
     ghost prefilter: { Self → Option Searcher };
 
+    /// Whether searches of streams skip by the prefilter that is held. They do not unless the automaton says so.
+    ghost skips_streams: { Self → Bool } = { λ _. false };
+
     /// The state in which a search begins.
     ///
     /// # Errors
@@ -168,9 +171,15 @@ pub trait Automaton {
         ensures kind { result ≡ kind self.now };
 
     /// A prefilter of the patterns, where one is held: a quick search for a place where a match may start. Unanchored
-    /// searches skip by it.
+    /// searches in memory skip by it.
     fn prefilter(&self) -> Option<&Prefilter>
         ensures prefilter { option_map (λ held. held.now) result ≡ prefilter self.now };
+
+    /// The prefilter by which searches of streams skip: the one that is held where the automaton says that they skip, and
+    /// none elsewhere.
+    fn stream_prefilter(&self) -> Option<&Prefilter>
+        ensures prefilter { option_map (λ held. held.now) result
+            ≡ if skips_streams self.now then prefilter self.now else None };
 
     /// How many patterns the state lists.
     fn match_len(&self, sid: StateID) -> usize

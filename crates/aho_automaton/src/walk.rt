@@ -2,7 +2,7 @@
 //!
 //! A search holds a `Walk`, and never the automaton itself. So it can take no step that is not counted.
 
-ghost use Rattle.std.specs.Prelude.{◌≡◌, ℕ, List, [], ◌∷◌, ◌++◌, Some, ◌+◌, ◌<◌, ◌≤◌, ◌^◌, ◌↔◌, true, IsTrue, IfOk, length, slice_get, slice_index};
+ghost use Rattle.std.specs.Prelude.{◌≡◌, if◌then◌else◌, ℕ, List, [], ◌∷◌, ◌++◌, Some, None, ◌+◌, ◌<◌, ◌≤◌, ◌^◌, ◌↔◌, true, IsTrue, IfOk, length, slice_get, slice_index};
 ghost use Rattle.std.specs.Option.{option_map};
 ghost use Rattle.aho_core.specs.Patterns.{Patterns};
 ghost use Rattle.aho_core.specs.Steps.{GoesOn, IsPaid};
@@ -90,6 +90,11 @@ pub trait Walk {
         ensures prefilter { option_map (λ held. held.now) result
             ≡ Self.Of.prefilter (of self.now) };
 
+    /// The prefilter by which searches of streams skip.
+    fn stream_prefilter(&self) -> Option<&Prefilter>
+        ensures prefilter { option_map (λ held. held.now) result
+            ≡ if Self.Of.skips_streams (of self.now) then Self.Of.prefilter (of self.now) else None };
+
     /// A pattern that the state lists, by its place in the list.
     fn match_pattern(&self, sid: StateID, index: usize) -> PatternID
         requires valid { Self.Of.valid (of self.now) sid }
@@ -170,6 +175,10 @@ impl<'a, A: Automaton> Walk for Counted<'a, A> {
 
     fn prefilter(&self) -> Option<&Prefilter> {
         self.automaton.prefilter()
+    }
+
+    fn stream_prefilter(&self) -> Option<&Prefilter> {
+        self.automaton.stream_prefilter()
     }
 
     fn match_pattern(&self, sid: StateID, index: usize) -> PatternID {

@@ -49,7 +49,7 @@ pub struct NFA {
     min_pattern_len: usize,
     /// The greatest of the lengths, and 0 where there is no pattern.
     max_pattern_len: usize,
-    /// What unanchored searches skip by, if the builder was told to hold one and the patterns allow it.
+    /// What unanchored searches in memory skip by, if the builder was told to hold one and the patterns allow it.
     prefilter: Option<Prefilter>,
     ghost sound: { IsSound table.states },
     ghost starts: { AreStarts special table.states },
@@ -253,6 +253,11 @@ impl Automaton for NFA {
 
     fn prefilter(&self) -> Option<&Prefilter> {
         self.prefilter.as_ref()
+    }
+
+    /// None: a stream walks each byte.
+    fn stream_prefilter(&self) -> Option<&Prefilter> {
+        None
     }
 
     fn match_len(&self, sid: StateID) -> usize {

@@ -186,7 +186,7 @@ impl Hybrid {
 }
 
 impl Automaton for Hybrid {
-    ghost use Rattle.std.specs.Prelude.{ℕ, IfSome, nat_eq};
+    ghost use Rattle.std.specs.Prelude.{ℕ, IfSome, nat_eq, true};
     ghost use Rattle.aho_core.specs.Patterns.{Patterns};
     ghost use Rattle.aho_prefilter.specs.Prefilter.{IsPrefilterOf};
     ghost use Rattle.aho_hybrid.specs.Layout.{IsStateIn, IsHeldIn, depth_in, is_marked_in, is_special_in, lookups_in, next_in, list_in, start_in, memory_in};
@@ -224,6 +224,8 @@ impl Automaton for Hybrid {
     ghost memory = { λ h. memory_in h.rows h.pattern_lens.items h.prefilter };
 
     ghost prefilter = { λ h. h.prefilter };
+
+    ghost skips_streams = { λ _. true };
 
     fn start_state(&self, anchored: Anchored) -> Result<StateID, MatchError> {
         match anchored {
@@ -268,6 +270,10 @@ impl Automaton for Hybrid {
 
     fn prefilter(&self) -> Option<&Prefilter> {
         self.prefilter.as_ref()
+    }
+
+    fn stream_prefilter(&self) -> Option<&Prefilter> {
+        self.prefilter()
     }
 
     fn match_len(&self, sid: StateID) -> usize {

@@ -18,7 +18,7 @@ use Rattle.aho_devices.specs.Refusals.{IsFillRefusal}
 use Rattle.aho_automaton.proofs.Places.{moved_option}
 use Rattle.aho_automaton.specs.declared.automaton.Automaton.{Ghosts}
 use Rattle.aho_stream.specs.After.{IsAfter, is_settled, search_from, word_of}
-use Rattle.aho_stream.specs.Chunks.{Advances, AllTold, DiesAt, Fills, FillsNothing, ReadsOn, Tells, TellsEnd, TellsError, TellsFault, TellsNone, ends_between, tells_error}
+use Rattle.aho_stream.specs.Chunks.{Advances, AllTold, DiesAt, Fills, FillsNothing, NoneSettled, ReadsOn, Tells, TellsEnd, TellsError, TellsFault, TellsNone, ends_between, tells_error}
 use Rattle.aho_stream.specs.Refills.{Refills, is_limit}
 use Rattle.aho_stream.specs.declared.progress.StreamProgress.{StreamProgress}
 use Rattle.aho_stream.specs.declared.progress.StreamPiece.{StreamPiece}
@@ -54,16 +54,16 @@ module _ {S : Type 0} (A : Ghosts S) (automaton : S) where
     pub fills : Fills A automaton lookups s s' reads.bytes failed
 
   -- nothing was read
-  pub read_none : (lookups lookups' : ℕ) (s s' : StreamProgress) (before : Option (List ℕ)) → s'.ended ≡ s.ended
+  pub read_none : (lookups lookups' : ℕ) (s s' : StreamProgress) (before : Option (List ℕ)) → s'.buffer ≡ s.buffer → s'.ended ≡ s.ended
       → ((p : Patterns) (given : List ℕ) → IsOf p → After p lookups s given → After p lookups' s' given) → ReadsPromptly lookups lookups' s s' before before
-  read_none lookups lookups' s s' before ended keeps = record {
+  read_none lookups lookups' s s' before buffer ended keeps = record {
     reads = record {
       bytes = [];
       read = Consumes-nil before;
       closed = λ e. refl;
       is_after = λ p given of a. subst (After p lookups' s') (sym (append-nil given)) (keeps p given of a);
     };
-    prompt = inl (refl, ended, refl);
+    prompt = inl (refl, buffer, ended, refl);
   }
 
   -- a fill stays the last one where the buffer stays
@@ -74,8 +74,7 @@ module _ {S : Type 0} (A : Ghosts S) (automaton : S) where
     are_all = f.are_all;
     told = f.told;
     one_fill = subst (λ (b : Buffered). length b.bytes ≡ min b.least (s.read + length f.early) + length f.late) (sym buffer) f.one_fill;
-    enough = subst (λ (e : Bool). (e || false) ≡ true → (f.late ≡ []) ⊎ (length s'.buffer.bytes < s'.buffer.least)) (sym ended)
-        (subst (λ (b : Buffered). (t.ended || false) ≡ true → (f.late ≡ []) ⊎ (length b.bytes < b.least)) (sym buffer) f.enough);
+    one_read = subst (λ (e : Bool). (e || false) ≡ true → f.late ≡ []) (sym ended) f.one_read;
   }
 
   -- nothing more was read
@@ -88,7 +87,7 @@ module _ {S : Type 0} (A : Ghosts S) (automaton : S) where
       closed = r.reads.closed;
       is_after = λ p given of a. keeps p (given ++ r.reads.bytes) of (r.reads.is_after p given of a);
     };
-    prompt = elim r.prompt [ inl nothing ↦ inl (nothing.0, ended ∙ nothing.1, nothing.2) | inr fills ↦ inr (fills_same lookups s t s' r.reads.bytes buffer ended fills) ];
+    prompt = elim r.prompt [ inl nothing ↦ inl (nothing.0, buffer ∙ nothing.1, ended ∙ nothing.2, nothing.3) | inr fills ↦ inr (fills_same lookups s t s' r.reads.bytes buffer ended fills) ];
   }
 
   -- how many bytes a roll keeps of those that were given
@@ -104,11 +103,11 @@ module _ {S : Type 0} (A : Ghosts S) (automaton : S) where
 
   -- these bytes were read too, once all was told that was settled by those before
   pub read_more : (lookups mid lookups' : ℕ) (s t s' : StreamProgress) (before between after : Option (List ℕ)) (failed : Bool) (refills : Refills t s' between after)
-      → ((s'.ended || failed) ≡ true → (s'.read ≡ t.read) ⊎ (length s'.buffer.bytes < s'.buffer.least))
+      → ((s'.ended || failed) ≡ true → s'.read ≡ t.read)
       → s.ended ≡ false → t.reported ≡ s.reported → t.from ≡ s.from → ((p : Patterns) × (given : List ℕ) × IsOf p × After p lookups s given)
       → ((p : Patterns) (given : List ℕ) → IsOf p → After p mid t given → AllTold A automaton p t given)
       → ((p : Patterns) (given : List ℕ) → IsOf p → After p mid t given → After p lookups' s' (given ++ refills.bytes)) → ReadsPromptly lookups mid s t before between → ReadsFilling lookups lookups' s s' before after failed
-  read_more lookups mid lookups' s t s' before between after failed refills enough going reported from some all keeps r = record {
+  read_more lookups mid lookups' s t s' before between after failed refills one_read going reported from some all keeps r = record {
     reads = record {
       bytes = r.reads.bytes ++ refills.bytes;
       read = Consumes-trans before between after r.reads.bytes refills.bytes r.reads.read refills.given;
@@ -124,8 +123,7 @@ module _ {S : Type 0} (A : Ghosts S) (automaton : S) where
           let told = all p (given ++ r.reads.bytes) of now in
           let bytes = given ++ r.reads.bytes in
           record {
-            none = λ standard. subst (λ (x : ℕ). IsAnswer p (search_from x bytes) None) from (told.none standard);
-            alive = λ leftmost place died. told.alive leftmost place (subst (λ (x : ℕ). DiesAt p bytes x place) (sym from) died);
+            settled = subst (NoneSettled p bytes) from told.settled;
             near = omega (arith, told.near, reported, a.least, now.least);
             start = let (sid, is_held, is_start) = told.start in (
               sid,
@@ -137,7 +135,7 @@ module _ {S : Type 0} (A : Ghosts S) (automaton : S) where
           let (p, given, of, a) = some in
           let now = r.reads.is_after p given of a in
           omega (arith, refills.kept, kept_of p mid t (given ++ r.reads.bytes) now, refills.least, now.count, a.count, length-append given r.reads.bytes);
-      enough = λ last. elim (enough last) [ inl same ↦ inl (no_more refills.bytes t.read s'.read refills.count same) | inr few ↦ inr few ];
+      one_read = λ last. no_more refills.bytes t.read s'.read refills.count (one_read last);
     };
   }
 
@@ -190,8 +188,10 @@ pub all_told : {S : Type 0} (A : Ghosts S) (automaton : S) (p : Patterns) {kind 
     → (lookups : ℕ) (s : StreamProgress) (given : List ℕ) → IsAfter A automaton p lookups s given → is_settled kind (dead s.sid) s.in_hand ≡ false → s.walked ≡ s.read → s.read ≤ s.reported + s.buffer.least
     → ((is_none s.in_hand && A.starts automaton s.sid) ≡ true → s.read ≤ s.reported) → AllTold A automaton p s given
 all_told A automaton p {kind} {lengths} {list} {dead} laws alike lookups s given a going walked near start = record {
-  none = λ standard. answer_none (unsettled_none kind (dead s.sid) s.in_hand going (laws.kind_is ∙ standard));
-  alive = λ leftmost. lives laws given s.from s.origin s.walked s.sid a.from_origin a.apart leftmost a.held_is s.in_hand a.origin_walked going a.best_is all;
+  settled = record {
+    none = λ standard. answer_none (unsettled_none kind (dead s.sid) s.in_hand going (laws.kind_is ∙ standard));
+    alive = λ leftmost. lives laws given s.from s.origin s.walked s.sid a.from_origin a.apart leftmost a.held_is s.in_hand a.origin_walked going a.best_is all;
+  };
   near = omega (arith, near, a.count);
   start = (
     s.sid,

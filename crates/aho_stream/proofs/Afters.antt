@@ -82,6 +82,7 @@ module _ {S : Type 0} (A : Ghosts S) (automaton : S) (p : Patterns) where
     position = omega arith;
     apart = λ more m o. omega arith;
     once = λ standard. omega arith;
+    each = λ plain. omega arith;
     paid = omega (arith, none, shallow);
     is_state = is_state;
     held_is = subst (λ (w : List ℕ). held No w start) (sym (no_part [] 0)) is_held;
@@ -116,6 +117,7 @@ module _ {S : Type 0} (A : Ghosts S) (automaton : S) (p : Patterns) where
     position = a.position;
     apart = a.apart;
     once = a.once;
+    each = a.each;
     paid = a.paid;
     is_state = a.is_state;
     held_is = a.held_is;
@@ -168,6 +170,7 @@ module _ {S : Type 0} (A : Ghosts S) (automaton : S) (p : Patterns) where
         position = omega (arith, a.position);
         apart = a.apart;
         once = λ standard. omega (arith, a.once standard);
+        each = λ plain. omega (arith, a.each plain);
         paid = omega (arith, paid, a.paid);
         is_state = is_state;
         held_is = subst (λ (w : List ℕ). held No w walked.sid) (sym more) walks.held_is;
@@ -193,13 +196,14 @@ module _ {S : Type 0} (A : Ghosts S) (automaton : S) (p : Patterns) where
             λ standard. omega (arith, ends standard, size, ordered),
           )
 
-  -- bytes were passed over in which nothing begins, in a start with nothing in hand. What begins there would end in what was read
+  -- bytes were passed over in which nothing begins, in a start with nothing in hand, where streams skip. What begins there would end
+  -- in what was read
   pub after_passed : {kind : MatchKind} {list : ℕ → List ℕ} {dead starts : ℕ → Bool} → Reads p kind lengths held list dead starts
-      → (lookups : ℕ) (s : StreamProgress) (given : List ℕ) (count patience : ℕ) → After lookups s given → s.refused ≡ false → s.in_hand ≡ None → starts s.sid ≡ true
+      → (lookups : ℕ) (s : StreamProgress) (given : List ℕ) (count patience : ℕ) → After lookups s given → s.refused ≡ false → A.skips_streams automaton ≡ true → s.in_hand ≡ None → starts s.sid ≡ true
       → NoneStartsBefore p (slice_range given s.walked s.read) 0 (length (slice_range given s.walked s.read)) count
       → count ≤ (length (slice_range given s.walked s.read) + 1) - s.buffer.least
       → After lookups (record s { origin = s.walked + count; walked = s.walked + count; patience = patience }) given
-  after_passed laws lookups s given count patience a unrefused free is_start none few = record {
+  after_passed laws lookups s given count patience a unrefused skips free is_start none few = record {
     no_empty = a.no_empty;
     sized = a.sized;
     start_is = a.start_is;
@@ -231,6 +235,7 @@ module _ {S : Type 0} (A : Ghosts S) (automaton : S) (p : Patterns) where
         (λ n o. begins_later more n o)
         (record { held_now = held_here; part = None; is = refl; part_best = none_here });
     once = λ standard. omega (arith, a.once standard);
+    each = λ plain. cc;
     paid = a.paid;
     is_state = a.is_state;
     held_is = subst (λ (w : List ℕ). held No w s.sid) (sym (no_part given (s.walked + count))) (laws.start_again (word_of s given) s.sid a.held_is is_start);
@@ -284,6 +289,7 @@ module _ {S : Type 0} (A : Ghosts S) (automaton : S) (p : Patterns) where
     position = a.position;
     apart = a.apart;
     once = a.once;
+    each = a.each;
     paid = a.paid;
     is_state = a.is_state;
     held_is = a.held_is;
@@ -323,6 +329,7 @@ module _ {S : Type 0} (A : Ghosts S) (automaton : S) (p : Patterns) where
         position = omega (arith, a.position, i.1, some, more_paid (longest lengths) s.from (s.origin + m.end) (omega (arith, some, a.from_origin)));
         apart = λ more n o. o.after_start;
         once = λ standard. omega (arith, a.once standard, i.0, i.2 standard);
+        each = λ plain. omega (arith, a.each plain, i.0);
         paid = omega (arith, a.paid, a.start_shallow);
         is_state = a.start_is;
         held_is = subst (λ (w : List ℕ). held No w s.start) (sym (no_part given (s.origin + m.end))) a.start_held;
@@ -362,6 +369,7 @@ module _ {S : Type 0} (A : Ghosts S) (automaton : S) (p : Patterns) where
         position = a.position;
         apart = λ more. subst (λ (bytes : List ℕ). NoneStartsBefore p bytes s.from (length bytes) s.origin) (sym (append_assoc given refills.bytes more)) (a.apart (refills.bytes ++ more));
         once = a.once;
+        each = a.each;
         paid = a.paid;
         is_state = a.is_state;
         held_is = subst (λ (w : List ℕ). held No w s.sid) (sym same) a.held_is;

@@ -159,6 +159,8 @@ pub record IsAfter {S : Type 0} (A : Ghosts S) (automaton : S) (p : Patterns) (l
   -- most; two look-ups for each pay for all
   pub position : s.position ≤ s.walked + longest (A.lengths automaton) * s.from
   pub once : p.kind ≡ Standard → s.position ≤ s.walked
+  -- where streams over the automaton do not skip, each byte was walked
+  pub each : A.skips_streams automaton ≡ false → s.walked ≤ s.position
   pub paid : lookups + A.depth automaton s.sid ≤ 2 * s.position
   -- between the last match and where the search under way began nothing begins
   pub apart : NothingBegins p given s.from s.origin

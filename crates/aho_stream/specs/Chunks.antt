@@ -117,30 +117,39 @@ tells_error None = false
 tells_error (Some (Ok told)) = false
 tells_error (Some (Err error)) = true
 
--- what was settled by these bytes was told, of a search that has come so far: under Standard no match is left, under a leftmost
--- kind the state has died nowhere since the last match. All but the last bytes were told, as many as the longest pattern has at
--- most, and all of them where no match is left and the state that is held is a start
+-- no match is settled behind a place: under Standard none is left, under a leftmost kind the state has died nowhere since
+pub record NoneSettled (p : Patterns) (given : List ℕ) (from : ℕ) : Type 0 where
+  pub none : p.kind ≡ Standard → IsAnswer p (search_from from given) None
+  pub alive : p.kind ≢ Standard → (place : ℕ) → DiesAt p given from place → ⊥
+
+-- what was settled by these bytes was told, of a search that has come so far: no match is settled that was not told. All but the
+-- last bytes were told, as many as the longest pattern has at most, and all of them where no match is left and the state that is
+-- held is a start
 pub record AllTold {S : Type 0} (A : Ghosts S) (automaton : S) (p : Patterns) (s : StreamProgress) (given : List ℕ) : Type 0 where
-  pub none : p.kind ≡ Standard → IsAnswer p (search_from s.from given) None
-  pub alive : p.kind ≢ Standard → (place : ℕ) → DiesAt p given s.from place → ⊥
+  pub settled : NoneSettled p given s.from
   pub near : length given ≤ s.reported + s.buffer.least
   pub start : (sid : ℕ) × A.held automaton p No (slice_range given s.from (length given)) sid
       × (A.starts automaton sid ≡ true → IsAnswer p (search_from s.from given) None → s.reported ≡ length given)
 
--- the source was asked for more: before the last fill of the buffer all that was settled had been told. The fill gave the late
--- bytes, and the buffer holds them behind the last ones of those before. Once enough bytes are held no more are read: where a
--- read was empty or failed, it was the first of the fill, or fewer bytes are held than a roll keeps
-pub record Fills {S : Type 0} (A : Ghosts S) (automaton : S) (lookups : ℕ) (s s' : StreamProgress) (bytes : List ℕ) (failed : Bool) : Type 0 where
+-- the source was asked for more: before the last fill of the buffer this was so of the early bytes. The fill gave the late bytes,
+-- and the buffer holds them behind the last ones of those before. It is one read: where that was empty or failed, it gave none
+pub record EndsInFill (IsTold : List ℕ → Type 0) (s s' : StreamProgress) (bytes : List ℕ) (failed : Bool) : Type 0 where
   pub early : List ℕ
   pub late : List ℕ
   pub are_all : bytes ≡ early ++ late
-  pub told : (p : Patterns) (given : List ℕ) → A.is_of automaton p → IsAfter A automaton p lookups s given → AllTold A automaton p s (given ++ early)
+  pub told : IsTold early
   pub one_fill : length s'.buffer.bytes ≡ min s'.buffer.least (s.read + length early) + length late
-  pub enough : (s'.ended || failed) ≡ true → (late ≡ []) ⊎ (length s'.buffer.bytes < s'.buffer.least)
+  pub one_read : (s'.ended || failed) ≡ true → late ≡ []
 
--- a call asked the source for nothing: it read no byte, saw no end and answers no error
+-- all that was settled had been told by then
+abbrev pub Fills : {S : Type 0} → Ghosts S → S → ℕ → StreamProgress → StreamProgress → List ℕ → Bool → Type 0
+Fills A automaton lookups s s' bytes failed =
+    EndsInFill (λ early. (p : Patterns) (given : List ℕ) → A.is_of automaton p → IsAfter A automaton p lookups s given
+    → AllTold A automaton p s (given ++ early)) s s' bytes failed
+
+-- a call asked the source for nothing: it read no byte, left the buffer as it was, saw no end and answers no error
 abbrev pub FillsNothing : StreamProgress → StreamProgress → List ℕ → Bool → Type 0
-FillsNothing s s' bytes failed = (bytes ≡ []) × (s'.ended ≡ s.ended) × (failed ≡ false)
+FillsNothing s s' bytes failed = (bytes ≡ []) × (s'.buffer ≡ s.buffer) × (s'.ended ≡ s.ended) × (failed ≡ false)
 
 -- a call of a search by this automaton, from some look-ups, progress and bytes that the source has left to later ones
 module _ {S : Type 0} (A : Ghosts S) (automaton : S) (lookups lookups' : ℕ) (s s' : StreamProgress) (before after : Option (List ℕ)) where

@@ -16,10 +16,6 @@ is_limit (Err WriteZero) = false
 is_limit (Err Memory) = false
 is_limit (Err PositionLimit) = true
 
--- nothing was read, or fewer bytes are held than a roll keeps
-abbrev pub GainsFew : StreamProgress → StreamProgress → Type 0
-GainsFew s s' = (s'.read ≡ s.read) ⊎ (length s'.buffer.bytes < s'.buffer.least)
-
 -- bytes were read behind those that are kept, and the patience is renewed; nothing else moved
 pub record Refills (s s' : StreamProgress) (before after : Option (List ℕ)) : Type 0 where
   pub bytes : List ℕ

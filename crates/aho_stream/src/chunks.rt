@@ -146,8 +146,10 @@ impl<'a, 'r, A: Automaton, R: Source> StreamChunkIter<'a, 'r, A, R> {
     /// match. None where the stream has ended, and after the position limit was answered.
     ///
     /// A match is given once no byte that follows can change it: under `Standard` when it is seen, under the leftmost kinds
-    /// when the state is dead or the end of the stream was seen. The source is asked for more only once all that is known so
-    /// far was given: each settled match, and all bytes before the place where the next match may begin.
+    /// when the state is dead or the end of the stream was seen. The source is asked for more only once each such match was
+    /// given, and the bytes before it. Of the bytes behind the last match all were given by then where the state is a start and
+    /// no match is in hand, else all but the last ones, as many as the longest pattern has at most: of "zzza" nothing is
+    /// given with the pattern "abcdefgh", until it is known that no match begins in its "a".
     ///
     /// # Errors
     ///
@@ -285,7 +287,7 @@ impl<'a, 'r, A: Automaton, R: Source> StreamChunkIter<'a, 'r, A, R> {
 
     /// How many bytes the automaton walked, each time that it walked them: under `Standard` each byte that was given once at
     /// most, under the leftmost kinds once and as many times again as the longest pattern has bytes. Bytes that were skipped
-    /// by a prefilter were not walked.
+    /// by a prefilter were not walked. Where streams over the automaton do not skip, each byte that was told was walked.
     pub fn position(&self) -> u128
         ensures position { result ≡ self.now.progress.position }
         ensures bounded { (p : Patterns) (given : List ℕ)
@@ -294,6 +296,10 @@ impl<'a, 'r, A: Automaton, R: Source> StreamChunkIter<'a, 'r, A, R> {
         ensures once { (p : Patterns) (given : List ℕ) → p.kind ≡ Standard
             → HasGiven A.Automaton self.now p given
             → result ≤ length given }
+        ensures each { (p : Patterns) (given : List ℕ)
+            → A.skips_streams (automaton_of self.now) ≡ false
+            → HasGiven A.Automaton self.now p given
+            → self.now.progress.reported ≤ result }
     {
         self.progress.position
     }

@@ -19,8 +19,8 @@ use std::alloc::Global;
 
 /// The matches of a stream, one after another. Their places count from the first byte that the source gave.
 ///
-/// A fault is an item too, and the next one goes on after it. So a source that fails for ever makes the iterator
-/// endless: use it through a limit on the items.
+/// The source is asked for more only where no match that is settled is left to give. A fault is an item too, and the next
+/// one goes on after it. So a source that fails for ever makes the iterator endless: use it through a limit on the items.
 #[derive(Drop)]
 pub struct StreamFindIter<'a, 'r, A, R> {
     chunks: StreamChunkIter<'a, 'r, A, R>,

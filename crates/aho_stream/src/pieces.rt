@@ -36,12 +36,12 @@ fn walk_further<W: Walk>(walk: &mut W, progress: &mut StreamProgress, may_wait: 
     progress.in_hand = walked.found;
 }
 
-/// Whether a walk may wait for a candidate: a prefilter is held, there is patience left, and what is left of the bytes read is
-/// as long as a match may be.
+/// Whether a walk may wait for a candidate: the automaton has a prefilter for streams, there is patience left, and what is left
+/// of the bytes read is as long as a match may be.
 fn may_wait<W: Walk>(walk: &W, progress: &StreamProgress) -> bool
     requires walked { progress.now.walked ≤ progress.now.read }
 {
-    if progress.patience == 0 || walk.prefilter().is_none() {
+    if progress.patience == 0 || walk.stream_prefilter().is_none() {
         return false;
     }
     progress.read - progress.walked >= progress.buffer.min_buffer_len() as u64

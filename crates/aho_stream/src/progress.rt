@@ -6,7 +6,7 @@ ghost use Rattle.aho_devices.specs.Buffer.{saw_end};
 ghost use Rattle.aho_devices.specs.Refusals.{is_read_fault, IsFillRefusal};
 ghost use Rattle.aho_stream.specs.After.{EndsIn, ForGiven, fresh, given_on, passed_on, reported_to};
 ghost use Rattle.aho_stream.specs.Chunks.{match_told};
-ghost use Rattle.aho_stream.specs.Refills.{GainsFew, Refills, is_limit};
+ghost use Rattle.aho_stream.specs.Refills.{Refills, is_limit};
 ghost use Rattle.aho_stream.specs.declared.progress.StreamPiece.TheVariants.{NonMatch};
 
 use aho_automaton::patience::{PATIENCE, patience_after};
@@ -176,7 +176,7 @@ impl StreamProgress {
         ensures refills { Refills self.old self.new (R.remaining source.old) (R.remaining source.new) }
         ensures more { result ≡ Ok tt → (self.old.read < self.new.read) ⊎ (self.new.ended ≡ true) }
         ensures open { OnErr result (self.new.ended ≡ false) }
-        ensures enough { (self.new.ended || is_err result) ≡ true → GainsFew self.old self.new }
+        ensures one_read { (self.new.ended || is_err result) ≡ true → self.new.read ≡ self.old.read }
         ensures ended { R.empty_reads source.new
             ≡ counted self.new.ended (R.empty_reads source.old) }
         ensures read_failed { R.failures source.new

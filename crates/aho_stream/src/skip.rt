@@ -46,7 +46,7 @@ pub(crate) fn is_at_beginning<W: Walk>(walk: &W, progress: &StreamProgress) -> b
 }
 
 /// Passes over bytes that were read and not walked, up to the next place at which a match may begin, where the search is as
-/// at its beginning, a prefilter is held and there is patience left.
+/// at its beginning, the automaton has a prefilter for streams and there is patience left.
 #[inline(always)]
 pub(crate) fn skip<W: Walk>(walk: &W, progress: &mut StreamProgress)
     requires after { IsUnderWay W.Of.Automaton (W.of walk.now) (W.lookups walk.now) progress.old }
@@ -56,7 +56,7 @@ pub(crate) fn skip<W: Walk>(walk: &W, progress: &mut StreamProgress)
     ensures others { OnlyPasses progress.old progress.new }
     ensures on { progress.old.walked ≤ progress.new.walked }
 {
-    let Some(prefilter) = walk.prefilter() else {
+    let Some(prefilter) = walk.stream_prefilter() else {
         return;
     };
     if progress.patience == 0 {

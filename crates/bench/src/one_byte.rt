@@ -117,6 +117,10 @@ impl Automaton for OneByte {
         None
     }
 
+    fn stream_prefilter(&self) -> Option<&Prefilter> {
+        None
+    }
+
     fn match_len(&self, sid: StateID) -> usize {
         sid.as_usize()
     }

@@ -228,6 +228,10 @@ impl Automaton for Relinked {
         None
     }
 
+    fn stream_prefilter(&self) -> Option<&Prefilter> {
+        None
+    }
+
     fn match_len(&self, sid: StateID) -> usize {
         self.table.match_len(sid)
     }

@@ -10,7 +10,8 @@ use std::cell::Cell;
 
 /// Another automaton, with counts of the calls of `step` and of `next_state`.
 ///
-/// It passes every call on, and what it wraps decides each answer.
+/// It passes every call on, and what it wraps decides each answer. But it has no prefilter for streams, so each byte of a
+/// stream is a step.
 #[derive(Drop)]
 pub struct Tally<A> {
     automaton: A,
@@ -116,6 +117,10 @@ impl<A: Automaton> Automaton for Tally<A> {
 
     fn prefilter(&self) -> Option<&Prefilter> {
         self.automaton.prefilter()
+    }
+
+    fn stream_prefilter(&self) -> Option<&Prefilter> {
+        None
     }
 
     fn match_len(&self, sid: StateID) -> usize {

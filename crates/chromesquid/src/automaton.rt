@@ -9,6 +9,7 @@ use aho_core::search::{Anchored, MatchKind, PatternID, StateID, Work};
 use aho_prefilter::prefilter::Prefilter;
 
 impl Automaton for AhoCorasick {
+    ghost use Rattle.std.specs.Prelude.{true};
     ghost use Rattle.chromesquid.specs.Engine.{alike_by, dead_shallow_by, laws_by, plain_by, prefilters_by, starts_shallow_by, unmarked_by};
     ghost use Rattle.chromesquid.specs.Searcher.{IsBuiltFrom, start_by};
 
@@ -44,6 +45,8 @@ impl Automaton for AhoCorasick {
     ghost memory = { λ s. ⟦<Engine as Automaton>⟧.memory s.automaton };
 
     ghost prefilter = { λ s. ⟦<Engine as Automaton>⟧.prefilter s.automaton };
+
+    ghost skips_streams = { λ _. true };
 
     fn start_state(&self, anchored: Anchored) -> Result<StateID, MatchError> {
         if is_allowed(self.start_kind(), anchored) {
@@ -87,6 +90,10 @@ impl Automaton for AhoCorasick {
 
     fn prefilter(&self) -> Option<&Prefilter> {
         self.automaton().prefilter()
+    }
+
+    fn stream_prefilter(&self) -> Option<&Prefilter> {
+        self.automaton().stream_prefilter()
     }
 
     fn match_len(&self, sid: StateID) -> usize {

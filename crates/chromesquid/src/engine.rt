@@ -149,6 +149,7 @@ fn found_by<A: Automaton>(automaton: &A, input: &Input) -> Result<Option<Match>,
 }
 
 impl Automaton for Engine {
+    ghost use Rattle.std.specs.Prelude.{true};
     ghost use Rattle.chromesquid.specs.Engine.{IsEngineOf, IsHeldBy, IsStateOf, alike_by, dead_by, dead_shallow_by, depth_by, kind_by, laws_by, lengths_by, list_by, lookups_by, marked_by, memory_by, next_by, plain_by, prefilter_by, prefilters_by, special_by, start_by, starts_by, starts_shallow_by, unmarked_by};
 
     ghost is_of = { λ e p. IsEngineOf e p };
@@ -182,6 +183,8 @@ impl Automaton for Engine {
     ghost memory = { λ e. memory_by e };
 
     ghost prefilter = { λ e. prefilter_by e };
+
+    ghost skips_streams = { λ _. true };
 
     fn start_state(&self, anchored: Anchored) -> Result<StateID, MatchError> {
         match self {
@@ -254,6 +257,10 @@ impl Automaton for Engine {
             Engine::Noncontiguous(nfa) => nfa.prefilter(),
             Engine::Rows(hybrid) => hybrid.prefilter(),
         }
+    }
+
+    fn stream_prefilter(&self) -> Option<&Prefilter> {
+        self.prefilter()
     }
 
     fn match_len(&self, sid: StateID) -> usize {

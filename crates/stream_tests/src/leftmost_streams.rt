@@ -3,13 +3,14 @@
 ghost use Rattle.aho_core.specs.Patterns.{Patterns};
 
 use crate::asserts::{assert_in, assert_same, assert_same_in};
-use crate::automata::{nfa_holding, nfa_of, state_after};
+use crate::automata::{nfa_of, state_after};
 use crate::scripted::{ScriptedSource, Turn};
 use crate::stream_finds::{ONE_BYTE, Told, found_of, told_under};
 use crate::streams::{Numbers, behind, written};
 use aho_automaton::automaton::Automaton;
 use aho_core::error::StreamError;
 use aho_core::search::{Input, MatchKind, PatternID};
+use aho_hybrid::hybrid::Hybrid;
 use bench::listing::finds;
 use bench::pattern_set::PatternSet;
 use std::alloc::{AllocError, Global};
@@ -256,22 +257,20 @@ impl Stream {
     }
 }
 
-/// A random stream tells the matches of plain iteration, however it is cut, whatever fails and with a prefilter or without, and
-/// those that are settled where a limit is met.
-fn is_searched_as_plainly(
+/// A random stream tells the matches of plain iteration by this automaton, however it is cut and whatever fails, and those that
+/// are settled where a limit is met.
+fn is_searched_as_plainly<A: Automaton>(
     rt: &impl Abort,
     alloc: Global,
-    words: &[&[u8]],
-    kind: MatchKind,
+    automaton: &A,
+    patterns: &PatternSet<'_>,
     stream: &Stream,
-    prefilter: bool,
-) -> Result<(), Fail> {
-    assert!(rt; words.len() <= PatternID::MAX.as_usize());
-    let nfa = nfa_holding(rt, alloc, words, kind, prefilter);
-    let patterns = PatternSet::new(words, kind, false);
-    let wanted = found_under(rt, alloc, &nfa, &patterns, &stream.given, stream.limit)?;
-    let (told, faults) = stream.told(alloc, &nfa)?;
-    let case = (kind, stream.given.as_slice());
+) -> Result<(), Fail>
+    requires of { (p : Patterns) × A.is_of automaton.now p }
+{
+    let wanted = found_under(rt, alloc, automaton, patterns, &stream.given, stream.limit)?;
+    let (told, faults) = stream.told(alloc, automaton)?;
+    let case = (automaton.match_kind(), stream.given.as_slice());
     let items = wanted.len().saturating_add(faults);
     assert_same_in(rt, &case, told.items.len(), items);
     has_matches(rt, &case, &told, &wanted);
@@ -289,7 +288,8 @@ const SETS: [&[&[u8]]; 5] = [
     &[b"a", b"aa", b"aaa", b"baa", b"b", b"cab"],
 ];
 
-/// Random streams of these patterns and this kind tell the matches of plain iteration.
+/// Random streams of these patterns and this kind tell the matches of plain iteration, by an automaton that skips in no stream
+/// and by one that does.
 fn are_searched_as_plainly(
     rt: &impl Abort,
     alloc: Global,
@@ -297,10 +297,14 @@ fn are_searched_as_plainly(
     kind: MatchKind,
     numbers: &mut Numbers,
 ) -> Result<(), Fail> {
+    assert!(rt; words.len() <= PatternID::MAX.as_usize());
+    let patterns = PatternSet::new(words, kind, false);
+    let nfa = nfa_of(rt, alloc, words, kind, false);
+    let hybrid = Hybrid::from_nfa(alloc, &nfa).expect(rt, "an automaton");
     for _ in 0..8 {
         let stream = Stream::new(alloc, numbers)?;
-        is_searched_as_plainly(rt, alloc, words, kind, &stream, true)?;
-        is_searched_as_plainly(rt, alloc, words, kind, &stream, false)?;
+        is_searched_as_plainly(rt, alloc, &nfa, &patterns, &stream)?;
+        is_searched_as_plainly(rt, alloc, &hybrid, &patterns, &stream)?;
     }
     Ok(())
 }

@@ -1,16 +1,21 @@
 //! The matches and the chunks of streams, whose sources cut, end and fail.
 
 ghost use Rattle.aho_core.specs.Patterns.{Patterns};
+ghost use Rattle.aho_prefilter.specs.Prefilter.{IsPrefilterOf};
 
 use crate::asserts::{assert_same, assert_same_in};
-use crate::automata::nfa_of;
+use crate::automata::{nfa_holding, nfa_of, relinked_of};
 use crate::collect::matches_of;
 use crate::scripted::{ScriptedSource, Turn};
-use aho_automaton::automaton::Automaton;
+use aho_automaton::automaton::{Automaton, WithPrefilter};
 use aho_core::error::{Fault, MatchError, StreamError};
 use aho_core::search::{Match, MatchKind};
+use aho_corasick::noncontiguous::NFA;
+use aho_hybrid::hybrid::Hybrid;
+use aho_prefilter::prefilter::Prefilter;
 use aho_stream::chunks::StreamChunkIter;
 use aho_stream::finds::try_stream_find_iter;
+use bench::callers::{automaton_of, prefilter_of};
 use bench::one_byte::OneByte;
 use bench::tally::Tally;
 use std::alloc::{AllocError, Global};
@@ -187,15 +192,60 @@ fn a_limit_is_answered_once(rt: HostRuntime) -> Result<(), Fail> {
     Ok(())
 }
 
+/// A stream in which "xyz" occurs once.
+const ONCE: &[u8] = b"aaxaaaaaaxyzaaaaa";
+
+/// What a stream that gives all its bytes in one read tells.
+fn told_at_once<A: Automaton>(alloc: Global, automaton: &A, given: &[u8]) -> Result<Told, Fail>
+    requires of { (p : Patterns) × A.is_of automaton.now p }
+{
+    let mut source = ScriptedSource::new(given, &[]);
+    told_under(alloc, automaton, &mut source, 100)
+}
+
 #[test]
 fn skipped_bytes_are_not_walked(rt: HostRuntime) -> Result<(), Fail> {
     let nfa = nfa_of(&rt, rt.alloc(), &[b"xyz"], MatchKind::Standard, false);
-    let mut source = ScriptedSource::new(b"aaxaaaaaaxyzaaaaa", &[]);
-    let told = told_under(rt.alloc(), &nfa, &mut source, 100)?;
+    let hybrid = Hybrid::from_nfa(rt.alloc(), &nfa).expect(&rt, "an automaton");
+    let told = told_at_once(rt.alloc(), &hybrid, ONCE)?;
     assert_same(&rt, told.items.as_slice(), [Ok((0, 9, 12))].as_slice());
     // The match, and the last two bytes: a match may begin in them.
     assert_same(&rt, told.position, 5);
     Ok(())
+}
+
+/// A stream tells what is wanted by fewer look-ups, and walks fewer bytes.
+fn saves(rt: &impl Abort, told: &Told, wanted: &Told) {
+    assert_same(rt, told.items.as_slice(), wanted.items.as_slice());
+    assert!(rt; told.lookups < wanted.lookups);
+    assert!(rt; told.position < wanted.position);
+}
+
+/// An automaton that is given this prefilter skips in a stream, with rows and without.
+fn skips_by(
+    rt: &impl Abort,
+    alloc: Global,
+    nfa: &NFA,
+    prefilter: Prefilter,
+) -> Result<(), Fail>
+    requires of { (p : Patterns) × ⟦<NFA as Automaton>⟧.is_of nfa.now p
+        × IsPrefilterOf prefilter p }
+{
+    let walked = told_at_once(alloc, nfa, ONCE)?;
+    let told = told_at_once(alloc, &WithPrefilter::new(nfa, &prefilter), ONCE)?;
+    saves(rt, &told, &walked);
+    let hybrid = Hybrid::with_prefilter(alloc, nfa, 0, Some(prefilter)).expect(rt, "an automaton");
+    let told = told_at_once(alloc, &hybrid, ONCE)?;
+    saves(rt, &told, &walked);
+    Ok(())
+}
+
+#[test]
+fn an_automaton_that_is_given_a_prefilter_skips_in_streams(rt: HostRuntime) -> Result<(), Fail> {
+    let words: [&[u8]; 1] = [b"xyz"];
+    let nfa = automaton_of(rt.alloc(), &words).expect(&rt, "an automaton");
+    let prefilter = prefilter_of(rt.alloc(), &words)?.expect(&rt, "a prefilter");
+    skips_by(&rt, rt.alloc(), &nfa, prefilter)
 }
 
 /// A match that begins in one read and ends in the next is told, wherever the first one ends.
@@ -208,7 +258,7 @@ fn is_told_across_a_read<A: Automaton>(
 {
     for count in 1..17 {
         let turns = [Turn::Move(count)];
-        let mut source = ScriptedSource::new(b"aaxaaaaaaxyzaaaaa", &turns);
+        let mut source = ScriptedSource::new(ONCE, &turns);
         let told = told_under(alloc, automaton, &mut source, 100)?;
         assert_same_in(
             rt,
@@ -223,21 +273,78 @@ fn is_told_across_a_read<A: Automaton>(
 #[test]
 fn a_match_across_two_reads_is_not_skipped(rt: HostRuntime) -> Result<(), Fail> {
     let nfa = nfa_of(&rt, rt.alloc(), &[b"xyz"], MatchKind::Standard, false);
-    is_told_across_a_read(&rt, rt.alloc(), &nfa)
+    let hybrid = Hybrid::from_nfa(rt.alloc(), &nfa).expect(&rt, "an automaton");
+    is_told_across_a_read(&rt, rt.alloc(), &hybrid)
+}
+
+/// The look-ups that a stream of eight "a" makes in one read, and the bytes that it walks.
+fn walks_all<A: Automaton>(rt: &impl Abort, alloc: Global, automaton: &A) -> Result<(), Fail>
+    requires of { (p : Patterns) × A.is_of automaton.now p }
+{
+    let told = told_at_once(alloc, automaton, b"aaaaaaaa")?;
+    assert_same(rt, told.items.len(), 0);
+    assert_same(rt, (told.lookups, told.position), (13, 8));
+    Ok(())
+}
+
+/// The automaton of "aaab" skips in no stream, and nor does one that is made from what it tells.
+fn walk_all(rt: &impl Abort, alloc: Global, nfa: &NFA) -> Result<(), Fail>
+    requires of { (p : Patterns) × ⟦<NFA as Automaton>⟧.is_of nfa.now p }
+{
+    walks_all(rt, alloc, nfa)?;
+    let relinked = relinked_of(rt, alloc, nfa);
+    walks_all(rt, alloc, &relinked)
+}
+
+#[test]
+fn a_stream_is_walked_at_the_same_cost(rt: HostRuntime) -> Result<(), Fail> {
+    for prefilter in [true, false] {
+        let nfa = nfa_holding(&rt, rt.alloc(), &[b"aaab"], MatchKind::Standard, prefilter);
+        assert_same(&rt, nfa.prefilter().is_some(), prefilter);
+        walk_all(&rt, rt.alloc(), &nfa)?;
+    }
+    Ok(())
+}
+
+/// Each byte of eight "a" is stepped once, and no next state is asked for.
+fn is_stepped_once(rt: &impl Abort, alloc: Global, prefilter: bool) -> Result<(), Fail> {
+    let nfa = nfa_holding(rt, alloc, &[b"aaab"], MatchKind::Standard, prefilter);
+    let tally = Tally::new(nfa);
+    walks_all(rt, alloc, &tally)?;
+    assert_same(rt, (tally.steps(), tally.next_states()), (8, 0));
+    Ok(())
 }
 
 #[test]
 fn each_byte_of_a_stream_is_stepped_once(rt: HostRuntime) -> Result<(), Fail> {
-    let nfa = nfa_of(&rt, rt.alloc(), &[b"aaab"], MatchKind::Standard, false);
-    let tally = Tally::new(nfa);
-    let mut source = ScriptedSource::new(b"aaaaaaaa", ONE_BYTE);
-    let told = told_under(rt.alloc(), &tally, &mut source, 100)?;
-    assert_same(&rt, told.items.len(), 0);
-    assert_same(&rt, told.lookups, 13);
-    assert_same(&rt, told.position, 8);
-    assert_same(&rt, tally.steps(), 8);
-    assert_same(&rt, tally.next_states(), 0);
+    is_stepped_once(&rt, rt.alloc(), true)?;
+    is_stepped_once(&rt, rt.alloc(), false)
+}
+
+/// Whether the first bytes of a stream are held back up to its second read, which fails.
+fn are_held_back<A: Automaton>(
+    rt: &impl Abort,
+    alloc: Global,
+    automaton: &A,
+    given: &[u8],
+    wanted: bool,
+) -> Result<(), Fail>
+    requires of { (p : Patterns) × A.is_of automaton.now p }
+{
+    let turns = [Turn::Move(64), Turn::Fail];
+    let mut source = ScriptedSource::new(given, &turns);
+    let mut chunks = StreamChunkIter::new(alloc, automaton, &mut source)?;
+    let failed = matches!(chunks.advance(), Some(Err(_)));
+    assert_same_in(rt, given, failed, wanted);
     Ok(())
+}
+
+#[test]
+fn bytes_are_held_back_where_a_match_may_begin(rt: HostRuntime) -> Result<(), Fail> {
+    let nfa = nfa_of(&rt, rt.alloc(), &[b"abcdefgh"], MatchKind::Standard, false);
+    are_held_back(&rt, rt.alloc(), &nfa, b"zzz", false)?;
+    are_held_back(&rt, rt.alloc(), &nfa, b"zzza", true)?;
+    are_held_back(&rt, rt.alloc(), &nfa, b"zzzax", false)
 }
 
 #[test]

@@ -39,6 +39,8 @@ impl<A: Automaton> Automaton for &A {
 
     ghost prefilter = { λ a. A.prefilter a.now };
 
+    ghost skips_streams = { λ a. A.skips_streams a.now };
+
     fn start_state(&self, anchored: Anchored) -> Result<StateID, MatchError> {
         (**self).start_state(anchored)
     }
@@ -77,6 +79,10 @@ impl<A: Automaton> Automaton for &A {
 
     fn prefilter(&self) -> Option<&Prefilter> {
         (**self).prefilter()
+    }
+
+    fn stream_prefilter(&self) -> Option<&Prefilter> {
+        (**self).stream_prefilter()
     }
 
     fn match_len(&self, sid: StateID) -> usize {

@@ -1,6 +1,6 @@
 //! An automaton with a prefilter of one's choice.
 
-ghost use Rattle.std.specs.Prelude.{◌≡◌, ◌||◌, Some};
+ghost use Rattle.std.specs.Prelude.{◌≡◌, ◌||◌, Some, true};
 ghost use Rattle.std.proofs.lemmas.Bool.{or_parts};
 ghost use Rattle.aho_core.specs.Patterns.{Patterns};
 ghost use Rattle.aho_prefilter.specs.Prefilter.{IsPrefilterOf};
@@ -73,6 +73,8 @@ impl<'a, A: Automaton> Automaton for WithPrefilter<'a, A> {
 
     ghost prefilter = { λ a. Some a.prefilter.now };
 
+    ghost skips_streams = { λ _. true };
+
     fn start_state(&self, anchored: Anchored) -> Result<StateID, MatchError> {
         self.automaton.start_state(anchored)
     }
@@ -111,6 +113,10 @@ impl<'a, A: Automaton> Automaton for WithPrefilter<'a, A> {
 
     fn prefilter(&self) -> Option<&Prefilter> {
         Some(self.prefilter)
+    }
+
+    fn stream_prefilter(&self) -> Option<&Prefilter> {
+        self.prefilter()
     }
 
     fn match_len(&self, sid: StateID) -> usize {

@@ -29,7 +29,7 @@ returns-then-self-clause-advances g c =
     let automaton = c.args.self.now.walk.automaton.now in
     let s = c.args.self.now.progress in
     advances g.A.Automaton automaton _ _ s _ _ _ None refl
-    (read_none g.A.Automaton automaton c.args.self.now.walk.work c.args.self.now.walk.work s _ _ refl (λ p given of a. after_told _ _ p _ s given a))
+    (read_none g.A.Automaton automaton c.args.self.now.walk.work c.args.self.now.walk.work s _ _ refl refl (λ p given of a. after_told _ _ p _ s given a))
     (λ p given of a.
     let stopped = a.stopped c.if-self.true in
     end_told _ _ p _ s _ given a (λ why. elim why [ inl standard ↦ stopped.2 standard | inr ended ↦ cc ]) stopped.0 (record { told = refl; reported = refl; from = refl }) (inr c.if-self.true))
@@ -43,7 +43,7 @@ loop-piece-init g c =
       source = refl;
       same = refl;
       untold = record { told = refl; reported = refl; from = refl; limit = refl; unrefused = going; going = going };
-      read = read_none g.A.Automaton automaton c.args.self.now.walk.work c.args.self.now.walk.work s _ _ refl (λ p given of a. after_told _ _ p _ s given a);
+      read = read_none g.A.Automaton automaton c.args.self.now.walk.work c.args.self.now.walk.work s _ _ refl refl (λ p given of a. after_told _ _ p _ s given a);
       ended = counted_same s.ended _;
       stays = λ e. e;
       unfailed = refl;
@@ -124,7 +124,7 @@ refilled_read g c failed fault =
     let walked = all_walked g (goal.at.After-refill g c).After-next_piece none in
     let refills = c.refill.ensures.refills in
     read_more g.A.Automaton automaton _ _ _ c.args.self.now.progress c.next_piece.new.progress c.refill.new.self _ _ _ failed refills
-    (λ last. c.refill.ensures.enough (or_more c.refill.new.self.ended failed (is_err c.refill.result) fault last))
+    (λ last. c.refill.ensures.one_read (or_more c.refill.new.self.ended failed (is_err c.refill.result) fault last))
     (not_before c.args.self.now.progress.ended (λ e. sym c.if-self-2.false ∙ c.next_piece.ensures.ended ∙ c.loop-piece.invariant.stays e))
     u.reported u.from c.requires.after
     (λ p given of a. all_told _ _ p (g.met.A.Automaton.laws _ p of) (λ word other sid. g.met.A.Automaton.alike _ p word other sid of) _ c.next_piece.new.progress given a walked.0 walked.1 (c.next_piece.ensures.near none) ((rw c.loop-piece.invariant.same at c.next_piece.ensures.start) none))
@@ -175,7 +175,7 @@ returns-in-Err-clause-advances g c =
     (λ p given of a. error_told p s c.refill.new.self given c.in-Err.error c.in-Err.ensures.only
     (record {
       still = still;
-      near = elim (c.refill.ensures.enough (or_more c.refill.new.self.ended true (is_err c.refill.result) (λ e. failed) (or-true c.refill.new.self.ended))) [ inl same ↦ omega (arith, a.count, same, near, reported, refills.least) | inr short ↦ omega (arith, a.count, a.kept, short, told) ];
+      near = omega (arith, a.count, c.refill.ensures.one_read (or_more c.refill.new.self.ended true (is_err c.refill.result) (λ e. failed) (or-true c.refill.new.self.ended)), near, reported, refills.least);
     })
     (λ e. (omega (arith, a.count, c.in-Err.ensures.limit e, refills.count, refills.limited, u.limit), c.in-Err.ensures.refused ∙ e)) u.unrefused
     (λ e leftmost. lives_refilled g d p given of a leftmost (c.in-Err.ensures.limit e)))

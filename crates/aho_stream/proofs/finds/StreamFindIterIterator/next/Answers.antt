@@ -1,16 +1,17 @@
 -- What each way out says, and each turn of the loop.
-use Rattle.std.proofs.Common.{◌≡◌, ◌≤◌, ◌++◌, ◌∙◌, Bool, true, ◌||◌, ap, refl, sym, subst, List, ℕ}
+use Rattle.std.proofs.Common.{◌≡◌, ◌≤◌, ◌++◌, ◌∙◌, ◌⊎◌, Bool, true, ◌||◌, ap, refl, sym, subst, List, ℕ}
 use Rattle.std.specs.Prelude.{Option, Some, None, Result, Ok, Err}
 use Rattle.std.proofs.Math.Bool.{or-false}
 use Rattle.aho_core.specs.Patterns.{Patterns}
 use Rattle.aho_core.specs.Occurrence.{Occurrence}
 use Rattle.aho_core.specs.declared.error.stream.StreamError.{StreamError}
 use Rattle.aho_devices.specs.Counts.{counted}
-use Rattle.aho_stream.specs.Chunks.{Advances, ReadsOn, Tells, ends_between, tells_limit, tells_read_fault}
-use Rattle.aho_stream.specs.Finds.{Finds}
+use Rattle.aho_stream.specs.Chunks.{Advances, FillsNothing, Tells, ends_between, tells_error, tells_limit, tells_read_fault}
+use Rattle.aho_stream.specs.Finds.{FillsForMatch, Finds}
 use Rattle.aho_stream.specs.Iterators.{HasGiven}
 use Rattle.aho_stream.specs.declared.progress.StreamPiece.{StreamPiece}
-use Rattle.aho_stream.proofs.Found.{counted_then, end_found, error_found, piece_found, plain_told, read_then, same_fault, same_limit, says_then}
+use Rattle.aho_stream.proofs.Advanced.{counted_same}
+use Rattle.aho_stream.proofs.Found.{FindsReading, counted_then, end_found, error_found, piece_found, plain_told, reading_none, reading_then, same_fault, same_limit, says_then}
 use Rattle.aho_stream.proofs.finds.StreamFindIterIterator.next.Given.{Over}
 use Rattle.aho_stream.proofs.finds.StreamFindIterIterator.next.Goals.{After-advance}
 use Rattle.aho_stream.proofs.finds.StreamFindIterIterator.next.Goals as goal
@@ -25,22 +26,33 @@ advanced g c = rw c.loop-error.invariant.same at c.advance.ensures.advances
 ended : (g : Over) (c : After-advance g) → g.R.Source.empty_reads c.advance.new.self.source.now ≡ counted (ends_between c.args.self.now.chunks.progress.ended c.advance.new.self.progress.ended) (g.R.Source.empty_reads c.args.self.now.chunks.source.now)
 ended g c = counted_then c.args.self.now.chunks.progress.ended c.loop-error.self.chunks.progress.ended c.advance.new.self.progress.ended _ _ _ c.loop-error.invariant.stays c.advance.ensures.stays_ended c.loop-error.invariant.ended c.advance.ensures.ended
 
--- what the whole call has read
-reads : (g : Over) (c : After-advance g) → ReadsOn g.A.Automaton c.args.self.now.chunks.walk.automaton.now c.args.self.now.chunks.walk.work c.advance.new.self.walk.work
-    c.args.self.now.chunks.progress c.advance.new.self.progress (g.R.Source.remaining c.args.self.now.chunks.source.now) (g.R.Source.remaining c.advance.new.self.source.now)
-reads g c =
-    read_then g.A.Automaton c.args.self.now.chunks.walk.automaton.now _ _ _ _ c.loop-error.self.chunks.progress c.advance.new.self.progress _ _ _ c.advance.result
-    c.loop-error.invariant.stays c.loop-error.invariant.read (advanced g c)
+-- what the whole call has read, where this is its last answer
+abbrev ReadingUpTo : (g : Over) (c : After-advance g) → Option (Result StreamPiece StreamError) → Type 0
+ReadingUpTo g c answer = FindsReading g.A.Automaton c.args.self.now.chunks.walk.automaton.now c.args.self.now.chunks.walk.work c.advance.new.self.walk.work
+    c.args.self.now.chunks.progress c.advance.new.self.progress (g.R.Source.remaining c.args.self.now.chunks.source.now) (g.R.Source.remaining c.advance.new.self.source.now) (tells_error answer)
+
+reading : (g : Over) (c : After-advance g) → ReadingUpTo g c c.advance.result
+reading g c =
+    reading_then g.A.Automaton c.args.self.now.chunks.walk.automaton.now _ _ _ _ c.loop-error.self.chunks.progress c.advance.new.self.progress _ _ _ c.advance.result
+    c.loop-error.invariant.stays c.loop-error.invariant.from c.requires c.loop-error.invariant.read (advanced g c)
+
+-- and that no match was settled before more was asked for
+abbrev PromptIn : (g : Over) (c : After-advance g) → Bool → Type 0
+PromptIn g c failed = FillsNothing c.args.self.now.chunks.progress c.advance.new.self.progress (reading g c).reads.bytes failed
+    ⊎ FillsForMatch g.A.Automaton c.args.self.now.chunks.walk.automaton.now c.args.self.now.chunks.walk.work c.args.self.now.chunks.progress c.advance.new.self.progress (reading g c).reads.bytes failed
+
+prompt : (g : Over) (c : After-advance g) (answer : Option (Result StreamPiece StreamError)) → c.advance.result ≡ answer → PromptIn g c (tells_error answer)
+prompt g c answer is = subst (λ (r : Option (Result StreamPiece StreamError)). PromptIn g c (tells_error r)) is (reading g c).prompt
 
 -- and says, where the last answer says it
 finds : (g : Over) (c : After-advance g) (found : Option (Result Occurrence StreamError))
     → ((p : Patterns) (given : List ℕ) → Tells p c.loop-error.self.chunks.progress c.advance.new.self.progress given c.advance.result → Finds p c.args.self.now.chunks.progress c.advance.new.self.progress given found)
     → (p : Patterns) (given : List ℕ) → g.A.Automaton.is_of c.args.self.now.chunks.walk.automaton.now p → HasGiven g.A.Automaton c.args.self.now.chunks p given
-    → Finds p c.args.self.now.chunks.progress c.advance.new.self.progress (given ++ (reads g c).bytes) found
-unfolding reads
+    → Finds p c.args.self.now.chunks.progress c.advance.new.self.progress (given ++ (reading g c).reads.bytes) found
+unfolding reading
 finds g c found says =
     says_then g.A.Automaton c.args.self.now.chunks.walk.automaton.now _ _ _ _ c.loop-error.self.chunks.progress c.advance.new.self.progress _ _ _ c.advance.result found
-    c.loop-error.invariant.stays c.loop-error.invariant.read (advanced g c) says
+    c.loop-error.invariant.stays c.loop-error.invariant.from c.requires c.loop-error.invariant.read (advanced g c) says
 
 -- after the end, and after the limit was answered, `advance` tells none
 ended_none : (g : Over) (c : After-advance g) → c.args.self.now.chunks.progress.ended ≡ true → c.args.self.now.chunks.progress.read ≤ c.args.self.now.chunks.progress.reported → c.advance.result ≡ None
@@ -55,13 +67,30 @@ refused g c answer is =
     c.advance.ensures.refused ∙ ap (λ (r : Option (Result StreamPiece StreamError)). c.loop-error.self.chunks.progress.refused || tells_limit r) is
     ∙ ap (λ (b : Bool). b || tells_limit answer) c.loop-error.invariant.refused
 
+pub loop-error-init : goal.loop-error-init
+loop-error-init g c =
+    let it = c.args.self.now.chunks in
+    record {
+      same = refl;
+      limit = refl;
+      from = refl;
+      refused = refl;
+      source = refl;
+      read = reading_none g.A.Automaton it.walk.automaton.now it.walk.work it.progress (g.R.Source.remaining it.source.now);
+      ended = counted_same it.progress.ended _;
+      stays = λ e. e;
+      over = λ e told. (e, told);
+      unfailed = refl;
+    }
+
 pub returns-in-None-clause-steps : goal.returns-in-None-clause-steps
 returns-in-None-clause-steps g c =
     let d = (goal.at.returns-in-None-clause-steps g c).After-advance in
     let inv = c.loop-error.invariant in
     let s = c.args.self.now.chunks.progress in
     record {
-      reads = reads g d;
+      reads = (reading g d).reads;
+      prompt = prompt g d None c.in-None.is;
       finds = finds g d None (λ p given tells. end_found p s c.loop-error.self.chunks.progress c.advance.new.self.progress given inv.from inv.refused
           (subst (λ (r : Option (Result StreamPiece StreamError)). Tells p c.loop-error.self.chunks.progress c.advance.new.self.progress given r) c.in-None.is tells));
       same = c.advance.ensures.same ∙ inv.same;
@@ -83,7 +112,8 @@ returns-in-Some-Err-clause-steps g c =
     let error = c.in-Some-Err.error in
     let is : c.advance.result ≡ Some (Err error) = c.in-Some-Err.is ∙ ap Some c.in-Some-Err.field-0-is in
     record {
-      reads = reads g d;
+      reads = (reading g d).reads;
+      prompt = prompt g d (Some (Err error)) is;
       finds = finds g d (Some (Err error)) (λ p given tells. error_found p s c.loop-error.self.chunks.progress c.advance.new.self.progress given error inv.from inv.refused inv.limit
           (subst (λ (r : Option (Result StreamPiece StreamError)). Tells p c.loop-error.self.chunks.progress c.advance.new.self.progress given r) is tells));
       same = c.advance.ensures.same ∙ inv.same;
@@ -108,7 +138,8 @@ returns-in-Some-clause-steps g c =
     let piece = c.in-Some-Ok.piece in
     let is : c.advance.result ≡ Some (Ok piece) = c.in-Some-Ok.is ∙ ap Some c.in-Some-Ok.field-0-is in
     record {
-      reads = reads g d;
+      reads = (reading g d).reads;
+      prompt = prompt g d (Some (Ok piece)) is;
       finds = finds g d (Some (Ok c.in-Some.m)) (λ p given tells. piece_found p s c.loop-error.self.chunks.progress c.advance.new.self.progress given piece c.in-Some.m (sym c.found.ensures.found ∙ c.in-Some.is) inv.from
           (subst (λ (r : Option (Result StreamPiece StreamError)). Tells p c.loop-error.self.chunks.progress c.advance.new.self.progress given r) is tells));
       same = c.advance.ensures.same ∙ inv.same;
@@ -133,16 +164,16 @@ loop-error-preserved g c =
     let piece = c.in-Some-Ok.piece in
     let is : c.advance.result ≡ Some (Ok piece) = c.in-Some-Ok.is ∙ ap Some c.in-Some-Ok.field-0-is in
     let (p, given, of, a) = c.requires in
-    let now = inv.read.is_after p given of a in
+    let now = inv.read.reads.is_after p given of a in
     let plain = plain_told p t c.advance.new.self.progress _ piece (sym c.found.ensures.found ∙ c.in_default.is)
-    (subst (λ (r : Option (Result StreamPiece StreamError)). Tells p t c.advance.new.self.progress ((given ++ inv.read.bytes) ++ (advanced g d).reads.bytes) r) is ((advanced g d).tells p (given ++ inv.read.bytes) of now)) in
+    (subst (λ (r : Option (Result StreamPiece StreamError)). Tells p t c.advance.new.self.progress ((given ++ inv.read.reads.bytes) ++ (advanced g d).reads.bytes) r) is ((advanced g d).tells p (given ++ inv.read.reads.bytes) of now)) in
     record {
       same = c.advance.ensures.same ∙ inv.same;
       limit = c.advance.ensures.limit ∙ inv.limit;
       from = plain.from ∙ inv.from;
       refused = refused g d (Some (Ok piece)) is ∙ or-false s.refused;
       source = c.advance.ensures.same_source ∙ inv.source;
-      read = reads g d;
+      read = subst (ReadingUpTo g d) is (reading g d);
       ended = ended g d;
       stays = λ e. c.advance.ensures.stays_ended (inv.stays e);
       over = λ e told. let none = ended_none g d e told in cc;

@@ -1,13 +1,14 @@
 -- What the loop keeps.
-use Rattle.std.proofs.Common.{◌≡◌, ◌-◌, ◌≤◌, true}
+use Rattle.std.proofs.Common.{◌≡◌, ◌-◌, ◌≤◌, true, false}
 use Rattle.aho_devices.specs.Counts.{counted}
-use Rattle.aho_stream.specs.Chunks.{ReadsOn, ends_between}
+use Rattle.aho_stream.specs.Chunks.{ends_between}
+use Rattle.aho_stream.proofs.Found.{FindsReading}
 use Rattle.aho_stream.proofs.finds.StreamFindIterIterator.next.Given as goal
 
 -- Over the same automaton and with the same limit:
 -- `from` and `refused`: no match was found, and the limit was not answered since;
 -- `source`: it reads from the same place;
--- `read`: some bytes were read, and the iterator has come so far with them;
+-- `read`: some bytes were read, once no match was settled before, and the iterator has come so far with them;
 -- `ended`, `stays`, `over` and `unfailed`: whether the end was seen and all was told, and that no read failed.
 abbrev pub invariant-loop-error : goal.invariant-loop-error
 invariant-loop-error g l =
@@ -20,7 +21,7 @@ invariant-loop-error g l =
       from : now.progress.from ≡ it.progress.from;
       refused : now.progress.refused ≡ it.progress.refused;
       source : now.source.ghost_name ≡ it.source.ghost_name;
-      read : ReadsOn g.A.Automaton automaton it.walk.work now.walk.work it.progress now.progress (g.R.Source.remaining it.source.now) (g.R.Source.remaining now.source.now);
+      read : FindsReading g.A.Automaton automaton it.walk.work now.walk.work it.progress now.progress (g.R.Source.remaining it.source.now) (g.R.Source.remaining now.source.now) false;
       ended : g.R.Source.empty_reads now.source.now ≡ counted (ends_between it.progress.ended now.progress.ended) (g.R.Source.empty_reads it.source.now);
       stays : it.progress.ended ≡ true → now.progress.ended ≡ true;
       over : it.progress.ended ≡ true → it.progress.read ≤ it.progress.reported → (now.progress.ended ≡ true) × (now.progress.read ≤ now.progress.reported);
