@@ -1,6 +1,6 @@
 # The completion of acredact for bash: its options, the values of --kind, and names of files.
 _acredact() {
-    local word=${COMP_WORDS[COMP_CWORD]} words=
+    local word=${COMP_WORDS[COMP_CWORD]} words=""
     case ${COMP_WORDS[COMP_CWORD - 1]} in
     --kind) words='first longest standard' ;;
     -e | --with) return ;;
