@@ -1,0 +1,18 @@
+# The completion of acgrep for bash: its options, the values of those that have some, and names of files.
+_acgrep() {
+    local word=${COMP_WORDS[COMP_CWORD]} option=${COMP_WORDS[COMP_CWORD - 1]} words="" joined=""
+    # bash takes `--kind=first` for three words.
+    if [[ $word == = ]]; then
+        word="" joined=yes
+    elif [[ $option == = ]]; then
+        option=${COMP_WORDS[COMP_CWORD - 2]} joined=yes
+    fi
+    case $option in
+    --kind) words='first longest standard' ;;
+    --color) [[ ! $joined ]] || words='always auto never' ;;
+    -e | --offset) return ;;
+    esac
+    [[ $words || $word != -* ]] || words='-e -f -i -v --kind -c -l -q -o --json -n -b --offset -H -h --color -- --help --version'
+    mapfile -t COMPREPLY < <(compgen -W "$words" -- "$word")
+}
+complete -o default -F _acgrep acgrep
