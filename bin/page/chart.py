@@ -1,0 +1,58 @@
+"""The chart of `bin/speeds --page`: panels of bars, as SVG, in colours that can be read on white and on black."""
+
+INK, BLUE, GREY = "#7b8794", "#3b82f6", "#9aa3ad"
+FONTS = "system-ui, -apple-system, 'Segoe UI', 'Helvetica Neue', Helvetica, Arial, sans-serif"
+WIDTH = 910
+LONGEST = 168
+
+
+def words_at(x, y, words, size=12, more=""):
+    words = words.replace("&", "&amp;").replace("<", "&lt;")
+    return f'<text x="{x:g}" y="{y:g}" font-size="{size}"{more}>{words}</text>'
+
+
+def bar_at(x, y, length, colour):
+    """A bar from x to the right; one that is too long ends in a cut piece."""
+    if length <= LONGEST:
+        return f'<rect x="{x:g}" y="{y:g}" width="{max(length, 1.5):.1f}" height="11" rx="2" fill="{colour}"/>'
+    end = x + LONGEST
+    whole = f"M{x:g} {y:g}H{end - 12:g}l-5 11H{x:g}z"
+    piece = f"M{end - 8:g} {y:g}H{end:g}v11H{end - 13:g}z"
+    return f'<path d="{whole}{piece}" fill="{colour}"/>'
+
+
+def panel(x, y, title, note, groups, most, shown):
+    """A panel, and where it ends: groups of a label and bars, each of a name and a number. The first bar of a group is ours, and
+    numbers above `most` are cut."""
+    parts = [words_at(x, y, title, 15, ' font-weight="700"'), words_at(x, y + 17, note)]
+    y += 30
+    for label, bars in groups:
+        parts.append(words_at(x, y + 10, label, 12, ' font-weight="600"'))
+        for place, (name, number) in enumerate(bars):
+            colour, weight = (GREY, "") if place else (BLUE, ' font-weight="700"')
+            length = LONGEST * number / most
+            parts.append(words_at(x + 196, y + 10, name, 11, f' text-anchor="end"{weight}'))
+            parts.append(bar_at(x + 203, y, length, colour))
+            parts.append(words_at(x + 209 + min(length, LONGEST), y + 10, shown(number), 11, weight))
+            y += 14
+        y += 8
+    return parts, y
+
+
+def drawn(left, right, title, note):
+    """The whole picture: two columns of panels, each panel as `panel` takes it from the title on."""
+    parts, ends = [], []
+    for x, column in (6, left), (WIDTH // 2 + 10, right):
+        y = 20
+        for what in column:
+            more, y = panel(x, y, *what)
+            parts += more
+            y += 22
+        ends.append(y)
+    height = max(ends) + 2
+    yield f'<svg xmlns="http://www.w3.org/2000/svg" viewBox="0 0 {WIDTH} {height}" width="{WIDTH}" height="{height}" role="img" fill="{INK}"'
+    yield f' font-family="{FONTS}">'
+    yield f"<title>{title}</title>"
+    yield from parts
+    yield words_at(6, height - 8, note, 11)
+    yield "</svg>"
