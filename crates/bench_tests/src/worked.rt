@@ -392,4 +392,3 @@ pub(crate) const ROWS: &[Row] = &[
         ..PLAIN
     },
 ];
-

@@ -50,7 +50,7 @@ fn main(rt: HostRuntime) -> Result<ExitCode> {
 fn rounds_from(rt: &HostRuntime, seed: u64, rounds: u64, parts: Parts) -> Result<ExitCode> {
     let mut count = Count::new();
     if parts.fixed
-        && let Err(error) = fixed(rt.alloc(), parts, &mut count)
+        && let Err(error) = same_in_each_run(rt.alloc(), parts, &mut count)
     {
         println!(rt; "{error:#}")?;
         return Ok(ExitCode::FAILURE);
@@ -68,7 +68,7 @@ fn rounds_from(rt: &HostRuntime, seed: u64, rounds: u64, parts: Parts) -> Result
 }
 
 /// Compares what is the same in each run.
-fn fixed(alloc: Global, parts: Parts, count: &mut Count) -> Result<()> {
+fn same_in_each_run(alloc: Global, parts: Parts, count: &mut Count) -> Result<()> {
     compare_short(alloc, count)?;
     compare_fixed(alloc, parts.all(), count)
 }

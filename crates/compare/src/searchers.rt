@@ -1,14 +1,14 @@
 //! The one crate's searcher, by its own calls and as an automaton.
 
 ghost use Rattle.aho_core.specs.Patterns.{Patterns};
-ghost use Rattle.std.specs.Prelude.{◌≡◌, IfOk};
+ghost use Rattle.std.specs.Prelude.{IfOk};
 ghost use Rattle.chromesquid.specs.Searcher.{Answers, IsBuiltFrom};
 ghost use Rattle.aho_core.specs.declared.search.Anchored.TheVariants.{No};
 
 use crate::automata::compare_calls;
 use crate::count::Count;
-use crate::memory::{Asked, MANY, finds_in, some_input};
-use crate::pieces::{bracketed, on_boundaries, replaced};
+use crate::memory::{Asked, MANY, some_input};
+use crate::pieces::{on_boundaries, replaced};
 use crate::turns::turns;
 use aho_core::search::MatchKind;
 use anyhow::{Result, bail};
@@ -16,10 +16,7 @@ use bench::listing::finds;
 use bench::numbers::Numbers;
 use bench::plain::plain;
 use bench::scripted::{ScriptedSink, ScriptedSource, Turn};
-use chromesquid::{
-    AhoCorasick, AhoCorasickBuilder, AhoCorasickKind, Anchored, BuildError, Input, Match,
-    MatchError, StartKind,
-};
+use chromesquid::{AhoCorasick, AhoCorasickKind, Anchored, BuildError, MatchError, StartKind};
 use std::alloc::Global;
 use std::str;
 

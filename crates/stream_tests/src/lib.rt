@@ -12,6 +12,10 @@ pub mod collect;
 #[cfg(test)]
 mod devices;
 #[cfg(test)]
+mod failing;
+#[cfg(test)]
+mod failures;
+#[cfg(test)]
 mod leftmost_streams;
 #[cfg(test)]
 mod program;
