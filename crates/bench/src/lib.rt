@@ -7,10 +7,12 @@
 
 pub mod callers;
 pub mod listing;
+pub mod numbers;
 pub mod one_byte;
 pub mod pattern_set;
 pub mod plain;
 pub mod relinked;
+pub mod scripted;
 pub mod tally;
 
 pub use pattern_set::PatternSet;

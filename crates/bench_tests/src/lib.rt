@@ -1,5 +1,5 @@
-//! The tests of the libraries that build and search: the worked rows, every short input and random ones, refusals and
-//! limits.
+//! The tests of the libraries that build and search: the worked rows, refusals and limits. Every short text and random ones
+//! are compared with the plain program by the program `compare`.
 #![tactic(auto)]
 
 #[cfg(test)]
@@ -16,8 +16,6 @@ mod compiling;
 mod errors;
 #[cfg(test)]
 mod hybrid;
-#[cfg(test)]
-mod inputs;
 #[cfg(test)]
 mod iteration;
 #[cfg(test)]
@@ -46,3 +44,5 @@ mod rows;
 mod settings;
 #[cfg(test)]
 mod tables;
+#[cfg(test)]
+mod worked;

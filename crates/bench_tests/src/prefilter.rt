@@ -1,10 +1,6 @@
-//! Prefilters: the worked table, and random patterns against the plain program.
+//! Prefilters: the worked table, and when which one is held.
 
-ghost use Rattle.std.specs.Prelude.{◌+◌, ◌<◌, ◌≤◌, length};
-ghost use Rattle.aho_core.specs.Numbers.{greatest_index};
-
-use crate::asserts::{assert_in, assert_same, assert_same_in};
-use crate::inputs::{KINDS, Random};
+use crate::asserts::{assert_same, assert_same_in};
 use aho_core::search::{Input, Match, MatchKind, PatternID, Span};
 use aho_prefilter::prefilter::{Candidate, PackedBuilder, Prefilter, PrefilterBuilder};
 use bench::callers::{automaton_of, find_by, packed_prefilter_of};
@@ -156,124 +152,6 @@ fn no_prefilter_is_held(rt: HostRuntime) -> Result<(), Fail> {
     Ok(())
 }
 
-/// Whether the pattern begins with this byte, by the case rule.
-fn begins(pattern: &[u8], byte: u8, ignore_case: bool) -> bool {
-    match pattern.first() {
-        None => false,
-        Some(first) => *first == byte || ignore_case && first.eq_ignore_ascii_case(&byte),
-    }
-}
-
-/// With how many bytes the patterns begin.
-fn first_bytes(patterns: &[&[u8]], ignore_case: bool) -> usize {
-    (0..=255u8)
-        .filter(|byte| patterns
-            .iter()
-            .any(|pattern| begins(pattern, *byte, ignore_case)))
-        .count()
-}
-
-/// That what is held is what the table says: at how many bytes it stops, and how much it holds.
-fn look_at_held(rt: &impl Abort, held: &Option<Prefilter>, patterns: &[&[u8]], ignore_case: bool) {
-    let firsts = first_bytes(patterns, ignore_case);
-    let some_empty = patterns.iter().any(|pattern| pattern.is_empty());
-    let alone = patterns.len() == 1 && !ignore_case;
-    let none = patterns.is_empty() || some_empty || !alone && firsts > 3;
-    assert_same_in(rt, (&patterns, &ignore_case), held.is_none(), none);
-    if let Some(prefilter) = held {
-        let memory = prefilter.memory_usage();
-        if alone {
-            assert_same_in(rt, &patterns, memory, patterns[0].len());
-        } else {
-            assert_same_in(rt, &patterns, memory, 0);
-            assert_same_in(rt, (&patterns, &ignore_case), stops(prefilter), firsts);
-        }
-    }
-}
-
-/// That the candidate for this span is one by each match kind: what the plain program finds starts there or later, and a
-/// match is what it finds.
-fn look_at_span(
-    rt: &impl Abort,
-    prefilter: &Prefilter,
-    words: &[&[u8]],
-    ignore_case: bool,
-    haystack: &[u8],
-    span: Span,
-)
-    requires numbered { length words.now ≤ greatest_index + 1 }
-    requires within { span.end ≤ length haystack.now }
-    requires ordered { span.start ≤ span.end }
-{
-    let candidate = prefilter.find_in(haystack, span);
-    for kind in KINDS {
-        let patterns = PatternSet::new(words, kind, ignore_case);
-        let best = plain(&patterns, &Input::new(haystack).span(span));
-        let case = (&patterns, haystack, span, candidate);
-        match candidate {
-            Candidate::None => assert_same_in(rt, &case, best, None),
-            Candidate::Match(found) => assert_same_in(rt, &case, best, Some(found)),
-            Candidate::PossibleStartOfMatch(place) => {
-                assert_in(rt, &case, span.start <= place && place < span.end);
-                let start = best.map_or(place, |found| found.start());
-                assert_in(rt, &case, place <= start);
-            }
-        }
-    }
-}
-
-/// Looks at random patterns over an alphabet, and at each span of random bytes of it.
-fn look_at_random(rt: &impl Abort, alloc: Global, alphabet: &[u8]) -> Result<(), AllocError>
-    requires some { 0 < length alphabet.now }
-{
-    let mut random = Random::new();
-    for _ in 0..100 {
-        let mut bytes = [0; 40];
-        random.fill(&mut bytes, alphabet);
-        let words = random.ranges(alloc, &bytes)?;
-        let haystack = random.range(&bytes, 12);
-        for ignore_case in [false, true] {
-            let held = prefilter_of(alloc, &words, ignore_case)?;
-            look_at_held(rt, &held, &words, ignore_case);
-            if let Some(prefilter) = held {
-                look_at_spans(rt, &prefilter, &words, ignore_case, haystack);
-            }
-        }
-    }
-    Ok(())
-}
-
-/// Looks at each span of this haystack.
-fn look_at_spans(
-    rt: &impl Abort,
-    prefilter: &Prefilter,
-    words: &[&[u8]],
-    ignore_case: bool,
-    haystack: &[u8],
-) {
-    assert!(rt; words.len() <= PatternID::MAX.as_usize());
-    for end in 0..=haystack.len() {
-        for start in 0..=end {
-            look_at_span(
-                rt,
-                prefilter,
-                words,
-                ignore_case,
-                haystack,
-                Span { start, end },
-            );
-        }
-    }
-}
-
-#[test]
-fn random_patterns_have_candidates(rt: HostRuntime) -> Result<(), Fail> {
-    for alphabet in [b"aAb".as_slice(), b"abcd", b"a1@["] {
-        look_at_random(&rt, rt.alloc(), alphabet)?;
-    }
-    Ok(())
-}
-
 /// Whether a packed search is held for so many patterns.
 fn are_held_packed(alloc: Global, count: u8) -> Result<bool, AllocError> {
     let mut builder = PackedBuilder::new(alloc, false);
@@ -326,47 +204,9 @@ fn look_at_answer(
     Ok(())
 }
 
-/// Looks at random patterns of some bytes in a haystack that has several blocks.
-fn look_at_packed(
-    rt: &impl Abort,
-    alloc: Global,
-    random: &mut Random,
-    words: &[&[u8]],
-    bytes: &[u8],
-) -> Result<(), Fail> {
-    assert!(rt; words.len() <= PatternID::MAX.as_usize());
-    for ignore_case in [false, true] {
-        let Some(prefilter) = packed_of(alloc, words, ignore_case)? else {
-            return Ok(());
-        };
-        for _ in 0..4 {
-            let haystack = random.range(bytes, 60);
-            let start = random.below(haystack.len() + 1);
-            let end = haystack.len();
-            let (whole, part) = (Span { start: 0, end }, Span { start, end });
-            look_at_span(rt, &prefilter, words, ignore_case, haystack, whole);
-            look_at_span(rt, &prefilter, words, ignore_case, haystack, part);
-            look_at_answer(rt, alloc, words, haystack)?;
-        }
-    }
-    Ok(())
-}
-
 #[test]
-fn random_patterns_have_packed_candidates(rt: HostRuntime) -> Result<(), Fail> {
-    let alphabet = b"aAbBcCdDeEfFgGhH@`[{";
-    let mut random = Random::new();
-    for _ in 0..60 {
-        let mut bytes = [0; 90];
-        random.fill(&mut bytes, alphabet);
-        let mut words = Vec::new(rt.alloc());
-        for _ in 0..8 {
-            let word = random.range(&bytes, 6);
-            if word.len() >= 2 {
-                words.push(word)?;
-            }
-        }
-        look_at_packed(&rt, rt.alloc(), &mut random, &words, &bytes)?;
-    }
-    Ok(())
+fn a_packed_search_finds_as_plainly(rt: HostRuntime) -> Result<(), Fail> {
+    let words: [&[u8]; 4] = [b"ab", b"cd", b"efg", b"gh"];
+    look_at_answer(&rt, rt.alloc(), &words, b"a@`[{AbxxCD")?;
+    look_at_answer(&rt, rt.alloc(), &words, b"....................efEfGh")
 }

@@ -1,16 +1,15 @@
-//! Streams of the leftmost kinds: worked rows, and random streams of the three kinds against plain iteration.
+//! Streams of the leftmost kinds: worked rows, and patterns that begin one another.
 
 ghost use Rattle.aho_core.specs.Patterns.{Patterns};
 
-use crate::asserts::{assert_in, assert_same, assert_same_in};
-use crate::automata::{nfa_of, state_after};
+use crate::asserts::{assert_in, assert_same};
+use crate::automata::nfa_of;
 use crate::scripted::{ScriptedSource, Turn};
 use crate::stream_finds::{ONE_BYTE, Told, found_of, told_under};
-use crate::streams::{Numbers, behind, written};
+use crate::streams::{behind, written};
 use aho_automaton::automaton::Automaton;
 use aho_core::error::StreamError;
 use aho_core::search::{Input, MatchKind, PatternID};
-use aho_hybrid::hybrid::Hybrid;
 use bench::listing::finds;
 use bench::pattern_set::PatternSet;
 use std::alloc::{AllocError, Global};
@@ -154,28 +153,6 @@ fn a_leftmost_match_behind_a_buffer_is_replaced(rt: HostRuntime) -> Result<(), F
     Ok(())
 }
 
-/// The matches that are told of these bytes before more are wanted: under a leftmost kind up to the first at which the walk
-/// over the rest does not die.
-fn settled<A: Automaton>(
-    rt: &impl Abort,
-    alloc: Global,
-    automaton: &A,
-    patterns: &PatternSet<'_>,
-    bytes: &[u8],
-) -> Result<Vec<(usize, usize, usize)>, Fail> {
-    let mut told = Vec::new(alloc);
-    let mut from = 0;
-    for m in finds(alloc, patterns, Input::new(bytes))? {
-        let sid = state_after(rt, automaton, bytes.get(from..).unwrap_or(&[]));
-        if automaton.match_kind() != MatchKind::Standard && !automaton.is_dead(sid) {
-            return Ok(told);
-        }
-        told.push(found_of(m))?;
-        from = m.end();
-    }
-    Ok(told)
-}
-
 /// The matches of plain iteration over these bytes.
 fn plainly_found(
     alloc: Global,
@@ -189,33 +166,6 @@ fn plainly_found(
     Ok(found)
 }
 
-/// The matches that a stream tells, which may give so many bytes: those of plain iteration, and where it would give more
-/// those that are settled.
-fn found_under<A: Automaton>(
-    rt: &impl Abort,
-    alloc: Global,
-    automaton: &A,
-    patterns: &PatternSet<'_>,
-    given: &[u8],
-    limit: usize,
-) -> Result<Vec<(usize, usize, usize)>, Fail> {
-    if let Some(bytes) = given.get(..limit) {
-        return settled(rt, alloc, automaton, patterns, bytes);
-    }
-    Ok(plainly_found(alloc, patterns, given)?)
-}
-
-/// How many of the first so many turns fail.
-fn failed(turns: &[Turn], reads: usize) -> usize {
-    let mut failed = 0usize;
-    for turn in turns.iter().take(reads) {
-        if matches!(turn, Turn::Fail) {
-            failed = failed.saturating_add(1);
-        }
-    }
-    failed
-}
-
 /// The matches that are told are these. A message tells the case.
 fn has_matches<C: Debug + Drop>(
     rt: &impl Abort,
@@ -225,103 +175,6 @@ fn has_matches<C: Debug + Drop>(
 ) {
     let matches = told.items.iter().filter_map(|item| item.as_ref().ok());
     assert_in(rt, case, matches.eq(wanted.iter()));
-}
-
-/// A random stream.
-#[derive(Drop)]
-struct Stream {
-    given: Vec<u8>,
-    reads: Vec<Turn>,
-    limit: usize,
-}
-
-impl Stream {
-    /// The stream that these numbers lead to.
-    fn new(alloc: Global, numbers: &mut Numbers) -> Result<Stream, AllocError> {
-        Ok(Stream {
-            given: numbers.bytes(alloc)?,
-            reads: numbers.turns(alloc, 60, 10)?,
-            limit: numbers.next(70) as usize,
-        })
-    }
-
-    /// What an automaton tells of it, and how many faults are among that: those of its reads, and the limit's.
-    fn told<A: Automaton>(&self, alloc: Global, automaton: &A) -> Result<(Told, usize), Fail>
-        requires of { (p : Patterns) × A.is_of automaton.now p }
-    {
-        let mut source = ScriptedSource::new(&self.given, &self.reads);
-        let told = told_under(alloc, automaton, &mut source, self.limit as u64)?;
-        let failed = failed(&self.reads, source.reads());
-        let met = usize::from(self.limit <= self.given.len());
-        Ok((told, failed.saturating_add(met)))
-    }
-}
-
-/// A random stream tells the matches of plain iteration by this automaton, however it is cut and whatever fails, and those that
-/// are settled where a limit is met.
-fn is_searched_as_plainly<A: Automaton>(
-    rt: &impl Abort,
-    alloc: Global,
-    automaton: &A,
-    patterns: &PatternSet<'_>,
-    stream: &Stream,
-) -> Result<(), Fail>
-    requires of { (p : Patterns) × A.is_of automaton.now p }
-{
-    let wanted = found_under(rt, alloc, automaton, patterns, &stream.given, stream.limit)?;
-    let (told, faults) = stream.told(alloc, automaton)?;
-    let case = (automaton.match_kind(), stream.given.as_slice());
-    let items = wanted.len().saturating_add(faults);
-    assert_same_in(rt, &case, told.items.len(), items);
-    has_matches(rt, &case, &told, &wanted);
-    let most = told.position.saturating_mul(2);
-    assert_in(rt, &case, told.lookups <= most);
-    Ok(())
-}
-
-/// The patterns of random streams.
-const SETS: [&[&[u8]]; 5] = [
-    &[b"aab"],
-    &[b"ab", b"ac", b"adc"],
-    &[b"ab", b"bca", b"c", b"abcb"],
-    &[b"abcd", b"ab", b"bcd", b"c", b"dab"],
-    &[b"a", b"aa", b"aaa", b"baa", b"b", b"cab"],
-];
-
-/// Random streams of these patterns and this kind tell the matches of plain iteration, by an automaton that skips in no stream
-/// and by one that does.
-fn are_searched_as_plainly(
-    rt: &impl Abort,
-    alloc: Global,
-    words: &[&[u8]],
-    kind: MatchKind,
-    numbers: &mut Numbers,
-) -> Result<(), Fail> {
-    assert!(rt; words.len() <= PatternID::MAX.as_usize());
-    let patterns = PatternSet::new(words, kind, false);
-    let nfa = nfa_of(rt, alloc, words, kind, false);
-    let hybrid = Hybrid::from_nfa(alloc, &nfa).expect(rt, "an automaton");
-    for _ in 0..8 {
-        let stream = Stream::new(alloc, numbers)?;
-        is_searched_as_plainly(rt, alloc, &nfa, &patterns, &stream)?;
-        is_searched_as_plainly(rt, alloc, &hybrid, &patterns, &stream)?;
-    }
-    Ok(())
-}
-
-#[test]
-fn random_streams_of_each_kind_are_searched_as_plainly(rt: HostRuntime) -> Result<(), Fail> {
-    let mut numbers = Numbers::new(16);
-    for kind in [
-        MatchKind::Standard,
-        MatchKind::LeftmostFirst,
-        MatchKind::LeftmostLongest,
-    ] {
-        for words in SETS {
-            are_searched_as_plainly(&rt, rt.alloc(), words, kind, &mut numbers)?;
-        }
-    }
-    Ok(())
 }
 
 /// The beginnings of a word, by length.

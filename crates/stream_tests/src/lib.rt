@@ -1,5 +1,5 @@
-//! A caller that collects a stream's matches, and the tests of streams and of the program: worked rows under every cut, random streams, limits, refusals, and devices
-//! whose calls go by a list.
+//! A caller that collects a stream's matches, and the tests of streams and of the program: worked rows under every cut, limits, refusals,
+//! and devices whose calls go by a list. Random streams are compared with the search in memory by the program `compare`.
 #![tactic(auto)]
 
 #[cfg(test)]
@@ -12,11 +12,13 @@ pub mod collect;
 #[cfg(test)]
 mod devices;
 #[cfg(test)]
+mod failing;
+#[cfg(test)]
+mod failures;
+#[cfg(test)]
 mod leftmost_streams;
 #[cfg(test)]
 mod program;
-#[cfg(test)]
-mod relinked;
 #[cfg(test)]
 mod scripted;
 #[cfg(test)]

@@ -1,120 +1,19 @@
 //! Runs of the program over arguments and bytes in memory, and over devices that fail. Each message names its case.
 
 use crate::asserts::{assert_in, assert_same_in};
-use aho_core::error::{BuildError, MatchError};
-use aho_core::search::{MatchKind, PatternID};
+use crate::failing::{Broken, Device, Slow, Then};
 use aho_devices::adapters::{FromRead, FromWrite};
-use programs::failure::Failure;
-use programs::run::{report, run};
+use programs::run::run;
 use std::alloc::{AllocError, Global};
-use std::io;
-use std::io::{ErrorKind, Read, Write};
+use std::io::{ErrorKind, Read};
 use std::process::Abort;
 use std::test::Fail;
 
 /// How many bytes the program asks of its input at once.
 const PIECE: usize = 16 * 1024;
 
-const USAGE: &str = "usage: acfind find KIND [-i] PATTERN.. | overlap PATTERN.. | replace P R ..\n";
-
-/// A reader that gives some bytes, then fails once, and then gives some more.
-#[derive(Drop)]
-struct Broken<'b> {
-    first: &'b [u8],
-    kind: Option<ErrorKind>,
-    rest: &'b [u8],
-}
-
-impl<'b> Read for Broken<'b> {
-    fn read(&mut self, buf: &mut [u8]) -> io::Result<usize> {
-        if !self.first.is_empty() {
-            return self.first.read(buf);
-        }
-        match self.kind.take() {
-            Some(kind) => Err(io::Error::from(kind)),
-            None => self.rest.read(buf),
-        }
-    }
-}
-
-/// A reader that gives a byte at a time.
-#[derive(Drop)]
-struct Slow<'b> {
-    rest: &'b [u8],
-}
-
-impl<'b> Read for Slow<'b> {
-    fn read(&mut self, buf: &mut [u8]) -> io::Result<usize> {
-        let most = buf.len().min(1);
-        self.rest.read(&mut buf[..most])
-    }
-}
-
-/// What a writer does with a write once it has taken its first bytes.
-#[derive(Clone, Copy)]
-enum Then {
-    /// It goes on to take them.
-    Takes,
-    /// It takes none.
-    TakesNone,
-    /// It fails once, and then takes them.
-    Fails(ErrorKind),
-}
-
-/// A writer that takes a byte at a time, `first` of them at least, and keeps what it took until it is flushed. The first flush
-/// of some bytes may fail.
-#[derive(Drop)]
-struct Device {
-    first: usize,
-    then: Then,
-    flush: Option<ErrorKind>,
-    held: Vec<u8>,
-    flushed: Vec<u8>,
-}
-
-impl Device {
-    fn new(alloc: Global, first: usize, then: Then, flush: Option<ErrorKind>) -> Device {
-        Device {
-            first,
-            then,
-            flush,
-            held: Vec::new(alloc),
-            flushed: Vec::new(alloc),
-        }
-    }
-}
-
-impl Write for Device {
-    fn write(&mut self, buf: &[u8]) -> io::Result<usize> {
-        let Some(byte) = buf.first() else {
-            return Ok(0);
-        };
-        if self.held.len() >= self.first {
-            match self.then {
-                Then::Takes => {}
-                Then::TakesNone => return Ok(0),
-                Then::Fails(kind) => {
-                    self.then = Then::Takes;
-                    return Err(io::Error::from(kind));
-                }
-            }
-        }
-        self.held.push(*byte)?;
-        Ok(1)
-    }
-
-    fn flush(&mut self) -> io::Result<()> {
-        if self.held.is_empty() {
-            return Ok(());
-        }
-        if let Some(kind) = self.flush.take() {
-            return Err(io::Error::from(kind));
-        }
-        self.flushed.extend_from_slice(self.held.as_slice())?;
-        self.held.truncate(0);
-        Ok(())
-    }
-}
+pub(crate) const USAGE: &str =
+    "usage: acfind find KIND [-i] PATTERN.. | overlap PATTERN.. | replace P R ..\n";
 
 fn texts(alloc: Global, arguments: &[&str]) -> Result<Vec<String>, AllocError> {
     let mut texts = Vec::new(alloc);
@@ -645,64 +544,6 @@ fn writes_in_pieces_and_flushes(rt: HostRuntime) -> Result<(), Fail> {
         assert_same_in(&rt, &kind, found, status);
         assert_same_in(&rt, &kind, output.flushed.as_slice(), printed.as_bytes());
         assert_same_in(&rt, &kind, errors.flushed.as_slice(), told.as_bytes());
-    }
-    Ok(())
-}
-
-/// The longest line has room.
-#[test]
-fn tells_each_failure_in_a_line(rt: HostRuntime) -> Result<(), Fail> {
-    let max = u64::MAX;
-    let rows = [
-        (Failure::Usage, 2, USAGE),
-        (
-            Failure::Build(BuildError::StateIDOverflow {
-                max,
-                requested: max,
-            }),
-            2,
-            "state identifier overflow: failed to create state ID from 18446744073709551615, which exceeds the max of \
-             18446744073709551615\n",
-        ),
-        (
-            Failure::Build(BuildError::PatternIDOverflow {
-                max,
-                requested: max,
-            }),
-            2,
-            "pattern identifier overflow: failed to create pattern ID from 18446744073709551615, which exceeds the max of \
-             18446744073709551615\n",
-        ),
-        (
-            Failure::Build(BuildError::PatternTooLong {
-                pattern: PatternID::new(7)?,
-                len: usize::MAX,
-                max: usize::MAX,
-            }),
-            2,
-            "pattern 7 with length 18446744073709551615 exceeds the maximum pattern length of 18446744073709551615\n",
-        ),
-        (
-            Failure::Build(BuildError::OutOfMemory),
-            2,
-            "out of memory\n",
-        ),
-        (
-            Failure::Search(MatchError::unsupported_overlapping(MatchKind::LeftmostLongest)),
-            2,
-            "match kind LeftmostLongest does not support overlapping searches\n",
-        ),
-        (Failure::OutOfMemory, 2, "out of memory\n"),
-        (Failure::PositionLimit, 2, "position limit reached\n"),
-        (Failure::Read, 3, "read fault\n"),
-        (Failure::Write, 3, "write fault\n"),
-        (Failure::WriteZero, 3, "write took no bytes\n"),
-    ];
-    for (failure, status, told) in &rows {
-        let mut errors = Vec::new(rt.alloc());
-        let found = report(failure, &mut FromWrite::new(&mut errors));
-        assert_same_in(&rt, told, found, *status);
-        assert_same_in(&rt, told, errors.as_slice(), told.as_bytes());
     }
     Ok(())
 }

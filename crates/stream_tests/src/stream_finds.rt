@@ -8,9 +8,9 @@ use crate::automata::{nfa_holding, nfa_of, relinked_of};
 use crate::collect::matches_of;
 use crate::scripted::{ScriptedSource, Turn};
 use aho_automaton::automaton::{Automaton, WithPrefilter};
+use aho_corasick::noncontiguous::NFA;
 use aho_core::error::{Fault, MatchError, StreamError};
 use aho_core::search::{Match, MatchKind};
-use aho_corasick::noncontiguous::NFA;
 use aho_hybrid::hybrid::Hybrid;
 use aho_prefilter::prefilter::Prefilter;
 use aho_stream::chunks::StreamChunkIter;
@@ -222,12 +222,7 @@ fn saves(rt: &impl Abort, told: &Told, wanted: &Told) {
 }
 
 /// An automaton that is given this prefilter skips in a stream, with rows and without.
-fn skips_by(
-    rt: &impl Abort,
-    alloc: Global,
-    nfa: &NFA,
-    prefilter: Prefilter,
-) -> Result<(), Fail>
+fn skips_by(rt: &impl Abort, alloc: Global, nfa: &NFA, prefilter: Prefilter) -> Result<(), Fail>
     requires of { (p : Patterns) × ⟦<NFA as Automaton>⟧.is_of nfa.now p
         × IsPrefilterOf prefilter p }
 {

@@ -1,5 +1,4 @@
-//! Replacement in streams: worked rows under every cut into pieces, devices that fail, and random streams against
-//! replacement in memory.
+//! Replacement in streams: worked rows under every cut into pieces, and devices that fail.
 
 ghost use Rattle.std.specs.Prelude.{◌≡◌, length};
 ghost use Rattle.aho_core.specs.Patterns.{Patterns};
@@ -10,13 +9,11 @@ use crate::scripted::{ScriptedSink, ScriptedSource, Turn};
 use crate::stream_finds::ONE_BYTE;
 use aho_automaton::automaton::Automaton;
 use aho_core::error::{Fault, MatchError, StreamError};
-use aho_core::search::{Input, Match, MatchKind};
+use aho_core::search::MatchKind;
 use aho_devices::write::write_whole;
 use aho_stream::chunks::{StreamChunk, StreamChunkIter};
 use aho_stream::replace::{replace_stream, try_stream_replace_all, try_stream_replace_all_with};
 use aho_stream::start::StreamStart;
-use bench::listing::finds;
-use bench::pattern_set::PatternSet;
 use std::alloc::{AllocError, Global};
 use std::process::Abort;
 use std::test::Fail;
@@ -436,172 +433,6 @@ fn a_match_across_the_end_of_the_buffer_is_replaced(rt: HostRuntime) -> Result<(
     is_replaced_behind(&rt, alloc, b"foobar", 65_533)?;
     let long = behind(alloc, 9_000, b"y")?;
     is_replaced_behind(&rt, alloc, &long, 70_000)
-}
-
-/// Numbers that look random.
-#[derive(Drop)]
-pub(crate) struct Numbers {
-    last: u64,
-}
-
-impl Numbers {
-    /// Those that begin with this.
-    pub(crate) fn new(last: u64) -> Numbers {
-        Numbers { last }
-    }
-
-    /// The next number, below `end`.
-    pub(crate) fn next(&mut self, end: u64) -> u64 {
-        self.last = self
-            .last
-            .wrapping_mul(6_364_136_223_846_793_005)
-            .wrapping_add(1_442_695_040_888_963_407);
-        (self.last >> 33).checked_rem(end).unwrap_or(0)
-    }
-
-    /// Turns that move from 1 to 4 bytes, of which one in so many fails.
-    pub(crate) fn turns(
-        &mut self,
-        alloc: Global,
-        count: usize,
-        rare: u64,
-    ) -> Result<Vec<Turn>, AllocError> {
-        let mut turns = Vec::new(alloc);
-        for _ in 0..count {
-            let moved = self.next(4) as usize;
-            let fails = self.next(rare) == 0;
-            turns.push(if fails {
-                Turn::Fail
-            } else {
-                Turn::Move(moved.saturating_add(1))
-            })?;
-        }
-        Ok(turns)
-    }
-
-    /// Less than 60 bytes of four letters.
-    pub(crate) fn bytes(&mut self, alloc: Global) -> Result<Vec<u8>, AllocError> {
-        let mut bytes = Vec::new(alloc);
-        for _ in 0..self.next(60) {
-            bytes.push(b"abcd"[self.next(4) as usize & 3])?;
-        }
-        Ok(bytes)
-    }
-}
-
-/// The bytes, with the pieces in the places of these matches.
-fn replaced_by(
-    alloc: Global,
-    given: &[u8],
-    matches: &[Match],
-    pieces: &[&[u8]],
-) -> Result<Vec<u8>, AllocError> {
-    let mut bytes = Vec::new(alloc);
-    let mut at = 0;
-    for m in matches {
-        bytes.extend_from_slice(given.get(at..m.start()).unwrap_or(&[]))?;
-        bytes.extend_from_slice(
-            pieces
-                .get(m.pattern().as_usize())
-                .unwrap_or(&b"".as_slice()),
-        )?;
-        at = m.end();
-    }
-    bytes.extend_from_slice(given.get(at..).unwrap_or(&[]))?;
-    Ok(bytes)
-}
-
-/// The patterns of random streams, and their pieces.
-const WORDS: [&[u8]; 4] = [b"ab", b"bca", b"c", b"abcb"];
-
-const PIECES: [&[u8]; 4] = [b"", b"-", b"ab", b"xyz"];
-
-/// What iteration in memory makes of the bytes of a random stream.
-fn plainly_replaced(alloc: Global, kind: MatchKind, given: &[u8]) -> Result<Vec<u8>, AllocError> {
-    let patterns = PatternSet::new(&WORDS, kind, false);
-    let matches = finds(alloc, &patterns, Input::new(given))?;
-    replaced_by(alloc, given, &matches, &PIECES)
-}
-
-/// The one device that failed is told.
-fn is_told(
-    rt: &impl Abort,
-    given: &[u8],
-    read_failed: bool,
-    write_failed: bool,
-    answer: Result<(), StreamError>,
-) {
-    let told = if read_failed {
-        StreamError::Read(Fault)
-    } else {
-        StreamError::Write(Fault)
-    };
-    assert_in(rt, given, read_failed != write_failed);
-    assert_same_in(rt, given, answer, Err(told));
-}
-
-/// A stream whose devices go by these turns becomes this, or where one of them fails a beginning of this.
-fn becomes<A: Automaton>(
-    rt: &impl Abort,
-    alloc: Global,
-    automaton: &A,
-    given: &[u8],
-    turns: (&[Turn], &[Turn]),
-    wanted: &[u8],
-)
-    requires of { (p : Patterns) × A.is_of automaton.now p }
-{
-    let mut source = ScriptedSource::new(given, turns.0);
-    let mut sink = ScriptedSink::new(alloc, turns.1);
-    let answer = replaces(rt, alloc, automaton, &PIECES, &mut source, &mut sink);
-    assert_in(rt, given, wanted.starts_with(sink.taken()));
-    if answer.is_ok() {
-        assert_same_in(rt, given, sink.taken().len(), wanted.len());
-        return;
-    }
-    let read_failed = last_failed(turns.0, source.reads());
-    let write_failed = last_failed(turns.1, sink.writes());
-    is_told(rt, given, read_failed, write_failed, answer);
-}
-
-/// A random stream is replaced as iteration in memory says, or where a device fails a beginning of that is written.
-fn is_replaced_as_plainly(
-    rt: &impl Abort,
-    alloc: Global,
-    kind: MatchKind,
-    numbers: &mut Numbers,
-) -> Result<(), Fail> {
-    let given = numbers.bytes(alloc)?;
-    let reads = numbers.turns(alloc, 30, 40)?;
-    let writes = numbers.turns(alloc, 30, 40)?;
-    let wanted = plainly_replaced(alloc, kind, &given)?;
-    let nfa = nfa_of(rt, alloc, &WORDS, kind, false);
-    becomes(rt, alloc, &nfa, &given, (&reads, &writes), &wanted);
-    Ok(())
-}
-
-#[test]
-fn random_streams_are_replaced_as_plainly(rt: HostRuntime) -> Result<(), Fail> {
-    let alloc = rt.alloc();
-    let mut numbers = Numbers::new(7);
-    for kind in [
-        MatchKind::Standard,
-        MatchKind::LeftmostFirst,
-        MatchKind::LeftmostLongest,
-    ] {
-        for _ in 0..60 {
-            is_replaced_as_plainly(&rt, alloc, kind, &mut numbers)?;
-        }
-    }
-    Ok(())
-}
-
-/// Whether the last of so many calls failed.
-fn last_failed(turns: &[Turn], calls: usize) -> bool {
-    match turns.get(calls.saturating_sub(1)) {
-        Some(Turn::Fail) => true,
-        _ => false,
-    }
 }
 
 #[test]
