@@ -1,4 +1,5 @@
 pub mod Patterns
+pub mod Listed
 pub mod Laying
 pub mod PatternChanges
 pub mod Closed

@@ -1,15 +1,12 @@
 -- Lists of patterns in one vector of words.
-use Rattle.std.proofs.Common.{◌≡◌, ◌≢◌, ℕ, suc, ◌+◌, ◌-◌, ◌<◌, ◌≤◌, ◌⊎◌, Some, Bool, true, false, List, [], ◌∷◌, length, get_or, take, drop, refl, sym, ap, ◌∙◌, inl, inr, arith}
-use Rattle.std.specs.List.{All, slice_get}
-use Rattle.std.proofs.lemmas.Option.{slice_get-get_or}
+use Rattle.std.proofs.Common.{◌≡◌, ◌≢◌, ℕ, suc, ◌+◌, ◌-◌, ◌<◌, ◌≤◌, true, false, List, [], length, get_or, take, drop, refl, sym, ap, ◌∙◌, inl, inr, arith}
+use Rattle.std.specs.List.{All}
 use Rattle.std.proofs.lemmas.Bool.{cases_eq, cases_lt, lt-ltb, le-ltb, ltb-true}
 use Rattle.std.proofs.lemmas.List.{get_or_past, get_or-take, get_or-drop, length-take-le, length-drop}
-use Rattle.std.proofs.lemmas.List.FromFn.{length-map-range_with_len, get_or-map-range_with_len}
 use Rattle.std.proofs.lemmas.List.Elements.{All-from_get_or}
 use Rattle.std.proofs.lemmas.Grind.{get_or_default_zero, same_number_lists}
 use Rattle.aho_core.specs.Numbers.{greatest_index}
-use Rattle.aho_lists.specs.Lists.{PatternLists, list_at, closed_at, IsList, IsListed, IsOwnNumber}
-use Rattle.aho_lists.specs.Words.{room, length_mark, word_at, told, length_at, patterns_at, pattern_lists, is_closed, closed_lists, pattern_store, IsHeld, HasPatterns, AreLaid}
+use Rattle.aho_lists.specs.Words.{room, length_mark, word_at, told, length_at, patterns_at, is_closed, IsHeld, AreLaid}
 
 -- ---- the length that a word tells
 
@@ -161,32 +158,6 @@ same_patterns old new count now list are then same each =
     let within : i < length_at old list = omega (arith, below, length-patterns_at old count list are) in
     each i within ∙ sym (get_or-patterns_at old count list i are within))
 
--- ---- the lists by their numbers
-
-pub length-pattern_lists : (words : List ℕ) → length (pattern_lists words) ≡ length words + 1
-unfolding pattern_lists
-length-pattern_lists words = length-map-range_with_len (patterns_at words) 0 (length words + 1)
-
-list_at-within : (words : List ℕ) (list : ℕ) → list < length words + 1 → list_at (pattern_lists words) list ≡ patterns_at words list
-unfolding pattern_lists
-list_at-within words list below = get_or-map-range_with_len (patterns_at words) 0 (length words + 1) list list [] below (omega arith)
-
-pub list_at-pattern_lists : (words : List ℕ) (list : ℕ) → list_at (pattern_lists words) list ≡ patterns_at words list
-list_at-pattern_lists words list =
-    elim (cases_lt list (length words + 1)) [
-      | inl below ↦ list_at-within words list below
-      | inr above ↦ get_or_past (pattern_lists words) list [] (omega (arith, length-pattern_lists words))
-          ∙ sym (patterns_at-past words list (omega arith))
-    ]
-
--- a number that is a list's is held
-pub held_of : (words : List ℕ) (list : ℕ) → IsList (pattern_lists words) list → IsHeld words list
-held_of words list known some =
-    elim (cases_eq (length_at words list) 0) [
-      | inl is ↦ absurd (some (known (list_at-pattern_lists words list ∙ patterns_at-none words list is)))
-      | inr ne ↦ omega (arith, ne)
-    ]
-
 -- ---- the closed ones
 
 pub is_closed-below : (words : List ℕ) (list : ℕ) → word_at words (list + length_at words list) < room → is_closed words list ≡ true
@@ -197,74 +168,14 @@ pub closed-below : (words : List ℕ) (list : ℕ) → is_closed words list ≡ 
 unfolding is_closed
 closed-below words list closed = ltb-true (word_at words (list + length_at words list)) room closed
 
-is_closed-past : (words : List ℕ) (list : ℕ) → length words ≤ list → is_closed words list ≡ false
-unfolding is_closed
-is_closed-past words list past =
-    le-ltb (word_at words (list + length_at words list)) room (omega (arith, get_or_past words (list + length_at words list) room (omega (arith, past))))
-
-length-closed_lists : (words : List ℕ) → length (closed_lists words) ≡ length words + 1
-unfolding closed_lists
-length-closed_lists words = length-map-range_with_len (is_closed words) 0 (length words + 1)
-
-closed_at-within : (words : List ℕ) (list : ℕ) → list < length words + 1 → closed_at (closed_lists words) list ≡ is_closed words list
-unfolding closed_lists
-closed_at-within words list below = get_or-map-range_with_len (is_closed words) 0 (length words + 1) list list false below (omega arith)
-
-pub closed_at-closed_lists : (words : List ℕ) (list : ℕ) → closed_at (closed_lists words) list ≡ is_closed words list
-closed_at-closed_lists words list =
-    elim (cases_lt list (length words + 1)) [
-      | inl below ↦ closed_at-within words list below
-      | inr above ↦ get_or_past (closed_lists words) list false (omega (arith, length-closed_lists words))
-          ∙ sym (is_closed-past words list (omega arith))
-    ]
-
--- what is so of the words is so of the lists by their numbers
-pub is_listed : (old new : List ℕ) (count now limit list made : ℕ) (items : List ℕ) → HasPatterns old new list made items
-    → IsListed (pattern_store old count limit) (pattern_store new now limit) list made items
-is_listed old new count now limit list made items has = record {
-  listed = list_at-pattern_lists new made ∙ has.patterns;
-  known = λ none. absurd (omega (arith, has.some, ap length (sym (list_at-pattern_lists new made ∙ has.patterns) ∙ none)));
-  others = λ other below why.
-      list_at-pattern_lists new other
-      ∙ has.others other (omega (arith, below, length-pattern_lists old)) (why_so other why)
-      ∙ sym (list_at-pattern_lists old other);
-  closed = λ other closed.
-      closed_at-closed_lists new other ∙ has.closed other (sym (closed_at-closed_lists old other) ∙ closed);
-}
-  where
-    why_so : (other : ℕ) → (other ≢ list) ⊎ (closed_at (closed_lists old) other ≡ true) → (other ≢ list) ⊎ (is_closed old other ≡ true)
-    why_so other (inl apart) = inl apart
-    why_so other (inr closed) = inr (sym (closed_at-closed_lists old other) ∙ closed)
-
-pub past_all : (words : List ℕ) (made : ℕ) → length words < made → length (pattern_lists words) ≤ made
-past_all words made past = omega (arith, past, length-pattern_lists words)
-
-pub own_number : (words : List ℕ) (list made : ℕ) → (made ≡ list) ⊎ (length words < made) → IsOwnNumber (pattern_lists words) list made
-own_number words list made (inl same) = inl same
-own_number words list made (inr past) = inr (past_all words made past)
-
 -- ---- a store with no words
+
+pub is_closed-none : is_closed [] 0 ≡ false
+unfolding is_closed
+is_closed-none = le-ltb room room (omega arith)
 
 pub AreLaid-none : AreLaid [] 1
 AreLaid-none = record {
   patterns = λ place k past inside. absurd (omega (arith, told-room));
   fewer = λ place. omega (arith, told-room);
 }
-
-pub pattern_store-none : (limit : ℕ) → let s : PatternLists = record { lists = [] ∷ []; closed = false ∷ []; count = 1; limit = limit } in pattern_store [] 1 limit ≡ s
-unfolding pattern_lists closed_lists
-pattern_store-none limit =
-    ap (λ (xs : List ℕ). let s : PatternLists = record { lists = xs ∷ []; closed = is_closed [] 0 ∷ []; count = 1; limit = limit } in s) (patterns_at-zero [])
-    ∙ ap (λ (b : Bool). let s : PatternLists = record { lists = [] ∷ []; closed = b ∷ []; count = 1; limit = limit } in s) (is_closed-past [] 0 (omega arith))
-
--- ---- a list by its number
-
-module _ (words : List ℕ) (count list : ℕ) (are : AreLaid words count) where
-  pub length-list_at : length (list_at (pattern_lists words) list) ≡ length_at words list
-  length-list_at = ap length (list_at-pattern_lists words list) ∙ length-patterns_at words count list are
-
-  pub get-list_at : (index : ℕ) → index < length_at words list → slice_get (list_at (pattern_lists words) list) index ≡ Some (word_at words (list + index))
-  get-list_at index below =
-      ap (λ (xs : List ℕ). slice_get xs index) (list_at-pattern_lists words list)
-      ∙ slice_get-get_or (patterns_at words list) index 0 (omega (arith, below, length-patterns_at words count list are))
-      ∙ ap Some (get_or-patterns_at words count list index are below)

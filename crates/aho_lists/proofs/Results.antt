@@ -35,3 +35,12 @@ IfOk-from (Err e) p r more = tt
 pub IfOk-more : {X E : Type 0} {P Q : X → Type 0} (result : Result X E) → ((x : X) → P x → Q x) → IfOk result P → IfOk result Q
 IfOk-more (Ok x) more holds = more x holds
 IfOk-more (Err e) more holds = tt
+
+pub IfOk-both : {X E : Type 0} {P Q : X → Type 0} {R S : Type 0} (result : Result X E) → IfOk result P → OnOk result R → OnOk result S
+    → ((x : X) → P x → R → S → Q x) → IfOk result Q
+IfOk-both (Ok x) p r s more = more x p r s
+IfOk-both (Err e) p r s more = tt
+
+pub OnOk-both : {X E : Type 0} {R S Q : Type 0} (result : Result X E) → OnOk result R → OnOk result S → (R → S → Q) → OnOk result Q
+OnOk-both (Ok x) r s more = more r s
+OnOk-both (Err e) r s more = tt

@@ -1,8 +1,7 @@
 -- Lists of patterns in one vector of numbers, its words. A list is a word that tells its length, and behind it the patterns; room
--- may follow. A list's number is the place of its first pattern, and 0 that of the empty list. A list behind which another word
--- stands is closed: it cannot grow there.
+-- may follow. A list's place is that of its first pattern, and 0 that of the empty list. A list behind which another word
+-- stands is closed: it cannot grow there. Lists have numbers from 1 on, and a second vector has the places by these numbers.
 use Rattle.std.specs.Prelude.{◌≡◌, ◌≢◌, ◌⊎◌, ℕ, zero, suc, ◌+◌, ◌-◌, ◌<◌, ◌≤◌, Bool, true, List, ◌∷◌, drop, length, map, nat_lt, if◌then◌else◌, slice_index_or, take}
-use Rattle.std.specs.List.{range_with_len}
 use Rattle.aho_core.specs.Numbers.{greatest_index}
 use Rattle.aho_lists.specs.Lists.{PatternLists}
 
@@ -21,7 +20,7 @@ word_at words place = slice_index_or words place room
 unfoldable pub told : ℕ → ℕ
 told word = if nat_lt word room then word - length_mark else 0
 
--- how many patterns the list of this number has
+-- how many patterns the list at this place has
 unfoldable pub length_at : List ℕ → ℕ → ℕ
 length_at words zero = 0
 length_at words (suc place) = told (word_at words place)
@@ -30,26 +29,31 @@ length_at words (suc place) = told (word_at words place)
 unfoldable pub patterns_at : List ℕ → ℕ → List ℕ
 patterns_at words list = take (length_at words list) (drop list words)
 
--- the lists by their numbers
-unfoldable pub pattern_lists : List ℕ → List (List ℕ)
-pattern_lists words = map (patterns_at words) (range_with_len 0 (length words + 1))
-
 -- whether it is closed: no room is behind its last pattern
 unfoldable pub is_closed : List ℕ → ℕ → Bool
 is_closed words list = nat_lt (word_at words (list + length_at words list)) room
 
-unfoldable pub closed_lists : List ℕ → List Bool
-closed_lists words = map (is_closed words) (range_with_len 0 (length words + 1))
+-- the place of the list of this number
+abbrev pub place_at : List ℕ → ℕ → ℕ
+place_at places list = slice_index_or (0 ∷ places) list 0
 
--- what a store of these words is seen as
-abbrev pub pattern_store : List ℕ → ℕ → ℕ → PatternLists
-pattern_store words count limit = record { lists = pattern_lists words; closed = closed_lists words; count = count; limit = limit }
+-- the lists by their numbers, and which are closed
+unfoldable pub pattern_lists : List ℕ → List ℕ → List (List ℕ)
+pattern_lists words places = map (patterns_at words) (0 ∷ places)
+
+unfoldable pub closed_lists : List ℕ → List ℕ → List Bool
+closed_lists words places = map (is_closed words) (0 ∷ places)
+
+-- what a store of these words and places is seen as
+abbrev pub pattern_store : List ℕ → List ℕ → ℕ → ℕ → PatternLists
+pattern_store words places count limit =
+    record { lists = pattern_lists words places; closed = closed_lists words places; count = count; limit = limit }
 
 -- a list as it is laid down
 abbrev pub laid : List ℕ → List ℕ
 laid patterns = (length_mark + length patterns) ∷ patterns
 
--- the number is that of a list, or 0
+-- the place is that of a list, or 0
 abbrev pub IsHeld : List ℕ → ℕ → Type 0
 IsHeld words list = list ≢ 0 → 0 < length_at words list
 
@@ -58,11 +62,25 @@ pub record AreLaid (words : List ℕ) (count : ℕ) : Type 0 where
   pub patterns : (place k : ℕ) → place < k → k ≤ place + told (word_at words place) → word_at words k ≤ greatest_index
   pub fewer : (place : ℕ) → told (word_at words place) < count
 
--- and no index of a listed pattern is above the limit
-pub record AreStored (words : List ℕ) (count limit : ℕ) : Type 0 where
+-- each list has a place of its own among the words, the later its number the later
+pub record ArePlaces (words places : List ℕ) : Type 0 where
+  pub rising : (a b : ℕ) → a < b → b ≤ length places → place_at places a < place_at places b
+  pub inside : (list : ℕ) → place_at places list ≤ length words
+
+-- no index of a listed pattern is above the limit, and there are fewer lists than `count`
+pub record AreStored (words places : List ℕ) (count limit : ℕ) : Type 0 where
   pub small : limit ≤ greatest_index
   pub within : count ≤ limit + 1
   pub laid_down : AreLaid words count
+  pub placed : ArePlaces words places
+  pub fewer : length places < count
+
+-- a store of these words and places may list so many patterns more
+pub record MayList (words places : List ℕ) (more : ℕ) : Type 0 where
+  pub count : ℕ
+  pub limit : ℕ
+  pub stored : AreStored words places count limit
+  pub few : count + more ≤ limit + 1
 
 -- the word at one place is another, which stands behind all or where one stood
 pub record IsPut (old : List ℕ) (place word : ℕ) (new : List ℕ) : Type 0 where
@@ -70,20 +88,20 @@ pub record IsPut (old : List ℕ) (place word : ℕ) (new : List ℕ) : Type 0 w
   pub others : (i : ℕ) → i ≢ place → word_at new i ≡ word_at old i
   pub longer : length old ≤ length new
 
--- the list of this number has one pattern more, behind those that it had
+-- the list at this place has one pattern more, behind those that it had
 pub record IsLengthened (old : List ℕ) (list pattern : ℕ) (new : List ℕ) : Type 0 where
   pub mark : word_at new (list - 1) ≡ word_at old (list - 1) + 1
   pub added : word_at new (list + length_at old list) ≡ pattern
   pub others : (i : ℕ) → i ≢ list - 1 → i ≢ list + length_at old list → word_at new i ≡ word_at old i
   pub longer : length old ≤ length new
 
--- the list of this number is closed: each word that is no room stays, and none tells another length
+-- the list at this place is closed: each word that is no room stays, and none tells another length
 pub record IsClosed (old : List ℕ) (list : ℕ) (new : List ℕ) : Type 0 where
   pub closed : word_at new (list + length_at old list) < room
   pub kept : (i : ℕ) → word_at old i < room → word_at new i ≡ word_at old i
   pub lengths : (i : ℕ) → told (word_at new i) ≡ told (word_at old i)
 
--- the list of this number has these patterns now, under this one: `IsListed` in words
+-- the list at this place has these patterns now, at another or where it was: `IsListed` in words
 pub record HasPatterns (old new : List ℕ) (list made : ℕ) (items : List ℕ) : Type 0 where
   pub patterns : patterns_at new made ≡ items
   pub some : 0 < length items

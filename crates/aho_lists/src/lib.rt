@@ -2,6 +2,7 @@
 #![tactic(auto)]
 
 pub mod matches;
+mod numbers;
 mod places;
 pub mod renumber;
 pub mod transitions;

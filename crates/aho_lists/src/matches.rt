@@ -2,7 +2,7 @@
 //!
 //! The patterns of a list stand side by side. A list that grows is moved to the end, unless there is room behind it; then there
 //! is room for as many patterns again. So a pattern is added in constant time, over many of them. A list's number, which its
-//! caller keeps, is the place of its first pattern; 0 is the number of the empty list.
+//! caller keeps, leads to the place of its first pattern; 0 is the number of the empty list.
 //!
 //! The empty list joined with another shares it: no pattern is copied. The list is closed then, which means that it is moved
 //! when one of its owners adds a pattern, and the others keep what they have.
@@ -14,8 +14,9 @@ ghost use Rattle.aho_core.specs.Numbers.{greatest_index};
 ghost use Rattle.aho_lists.specs.Refusal.{refusal_at, IsRefusalOf};
 ghost use Rattle.aho_lists.specs.Lists.{list_at, closed_at, IsList, IsListed, IsOwnNumber};
 
+use crate::numbers::{join_listed, place_of, push_listed};
 use crate::places::overflow;
-use crate::words::{join_patterns, len_at, pattern_at, push_pattern, words_from};
+use crate::words::{len_at, pattern_at, words_from};
 use aho_core::error::BuildError;
 use aho_core::search::{PatternID, SmallIndex};
 use std::alloc::{AllocError, Global};
@@ -28,6 +29,8 @@ use std::marker::Model;
 #[derive(Drop)]
 pub struct MatchLists {
     words: Vec<u32>,
+    /// Where the lists stand among the words, by their numbers from 1 on.
+    places: Vec<usize>,
     /// How many patterns were listed, and one.
     count: usize,
     limit: usize,
@@ -39,9 +42,9 @@ impl Model for MatchLists {
 
     ghost Value = { PatternLists };
 
-    ghost view = { λ s. pattern_store s.words.items s.count s.limit };
+    ghost view = { λ s. pattern_store s.words.items s.places.items s.count s.limit };
 
-    ghost invariant = { λ s. AreStored s.words.items s.count s.limit };
+    ghost invariant = { λ s. AreStored s.words.items s.places.items s.count s.limit };
 }
 
 impl MatchLists {
@@ -51,6 +54,7 @@ impl MatchLists {
     {
         MatchLists {
             words: Vec::new(alloc),
+            places: Vec::new(alloc),
             count: 1,
             limit: limit.min(SmallIndex::MAX.as_usize()),
         }
@@ -95,7 +99,7 @@ impl MatchLists {
         if self.count > self.limit {
             return Err(overflow(self.limit));
         }
-        let Ok(made) = push_pattern(&mut self.words, list, pattern) else {
+        let Ok(made) = push_listed(&mut self.words, &mut self.places, list, pattern) else {
             return Err(BuildError::OutOfMemory);
         };
         self.count += 1;
@@ -123,14 +127,14 @@ impl MatchLists {
             (IsRefusalOf self.old.limit (self.old.count + length (list_at self.old.lists other))) }
         ensures unchanged { OnErr result (self.new ≡ self.old) }
     {
-        let more = len_at(&self.words, other);
+        let more = self.len_of(other);
         if more == 0 {
             return Ok(list);
         }
         if self.count + more > self.limit + 1 {
             return Err(overflow(self.limit));
         }
-        let Ok(made) = join_patterns(&mut self.words, list, other) else {
+        let Ok(made) = join_listed(&mut self.words, &mut self.places, list, other) else {
             return Err(BuildError::OutOfMemory);
         };
         self.count += more;
@@ -142,7 +146,7 @@ impl MatchLists {
         requires known { IsList self.now.lists list }
         ensures len { result ≡ length (list_at self.now.lists list) }
     {
-        len_at(&self.words, list)
+        len_at(&self.words, place_of(&self.places, list))
     }
 
     /// The pattern of this place in the list of this number.
@@ -151,7 +155,7 @@ impl MatchLists {
         requires within { index < length (list_at self.now.lists list) }
         ensures listed { slice_get (list_at self.now.lists list) index ≡ Some result }
     {
-        pattern_at(&self.words, list, index)
+        pattern_at(&self.words, place_of(&self.places, list), index)
     }
 
     /// An equal store, in memory of its own.
@@ -164,6 +168,7 @@ impl MatchLists {
     {
         Ok(MatchLists {
             words: Vec::from_slice(alloc, &self.words)?,
+            places: Vec::from_slice(alloc, &self.places)?,
             count: self.count,
             limit: self.limit,
         })
@@ -174,9 +179,10 @@ impl MatchLists {
         requires known { IsList self.now.lists list }
         ensures listed { result ≡ list_at self.now.lists list }
     {
-        let count = len_at(&self.words, list);
+        let place = place_of(&self.places, list);
+        let count = len_at(&self.words, place);
         Matches {
-            rest: words_from(&self.words, list as usize, count),
+            rest: words_from(&self.words, place, count),
         }
     }
 }

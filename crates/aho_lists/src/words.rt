@@ -1,8 +1,8 @@
 //! Lists of patterns in one vector of numbers, its words.
 //!
-//! A list is a word that tells its length, and behind it the patterns. Room for more of them may follow. A list's number is
-//! the place of its first pattern, and 0 that of the empty list. A list behind which another word stands is closed: it cannot
-//! grow there, so that more than one owner may keep its number.
+//! A list is a word that tells its length, and behind it the patterns. Room for more of them may follow. Here a list is named
+//! by the place of its first pattern, and the empty list by 0. A list behind which another word stands is closed: it cannot
+//! grow there, so that it may have more than one owner.
 
 ghost use Rattle.std.specs.Prelude.{◌≡◌, ◌≢◌, ◌⊎◌, ◌+◌, ◌-◌, ◌<◌, ◌≤◌, ◌∷◌, ◌++◌, [], ℕ, true, length, replicate, take, drop, IfOk, OnOk, OnErr};
 ghost use Rattle.aho_core.specs.Numbers.{greatest_index};
@@ -26,24 +26,24 @@ fn word_at(words: &[u32], place: usize) -> u32
     }
 }
 
-/// How many patterns the list of this number has.
-pub(crate) fn len_at(words: &[u32], list: u32) -> usize
+/// How many patterns the list at this place has.
+pub(crate) fn len_at(words: &[u32], list: usize) -> usize
     requires held { IsHeld words.now list }
     ensures len { result ≡ length_at words.now list }
 {
     if list == 0 {
         return 0;
     }
-    words[list as usize - 1] as usize - LENGTH as usize
+    words[list - 1] as usize - LENGTH as usize
 }
 
-/// The pattern of this place in the list of this number.
-pub(crate) fn pattern_at(words: &[u32], list: u32, index: usize) -> PatternID
+/// The pattern of this place in the list at this place.
+pub(crate) fn pattern_at(words: &[u32], list: usize, index: usize) -> PatternID
     requires place { list + index < length words.now }
     requires small { the_word words.now (list + index) ≤ greatest_index }
     ensures pattern { result ≡ the_word words.now (list + index) }
 {
-    PatternID::new_unchecked(words[list as usize + index] as usize)
+    PatternID::new_unchecked(words[list + index] as usize)
 }
 
 /// So many words from this place on.
@@ -55,20 +55,19 @@ pub(crate) fn words_from(words: &[u32], from: usize, count: usize) -> &[u32]
 }
 
 /// A list of `len` patterns is begun at the end, with the `own` ones of a list.
-fn begin(words: &mut Vec<u32>, list: u32, own: usize, len: usize) -> Result<(), AllocError>
+fn begin(words: &mut Vec<u32>, list: usize, own: usize, len: usize) -> Result<(), AllocError>
     requires within { list + own ≤ length words.old.items }
     requires few { len ≤ greatest_index }
     ensures begun { OnOk result
         (words.new.items ≡ words.old.items ++ (2147483648 + len) ∷ take own (drop list words.old.items)) }
     ensures kept { take (length words.old.items) words.new.items ≡ words.old.items }
 {
-    let from = list as usize;
     words.push(LENGTH + len as u32)?;
-    words.extend_from_within(from..from + own)
+    words.extend_from_within(list..list + own)
 }
 
 /// A list stands once more at the end, with one pattern more and room for as many as it had.
-fn add_longer(words: &mut Vec<u32>, list: u32, own: usize, pattern: u32) -> Result<(), AllocError>
+fn add_longer(words: &mut Vec<u32>, list: usize, own: usize, pattern: u32) -> Result<(), AllocError>
     requires within { list + own ≤ length words.old.items }
     requires len { own ≡ length_at words.old.items list }
     requires few { own + 1 ≤ greatest_index }
@@ -85,9 +84,9 @@ fn add_longer(words: &mut Vec<u32>, list: u32, own: usize, pattern: u32) -> Resu
 /// A list stands once more at the end, with the patterns of another behind its own.
 fn add_joined(
     words: &mut Vec<u32>,
-    list: u32,
+    list: usize,
     own: usize,
-    other: u32,
+    other: usize,
     more: usize,
 ) -> Result<(), AllocError>
     requires within { list + own ≤ length words.old.items }
@@ -99,9 +98,8 @@ fn add_joined(
         ++ laid (patterns_at words.old.items list ++ patterns_at words.old.items other)) }
     ensures kept { take (length words.old.items) words.new.items ≡ words.old.items }
 {
-    let from = other as usize;
     begin(words, list, own, own + more)?;
-    words.extend_from_within(from..from + more)
+    words.extend_from_within(other..other + more)
 }
 
 /// Puts the word at this place, which may be that behind the last one.
@@ -119,7 +117,7 @@ fn put(words: &mut Vec<u32>, place: usize, word: u32) -> Result<(), AllocError>
 }
 
 /// The list has one pattern more, at this place behind its last one.
-fn lengthen(words: &mut Vec<u32>, list: u32, end: usize, pattern: u32) -> Result<(), AllocError>
+fn lengthen(words: &mut Vec<u32>, list: usize, end: usize, pattern: u32) -> Result<(), AllocError>
     requires some { list ≢ 0 }
     requires end { end ≡ list + length_at words.old.items list }
     requires within { end ≤ length words.old.items }
@@ -129,46 +127,39 @@ fn lengthen(words: &mut Vec<u32>, list: u32, end: usize, pattern: u32) -> Result
     ensures unchanged { OnErr result (words.new.items ≡ words.old.items) }
 {
     put(words, end, pattern)?;
-    words[list as usize - 1] += 1;
+    words[list - 1] += 1;
     Ok(())
 }
 
 /// Whether there is room behind the patterns of this list, of which there are so many. Behind the empty list there is none.
-fn has_room(words: &[u32], list: u32, own: usize) -> bool
-    requires few { own ≤ greatest_index }
+fn has_room(words: &[u32], list: usize, own: usize) -> bool
+    requires within { list + own ≤ length words.now }
     ensures room { result ≡ true → (list ≢ 0) × (the_word words.now (list + own) ≡ room) }
 {
     if list == 0 {
         return false;
     }
-    word_at(words, list as usize + own) == ROOM
+    word_at(words, list + own) == ROOM
 }
 
-/// The number of a list that is added where there are so many words. A number above `u32::MAX` counts as out of memory.
-fn number_after(place: usize) -> Result<u32, AllocError>
-    ensures number { IfOk result (λ made. made ≡ place + 1) }
-{
-    if place >= u32::MAX as usize {
-        return Err(AllocError);
-    }
-    Ok(place as u32 + 1)
-}
-
-/// The pattern is added at the end of the list of this number. Answers the list's number then.
+/// The pattern is added at the end of the list at this place. Answers the list's place then.
 ///
 /// # Errors
 ///
 /// Out of memory. The words are then unchanged.
 pub(crate) fn push_pattern(
     words: &mut Vec<u32>,
-    list: u32,
+    list: usize,
     pattern: PatternID,
-) -> Result<u32, AllocError>
+) -> Result<usize, AllocError>
     requires laid { (count : ℕ) × AreLaid words.old.items count × (count ≤ greatest_index) }
     requires held { IsHeld words.old.items list }
     ensures listed { IfOk result (λ made. HasPatterns words.old.items words.new.items list made
         (patterns_at words.old.items list ++ pattern ∷ [])) }
-    ensures number { IfOk result (λ made. (made ≡ list) ⊎ (length words.old.items < made)) }
+    ensures place { IfOk result (λ made. (made ≡ list) ⊎ (length words.old.items < made)) }
+    ensures kept { IfOk result (λ made.
+        (made ≡ list) ⊎ (take (length words.old.items) words.new.items ≡ words.old.items)) }
+    ensures longer { OnOk result (length words.old.items ≤ length words.new.items) }
     ensures laid { OnOk result ((count : ℕ) → AreLaid words.old.items count → count ≤ greatest_index
         → AreLaid words.new.items (count + 1)) }
     ensures unchanged { OnErr result (words.new.items ≡ words.old.items) }
@@ -176,23 +167,25 @@ pub(crate) fn push_pattern(
     let pattern = pattern.as_usize() as u32;
     let own = len_at(words, list);
     if has_room(words, list, own) {
-        lengthen(words, list, list as usize + own, pattern)?;
+        lengthen(words, list, list + own, pattern)?;
         return Ok(list);
     }
-    let place = words.len();
-    let made = number_after(place)?;
-    let Ok(()) = add_longer(words, list, own, pattern) else {
-        words.truncate(place);
-        return Err(AllocError);
-    };
-    Ok(made)
+    let before = words.len();
+    match add_longer(words, list, own, pattern) {
+        Ok(()) => Ok(before + 1),
+        Err(error) => {
+            words.truncate(before);
+            Err(error)
+        }
+    }
 }
 
-/// Closes the list of this number: a word that is no room stands behind its last pattern.
-fn close(words: &mut Vec<u32>, list: u32, end: usize) -> Result<(), AllocError>
+/// Closes the list at this place: a word that is no room stands behind its last pattern.
+fn close(words: &mut Vec<u32>, list: usize, end: usize) -> Result<(), AllocError>
     requires end { end ≡ list + length_at words.old.items list }
     requires within { end ≤ length words.old.items }
     ensures closed { OnOk result (IsClosed words.old.items list words.new.items) }
+    ensures longer { OnOk result (length words.old.items ≤ length words.new.items) }
     ensures unchanged { OnErr result (words.new.items ≡ words.old.items) }
 {
     if word_at(words, end) < ROOM {
@@ -201,31 +194,36 @@ fn close(words: &mut Vec<u32>, list: u32, end: usize) -> Result<(), AllocError>
     put(words, end, LENGTH)
 }
 
-/// An owner of the empty list gets the list of this number instead, which is closed, so that each owner keeps what it has.
-/// Answers the number.
-fn share_patterns(words: &mut Vec<u32>, list: u32) -> Result<u32, AllocError>
+/// An owner of the empty list gets the list at this place instead, which is closed, so that each owner keeps what it has.
+/// Answers the place.
+fn share_patterns(words: &mut Vec<u32>, list: usize) -> Result<usize, AllocError>
     requires laid { (count : ℕ) × AreLaid words.old.items count × (count ≤ greatest_index + 1) }
     requires held { IsHeld words.old.items list }
     requires some { list ≢ 0 }
     ensures listed { IfOk result (λ made.
         HasPatterns words.old.items words.new.items 0 made (patterns_at words.old.items list)) }
-    ensures number { IfOk result (λ made. (made ≡ list) × (is_closed words.new.items made ≡ true)) }
+    ensures place { IfOk result (λ made. (made ≡ list) × (is_closed words.new.items made ≡ true)) }
+    ensures longer { OnOk result (length words.old.items ≤ length words.new.items) }
     ensures laid { OnOk result ((count more : ℕ) → AreLaid words.old.items count → count ≤ more
         → AreLaid words.new.items more) }
     ensures unchanged { OnErr result (words.new.items ≡ words.old.items) }
 {
     let own = len_at(words, list);
-    close(words, list, list as usize + own)?;
+    close(words, list, list + own)?;
     Ok(list)
 }
 
-/// The patterns of the other list are added at the end of the list of this number. Answers the list's number then. The empty
+/// The patterns of the other list are added at the end of the list at this place. Answers the list's place then. The empty
 /// list becomes the other one, which is closed.
 ///
 /// # Errors
 ///
 /// Out of memory. The words are then unchanged.
-pub(crate) fn join_patterns(words: &mut Vec<u32>, list: u32, other: u32) -> Result<u32, AllocError>
+pub(crate) fn join_patterns(
+    words: &mut Vec<u32>,
+    list: usize,
+    other: usize,
+) -> Result<usize, AllocError>
     requires laid { (count : ℕ) × AreLaid words.old.items count
         × (count + length_at words.old.items other ≤ greatest_index + 1) }
     requires held { IsHeld words.old.items list }
@@ -233,8 +231,11 @@ pub(crate) fn join_patterns(words: &mut Vec<u32>, list: u32, other: u32) -> Resu
     requires some { other ≢ 0 }
     ensures listed { IfOk result (λ made. HasPatterns words.old.items words.new.items list made
         (patterns_at words.old.items list ++ patterns_at words.old.items other)) }
-    ensures number { IfOk result (λ made.
+    ensures place { IfOk result (λ made.
         (length words.old.items < made) ⊎ ((made ≡ other) × (is_closed words.new.items made ≡ true))) }
+    ensures kept { IfOk result (λ made.
+        (made ≡ other) ⊎ (take (length words.old.items) words.new.items ≡ words.old.items)) }
+    ensures longer { OnOk result (length words.old.items ≤ length words.new.items) }
     ensures laid { OnOk result ((count : ℕ) → AreLaid words.old.items count
         → count + length_at words.old.items other ≤ greatest_index + 1
         → AreLaid words.new.items (count + length_at words.old.items other)) }
@@ -245,11 +246,12 @@ pub(crate) fn join_patterns(words: &mut Vec<u32>, list: u32, other: u32) -> Resu
     }
     let own = len_at(words, list);
     let more = len_at(words, other);
-    let place = words.len();
-    let made = number_after(place)?;
-    let Ok(()) = add_joined(words, list, own, other, more) else {
-        words.truncate(place);
-        return Err(AllocError);
-    };
-    Ok(made)
+    let end = words.len();
+    match add_joined(words, list, own, other, more) {
+        Ok(()) => Ok(end + 1),
+        Err(error) => {
+            words.truncate(end);
+            Err(error)
+        }
+    }
 }

@@ -1,5 +1,5 @@
 -- A list that is laid down at the end has the patterns of both, and so has one that is shared with the empty list.
-use Rattle.std.proofs.Common.{◌≡◌, inl, inr, ◌+◌, List, ◌++◌, ℕ, length, sym, ap, subst, ◌∙◌, arith}
+use Rattle.std.proofs.Common.{◌≡◌, inr, ◌+◌, List, ◌++◌, ℕ, length, sym, ap, subst, ◌∙◌, arith}
 use Rattle.aho_lists.specs.Words.{length_at, patterns_at, HasPatterns, AreLaid}
 use Rattle.aho_lists.proofs.Patterns.{own_within, length_at-fewer}
 use Rattle.aho_lists.proofs.Laying.{joined-len, joined-small, laid-alone}
@@ -23,11 +23,8 @@ returns-then-list-eq0-clause-laid c =
     (λ more count are few. more count (count + length_at c.args.words.now.items c.args.other) are (omega arith))
     c.share_patterns.ensures.laid
 
-pub returns-then-list-eq0-clause-number : goal.returns-then-list-eq0-clause-number
-returns-then-list-eq0-clause-number c = IfOk-more c.share_patterns.result (λ made is. inr is) c.share_patterns.ensures.number
-
-pub returns-clause-number : goal.returns-clause-number
-returns-clause-number c = inl (omega (arith, c.in_ok-made.ensures.number))
+pub returns-then-list-eq0-clause-place : goal.returns-then-list-eq0-clause-place
+returns-then-list-eq0-clause-place c = IfOk-more c.share_patterns.result (λ made is. inr is) c.share_patterns.ensures.place
 
 pub add_joined-requires-clause-within : goal.add_joined-requires-clause-within
 add_joined-requires-clause-within c =
@@ -45,8 +42,8 @@ add_joined-requires-clause-few c =
     let more = c.len_at-more.ensures.len ∙ ap (λ (ws : List ℕ). length_at ws c.args.other) c.deref-2.ensures.value in
     omega (arith, own, more, c.requires.laid.2, length_at-fewer c.args.words.now.items c.requires.laid.0 c.args.list c.requires.laid.1)
 
-pub returns-clause-laid : goal.returns-clause-laid
-returns-clause-laid c count are few =
+pub returns-in-Ok-clause-laid : goal.returns-in-Ok-clause-laid
+returns-in-Ok-clause-laid c count are few =
     let old = c.args.words.now.items in
     let items = patterns_at old c.args.list ++ patterns_at old c.args.other in
     let len = joined-len old count c.args.list c.args.other are in
@@ -55,15 +52,15 @@ returns-clause-laid c count are few =
     (AreLaid-laid old count (count + length_at old c.args.other) items 0 are (omega arith) (omega arith) (omega arith)
     (joined-small old count c.args.list c.args.other are))
 
-pub returns-clause-listed : goal.returns-clause-listed
-returns-clause-listed c =
+pub returns-in-Ok-clause-listed : goal.returns-in-Ok-clause-listed
+returns-in-Ok-clause-listed c =
     let old = c.args.words.now.items in
     let items = patterns_at old c.args.list ++ patterns_at old c.args.other in
     let count = c.requires.laid.0 in
     let are = c.requires.laid.1 in
     let len = joined-len old count c.args.list c.args.other are in
     let fewer = length_at-fewer old count c.args.list are in
-    let made : length old + 1 ≡ c.in_ok-made.made = omega (arith, c.in_ok-made.ensures.number) in
+    let made : length old + 1 ≡ c.len-end.result + 1 = omega arith in
     subst (λ (n : ℕ). HasPatterns old c.add_joined.new.words.items c.args.list n items) made
     (subst (λ (ws : List ℕ). HasPatterns old ws c.args.list (length old + 1) items) (sym (c.in-Ok.ensures.added ∙ laid-alone old items))
     (HasPatterns-laid old count (count + length_at old c.args.other) items 0 are (omega arith) (omega arith) (omega (arith, c.requires.laid.2))

@@ -27,6 +27,9 @@ returns-then-list-eq0 c = record { len = sym (ap (length_at c.args.words.now) c.
 pub bounds-words-list : goal.bounds-words-list
 bounds-words-list c = inside c.args.words.now c.args.list c.if-list-eq0.false (c.requires.held c.if-list-eq0.false)
 
+pub offset_bounds-words-list : goal.offset_bounds-words-list
+offset_bounds-words-list c = omega (arith, inside c.args.words.now c.args.list c.if-list-eq0.false (c.requires.held c.if-list-eq0.false))
+
 pub overflow_sub-result-2 : goal.overflow_sub-result-2
 overflow_sub-result-2 c = omega (arith, mark c.args.words.now c.args.list c.if-list-eq0.false (c.requires.held c.if-list-eq0.false))
 

@@ -1,5 +1,5 @@
 -- The list grows where it stands, or stands once more at the end.
-use Rattle.std.proofs.Common.{◌≡◌, inr, ◌+◌, List, [], ◌∷◌, ◌++◌, ℕ, length, sym, ap, subst, ◌∙◌, arith}
+use Rattle.std.proofs.Common.{◌≡◌, ◌+◌, List, [], ◌∷◌, ◌++◌, ℕ, length, sym, ap, subst, ◌∙◌, arith}
 use Rattle.aho_lists.specs.Words.{room, word_at, length_at, patterns_at, HasPatterns, AreLaid}
 use Rattle.aho_lists.proofs.Patterns.{own_within, length_at-fewer, mark_at}
 use Rattle.aho_lists.proofs.Laying.{pushed-len, pushed-small, laid-grouped}
@@ -9,12 +9,14 @@ use Rattle.aho_lists.proofs.words.push_pattern.Goals as goal
 pub has_room-requires : goal.has_room-requires
 has_room-requires c =
     let own = c.len_at-own.ensures.len ∙ ap (λ (ws : List ℕ). length_at ws c.args.list) c.deref.ensures.value in
-    record { few = omega (arith, own, c.requires.laid.2, length_at-fewer c.args.words.now.items c.requires.laid.0 c.args.list c.requires.laid.1) }
+    let within = own_within c.args.words.now.items c.requires.laid.0 c.args.list c.requires.laid.1 c.requires.held in
+    record { within = omega (arith, own, within, ap (λ (ws : List ℕ). length ws) c.deref-2.ensures.value) }
 
 pub overflow_add-list : goal.overflow_add-list
 overflow_add-list c =
     let own = c.len_at-own.ensures.len ∙ ap (λ (ws : List ℕ). length_at ws c.args.list) c.deref.ensures.value in
-    omega (arith, own, c.requires.laid.2, length_at-fewer c.args.words.now.items c.requires.laid.0 c.args.list c.requires.laid.1)
+    let within = own_within c.args.words.now.items c.requires.laid.0 c.args.list c.requires.laid.1 c.requires.held in
+    omega (arith, own, within, ap (λ (ws : List ℕ). length ws) c.deref.ensures.value)
 
 pub lengthen-requires-clause-within : goal.lengthen-requires-clause-within
 lengthen-requires-clause-within c =
@@ -62,8 +64,8 @@ add_longer-requires-clause-few c =
     let own = c.len_at-own.ensures.len ∙ ap (λ (ws : List ℕ). length_at ws c.args.list) c.deref.ensures.value in
     omega (arith, own, c.requires.laid.2, length_at-fewer c.args.words.now.items c.requires.laid.0 c.args.list c.requires.laid.1)
 
-pub returns-clause-laid : goal.returns-clause-laid
-returns-clause-laid c count are few =
+pub returns-in-Ok-clause-laid : goal.returns-in-Ok-clause-laid
+returns-in-Ok-clause-laid c count are few =
     let old = c.args.words.now.items in
     let items = patterns_at old c.args.list ++ c.as_usize-pattern.result ∷ [] in
     let len = pushed-len old count c.args.list c.as_usize-pattern.result are in
@@ -72,20 +74,17 @@ returns-clause-laid c count are few =
     (AreLaid-laid old count (count + 1) items c.len_at-own.result are (omega arith) (omega arith) (omega arith)
     (pushed-small old count c.args.list c.as_usize-pattern.result are c.as_usize-pattern.ensures.bound))
 
-pub returns-clause-listed : goal.returns-clause-listed
-returns-clause-listed c =
+pub returns-in-Ok-clause-listed : goal.returns-in-Ok-clause-listed
+returns-in-Ok-clause-listed c =
     let old = c.args.words.now.items in
     let items = patterns_at old c.args.list ++ c.as_usize-pattern.result ∷ [] in
     let count = c.requires.laid.0 in
     let are = c.requires.laid.1 in
     let len = pushed-len old count c.args.list c.as_usize-pattern.result are in
     let fewer = length_at-fewer old count c.args.list are in
-    let made : length old + 1 ≡ c.in_ok-made.made = omega (arith, c.in_ok-made.ensures.number) in
-    subst (λ (p : ℕ). HasPatterns old c.add_longer.new.words.items c.args.list c.in_ok-made.made (patterns_at old c.args.list ++ p ∷ [])) c.as_usize-pattern.ensures.value
+    let made : length old + 1 ≡ c.len-before.result + 1 = omega arith in
+    subst (λ (p : ℕ). HasPatterns old c.add_longer.new.words.items c.args.list (c.len-before.result + 1) (patterns_at old c.args.list ++ p ∷ [])) c.as_usize-pattern.ensures.value
     (subst (λ (n : ℕ). HasPatterns old c.add_longer.new.words.items c.args.list n items) made
     (subst (λ (ws : List ℕ). HasPatterns old ws c.args.list (length old + 1) items) (sym (c.in-Ok.ensures.added ∙ laid-grouped old items c.len_at-own.result))
     (HasPatterns-laid old count (count + 1) items c.len_at-own.result are (omega arith) (omega arith) (omega (arith, c.requires.laid.2))
     (pushed-small old count c.args.list c.as_usize-pattern.result are c.as_usize-pattern.ensures.bound) c.args.list (omega (arith, len)))))
-
-pub returns-clause-number : goal.returns-clause-number
-returns-clause-number c = inr (omega (arith, c.in_ok-made.ensures.number))
