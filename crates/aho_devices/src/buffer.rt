@@ -48,12 +48,7 @@ impl Buffer {
     {
         let least = min_buffer_len.max(1);
         let size = (8 * least).max(DEFAULT_BUFFER_CAPACITY);
-        let buf = vec![in alloc; 0; size]?;
-
-        // std does not promise a block of just this length, so it is looked at.
-        if buf.capacity() != size {
-            return Err(AllocError);
-        }
+        let buf = block(alloc, size)?;
         Ok(Buffer { buf, end: 0, least })
     }
 
@@ -210,6 +205,32 @@ pub struct Filled {
     pub read: u64,
     /// Whether its last read, with room, gave nothing.
     pub ended: bool,
+}
+
+/// So many bytes, in memory of just that length.
+fn block(alloc: Global, size: usize) -> Result<Vec<u8>, AllocError>
+    ensures len { IfOk result (λ bytes. vec_len bytes ≡ size) }
+    ensures capacity { IfOk result (λ bytes. vec_capacity bytes ≡ size) }
+{
+    let bytes = vec![in alloc; 0; size]?;
+
+    // std does not promise that this memory has just that length, so it is looked at.
+    if bytes.capacity() != size {
+        return filled_block(alloc, size);
+    }
+    Ok(bytes)
+}
+
+/// The same, put one by one into memory that was asked for first: of this std promises that it keeps its length.
+fn filled_block(alloc: Global, size: usize) -> Result<Vec<u8>, AllocError>
+    ensures len { IfOk result (λ bytes. vec_len bytes ≡ size) }
+    ensures capacity { IfOk result (λ bytes. vec_capacity bytes ≡ size) }
+{
+    let mut bytes = Vec::with_capacity(alloc, size)?;
+    for place in 0..size {
+        bytes.insert(place, 0)?;
+    }
+    Ok(bytes)
 }
 
 /// One read into the part of `buf` from `start` up to `end`.
