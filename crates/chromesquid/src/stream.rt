@@ -61,7 +61,8 @@ impl AhoCorasick {
     {
         match self.try_stream_find_iter(alloc, source) {
             Ok(matches) => Ok(matches),
-            Err(_) => Err(AllocError),
+            Err(StreamError::Memory) => Err(AllocError),
+            Err(_) => unreachable!(),
         }
     }
 

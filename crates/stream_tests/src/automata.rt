@@ -5,7 +5,7 @@ ghost use Rattle.aho_core.specs.Patterns.{Patterns};
 
 use aho_automaton::automaton::Automaton;
 use aho_corasick::noncontiguous::{Builder, NFA};
-use aho_core::search::{Anchored, MatchKind, StateID};
+use aho_core::search::MatchKind;
 use bench::relinked::Relinked;
 use std::alloc::Global;
 use std::process::Abort;
@@ -48,15 +48,4 @@ pub(crate) fn relinked_of(rt: &impl Abort, alloc: Global, nfa: &NFA) -> Relinked
     ensures of { (p : Patterns) × ⟦<Relinked as Automaton>⟧.is_of result p }
 {
     Relinked::new(alloc, nfa).expect(rt, "an automaton")
-}
-
-/// The state after these bytes from the start of searches that are not anchored.
-pub(crate) fn state_after<A: Automaton>(rt: &impl Abort, automaton: &A, word: &[u8]) -> StateID
-    ensures valid { A.valid automaton.now result }
-{
-    let mut sid = automaton.start_state(Anchored::No).expect(rt, "a start");
-    for byte in word {
-        sid = automaton.next_state(Anchored::No, sid, *byte);
-    }
-    sid
 }
