@@ -296,6 +296,8 @@ pub trait Automaton {
             (⟦<FindIter<'a, 'h, Self> as Iterator>⟧.remaining it) (places input.entry)) }
         ensures fused { IfOk result (IsFused ⟦<FindIter<'a, 'h, Self> as Iterator>⟧.next_gives) }
         ensures error { IfErr result (λ reason. start self.now input.entry.anchored ≡ Err reason) }
+        ensures refused { (reason : MatchErrorKind) → start self.now input.entry.anchored ≡ Err reason
+            → result ≡ Err reason }
         ensures ok { (sid : ℕ) → start self.now input.entry.anchored ≡ Ok sid → IsOk result }
     {
         FindIter::new(self, input)

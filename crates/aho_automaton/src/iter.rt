@@ -5,6 +5,7 @@ ghost use Rattle.std.specs.Iterator.{UpTo, at_most};
 ghost use Rattle.aho_core.specs.Answer.{IsAnswer};
 ghost use Rattle.aho_core.specs.Iteration.{IsNextFind};
 ghost use Rattle.aho_core.specs.Patterns.{Patterns};
+ghost use Rattle.aho_core.specs.declared.error.MatchErrorKind.{MatchErrorKind};
 ghost use Rattle.aho_automaton.specs.Fused.{IsFused};
 ghost use Rattle.aho_automaton.specs.Finding.{GivesFinds, GivesFirstFinds, GivesNext, from_next_place, last_after, places, places_left, search_after};
 
@@ -48,6 +49,8 @@ impl<'a, 'h, A: Automaton> FindIter<'a, 'h, A> {
         ensures fused { IfOk result (IsFused ⟦<FindIter<'a, 'h, A> as Iterator>⟧.next_gives) }
         ensures error { IfErr result (λ reason.
             A.start automaton.entry.now input.entry.anchored ≡ Err reason) }
+        ensures refused { (reason : MatchErrorKind) →
+            A.start automaton.entry.now input.entry.anchored ≡ Err reason → result ≡ Err reason }
         ensures ok { (sid : ℕ) → A.start automaton.entry.now input.entry.anchored ≡ Ok sid →
             IsOk result }
     {
