@@ -3,7 +3,6 @@
 ghost use Rattle.std.specs.Prelude.{◌≡◌, ℕ, List, ◌+◌, ◌<◌, ◌≤◌, length, slice_index};
 ghost use Rattle.aho_core.specs.Patterns.{Patterns};
 ghost use Rattle.aho_prefilter.specs.Candidate.{IsCandidate};
-ghost use Rattle.aho_prefilter.specs.Finding.{FindsFirst};
 ghost use Rattle.aho_prefilter.specs.Prefilter.{IsPrefilterOf};
 
 use crate::prefilter::{Candidate, Prefilter};
@@ -33,13 +32,13 @@ pub trait Text {
         ensures passed { next self.new ≡ at + 1 }
         ensures counted { reads self.new ≡ reads self.old + 1 };
 
-    /// What a prefilter answers for a span, whatever of it was read. What the prefilter reads stays unread for `byte`.
+    /// A candidate for a match in a span, whatever of it was read: any that is right for the prefilter's patterns, as what the
+    /// prefilter answers is. What is read for it stays unread for `byte`.
     fn candidate(&self, prefilter: &Prefilter, span: Span) -> Candidate
         requires ordered { span.start ≤ span.end }
         requires within { span.end ≤ length (bytes self.now) }
         ensures candidate { (p : Patterns) → IsPrefilterOf prefilter.now p
-            → IsCandidate p (bytes self.now) span.start span.end result }
-        ensures first { FindsFirst prefilter.now (bytes self.now) span.start span.end result };
+            → IsCandidate p (bytes self.now) span.start span.end result };
 }
 
 /// The text over a slice.
