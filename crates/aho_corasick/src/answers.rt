@@ -3,14 +3,12 @@
 
 ghost use Rattle.std.specs.Prelude.{◌≡◌, ◌+◌, ◌*◌, ◌≤◌, IfOk, IsOk, None, length, string_bytes, vec_items, List};
 ghost use Rattle.aho_core.specs.Answer.{IsAnswer};
-ghost use Rattle.aho_core.specs.Best.{IsBestOrNone};
 ghost use Rattle.aho_core.specs.Iteration.{AreFinds};
 ghost use Rattle.aho_core.specs.Occurrence.{Occurrence};
-ghost use Rattle.aho_core.specs.Occurs.{Occurs};
 ghost use Rattle.aho_core.specs.Overlapping.{all_occurrences};
 ghost use Rattle.aho_core.specs.Patterns.{Patterns};
 ghost use Rattle.aho_core.specs.Replacement.{on_boundaries, pieces_of, replaced};
-ghost use Rattle.aho_core.specs.Search.{plain_search};
+ghost use Rattle.aho_core.specs.Search.{plain_search, search_of};
 ghost use Rattle.aho_core.specs.declared.search.Anchored.TheVariants.{No};
 ghost use Rattle.aho_core.specs.declared.search.MatchKind.TheVariants.{Standard};
 ghost use Rattle.aho_automaton.specs.Finding.{HoldsOfFinds};
@@ -24,9 +22,12 @@ use aho_prefilter::text::Text;
 use std::alloc::{AllocError, Global};
 
 /// The best occurrence of a span of a text, none where nothing occurs in it, and how many transitions were looked up for it.
+/// Where the earliest is wanted, it is the best occurrence of the shortest beginning of the span that holds one.
 ///
 /// It is one call of `find_in`, over a walk that counts each look-up. Each byte of the span is read at most once, and at most
 /// two transitions are looked up for each byte that is read. What a prefilter reads is not counted. It takes no memory.
+///
+/// `try_find` of the same search answers the same match: `answer_of` says it of each input.
 ///
 /// A span whose start is above its end is done: nothing occurs in it, and nothing is read.
 pub fn best_occurrence<T: Text>(
@@ -34,18 +35,19 @@ pub fn best_occurrence<T: Text>(
     text: &mut T,
     span: Span,
     anchored: Anchored,
+    earliest: bool,
 ) -> (Option<Match>, u128)
     requires of { (p : Patterns) × ⟦<NFA as Automaton>⟧.is_of nfa.now p }
     requires within { span.end ≤ length (T.bytes text.old) }
     requires ordered { span.start ≤ span.end + 1 }
     requires unread { T.next text.old ≤ span.start }
-    ensures best { (p : Patterns) → ⟦<NFA as Automaton>⟧.is_of nfa.now p → IsBestOrNone p.kind
-        (Occurs p anchored (T.bytes text.old) span.start span.end) result.0 }
+    ensures best { (p : Patterns) → ⟦<NFA as Automaton>⟧.is_of nfa.now p →
+        IsAnswer p (search_of (T.bytes text.old) span anchored earliest) result.0 }
     ensures each_byte_once { ReadsEachOnce T.Text text.old text.new span.start span.end }
     ensures two_look_ups_a_byte { result.1 ≤ 2 * bytes_read T.Text text.old text.new }
 {
     let mut walk = Counted::new(nfa);
-    match find_in(&mut walk, text, span, anchored, false) {
+    match find_in(&mut walk, text, span, anchored, earliest) {
         Ok(found) => (found, walk.lookups()),
         Err(_) => unreachable!(),
     }

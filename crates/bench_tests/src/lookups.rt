@@ -10,7 +10,7 @@ use aho_automaton::automaton::{Automaton, Counted, find_in};
 use aho_corasick::answers::best_occurrence;
 use aho_corasick::noncontiguous::NFA;
 use aho_core::error::MatchError;
-use aho_core::search::{Anchored, Input, MatchKind, Span};
+use aho_core::search::{Anchored, Input, Match, MatchKind, PatternID, Span};
 use aho_prefilter::text::{Bytes, Text};
 use bench::one_byte::OneByte;
 use bench::relinked::Relinked;
@@ -163,7 +163,7 @@ fn best_costs_as_much(rt: &impl Abort, row: &Row, nfa: &NFA)
     assert!(rt; span.end <= haystack.len());
     assert!(rt; span.start <= span.end + 1);
     let mut text = Bytes::new(haystack);
-    let (_found, lookups) = best_occurrence(nfa, &mut text, span, row.anchored);
+    let (_found, lookups) = best_occurrence(nfa, &mut text, span, row.anchored, false);
     let case = (row.kind, row.patterns, haystack, span, row.anchored);
     assert_same_in(rt, &case, lookups, row.lookups);
     assert_same_in(rt, &case, text.reads(), row.reads);
@@ -265,4 +265,18 @@ fn one_byte_is_looked_up_once_a_byte(rt: HostRuntime) -> Result<(), Fail> {
     assert_same(&rt, text.reads(), 0);
     assert_same(&rt, tally.steps(), 3);
     Ok(())
+}
+
+#[test]
+fn the_best_occurrence_may_be_the_earliest(rt: HostRuntime) {
+    let words: [&[u8]; 2] = [b"abcd", b"b"];
+    let nfa = nfa_with(&rt, rt.alloc(), &words, MatchKind::LeftmostFirst, false, true, 2);
+    let whole = Match::new(PatternID::new_unchecked(0), Span { start: 0, end: 4 });
+    let inner = Match::new(PatternID::new_unchecked(1), Span { start: 1, end: 2 });
+    for (earliest, wanted) in [(false, whole), (true, inner)] {
+        let mut text = Bytes::new(b"abcd");
+        let span = Span { start: 0, end: 4 };
+        let (found, _lookups) = best_occurrence(&nfa, &mut text, span, Anchored::No, earliest);
+        assert_same_in(&rt, earliest, found, Some(wanted));
+    }
 }
