@@ -133,7 +133,8 @@ pub fn best_in(nfa: &NFA, haystack: &[u8]) -> Option<Match>
 {
     let end = haystack.len();
     let mut bytes = Bytes::new(haystack);
-    let (found, _lookups) = best_occurrence(nfa, &mut bytes, Span { start: 0, end }, Anchored::No, false);
+    let span = Span { start: 0, end };
+    let (found, _lookups) = best_occurrence(nfa, &mut bytes, span, Anchored::No, false);
     found
 }
 
@@ -145,7 +146,8 @@ pub fn cost_of(nfa: &NFA, haystack: &[u8]) -> (usize, u128)
 {
     let end = haystack.len();
     let mut bytes = Bytes::new(haystack);
-    let (_found, lookups) = best_occurrence(nfa, &mut bytes, Span { start: 0, end }, Anchored::No, false);
+    let span = Span { start: 0, end };
+    let (_found, lookups) = best_occurrence(nfa, &mut bytes, span, Anchored::No, false);
     (bytes.reads(), lookups)
 }
 
