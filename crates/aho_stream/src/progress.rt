@@ -164,6 +164,7 @@ impl StreamProgress {
 
     /// Reads once, behind the bytes that are kept. Where it is refused, what was read before stays. The sink shows that all
     /// that was told by now was written and flushed.
+    #[tactic(auto, using(crate::proofs::Refilled::refilled))]
     pub(crate) fn refill<R: Source, W: Sink>(
         &mut self,
         source: &mut R,
