@@ -53,6 +53,8 @@ struct Making {
     first: Option<(usize, usize)>,
     /// Whether some patterns may be empty.
     empty: bool,
+    /// Whether each pattern has two or three letters. A packed search looks at as many, so a cut of a read falls between them.
+    short: bool,
     /// The greatest number of letters of most patterns.
     most: usize,
 }
@@ -69,6 +71,7 @@ impl Making {
                 None
             },
             empty: numbers.once_in(8),
+            short: numbers.once_in(4),
             most: 1 + numbers.below(7),
         }
     }
@@ -109,6 +112,11 @@ impl Making {
         earlier: &[Vec<u8>],
     ) -> Result<Vec<u8>, AllocError> {
         let mut pattern = Vec::new(alloc);
+        if self.short {
+            let size = 2 + numbers.below(2);
+            self.push_letters(numbers, size, &mut pattern)?;
+            return Ok(pattern);
+        }
         if self.empty && numbers.once_in(3) {
             return Ok(pattern);
         }
