@@ -12,7 +12,7 @@ use crate::count::Count;
 use crate::memory::{Asked, compare_in_memory};
 use crate::streams::{compare_streams, compare_two};
 use aho_automaton::automaton::{Automaton, WithPrefilter};
-use aho_corasick::noncontiguous::{Builder, NFA};
+use aho_corasick::noncontiguous::{Builder, Limits, NFA};
 use aho_core::error::BuildError;
 use aho_core::search::MatchKind;
 use aho_hybrid::hybrid::Hybrid;
@@ -28,13 +28,36 @@ pub(crate) const DEPTHS: [usize; 4] = [0, 1, 3, usize::MAX];
 /// How many bytes the rows of a `Hybrid` take at most.
 pub(crate) const BUDGETS: [usize; 5] = [0, 100, 400, 2_000, usize::MAX];
 
+/// The limits of a builder for these words: low ones where all of them keep to these.
+fn limits_for(words: &[&[u8]]) -> Limits {
+    if words.len() <= 6 && words.iter().all(|word| word.len() <= 4) {
+        return Limits {
+            id: 2_000,
+            pattern: 5,
+            length: 4,
+        };
+    }
+    Limits {
+        id: usize::MAX,
+        pattern: usize::MAX,
+        length: usize::MAX,
+    }
+}
+
 /// A builder of these settings.
-fn builder_of(kind: MatchKind, ignore_case: bool, prefilter: bool, depth: usize) -> Builder
+fn builder_of(
+    kind: MatchKind,
+    ignore_case: bool,
+    prefilter: bool,
+    depth: usize,
+    limits: Limits,
+) -> Builder
     ensures settings { result ≡ record default_settings {
       kind = kind;
       ignore_case = ignore_case;
       prefilter = prefilter;
       dense_depth = depth;
+      limits = limits;
     } }
 {
     let mut builder = NFA::builder();
@@ -42,6 +65,7 @@ fn builder_of(kind: MatchKind, ignore_case: bool, prefilter: bool, depth: usize)
     builder.ascii_case_insensitive(ignore_case);
     builder.prefilter(prefilter);
     builder.dense_depth(depth);
+    builder.limits(limits);
     builder
 }
 
@@ -57,7 +81,10 @@ pub(crate) fn automaton_of(
     ensures of { IfOk result (λ nfa. ⟦<NFA as Automaton>⟧.is_of nfa
         (patterns_of (record default_settings { kind = kind; ignore_case = ignore_case }) words.now)) }
 {
-    builder_of(kind, ignore_case, prefilter, depth).build(alloc, words.iter().copied())
+    builder_of(kind, ignore_case, prefilter, depth, limits_for(words)).build(
+        alloc,
+        words.iter().copied(),
+    )
 }
 
 /// The prefilter of these words where it may be a packed search, if there is one.
