@@ -70,6 +70,14 @@ fn stops(prefilter: &Prefilter) -> usize {
         .count()
 }
 
+/// How many bytes the only word has, where it is compared as it is.
+fn lone_length(words: &[&[u8]], ignore_case: bool) -> Option<usize> {
+    match words {
+        [word] if !ignore_case => Some(word.len()),
+        _ => None,
+    }
+}
+
 /// Compares which prefilter is held for these words: none where it is not wanted, for no words, where one is empty, and for
 /// more than three first bytes; for one word that is compared as it is the search for the whole of it.
 pub(crate) fn compare_held(
@@ -81,17 +89,17 @@ pub(crate) fn compare_held(
 ) -> Result<()> {
     let firsts = first_bytes(words, ignore_case);
     let some_empty = words.iter().any(|word| word.is_empty());
-    let alone = words.len() == 1 && !ignore_case;
-    let none = !is_wanted || words.is_empty() || some_empty || !alone && firsts > 3;
+    let alone = lone_length(words, ignore_case);
+    let none = !is_wanted || words.is_empty() || some_empty || alone.is_none() && firsts > 3;
     count.same("a prefilter is held", &held.is_some(), &!none)?;
     let Some(prefilter) = held else {
         return Ok(());
     };
-    if alone {
+    if let Some(length) = alone {
         return count.same(
             "Prefilter::memory_usage",
             &prefilter.memory_usage(),
-            &words[0].len(),
+            &length,
         );
     }
     let found = (prefilter.memory_usage(), stops(prefilter));

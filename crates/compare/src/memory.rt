@@ -168,7 +168,11 @@ pub(crate) fn list<A: Automaton>(
 ) -> Result<()>
     requires of { (p : Patterns) × A.is_of automaton.now p }
 {
-    let (text, span, anchoring) = (input.haystack(), input.get_span(), input.get_anchored());
+    let (text, anchoring) = (input.haystack(), input.get_anchored());
+    let span = Span {
+        start: input.start(),
+        end: input.end(),
+    };
     let wanted = match anchoring {
         Anchored::Yes => anchored(alloc, patterns, text, span)?,
         Anchored::No => all(alloc, patterns, text, span)?,
