@@ -1,0 +1,7 @@
+use Rattle.std.proofs.lemmas.Result.{IfOk-at_ok}
+use Rattle.stream_tests.proofs.stream_finds.skips_by.Goals as goal
+
+pub told_at_once-requires-3 : goal.told_at_once-requires-3
+told_at_once-requires-3 g c = record {
+  of = (c.requires.of.0, IfOk-at_ok _ c.expect-hybrid.ensures c.with_prefilter.ensures.of c.requires.of.0 c.requires.of.1 c.requires.of.2);
+}
