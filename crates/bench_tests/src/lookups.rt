@@ -270,8 +270,15 @@ fn one_byte_is_looked_up_once_a_byte(rt: HostRuntime) -> Result<(), Fail> {
 #[test]
 fn the_best_occurrence_may_be_the_earliest(rt: HostRuntime) {
     let words: [&[u8]; 2] = [b"abcd", b"b"];
-    let kind = MatchKind::LeftmostFirst;
-    let nfa = nfa_with(&rt, rt.alloc(), &words, kind, false, true, 2);
+    let nfa = nfa_with(
+        &rt,
+        rt.alloc(),
+        &words,
+        MatchKind::LeftmostFirst,
+        false,
+        true,
+        2,
+    );
     let whole = Match::new(PatternID::new_unchecked(0), Span { start: 0, end: 4 });
     let inner = Match::new(PatternID::new_unchecked(1), Span { start: 1, end: 2 });
     for (earliest, wanted) in [(false, whole), (true, inner)] {
