@@ -12,7 +12,7 @@ use Rattle.aho_automaton.proofs.NextFinds.{finds-next, finds-none}
 use Rattle.aho_automaton.specs.declared.automaton.Automaton.{Ghosts}
 use Rattle.aho_stream.specs.After.{IsAfter, MayFollow, search_from}
 use Rattle.aho_devices.specs.declared.device.Source.{Ghosts as SourceGhosts}
-use Rattle.aho_stream.specs.Chunks.{Advances, ReadsOn, Tells, TellsEnd, TellsMatch, TellsPlain, tells_limit}
+use Rattle.aho_stream.specs.Chunks.{Advances, ReadsOn, AnswerTells, TellsEnd, TellsMatch, TellsPlain, tells_limit}
 use Rattle.aho_stream.specs.Counting.{CountsAll}
 use Rattle.aho_stream.specs.Iterators.{CanGoOn, HasGiven, IsFresh, Lends, automaton_of, lookups_of, told_lent}
 use Rattle.aho_stream.specs.declared.chunks.StreamChunkIter.{StreamChunkIter}
@@ -103,7 +103,7 @@ module _ {A R : Type 0} (G : Ghosts A) (S : SourceGhosts R) (are : (automaton : 
   Begins p = HasGiven G first p []
 
   abbrev TellsThis : Patterns → Option (Result StreamPiece StreamError) → Type 0
-  TellsThis p told = Tells p it.progress it'.progress bytes told
+  TellsThis p told = AnswerTells p it.progress it'.progress bytes told
 
   -- what both calls read
   pub read_then : ReadsOn G (automaton_of first) (lookups_of first) (lookups_of it') first.progress it'.progress (S.remaining first.source.now) (S.remaining it'.source.now)

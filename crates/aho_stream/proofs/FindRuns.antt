@@ -21,7 +21,7 @@ use Rattle.aho_automaton.specs.declared.automaton.Automaton.{Ghosts}
 use Rattle.aho_stream.specs.After.{IsAfter, MayFollow, search_from}
 use Rattle.aho_stream.specs.Chunks.{ends_between}
 use Rattle.aho_stream.specs.FindRuns.{FindsAll, FindsAlong, FindsSoFar, is_limit_among, matches_among}
-use Rattle.aho_stream.specs.Finds.{Finds, FindsError, FindsNext}
+use Rattle.aho_stream.specs.Finds.{Finds, FindsError, FindsNextInStream}
 use Rattle.aho_stream.specs.Iterators.{HasGiven, automaton_of, lookups_of}
 use Rattle.aho_stream.specs.Refills.{is_limit}
 use Rattle.aho_stream.specs.declared.chunks.StreamChunkIter.{StreamChunkIter}
@@ -67,7 +67,7 @@ module _ (p : Patterns) (lengths : List ℕ) (are : lengths ≡ map length p.wor
 
 -- a call of `next`
 abbrev pub find_steps : {A R : Type 0} → Ghosts A → SourceGhosts R → StreamFindIter A R → Option (Result Occurrence StreamError) → StreamFindIter A R → Type 0
-find_steps G S it found rest = FindsNext G S it.chunks rest.chunks found
+find_steps G S it found rest = FindsNextInStream G S it.chunks rest.chunks found
 
 module _ {A R : Type 0} (G : Ghosts A) (S : SourceGhosts R) (are : (automaton : A) (p : Patterns) → G.is_of automaton p → G.lengths automaton ≡ map length p.words) (p : Patterns) where
   -- calls led from one iterator, once these bytes were given, to another, and answered so
@@ -102,7 +102,7 @@ module _ {A R : Type 0} (G : Ghosts A) (S : SourceGhosts R) (are : (automaton : 
   }
 
   module _ (it mid rest : StreamChunkIter A R) (given : List ℕ) (item : Result Occurrence StreamError) (items : List (Result Occurrence StreamError))
-      (of : G.is_of (automaton_of it) p) (a : HasGiven G it p given) (step : FindsNext G S it mid (Some item)) (then : Led mid rest (given ++ step.reads.bytes) items) where
+      (of : G.is_of (automaton_of it) p) (a : HasGiven G it p given) (step : FindsNextInStream G S it mid (Some item)) (then : Led mid rest (given ++ step.reads.bytes) items) where
     abbrev bytes : List ℕ
     bytes = step.reads.bytes ++ then.bytes
 

@@ -7,7 +7,7 @@ use Rattle.aho_core.specs.Patterns.{Patterns}
 use Rattle.aho_devices.specs.Counts.{counted}
 use Rattle.aho_devices.specs.declared.device.Source.{Ghosts as SourceGhosts}
 use Rattle.aho_automaton.specs.declared.automaton.Automaton.{Ghosts}
-use Rattle.aho_stream.specs.Chunks.{Fills, FillsNothing, Tells, ends_between, match_told, piece_of, tells_error, tells_limit, tells_read_fault}
+use Rattle.aho_stream.specs.Chunks.{FillsOnceTold, FillsNothing, AnswerTells, ends_between, match_told, piece_of, tells_error, tells_limit, tells_read_fault}
 use Rattle.aho_stream.specs.Iterators.{Advanced, HasGiven, Lends, LendsThese, automaton_of, chunk_lent, lookups_of, told_lent}
 use Rattle.aho_stream.specs.declared.chunks.StreamChunk.{StreamChunk}
 use Rattle.aho_stream.specs.declared.chunks.StreamChunkIter.{StreamChunkIter}
@@ -34,9 +34,9 @@ says : {A R : Type 0} (G : Ghosts A) (S : SourceGhosts R) (it it' : StreamChunkI
 says G S it it' told answer none is advances lent same source limit ended stays after_end after_limit refused failing = record {
   advances = record {
     reads = advances.reads;
-    tells = λ p given of a. subst (Tells p it.progress it'.progress (given ++ advances.reads.bytes)) is (advances.tells p given of a);
+    tells = λ p given of a. subst (AnswerTells p it.progress it'.progress (given ++ advances.reads.bytes)) is (advances.tells p given of a);
     prompt = subst (λ (r : Option (Result StreamPiece StreamError)). FillsNothing it.progress it'.progress advances.reads.bytes (tells_error r)
-        ⊎ Fills G (automaton_of it) (lookups_of it) it.progress it'.progress advances.reads.bytes (tells_error r)) is advances.prompt;
+        ⊎ FillsOnceTold G (automaton_of it) (lookups_of it) it.progress it'.progress advances.reads.bytes (tells_error r)) is advances.prompt;
   };
   lent = lent;
   same = same;

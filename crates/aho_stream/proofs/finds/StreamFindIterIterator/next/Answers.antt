@@ -6,7 +6,7 @@ use Rattle.aho_core.specs.Patterns.{Patterns}
 use Rattle.aho_core.specs.Occurrence.{Occurrence}
 use Rattle.aho_core.specs.declared.error.stream.StreamError.{StreamError}
 use Rattle.aho_devices.specs.Counts.{counted}
-use Rattle.aho_stream.specs.Chunks.{Advances, FillsNothing, Tells, ends_between, tells_error, tells_limit, tells_read_fault}
+use Rattle.aho_stream.specs.Chunks.{Advances, FillsNothing, AnswerTells, ends_between, tells_error, tells_limit, tells_read_fault}
 use Rattle.aho_stream.specs.Finds.{FillsForMatch, Finds}
 use Rattle.aho_stream.specs.Iterators.{HasGiven}
 use Rattle.aho_stream.specs.declared.progress.StreamPiece.{StreamPiece}
@@ -46,7 +46,7 @@ prompt g c answer is = subst (λ (r : Option (Result StreamPiece StreamError)). 
 
 -- and says, where the last answer says it
 finds : (g : Over) (c : After-advance g) (found : Option (Result Occurrence StreamError))
-    → ((p : Patterns) (given : List ℕ) → Tells p c.loop-error.self.chunks.progress c.advance.new.self.progress given c.advance.result → Finds p c.args.self.now.chunks.progress c.advance.new.self.progress given found)
+    → ((p : Patterns) (given : List ℕ) → AnswerTells p c.loop-error.self.chunks.progress c.advance.new.self.progress given c.advance.result → Finds p c.args.self.now.chunks.progress c.advance.new.self.progress given found)
     → (p : Patterns) (given : List ℕ) → g.A.Automaton.is_of c.args.self.now.chunks.walk.automaton.now p → HasGiven g.A.Automaton c.args.self.now.chunks p given
     → Finds p c.args.self.now.chunks.progress c.advance.new.self.progress (given ++ (reading g c).reads.bytes) found
 unfolding reading
@@ -92,7 +92,7 @@ returns-in-None-clause-steps g c =
       reads = (reading g d).reads;
       prompt = prompt g d None c.in-None.is;
       finds = finds g d None (λ p given tells. end_found p s c.loop-error.self.chunks.progress c.advance.new.self.progress given inv.from inv.refused
-          (subst (λ (r : Option (Result StreamPiece StreamError)). Tells p c.loop-error.self.chunks.progress c.advance.new.self.progress given r) c.in-None.is tells));
+          (subst (λ (r : Option (Result StreamPiece StreamError)). AnswerTells p c.loop-error.self.chunks.progress c.advance.new.self.progress given r) c.in-None.is tells));
       same = c.advance.ensures.same ∙ inv.same;
       same_source = c.advance.ensures.same_source ∙ inv.source;
       limit = c.advance.ensures.limit ∙ inv.limit;
@@ -115,7 +115,7 @@ returns-in-Some-Err-clause-steps g c =
       reads = (reading g d).reads;
       prompt = prompt g d (Some (Err error)) is;
       finds = finds g d (Some (Err error)) (λ p given tells. error_found p s c.loop-error.self.chunks.progress c.advance.new.self.progress given error inv.from inv.refused inv.limit
-          (subst (λ (r : Option (Result StreamPiece StreamError)). Tells p c.loop-error.self.chunks.progress c.advance.new.self.progress given r) is tells));
+          (subst (λ (r : Option (Result StreamPiece StreamError)). AnswerTells p c.loop-error.self.chunks.progress c.advance.new.self.progress given r) is tells));
       same = c.advance.ensures.same ∙ inv.same;
       same_source = c.advance.ensures.same_source ∙ inv.source;
       limit = c.advance.ensures.limit ∙ inv.limit;
@@ -141,7 +141,7 @@ returns-in-Some-clause-steps g c =
       reads = (reading g d).reads;
       prompt = prompt g d (Some (Ok piece)) is;
       finds = finds g d (Some (Ok c.in-Some.m)) (λ p given tells. piece_found p s c.loop-error.self.chunks.progress c.advance.new.self.progress given piece c.in-Some.m (sym c.found.ensures.found ∙ c.in-Some.is) inv.from
-          (subst (λ (r : Option (Result StreamPiece StreamError)). Tells p c.loop-error.self.chunks.progress c.advance.new.self.progress given r) is tells));
+          (subst (λ (r : Option (Result StreamPiece StreamError)). AnswerTells p c.loop-error.self.chunks.progress c.advance.new.self.progress given r) is tells));
       same = c.advance.ensures.same ∙ inv.same;
       same_source = c.advance.ensures.same_source ∙ inv.source;
       limit = c.advance.ensures.limit ∙ inv.limit;
@@ -166,7 +166,7 @@ loop-error-preserved g c =
     let (p, given, of, a) = c.requires in
     let now = inv.read.reads.is_after p given of a in
     let plain = plain_told p t c.advance.new.self.progress _ piece (sym c.found.ensures.found ∙ c.in_default.is)
-    (subst (λ (r : Option (Result StreamPiece StreamError)). Tells p t c.advance.new.self.progress ((given ++ inv.read.reads.bytes) ++ (advanced g d).reads.bytes) r) is ((advanced g d).tells p (given ++ inv.read.reads.bytes) of now)) in
+    (subst (λ (r : Option (Result StreamPiece StreamError)). AnswerTells p t c.advance.new.self.progress ((given ++ inv.read.reads.bytes) ++ (advanced g d).reads.bytes) r) is ((advanced g d).tells p (given ++ inv.read.reads.bytes) of now)) in
     record {
       same = c.advance.ensures.same ∙ inv.same;
       limit = c.advance.ensures.limit ∙ inv.limit;
