@@ -45,8 +45,8 @@ module _ {A R : Type 0} (G : Ghosts A) (S : SourceGhosts R) (are : (automaton : 
   goes_on it rest answer (p, given, of, a) step = (
     p,
     given ++ step.reads.bytes,
-    subst (λ (x : A). G.is_of x p) (sym step.same) of,
-    subst (λ (x : A). IsAfter G x p (lookups_of rest) rest.progress (given ++ step.reads.bytes)) (sym step.same) (step.reads.is_after p given of a),
+    subst (λ (x : A). G.is_of x p) (sym step.call.same) of,
+    subst (λ (x : A). IsAfter G x p (lookups_of rest) rest.progress (given ++ step.reads.bytes)) (sym step.call.same) (step.reads.is_after p given of a),
   )
 
   -- each match leaves less room under the limit
@@ -56,7 +56,7 @@ module _ {A R : Type 0} (G : Ghosts A) (S : SourceGhosts R) (are : (automaton : 
       let says = step.finds p given of a in
       let occurs = (says.answer [] (MayFollow-nothing rest.progress.ended)).0 in
       let some = occurs_some p (G.lengths it.walk.automaton.now) (are it.walk.automaton.now p of) m occurs a.no_empty in
-      omega (arith, some, occurs.after_start, says.from, step.limit, now.from_reported, now.reported_walked, now.walked_read, now.limited)
+      omega (arith, some, occurs.after_start, says.from, step.call.limit, now.from_reported, now.reported_walked, now.walked_read, now.limited)
 
   -- one match more
   pub yields_more : (it mid rest : StreamFindIter A R) (ms : List Occurrence) (m : Occurrence) → Yields (find_steps G S) it (map found ms) mid → FindsNextInStream G S mid.chunks rest.chunks (Some (Ok m))

@@ -1,6 +1,5 @@
 -- What each run of the matches finds.
-use Rattle.std.proofs.Common.{◌≡◌, ◌∙◌, [], ap, false, subst, sym}
-use Rattle.aho_core.specs.Patterns.{Patterns}
+use Rattle.std.proofs.Common.{◌≡◌, ◌∙◌, [], ap, false, subst}
 use Rattle.aho_stream.specs.FindRuns.{FindsAll, FindsSoFar}
 use Rattle.aho_stream.specs.Iterators.{HasGiven, automaton_of}
 use Rattle.aho_stream.proofs.FindRuns.{finds_along, run_all, run_so_far}
