@@ -104,7 +104,7 @@ pub record AreInOrder (runs : List Occurrence) (upto : ℕ) : Type 0 where
   pub full : (x : Occurrence) → IsMember runs x → x.start < x.end
   pub within : (x : Occurrence) → IsMember runs x → x.end ≤ upto
 
-in_order-rest : (run : Occurrence) (runs : List Occurrence) (upto : ℕ) → AreInOrder (run ∷ runs) upto → AreInOrder runs upto
+pub in_order-rest : (run : Occurrence) (runs : List Occurrence) (upto : ℕ) → AreInOrder (run ∷ runs) upto → AreInOrder runs upto
 in_order-rest run runs upto h = record { in_order = h.in_order.1; full = λ x there. h.full x (inr there); within = λ x there. h.within x (inr there) }
 
 pub joined-has : (runs : List Occurrence) (m : Occurrence) (at : ℕ) → AreInOrder runs m.end → m.start < m.end → IsCovered (IsMember runs) at ⊎ Lies at m → IsCovered (IsMember (joined_runs runs m)) at

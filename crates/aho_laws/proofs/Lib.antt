@@ -28,6 +28,9 @@ pub mod Replacements
 -- the runs of a cover
 pub mod CoverRuns
 pub mod TextRuns
+pub mod CoverKept
+pub mod CoverClean
+pub mod CoverParts
 -- the test of a character boundary
 pub mod Boundaries
 -- what a run of a replacement closure appends
