@@ -28,9 +28,9 @@ ghost use Rattle.aho_core.specs.declared.search.MatchKind.TheVariants.{Standard}
 ghost use Rattle.aho_core.specs.Steps.{GoesOn, IsPaid};
 ghost use Rattle.aho_prefilter.specs.Prefilter.{IsPrefilterOf};
 ghost use Rattle.aho_prefilter.specs.declared.prefilter.Searcher.{Searcher};
-ghost use Rattle.aho_automaton.specs.Finding.{GivesFinds, GivesFirstFinds, HoldsOfFinds, places};
+ghost use Rattle.aho_automaton.specs.Finding.{GivesFinds, GivesFirstFinds, HoldsOfFinds, span_places};
 ghost use Rattle.aho_automaton.specs.Fused.{IsFused};
-ghost use Rattle.aho_automaton.specs.Overlaps.{FindsNext, FindsNone, FitsNext, FitsSome, ListsAll, ListsFirst, RefusesFirst};
+ghost use Rattle.aho_automaton.specs.Overlaps.{FindsNext, FindsNothing, FitsNext, FitsSome, ListsAll, ListsFirst, RefusesFirst};
 
 mod reference;
 mod with_prefilter;
@@ -302,7 +302,7 @@ pub trait Automaton {
         ensures first { (p : Patterns) → is_of self.now p → IfOk result
             (GivesFirstFinds ⟦<FindIter<'a, 'h, Self> as Iterator>⟧.next_gives p input.entry) }
         ensures bound { IfOk result (λ it. UpTo
-            (⟦<FindIter<'a, 'h, Self> as Iterator>⟧.remaining it) (places input.entry)) }
+            (⟦<FindIter<'a, 'h, Self> as Iterator>⟧.remaining it) (span_places input.entry)) }
         ensures fused { IfOk result (IsFused ⟦<FindIter<'a, 'h, Self> as Iterator>⟧.next_gives) }
         ensures error { IfErr result (λ reason. start self.now input.entry.anchored ≡ Err reason) }
         ensures refused { (reason : MatchErrorKind) → start self.now input.entry.anchored ≡ Err reason
@@ -346,7 +346,7 @@ pub trait Automaton {
             → IsOk result }
         ensures cleared { IfErr result (λ _. state.new ≡ without_match state.old) }
         ensures done { kind self.now ≡ Standard → input.now.end < input.now.start
-            → FindsNone state.old state.new result }
+            → FindsNothing state.old state.new result }
         ensures found { FindsNext (is_of self.now) (valid self.now) (held self.now) input.now
             state.old state.new result }
         ensures fits { FitsNext (is_of self.now) (valid self.now) (held self.now) input.now
@@ -382,7 +382,7 @@ pub trait Automaton {
             → IfOk result ⟦<FindOverlappingIter<'a, 'h, Self> as Iterator>⟧.can_next }
         ensures bound { IfOk result (λ it.
             UpTo (⟦<FindOverlappingIter<'a, 'h, Self> as Iterator>⟧.remaining it)
-            (length (lengths self.now) * places input.entry)) }
+            (length (lengths self.now) * span_places input.entry)) }
         ensures lists { (p : Patterns) → is_of self.now p → IfOk result
             (ListsAll ⟦<FindOverlappingIter<'a, 'h, Self> as Iterator>⟧.next_gives p input.entry) }
         ensures first { (p : Patterns) → is_of self.now p → IfOk result
