@@ -1,6 +1,6 @@
 -- A hash of bytes is the same wherever the same bytes stand, and a whole word tells it.
 use Rattle.std.proofs.Common.{◌≡◌, ℕ, ◌+◌, ◌-◌, ◌*◌, ◌%◌, ◌^◌, ◌<◌, ◌≤◌, zero, suc, List, get_or, refl, sym, ap, ◌∙◌, arith}
-use Rattle.std.proofs.Math.Nat.{add-mul-mod_self_right, mul_assoc, mul_comm, pow-suc}
+use Rattle.std.proofs.Math.Nat.{add-mul-mod_self_right, pow-suc}
 use Rattle.std.proofs.lemmas.Nat.{mul-mod_second, pow-add}
 use Rattle.aho_prefilter.specs.Strided.{factor_for, gram_hash, half_of, hash_at, head_hash, number_at}
 use Rattle.aho_prefilter.specs.declared.strided.sizes.Sizes.{Sizes}

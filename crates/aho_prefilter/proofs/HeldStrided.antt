@@ -1,11 +1,11 @@
 -- A strided search that is held has its sizes, and is a prefilter of the patterns.
-use Rattle.std.proofs.Common.{◌≡◌, ℕ, ◌+◌, ◌-◌, ◌<◌, ◌≤◌, zero, suc, Bool, true, false, List, [], ◌∷◌, get_or, length, refl, sym, ap, subst, ◌∙◌, arith, min}
+use Rattle.std.proofs.Common.{◌≡◌, ℕ, ◌<◌, ◌≤◌, zero, suc, Bool, true, false, List, [], ◌∷◌, get_or, length, refl, sym, ap, subst, ◌∙◌, arith, min}
 use Rattle.std.specs.Prelude.{Option, Some, None as Nothing, IfSome, if◌then◌else◌}
 use Rattle.std.specs.List.{fold}
 use Rattle.std.specs.Option.{option_map, option_or}
 use Rattle.std.proofs.lemmas.Bool.Decides.{nat_tests}
 use Rattle.aho_core.specs.declared.search.MatchKind.{MatchKind}
-use Rattle.aho_core.specs.Patterns.{Patterns, pattern_at}
+use Rattle.aho_core.specs.Patterns.{Patterns}
 use Rattle.aho_prefilter.specs.Prefilter.{AreMarksOf, IsPrefilterOf, held_or_packed, quickest_for, strided_for, yields}
 use Rattle.aho_prefilter.specs.Sizes.{gram_for, head_of, is_crowded, is_small, shape_of, sizes_for, stride_for}
 use Rattle.aho_prefilter.specs.Strided.{IsSized, marks_of, no_marks}

@@ -1,5 +1,5 @@
 -- The strided search for the patterns stops no later than where the first one occurs.
-use Rattle.std.proofs.Common.{◌≡◌, ℕ, ◌+◌, ◌-◌, ◌<◌, ◌≤◌, inl, inr, Bool, List, get_or, length, refl, sym, ap, subst, ◌∙◌, arith}
+use Rattle.std.proofs.Common.{◌≡◌, ℕ, ◌+◌, ◌-◌, ◌<◌, ◌≤◌, inl, inr, Bool, List, length, subst, arith}
 use Rattle.std.specs.Prelude.{None, Some, slice_range}
 use Rattle.std.proofs.lemmas.Bool.{cases_lt}
 use Rattle.aho_core.specs.declared.search.Anchored.TheVariants.{No}

@@ -1,17 +1,17 @@
 -- The bits of words that were added to a strided search are set, so it stops wherever one of them stands.
-use Rattle.std.proofs.Common.{◌≡◌, ℕ, ◌+◌, ◌-◌, ◌*◌, ◌/◌, ◌%◌, ◌^◌, ◌<◌, ◌≤◌, zero, suc, inl, inr, Bool, true, false, List, [], ◌∷◌, get_or, length, refl, sym, ap, subst, ◌∙◌, arith, min, max}
+use Rattle.std.proofs.Common.{◌≡◌, ℕ, ◌+◌, ◌-◌, ◌*◌, ◌/◌, ◌%◌, ◌^◌, ◌<◌, ◌≤◌, zero, suc, inl, inr, List, [], ◌∷◌, get_or, length, refl, sym, ap, subst, ◌∙◌, arith, min, max}
 use Rattle.std.specs.List.{fold}
 use Rattle.std.proofs.Math.Nat.{mul-lt-mul_of_pos_right}
 use Rattle.std.proofs.lemmas.Bool.{cases_eq}
 use Rattle.std.proofs.lemmas.List.{length-replicate}
 use Rattle.std.proofs.lemmas.Nat.{div-add-mod', div_below, mod_below}
 use Rattle.std.proofs.lemmas.Nat.Bits.{bit_at-pow_same}
-use Rattle.aho_prefilter.specs.Strided.{HasMark, HasMarksOf, IsMarkedAt, IsSized, IsSound, IsTable, Marks, MayStartAt, empty_table, gram_hash, half_of, hash_at, head_hash, last_of_stride, marks_of, marks_with, no_marks, place_in, with_grams, with_mark}
+use Rattle.aho_prefilter.specs.Strided.{HasMark, HasMarksOf, IsSized, IsSound, IsTable, Marks, MayStartAt, empty_table, gram_hash, hash_at, head_hash, last_of_stride, marks_of, marks_with, no_marks, place_in, with_grams, with_mark}
 use Rattle.aho_prefilter.specs.declared.strided.sizes.Sizes.{Sizes}
 use Rattle.aho_prefilter.proofs.Hashes.{hash_at-same}
 use Rattle.aho_prefilter.proofs.PackedSound.{HasBit, Keeps, Keeps-set, Keeps-then, set-has}
 use Rattle.aho_prefilter.proofs.Strides.{head_hash-same}
-use Rattle.aho_prefilter.proofs.Tables.{IsTable-long, fold-sizes, length-with_grams, length-with_mark}
+use Rattle.aho_prefilter.proofs.Tables.{IsTable-long, length-with_grams, length-with_mark}
 
 -- a place stands within the table
 place_within : (words hash : ℕ) → 0 < words → hash < 2 ^ 64 → place_in words hash / 64 < words

@@ -1,5 +1,5 @@
 -- What a strided search is made of: its tables grow by the bits of a pattern.
-use Rattle.std.proofs.Common.{◌≡◌, ℕ, ◌+◌, ◌-◌, ◌*◌, ◌%◌, ◌^◌, ◌<◌, ◌≤◌, zero, suc, List, [], ◌∷◌, get_or, length, refl, sym, ap, ◌∙◌, arith}
+use Rattle.std.proofs.Common.{◌≡◌, ℕ, ◌+◌, ◌<◌, ◌≤◌, zero, suc, List, [], ◌∷◌, get_or, length, refl, ap, ◌∙◌, arith}
 use Rattle.std.specs.List.{fold}
 use Rattle.std.proofs.lemmas.List.{length-set}
 use Rattle.aho_prefilter.specs.Strided.{IsSized, IsTable, Marks, gram_hash, head_hash, marks_with, with_grams, with_mark}

@@ -1,5 +1,5 @@
 -- What a strided search looks for: places where the bits of some pattern are set.
-use Rattle.std.specs.Prelude.{◌≡◌, ℕ, zero, suc, ◌+◌, ◌-◌, ◌*◌, ◌/◌, ◌%◌, ◌^◌, ◌<◌, ◌≤◌, min, max, List, length, replicate, slice_index, slice_set, bit_or, Option}
+use Rattle.std.specs.Prelude.{◌≡◌, ℕ, zero, suc, ◌+◌, ◌-◌, ◌*◌, ◌/◌, ◌%◌, ◌^◌, ◌<◌, ◌≤◌, min, max, List, [], length, replicate, slice_index, slice_index_or, slice_set, bit_or, Option}
 use Rattle.std.specs.Int.{bit_at}
 use Rattle.std.specs.List.{fold}
 use Rattle.memchr.specs.Find.{IsFirst}
@@ -53,14 +53,26 @@ with_mark table hash =
     slice_set table (place_in (length table) hash / 64)
     (bit_or (slice_index table (place_in (length table) hash / 64)) (2 ^ (place_in (length table) hash % 64)))
 
+-- what a word is multiplied by for the hash of its gram
+abbrev pub gram_factor : Sizes → ℕ
+gram_factor sizes = factor_for 0x9E37_79B9_7F4A_7C15 sizes.gram
+
+-- the bit of the gram at a place is set
+abbrev pub HasGram : Marks → List ℕ → ℕ → Type 0
+HasGram marks bytes at = HasMark marks.grams (gram_hash marks.sizes bytes at)
+
+-- the bit of the head at a place is set
+abbrev pub HasHead : Marks → List ℕ → ℕ → Type 0
+HasHead marks bytes at = HasMark marks.heads (head_hash marks.sizes bytes at)
+
 -- the last place of the stride in which a place lies
 abbrev pub last_of_stride : ℕ → ℕ → ℕ
 last_of_stride stride at = at / stride * stride + (stride - 1)
 
 -- the bit of the head at a place is set, and that of the gram at the last place of its stride
 pub record IsMarkedAt (marks : Marks) (bytes : List ℕ) (at : ℕ) : Type 0 where
-  pub gram : HasMark marks.grams (gram_hash marks.sizes bytes (last_of_stride marks.sizes.stride at))
-  pub head : HasMark marks.heads (head_hash marks.sizes bytes at)
+  pub gram : HasGram marks bytes (last_of_stride marks.sizes.stride at)
+  pub head : HasHead marks bytes at
 
 -- and there are as many bytes as a head has
 pub record MayStartAt (marks : Marks) (bytes : List ℕ) (at : ℕ) : Type 0 where
@@ -116,6 +128,14 @@ marks_with marks word = record {
   heads = with_mark marks.heads (head_hash marks.sizes word 0);
 }
 
+-- where so many strides end
+abbrev pub end_of : Marks → ℕ → ℕ
+end_of marks turns = turns * marks.sizes.stride
+
+-- each word has as many bytes as a head
+abbrev pub HaveHeads : Sizes → List (List ℕ) → Type 0
+HaveHeads sizes words = (k : ℕ) → k < length words → sizes.head ≤ length (slice_index_or words k [])
+
 -- the marks of these words
 abbrev pub marks_of : Sizes → List (List ℕ) → Marks
 marks_of sizes words = fold marks_with (no_marks sizes (length words)) words
@@ -123,5 +143,5 @@ marks_of sizes words = fold marks_with (no_marks sizes (length words)) words
 -- all bits of a word are set
 pub record HasMarksOf (marks : Marks) (word : List ℕ) : Type 0 where
   pub long : marks.sizes.head ≤ length word
-  pub grams : (offset : ℕ) → offset < marks.sizes.stride → HasMark marks.grams (gram_hash marks.sizes word offset)
-  pub head : HasMark marks.heads (head_hash marks.sizes word 0)
+  pub grams : (offset : ℕ) → offset < marks.sizes.stride → HasGram marks word offset
+  pub head : HasHead marks word 0

@@ -5,5 +5,5 @@ pub mod impls;
 pub mod laws;
 pub mod packed;
 pub mod prefilter;
-pub mod strided;
+mod strided;
 pub mod text;

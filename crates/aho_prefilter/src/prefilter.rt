@@ -60,7 +60,7 @@ enum Searcher {
     Memchr3(u8, u8, u8),
     /// For the fingerprints of the patterns.
     Packed(Packed),
-    /// For grams of the patterns, at each so manieth place.
+    /// For grams of the patterns, each of which is looked up for several places.
     Strided(Strided),
 }
 
@@ -123,7 +123,8 @@ impl Prefilter {
         Candidate::Match(Match::new(pattern, Span { start, end }))
     }
 
-    /// How many bytes of memory it holds: those of the pattern that is searched for as a whole.
+    /// How many bytes of memory it holds: those of the pattern that is searched for as a whole, or of the tables of a strided
+    /// search.
     pub fn memory_usage(&self) -> usize
         ensures memory_usage { result ≡ bytes_held self.now }
         ensures bound { result < 2 ^ 63 }
@@ -140,7 +141,7 @@ impl Prefilter {
     ///
     /// # Errors
     ///
-    /// Out of memory, for the copy of a pattern that is searched for as a whole.
+    /// Out of memory, for the copy of a pattern that is searched for as a whole, or of tables.
     pub fn try_clone(&self) -> Result<Prefilter, AllocError>
         ensures same { IfOk result (λ copy. copy ≡ self.now) }
         ensures wanted { IfErr result (λ _. holds_memory self.now ≡ true) }

@@ -1,4 +1,4 @@
-//! The strided search: it looks at each so manieth place of a text alone, and there at a few bytes, a gram.
+//! The strided search: it looks up a few bytes, a gram, at the last of each so many places, and passes over the others.
 //!
 //! # The tables
 //!
@@ -13,21 +13,23 @@
 //! pattern, since different bytes may have the same bit. The last places, behind which too few bytes stand, are copied in front
 //! of zeros, so nothing is read past the end.
 
-ghost use Rattle.std.specs.Prelude.{◌≡◌, ◌↔◌, ℕ, ◌+◌, ◌-◌, ◌*◌, ◌<◌, ◌≤◌, ◌^◌, length, IfOk, IsTrue, slice_index_or, []};
+ghost use Rattle.std.specs.Prelude.{◌≡◌, ◌↔◌, ℕ, ◌+◌, ◌-◌, ◌*◌, ◌<◌, ◌≤◌, ◌^◌, length, IfOk, IsTrue};
 ghost use Rattle.memchr.specs.Find.{IsFirst};
 ghost use Rattle.aho_core.specs.Replacement.{pieces_of};
-ghost use Rattle.aho_prefilter.specs.Strided.{HasMark, IsFirstMarked, IsMarkedAt, IsSized, MayStartAt, IsTable, empty_table, factor_for, head_hash, marks_of, marks_with, number_at, place_in, with_grams, with_mark};
+ghost use Rattle.aho_prefilter.specs.Strided.{HasHead, HasMark, HaveHeads, IsFirstMarked, IsMarkedAt, IsSized, IsTable, MayStartAt, empty_table, end_of, factor_for, gram_factor, head_hash, marks_of, marks_with, number_at, place_in, with_grams, with_mark};
 
 pub(crate) mod sizes;
 
 use crate::packed::padded;
-pub use sizes::Sizes;
+use sizes::Sizes;
 use std::alloc::{AllocError, Global};
 use std::marker::Model;
 
 /// What hashes are made with: odd numbers without a pattern.
 const GRAM: u64 = 0x9E37_79B9_7F4A_7C15;
+
 const LOW: u64 = 0xD6E8_FEB8_6659_FD93;
+
 const HIGH: u64 = 0xA076_1D64_78BD_642F;
 
 /// How many words of 64 bits a table has at most.
@@ -36,9 +38,9 @@ const MOST: usize = 1 << 16;
 /// How many places have to stand behind a place, for its head to be read without a copy.
 const BEHIND: usize = 15;
 
-/// A search for places where the marks of some patterns stand.
+/// A search for places where the bits of some pattern are set.
 #[derive(Drop)]
-pub struct Strided {
+pub(crate) struct Strided {
     sizes: Sizes,
     /// A bit for each hash of a gram.
     grams: Vec<u64>,
@@ -155,13 +157,13 @@ impl Strided {
     /// # Errors
     ///
     /// Out of memory, for the tables.
-    pub fn new(
+    pub(crate) fn new(
         alloc: Global,
         sizes: Sizes,
         patterns: &[&[u8]],
     ) -> Result<Strided, AllocError>
         requires sized { IsSized sizes }
-        requires heads { (k : ℕ) → k < length patterns.now → sizes.head ≤ length (slice_index_or (pieces_of patterns.now) k []) }
+        requires heads { HaveHeads sizes (pieces_of patterns.now) }
         ensures made { IfOk result (λ made. made ≡ marks_of sizes (pieces_of patterns.now)) }
     {
         let mut made = Strided {
@@ -187,7 +189,7 @@ impl Strided {
 
     /// The first place of these bytes where a pattern may start. It takes no memory.
     #[inline(never)]
-    pub fn find(&self, bytes: &[u8]) -> Option<usize>
+    pub(crate) fn find(&self, bytes: &[u8]) -> Option<usize>
         ensures first { IsFirstMarked self.now bytes.now result }
     {
         let stride = self.sizes.stride;
@@ -201,8 +203,8 @@ impl Strided {
     /// The same of so many strides.
     #[inline(always)]
     fn find_in_turns(&self, bytes: &[u8], turns: usize) -> Option<usize>
-        requires within { turns * self.now.sizes.stride ≤ length bytes.now - 15 }
-        ensures first { IsFirst (IsMarkedAt self.now bytes.now) 0 (turns * self.now.sizes.stride) result }
+        requires within { end_of self.now turns ≤ length bytes.now - 15 }
+        ensures first { IsFirst (IsMarkedAt self.now bytes.now) 0 (end_of self.now turns) result }
     {
         let grams = self.grams.as_slice();
         let factor = factor_for(GRAM, self.sizes.gram);
@@ -216,17 +218,12 @@ impl Strided {
 
     /// The same of one stride.
     #[inline(always)]
-    fn find_in_stride(
-        &self,
-        grams: &[u64],
-        factor: u64,
-        bytes: &[u8],
-        turn: usize,
-    ) -> Option<usize>
+    fn find_in_stride(&self, grams: &[u64], factor: u64, bytes: &[u8], turn: usize) -> Option<usize>
         requires grams { grams.now ≡ self.now.grams }
-        requires factor { factor ≡ factor_for 0x9E37_79B9_7F4A_7C15 self.now.sizes.gram }
-        requires within { (turn + 1) * self.now.sizes.stride + 15 ≤ length bytes.now }
-        ensures first { IsFirst (IsMarkedAt self.now bytes.now) (turn * self.now.sizes.stride) ((turn + 1) * self.now.sizes.stride) result }
+        requires factor { factor ≡ gram_factor self.now.sizes }
+        requires within { end_of self.now (turn + 1) + 15 ≤ length bytes.now }
+        ensures first { IsFirst (IsMarkedAt self.now bytes.now)
+            (end_of self.now turn) (end_of self.now (turn + 1)) result }
     {
         let from = turn * self.sizes.stride;
         let last = from + (self.sizes.stride - 1);
@@ -241,7 +238,8 @@ impl Strided {
     #[inline(never)]
     fn find_head(&self, bytes: &[u8], from: usize) -> Option<usize>
         requires within { from + self.now.sizes.stride + 15 ≤ length bytes.now }
-        ensures first { IsFirst (λ at. HasMark self.now.heads (head_hash self.now.sizes bytes.now at)) from (from + self.now.sizes.stride) result }
+        ensures first { IsFirst (HasHead self.now bytes.now)
+            from (from + self.now.sizes.stride) result }
     {
         for place in from..from + self.sizes.stride {
             if is_marked(&self.heads, self.sizes.head_hash(bytes, place)) {
@@ -254,9 +252,10 @@ impl Strided {
     /// The same of the last places.
     #[inline(never)]
     fn find_in_rest(&self, bytes: &[u8], turns: usize) -> Option<usize>
-        requires within { turns * self.now.sizes.stride ≤ length bytes.now }
-        requires few { length bytes.now < (turns + 1) * self.now.sizes.stride + 15 }
-        ensures first { IsFirst (MayStartAt self.now bytes.now) (turns * self.now.sizes.stride) (length bytes.now) result }
+        requires within { end_of self.now turns ≤ length bytes.now }
+        requires few { length bytes.now < end_of self.now (turns + 1) + 15 }
+        ensures first { IsFirst (MayStartAt self.now bytes.now)
+            (end_of self.now turns) (length bytes.now) result }
     {
         let from = turns * self.sizes.stride;
         let rest = padded(bytes, from);
@@ -268,7 +267,7 @@ impl Strided {
     }
 
     /// How many bytes its tables have.
-    pub fn memory_usage(&self) -> usize
+    pub(crate) fn memory_usage(&self) -> usize
         ensures memory_usage { result ≡ 8 * (length self.now.grams + length self.now.heads) }
         ensures bound { result ≤ 2 ^ 20 }
     {
@@ -280,7 +279,7 @@ impl Strided {
     /// # Errors
     ///
     /// Out of memory, for the tables.
-    pub fn try_clone(&self) -> Result<Strided, AllocError>
+    pub(crate) fn try_clone(&self) -> Result<Strided, AllocError>
         ensures same { IfOk result (λ copy. copy ≡ self.now) }
     {
         Ok(Strided {

@@ -7,24 +7,24 @@ ghost use Rattle.aho_prefilter.specs.Sizes.{gram_for, head_of, is_crowded, is_sm
 
 /// The sizes of a strided search.
 #[derive(Clone, Copy)]
-pub struct Sizes {
+pub(crate) struct Sizes {
     /// How many bytes a gram has.
-    pub(crate) gram: usize,
+    pub(super) gram: usize,
     /// How many places one gram is looked up for.
-    pub(crate) stride: usize,
+    pub(super) stride: usize,
     /// How many of the first bytes of each pattern are looked at.
-    pub(crate) head: usize,
+    pub(super) head: usize,
 }
 
 /// What the sizes for some patterns depend on.
 #[derive(Clone, Copy)]
 pub(crate) struct Shape {
     /// How many patterns there are.
-    pub(crate) count: usize,
+    count: usize,
     /// How many bytes the shortest has, but sixteen at most.
-    pub(crate) head: usize,
+    head: usize,
     /// How many different bytes they are made of.
-    pub(crate) letters: usize,
+    letters: usize,
 }
 
 impl Shape {

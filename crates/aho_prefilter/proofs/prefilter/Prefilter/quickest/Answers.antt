@@ -1,12 +1,10 @@
-use Rattle.std.proofs.Common.{◌≡◌, ◌<◌, ◌≤◌, ◌∙◌, Bool, true, false, List, [], ℕ, get_or, length, refl, sym, ap, subst, arith}
-use Rattle.std.specs.Prelude.{Option, Some}
+use Rattle.std.proofs.Common.{◌≡◌, ◌≤◌, ◌∙◌, length, sym, ap, subst, arith}
+use Rattle.std.specs.Prelude.{Some}
 use Rattle.std.proofs.lemmas.List.{length-map}
 use Rattle.aho_core.specs.Replacement.{pieces_of}
-use Rattle.aho_core.specs.declared.search.MatchKind.{MatchKind}
-use Rattle.aho_prefilter.specs.Prefilter.{IsPrefilterOf, patterns_from, quickest_for}
+use Rattle.aho_prefilter.specs.Prefilter.{patterns_from}
 use Rattle.aho_prefilter.specs.Sizes.{shape_of, sizes_for}
-use Rattle.aho_prefilter.specs.Strided.{Marks, marks_of}
-use Rattle.aho_prefilter.specs.declared.prefilter.Searcher.{Searcher}
+use Rattle.aho_prefilter.specs.Strided.{Marks}
 use Rattle.aho_prefilter.specs.declared.prefilter.Searcher.TheVariants.{Strided}
 use Rattle.aho_prefilter.specs.declared.strided.sizes.Shape.{Shape}
 use Rattle.aho_prefilter.proofs.HeldStrided.{head_of-each, head_of-few, held_or_packed-held, quickest_for-of, quickest_for-strided, sizes_for-sized}

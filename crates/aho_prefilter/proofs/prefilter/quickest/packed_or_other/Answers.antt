@@ -1,4 +1,4 @@
-use Rattle.std.proofs.Common.{◌≡◌, ◌<◌, ◌∙◌, Bool, false, List, [], ℕ, get_or, length, refl, sym, ap, subst, arith, take}
+use Rattle.std.proofs.Common.{◌≡◌, List, [], ℕ, get_or, refl, sym, ap, subst, take}
 use Rattle.std.specs.Prelude.{Result, IfErr, Ok, Err}
 use Rattle.std.proofs.lemmas.List.{take_all}
 use Rattle.aho_core.specs.Replacement.{pieces_of}

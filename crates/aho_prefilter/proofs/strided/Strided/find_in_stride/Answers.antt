@@ -1,4 +1,4 @@
-use Rattle.std.proofs.Common.{◌≡◌, ℕ, ◌+◌, ◌-◌, ◌*◌, ◌%◌, ◌^◌, Bool, true, false, List, refl, sym, ap, subst, ◌∙◌}
+use Rattle.std.proofs.Common.{◌≡◌, ℕ, ◌+◌, ◌-◌, ◌*◌, true, false, List, refl, sym, ap, subst, ◌∙◌}
 use Rattle.memchr.specs.Find.{IsFirst}
 use Rattle.aho_prefilter.specs.Strided.{HasMark, IsSound, Marks, gram_hash, head_hash, number_at}
 use Rattle.aho_prefilter.specs.declared.strided.sizes.Sizes.{Sizes}
@@ -32,5 +32,5 @@ returns-else-is_marked c =
     c.requires.factor in
     record {
       first = Nowhere-marked marks bytes c.args.turn
-      (λ has. let e : false ≡ true = c.if-is_marked.ensures.marked.1 (subst (HasMark c.args.grams.now) (sym hash) (subst (λ (table : List ℕ). HasMark table (gram_hash marks.sizes bytes (c.args.turn * marks.sizes.stride + (marks.sizes.stride - 1)))) (sym c.requires.grams) has)) in cc);
+          (λ has. let e : false ≡ true = c.if-is_marked.ensures.marked.1 (subst (HasMark c.args.grams.now) (sym hash) (subst (λ (table : List ℕ). HasMark table (gram_hash marks.sizes bytes (c.args.turn * marks.sizes.stride + (marks.sizes.stride - 1)))) (sym c.requires.grams) has)) in cc);
     }

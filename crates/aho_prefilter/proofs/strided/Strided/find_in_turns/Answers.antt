@@ -13,5 +13,5 @@ returns-in-Some c =
     let below : (c.loop-turn.turn + 1) * stride ≤ c.args.turns * stride = mul-le-mul_right stride next in
     record {
       first = first_within marked 0 ((c.loop-turn.turn + 1) * stride) (c.args.turns * stride) c.in-Some.place below
-      (first_after marked 0 (c.loop-turn.turn * stride) ((c.loop-turn.turn + 1) * stride) (Some c.in-Some.place) (omega arith) c.loop-turn.invariant c.in-Some.ensures.first);
+          (first_after marked 0 (c.loop-turn.turn * stride) ((c.loop-turn.turn + 1) * stride) (Some c.in-Some.place) (omega arith) c.loop-turn.invariant c.in-Some.ensures.first);
     }

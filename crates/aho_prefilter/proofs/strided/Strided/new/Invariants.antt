@@ -1,5 +1,5 @@
 -- The patterns before the place of the loop were added.
-use Rattle.std.proofs.Common.{◌≡◌, List, length, take}
+use Rattle.std.proofs.Common.{◌≡◌, length, take}
 use Rattle.std.specs.List.{fold}
 use Rattle.aho_core.specs.Replacement.{pieces_of}
 use Rattle.aho_prefilter.specs.Strided.{marks_with, no_marks}

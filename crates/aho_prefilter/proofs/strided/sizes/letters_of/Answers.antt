@@ -1,4 +1,4 @@
-use Rattle.std.proofs.Common.{◌≡◌, ℕ, ◌+◌, ◌<◌, ◌≤◌, ◌^◌, cond, zero, suc, Bool, true, false, List, get_or, refl, sym, ap, subst, ◌∙◌, arith, take}
+use Rattle.std.proofs.Common.{◌≡◌, ℕ, ◌+◌, ◌≤◌, cond, zero, suc, Bool, true, false, List, refl, ap, ◌∙◌, arith}
 use Rattle.std.proofs.lemmas.List.{get_or-replicate, take_all}
 use Rattle.aho_core.specs.Replacement.{pieces_of}
 use Rattle.aho_prefilter.specs.Sizes.{is_used, used_below}
