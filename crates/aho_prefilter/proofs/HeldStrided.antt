@@ -7,8 +7,8 @@ use Rattle.std.proofs.lemmas.Bool.Decides.{nat_tests}
 use Rattle.aho_core.specs.declared.search.MatchKind.{MatchKind}
 use Rattle.aho_core.specs.Patterns.{Patterns}
 use Rattle.aho_prefilter.specs.Prefilter.{AreMarksOf, IsPrefilterOf, held_or_packed, quickest_for, strided_for, yields}
-use Rattle.aho_prefilter.specs.Sizes.{gram_for, head_of, is_crowded, is_small, shape_of, sizes_for, stride_for}
-use Rattle.aho_prefilter.specs.Strided.{IsSized, marks_of, no_marks}
+use Rattle.aho_prefilter.specs.Sizes.{gram_for, least_head, is_crowded, is_small, shape_of, sizes_for, stride_for}
+use Rattle.aho_prefilter.specs.Strided.{AreStrideSizes, marks_of, no_marks}
 use Rattle.aho_prefilter.specs.declared.prefilter.Searcher.{Searcher}
 use Rattle.aho_prefilter.specs.declared.prefilter.Searcher.TheVariants.{Strided}
 use Rattle.aho_prefilter.specs.declared.strided.sizes.Shape.{Shape}
@@ -27,17 +27,17 @@ least-each [] most k below = absurd (omega arith)
 least-each (word ∷ words) most zero below = omega (arith, least-below words (min most (length word)))
 least-each (word ∷ words) most (suc k) below = least-each words (min most (length word)) k (omega arith)
 
-pub head_of-few : (words : List (List ℕ)) → head_of words ≤ 16
-head_of-few words = least-below words 16
+pub least_head-few : (words : List (List ℕ)) → least_head words ≤ 16
+least_head-few words = least-below words 16
 
-pub head_of-each : (words : List (List ℕ)) (k : ℕ) → k < length words → head_of words ≤ length (get_or words k [])
-head_of-each words k below = least-each words 16 k below
+pub least_head-each : (words : List (List ℕ)) (k : ℕ) → k < length words → least_head words ≤ length (get_or words k [])
+least_head-each words k below = least-each words 16 k below
 
 -- the sizes fit
-pub sizes_for-sized : (s : Shape) (sizes : Sizes) → s.head ≤ 16 → sizes_for s ≡ Some sizes → IsSized sizes × (sizes.head ≡ s.head)
+pub sizes_for-sized : (s : Shape) (sizes : Sizes) → s.head ≤ 16 → sizes_for s ≡ Some sizes → AreStrideSizes sizes × (sizes.head ≡ s.head)
 sizes_for-sized s sizes few held = by_tests (is_small s) (is_crowded s) refl held
   where
-    made : 5 ≤ s.head → IsSized (record { gram = gram_for s; stride = stride_for s; head = s.head })
+    made : 5 ≤ s.head → AreStrideSizes (record { gram = gram_for s; stride = stride_for s; head = s.head })
     made long = record {
       some = omega arith;
       gram = omega arith;
@@ -49,13 +49,13 @@ sizes_for-sized s sizes few held = by_tests (is_small s) (is_crowded s) refl hel
 
     by_tests : (small crowded : Bool) → is_small s ≡ small
         → (if small then Nothing else if crowded then Nothing else Some (record { gram = gram_for s; stride = stride_for s; head = s.head })) ≡ Some sizes
-        → IsSized sizes × (sizes.head ≡ s.head)
+        → AreStrideSizes sizes × (sizes.head ≡ s.head)
     by_tests true crowded is other = cc
     by_tests false true is other = cc
     by_tests false false is other =
         let e : sizes ≡ record { gram = gram_for s; stride = stride_for s; head = s.head } = cc in
         let long : 5 ≤ s.head = grind (arith, nat_tests, is) in
-        (subst IsSized (sym e) (made long), ap (λ (t : Sizes). t.head) e)
+        (subst AreStrideSizes (sym e) (made long), ap (λ (t : Sizes). t.head) e)
 
 pub strided_for-of : (p : Patterns) (searcher : Searcher) → strided_for p ≡ Some searcher → IsPrefilterOf searcher p
 strided_for-of p searcher held = by_rule p.ignore_case (sizes_for (shape_of p.words)) refl refl held
@@ -66,12 +66,12 @@ strided_for-of p searcher held = by_rule p.ignore_case (sizes_for (shape_of p.wo
     by_rule false Nothing rule are is = cc
     by_rule false (Some sizes) rule are is =
         let e : searcher ≡ Strided (marks_of sizes p.words) = cc in
-        let sized = sizes_for-sized (shape_of p.words) sizes (head_of-few p.words) are in
+        let sized = sizes_for-sized (shape_of p.words) sizes (least_head-few p.words) are in
         let same : (marks_of sizes p.words).sizes ≡ sizes = fold-sizes p.words (no_marks sizes (length p.words)) in
         let made : AreMarksOf p (marks_of sizes p.words) = record {
           exact = rule;
-          sizes = subst IsSized (sym same) sized.0;
-          each = λ k below. HasMarksOf-all sizes p.words k sized.0 below (omega (arith, sized.1, head_of-each p.words k below));
+          sizes = subst AreStrideSizes (sym same) sized.0;
+          each = λ k below. HasMarksOf-all sizes p.words k sized.0 below (omega (arith, sized.1, least_head-each p.words k below));
         } in
         rw e made
 

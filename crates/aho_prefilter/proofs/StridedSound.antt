@@ -6,7 +6,7 @@ use Rattle.std.proofs.lemmas.Bool.{cases_eq}
 use Rattle.std.proofs.lemmas.List.{length-replicate}
 use Rattle.std.proofs.lemmas.Nat.{div-add-mod', div_below, mod_below}
 use Rattle.std.proofs.lemmas.Nat.Bits.{bit_at-pow_same}
-use Rattle.aho_prefilter.specs.Strided.{HasMark, HasMarksOf, IsSized, IsSound, IsTable, Marks, MayStartAt, empty_table, gram_hash, hash_at, head_hash, last_of_stride, marks_of, marks_with, no_marks, place_in, with_grams, with_mark}
+use Rattle.aho_prefilter.specs.Strided.{HasMark, HasMarksOf, AreStrideSizes, AreSoundMarks, IsTable, Marks, MayStartAt, empty_table, gram_hash, hash_at, head_hash, last_of_stride, marks_of, marks_with, no_marks, place_in, with_grams, with_mark}
 use Rattle.aho_prefilter.specs.declared.strided.sizes.Sizes.{Sizes}
 use Rattle.aho_prefilter.proofs.Hashes.{hash_at-same}
 use Rattle.aho_prefilter.proofs.PackedSound.{HasBit, Keeps, Keeps-set, Keeps-then, set-has}
@@ -63,7 +63,7 @@ HasMark-with_grams sizes word (suc count) grams some offset below =
     ]
 
 -- a word that was just added
-HasMarksOf-with : (marks : Marks) (word : List ℕ) → IsSound marks → marks.sizes.head ≤ length word → HasMarksOf (marks_with marks word) word
+HasMarksOf-with : (marks : Marks) (word : List ℕ) → AreSoundMarks marks → marks.sizes.head ≤ length word → HasMarksOf (marks_with marks word) word
 HasMarksOf-with marks word sound long = record {
   long = long;
   grams = HasMark-with_grams marks.sizes word marks.sizes.stride marks.grams sound.grams.some;
@@ -83,38 +83,38 @@ HasMarksOf-more : (words : List (List ℕ)) (marks : Marks) (word : List ℕ) �
 HasMarksOf-more [] marks word has = has
 HasMarksOf-more (more ∷ words) marks word has = HasMarksOf-more words (marks_with marks more) word (HasMarksOf-kept marks more word has)
 
-IsSound-with : (marks : Marks) (word : List ℕ) → IsSound marks → IsSound (marks_with marks word)
-IsSound-with marks word sound = record {
+AreSoundMarks-with : (marks : Marks) (word : List ℕ) → AreSoundMarks marks → AreSoundMarks (marks_with marks word)
+AreSoundMarks-with marks word sound = record {
   sizes = sound.sizes;
   grams = IsTable-long marks.grams (marks_with marks word).grams (length-with_grams marks.sizes word marks.sizes.stride marks.grams) sound.grams;
   heads = IsTable-long marks.heads (marks_with marks word).heads (length-with_mark marks.heads (head_hash marks.sizes word 0)) sound.heads;
 }
 
-HasMarksOf-added : (words : List (List ℕ)) (marks : Marks) (k : ℕ) → IsSound marks → k < length words
+HasMarksOf-added : (words : List (List ℕ)) (marks : Marks) (k : ℕ) → AreSoundMarks marks → k < length words
     → marks.sizes.head ≤ length (get_or words k []) → HasMarksOf (fold marks_with marks words) (get_or words k [])
 HasMarksOf-added [] marks k sound below long = absurd (omega arith)
 HasMarksOf-added (word ∷ words) marks zero sound below long = HasMarksOf-more words (marks_with marks word) word (HasMarksOf-with marks word sound long)
-HasMarksOf-added (word ∷ words) marks (suc k) sound below long = HasMarksOf-added words (marks_with marks word) k (IsSound-with marks word sound) (omega arith) long
+HasMarksOf-added (word ∷ words) marks (suc k) sound below long = HasMarksOf-added words (marks_with marks word) k (AreSoundMarks-with marks word sound) (omega arith) long
 
 empty : (words : ℕ) → IsTable (empty_table words)
 empty words =
     let long : length (empty_table words) ≡ min (max words 64) (2 ^ 16) = length-replicate (min (max words 64) (2 ^ 16)) 0 in
     record { some = omega arith; few = omega arith }
 
-IsSound-none : (sizes : Sizes) (count : ℕ) → IsSized sizes → IsSound (no_marks sizes count)
-IsSound-none sizes count sized = record {
+AreSoundMarks-none : (sizes : Sizes) (count : ℕ) → AreStrideSizes sizes → AreSoundMarks (no_marks sizes count)
+AreSoundMarks-none sizes count sized = record {
   sizes = sized;
   grams = empty (count * sizes.stride);
   heads = empty (count / 2);
 }
 
 -- all bits of each of the words are set
-pub HasMarksOf-all : (sizes : Sizes) (words : List (List ℕ)) (k : ℕ) → IsSized sizes → k < length words → sizes.head ≤ length (get_or words k [])
+pub HasMarksOf-all : (sizes : Sizes) (words : List (List ℕ)) (k : ℕ) → AreStrideSizes sizes → k < length words → sizes.head ≤ length (get_or words k [])
     → HasMarksOf (marks_of sizes words) (get_or words k [])
-HasMarksOf-all sizes words k sized below long = HasMarksOf-added words (no_marks sizes (length words)) k (IsSound-none sizes (length words) sized) below long
+HasMarksOf-all sizes words k sized below long = HasMarksOf-added words (no_marks sizes (length words)) k (AreSoundMarks-none sizes (length words) sized) below long
 
 -- a word whose bits are set may start where it stands
-pub MayStartAt-stands : (marks : Marks) (bytes word : List ℕ) (at : ℕ) → IsSized marks.sizes → HasMarksOf marks word
+pub MayStartAt-stands : (marks : Marks) (bytes word : List ℕ) (at : ℕ) → AreStrideSizes marks.sizes → HasMarksOf marks word
     → ((k : ℕ) → k < length word → get_or word k 0 ≡ get_or bytes (at + k) 0) → at + length word ≤ length bytes → MayStartAt marks bytes at
 MayStartAt-stands marks bytes word at sized has same within =
     let sizes = marks.sizes in

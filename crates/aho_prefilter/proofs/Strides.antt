@@ -3,7 +3,7 @@ use Rattle.std.proofs.Common.{◌≡◌, ℕ, ◌+◌, ◌-◌, ◌*◌, ◌/◌
 use Rattle.std.specs.Prelude.{Option, Some, None}
 use Rattle.std.proofs.lemmas.Nat.{div-add-mod', div-mul-add, mod_below}
 use Rattle.memchr.specs.Find.{IsFirst, Nowhere}
-use Rattle.aho_prefilter.specs.Strided.{HasMark, IsMarkedAt, IsSized, Marks, MayStartAt, gram_hash, half_of, hash_at, head_hash, last_of_stride}
+use Rattle.aho_prefilter.specs.Strided.{HasMark, IsMarkedAt, AreStrideSizes, Marks, MayStartAt, gram_hash, half_of, hash_at, head_hash, last_of_stride}
 use Rattle.aho_prefilter.specs.declared.strided.sizes.Sizes.{Sizes}
 use Rattle.aho_prefilter.proofs.Hashes.{AreSame, hash_at-same}
 
@@ -111,7 +111,7 @@ module _ (marks : Marks) (bytes rest : List ℕ) (turn : ℕ) (some : 0 < marks.
   )
 
 -- so many strides, behind which enough bytes stand
-module _ (marks : Marks) (bytes : List ℕ) (end : ℕ) (sized : IsSized marks.sizes) (room : end ≤ length bytes - 15) where
+module _ (marks : Marks) (bytes : List ℕ) (end : ℕ) (sized : AreStrideSizes marks.sizes) (room : end ≤ length bytes - 15) where
   pub Nowhere-may_start : Nowhere (IsMarkedAt marks bytes) 0 end → Nowhere (MayStartAt marks bytes) 0 end
   Nowhere-may_start none k low high may = none k low high may.marked
 

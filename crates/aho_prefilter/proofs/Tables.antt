@@ -2,7 +2,7 @@
 use Rattle.std.proofs.Common.{◌≡◌, ℕ, ◌+◌, ◌<◌, ◌≤◌, zero, suc, List, [], ◌∷◌, get_or, length, refl, ap, ◌∙◌, arith}
 use Rattle.std.specs.List.{fold}
 use Rattle.std.proofs.lemmas.List.{length-set}
-use Rattle.aho_prefilter.specs.Strided.{IsSized, IsTable, Marks, gram_hash, head_hash, marks_with, with_grams, with_mark}
+use Rattle.aho_prefilter.specs.Strided.{AreStrideSizes, IsTable, Marks, gram_hash, head_hash, marks_with, with_grams, with_mark}
 use Rattle.aho_prefilter.specs.declared.strided.sizes.Sizes.{Sizes}
 use Rattle.aho_prefilter.proofs.Hashes.{hash_at-same}
 use Rattle.aho_prefilter.proofs.Strides.{head_hash-same}
@@ -32,7 +32,7 @@ with_grams-more sizes word count grams =
     ap (λ n. with_grams sizes word n grams) next
 
 -- the marks with those of a pattern, whose head was copied
-module _ (sizes : Sizes) (grams heads start pattern : List ℕ) (sized : IsSized sizes) (same : (k : ℕ) → k < sizes.head → get_or start k 0 ≡ get_or pattern k 0) where
+module _ (sizes : Sizes) (grams heads start pattern : List ℕ) (sized : AreStrideSizes sizes) (same : (k : ℕ) → k < sizes.head → get_or start k 0 ≡ get_or pattern k 0) where
   pub grams-added : (new marked old : List ℕ) → new ≡ marked → marked ≡ with_grams sizes start sizes.stride old → old ≡ grams → new ≡ with_grams sizes pattern sizes.stride grams
   grams-added new marked old is made was =
       is

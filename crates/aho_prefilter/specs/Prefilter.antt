@@ -11,7 +11,7 @@ use Rattle.aho_prefilter.specs.declared.prefilter.Searcher.{Searcher}
 use Rattle.aho_prefilter.specs.declared.prefilter.Searcher.TheVariants.{Memmem, Memchr, Memchr2, Memchr3, Packed, Strided}
 use Rattle.aho_prefilter.specs.Packed.{packed_of}
 use Rattle.aho_prefilter.specs.Sizes.{shape_of, sizes_for}
-use Rattle.aho_prefilter.specs.Strided.{HasMarksOf, IsSized, Marks, marks_of}
+use Rattle.aho_prefilter.specs.Strided.{HasMarksOf, AreStrideSizes, Marks, marks_of}
 use Rattle.aho_prefilter.specs.declared.packed.Packed.{Packed as Fingerprints}
 
 -- the needle is the only pattern, which is not empty, and its bytes are compared as they are
@@ -37,7 +37,7 @@ pub record AreFingerprintsOf (p : Patterns) (packed : Fingerprints) : Type 0 whe
 -- bytes are compared as they are, and the bits of each pattern are set
 pub record AreMarksOf (p : Patterns) (marks : Marks) : Type 0 where
   pub exact : p.ignore_case ≡ false
-  pub sizes : IsSized marks.sizes
+  pub sizes : AreStrideSizes marks.sizes
   pub each : (k : ℕ) → k < length p.words → HasMarksOf marks (pattern_at p k)
 
 -- a search is one for these patterns, by their case rule and whatever their kind is

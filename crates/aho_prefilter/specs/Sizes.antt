@@ -6,8 +6,8 @@ use Rattle.aho_prefilter.specs.declared.strided.sizes.Shape.{Shape}
 use Rattle.aho_prefilter.specs.declared.strided.sizes.Sizes.{Sizes}
 
 -- the least length of a word, but sixteen at most
-abbrev pub head_of : List (List ℕ) → ℕ
-head_of words = fold (λ head word. min head (length word)) 16 words
+abbrev pub least_head : List (List ℕ) → ℕ
+least_head words = fold (λ head word. min head (length word)) 16 words
 
 -- whether a byte stands in some word
 abbrev pub is_used : List (List ℕ) → ℕ → Bool
@@ -20,7 +20,7 @@ used_below words (suc byte) = used_below words byte + (if is_used words byte the
 
 -- how many words there are, the least length, and of how many bytes they are made
 abbrev pub shape_of : List (List ℕ) → Shape
-shape_of words = record { count = length words; head = head_of words; letters = used_below words 256 }
+shape_of words = record { count = length words; head = least_head words; letters = used_below words 256 }
 
 -- whether there are too few patterns, or they are too short
 abbrev pub is_small : Shape → Bool

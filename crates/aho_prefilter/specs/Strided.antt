@@ -12,9 +12,9 @@ pub record Marks : Type 0 where
   pub heads : List ℕ
 
 -- the number that so many bytes from a place on make, the first one lowest; past the end zeros stand
-abbrev pub number_at : ℕ → List ℕ → ℕ → ℕ
-number_at zero bytes at = 0
-number_at (suc count) bytes at = slice_index bytes at + 256 * number_at count bytes (at + 1)
+abbrev pub number_of_bytes : ℕ → List ℕ → ℕ → ℕ
+number_of_bytes zero bytes at = 0
+number_of_bytes (suc count) bytes at = slice_index bytes at + 256 * number_of_bytes count bytes (at + 1)
 
 -- what the number of so many bytes is multiplied by, so that it fills 64 bits
 abbrev pub factor_for : ℕ → ℕ → ℕ
@@ -22,7 +22,7 @@ factor_for number count = number * 2 ^ (64 - 8 * count) % 2 ^ 64
 
 -- a hash of so many bytes from a place on
 abbrev pub hash_at : ℕ → ℕ → List ℕ → ℕ → ℕ
-hash_at number count bytes at = number_at count bytes at * factor_for number count % 2 ^ 64
+hash_at number count bytes at = number_of_bytes count bytes at * factor_for number count % 2 ^ 64
 
 -- the hash of the gram at a place
 abbrev pub gram_hash : Sizes → List ℕ → ℕ → ℕ
@@ -84,7 +84,7 @@ abbrev pub IsFirstMarked : Marks → List ℕ → Option ℕ → Type 0
 IsFirstMarked marks bytes at = IsFirst (MayStartAt marks bytes) 0 (length bytes) at
 
 -- the grams at all places of a stride lie within the head
-pub record IsSized (sizes : Sizes) : Type 0 where
+pub record AreStrideSizes (sizes : Sizes) : Type 0 where
   pub some : 0 < sizes.gram
   pub gram : sizes.gram ≤ 8
   pub steps : 0 < sizes.stride
@@ -98,8 +98,8 @@ pub record IsTable (table : List ℕ) : Type 0 where
   pub few : length table ≤ 2 ^ 16
 
 -- what is true of each strided search
-pub record IsSound (marks : Marks) : Type 0 where
-  pub sizes : IsSized marks.sizes
+pub record AreSoundMarks (marks : Marks) : Type 0 where
+  pub sizes : AreStrideSizes marks.sizes
   pub grams : IsTable marks.grams
   pub heads : IsTable marks.heads
 

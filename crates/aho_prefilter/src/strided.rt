@@ -16,7 +16,7 @@
 ghost use Rattle.std.specs.Prelude.{◌≡◌, ◌↔◌, ℕ, ◌+◌, ◌-◌, ◌*◌, ◌<◌, ◌≤◌, ◌^◌, length, IfOk, IsTrue};
 ghost use Rattle.memchr.specs.Find.{IsFirst};
 ghost use Rattle.aho_core.specs.Replacement.{pieces_of};
-ghost use Rattle.aho_prefilter.specs.Strided.{HasHead, HasMark, HaveHeads, IsFirstMarked, IsMarkedAt, IsSized, IsTable, MayStartAt, empty_table, end_of, factor_for, gram_factor, head_hash, marks_of, marks_with, number_at, place_in, with_grams, with_mark};
+ghost use Rattle.aho_prefilter.specs.Strided.{HasHead, HasMark, HaveHeads, IsFirstMarked, IsMarkedAt, AreStrideSizes, IsTable, MayStartAt, empty_table, end_of, factor_for, gram_factor, head_hash, marks_of, marks_with, number_of_bytes, place_in, with_grams, with_mark};
 
 pub(crate) mod sizes;
 
@@ -49,20 +49,20 @@ pub(crate) struct Strided {
 }
 
 impl Model for Strided {
-    ghost use Rattle.aho_prefilter.specs.Strided.{IsSound, Marks};
+    ghost use Rattle.aho_prefilter.specs.Strided.{AreSoundMarks, Marks};
 
     ghost Value = { Marks };
 
     ghost view = { λ s. record { sizes = s.sizes; grams = s.grams.items; heads = s.heads.items } };
 
-    ghost invariant = { λ s. IsSound (record { sizes = s.sizes; grams = s.grams.items; heads = s.heads.items }) };
+    ghost invariant = { λ s. AreSoundMarks (record { sizes = s.sizes; grams = s.grams.items; heads = s.heads.items }) };
 }
 
 /// The eight bytes from a place on, as a number.
 #[inline(always)]
 fn word_at(bytes: &[u8], at: usize) -> u64
     requires within { at + 8 ≤ length bytes.now }
-    ensures word { result ≡ number_at 8 bytes.now at }
+    ensures word { result ≡ number_of_bytes 8 bytes.now at }
 {
     u64::from_le_bytes([
         bytes[at],
@@ -126,7 +126,7 @@ fn empty_table(alloc: Global, words: usize) -> Result<Vec<u64>, AllocError>
 impl Sizes {
     /// Sets the bits of the grams at the first places of these bytes.
     fn mark_grams(self, grams: &mut [u64], bytes: &[u8])
-        requires sized { IsSized self }
+        requires sized { AreStrideSizes self }
         requires table { IsTable grams.old }
         requires within { 15 ≤ length bytes.now }
         ensures marked { grams.new ≡ with_grams self bytes.now self.stride grams.old }
@@ -140,7 +140,7 @@ impl Sizes {
     /// The hash of the head at a place.
     #[inline(always)]
     fn head_hash(self, bytes: &[u8], at: usize) -> u64
-        requires sized { IsSized self }
+        requires sized { AreStrideSizes self }
         requires within { at + 16 ≤ length bytes.now }
         ensures hash { result ≡ head_hash self bytes.now at }
     {
@@ -162,7 +162,7 @@ impl Strided {
         sizes: Sizes,
         patterns: &[&[u8]],
     ) -> Result<Strided, AllocError>
-        requires sized { IsSized sizes }
+        requires sized { AreStrideSizes sizes }
         requires heads { HaveHeads sizes (pieces_of patterns.now) }
         ensures made { IfOk result (λ made. made ≡ marks_of sizes (pieces_of patterns.now)) }
     {

@@ -3,7 +3,7 @@
 ghost use Rattle.std.specs.Prelude.{◌≡◌, ℕ, ◌<◌, ◌≤◌, false, slice_index, if◌then◌else◌};
 ghost use Rattle.aho_core.specs.Replacement.{pieces_of};
 ghost use Rattle.aho_prefilter.specs.FirstBytes.{has_byte};
-ghost use Rattle.aho_prefilter.specs.Sizes.{gram_for, head_of, is_crowded, is_small, shape_of, sizes_for, stride_for, used_below, wanted_gram};
+ghost use Rattle.aho_prefilter.specs.Sizes.{gram_for, least_head, is_crowded, is_small, shape_of, sizes_for, stride_for, used_below, wanted_gram};
 
 /// The sizes of a strided search.
 #[derive(Clone, Copy)]
@@ -34,7 +34,7 @@ impl Shape {
     {
         Shape {
             count: patterns.len(),
-            head: head_of(patterns),
+            head: least_head(patterns),
             letters: letters_of(patterns),
         }
     }
@@ -108,8 +108,8 @@ impl Shape {
 }
 
 /// How many bytes the shortest of these patterns has, but sixteen at most.
-fn head_of(patterns: &[&[u8]]) -> usize
-    ensures head { result ≡ head_of (pieces_of patterns.now) }
+fn least_head(patterns: &[&[u8]]) -> usize
+    ensures head { result ≡ least_head (pieces_of patterns.now) }
 {
     let mut head = 16;
     for pattern in patterns {

@@ -2,7 +2,7 @@ use Rattle.std.proofs.Common.{◌≡◌, ℕ, ◌+◌, ◌-◌, ◌*◌, ◌/◌
 use Rattle.std.specs.Prelude.{Some}
 use Rattle.std.proofs.lemmas.Nat.{div-add-mod', mod_below}
 use Rattle.memchr.specs.Find.{IsFirst, Nowhere}
-use Rattle.aho_prefilter.specs.Strided.{IsMarkedAt, IsSound, Marks, MayStartAt}
+use Rattle.aho_prefilter.specs.Strided.{IsMarkedAt, AreSoundMarks, Marks, MayStartAt}
 use Rattle.aho_prefilter.specs.declared.strided.sizes.Sizes.{Sizes}
 use Rattle.aho_prefilter.proofs.Strides.{IsFirst-original, Nowhere-original}
 use Rattle.aho_prefilter.proofs.strided.Strided.find_in_rest.Goals as goal
@@ -18,7 +18,7 @@ returns-in-Some c =
     let sizes : c.self.inside.sizes ≡ marks.sizes = ap (λ (m : Marks). m.sizes) c.self.view_is in
     let same : (k : ℕ) → get_or c.padded-rest.result k 0 ≡ get_or bytes (c.args.turns * marks.sizes.stride + k) 0 =
     λ k. subst (λ (s : Sizes). get_or c.padded-rest.result k 0 ≡ get_or bytes (c.args.turns * s.stride + k) 0) sizes (c.padded-rest.ensures.same k) in
-    let sound = subst IsSound c.self.view_is c.self.invariant in
+    let sound = subst AreSoundMarks c.self.view_is c.self.invariant in
     let from : c.args.turns * c.self.inside.sizes.stride ≡ c.args.turns * marks.sizes.stride = ap (λ (s : Sizes). c.args.turns * s.stride) sizes in
     let head : c.self.inside.sizes.head ≡ marks.sizes.head = ap (λ (s : Sizes). s.head) sizes in
     let fits : c.in-Some.place + c.self.inside.sizes.head ≤ length bytes - c.args.turns * c.self.inside.sizes.stride = c.if-place-self.true in
@@ -33,7 +33,7 @@ returns-in_default c =
     let sizes : c.self.inside.sizes ≡ marks.sizes = ap (λ (m : Marks). m.sizes) c.self.view_is in
     let same : (k : ℕ) → get_or c.padded-rest.result k 0 ≡ get_or bytes (c.args.turns * marks.sizes.stride + k) 0 =
     λ k. subst (λ (s : Sizes). get_or c.padded-rest.result k 0 ≡ get_or bytes (c.args.turns * s.stride + k) 0) sizes (c.padded-rest.ensures.same k) in
-    let sound = subst IsSound c.self.view_is c.self.invariant in
+    let sound = subst AreSoundMarks c.self.view_is c.self.invariant in
     let from : c.args.turns * c.self.inside.sizes.stride ≡ c.args.turns * marks.sizes.stride = ap (λ (s : Sizes). c.args.turns * s.stride) sizes in
     let head : c.self.inside.sizes.head ≡ marks.sizes.head = ap (λ (s : Sizes). s.head) sizes in
     let few : length bytes - c.args.turns * c.self.inside.sizes.stride < c.in-Some.place + c.self.inside.sizes.head = c.if-place-self.false in
@@ -46,7 +46,7 @@ returns-in_default-2 c =
     let sizes : c.self.inside.sizes ≡ marks.sizes = ap (λ (m : Marks). m.sizes) c.self.view_is in
     let same : (k : ℕ) → get_or c.padded-rest.result k 0 ≡ get_or bytes (c.args.turns * marks.sizes.stride + k) 0 =
     λ k. subst (λ (s : Sizes). get_or c.padded-rest.result k 0 ≡ get_or bytes (c.args.turns * s.stride + k) 0) sizes (c.padded-rest.ensures.same k) in
-    let sound = subst IsSound c.self.view_is c.self.invariant in
+    let sound = subst AreSoundMarks c.self.view_is c.self.invariant in
     let from : c.args.turns * c.self.inside.sizes.stride ≡ c.args.turns * marks.sizes.stride = ap (λ (s : Sizes). c.args.turns * s.stride) sizes in
     let left = length bytes - c.args.turns * marks.sizes.stride in
     let strides : left < (left / marks.sizes.stride + 1) * marks.sizes.stride = all left marks.sizes.stride sound.sizes.steps in

@@ -1,6 +1,6 @@
 use Rattle.std.proofs.Common.{◌≡◌, ℕ, ◌+◌, ◌-◌, ◌*◌, true, false, List, refl, sym, ap, subst, ◌∙◌}
 use Rattle.memchr.specs.Find.{IsFirst}
-use Rattle.aho_prefilter.specs.Strided.{HasMark, IsSound, Marks, gram_hash, head_hash, number_at}
+use Rattle.aho_prefilter.specs.Strided.{HasMark, AreSoundMarks, Marks, gram_hash, head_hash, number_of_bytes}
 use Rattle.aho_prefilter.specs.declared.strided.sizes.Sizes.{Sizes}
 use Rattle.aho_prefilter.proofs.Hashes.{gram_hash-word}
 use Rattle.aho_prefilter.proofs.Strides.{IsFirst-marked, Nowhere-marked}
@@ -11,10 +11,10 @@ returns-then-is_marked c =
     let marks = c.args.self.now in
     let bytes = c.args.bytes.now in
     let sizes : c.self.inside.sizes ≡ marks.sizes = ap (λ (m : Marks). m.sizes) c.self.view_is in
-    let sound = subst IsSound c.self.view_is c.self.invariant in
+    let sound = subst AreSoundMarks c.self.view_is c.self.invariant in
     let hash =
     gram_hash-word marks.sizes bytes (c.args.turn * marks.sizes.stride + (marks.sizes.stride - 1)) c.word_at.result c.args.factor sound.sizes.gram
-    (c.word_at.ensures.word ∙ ap (λ (s : Sizes). number_at 8 bytes (c.args.turn * s.stride + (s.stride - 1))) sizes)
+    (c.word_at.ensures.word ∙ ap (λ (s : Sizes). number_of_bytes 8 bytes (c.args.turn * s.stride + (s.stride - 1))) sizes)
     c.requires.factor in
     let gram = subst (λ (table : List ℕ). HasMark table (gram_hash marks.sizes bytes (c.args.turn * marks.sizes.stride + (marks.sizes.stride - 1)))) c.requires.grams (subst (HasMark c.args.grams.now) hash (c.if-is_marked.ensures.marked.0 refl)) in
     let first = subst (λ (s : Sizes). IsFirst (λ at. HasMark marks.heads (head_hash marks.sizes bytes at)) (c.args.turn * s.stride) (c.args.turn * s.stride + marks.sizes.stride) c.find_head.result) sizes c.find_head.ensures.first in
@@ -25,10 +25,10 @@ returns-else-is_marked c =
     let marks = c.args.self.now in
     let bytes = c.args.bytes.now in
     let sizes : c.self.inside.sizes ≡ marks.sizes = ap (λ (m : Marks). m.sizes) c.self.view_is in
-    let sound = subst IsSound c.self.view_is c.self.invariant in
+    let sound = subst AreSoundMarks c.self.view_is c.self.invariant in
     let hash =
     gram_hash-word marks.sizes bytes (c.args.turn * marks.sizes.stride + (marks.sizes.stride - 1)) c.word_at.result c.args.factor sound.sizes.gram
-    (c.word_at.ensures.word ∙ ap (λ (s : Sizes). number_at 8 bytes (c.args.turn * s.stride + (s.stride - 1))) sizes)
+    (c.word_at.ensures.word ∙ ap (λ (s : Sizes). number_of_bytes 8 bytes (c.args.turn * s.stride + (s.stride - 1))) sizes)
     c.requires.factor in
     record {
       first = Nowhere-marked marks bytes c.args.turn
