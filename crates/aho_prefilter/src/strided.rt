@@ -242,7 +242,8 @@ impl Strided {
             from (from + self.now.sizes.stride) result }
     {
         for place in from..from + self.sizes.stride {
-            if is_marked(&self.heads, self.sizes.head_hash(bytes, place)) {
+            let hash = self.sizes.head_hash(bytes, place);
+            if is_marked(&self.heads, hash) {
                 return Some(place);
             }
         }
