@@ -259,8 +259,8 @@ pub trait Automaton {
         ensures found { (p : Patterns) → is_of self.now p → IfOk result (IsAnswer p input.now) }
         ensures error { IfErr result (λ reason. start self.now input.now.anchored ≡ Err reason) }
         ensures ok { (sid : ℕ) → start self.now input.now.anchored ≡ Ok sid → IsOk result }
-        ensures refused { (reason : MatchErrorKind) → input.now.start ≤ input.now.end →
-            start self.now input.now.anchored ≡ Err reason → result ≡ Err reason }
+        ensures refused { (e : MatchErrorKind) → input.now.start ≤ input.now.end →
+            start self.now input.now.anchored ≡ Err e → result ≡ Err e }
         ensures done { input.now.end < input.now.start → result ≡ Ok None }
     {
         let mut walk = Counted::new(self);
@@ -305,8 +305,8 @@ pub trait Automaton {
             (⟦<FindIter<'a, 'h, Self> as Iterator>⟧.remaining it) (span_places input.entry)) }
         ensures fused { IfOk result (IsFused ⟦<FindIter<'a, 'h, Self> as Iterator>⟧.next_gives) }
         ensures error { IfErr result (λ reason. start self.now input.entry.anchored ≡ Err reason) }
-        ensures refused { (reason : MatchErrorKind) → start self.now input.entry.anchored ≡ Err reason
-            → result ≡ Err reason }
+        ensures refused { (e : MatchErrorKind) → start self.now input.entry.anchored ≡ Err e
+            → result ≡ Err e }
         ensures ok { (sid : ℕ) → start self.now input.entry.anchored ≡ Ok sid → IsOk result }
     {
         FindIter::new(self, input)
@@ -374,8 +374,8 @@ pub trait Automaton {
             → result ≡ Err (UnsupportedOverlapping (kind self.now)) }
         ensures anchored { kind self.now ≡ Standard → input.entry.anchored ≡ Yes
             → result ≡ Err InvalidInputAnchored }
-        ensures refused { (reason : MatchErrorKind) → kind self.now ≡ Standard
-            → input.entry.anchored ≡ No → start self.now No ≡ Err reason → result ≡ Err reason }
+        ensures refused { (e : MatchErrorKind) → kind self.now ≡ Standard
+            → input.entry.anchored ≡ No → start self.now No ≡ Err e → result ≡ Err e }
         ensures ok { (sid : ℕ) → kind self.now ≡ Standard → input.entry.anchored ≡ No
             → start self.now No ≡ Ok sid → IsOk result }
         ensures ready { (p : Patterns) → is_of self.now p
@@ -422,8 +422,8 @@ pub trait Automaton {
         ensures replaced { HoldsOfFinds (is_of self.now) haystack.now (λ ms.
             IfOk result (λ text. string_bytes text ≡
             replaced haystack.now (on_boundaries haystack.now ms) (pieces_of replace_with.now))) }
-        ensures refused { (reason : MatchErrorKind) → start self.now No ≡ Err reason →
-            result ≡ Err (ReplaceError.Match reason) }
+        ensures refused { (e : MatchErrorKind) → start self.now No ≡ Err e →
+            result ≡ Err (ReplaceError.Match e) }
         ensures error { (reason : MatchErrorKind) → result ≡ Err (ReplaceError.Match reason) →
             start self.now No ≡ Err reason }
     {
@@ -454,8 +454,8 @@ pub trait Automaton {
         ensures replaced { HoldsOfFinds (is_of self.now) haystack.now (λ ms.
             IfOk result (λ bytes. vec_items bytes ≡
             replaced haystack.now ms (pieces_of replace_with.now))) }
-        ensures refused { (reason : MatchErrorKind) → start self.now No ≡ Err reason →
-            result ≡ Err (ReplaceError.Match reason) }
+        ensures refused { (e : MatchErrorKind) → start self.now No ≡ Err e →
+            result ≡ Err (ReplaceError.Match e) }
         ensures error { (reason : MatchErrorKind) → result ≡ Err (ReplaceError.Match reason) →
             start self.now No ≡ Err reason }
     {
@@ -495,8 +495,8 @@ pub trait Automaton {
             result ≡ Err ReplaceError.Memory →
             RunsInMemory F.FnMut string_bytes haystack.now
             (on_boundaries haystack.now ms) replace_with dst.old (Err alloc_error) dst.new) }
-        ensures refused { (reason : MatchErrorKind) → start self.now No ≡ Err reason →
-            result ≡ Err (ReplaceError.Match reason) }
+        ensures refused { (e : MatchErrorKind) → start self.now No ≡ Err e →
+            result ≡ Err (ReplaceError.Match e) }
         ensures error { (reason : MatchErrorKind) → result ≡ Err (ReplaceError.Match reason) →
             start self.now No ≡ Err reason }
         ensures unchanged { (reason : MatchErrorKind) → result ≡ Err (ReplaceError.Match reason) →
@@ -534,8 +534,8 @@ pub trait Automaton {
             result ≡ Err ReplaceError.Memory →
             RunsInMemory F.FnMut vec_items haystack.now
             ms replace_with dst.old (Err alloc_error) dst.new) }
-        ensures refused { (reason : MatchErrorKind) → start self.now No ≡ Err reason →
-            result ≡ Err (ReplaceError.Match reason) }
+        ensures refused { (e : MatchErrorKind) → start self.now No ≡ Err e →
+            result ≡ Err (ReplaceError.Match e) }
         ensures error { (reason : MatchErrorKind) → result ≡ Err (ReplaceError.Match reason) →
             start self.now No ≡ Err reason }
         ensures unchanged { (reason : MatchErrorKind) → result ≡ Err (ReplaceError.Match reason) →
