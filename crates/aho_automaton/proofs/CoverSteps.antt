@@ -92,13 +92,13 @@ module _ {A : Type 0} (automata : Automata A) (a : A) (haystack : List ℕ) (p :
         elim (told-first (automata.lengths a) (automata.list a next) (at + 1)) [
           | inr some ↦ (let e : Some some.0 ≡ None = sym some.3 ∙ nothing in cc)
           | inl none ↦ record {
-              stands = stands;
-              given = c.given;
-              counted = c.counted;
-              runs = step [] none.0;
-              settled = inr (λ x there. omega (arith, close x there));
-              near = λ x there. omega (arith, apart x there);
-            }
+            stands = stands;
+            given = c.given;
+            counted = c.counted;
+            runs = step [] none.0;
+            settled = inr (λ x there. omega (arith, close x there));
+            near = λ x there. omega (arith, apart x there);
+          }
         ]
 
     -- what is told occurs, and ends there

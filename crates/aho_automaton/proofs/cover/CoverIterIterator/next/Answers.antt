@@ -43,7 +43,7 @@ next_run g c p n of h =
     let next = upto-next a automaton it.haystack.now p still can.standard (g.met.A.Automaton.laws automaton p still) it.sid it.at n it.hand.runs.items (reads.given p n of h) ready in (
       c.pop.ensures.first ∙ next.0 ∙ ap (λ (haystack : List ℕ). slice_get (runs_in p haystack) n) reads.over.same_haystack,
       subst (λ (haystack : List ℕ). CoversUpto a automaton it.haystack.now p it.sid it.at c.pop.new.self.runs.items (min (n + 1) (length (runs_in p haystack)))) reads.over.same_haystack
-      (subst (λ (runs : List Occurrence). CoversUpto a automaton it.haystack.now p it.sid it.at runs (min (n + 1) (length (runs_in p it.haystack.now)))) (sym c.pop.ensures.rest) next.1),
+          (subst (λ (runs : List Occurrence). CoversUpto a automaton it.haystack.now p it.sid it.at runs (min (n + 1) (length (runs_in p it.haystack.now)))) (sym c.pop.ensures.rest) next.1),
     )
 
 pub returns : goal.returns
