@@ -2,6 +2,8 @@
 use Rattle.std.specs.Prelude.{◌≡◌, ℕ, ◌+◌, ◌<◌, ◌≤◌, nat_eq, if◌then◌else◌, true, List, ◌∷◌, ◌++◌, length, Option, Some, None, Result, Ok, Err}
 use Rattle.std.specs.Iterator.Runs.{EachRunFrom}
 use Rattle.aho_core.specs.declared.error.MatchErrorKind.{MatchErrorKind}
+use Rattle.aho_core.specs.declared.error.replace.ReplaceError.{ReplaceError}
+use Rattle.aho_core.specs.declared.error.replace.ReplaceError.TheVariants.{Match}
 use Rattle.aho_core.specs.declared.error.MatchErrorKind.TheVariants.{UnsupportedEmpty, UnsupportedOverlapping}
 use Rattle.aho_core.specs.declared.search.MatchKind.{MatchKind}
 use Rattle.aho_core.specs.declared.search.MatchKind.TheVariants.{Standard, LeftmostFirst, LeftmostLongest}
@@ -20,6 +22,14 @@ abbrev pub cover_refusal : MatchKind → List ℕ → Result ℕ MatchErrorKind 
 cover_refusal Standard lengths start = if nat_eq (shortest lengths) 0 then Some UnsupportedEmpty else start_refusal start
 cover_refusal LeftmostFirst lengths start = Some (UnsupportedOverlapping LeftmostFirst)
 cover_refusal LeftmostLongest lengths start = Some (UnsupportedOverlapping LeftmostLongest)
+
+-- where there is a refusal the result tells it
+abbrev pub IsRefusedBy : {T : Type 0} → Option MatchErrorKind → Result T ReplaceError → Type 0
+IsRefusedBy refusal result = (reason : MatchErrorKind) → refusal ≡ Some reason → result ≡ Err (Match reason)
+
+-- and it tells no other
+abbrev pub TellsRefusal : {T : Type 0} → Option MatchErrorKind → Result T ReplaceError → Type 0
+TellsRefusal refusal result = (reason : MatchErrorKind) → result ≡ Err (Match reason) → refusal ≡ Some reason
 
 -- the runs of a haystack
 abbrev pub runs_in : Patterns → List ℕ → List Occurrence

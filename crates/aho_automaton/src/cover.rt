@@ -18,10 +18,9 @@ ghost use Rattle.aho_core.specs.Laws.{Fits, shortest, told};
 ghost use Rattle.aho_core.specs.Patterns.{Patterns};
 ghost use Rattle.aho_core.specs.Replacement.{pieces_of, replaced};
 ghost use Rattle.aho_core.specs.declared.error.MatchErrorKind.{MatchErrorKind};
-ghost use Rattle.aho_core.specs.declared.error.replace.ReplaceError.{ReplaceError};
 ghost use Rattle.aho_core.specs.declared.search.Anchored.TheVariants.{No};
 ghost use Rattle.aho_core.specs.declared.search.MatchKind.TheVariants.{Standard};
-ghost use Rattle.aho_automaton.specs.Covering.{FirstIsOpen, FirstIsSettled, cover_refusal, runs_in};
+ghost use Rattle.aho_automaton.specs.Covering.{FirstIsOpen, FirstIsSettled, IsRefusedBy, TellsRefusal, cover_refusal, runs_in};
 ghost use Rattle.aho_automaton.specs.CoverIters.{CanCover, GivesRun, HasGivenRuns, ReadsFurther, automaton_in, haystack_in, runs_left, runs_of};
 
 use crate::automaton::Automaton;
@@ -99,13 +98,10 @@ impl<'a, 'h, A: Automaton> CoverIter<'a, 'h, A> {
         ensures fresh { IfOk result (λ it. (p : Patterns) → A.is_of automaton.entry.now p →
             HasGivenRuns A.Automaton it p 0) }
         ensures bound { IfOk result (λ it. runs_left it ≡ length haystack.entry.now) }
-        ensures refused { (reason : MatchErrorKind) → cover_refusal
-            (A.kind automaton.entry.now) (A.lengths automaton.entry.now)
-            (A.start automaton.entry.now No) ≡ Some reason
-            → result ≡ Err (ReplaceError.Match reason) }
-        ensures error { (reason : MatchErrorKind) → result ≡ Err (ReplaceError.Match reason)
-            → cover_refusal (A.kind automaton.entry.now) (A.lengths automaton.entry.now)
-            (A.start automaton.entry.now No) ≡ Some reason }
+        ensures refused { IsRefusedBy (cover_refusal (A.kind automaton.entry.now)
+            (A.lengths automaton.entry.now) (A.start automaton.entry.now No)) result }
+        ensures error { TellsRefusal (cover_refusal (A.kind automaton.entry.now)
+            (A.lengths automaton.entry.now) (A.start automaton.entry.now No)) result }
     {
         let sid = begin(automaton)?;
         let far = automaton.max_pattern_len();
