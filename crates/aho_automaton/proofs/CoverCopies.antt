@@ -1,8 +1,6 @@
 -- The copy of a haystack whose runs are replaced, from one run to the next; and what an iterator over runs gives.
-use Rattle.std.proofs.Common.{◌≡◌, inl, inr, ℕ, ◌+◌, ◌<◌, ◌≤◌, min, List, [], ◌∷◌, ◌++◌, drop, length, take, refl, sym, ◌∙◌, ap, subst, arith, append_assoc, length-append}
+use Rattle.std.proofs.Common.{◌≡◌, inl, ℕ, ◌+◌, ◌<◌, ◌≤◌, min, List, [], ◌∷◌, ◌++◌, drop, length, refl, sym, ◌∙◌, ap, subst, arith, append_assoc, length-append}
 use Rattle.std.specs.Prelude.{Option, Some, None, slice_get, slice_range}
-use Rattle.std.proofs.lemmas.List.{append-nil}
-use Rattle.std.proofs.lemmas.Option.{slice_get_past}
 use Rattle.aho_core.specs.Listing.{IsMember}
 use Rattle.aho_core.specs.Occurrence.{Occurrence}
 use Rattle.aho_core.specs.Patterns.{Patterns}
@@ -11,8 +9,7 @@ use Rattle.aho_laws.specs.CoverLaws.{AreInOrder}
 use Rattle.aho_laws.proofs.SettledRuns.{in_order-last}
 use Rattle.aho_laws.proofs.TextRuns.{upto-covers}
 use Rattle.aho_automaton.specs.Covering.{runs_in}
-use Rattle.aho_automaton.specs.CoverStanding.{CoversUpto}
-use Rattle.aho_automaton.specs.CoverIters.{GivesRun, HasGivenRuns, automaton_in, haystack_in, runs_of}
+use Rattle.aho_automaton.specs.CoverIters.{GivesRun, HasGivenRuns, automaton_in, haystack_in}
 use Rattle.aho_automaton.specs.declared.automaton.Automaton.{Ghosts as Automata}
 use Rattle.aho_automaton.specs.declared.cover.CoverIter.{CoverIter}
 

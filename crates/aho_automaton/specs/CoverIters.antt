@@ -1,11 +1,13 @@
 -- What the iterator over the runs of a cover is seen as, and what its calls promise.
-use Rattle.std.specs.Prelude.{◌≡◌, ◌/◌, ℕ, ◌+◌, ◌-◌, ◌*◌, ◌≤◌, min, List, length, Option, slice_get}
+use Rattle.std.specs.Prelude.{◌≡◌, ◌⊎◌, ◌/◌, ℕ, ◌+◌, ◌-◌, ◌*◌, ◌≤◌, min, List, length, Option, slice_get}
 use Rattle.std.specs.VecDeque.{deque_capacity}
+use Rattle.aho_core.specs.declared.error.MatchErrorKind.{MatchErrorKind}
+use Rattle.aho_core.specs.declared.search.Anchored.TheVariants.{No}
 use Rattle.aho_core.specs.declared.search.MatchKind.TheVariants.{Standard}
 use Rattle.aho_core.specs.Laws.{longest, shortest}
 use Rattle.aho_core.specs.Occurrence.{Occurrence}
 use Rattle.aho_core.specs.Patterns.{Patterns}
-use Rattle.aho_automaton.specs.Covering.{runs_in}
+use Rattle.aho_automaton.specs.Covering.{FirstIsSettled, cover_refusal, runs_in}
 use Rattle.aho_automaton.specs.CoverStanding.{CoversUpto}
 use Rattle.aho_automaton.specs.declared.automaton.Automaton.{Ghosts as Automata}
 use Rattle.aho_automaton.specs.declared.cover.CoverIter.{CoverIter}
@@ -19,6 +21,14 @@ haystack_in it = it.haystack.now
 
 abbrev pub runs_of : {A : Type 0} → CoverIter A → List Occurrence
 runs_of it = it.hand.runs.items
+
+-- the first run in hand can be given: it is settled, or nothing is left to read
+abbrev pub IsReadyToGive : {A : Type 0} → CoverIter A → Type 0
+IsReadyToGive it = (it.at ≡ length (haystack_in it)) ⊎ FirstIsSettled it.far it.at (runs_of it)
+
+-- why an automaton covers nothing
+abbrev pub cover_refusal_of : {A : Type 0} → Automata A → A → Option MatchErrorKind
+cover_refusal_of automata a = cover_refusal (automata.kind a) (automata.lengths a) (automata.start a No)
 
 -- n runs were given
 abbrev pub HasGivenRuns : {A : Type 0} → Automata A → CoverIter A → Patterns → ℕ → Type 0

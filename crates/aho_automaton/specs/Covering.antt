@@ -5,12 +5,15 @@ use Rattle.aho_core.specs.declared.error.MatchErrorKind.{MatchErrorKind}
 use Rattle.aho_core.specs.declared.error.replace.ReplaceError.{ReplaceError}
 use Rattle.aho_core.specs.declared.error.replace.ReplaceError.TheVariants.{Match}
 use Rattle.aho_core.specs.declared.error.MatchErrorKind.TheVariants.{UnsupportedEmpty, UnsupportedOverlapping}
+use Rattle.aho_core.specs.declared.error.replace.ReplaceError.{ReplaceError}
+use Rattle.aho_core.specs.declared.error.replace.ReplaceError.TheVariants.{Match}
 use Rattle.aho_core.specs.declared.search.MatchKind.{MatchKind}
 use Rattle.aho_core.specs.declared.search.MatchKind.TheVariants.{Standard, LeftmostFirst, LeftmostLongest}
 use Rattle.aho_core.specs.Cover.{AreRuns}
 use Rattle.aho_core.specs.Laws.{shortest}
 use Rattle.aho_core.specs.Occurrence.{Occurrence}
 use Rattle.aho_core.specs.Patterns.{Patterns}
+use Rattle.aho_core.specs.Replacement.{replaced}
 use Rattle.aho_laws.specs.CoverLaws.{runs_upto}
 
 -- why an automaton covers nothing, by its kind, its lengths and its start, in this order; none where it does
@@ -23,17 +26,18 @@ cover_refusal Standard lengths start = if nat_eq (shortest lengths) 0 then Some 
 cover_refusal LeftmostFirst lengths start = Some (UnsupportedOverlapping LeftmostFirst)
 cover_refusal LeftmostLongest lengths start = Some (UnsupportedOverlapping LeftmostLongest)
 
--- where there is a refusal the result tells it
-abbrev pub IsRefusedBy : {T : Type 0} → Option MatchErrorKind → Result T ReplaceError → Type 0
-IsRefusedBy refusal result = (reason : MatchErrorKind) → refusal ≡ Some reason → result ≡ Err (Match reason)
-
--- and it tells no other
-abbrev pub TellsRefusal : {T : Type 0} → Option MatchErrorKind → Result T ReplaceError → Type 0
-TellsRefusal refusal result = (reason : MatchErrorKind) → result ≡ Err (Match reason) → refusal ≡ Some reason
+-- it is refused for this reason where there is one, and for no other
+pub record RefusesCover {T : Type 0} (refusal : Option MatchErrorKind) (result : Result T ReplaceError) : Type 0 where
+  pub refused : (reason : MatchErrorKind) → refusal ≡ Some reason → result ≡ Err (Match reason)
+  pub only : (reason : MatchErrorKind) → result ≡ Err (Match reason) → refusal ≡ Some reason
 
 -- the runs of a haystack
 abbrev pub runs_in : Patterns → List ℕ → List Occurrence
 runs_in p haystack = runs_upto p haystack (length haystack)
+
+-- the haystack with a piece for each run
+abbrev pub cover_in : Patterns → List ℕ → List (List ℕ) → List ℕ
+cover_in p haystack pieces = replaced haystack (runs_in p haystack) pieces
 
 -- the first run in hand is settled: it ends further than the longest pattern before the place, so that nothing later touches it
 pub record FirstIsSettled (far at : ℕ) (hand : List Occurrence) : Type 0 where

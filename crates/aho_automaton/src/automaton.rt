@@ -29,7 +29,7 @@ ghost use Rattle.aho_core.specs.declared.search.MatchKind.TheVariants.{Standard}
 ghost use Rattle.aho_core.specs.Steps.{GoesOn, IsPaid};
 ghost use Rattle.aho_prefilter.specs.Prefilter.{IsPrefilterOf};
 ghost use Rattle.aho_prefilter.specs.declared.prefilter.Searcher.{Searcher};
-ghost use Rattle.aho_automaton.specs.Covering.{GivesFirstRuns, GivesRuns, IsRefusedBy, TellsRefusal, cover_refusal};
+ghost use Rattle.aho_automaton.specs.Covering.{GivesFirstRuns, GivesRuns, RefusesCover, cover_refusal};
 ghost use Rattle.aho_automaton.specs.Finding.{GivesFinds, GivesFirstFinds, HoldsOfFinds, span_places};
 ghost use Rattle.aho_automaton.specs.Fused.{IsFused};
 ghost use Rattle.aho_automaton.specs.Overlaps.{FindsNext, FindsNothing, FitsNext, FitsSome, ListsAll, ListsFirst, RefusesFirst};
@@ -577,9 +577,7 @@ pub trait Automaton {
         ensures bound { IfOk result (λ it.
             UpTo (⟦<CoverIter<'a, 'h, Self> as Iterator>⟧.remaining it) (length haystack.entry.now)) }
         ensures fused { IfOk result (IsFused ⟦<CoverIter<'a, 'h, Self> as Iterator>⟧.next_gives) }
-        ensures refused { IsRefusedBy
-            (cover_refusal (kind self.now) (lengths self.now) (start self.now No)) result }
-        ensures error { TellsRefusal
+        ensures refuses { RefusesCover
             (cover_refusal (kind self.now) (lengths self.now) (start self.now No)) result }
     {
         CoverIter::new(alloc, self, haystack)
@@ -605,9 +603,7 @@ pub trait Automaton {
         requires one_each { length replace_with.now ≡ length (lengths self.now) }
         ensures covered { (p : Patterns) → is_of self.now p → IfOk result (λ bytes.
             IsCover p haystack.now (pieces_of replace_with.now) (vec_items bytes)) }
-        ensures refused { IsRefusedBy
-            (cover_refusal (kind self.now) (lengths self.now) (start self.now No)) result }
-        ensures error { TellsRefusal
+        ensures refuses { RefusesCover
             (cover_refusal (kind self.now) (lengths self.now) (start self.now No)) result }
     {
         let runs = CoverIter::new(alloc, self, haystack)?;

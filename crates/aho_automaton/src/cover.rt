@@ -12,16 +12,16 @@
 //! that is settled, and no later match touches it. Runs that are not settled stand apart in the last bytes, each with a byte
 //! at least: there are at most half as many as the longest pattern has bytes, and one.
 
-ghost use Rattle.std.specs.Prelude.{◌≡◌, ◌⊎◌, ℕ, [], ◌+◌, ◌*◌, ◌<◌, ◌≤◌, ◌++◌, IfErr, IfOk, OnOk, Err, Some, length, true, false, vec_items};
+ghost use Rattle.std.specs.Prelude.{◌≡◌, ℕ, [], ◌+◌, ◌*◌, ◌<◌, ◌≤◌, ◌++◌, IfErr, IfOk, OnOk, Err, Some, length, true, false, vec_items};
 ghost use Rattle.std.specs.Iterator.{at_most};
 ghost use Rattle.aho_core.specs.Laws.{Fits, shortest, told};
 ghost use Rattle.aho_core.specs.Patterns.{Patterns};
-ghost use Rattle.aho_core.specs.Replacement.{pieces_of, replaced};
+ghost use Rattle.aho_core.specs.Replacement.{pieces_of};
 ghost use Rattle.aho_core.specs.declared.error.MatchErrorKind.{MatchErrorKind};
 ghost use Rattle.aho_core.specs.declared.search.Anchored.TheVariants.{No};
 ghost use Rattle.aho_core.specs.declared.search.MatchKind.TheVariants.{Standard};
-ghost use Rattle.aho_automaton.specs.Covering.{FirstIsOpen, FirstIsSettled, IsRefusedBy, TellsRefusal, cover_refusal, runs_in};
-ghost use Rattle.aho_automaton.specs.CoverIters.{CanCover, GivesRun, HasGivenRuns, ReadsFurther, automaton_in, haystack_in, runs_left, runs_of};
+ghost use Rattle.aho_automaton.specs.Covering.{FirstIsOpen, RefusesCover, cover_in};
+ghost use Rattle.aho_automaton.specs.CoverIters.{CanCover, GivesRun, HasGivenRuns, IsReadyToGive, ReadsFurther, automaton_in, cover_refusal_of, haystack_in, runs_left, runs_of};
 
 use crate::automaton::Automaton;
 use crate::find::{looks_at, told_at};
@@ -58,11 +58,10 @@ pub struct CoverIter<'a, 'h, A> {
 /// In this order: a leftmost kind is refused with `UnsupportedOverlapping`, an empty pattern with `UnsupportedEmpty`, and
 /// else what `start_state` refuses.
 fn begin<A: Automaton>(automaton: &A) -> Result<StateID, MatchError>
-    ensures refused { (reason : MatchErrorKind) → cover_refusal (A.kind automaton.now)
-        (A.lengths automaton.now) (A.start automaton.now No) ≡ Some reason
-        → result ≡ Err reason }
-    ensures error { IfErr result (λ reason. cover_refusal (A.kind automaton.now)
-        (A.lengths automaton.now) (A.start automaton.now No) ≡ Some reason) }
+    ensures refused { (reason : MatchErrorKind) →
+        cover_refusal_of A.Automaton automaton.now ≡ Some reason → result ≡ Err reason }
+    ensures error { IfErr result (λ reason.
+        cover_refusal_of A.Automaton automaton.now ≡ Some reason) }
     ensures standard { IfOk result (λ _. A.kind automaton.now ≡ Standard) }
     ensures no_empty { IfOk result (λ _. 1 ≤ shortest (A.lengths automaton.now)) }
     ensures valid { IfOk result (A.valid automaton.now) }
@@ -98,10 +97,7 @@ impl<'a, 'h, A: Automaton> CoverIter<'a, 'h, A> {
         ensures fresh { IfOk result (λ it. (p : Patterns) → A.is_of automaton.entry.now p →
             HasGivenRuns A.Automaton it p 0) }
         ensures bound { IfOk result (λ it. runs_left it ≡ length haystack.entry.now) }
-        ensures refused { IsRefusedBy (cover_refusal (A.kind automaton.entry.now)
-            (A.lengths automaton.entry.now) (A.start automaton.entry.now No)) result }
-        ensures error { TellsRefusal (cover_refusal (A.kind automaton.entry.now)
-            (A.lengths automaton.entry.now) (A.start automaton.entry.now No)) result }
+        ensures refuses { RefusesCover (cover_refusal_of A.Automaton automaton.entry.now) result }
     {
         let sid = begin(automaton)?;
         let far = automaton.max_pattern_len();
@@ -120,8 +116,7 @@ impl<'a, 'h, A: Automaton> CoverIter<'a, 'h, A> {
     #[inline(always)]
     fn is_ready(&self) -> bool
         requires within { self.now.at ≤ length (haystack_in self.now) }
-        ensures ready { result ≡ true → (self.now.at ≡ length (haystack_in self.now))
-            ⊎ FirstIsSettled self.now.far self.now.at (runs_of self.now) }
+        ensures ready { result ≡ true → IsReadyToGive self.now }
         ensures further { result ≡ false → self.now.at < length (haystack_in self.now) }
         ensures unsettled { result ≡ false
             → FirstIsOpen self.now.far self.now.at (runs_of self.now) }
@@ -168,8 +163,7 @@ impl<'a, 'h, A: Automaton> CoverIter<'a, 'h, A> {
         requires can { CanCover A.Automaton self.old }
         ensures can { CanCover A.Automaton self.new }
         ensures reads { ReadsFurther A.Automaton self.old self.new }
-        ensures ready { (self.new.at ≡ length (haystack_in self.new))
-            ⊎ FirstIsSettled self.new.far self.new.at (runs_of self.new) }
+        ensures ready { IsReadyToGive self.new }
     {
         while !self.is_ready() {
             self.read();
@@ -217,7 +211,7 @@ pub(crate) fn cover_bytes<A: Automaton>(
         HasGivenRuns A.Automaton runs p 0 }
     ensures covered { (p : Patterns) → A.is_of (automaton_in runs.entry) p →
         OnOk result (vec_items dst.new ≡ vec_items dst.old
-        ++ replaced haystack.now (runs_in p haystack.now) (pieces_of pieces.now)) }
+        ++ cover_in p haystack.now (pieces_of pieces.now)) }
 {
     let mut copied = 0;
     for run in runs {

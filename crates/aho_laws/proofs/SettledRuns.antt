@@ -1,6 +1,6 @@
 -- Runs that nothing later can touch stay as they are, and few others are open at once.
-use Rattle.std.proofs.Common.{◌≡◌, inl, inr, ℕ, zero, suc, ◌+◌, ◌-◌, ◌*◌, ◌<◌, ◌≤◌, List, [], ◌∷◌, ◌++◌, length, map, refl, sym, ◌∙◌, ap, subst, arith, append_assoc, length-append}
-use Rattle.std.specs.Prelude.{◌⊎◌, nat_lt, slice_get, Option, Some, None}
+use Rattle.std.proofs.Common.{◌≡◌, inl, inr, ℕ, zero, suc, ◌+◌, ◌-◌, ◌*◌, ◌<◌, ◌≤◌, List, [], ◌∷◌, ◌++◌, length, map, refl, sym, ◌∙◌, ap, subst, arith}
+use Rattle.std.specs.Prelude.{nat_lt}
 use Rattle.std.proofs.lemmas.Bool.{cases_lt, cond-true, cond-false, lt-ltb, le-ltb}
 use Rattle.aho_core.specs.declared.search.Anchored.TheVariants.{No}
 use Rattle.aho_core.specs.Laws.{longest}
@@ -127,21 +127,21 @@ module _ (p : Patterns) (haystack : List ℕ) where
       let place : at + suc n ≡ suc (at + n) = omega arith in
       let more = one_more (occurrences_ending p haystack 0 (suc (at + n))) (λ m there. occurrences_ending-only p haystack 0 (suc (at + n)) m (omega arith) there) before.0 in
       (more.0, ap (runs_upto p haystack) place ∙ ap (λ (runs : List Occurrence). joined_first runs (occurrences_ending p haystack 0 (suc (at + n)))) before.1 ∙ more.1)
-      where
-    one_more : (list : List Occurrence) → ((m : Occurrence) → IsMember list m → Occurs p No haystack 0 (suc (at + n)) m × (m.end ≡ suc (at + n))) → (runs : List Occurrence)
-        → (later : List Occurrence) × (joined_first (front ++ runs) list ≡ front ++ later)
-    one_more [] only runs = (runs, refl)
-    one_more (m ∷ ms) only runs =
-        let first = only m (inl refl) in
-        let here : Occurs p No haystack 0 (length haystack) m = record { numbered = first.0.numbered; after_start = first.0.after_start; before_end = omega (arith, first.1); sized = first.0.sized; same = first.0.same; admitted = λ e. cc } in
-        elim (cases_lt m.start m.end) [
-          | inl some ↦ (
+    where
+      one_more : (list : List Occurrence) → ((m : Occurrence) → IsMember list m → Occurs p No haystack 0 (suc (at + n)) m × (m.end ≡ suc (at + n))) → (runs : List Occurrence)
+          → (later : List Occurrence) × (joined_first (front ++ runs) list ≡ front ++ later)
+      one_more [] only runs = (runs, refl)
+      one_more (m ∷ ms) only runs =
+          let first = only m (inl refl) in
+          let here : Occurs p No haystack 0 (length haystack) m = record { numbered = first.0.numbered; after_start = first.0.after_start; before_end = omega (arith, first.1); sized = first.0.sized; same = first.0.same; admitted = λ e. cc } in
+          elim (cases_lt m.start m.end) [
+            | inl some ↦ (
               joined_runs runs m,
               cond-true (nat_lt m.start m.end) (joined_runs (front ++ runs) m) (front ++ runs) (lt-ltb m.start m.end some)
-              ∙ joined-behind front runs m (λ x there. settled x there m here (omega (arith, first.1))),
+                  ∙ joined-behind front runs m (λ x there. settled x there m here (omega (arith, first.1))),
             )
-          | inr empty ↦ (runs, cond-false (nat_lt m.start m.end) (joined_runs (front ++ runs) m) (front ++ runs) (le-ltb m.start m.end empty))
-        ]
+            | inr empty ↦ (runs, cond-false (nat_lt m.start m.end) (joined_runs (front ++ runs) m) (front ++ runs) (le-ltb m.start m.end empty))
+          ]
 
 -- a run of them has a byte, and ends where they may
 pub run-fits : (runs front : List Occurrence) (last : Occurrence) (upto : ℕ) → runs ≡ front ++ last ∷ [] → AreInOrder runs upto → (last.start < last.end) × (last.end ≤ upto)

@@ -1,9 +1,8 @@
 -- From one run to the next, and behind the last.
-use Rattle.std.proofs.Common.{◌≡◌, ℕ, ◌+◌, ◌<◌, ◌≤◌, ◌++◌, List, [], ◌∷◌, Some, None, length, min, refl, sym, subst, ap, ◌∙◌, arith, drop}
+use Rattle.std.proofs.Common.{◌≡◌, ℕ, ◌+◌, ◌<◌, ◌≤◌, ◌++◌, List, [], Some, None, length, min, refl, ap, ◌∙◌, arith}
 use Rattle.std.specs.declared.alloc.AllocError.{AllocError}
-use Rattle.std.specs.Prelude.{Err, Ok, OnOk, Result, if◌then◌else◌, is_ok, slice_get, slice_index_or, slice_range}
+use Rattle.std.specs.Prelude.{Err, Ok, OnOk, Result, if◌then◌else◌, is_ok, slice_index_or, slice_range}
 use Rattle.std.proofs.lemmas.List.{take_rest}
-use Rattle.aho_core.specs.Patterns.{Patterns}
 use Rattle.aho_core.specs.Replacement.{pieces_of}
 use Rattle.aho_automaton.specs.Covering.{runs_in}
 use Rattle.aho_automaton.proofs.CoverCopies.{gives-next, left-begun, left-next, left-none, next-within, runs-in_order}

@@ -1,10 +1,10 @@
 -- What the loop keeps: the haystack was copied up to a place, and what is left makes its cover.
-use Rattle.std.proofs.Common.{◌≡◌, ℕ, ◌≤◌, [], length, vec_items}
+use Rattle.std.proofs.Common.{ℕ, ◌≤◌, [], length}
 use Rattle.std.specs.Prelude.{slice_index_or}
 use Rattle.aho_core.specs.Patterns.{Patterns}
 use Rattle.aho_core.specs.Replacement.{pieces_of}
 use Rattle.aho_automaton.specs.Covering.{runs_in}
-use Rattle.aho_automaton.specs.CoverIters.{CanCover, automaton_in}
+use Rattle.aho_automaton.specs.CoverIters.{automaton_in}
 use Rattle.aho_automaton.proofs.CoverCopies.{HasGivenOver, IsLeftToCopy}
 use Rattle.aho_automaton.proofs.cover.cover_bytes.Given as goal
 

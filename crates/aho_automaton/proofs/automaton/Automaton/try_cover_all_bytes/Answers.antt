@@ -1,5 +1,5 @@
 -- What is copied is the cover.
-use Rattle.std.proofs.Common.{◌≡◌, ℕ, ◌++◌, List, sym, subst, ap, ◌∙◌}
+use Rattle.std.proofs.Common.{ℕ, ◌++◌, List, sym, subst, ap, ◌∙◌}
 use Rattle.aho_core.specs.Replacement.{pieces_of, replaced}
 use Rattle.aho_laws.proofs.TextRuns.{runs-made}
 use Rattle.aho_automaton.specs.Covering.{runs_in}

@@ -1,5 +1,5 @@
 -- The iterator gives the runs, whatever patterns the automaton is of.
-use Rattle.std.proofs.Common.{◌≡◌, ℕ, ◌++◌, List, drop, length, refl, sym, subst, ap, arith, ◌∙◌, take}
+use Rattle.std.proofs.Common.{◌++◌, List, drop, length, sym, subst, ap, arith, ◌∙◌}
 use Rattle.std.proofs.iter.runs.Made.{took}
 use Rattle.std.specs.Prelude.{Err, IfOk, Ok, Result}
 use Rattle.std.proofs.lemmas.List.{take-append-drop}

@@ -1,6 +1,5 @@
 -- Each turn of the loop reads one byte more.
-use Rattle.std.proofs.Common.{◌≡◌, ℕ, ◌≤◌, ◌-◌, ◌∙◌, refl, sym, subst, ap, arith, length, List}
-use Rattle.aho_core.specs.Patterns.{Patterns}
+use Rattle.std.proofs.Common.{◌∙◌, refl, sym, subst, ap, arith, length}
 use Rattle.aho_automaton.proofs.cover.CoverIter.advance.Goals as goal
 
 pub loop-self-init : goal.loop-self-init

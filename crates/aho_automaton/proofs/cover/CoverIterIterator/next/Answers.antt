@@ -1,12 +1,12 @@
 -- From one run to the next.
-use Rattle.std.proofs.Common.{◌≡◌, ℕ, ◌+◌, ◌-◌, ◌<◌, ◌≤◌, ◌∙◌, min, List, [], ◌∷◌, drop, length, Option, Some, None, refl, sym, subst, ap, arith, length-drop}
+use Rattle.std.proofs.Common.{◌≡◌, ℕ, ◌+◌, ◌<◌, ◌∙◌, min, List, [], ◌∷◌, length, Option, Some, None, sym, subst, ap, arith, length-drop}
 use Rattle.std.specs.Prelude.{◌⊎◌, OnSome, IfNone, IfSome, slice_get}
 use Rattle.aho_core.specs.Laws.{longest}
 use Rattle.aho_core.specs.Occurrence.{Occurrence}
 use Rattle.aho_core.specs.Patterns.{Patterns}
 use Rattle.aho_automaton.specs.Covering.{FirstIsSettled, runs_in}
 use Rattle.aho_automaton.specs.CoverStanding.{CoversUpto}
-use Rattle.aho_automaton.specs.CoverIters.{CanCover, HasGivenRuns, runs_left, runs_of}
+use Rattle.aho_automaton.specs.CoverIters.{CanCover, HasGivenRuns, runs_left}
 use Rattle.aho_automaton.specs.declared.cover.CoverIter.{CoverIter}
 use Rattle.aho_automaton.proofs.CoverSteps.{upto-next}
 use Rattle.aho_automaton.proofs.cover.CoverIterIterator.next.Given.{Over}

@@ -1,6 +1,6 @@
-use Rattle.std.proofs.Common.{◌≡◌, ℕ, ◌<◌, ◌≤◌, ◌∷◌, ◌++◌, [], List, length, subst, sym, ◌∙◌, ap, arith, length-append}
+use Rattle.std.proofs.Common.{◌≡◌, ◌<◌, ◌∷◌, ◌++◌, [], List, length, subst, sym, ◌∙◌, ap, arith, length-append}
 use Rattle.aho_core.specs.Occurrence.{Occurrence}
-use Rattle.aho_laws.specs.CoverLaws.{AreInOrder, EndBefore, extended, joined_runs}
+use Rattle.aho_laws.specs.CoverLaws.{AreInOrder, joined_runs}
 use Rattle.aho_laws.proofs.SettledRuns.{extended-full, in_order-first, joined-apart, joined-touched, run-fits}
 use Rattle.aho_automaton.proofs.open_runs.OpenRuns.add.Goals as goal
 

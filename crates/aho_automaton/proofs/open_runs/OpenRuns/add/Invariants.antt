@@ -1,5 +1,5 @@
 -- What the loop keeps: joined to what is left of the runs, the run in hand makes what the match makes of all.
-use Rattle.std.proofs.Common.{◌≡◌, ◌<◌, ◌≤◌, length}
+use Rattle.std.proofs.Common.{◌≡◌, ◌<◌, length}
 use Rattle.std.specs.VecDeque.{deque_capacity}
 use Rattle.aho_laws.specs.CoverLaws.{AreInOrder, joined_runs}
 use Rattle.aho_automaton.proofs.open_runs.OpenRuns.add.Given as goal

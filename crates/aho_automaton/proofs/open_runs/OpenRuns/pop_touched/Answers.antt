@@ -1,4 +1,4 @@
-use Rattle.std.proofs.Common.{◌≡◌, ◌<◌, ◌∷◌, ◌++◌, [], List, subst, sym, ◌∙◌, ap, arith}
+use Rattle.std.proofs.Common.{◌≡◌, ◌<◌, ◌∷◌, ◌++◌, [], List, subst, sym, ◌∙◌, arith}
 use Rattle.aho_core.specs.Occurrence.{Occurrence}
 use Rattle.aho_laws.specs.CoverLaws.{AreInOrder, EndBefore}
 use Rattle.aho_laws.proofs.SettledRuns.{end-before}
