@@ -2,8 +2,6 @@
 use Rattle.std.specs.Prelude.{◌≡◌, ℕ, ◌+◌, ◌<◌, ◌≤◌, nat_eq, if◌then◌else◌, true, List, ◌∷◌, ◌++◌, length, Option, Some, None, Result, Ok, Err}
 use Rattle.std.specs.Iterator.Runs.{EachRunFrom}
 use Rattle.aho_core.specs.declared.error.MatchErrorKind.{MatchErrorKind}
-use Rattle.aho_core.specs.declared.error.replace.ReplaceError.{ReplaceError}
-use Rattle.aho_core.specs.declared.error.replace.ReplaceError.TheVariants.{Match}
 use Rattle.aho_core.specs.declared.error.MatchErrorKind.TheVariants.{UnsupportedEmpty, UnsupportedOverlapping}
 use Rattle.aho_core.specs.declared.error.replace.ReplaceError.{ReplaceError}
 use Rattle.aho_core.specs.declared.error.replace.ReplaceError.TheVariants.{Match}

@@ -87,12 +87,12 @@ pub trait Walk {
 
     /// The prefilter of the patterns, where one is held.
     fn prefilter(&self) -> Option<&Prefilter>
-        ensures prefilter { option_map (λ x. x.now) result
+        ensures prefilter { option_map (λ held. held.now) result
             ≡ Self.Of.prefilter (of self.now) };
 
     /// The prefilter by which searches of streams skip.
     fn stream_prefilter(&self) -> Option<&Prefilter>
-        ensures prefilter { option_map (λ x. x.now) result
+        ensures prefilter { option_map (λ held. held.now) result
             ≡ if Self.Of.skips_streams (of self.now) then Self.Of.prefilter (of self.now) else None };
 
     /// A pattern that the state lists, by its place in the list.
