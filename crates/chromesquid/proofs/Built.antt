@@ -18,7 +18,7 @@ use Rattle.aho_corasick.specs.contracts.noncontiguous.NFAAutomaton.TheImpl.{ghos
 use Rattle.aho_hybrid.specs.contracts.hybrid.HybridAutomaton.TheImpl.{ghosts as of_rows}
 use Rattle.aho_hybrid.specs.declared.hybrid.Hybrid.{Hybrid as HybridOf}
 use Rattle.chromesquid.specs.Engine.{HasKind, kind_in, laws_by}
-use Rattle.chromesquid.specs.Searcher.{Answers, IsBuiltFrom, Refuses, Searcher, allows, kind_for, lengths_of, match_kind_of, patterns_len_of, refusal_of, start_by}
+use Rattle.chromesquid.specs.Searcher.{Answers, IsBuiltFrom, RefusesSearch, Searcher, allows, kind_for, lengths_of, match_kind_of, patterns_len_of, why_refused, start_by}
 use Rattle.chromesquid.specs.contracts.engine.EngineAutomaton.TheImpl.{ghosts}
 use Rattle.chromesquid.specs.declared.engine.Engine.{Engine}
 use Rattle.chromesquid.specs.declared.engine.Engine.TheVariants.{Noncontiguous, Rows}
@@ -141,8 +141,8 @@ pub finds_by : (p : Patterns) (searcher : Searcher) → IsBuiltFrom searcher p �
 finds_by p searcher built = kind-of p searcher.automaton built.reads
 
 -- a search has no start where it is refused
-pub start_refused : (searcher : Searcher) → Refuses searcher No → start_by searcher No ≡ Err InvalidInputUnanchored
-start_refused searcher refuses = ap (λ (b : Bool). if b then ghosts.start searcher.automaton No else Err (refusal_of No)) refuses
+pub start_refused : (searcher : Searcher) → RefusesSearch searcher No → start_by searcher No ≡ Err InvalidInputUnanchored
+start_refused searcher refuses = ap (λ (b : Bool). if b then ghosts.start searcher.automaton No else Err (why_refused No)) refuses
 
 -- what is told is some value
 ok_value : {A E : Type 0} (r : Result A E) → IsOk r → (x : A) × (r ≡ Ok x)
@@ -153,7 +153,7 @@ ok_value (Err e) ok = absurd (both_ways false refl ok)
 pub start_of : (anchored : Anchored) (searcher : Searcher) → (p : Patterns) × IsBuiltFrom searcher p → Answers searcher anchored → (sid : ℕ) × (start_by searcher anchored ≡ Ok sid)
 start_of anchored searcher built answers =
     let start = ok_value (ghosts.start searcher.automaton anchored) (built.1.starts anchored answers) in
-    (start.0, ap (λ (b : Bool). if b then ghosts.start searcher.automaton anchored else Err (refusal_of anchored)) answers ∙ start.1)
+    (start.0, ap (λ (b : Bool). if b then ghosts.start searcher.automaton anchored else Err (why_refused anchored)) answers ∙ start.1)
 
 -- a searcher that was built from a list of byte strings has as many patterns
 pub count-of_items : (settings : Settings) (items : List (Bor (List ℕ))) (searcher : Searcher) → IsBuiltFrom searcher (patterns_of settings items)

@@ -2,5 +2,7 @@
 pub mod Built
 -- what the searcher of a slice is of, and why its build fails
 pub mod Builds
+-- where the position limit of a stream was answered
+pub mod PastLimit
 -- what a replacement of a stream is of
 pub mod Replaced

@@ -18,7 +18,7 @@ use Rattle.aho_stream.specs.StreamRun.{RunsOver}
 use Rattle.aho_stream.specs.declared.finds.StreamFindIter.{StreamFindIter}
 use Rattle.chromesquid.proofs.Built.{lengths-of}
 use Rattle.chromesquid.specs.Searcher.{IsBuiltFrom, Searcher}
-use Rattle.chromesquid.specs.Streams.{FindsFirst, FindsWhole, IsBegun, IsReplaced, IsReplacedUpTo, IsStreamRun}
+use Rattle.chromesquid.specs.Streams.{FindsBeginning, FindsWhole, IsReplacementBegun, IsReplaced, IsReplacedUpTo, IsStreamRun}
 use Rattle.chromesquid.specs.contracts.automaton.AhoCorasickAutomaton.TheImpl.{ghosts}
 
 module _ {R W : Type 0} (S : SourceGhosts R) (K : SinkGhosts W) (searcher : Searcher) (pieces : List (List ℕ)) (source source' : R) (sink sink' : W)
@@ -28,7 +28,7 @@ module _ {R W : Type 0} (S : SourceGhosts R) (K : SinkGhosts W) (searcher : Sear
   replaced_of = on_ok_weaker r (λ whole. record { given = whole.given; gives = whole.gives; writes = λ ms finds. whole.writes p ms built finds })
 
   -- a beginning of one
-  pub begun_of : OnErr r (BeginsStream ghosts S K searcher pieces source source' sink sink') → OnErr r (IsBegun S K p pieces source source' sink sink')
+  pub begun_of : OnErr r (BeginsStream ghosts S K searcher pieces source source' sink sink') → OnErr r (IsReplacementBegun S K p pieces source source' sink sink')
   begun_of =
       on_err_weaker r (λ begun. record {
         given = begun.given;
@@ -82,8 +82,8 @@ run_of S K searcher calls source source' closure sink result sink' p built over 
 module _ {A R : Type 0} {steps : StreamFindIter A R → Option (Result Occurrence StreamError) → StreamFindIter A R → Type 0} (S : SourceGhosts R) (p : Patterns) (source : R)
     (it : StreamFindIter A R) where
   -- the first matches of a stream, and all of them
-  pub first_of : EachRunFrom steps it (RunFindsFirst S p source) → EachRunFrom steps it (λ run. FindsFirst S p source run.items)
-  unfolding FindsFirst
+  pub first_of : EachRunFrom steps it (RunFindsFirst S p source) → EachRunFrom steps it (λ run. FindsBeginning S p source run.items)
+  unfolding FindsBeginning
   first_of finds = λ run seen from. finds run seen from
 
   pub whole_of : EachRunFrom steps it (RunFindsAll S p source)

@@ -1,8 +1,10 @@
 -- The automaton that searches is one of several kinds: each member of it is that of the automaton that is held.
-use Rattle.std.specs.Prelude.{◌≡◌, ◌⊎◌, ℕ, List, [], Bool, true, false, Option, None, IfSome, Result, if◌then◌else◌}
+use Rattle.std.specs.Prelude.{◌≡◌, ◌⊎◌, ◌≤◌, ℕ, List, [], Bool, true, false, Option, None, IfSome, Result, Err, if◌then◌else◌}
 use Rattle.aho_core.specs.Held.{held_after}
 use Rattle.aho_core.specs.Laws.{Reads}
+use Rattle.aho_core.specs.Occurrence.{Occurrence}
 use Rattle.aho_core.specs.Patterns.{Patterns}
+use Rattle.aho_core.specs.Search.{Search}
 use Rattle.aho_core.specs.declared.error.BuildError.TheVariants.{StateIDOverflow}
 use Rattle.aho_core.specs.declared.error.MatchErrorKind.{MatchErrorKind}
 use Rattle.aho_core.specs.declared.search.Anchored.{Anchored}
@@ -43,6 +45,12 @@ HasKind kind engine = (kind_in engine ≡ kind) ⊎ ((nfa : NFA) × (engine ≡ 
 abbrev pub IsElse : NFA → Engine → Type 0
 IsElse nfa engine = kind_in engine ≡ NoncontiguousNFA → engine ≡ Noncontiguous nfa
 
+-- ---- its search
+
+-- what an automaton's start refuses is refused, but where the span starts above its end
+abbrev pub RefusesAs : Result ℕ MatchErrorKind → Search → Result (Option Occurrence) MatchErrorKind → Type 0
+RefusesAs start search result = (reason : MatchErrorKind) → search.start ≤ search.end → start ≡ Err reason → result ≡ Err reason
+
 -- ---- the members of `Automaton`
 
 abbrev pub IsEngineOf : Engine → Patterns → Type 0
@@ -53,13 +61,13 @@ abbrev pub IsHeldBy : Engine → Patterns → Anchored → List ℕ → ℕ → 
 IsHeldBy (Noncontiguous nfa) p anchored word sid = of_nfa.held nfa p anchored word sid
 IsHeldBy (Rows hybrid) p anchored word sid = of_hybrid.held hybrid p anchored word sid
 
-abbrev pub IsStateOf : Engine → ℕ → Type 0
-IsStateOf (Noncontiguous nfa) sid = of_nfa.valid nfa sid
-IsStateOf (Rows hybrid) sid = of_hybrid.valid hybrid sid
+abbrev pub IsStateBy : Engine → ℕ → Type 0
+IsStateBy (Noncontiguous nfa) sid = of_nfa.valid nfa sid
+IsStateBy (Rows hybrid) sid = of_hybrid.valid hybrid sid
 
-abbrev pub kind_by : Engine → MatchKind
-kind_by (Noncontiguous nfa) = of_nfa.kind nfa
-kind_by (Rows hybrid) = of_hybrid.kind hybrid
+abbrev pub match_kind_by : Engine → MatchKind
+match_kind_by (Noncontiguous nfa) = of_nfa.kind nfa
+match_kind_by (Rows hybrid) = of_hybrid.kind hybrid
 
 abbrev pub lengths_by : Engine → List ℕ
 lengths_by (Noncontiguous nfa) = of_nfa.lengths nfa
@@ -119,7 +127,7 @@ held_in_rows settings p = if settings.prefilter then held_or_packed p else None
 
 -- ---- its laws
 
-pub laws_by : (e : Engine) (p : Patterns) → IsEngineOf e p → Reads p (kind_by e) (lengths_by e) (IsHeldBy e p) (list_by e) (dead_by e) (starts_by e)
+pub laws_by : (e : Engine) (p : Patterns) → IsEngineOf e p → Reads p (match_kind_by e) (lengths_by e) (IsHeldBy e p) (list_by e) (dead_by e) (starts_by e)
 laws_by (Noncontiguous nfa) p of = nfa-laws nfa p of
 laws_by (Rows hybrid) p of = rows-laws hybrid p of
 
@@ -127,19 +135,19 @@ pub alike_by : (e : Engine) (p : Patterns) (word other : List ℕ) (sid : ℕ) �
 alike_by (Noncontiguous nfa) p word other sid of = nfa-alike nfa p word other sid of
 alike_by (Rows hybrid) p word other sid of = rows-alike hybrid p word other sid of
 
-pub plain_by : (e : Engine) (sid : ℕ) → IsStateOf e sid → special_by e sid ≡ false → (dead_by e sid ≡ false) × (list_by e sid ≡ [])
-plain_by (Noncontiguous nfa) sid valid = nfa-plain nfa sid valid
-plain_by (Rows hybrid) sid valid = rows-plain hybrid sid valid
+pub plain_state_by : (e : Engine) (sid : ℕ) → IsStateBy e sid → special_by e sid ≡ false → (dead_by e sid ≡ false) × (list_by e sid ≡ [])
+plain_state_by (Noncontiguous nfa) sid valid = nfa-plain nfa sid valid
+plain_state_by (Rows hybrid) sid valid = rows-plain hybrid sid valid
 
-pub unmarked_by : (e : Engine) (sid : ℕ) → IsStateOf e sid → marked_by e sid ≡ false → (dead_by e sid ≡ false) × (list_by e sid ≡ [])
+pub unmarked_by : (e : Engine) (sid : ℕ) → IsStateBy e sid → marked_by e sid ≡ false → (dead_by e sid ≡ false) × (list_by e sid ≡ [])
 unmarked_by (Noncontiguous nfa) sid valid = nfa-unmarked nfa sid valid
 unmarked_by (Rows hybrid) sid valid = rows-unmarked hybrid sid valid
 
-pub dead_shallow_by : (e : Engine) (sid : ℕ) → IsStateOf e sid → dead_by e sid ≡ true → depth_by e sid ≡ 0
+pub dead_shallow_by : (e : Engine) (sid : ℕ) → IsStateBy e sid → dead_by e sid ≡ true → depth_by e sid ≡ 0
 dead_shallow_by (Noncontiguous nfa) sid valid = nfa-dead_shallow nfa sid valid
 dead_shallow_by (Rows hybrid) sid valid = rows-dead_shallow hybrid sid valid
 
-pub starts_shallow_by : (e : Engine) (sid : ℕ) → IsStateOf e sid → starts_by e sid ≡ true → depth_by e sid ≡ 0
+pub starts_shallow_by : (e : Engine) (sid : ℕ) → IsStateBy e sid → starts_by e sid ≡ true → depth_by e sid ≡ 0
 starts_shallow_by (Noncontiguous nfa) sid valid = nfa-starts_shallow nfa sid valid
 starts_shallow_by (Rows hybrid) sid valid = rows-starts_shallow hybrid sid valid
 

@@ -1,6 +1,6 @@
 //! The prefilter that rows hold, which may be a packed search.
 
-ghost use Rattle.std.specs.Prelude.{◌≡◌, IfErr, IfOk, IfSome};
+ghost use Rattle.std.specs.Prelude.{◌≡◌, IfOk, IfSome, IsOkUnless};
 ghost use Rattle.aho_core.specs.declared.error.BuildError.TheVariants.{OutOfMemory};
 ghost use Rattle.aho_build.specs.Items.{patterns_of};
 ghost use Rattle.aho_prefilter.specs.Prefilter.{IsPrefilterOf, held_or_packed};
@@ -47,7 +47,7 @@ pub(crate) fn prefilter_of(
         held ≡ held_in_rows settings.now (patterns_of settings.now patterns.now)) }
     ensures of { IfOk result (λ held. IfSome held (λ prefilter.
         IsPrefilterOf prefilter (patterns_of settings.now patterns.now))) }
-    ensures refused { IfErr result (λ error. error ≡ OutOfMemory) }
+    ensures refused { IsOkUnless result OutOfMemory }
 {
     if !settings.prefilter {
         return Ok(None);

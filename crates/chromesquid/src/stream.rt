@@ -1,21 +1,17 @@
 //! Searches and replacement in streams.
 
-ghost use Rattle.std.specs.Iterator.Runs.{EachRunFrom};
-ghost use Rattle.std.specs.Prelude.{◌⊎◌, ◌≡◌, ◌≢◌, Err, IfErr, IfOk, OnErr, OnOk, false, length, true};
-ghost use Rattle.aho_core.specs.Patterns.{Patterns};
-ghost use Rattle.aho_core.specs.Replacement.{pieces_of};
+ghost use Rattle.std.specs.Prelude.{◌≡◌, ◌≢◌, Err, IfErr, IfOk, IsOkUnless, length, true};
 ghost use Rattle.aho_core.specs.declared.error.MatchErrorKind.{MatchErrorKind};
 ghost use Rattle.aho_core.specs.declared.error.stream.StreamError.{StreamError};
 ghost use Rattle.aho_core.specs.declared.error.MatchErrorKind.TheVariants.{InvalidInputUnanchored, UnsupportedEmpty};
 ghost use Rattle.aho_core.specs.declared.search.Anchored.TheVariants.{No};
 ghost use Rattle.aho_devices.specs.Counts.{counted};
-ghost use Rattle.aho_devices.specs.Refusals.{IsFillRefusal, is_read_fault, is_write_fault, is_write_of_nothing};
+ghost use Rattle.aho_devices.specs.Refusals.{is_read_fault, is_write_fault, is_write_of_nothing};
 ghost use Rattle.aho_stream.specs.After.{greatest_position};
-ghost use Rattle.aho_stream.specs.FindRuns.{FindsAlong, is_limit_among};
 ghost use Rattle.aho_stream.specs.Refills.{is_limit};
 ghost use Rattle.aho_stream.specs.Replacing.{GaveAsMany, IsMakingRefusal};
 ghost use Rattle.aho_stream.specs.StreamRun.{RefusesUntouched};
-ghost use Rattle.chromesquid.specs.Streams.{FindsFirst, FindsWhole, IsBegun, IsReplaced, IsReplacedUpTo, IsStreamRun};
+ghost use Rattle.chromesquid.specs.Streams.{CallsFindAlong, ReplacesBeginning, ReplacesNearly, ReplacesWhole, RunsFindBeginning, RunsFindWhole, RunsStream};
 
 use crate::searcher::AhoCorasick;
 use aho_automaton::automaton::Automaton;
@@ -30,7 +26,7 @@ use std::alloc::{AllocError, Global};
 pub type StreamFindIter<'a, 'r, R> = aho_stream::finds::StreamFindIter<'a, 'r, AhoCorasick, R>;
 
 impl AhoCorasick {
-    ghost use Rattle.chromesquid.specs.Searcher.{Answers, HasEmpty, HasNoEmpty, IsBuiltFrom, Refuses, patterns_len_of};
+    ghost use Rattle.chromesquid.specs.Searcher.{Answers, HasEmpty, HasNoEmpty, RefusesSearch, patterns_len_of};
 
     /// The matches of what the source gives, of which it may give 2^63 - 1 bytes. It takes all its memory here, and reads
     /// nothing.
@@ -49,15 +45,12 @@ impl AhoCorasick {
         requires starts { Answers self.now No }
         ensures source { IfOk result (λ it. it.chunks.source ≡ source.entry) }
         ensures ready { IfOk result ⟦<StreamFindIter<'a, 'r, R> as Iterator>⟧.can_next }
-        ensures first { (p : Patterns) → IsBuiltFrom self.entry.now p → IfOk result (λ it.
-            EachRunFrom ⟦<StreamFindIter<'a, 'r, R> as Iterator>⟧.next_gives it
-            (λ run. FindsFirst R.Source p source.entry.now run.items)) }
-        ensures finds { (p : Patterns) → IsBuiltFrom self.entry.now p → IfOk result (λ it.
-            EachRunFrom ⟦<StreamFindIter<'a, 'r, R> as Iterator>⟧.next_gives it (λ run.
-            run.whole ≡ true → is_limit_among run.items ≡ false
-            → FindsWhole R.Source p source.entry.now run.items)) }
-        ensures along { (p : Patterns) → IsBuiltFrom self.entry.now p → IfOk result (λ it.
-            FindsAlong R.Source ⟦<StreamFindIter<'a, 'r, R> as Iterator>⟧.next_gives p it) }
+        ensures first { RunsFindBeginning R.Source
+            ⟦<StreamFindIter<'a, 'r, R> as Iterator>⟧.next_gives self.entry.now source.entry.now result }
+        ensures finds { RunsFindWhole R.Source
+            ⟦<StreamFindIter<'a, 'r, R> as Iterator>⟧.next_gives self.entry.now source.entry.now result }
+        ensures along { CallsFindAlong R.Source
+            ⟦<StreamFindIter<'a, 'r, R> as Iterator>⟧.next_gives self.entry.now result }
     {
         match self.try_stream_find_iter(alloc, source) {
             Ok(matches) => Ok(matches),
@@ -81,19 +74,16 @@ impl AhoCorasick {
         ensures source { IfOk result (λ it. it.chunks.source ≡ source.entry) }
         ensures ready { IfOk result ⟦<StreamFindIter<'a, 'r, R> as Iterator>⟧.can_next }
         ensures empty { HasEmpty self.entry.now → result ≡ Err (StreamError.Match UnsupportedEmpty) }
-        ensures refused { HasNoEmpty self.entry.now → Refuses self.entry.now No
+        ensures refused { HasNoEmpty self.entry.now → RefusesSearch self.entry.now No
             → result ≡ Err (StreamError.Match InvalidInputUnanchored) }
         ensures memory { HasNoEmpty self.entry.now → Answers self.entry.now No
-            → IfErr result (λ error. error ≡ StreamError.Memory) }
-        ensures first { (p : Patterns) → IsBuiltFrom self.entry.now p → IfOk result (λ it.
-            EachRunFrom ⟦<StreamFindIter<'a, 'r, R> as Iterator>⟧.next_gives it
-            (λ run. FindsFirst R.Source p source.entry.now run.items)) }
-        ensures finds { (p : Patterns) → IsBuiltFrom self.entry.now p → IfOk result (λ it.
-            EachRunFrom ⟦<StreamFindIter<'a, 'r, R> as Iterator>⟧.next_gives it (λ run.
-            run.whole ≡ true → is_limit_among run.items ≡ false
-            → FindsWhole R.Source p source.entry.now run.items)) }
-        ensures along { (p : Patterns) → IsBuiltFrom self.entry.now p → IfOk result (λ it.
-            FindsAlong R.Source ⟦<StreamFindIter<'a, 'r, R> as Iterator>⟧.next_gives p it) }
+            → IsOkUnless result StreamError.Memory }
+        ensures first { RunsFindBeginning R.Source
+            ⟦<StreamFindIter<'a, 'r, R> as Iterator>⟧.next_gives self.entry.now source.entry.now result }
+        ensures finds { RunsFindWhole R.Source
+            ⟦<StreamFindIter<'a, 'r, R> as Iterator>⟧.next_gives self.entry.now source.entry.now result }
+        ensures along { CallsFindAlong R.Source
+            ⟦<StreamFindIter<'a, 'r, R> as Iterator>⟧.next_gives self.entry.now result }
     {
         try_stream_find_iter(alloc, self.built(), source)
     }
@@ -119,13 +109,12 @@ impl AhoCorasick {
         requires one_each { length replace_with.now ≡ patterns_len_of self.now }
         requires no_empty { HasNoEmpty self.now }
         requires starts { Answers self.now No }
-        ensures replaced { (p : Patterns) → IsBuiltFrom self.now p → OnOk result (IsReplaced R.Source
-            W.Sink p (pieces_of replace_with.now) source.old source.new sink.old sink.new) }
-        ensures begun { (p : Patterns) → IsBuiltFrom self.now p → OnErr result (IsBegun R.Source
-            W.Sink p (pieces_of replace_with.now) source.old source.new sink.old sink.new) }
-        ensures near { (p : Patterns) → IsBuiltFrom self.now p → IfErr result (λ error.
-            IsFillRefusal error → IsReplacedUpTo R.Source W.Sink
-            p (pieces_of replace_with.now) source.old source.new sink.old sink.new) }
+        ensures replaced { ReplacesWhole R.Source W.Sink self.now replace_with.now
+            source.old source.new sink.old sink.new result }
+        ensures begun { ReplacesBeginning R.Source W.Sink self.now replace_with.now
+            source.old source.new sink.old sink.new result }
+        ensures near { ReplacesNearly R.Source W.Sink self.now replace_with.now
+            source.old source.new sink.old sink.new result }
         ensures limit { is_limit result ≡ true →
             GaveAsMany R.Source source.old source.new greatest_position }
         ensures read_failed { R.failures source.new
@@ -156,13 +145,12 @@ impl AhoCorasick {
         replace_with: &[&[u8]],
     ) -> Result<(), StreamError>
         requires one_each { length replace_with.now ≡ patterns_len_of self.now }
-        ensures replaced { (p : Patterns) → IsBuiltFrom self.now p → OnOk result (IsReplaced R.Source
-            W.Sink p (pieces_of replace_with.now) source.old source.new sink.old sink.new) }
-        ensures begun { (p : Patterns) → IsBuiltFrom self.now p → OnErr result (IsBegun R.Source
-            W.Sink p (pieces_of replace_with.now) source.old source.new sink.old sink.new) }
-        ensures near { (p : Patterns) → IsBuiltFrom self.now p → IfErr result (λ error.
-            IsFillRefusal error → IsReplacedUpTo R.Source W.Sink
-            p (pieces_of replace_with.now) source.old source.new sink.old sink.new) }
+        ensures replaced { ReplacesWhole R.Source W.Sink self.now replace_with.now
+            source.old source.new sink.old sink.new result }
+        ensures begun { ReplacesBeginning R.Source W.Sink self.now replace_with.now
+            source.old source.new sink.old sink.new result }
+        ensures near { ReplacesNearly R.Source W.Sink self.now replace_with.now
+            source.old source.new sink.old sink.new result }
         ensures limit { is_limit result ≡ true →
             GaveAsMany R.Source source.old source.new greatest_position }
         ensures read_failed { R.failures source.new
@@ -174,7 +162,7 @@ impl AhoCorasick {
         ensures untouched { IfErr result (λ error. IsMakingRefusal error →
             (source.new ≡ source.old) × (sink.new ≡ sink.old)) }
         ensures empty { HasEmpty self.now → result ≡ Err (StreamError.Match UnsupportedEmpty) }
-        ensures refused { HasNoEmpty self.now → Refuses self.now No
+        ensures refused { HasNoEmpty self.now → RefusesSearch self.now No
             → result ≡ Err (StreamError.Match InvalidInputUnanchored) }
         ensures answered { (reason : MatchErrorKind) → HasNoEmpty self.now → Answers self.now No
             → result ≢ Err (StreamError.Match reason) }
@@ -203,9 +191,7 @@ impl AhoCorasick {
         requires no_empty { HasNoEmpty self.now }
         requires starts { Answers self.now No }
         requires callable { F.IsAlwaysCallable replace_with }
-        ensures runs { (p : Patterns) → IsBuiltFrom self.now p
-            → RefusesUntouched result StreamError.Memory source.old source.new sink.old sink.new
-            ⊎ IsStreamRun R.Source W.Sink p F.FnMut
+        ensures runs { RunsStream R.Source W.Sink self.now F.FnMut
             source.old source.new replace_with sink.old result sink.new }
     {
         self.try_stream_replace_all_with(alloc, source, sink, replace_with)
@@ -228,14 +214,13 @@ impl AhoCorasick {
     where
         F: FnMut(&Match, &[u8], &mut W) -> Result<(), StreamError>,
         requires callable { F.IsAlwaysCallable replace_with }
-        ensures runs { (p : Patterns) → IsBuiltFrom self.now p → HasNoEmpty self.now → Answers self.now No
-            → RefusesUntouched result StreamError.Memory source.old source.new sink.old sink.new
-            ⊎ IsStreamRun R.Source W.Sink p F.FnMut
+        ensures runs { HasNoEmpty self.now → Answers self.now No
+            → RunsStream R.Source W.Sink self.now F.FnMut
             source.old source.new replace_with sink.old result sink.new }
         ensures empty { HasEmpty self.now
             → RefusesUntouched result (StreamError.Match UnsupportedEmpty)
             source.old source.new sink.old sink.new }
-        ensures refused { HasNoEmpty self.now → Refuses self.now No
+        ensures refused { HasNoEmpty self.now → RefusesSearch self.now No
             → RefusesUntouched result (StreamError.Match InvalidInputUnanchored)
             source.old source.new sink.old sink.new }
     {

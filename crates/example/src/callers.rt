@@ -4,6 +4,7 @@ pub mod builders;
 pub mod builds;
 pub mod conditions;
 pub mod copies;
+pub mod earliest;
 pub mod first_items;
 pub mod kinds;
 pub mod mask_bytes;
