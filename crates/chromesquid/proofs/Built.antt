@@ -5,11 +5,14 @@ use Rattle.std.proofs.lemmas.Bool.{both_ways}
 use Rattle.std.proofs.lemmas.List.{length-map}
 use Rattle.std.proofs.lemmas.Simd.{map-map}
 use denote.Ref.{Bor}
-use Rattle.aho_core.specs.Laws.{longest, shortest}
+use Rattle.aho_core.specs.Laws.{furthest, longest, shortest}
+use Rattle.aho_core.specs.Occurrence.{Occurrence}
 use Rattle.aho_core.specs.Patterns.{Patterns}
 use Rattle.aho_core.specs.declared.error.MatchErrorKind.TheVariants.{InvalidInputUnanchored}
 use Rattle.aho_core.specs.declared.search.Anchored.{Anchored}
 use Rattle.aho_core.specs.declared.search.Anchored.TheVariants.{No, Yes}
+use Rattle.aho_core.specs.declared.search.MatchKind.{MatchKind}
+use Rattle.aho_core.specs.declared.search.MatchKind.TheVariants.{LeftmostFirst, LeftmostLongest, Standard}
 use Rattle.aho_build.specs.Items.{patterns_of}
 use Rattle.aho_build.specs.declared.settings.Settings.{Settings}
 use Rattle.aho_corasick.specs.Clones.{IsCloneOf}
@@ -169,3 +172,9 @@ copy_is_of engine copy searcher is clone p built =
       starts = λ anchored allowed.
           subst IsOk (sym (ap (λ f. f anchored) clone.same_start)) (subst (λ (e : Engine). IsOk (ghosts.start e anchored)) (sym is) (built.starts anchored allowed));
     }
+
+-- an earliest search need not read behind its match
+pub furthest_earliest : (kind : MatchKind) (lengths : List ℕ) (m : Occurrence) → furthest kind true lengths m ≡ m.end
+furthest_earliest Standard lengths m = refl
+furthest_earliest LeftmostFirst lengths m = refl
+furthest_earliest LeftmostLongest lengths m = refl

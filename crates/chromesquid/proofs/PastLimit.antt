@@ -19,7 +19,7 @@ use Rattle.aho_devices.specs.declared.device.Source.{Ghosts as SourceGhosts}
 use Rattle.aho_stream.specs.After.{IsAfter, MayFollow, greatest_position, search_from}
 use Rattle.aho_stream.specs.Chunks.{DiesAt, ends_between}
 use Rattle.aho_stream.specs.FindRuns.{is_limit_among, matches_among}
-use Rattle.aho_stream.specs.Finds.{Finds, FindsEnd, FindsLimit, FindsNext}
+use Rattle.aho_stream.specs.Finds.{Finds, FindsEnd, FindsLimit, FindsNextInStream}
 use Rattle.aho_stream.specs.Iterators.{HasGiven, automaton_of, lookups_of}
 use Rattle.aho_stream.specs.declared.finds.StreamFindIter.{StreamFindIter}
 use Rattle.aho_stream.specs.declared.progress.StreamProgress.{StreamProgress}
@@ -58,17 +58,17 @@ module _ {A R : Type 0} (G : Ghosts A) (S : SourceGhosts R) where
   none_after : (items : List (Result Occurrence StreamError)) (mid rest : StreamFindIter A R) → mid.chunks.progress.refused ≡ true → Yields (find_steps G S) mid items rest
       → (items ≡ []) × (mid ≡ rest)
   none_after [] mid rest refused same = (refl, same)
-  none_after (item ∷ items) mid rest refused yields = (let never : Some item ≡ None = yields.1.after_limit refused in cc)
+  none_after (item ∷ items) mid rest refused yields = (let never : Some item ≡ None = yields.1.call.after_limit refused in cc)
 
   -- calls led up to the one that answered the limit, and no item came after it
   record UpToLimit (it rest : StreamFindIter A R) (items : List (Result Occurrence StreamError)) : Type 0 where
     pub before : List (Result Occurrence StreamError)
     pub mid : StreamFindIter A R
     pub yields : Yields (find_steps G S) it before mid
-    pub at : FindsNext G S mid.chunks rest.chunks (Some (Err PositionLimit))
+    pub at : FindsNextInStream G S mid.chunks rest.chunks (Some (Err PositionLimit))
     pub same : matches_among items ≡ matches_among before
 
-  match_before : (m : Occurrence) (items : List (Result Occurrence StreamError)) (it next rest : StreamFindIter A R) → FindsNext G S it.chunks next.chunks (Some (Ok m))
+  match_before : (m : Occurrence) (items : List (Result Occurrence StreamError)) (it next rest : StreamFindIter A R) → FindsNextInStream G S it.chunks next.chunks (Some (Ok m))
       → UpToLimit next rest items → UpToLimit it rest (Ok m ∷ items)
   match_before m items it next rest step more = record {
     before = Ok m ∷ more.before;
@@ -78,7 +78,7 @@ module _ {A R : Type 0} (G : Ghosts A) (S : SourceGhosts R) where
     same = ap (λ (ms : List Occurrence). m ∷ ms) more.same;
   }
 
-  error_before : (error : StreamError) (items : List (Result Occurrence StreamError)) (it next rest : StreamFindIter A R) → FindsNext G S it.chunks next.chunks (Some (Err error))
+  error_before : (error : StreamError) (items : List (Result Occurrence StreamError)) (it next rest : StreamFindIter A R) → FindsNextInStream G S it.chunks next.chunks (Some (Err error))
       → UpToLimit next rest items → UpToLimit it rest (Err error ∷ items)
   error_before error items it next rest step more = record {
     before = Err error ∷ more.before;
@@ -88,13 +88,13 @@ module _ {A R : Type 0} (G : Ghosts A) (S : SourceGhosts R) where
     same = more.same;
   }
 
-  limit_here : (items : List (Result Occurrence StreamError)) (it next rest : StreamFindIter A R) → FindsNext G S it.chunks next.chunks (Some (Err PositionLimit)) → (items ≡ []) × (next ≡ rest)
+  limit_here : (items : List (Result Occurrence StreamError)) (it next rest : StreamFindIter A R) → FindsNextInStream G S it.chunks next.chunks (Some (Err PositionLimit)) → (items ≡ []) × (next ≡ rest)
       → UpToLimit it rest (Err PositionLimit ∷ items)
   limit_here items it next rest step none = record {
     before = [];
     mid = it;
     yields = refl;
-    at = subst (λ (x : StreamFindIter A R). FindsNext G S it.chunks x.chunks (Some (Err PositionLimit))) none.1 step;
+    at = subst (λ (x : StreamFindIter A R). FindsNextInStream G S it.chunks x.chunks (Some (Err PositionLimit))) none.1 step;
     same = ap matches_among none.0;
   }
 
@@ -111,7 +111,7 @@ module _ {A R : Type 0} (G : Ghosts A) (S : SourceGhosts R) where
   up_to_limit (Err WriteZero ∷ items) it rest yields limit = error_before WriteZero items it yields.0 rest yields.1 (up_to_limit items yields.0 rest yields.2 limit)
   up_to_limit (Err Memory ∷ items) it rest yields limit = error_before Memory items it yields.0 rest yields.1 (up_to_limit items yields.0 rest yields.2 limit)
   up_to_limit (Err PositionLimit ∷ items) it rest yields limit =
-      limit_here items it yields.0 rest yields.1 (none_after items yields.0 rest (yields.1.refused ∙ or_true it.chunks.progress.refused) yields.2)
+      limit_here items it yields.0 rest yields.1 (none_after items yields.0 rest (yields.1.call.refused ∙ or_true it.chunks.progress.refused) yields.2)
 
   module _ (are : (automaton : A) (p : Patterns) → G.is_of automaton p → G.lengths automaton ≡ map length p.words) (p : Patterns) where
     -- what calls lead to: the end of the last match, and the limit
@@ -121,12 +121,12 @@ module _ {A R : Type 0} (G : Ghosts A) (S : SourceGhosts R) where
     kept_by [] it rest given of a same = (ap (λ (x : StreamFindIter A R). x.chunks.progress.from) (sym same), ap (λ (x : StreamFindIter A R). x.chunks.progress.limit) (sym same))
     kept_by (item ∷ items) it rest given of a yields =
         let step = yields.1 in
-        let of' = subst (λ (x : A). G.is_of x p) (sym step.same) of in
+        let of' = subst (λ (x : A). G.is_of x p) (sym step.call.same) of in
         let after : HasGiven G yields.0.chunks p (given ++ step.reads.bytes) =
-        subst (λ (x : A). IsAfter G x p (lookups_of yields.0.chunks) yields.0.chunks.progress (given ++ step.reads.bytes)) (sym step.same) (step.reads.is_after p given of a) in
+        subst (λ (x : A). IsAfter G x p (lookups_of yields.0.chunks) yields.0.chunks.progress (given ++ step.reads.bytes)) (sym step.call.same) (step.reads.is_after p given of a) in
         let more = kept_by items yields.0 rest (given ++ step.reads.bytes) of' after yields.2 in (
           more.0 ∙ end_after p it.chunks.progress yields.0.chunks.progress (given ++ step.reads.bytes) item items (step.finds p given of a),
-          more.1 ∙ step.limit,
+          more.1 ∙ step.call.limit,
         )
 
     module _ (it : StreamFindIter A R) (of : G.is_of (automaton_of it.chunks) p) (a : HasGiven G it.chunks p [])
@@ -135,7 +135,7 @@ module _ {A R : Type 0} (G : Ghosts A) (S : SourceGhosts R) where
       begins_at = omega (arith, a.from_reported, a.reported_walked, a.walked_read, a.count)
 
       to_limit : (items : List (Result Occurrence StreamError)) (rest : StreamFindIter A R) → Yields (find_steps G S) it items rest → is_limit_among items ≡ true
-          → (whole : Bool) → (whole ≡ true → (then : StreamFindIter A R) × FindsNext G S rest.chunks then.chunks None)
+          → (whole : Bool) → (whole ≡ true → (then : StreamFindIter A R) × FindsNextInStream G S rest.chunks then.chunks None)
           → FindsToLimit S p it.chunks.source.now rest.chunks.source.now whole items
       to_limit items rest yields limit whole ends =
           let u = up_to_limit items it rest yields limit in
@@ -146,14 +146,14 @@ module _ {A R : Type 0} (G : Ghosts A) (S : SourceGhosts R) where
           let says : FindsLimit p u.mid.chunks.progress rest.chunks.progress given = step.finds p l.bytes l.of l.after in
           let after = step.reads.is_after p l.bytes l.of l.after in
           let closed = (after.stopped says.refused).1.0 in
-          let unseen = unseen_before u.mid.chunks.progress.ended rest.chunks.progress.ended step.stays_ended closed in
+          let unseen = unseen_before u.mid.chunks.progress.ended rest.chunks.progress.ended step.call.stays_ended closed in
           let last : u.mid.chunks.progress.from ≡ end_of_last 0 (matches_among items) =
           kept.0 ∙ (ap (λ (k : ℕ). end_of_last k (matches_among u.before)) begins_at ∙ ap (end_of_last 0) (sym u.same)) in
           record {
             given = given;
             gives = record {
               bytes = Consumes-trans (S.remaining it.chunks.source.now) (S.remaining u.mid.chunks.source.now) (S.remaining rest.chunks.source.now) l.bytes step.reads.bytes l.read step.reads.read;
-              end = none_seen _ _ _ _ unseen closed step.ended ∙ none_seen _ _ _ _ unended unseen l.ends;
+              end = none_seen _ _ _ _ unseen closed step.call.ended ∙ none_seen _ _ _ _ unended unseen l.ends;
             };
             full = says.reached ∙ (kept.1 ∙ limited);
             first = λ more.
@@ -163,13 +163,13 @@ module _ {A R : Type 0} (G : Ghosts A) (S : SourceGhosts R) where
                 (l.first (step.reads.bytes ++ more) (subst (λ (b : Bool). MayFollow b (step.reads.bytes ++ more)) (sym unseen) tt) None)));
             all = λ is_whole standard.
                 let none = ends is_whole in
-                let of' = subst (λ (x : A). G.is_of x p) (sym step.same) l.of in
+                let of' = subst (λ (x : A). G.is_of x p) (sym step.call.same) l.of in
                 let here : HasGiven G rest.chunks p given =
-                subst (λ (x : A). IsAfter G x p (lookups_of rest.chunks) rest.chunks.progress given) (sym step.same) after in
+                subst (λ (x : A). IsAfter G x p (lookups_of rest.chunks) rest.chunks.progress given) (sym step.call.same) after in
                 let end : FindsEnd p rest.chunks.progress none.0.chunks.progress (given ++ none.1.reads.bytes) = none.1.finds p given of' here in
                 let later = none.1.reads.is_after p given of' here in
                 let nothing : none.1.reads.bytes ≡ [] =
-                no_bytes none.1.reads.bytes (omega (arith, later.count, later.limited, none.1.limit, step.limit, says.reached, length-append given none.1.reads.bytes)) in
+                no_bytes none.1.reads.bytes (omega (arith, later.count, later.limited, none.1.call.limit, step.call.limit, says.reached, length-append given none.1.reads.bytes)) in
                 let over : IsAnswer p (search_from rest.chunks.progress.from given) None =
                 subst (λ (xs : List ℕ). IsAnswer p (search_from rest.chunks.progress.from xs) None) (ap (λ (xs : List ℕ). given ++ xs) nothing ∙ append-nil given) (end.none (inl standard)) in
                 let answer : IsAnswer p (search_from u.mid.chunks.progress.from given) None = subst (λ (k : ℕ). IsAnswer p (search_from k given) None) says.fault.from over in
@@ -184,5 +184,5 @@ module _ {A R : Type 0} (G : Ghosts A) (S : SourceGhosts R) where
       run_to_limit run from limit = (
         run.gave.0.0.chunks.source.now,
         to_limit run.items run.gave.0.0 (subst (λ (x : StreamFindIter A R). Yields (find_steps G S) x run.items run.gave.0.0) from run.gave.0.1) limit run.whole
-        (λ whole. let then = run.gave.0.2 whole in (then.0, then.1)),
+            (λ whole. let then = run.gave.0.2 whole in (then.0, then.1)),
       )

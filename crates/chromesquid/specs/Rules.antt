@@ -20,5 +20,5 @@ pub use Rattle.aho_stream.specs.StreamRun.{RefusesUntouched}
 pub use Rattle.chromesquid.specs.Building.{Accepts, FailsFor, HasCount, HasLengths, HasMatchKind, HasMemory, HasStartKind, HasTrie, IsBuiltWithMemory, IsFailureOf, SearchesBy, kind_to_make}
 pub use Rattle.chromesquid.specs.Engine.{HasKind}
 pub use Rattle.chromesquid.specs.InMemory.{EndsOverBytes, EndsOverText, ReplacesBytes, ReplacesText, RunsOverBytes, RunsOverText, StopsOverBytes, StopsOverText}
-pub use Rattle.chromesquid.specs.Searcher.{Answers, ForItsPatterns, HasEmpty, HasNoEmpty, IsBuiltFrom, RefusesSearch, TellsIfFound, kind_for, automaton_kind_of, match_kind_of, memory_usage_of, patterns_len_of}
-pub use Rattle.chromesquid.specs.Streams.{CallsFindAlong, FindsBeginning, FindsWhole, IsReplacementBegun, IsReplaced, IsReplacedUpTo, IsStreamRun, ReplacesBeginning, ReplacesNearly, ReplacesWhole, RunsFindBeginning, RunsFindWhole, RunsStream}
+pub use Rattle.chromesquid.specs.Searcher.{Answers, ForItsPatterns, HasEmpty, HasNoEmpty, IsBuiltFrom, IsBuiltFromSome, RefusesSearch, TellsIfFound, automaton_kind_of, kind_for, match_kind_of, memory_usage_of, patterns_len_of}
+pub use Rattle.chromesquid.specs.Streams.{CallsFindAlong, FindsBeginning, FindsToLimit, FindsWhole, HasBufferFor, IsReplaced, IsReplacementBegun, IsReplacedUpTo, IsStreamRun, ReplacesBeginning, ReplacesNearly, ReplacesWhole, RunsFindBeginning, RunsFindToLimit, RunsFindWhole, RunsStream}

@@ -79,6 +79,10 @@ pub record IsBuiltFrom (searcher : Searcher) (p : Patterns) : Type 0 where
   pub reads : ghosts.is_of searcher.automaton p
   pub starts : (anchored : Anchored) → allows searcher.start_kind anchored ≡ true → IsOk (ghosts.start searcher.automaton anchored)
 
+-- it was built from some patterns
+abbrev pub IsBuiltFromSome : Searcher → Type 0
+IsBuiltFromSome searcher = (p : Patterns) × IsBuiltFrom searcher p
+
 -- so it is of all patterns that the searcher was built from
 abbrev pub ForItsPatterns : Searcher → (Patterns → Type 0) → Type 0
 ForItsPatterns searcher Holds = (p : Patterns) → IsBuiltFrom searcher p → Holds p

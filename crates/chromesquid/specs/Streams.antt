@@ -1,62 +1,44 @@
 -- What is found in a stream and what its replacement writes, of the patterns that are searched for.
-use Rattle.std.specs.Prelude.{◌≡◌, ◌≢◌, ◌⊎◌, ℕ, ◌+◌, ◌≤◌, ◌&&◌, Bool, true, false, List, [], ◌∷◌, ◌++◌, Option, None, Result, Ok, IfErr, IfOk, OnErr, OnOk, length, map, take}
+use Rattle.std.specs.Prelude.{◌≡◌, ◌≢◌, ◌⊎◌, ℕ, Bool, true, false, List, [], ◌∷◌, ◌++◌, Option, None, Result, IfErr, IfOk, OnErr, OnOk, length}
 use Rattle.std.specs.Borrow.{Bor, MutBor}
 use Rattle.std.specs.Fn.{Mut}
-use Rattle.std.specs.Io.{StartsWith}
-use Rattle.std.specs.Io.KnownBytes.{Appends}
 use Rattle.std.specs.Iterator.Runs.{EachRunFrom}
-use Rattle.aho_core.specs.ClosureRun.{ClosureRun}
 use Rattle.aho_core.specs.Iteration.{AreFinds}
 use Rattle.aho_core.specs.Occurrence.{Occurrence}
 use Rattle.aho_core.specs.Patterns.{Patterns}
-use Rattle.aho_core.specs.Replacement.{pieces_of, replaced}
+use Rattle.aho_core.specs.Replacement.{pieces_of}
 use Rattle.aho_core.specs.Search.{plain_search}
 use Rattle.aho_core.specs.declared.error.stream.StreamError.{StreamError}
 use Rattle.aho_core.specs.declared.error.stream.StreamError.TheVariants.{Memory}
 use Rattle.aho_core.specs.declared.search.MatchKind.TheVariants.{Standard}
 use Rattle.aho_automaton.specs.Finding.{AreFirstFinds}
 use Rattle.aho_devices.specs.Buffer.{capacity_for}
-use Rattle.aho_devices.specs.Counts.{counted}
-use Rattle.aho_devices.specs.Refusals.{IsFillRefusal, is_read_fault}
+use Rattle.aho_devices.specs.Refusals.{IsFillRefusal}
 use Rattle.aho_devices.specs.declared.device.Sink.{Ghosts as SinkGhosts}
 use Rattle.aho_devices.specs.declared.device.Source.{Ghosts as SourceGhosts}
 use Rattle.aho_stream.specs.After.{greatest_position, kept_for}
 use Rattle.aho_stream.specs.Chunks.{DiesAt}
 use Rattle.aho_stream.specs.FindRuns.{FindsAll, FindsAlong, FindsSoFar, is_limit_among, matches_among}
-use Rattle.aho_stream.specs.Refills.{is_limit}
-use Rattle.aho_stream.specs.Replacing.{MayBe, SourceGave, piece_for, replaced_up_to}
-use Rattle.aho_stream.specs.StreamRun.{CallsOn, RefusesUntouched, SinkTakes, starting_before}
+use Rattle.aho_stream.specs.Replacing.{BeginsReplacing, ReplacesStream, ReplacesStreamUpTo, SourceGave}
+use Rattle.aho_stream.specs.StreamRun.{RefusesUntouched, RunsOver}
 use Rattle.aho_stream.specs.declared.finds.StreamFindIter.{StreamFindIter}
+use Rattle.aho_stream.specs.declared.progress.StreamProgress.{StreamProgress}
 use Rattle.chromesquid.specs.Searcher.{ForItsPatterns, Searcher, lengths_of}
 
 -- of these patterns, with one piece for each of them: from a source and a sink before a call to those after it
 module _ {R W : Type 0} (S : SourceGhosts R) (K : SinkGhosts W) (p : Patterns) (pieces : List (List ℕ)) (source source' : R) (sink sink' : W) where
   -- the stream has ended, and its replacement was written
-  pub record IsReplaced : Type 0 where
-    pub given : List ℕ
-    pub gives : SourceGave S source source' given true
-    pub writes : (ms : List Occurrence) → AreFinds p (plain_search given) None ms → Appends (K.taken sink) (K.taken sink') (replaced given ms pieces)
+  abbrev pub IsReplaced : Type 0
+  IsReplaced = ReplacesStream S K (λ q. q ≡ p) pieces source source' sink sink'
 
   -- a beginning of the replacement was written, whatever bytes may follow
-  pub record IsReplacementBegun : Type 0 where
-    pub given : List ℕ
-    pub ended : Bool
-    pub gives : SourceGave S source source' given ended
-    pub written : List ℕ
-    pub writes : Appends (K.taken sink) (K.taken sink') written
-    pub beginning : (bytes : List ℕ) (ms : List Occurrence) → MayBe given ended bytes → AreFinds p (plain_search bytes) None ms → StartsWith (replaced bytes ms pieces) written
+  abbrev pub IsReplacementBegun : Type 0
+  IsReplacementBegun = BeginsReplacing S K (λ q. q ≡ p) pieces source source' sink sink'
 
   -- the replacement was written up to a place, whatever bytes may follow: at most as many bytes were left out as the longest
   -- pattern has
-  pub record IsReplacedUpTo : Type 0 where
-    pub given : List ℕ
-    pub ended : Bool
-    pub gives : SourceGave S source source' given ended
-    pub place : ℕ
-    pub within : place ≤ length given
-    pub near : length given ≤ place + kept_for (map length p.words)
-    pub writes : (bytes : List ℕ) (ms : List Occurrence) → MayBe given ended bytes → AreFinds p (plain_search bytes) None ms
-        → Appends (K.taken sink) (K.taken sink') (replaced_up_to bytes place 0 ms (piece_for pieces))
+  abbrev pub IsReplacedUpTo : Type 0
+  IsReplacedUpTo = ReplacesStreamUpTo S K (λ q. q ≡ p) pieces source source' sink sink'
 
 -- these were the answers since a search of the source began: the matches among them are the first finds of what the source gave
 unfoldable pub FindsBeginning : {R : Type 0} → SourceGhosts R → Patterns → R → List (Result Occurrence StreamError) → Type 0
@@ -85,23 +67,10 @@ pub record FindsToLimit {R : Type 0} (S : SourceGhosts R) (p : Patterns) (source
 -- a replacement of a stream with this closure and to this sink may end so: it is a run over the bytes given and any that may
 -- follow, where a refusal ends the run. At most as many of the given bytes are left out where the reading stopped as the longest
 -- pattern has
-pub record IsStreamRun {R W F : Type 0} (S : SourceGhosts R) (K : SinkGhosts W) (p : Patterns)
-    (calls : Mut F (Bor Occurrence × (Bor (List ℕ) × (MutBor W × Unit {0}))) (Result (Unit {0}) StreamError × (MutBor W × Unit {0})))
-    (source source' : R) (closure : F) (sink : W) (result : Result (Unit {0}) StreamError) (sink' : W) : Type 0 where
-  pub given : List ℕ
-  pub ended : Bool
-  -- whether a read failed, or the limit was met
-  pub stopped : Bool
-  pub gives : SourceGave S source source' given ended
-  pub whole : OnOk result (ended ≡ true)
-  pub read_failed : S.failures source' ≡ counted (stopped && is_read_fault result) (S.failures source)
-  pub limit : stopped ≡ true → is_limit result ≡ true → length given ≡ greatest_position
-  pub run : (bytes : List ℕ) (ms : List Occurrence) → MayBe given ended bytes → AreFinds p (plain_search bytes) None ms
-      → (last : F) × ClosureRun (SinkTakes K stopped) (CallsOn calls) bytes 0 ms closure sink result last sink'
-  -- where the reading stopped, the run over the bytes up to a place has come to its good end
-  pub near : stopped ≡ true → (place : ℕ) × (place ≤ length given) × (length given ≤ place + kept_for (map length p.words))
-      × ((bytes : List ℕ) (ms : List Occurrence) → MayBe given ended bytes → AreFinds p (plain_search bytes) None ms
-      → (last : F) × ClosureRun (SinkTakes K stopped) (CallsOn calls) (take place bytes) 0 (starting_before place ms) closure sink (Ok tt) last sink')
+abbrev pub IsStreamRun : {R W F : Type 0} → SourceGhosts R → SinkGhosts W → Patterns
+    → Mut F (Bor Occurrence × (Bor (List ℕ) × (MutBor W × Unit {0}))) (Result (Unit {0}) StreamError × (MutBor W × Unit {0}))
+    → R → R → F → W → Result (Unit {0}) StreamError → W → Type 0
+IsStreamRun S K p calls source source' closure sink result sink' = RunsOver S K (λ q. q ≡ p) calls source source' closure sink result sink'
 
 -- ---- by a searcher, of all patterns that it was built from
 
@@ -129,28 +98,27 @@ RunsStream S K searcher calls source source' closure sink result sink' = ForItsP
     RefusesUntouched result Memory source source' sink sink' ⊎ IsStreamRun S K p calls source source' closure sink result sink')
 
 -- an iterator whose calls give these, over the matches of what this source gives
-module _ {A R E : Type 0} (S : SourceGhosts R) (gives : StreamFindIter A R → Option (Result Occurrence StreamError) → StreamFindIter A R → Type 0)
-    (searcher : Searcher) (source : R) (result : Result (StreamFindIter A R) E) where
+module _ {A R : Type 0} (S : SourceGhosts R) (gives : StreamFindIter A R → Option (Result Occurrence StreamError) → StreamFindIter A R → Type 0)
+    (searcher : Searcher) (source : R) (it : StreamFindIter A R) where
   -- each run of it finds the first
   abbrev pub RunsFindBeginning : Type 0
-  RunsFindBeginning = ForItsPatterns searcher (λ p. IfOk result (λ it.
-      EachRunFrom gives it (λ run. FindsBeginning S p source run.items)))
+  RunsFindBeginning = ForItsPatterns searcher (λ p. EachRunFrom gives it (λ run. FindsBeginning S p source run.items))
 
   -- and one to `None` all, where the position limit was not answered
   abbrev pub RunsFindWhole : Type 0
-  RunsFindWhole = ForItsPatterns searcher (λ p. IfOk result (λ it.
-      EachRunFrom gives it (λ run. run.whole ≡ true → is_limit_among run.items ≡ false → FindsWhole S p source run.items)))
+  RunsFindWhole = ForItsPatterns searcher (λ p. EachRunFrom gives it (λ run.
+      run.whole ≡ true → is_limit_among run.items ≡ false → FindsWhole S p source run.items))
 
   -- and one that was answered the position limit those that are settled till then
   abbrev pub RunsFindToLimit : Type 0
-  RunsFindToLimit = ForItsPatterns searcher (λ p. IfOk result (λ it.
-      EachRunFrom gives it (λ run. is_limit_among run.items ≡ true → (left : R) × FindsToLimit S p source left run.whole run.items)))
-
--- the buffer is as long as the patterns ask for
-abbrev pub HasBufferFor : {A R : Type 0} → Searcher → StreamFindIter A R → Type 0
-HasBufferFor searcher it = it.chunks.progress.buffer.size ≡ capacity_for (kept_for (lengths_of searcher))
+  RunsFindToLimit = ForItsPatterns searcher (λ p. EachRunFrom gives it (λ run.
+      is_limit_among run.items ≡ true → (left : R) × FindsToLimit S p source left run.whole run.items))
 
 -- its calls find so, wherever they leave it
-abbrev pub CallsFindAlong : {A R E : Type 0} → SourceGhosts R → (StreamFindIter A R → Option (Result Occurrence StreamError) → StreamFindIter A R → Type 0)
-    → Searcher → Result (StreamFindIter A R) E → Type 0
-CallsFindAlong S gives searcher result = ForItsPatterns searcher (λ p. IfOk result (FindsAlong S gives p))
+abbrev pub CallsFindAlong : {A R : Type 0} → SourceGhosts R → (StreamFindIter A R → Option (Result Occurrence StreamError) → StreamFindIter A R → Type 0)
+    → Searcher → StreamFindIter A R → Type 0
+CallsFindAlong S gives searcher it = ForItsPatterns searcher (λ p. FindsAlong S gives p it)
+
+-- the buffer of its search is as long as the patterns ask for
+abbrev pub HasBufferFor : Searcher → StreamProgress → Type 0
+HasBufferFor searcher progress = progress.buffer.size ≡ capacity_for (kept_for (lengths_of searcher))

@@ -17,6 +17,7 @@ pub mod settings;
 pub mod sizes;
 pub mod stream;
 pub mod stream_first;
+pub mod stream_start;
 pub mod tried;
 pub mod tried_mask;
 pub mod tried_mask_bytes;

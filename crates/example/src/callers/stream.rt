@@ -1,5 +1,6 @@
 //! The matches of a stream.
 
+ghost use Rattle.std.specs.Prelude.{IfOk};
 ghost use Rattle.chromesquid.specs.Rules.{Answers, HasNoEmpty, No, RunsFindBeginning};
 
 use chromesquid::{AhoCorasick, Source, StreamFindIter};
@@ -13,8 +14,8 @@ pub fn matches_in<'a, 'r, R: Source>(
 ) -> Result<StreamFindIter<'a, 'r, R>, AllocError>
     requires no_empty { HasNoEmpty searcher.now }
     requires starts { Answers searcher.now No }
-    ensures first { RunsFindBeginning R.Source ⟦<StreamFindIter<'a, 'r, R> as Iterator>⟧.next_gives
-        searcher.entry.now source.entry.now result }
+    ensures first { IfOk result (RunsFindBeginning R.Source
+        ⟦<StreamFindIter<'a, 'r, R> as Iterator>⟧.next_gives searcher.entry.now source.entry.now) }
 {
     searcher.stream_find_iter(alloc, source)
 }

@@ -1,6 +1,6 @@
 //! A search in a stream that may be refused.
 
-ghost use Rattle.std.specs.Prelude.{IsOkUnless};
+ghost use Rattle.std.specs.Prelude.{IfOk, IsOkUnless};
 ghost use Rattle.chromesquid.specs.Rules.{Answers, HasNoEmpty, No, RunsFindBeginning};
 
 use chromesquid::{AhoCorasick, Source, StreamError, StreamFindIter};
@@ -14,8 +14,8 @@ pub fn matches_of<'a, 'r, R: Source>(
 ) -> Result<StreamFindIter<'a, 'r, R>, StreamError>
     ensures memory { HasNoEmpty searcher.entry.now → Answers searcher.entry.now No
         → IsOkUnless result StreamError.Memory }
-    ensures first { RunsFindBeginning R.Source ⟦<StreamFindIter<'a, 'r, R> as Iterator>⟧.next_gives
-        searcher.entry.now source.entry.now result }
+    ensures first { IfOk result (RunsFindBeginning R.Source
+        ⟦<StreamFindIter<'a, 'r, R> as Iterator>⟧.next_gives searcher.entry.now source.entry.now) }
 {
     searcher.try_stream_find_iter(alloc, source)
 }
