@@ -145,7 +145,7 @@ module _ {A R : Type 0} (G : Ghosts A) (S : SourceGhosts R) where
           let given = l.bytes ++ step.reads.bytes in
           let says : FindsLimit p u.mid.chunks.progress rest.chunks.progress given = step.finds p l.bytes l.of l.after in
           let after = step.reads.is_after p l.bytes l.of l.after in
-          let closed = (after.stopped says.refused).1.0 in
+          let closed = (after.stopped says.refused).1 in
           let unseen = unseen_before u.mid.chunks.progress.ended rest.chunks.progress.ended step.call.stays_ended closed in
           let last : u.mid.chunks.progress.from ≡ end_of_last 0 (matches_among items) =
           kept.0 ∙ (ap (λ (k : ℕ). end_of_last k (matches_among u.before)) begins_at ∙ ap (end_of_last 0) (sym u.same)) in
