@@ -19,8 +19,8 @@ span_search haystack start end =
     record { haystack = haystack; start = start; end = end; anchored = No; earliest = false }
 
 -- the finds of a span, and those of a text
-abbrev pub AreFindsIn : Patterns → List ℕ → ℕ → ℕ → List Occurrence → Type 0
-AreFindsIn p haystack start end ms = AreFinds p (span_search haystack start end) None ms
+abbrev pub AreFindsWithin : Patterns → List ℕ → ℕ → ℕ → List Occurrence → Type 0
+AreFindsWithin p haystack start end ms = AreFinds p (span_search haystack start end) None ms
 
 abbrev pub AreFindsOf : Patterns → List ℕ → List Occurrence → Type 0
 AreFindsOf p text ms = AreFinds p (plain_search text) None ms

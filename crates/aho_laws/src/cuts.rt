@@ -9,7 +9,7 @@ ghost use Rattle.aho_core.specs.Overlapping.{all_occurrences};
 ghost use Rattle.aho_core.specs.Patterns.{Patterns};
 ghost use Rattle.aho_core.specs.Replacement.{replaced};
 ghost use Rattle.aho_core.specs.Search.{plain_search};
-ghost use Rattle.aho_laws.specs.CutLaws.{AreFindsIn, AreFindsOf, AreSearched, AreSearchedLines, IsClear, IsClearCut, IsClearSeam, ListsByKind, NoneHolds, NoneIsEmpty, Piece, chosen, ending_behind, joined, moved, overlap_start, placed, replaced_apart};
+ghost use Rattle.aho_laws.specs.CutLaws.{AreFindsWithin, AreFindsOf, AreSearched, AreSearchedLines, IsClear, IsClearCut, IsClearSeam, ListsByKind, NoneHolds, NoneIsEmpty, Piece, chosen, ending_behind, joined, moved, overlap_start, placed, replaced_apart};
 ghost use Rattle.aho_core.specs.declared.search.MatchKind.TheVariants.{Standard};
 
 /// The bytes of a span may be searched as a text of their own. Its finds, moved on by the span's start,
@@ -19,7 +19,7 @@ pub fn spans_are_texts()
     ensures finds { (p : Patterns) (haystack : List ℕ) (start end : ℕ) (ms : List Occurrence)
         → NoneIsEmpty p → start ≤ end → end ≤ length haystack
         → AreFindsOf p (slice_range haystack start end) ms
-        → AreFindsIn p haystack start end (map (moved start) ms) }
+        → AreFindsWithin p haystack start end (map (moved start) ms) }
     ensures lists { (p : Patterns) (haystack : List ℕ) (start end : ℕ)
         → start ≤ end → end ≤ length haystack
         → all_occurrences p haystack start end ≡ map (moved start)
@@ -32,8 +32,8 @@ pub fn spans_are_texts()
 pub fn finds_at_clear_cuts()
     ensures spans { (p : Patterns) (haystack : List ℕ) (start cut end : ℕ) (ms ns : List Occurrence)
         → IsClearCut p haystack start cut end
-        → AreFindsIn p haystack start cut ms → AreFindsIn p haystack cut end ns
-        → AreFindsIn p haystack start end (ms ++ ns) }
+        → AreFindsWithin p haystack start cut ms → AreFindsWithin p haystack cut end ns
+        → AreFindsWithin p haystack start end (ms ++ ns) }
     // Two texts, joined where no occurrence lies: the matches of the second move on by the first's length.
     ensures texts { (p : Patterns) (left right : List ℕ) (ms ns : List Occurrence)
         → NoneIsEmpty p → IsClearSeam p left right
@@ -81,8 +81,8 @@ pub fn lists_overlapping_parts()
 pub fn finds_are_chosen()
     ensures each_kind { (p : Patterns) (haystack : List ℕ) (start end : ℕ) (list : List Occurrence)
         → NoneIsEmpty p → end ≤ length haystack → ListsByKind p haystack start end list
-        → AreFindsIn p haystack start end (chosen start list) }
+        → AreFindsWithin p haystack start end (chosen start list) }
     ensures standard { (p : Patterns) (haystack : List ℕ) (start end : ℕ)
         → NoneIsEmpty p → end ≤ length haystack → p.kind ≡ Standard
-        → AreFindsIn p haystack start end (chosen start (all_occurrences p haystack start end)) }
+        → AreFindsWithin p haystack start end (chosen start (all_occurrences p haystack start end)) }
 {}

@@ -61,6 +61,15 @@ limit_told p s s' given WriteZero tells met = absurd tells
 limit_told p s s' given Memory tells met = absurd tells
 limit_told p s s' given PositionLimit tells met = tells.reached
 
+-- it is remembered
+pub refused_told : (p : Patterns) (s s' : StreamProgress) (given : List ℕ) (error : StreamError) → TellsError p s s' given error → is_limit {A = Unit {0}} (Err error) ≡ true → s'.refused ≡ true
+refused_told p s s' given (Refused cause) tells met = absurd tells
+refused_told p s s' given (Read fault) tells met = cc
+refused_told p s s' given (Write fault) tells met = absurd tells
+refused_told p s s' given WriteZero tells met = absurd tells
+refused_told p s s' given Memory tells met = absurd tells
+refused_told p s s' given PositionLimit tells met = tells.refused
+
 -- the end of a stream that was not refused
 pub all_told : (p : Patterns) (s s' : StreamProgress) (given : List ℕ) → s.refused ≡ false → TellsEnd p s s' given → (s'.ended ≡ true) × (s'.reported ≡ length given)
 all_told p s s' given below tells = elim tells.over [ inl all ↦ all | inr refused ↦ cc ]
@@ -374,9 +383,13 @@ module _ {A R W : Type 0} (G : Ghosts A) (S : SourceGhosts R) (K : SinkGhosts W)
                 going.writes;
           }
 
-      -- at the limit as many bytes were given
+      -- at the limit the end was not seen
+      not_ended : is_limit {A = Unit {0}} (Err error) ≡ true → s'.ended ≡ false
+      not_ended met = ((now_after p₀ of₀).stopped (refused_told p₀ s s' given error tells_error met)).1
+
+      -- and as many bytes were given
       pub limit_met : is_limit {A = Unit {0}} (Err error) ≡ true → GaveAsMany S first source' s.limit
-      limit_met met = (given, now_gives.bytes, limit_told p₀ s s' given error tells_error met)
+      limit_met met = (given, subst (λ (b : Bool). SourceGave S first source' given b) (not_ended met) now_gives, limit_told p₀ s s' given error tells_error met)
 
     -- no more was answered
     module _ (is : answer ≡ None) (below : s.refused ≡ false) (p₀ : Patterns) (of₀ : IsOf p₀) where

@@ -31,7 +31,7 @@ use Rattle.aho_stream.specs.declared.progress.StreamPiece.TheVariants.{NonMatch,
 use Rattle.aho_stream.proofs.Found.{same_fault}
 use Rattle.aho_stream.proofs.GivenBytes.{part_stays}
 use Rattle.aho_stream.proofs.PatternLengths.{occurs_some}
-use Rattle.aho_stream.proofs.Replacings.{all_told, fault_told, fills_told, gives_nothing, gives_on, less_left, limit_told, might_be}
+use Rattle.aho_stream.proofs.Replacings.{all_told, fault_told, fills_told, gives_nothing, gives_on, less_left, limit_told, might_be, refused_told}
 use Rattle.aho_stream.proofs.StreamRuns.{LeftRun, Took, left_run_first, left_run_match, left_run_plain, runs_to_end, runs_to_refusal, runs_to_stop, runs_up_to}
 
 -- an error that a fill can give is none of a write
@@ -213,7 +213,7 @@ module _ {A R F W : Type 0} (G : Ghosts A) (S : SourceGhosts R) (K : SinkGhosts 
           gives = now_gives;
           whole = tt;
           read_failed = read_failed_of (Some (Err error)) is ∙ ap (λ (b : Bool). counted b (S.failures first)) (same_fault StreamPiece (Unit {0}) error);
-          limit = λ stopped met. limit_told p₀ s s' given error tells_error met ∙ greatest;
+          limit = λ stopped met. (limit_told p₀ s s' given error tells_error met ∙ greatest, ((now_after p₀ of₀).stopped (refused_told p₀ s s' given error tells_error met)).1);
           near = λ stopped.
               let a' = now_after p₀ of₀ in (
                 s.reported,

@@ -1,5 +1,5 @@
 -- What the replacement of a stream writes.
-use Rattle.std.specs.Prelude.{◌≡◌, ℕ, ◌+◌, ◌≤◌, Bool, true, List, [], ◌∷◌, ◌++◌, None, Result, Ok, Err, IfErr, OnErr, OnOk, length, map, nat_lt, if◌then◌else◌, slice_index_or, slice_range}
+use Rattle.std.specs.Prelude.{◌≡◌, ℕ, ◌+◌, ◌≤◌, Bool, true, false, List, [], ◌∷◌, ◌++◌, None, Result, Ok, Err, IfErr, OnErr, OnOk, length, map, nat_lt, if◌then◌else◌, slice_index_or, slice_range}
 use Rattle.std.specs.Io.{StartsWith}
 use Rattle.std.specs.Io.KnownBytes.{Appends, Consumes}
 use Rattle.aho_core.specs.Laws.{shortest}
@@ -43,9 +43,9 @@ pub record SourceGave {R : Type 0} (S : SourceGhosts R) (source source' : R) (gi
   pub bytes : Consumes (S.remaining source) (S.remaining source') given
   pub end : S.empty_reads source' ≡ counted ended (S.empty_reads source)
 
--- it gave as many bytes
+-- it gave as many bytes, and its end was not seen
 abbrev pub GaveAsMany : {R : Type 0} → SourceGhosts R → R → R → ℕ → Type 0
-GaveAsMany S source source' count = (given : List ℕ) × Consumes (S.remaining source) (S.remaining source') given × (length given ≡ count)
+GaveAsMany S source source' count = (given : List ℕ) × SourceGave S source source' given false × (length given ≡ count)
 
 -- all bytes of a stream that has given some: any others may follow, and none once its end was seen
 abbrev pub MayBe : List ℕ → Bool → List ℕ → Type 0

@@ -1,5 +1,5 @@
 -- What the replacement of a stream by a closure does.
-use Rattle.std.specs.Prelude.{◌≡◌, ℕ, ◌+◌, ◌≤◌, ◌&&◌, Bool, true, List, [], ◌∷◌, take, nat_lt, if◌then◌else◌, None, Result, Ok, Err, IfErr, MatchBool, OnErr, OnOk, length, map}
+use Rattle.std.specs.Prelude.{◌≡◌, ℕ, ◌+◌, ◌≤◌, ◌&&◌, Bool, true, false, List, [], ◌∷◌, take, nat_lt, if◌then◌else◌, None, Result, Ok, Err, IfErr, MatchBool, OnErr, OnOk, length, map}
 use Rattle.std.specs.Borrow.{Bor, MutBor}
 use Rattle.std.specs.Fn.{Mut}
 use Rattle.std.specs.Io.KnownBytes.{Appends}
@@ -53,7 +53,7 @@ pub record RunsOver {R W F : Type 0} (S : SourceGhosts R) (K : SinkGhosts W) (Ar
   pub gives : SourceGave S source source' given ended
   pub whole : OnOk result (ended ≡ true)
   pub read_failed : S.failures source' ≡ counted (stopped && is_read_fault result) (S.failures source)
-  pub limit : stopped ≡ true → is_limit result ≡ true → length given ≡ greatest_position
+  pub limit : stopped ≡ true → is_limit result ≡ true → (length given ≡ greatest_position) × (ended ≡ false)
   pub run : (p : Patterns) (bytes : List ℕ) (ms : List Occurrence) → AreSearched p → MayBe given ended bytes → AreFinds p (plain_search bytes) None ms
       → (last : F) × ClosureRun (SinkTakes K stopped) (CallsOn calls) bytes 0 ms closure sink result last sink'
   -- where the reading stopped, the run over the bytes up to a place has come to its good end

@@ -90,7 +90,7 @@ impl<'a, 'r, A: Automaton, R: Source> StreamChunkIter<'a, 'r, A, R> {
     }
 
     /// The chunks of what the source gives, of which it may give `limit` bytes; a greater limit than 2^63 - 1 counts as
-    /// that. It is `StreamStart::with_limit` and `over` in one call, so it takes all its memory here and reads nothing.
+    /// that: `StreamStart::with_limit` and `over` in one call.
     ///
     /// # Errors
     ///

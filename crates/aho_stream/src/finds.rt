@@ -29,8 +29,6 @@ pub struct StreamFindIter<'a, 'r, A, R> {
 
 /// The matches of what the source gives, of which it may give 2^63 - 1 bytes: `StreamStart::new` and `finds` in one call.
 ///
-/// It takes all its memory here, and reads nothing.
-///
 /// # Errors
 ///
 /// As those of `StreamChunkIter::with_limit`.

@@ -68,8 +68,8 @@ fn replace_chunks<'a, 'r, A: Automaton, R: Source, W: Sink>(
 /// Writes what the source gives to the sink, with the bytes for its pattern in the place of each match.
 ///
 /// There is one replacement for each pattern. It ends where the source's end is seen. The matches are those that
-/// replacement in memory of the same bytes finds, whatever the pieces in which they are read. It takes no memory: all
-/// that it has is the buffer of the start, which it fills again and again.
+/// replacement in memory of the same bytes finds, whatever the pieces in which they are read. It keeps no memory but
+/// the buffer of the start, which it fills again and again.
 ///
 /// # Errors
 ///
@@ -103,8 +103,8 @@ pub fn replace_stream<'a, A: Automaton, R: Source, W: Sink>(
     replaced
 }
 
-/// Writes what the source gives to the sink, with the bytes for its pattern in the place of each match: it takes all its
-/// memory, and then it is `replace_stream`. The source may give 2^63 - 1 bytes.
+/// Writes what the source gives to the sink, with the bytes for its pattern in the place of each match: `StreamStart::new`
+/// and `replace_stream` in one call. The source may give 2^63 - 1 bytes.
 ///
 /// # Errors
 ///
@@ -168,7 +168,7 @@ where
 /// the sink.
 ///
 /// It ends where the source's end is seen. The matches are those that replacement in memory of the same bytes finds,
-/// whatever the pieces in which they are read. It takes all its memory before it reads.
+/// whatever the pieces in which they are read.
 ///
 /// # Errors
 ///

@@ -1,4 +1,4 @@
-//! How a search of a stream begins: all its memory is taken, and nothing is read.
+//! How a search of a stream begins: with the memory that it keeps, and then over a source.
 
 ghost use Rattle.std.specs.Iterator.Runs.{EachRunFrom};
 ghost use Rattle.std.specs.Prelude.{◌≡◌, ◌≤◌, min, ℕ, List, [], Ok, Err, IfOk, IfErr, false};
@@ -25,7 +25,7 @@ use std::alloc::Global;
 /// The most bytes that a stream may give: 2^63 - 1.
 pub(crate) const MAX_POSITION: u64 = 9_223_372_036_854_775_807;
 
-/// A search of a stream that has not begun. It has all the memory that it will take, and no source yet.
+/// A search of a stream that has not begun. It has all the memory that it will keep, and no source yet.
 #[derive(Drop)]
 pub struct StreamStart<'a, A> {
     automaton: &'a A,
@@ -55,8 +55,8 @@ impl<'a, A: Automaton> StreamStart<'a, A> {
 
     /// A search of a stream that may give `limit` bytes; a greater limit than 2^63 - 1 counts as that.
     ///
-    /// It takes all its memory here: a buffer of 8 times as many bytes as the longest pattern has, and of 65536 at least.
-    /// Nothing is read, since there is no source yet.
+    /// What it keeps of memory is taken here: a buffer of 8 times as many bytes as the longest pattern has, and of 65536 at
+    /// least. Nothing is read, since there is no source yet.
     ///
     /// # Errors
     ///
@@ -85,8 +85,8 @@ impl<'a, A: Automaton> StreamStart<'a, A> {
         })
     }
 
-    /// The chunks of what this source gives. It takes no memory, reads nothing, and cannot fail: all that could be refused
-    /// was refused before there was a source.
+    /// The chunks of what this source gives. It reads nothing and cannot fail: all that could be refused was refused before
+    /// there was a source.
     pub fn over<'r, R: Source>(self, source: &'r mut R) -> StreamChunkIter<'a, 'r, A, R>
         ensures progress { result.progress ≡ self.entry.progress }
         ensures of { (result.source ≡ source.entry)
@@ -96,8 +96,8 @@ impl<'a, A: Automaton> StreamStart<'a, A> {
         StreamChunkIter::over(self.automaton, source, self.progress)
     }
 
-    /// The matches of what this source gives. It takes no memory, reads nothing, and cannot fail: all that could be refused
-    /// was refused before there was a source.
+    /// The matches of what this source gives. It reads nothing and cannot fail: all that could be refused was refused before
+    /// there was a source.
     pub fn finds<'r, R: Source>(self, source: &'r mut R) -> StreamFindIter<'a, 'r, A, R>
         requires some { (p : Patterns) × A.is_of self.automaton.now p }
         requires fresh { IsFreshStart A.Automaton self }
@@ -139,7 +139,7 @@ fn check<A: Automaton>(automaton: &A) -> Result<StateID, MatchError>
     automaton.start_state(Anchored::No)
 }
 
-/// How far a search of a stream has come before it begins. It takes all memory of the search.
+/// How far a search of a stream has come before it begins, with the memory that the search keeps.
 ///
 /// # Errors
 ///
