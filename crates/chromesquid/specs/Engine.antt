@@ -14,10 +14,10 @@ use Rattle.aho_build.specs.declared.settings.Settings.{Settings}
 use Rattle.aho_corasick.specs.contracts.noncontiguous.NFAAutomaton.TheImpl.{ghosts as of_nfa}
 use Rattle.aho_corasick.specs.contracts.noncontiguous.NFAAutomaton.TheImpl.Laws.{alike-law as nfa-alike, dead_shallow-law as nfa-dead_shallow, laws-law as nfa-laws, plain-law as nfa-plain, prefilters-law as nfa-prefilters, starts_shallow-law as nfa-starts_shallow, unmarked-law as nfa-unmarked}
 use Rattle.aho_corasick.specs.declared.noncontiguous.NFA.{NFA}
-use Rattle.aho_hybrid.specs.Filled.{IsRefused, default_budget}
+use Rattle.aho_hybrid.specs.Filled.{IsRowsRefusal, default_budget}
 use Rattle.aho_hybrid.specs.contracts.hybrid.HybridAutomaton.TheImpl.{ghosts as of_hybrid}
 use Rattle.aho_hybrid.specs.contracts.hybrid.HybridAutomaton.TheImpl.Laws.{alike-law as rows-alike, dead_shallow-law as rows-dead_shallow, laws-law as rows-laws, plain-law as rows-plain, prefilters-law as rows-prefilters, starts_shallow-law as rows-starts_shallow, unmarked-law as rows-unmarked}
-use Rattle.aho_prefilter.specs.Prefilter.{IsPrefilterOf, held_or_packed}
+use Rattle.aho_prefilter.specs.Prefilter.{IsPrefilterOf, quickest_for}
 use Rattle.aho_prefilter.specs.declared.prefilter.Searcher.{Searcher}
 use Rattle.chromesquid.specs.declared.engine.Engine.{Engine}
 use Rattle.chromesquid.specs.declared.engine.Engine.TheVariants.{Noncontiguous, Rows}
@@ -35,7 +35,7 @@ kind_in (Rows hybrid) = OfRows
 pub record HasNoRows (nfa : NFA) : Type 0 where
   pub max : ℕ
   pub requested : ℕ
-  pub refused : IsRefused nfa default_budget (StateIDOverflow max requested)
+  pub refused : IsRowsRefusal nfa default_budget (StateIDOverflow max requested)
 
 -- it has this kind, or is an `NFA` for which the rows do not fit
 abbrev pub HasKind : AhoCorasickKind → Engine → Type 0
@@ -121,9 +121,9 @@ prefilter_by (Rows hybrid) = of_hybrid.prefilter hybrid
 abbrev pub HoldsInRows : Option Searcher → Engine → Type 0
 HoldsInRows held engine = kind_in engine ≡ OfRows → prefilter_by engine ≡ held
 
--- the prefilter that rows for these patterns hold: where the settings want one it may be a packed search
+-- the prefilter that rows for these patterns hold, where the settings want one
 abbrev pub held_in_rows : Settings → Patterns → Option Searcher
-held_in_rows settings p = if settings.prefilter then held_or_packed p else None
+held_in_rows settings p = if settings.prefilter then quickest_for p else None
 
 -- ---- its laws
 

@@ -181,7 +181,7 @@ impl AhoCorasickBuilder {
         self
     }
 
-    /// Whether a prefilter is held where there is one for the patterns; with rows it may be a packed search. Which one is free:
+    /// Whether a prefilter is held where there is one for the patterns; with rows it may be a packed or a strided search. Which one is free:
     /// no contract of a searcher says it, and no answer depends on it.
     pub fn prefilter(mut self, yes: bool) -> AhoCorasickBuilder
         ensures set { result ≡ record self { settings = record self.settings { prefilter = yes } } }

@@ -7,7 +7,7 @@ ghost use Rattle.aho_core.specs.Search.{search_of};
 ghost use Rattle.aho_core.specs.declared.error.MatchErrorKind.TheVariants.{InvalidInputAnchored, InvalidInputUnanchored, UnsupportedOverlapping};
 ghost use Rattle.aho_core.specs.declared.search.Anchored.TheVariants.{No, Yes};
 ghost use Rattle.aho_core.specs.declared.search.MatchKind.TheVariants.{Standard};
-ghost use Rattle.aho_automaton.specs.Finding.{GivesFinds, GivesFirstFinds, places};
+ghost use Rattle.aho_automaton.specs.Finding.{GivesFinds, GivesFirstFinds, span_places};
 ghost use Rattle.aho_automaton.specs.Fused.{IsFused};
 ghost use Rattle.aho_automaton.specs.Overlaps.{ListsAll, ListsFirst};
 ghost use Rattle.aho_automaton.specs.Reading.{ReadsEachOnce, ReadsUpTo};
@@ -131,7 +131,7 @@ impl AhoCorasick {
         ensures first { ForItsPatterns self.entry.now (λ p.
             GivesFirstFinds ⟦<FindIter<'a, 'h> as Iterator>⟧.next_gives p (I.search input) result) }
         ensures bound { UpTo (⟦<FindIter<'a, 'h> as Iterator>⟧.remaining result)
-            (places (I.search input)) }
+            (span_places (I.search input)) }
         ensures fused { IsFused ⟦<FindIter<'a, 'h> as Iterator>⟧.next_gives result }
     {
         match Automaton::try_find_iter(self.built(), input.into_input()) {
@@ -155,7 +155,7 @@ impl AhoCorasick {
         ensures first { ForItsPatterns self.entry.now (λ p. IfOk result
             (GivesFirstFinds ⟦<FindIter<'a, 'h> as Iterator>⟧.next_gives p (I.search input))) }
         ensures bound { IfOk result (λ it. UpTo
-            (⟦<FindIter<'a, 'h> as Iterator>⟧.remaining it) (places (I.search input))) }
+            (⟦<FindIter<'a, 'h> as Iterator>⟧.remaining it) (span_places (I.search input))) }
         ensures fused { IfOk result (IsFused ⟦<FindIter<'a, 'h> as Iterator>⟧.next_gives) }
         ensures ok { Answers self.entry.now (I.search input).anchored → IsOk result }
         ensures refused { RefusesSearch self.entry.now (I.search input).anchored
