@@ -1,5 +1,5 @@
 -- What a search of a stream by a searcher has, before it begins and once it has a source.
-use Rattle.std.proofs.Common.{◌≡◌, ℕ, [], true, false, sym, subst}
+use Rattle.std.proofs.Common.{◌≡◌, [], true, false, sym, subst}
 use Rattle.std.specs.Prelude.{Result, Ok, Err, IfOk}
 use Rattle.std.specs.Iterator.Runs.{EachRunFrom}
 use Rattle.aho_core.specs.Patterns.{Patterns}

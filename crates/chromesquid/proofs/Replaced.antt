@@ -1,9 +1,9 @@
 -- What a search and a replacement of a stream are, of fewer patterns, and of the patterns that the searcher was built from.
-use Rattle.std.proofs.Common.{◌≡◌, subst, sym, List, ℕ, Option, inl, inr, true, false}
+use Rattle.std.proofs.Common.{◌≡◌, subst, sym, List, ℕ, Option, true, false}
 use Rattle.std.specs.Borrow.{Bor, MutBor}
 use Rattle.std.specs.Fn.{Mut}
 use Rattle.std.specs.Iterator.Runs.{EachRunFrom}
-use Rattle.std.specs.Prelude.{◌⊎◌, Result, IfErr, OnErr, OnOk}
+use Rattle.std.specs.Prelude.{Result, IfErr, OnErr, OnOk}
 use Rattle.std.proofs.lemmas.Result.{IfErr-weaker, on_err_weaker, on_ok_weaker}
 use Rattle.aho_core.specs.Occurrence.{Occurrence}
 use Rattle.aho_core.specs.Patterns.{Patterns}

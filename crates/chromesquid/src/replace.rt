@@ -1,6 +1,6 @@
 //! Replacement in memory.
 
-ghost use Rattle.std.specs.Prelude.{◌≡◌, Err, false, length};
+ghost use Rattle.std.specs.Prelude.{◌≡◌, Err, length};
 ghost use Rattle.aho_core.specs.declared.error.MatchErrorKind.TheVariants.{InvalidInputUnanchored};
 ghost use Rattle.aho_core.specs.declared.error.replace.ReplaceError.{ReplaceError};
 ghost use Rattle.aho_core.specs.declared.search.Anchored.TheVariants.{No};
