@@ -10,6 +10,7 @@ ghost use Rattle.std.specs.Iterator.{UpTo};
 ghost use Rattle.std.specs.Option.{option_map};
 ghost use Rattle.aho_core.specs.Answer.{IsAnswer};
 ghost use Rattle.aho_core.specs.ClosureRun.{RunsInMemory};
+ghost use Rattle.aho_core.specs.Cover.{IsCover};
 ghost use Rattle.aho_core.specs.Held.{held_after};
 ghost use Rattle.aho_core.specs.Laws.{Reads, longest, shortest};
 ghost use Rattle.aho_core.specs.Numbers.{greatest_index};
@@ -28,13 +29,16 @@ ghost use Rattle.aho_core.specs.declared.search.MatchKind.TheVariants.{Standard}
 ghost use Rattle.aho_core.specs.Steps.{GoesOn, IsPaid};
 ghost use Rattle.aho_prefilter.specs.Prefilter.{IsPrefilterOf};
 ghost use Rattle.aho_prefilter.specs.declared.prefilter.Searcher.{Searcher};
-ghost use Rattle.aho_automaton.specs.Finding.{GivesFinds, GivesFirstFinds, HoldsOfFinds, places};
+ghost use Rattle.aho_automaton.specs.Covering.{GivesFirstRuns, GivesRuns, cover_refusal};
+ghost use Rattle.aho_automaton.specs.Finding.{GivesFinds, GivesFirstFinds, HoldsOfFinds, span_places};
 ghost use Rattle.aho_automaton.specs.Fused.{IsFused};
-ghost use Rattle.aho_automaton.specs.Overlaps.{FindsNext, FindsNone, FitsNext, FitsSome, ListsAll, ListsFirst, RefusesFirst};
+ghost use Rattle.aho_automaton.specs.Overlaps.{FindsNext, FindsNothing, FitsNext, FitsSome, ListsAll, ListsFirst, RefusesFirst};
 
 mod reference;
 mod with_prefilter;
 
+pub use crate::cover::CoverIter;
+use crate::cover::cover_bytes;
 pub use crate::find::find_in;
 pub use crate::iter::FindIter;
 use crate::overlapping::find_overlapping;
@@ -259,8 +263,8 @@ pub trait Automaton {
         ensures found { (p : Patterns) → is_of self.now p → IfOk result (IsAnswer p input.now) }
         ensures error { IfErr result (λ reason. start self.now input.now.anchored ≡ Err reason) }
         ensures ok { (sid : ℕ) → start self.now input.now.anchored ≡ Ok sid → IsOk result }
-        ensures refused { (reason : MatchErrorKind) → input.now.start ≤ input.now.end →
-            start self.now input.now.anchored ≡ Err reason → result ≡ Err reason }
+        ensures refused { (e : MatchErrorKind) → input.now.start ≤ input.now.end →
+            start self.now input.now.anchored ≡ Err e → result ≡ Err e }
         ensures done { input.now.end < input.now.start → result ≡ Ok None }
     {
         let mut walk = Counted::new(self);
@@ -302,11 +306,11 @@ pub trait Automaton {
         ensures first { (p : Patterns) → is_of self.now p → IfOk result
             (GivesFirstFinds ⟦<FindIter<'a, 'h, Self> as Iterator>⟧.next_gives p input.entry) }
         ensures bound { IfOk result (λ it. UpTo
-            (⟦<FindIter<'a, 'h, Self> as Iterator>⟧.remaining it) (places input.entry)) }
+            (⟦<FindIter<'a, 'h, Self> as Iterator>⟧.remaining it) (span_places input.entry)) }
         ensures fused { IfOk result (IsFused ⟦<FindIter<'a, 'h, Self> as Iterator>⟧.next_gives) }
         ensures error { IfErr result (λ reason. start self.now input.entry.anchored ≡ Err reason) }
-        ensures refused { (reason : MatchErrorKind) → start self.now input.entry.anchored ≡ Err reason
-            → result ≡ Err reason }
+        ensures refused { (e : MatchErrorKind) → start self.now input.entry.anchored ≡ Err e
+            → result ≡ Err e }
         ensures ok { (sid : ℕ) → start self.now input.entry.anchored ≡ Ok sid → IsOk result }
     {
         FindIter::new(self, input)
@@ -346,7 +350,7 @@ pub trait Automaton {
             → IsOk result }
         ensures cleared { IfErr result (λ _. state.new ≡ without_match state.old) }
         ensures done { kind self.now ≡ Standard → input.now.end < input.now.start
-            → FindsNone state.old state.new result }
+            → FindsNothing state.old state.new result }
         ensures found { FindsNext (is_of self.now) (valid self.now) (held self.now) input.now
             state.old state.new result }
         ensures fits { FitsNext (is_of self.now) (valid self.now) (held self.now) input.now
@@ -374,15 +378,15 @@ pub trait Automaton {
             → result ≡ Err (UnsupportedOverlapping (kind self.now)) }
         ensures anchored { kind self.now ≡ Standard → input.entry.anchored ≡ Yes
             → result ≡ Err InvalidInputAnchored }
-        ensures refused { (reason : MatchErrorKind) → kind self.now ≡ Standard
-            → input.entry.anchored ≡ No → start self.now No ≡ Err reason → result ≡ Err reason }
+        ensures refused { (e : MatchErrorKind) → kind self.now ≡ Standard
+            → input.entry.anchored ≡ No → start self.now No ≡ Err e → result ≡ Err e }
         ensures ok { (sid : ℕ) → kind self.now ≡ Standard → input.entry.anchored ≡ No
             → start self.now No ≡ Ok sid → IsOk result }
         ensures ready { (p : Patterns) → is_of self.now p
             → IfOk result ⟦<FindOverlappingIter<'a, 'h, Self> as Iterator>⟧.can_next }
         ensures bound { IfOk result (λ it.
             UpTo (⟦<FindOverlappingIter<'a, 'h, Self> as Iterator>⟧.remaining it)
-            (length (lengths self.now) * places input.entry)) }
+            (length (lengths self.now) * span_places input.entry)) }
         ensures lists { (p : Patterns) → is_of self.now p → IfOk result
             (ListsAll ⟦<FindOverlappingIter<'a, 'h, Self> as Iterator>⟧.next_gives p input.entry) }
         ensures first { (p : Patterns) → is_of self.now p → IfOk result
@@ -422,8 +426,8 @@ pub trait Automaton {
         ensures replaced { HoldsOfFinds (is_of self.now) haystack.now (λ ms.
             IfOk result (λ text. string_bytes text ≡
             replaced haystack.now (on_boundaries haystack.now ms) (pieces_of replace_with.now))) }
-        ensures refused { (reason : MatchErrorKind) → start self.now No ≡ Err reason →
-            result ≡ Err (ReplaceError.Match reason) }
+        ensures refused { (e : MatchErrorKind) → start self.now No ≡ Err e →
+            result ≡ Err (ReplaceError.Match e) }
         ensures error { (reason : MatchErrorKind) → result ≡ Err (ReplaceError.Match reason) →
             start self.now No ≡ Err reason }
     {
@@ -454,8 +458,8 @@ pub trait Automaton {
         ensures replaced { HoldsOfFinds (is_of self.now) haystack.now (λ ms.
             IfOk result (λ bytes. vec_items bytes ≡
             replaced haystack.now ms (pieces_of replace_with.now))) }
-        ensures refused { (reason : MatchErrorKind) → start self.now No ≡ Err reason →
-            result ≡ Err (ReplaceError.Match reason) }
+        ensures refused { (e : MatchErrorKind) → start self.now No ≡ Err e →
+            result ≡ Err (ReplaceError.Match e) }
         ensures error { (reason : MatchErrorKind) → result ≡ Err (ReplaceError.Match reason) →
             start self.now No ≡ Err reason }
     {
@@ -495,8 +499,8 @@ pub trait Automaton {
             result ≡ Err ReplaceError.Memory →
             RunsInMemory F.FnMut string_bytes haystack.now
             (on_boundaries haystack.now ms) replace_with dst.old (Err alloc_error) dst.new) }
-        ensures refused { (reason : MatchErrorKind) → start self.now No ≡ Err reason →
-            result ≡ Err (ReplaceError.Match reason) }
+        ensures refused { (e : MatchErrorKind) → start self.now No ≡ Err e →
+            result ≡ Err (ReplaceError.Match e) }
         ensures error { (reason : MatchErrorKind) → result ≡ Err (ReplaceError.Match reason) →
             start self.now No ≡ Err reason }
         ensures unchanged { (reason : MatchErrorKind) → result ≡ Err (ReplaceError.Match reason) →
@@ -534,8 +538,8 @@ pub trait Automaton {
             result ≡ Err ReplaceError.Memory →
             RunsInMemory F.FnMut vec_items haystack.now
             ms replace_with dst.old (Err alloc_error) dst.new) }
-        ensures refused { (reason : MatchErrorKind) → start self.now No ≡ Err reason →
-            result ≡ Err (ReplaceError.Match reason) }
+        ensures refused { (e : MatchErrorKind) → start self.now No ≡ Err e →
+            result ≡ Err (ReplaceError.Match e) }
         ensures error { (reason : MatchErrorKind) → result ≡ Err (ReplaceError.Match reason) →
             start self.now No ≡ Err reason }
         ensures unchanged { (reason : MatchErrorKind) → result ≡ Err (ReplaceError.Match reason) →
@@ -544,5 +548,73 @@ pub trait Automaton {
         let finds = FindIter::new(self, Input::new(haystack))?;
         replace_bytes(finds, haystack, dst, replace_with)?;
         Ok(())
+    }
+
+    /// The runs of a cover of the haystack, one after another: the stretches that its matches hold, whichever overlap or
+    /// touch. Each is told as a match: its range, and the pattern of the longest match that begins where the run does, of
+    /// equal ones the first.
+    ///
+    /// It takes all its memory here, with `alloc`: room for the runs that may be open at once, half as many as the longest
+    /// pattern has bytes, and one. Each byte is read once, with at most two look-ups. After `None` it gives `None` again.
+    ///
+    /// # Errors
+    ///
+    /// In this order: `Match` where the automaton is not of the standard kind (`UnsupportedOverlapping`), has an empty
+    /// pattern (`UnsupportedEmpty`), or refuses unanchored searches; then `Memory`, where the allocation fails.
+    final fn try_cover_iter<'a, 'h>(
+        &'a self,
+        alloc: Global,
+        haystack: &'h [u8],
+    ) -> Result<CoverIter<'a, 'h, Self>, ReplaceError>
+    where
+        Self: Sized,
+        requires of { (p : Patterns) × is_of self.now p }
+        ensures ready { IfOk result ⟦<CoverIter<'a, 'h, Self> as Iterator>⟧.can_next }
+        ensures runs { (p : Patterns) → is_of self.now p → IfOk result
+            (GivesRuns ⟦<CoverIter<'a, 'h, Self> as Iterator>⟧.next_gives p haystack.entry.now) }
+        ensures first { (p : Patterns) → is_of self.now p → IfOk result
+            (GivesFirstRuns ⟦<CoverIter<'a, 'h, Self> as Iterator>⟧.next_gives p haystack.entry.now) }
+        ensures bound { IfOk result (λ it.
+            UpTo (⟦<CoverIter<'a, 'h, Self> as Iterator>⟧.remaining it) (length haystack.entry.now)) }
+        ensures fused { IfOk result (IsFused ⟦<CoverIter<'a, 'h, Self> as Iterator>⟧.next_gives) }
+        ensures refused { (reason : MatchErrorKind) →
+            cover_refusal (kind self.now) (lengths self.now) (start self.now No) ≡ Some reason
+            → result ≡ Err (ReplaceError.Match reason) }
+        ensures error { (reason : MatchErrorKind) → result ≡ Err (ReplaceError.Match reason) →
+            cover_refusal (kind self.now) (lengths self.now) (start self.now No) ≡ Some reason }
+    {
+        CoverIter::new(alloc, self, haystack)
+    }
+
+    /// The haystack with each run of its cover replaced by the bytes for the run's pattern. So nothing that a match holds is
+    /// left: not a byte of it, whichever other match overlaps it.
+    ///
+    /// There is one replacement for each pattern. Beside the bytes that are given it takes what `try_cover_iter` takes.
+    ///
+    /// # Errors
+    ///
+    /// As those of `try_cover_iter`; and `Memory` where an allocation of the bytes fails.
+    final fn try_cover_all_bytes(
+        &self,
+        alloc: Global,
+        haystack: &[u8],
+        replace_with: &[&[u8]],
+    ) -> Result<Vec<u8>, ReplaceError>
+    where
+        Self: Sized,
+        requires of { (p : Patterns) × is_of self.now p }
+        requires one_each { length replace_with.now ≡ length (lengths self.now) }
+        ensures covered { (p : Patterns) → is_of self.now p → IfOk result (λ bytes.
+            IsCover p haystack.now (pieces_of replace_with.now) (vec_items bytes)) }
+        ensures refused { (reason : MatchErrorKind) →
+            cover_refusal (kind self.now) (lengths self.now) (start self.now No) ≡ Some reason
+            → result ≡ Err (ReplaceError.Match reason) }
+        ensures error { (reason : MatchErrorKind) → result ≡ Err (ReplaceError.Match reason) →
+            cover_refusal (kind self.now) (lengths self.now) (start self.now No) ≡ Some reason }
+    {
+        let runs = CoverIter::new(alloc, self, haystack)?;
+        let mut dst = Vec::new(alloc);
+        cover_bytes(runs, haystack, &mut dst, replace_with)?;
+        Ok(dst)
     }
 }

@@ -320,8 +320,8 @@ pub fn find_in<W: Walk, T: Text>(
         IfOk result (IsAnswer p (search_of (T.bytes text.old) span anchored earliest)) }
     ensures error { IfErr result (λ reason. W.Of.start (W.of walk.old) anchored ≡ Err reason) }
     ensures ok { (sid : ℕ) → W.Of.start (W.of walk.old) anchored ≡ Ok sid → IsOk result }
-    ensures refused { (reason : MatchErrorKind) → span.start ≤ span.end →
-        W.Of.start (W.of walk.old) anchored ≡ Err reason → result ≡ Err reason }
+    ensures refused { (e : MatchErrorKind) → span.start ≤ span.end →
+        W.Of.start (W.of walk.old) anchored ≡ Err e → result ≡ Err e }
     ensures done { span.end < span.start → result ≡ Ok None }
 
     // What stays, and what it costs: at most two look-ups for each byte that it reads.

@@ -1,3 +1,5 @@
 pub mod Layout
 pub mod Reading
 pub mod Filled
+pub mod Made
+pub mod Alike
