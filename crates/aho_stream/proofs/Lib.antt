@@ -1,6 +1,6 @@
 -- The bytes given, how long what occurs in them is, and bytes in which nothing begins.
 mod GivenBytes
-mod PatternLengths
+pub mod PatternLengths
 mod PassedOver
 -- One byte more: the next match, whatever follows, and where a state dies.
 mod NextMatches

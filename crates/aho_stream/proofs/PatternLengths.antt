@@ -7,12 +7,13 @@ use Rattle.aho_core.specs.Occurrence.{Occurrence}
 use Rattle.aho_core.specs.Occurs.{Occurs}
 use Rattle.aho_core.specs.Patterns.{Patterns}
 
-shortest_bounds : (words : List (List ℕ)) (k : ℕ) → k < length words → shortest (map length words) ≤ length (slice_index_or words k [])
+-- the shortest word is no longer than any, and the longest no shorter
+pub shortest_bounds : (words : List (List ℕ)) (k : ℕ) → k < length words → shortest (map length words) ≤ length (slice_index_or words k [])
 shortest_bounds [] k within = absurd (omega (arith, within))
 shortest_bounds (w ∷ ws) zero within = omega arith
 shortest_bounds (w ∷ ws) (suc k) within = omega (arith, shortest_bounds ws k (omega arith))
 
-longest_bounds : (words : List (List ℕ)) (k : ℕ) → k < length words → length (slice_index_or words k []) ≤ longest (map length words)
+pub longest_bounds : (words : List (List ℕ)) (k : ℕ) → k < length words → length (slice_index_or words k []) ≤ longest (map length words)
 longest_bounds [] k within = absurd (omega (arith, within))
 longest_bounds (w ∷ ws) zero within = omega arith
 longest_bounds (w ∷ ws) (suc k) within = omega (arith, longest_bounds ws k (omega arith))

@@ -15,6 +15,7 @@ use aho_hybrid::hybrid::Hybrid;
 use aho_prefilter::prefilter::Prefilter;
 use aho_stream::chunks::StreamChunkIter;
 use aho_stream::finds::try_stream_find_iter;
+use aho_stream::start::StreamStart;
 use bench::callers::{automaton_of, prefilter_of};
 use bench::one_byte::OneByte;
 use bench::tally::Tally;
@@ -102,6 +103,26 @@ fn a_stream_is_searched_across_its_reads(rt: HostRuntime) -> Result<(), Fail> {
     let found = items(rt.alloc(), &nfa, &mut source)?;
     assert_same(&rt, found.as_slice(), worked_matches().as_slice());
     Ok(())
+}
+
+/// The worked stream is searched by a search that was begun before its source was there.
+fn finds_by_a_start<A: Automaton>(rt: &impl Abort, alloc: Global, automaton: &A) -> Result<(), Fail>
+    requires of { (p : Patterns) × A.is_of automaton.now p }
+{
+    let start = StreamStart::new(alloc, automaton)?;
+    let mut source = ScriptedSource::new(TEXT, ONE_BYTE);
+    let mut items = Vec::new(alloc);
+    for item in start.finds(&mut source).take(100) {
+        items.push(item.map(found_of))?;
+    }
+    assert_same(rt, items.as_slice(), worked_matches().as_slice());
+    Ok(())
+}
+
+#[test]
+fn a_start_searches_a_stream_that_comes_later(rt: HostRuntime) -> Result<(), Fail> {
+    let nfa = nfa_of(&rt, rt.alloc(), WORDS, MatchKind::Standard, false);
+    finds_by_a_start(&rt, rt.alloc(), &nfa)
 }
 
 /// All matches of the worked stream are collected, and its source is at its end.

@@ -28,7 +28,7 @@ loop-matches-preserved g c =
     let step = subst (λ (r : Option (Result Occurrence StreamError)). FindsNextInStream g.A.Automaton g.R.Source c.loop-matches.found.chunks c.next_of.new.found.chunks r) is c.next_of.ensures.gives in
     record {
       can_next = goes_on g.A.Automaton g.R.Source (λ automaton p of. (g.met.A.Automaton.laws automaton p of).lengths_are) _ _ _ inv.can_next step;
-      source = step.same_source ∙ inv.source;
+      source = step.call.same_source ∙ inv.source;
       yields = subst (λ (items : List Occurrence). Yields (find_steps g.A.Automaton g.R.Source) c.args.found.now (map found items) c.next_of.new.found) (sym c.in-Ok.ensures.items)
           (yields_more g.A.Automaton g.R.Source (λ automaton p of. (g.met.A.Automaton.laws automaton p of).lengths_are) c.args.found.now c.loop-matches.found c.next_of.new.found c.loop-matches.matches.items c.in-Some-Ok.m inv.yields step);
     }
