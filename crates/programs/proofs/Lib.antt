@@ -4,3 +4,5 @@ mod Lent
 mod Matches
 mod Pairs
 mod Replacings
+mod Ends
+mod Tellings
