@@ -17,9 +17,13 @@ abbrev pub line_before : Option ℕ → List ℕ
 line_before None = []
 line_before (Some line) = codes "line " ++ (decimal line ++ codes ": ")
 
+-- what stands before the cause
+abbrev pub head_by : List ℕ → Option (List ℕ) → Option ℕ → List ℕ
+head_by program name line = program ++ (codes ": " ++ (name_before name ++ line_before line))
+
 -- the line that a program writes
 abbrev pub message_by : List ℕ → Message → List ℕ
-message_by program m = program ++ (codes ": " ++ (name_before m.name ++ (line_before m.line ++ (m.cause ++ codes "\n"))))
+message_by program m = head_by program m.name m.line ++ (m.cause ++ codes "\n")
 
 -- why a call of the system failed, as it is told
 abbrev pub reason_text : Reason → List ℕ

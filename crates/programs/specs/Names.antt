@@ -1,5 +1,5 @@
 -- The names of files among the arguments.
-use Rattle.std.specs.Prelude.{ℕ, Bool, List, [], ◌∷◌, codes, map}
+use Rattle.std.specs.Prelude.{◌≡◌, ◌⊎◌, ℕ, Bool, List, [], ◌∷◌, codes, map}
 use Rattle.std.specs.Borrow.{Bor}
 use Rattle.std.specs.Str.{bytes_eq}
 
@@ -15,3 +15,8 @@ or_input (name ∷ names) = name ∷ names
 -- the bytes of each name
 abbrev pub name_bytes : List (Bor (List ℕ)) → List (List ℕ)
 name_bytes names = map (λ name. name.now) names
+
+-- a name is one of these
+abbrev pub IsAmong : List ℕ → List (List ℕ) → Type 0
+IsAmong name [] = ⊥
+IsAmong name (first ∷ names) = (name ≡ first) ⊎ IsAmong name names

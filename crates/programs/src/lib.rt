@@ -10,6 +10,7 @@ pub mod closed;
 pub mod command;
 pub mod errors;
 pub mod failure;
+pub mod parts;
 pub mod print;
 pub mod reason;
 mod replace;
