@@ -6,3 +6,4 @@ mod Pairs
 mod Replacings
 mod Ends
 mod Tellings
+mod Lines

@@ -99,6 +99,16 @@ module _ {E : Type 0} (K : SinkGhosts E) where
         only = of;
       }
 
+  -- nothing is written
+  pub tells-nothing : (e : Errors E) → TellsBytes K e e []
+  tells-nothing e = record {
+    begun = beginning-nothing (K.taken e.sink) [];
+    whole = λ going. Appends-nil (K.taken e.sink);
+    none_failed = λ going. record { failures = refl; empty_writes = refl };
+    one_failed = λ one going. let clash : true ≡ false = sym one ∙ going in absurd (cc);
+    ended = λ was. refl;
+  }
+
   -- where a write failed before nothing more is written
   pub tells-ended : (e : Errors E) (bytes : List ℕ) → e.failed ≡ true → TellsBytes K e e bytes
   tells-ended e bytes failed = record {

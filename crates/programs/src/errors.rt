@@ -37,6 +37,13 @@ impl<'c, E: Sink> Errors<'c, E> {
         }
     }
 
+    /// Whether a write has failed.
+    pub fn has_failed(&self) -> bool
+        ensures failed { result ≡ self.now.failed }
+    {
+        self.failed
+    }
+
     /// Writes these parts, one after another.
     pub fn write(&mut self, parts: &[&[u8]])
         ensures told { TellsBytes E.Sink self.old self.new (concat (pieces_of parts.now)) }
