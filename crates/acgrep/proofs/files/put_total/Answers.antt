@@ -9,17 +9,17 @@ use Rattle.acgrep.proofs.files.put_total.Goals as goal
 
 pub returns-in_err-put_asked-clause-begun : goal.returns-in_err-put_asked-clause-begun
 returns-in_err-put_asked-clause-begun g c =
-    let held = g.W.Write.contents c.args.output.now in
+    let held = g.W.Sink.taken c.args.output.now in
     total_none c.args.job.now c.args.selected held held (Keeps-refl held)
 
 pub returns-clause-begun : goal.returns-clause-begun
 returns-clause-begun g c =
-    total_begins c.args.job.now c.args.selected (g.W.Write.contents c.args.output.now) (g.W.Write.contents c.write_page.new.output)
-    c.clear.new.self.items c.put_asked.new.output.items c.as_slice.result.now c.clear.ensures.items c.as_slice.ensures.value c.in_ok-put_asked.ensures.written c.write_page.ensures.begun
+    total_begins c.args.job.now c.args.selected (g.W.Sink.taken c.args.output.now) (g.W.Sink.taken c.write_whole.new.output)
+    c.clear.new.self.items c.put_asked.new.output.items c.as_slice.result.now c.clear.ensures.items c.as_slice.ensures.value c.in_ok-put_asked.ensures.written c.write_whole.ensures.begun
 
 pub returns-clause-written : goal.returns-clause-written
 returns-clause-written g c =
     let total = total_if c.args.job.now.shown c.args.job.now.style c.args.selected in
     let same : c.as_slice.result.now ≡ total = total_bytes c.clear.new.self.items c.put_asked.new.output.items c.as_slice.result.now total
     c.clear.ensures.items c.as_slice.ensures.value c.in_ok-put_asked.ensures.written in
-    subst (λ (l : List ℕ). OnOk c.write_page.result (Appends (g.W.Write.contents c.args.output.now) (g.W.Write.contents c.write_page.new.output) l)) same c.write_page.ensures.written
+    subst (λ (l : List ℕ). OnOk c.write_whole.result (Appends (g.W.Sink.taken c.args.output.now) (g.W.Sink.taken c.write_whole.new.output) l)) same c.write_whole.ensures.written

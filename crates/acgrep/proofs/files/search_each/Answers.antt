@@ -1,7 +1,7 @@
 -- A file more was searched.
 use Rattle.std.proofs.Common.{◌≡◌, [], ◌∷◌, ◌-◌, ℕ, List, Bor, length, take, drop, subst, sym}
 use Rattle.std.proofs.Math.ListN.{get_or}
-use Rattle.acgrep.specs.Files.{names_of}
+use Rattle.programs.specs.Names.{name_bytes}
 use Rattle.std.proofs.KnownBytes.{Keeps-refl}
 use Rattle.acgrep.proofs.FilesBegun.{begun_none}
 use Rattle.acgrep.proofs.NamesSearched.{SoFar, ends_by, names_cut, so_far_end, so_far_start, so_far_step}
@@ -11,27 +11,27 @@ pub loop-rest-init : goal.loop-rest-init
 loop-rest-init g c = λ p is plain.
     let job = c.args.job.now in
     let holds = g.F.Open.holds c.args.files.now in
-    let names = names_of c.args.names.now in
+    let names = name_bytes c.args.names.now in
     let left = g.R.Read.remaining c.args.input.now in
-    let held = g.W.Write.contents c.args.output.now in
+    let held = g.W.Sink.taken c.args.output.now in
     subst (SoFar p job holds names left held names left held) (sym c.new-seen.ensures) (so_far_start p job holds names left held)
 
 pub loop-rest-preserved : goal.loop-rest-preserved
 loop-rest-preserved g c = λ p is plain.
     let job = c.args.job.now in
     let holds = g.F.Open.holds c.args.files.now in
-    let names = names_of c.args.names.now in
+    let names = name_bytes c.args.names.now in
     let begin = g.R.Read.remaining c.args.input.now in
-    let first = g.W.Write.contents c.args.output.now in
+    let first = g.W.Sink.taken c.args.output.now in
     let left = g.R.Read.remaining c.loop-rest.input in
     let left' = g.R.Read.remaining c.search_name-outcome.new.input in
-    let held = g.W.Write.contents c.loop-rest.output in
-    let held' = g.W.Write.contents c.search_name-outcome.new.output in
+    let held = g.W.Sink.taken c.loop-rest.output in
+    let held' = g.W.Sink.taken c.search_name-outcome.new.output in
     let rest = c.loop-rest.rest.now in
     let d : Bor (List ℕ) = record { ref_ptr = (0, 0); now = [] } in
     let name = (get_or rest 0 d).now in
-    let more = names_of (take (length rest - 1) (drop 1 rest)) in
-    let cut : names_of rest ≡ name ∷ more = names_cut rest d (c.goes_on.ensures.some c.loop-rest-test.true) in
+    let more = name_bytes (take (length rest - 1) (drop 1 rest)) in
+    let cut : name_bytes rest ≡ name ∷ more = names_cut rest d (c.goes_on.ensures.some c.loop-rest-test.true) in
     let so_far = subst (λ (l : List (List ℕ)). SoFar p job holds names begin first l left held c.loop-rest.seen) cut (c.loop-rest.invariant p is plain) in
     subst (SoFar p job holds names begin first more left' held') (sym c.after-seen.ensures)
     (so_far_step p job holds names begin first name more left left' held held' c.loop-rest.seen c.search_name-outcome.result
@@ -39,12 +39,12 @@ loop-rest-preserved g c = λ p is plain.
     (c.search_name-outcome.ensures.begun p is plain))
 
 pub returns-clause-searched : goal.returns-clause-searched
-returns-clause-searched g c = λ p is plain. so_far_end p c.args.job.now (g.F.Open.holds c.args.files.now) (names_of c.args.names.now)
-    (g.R.Read.remaining c.args.input.now) (g.W.Write.contents c.args.output.now) (names_of c.loop-rest.rest.now)
-    (g.R.Read.remaining c.loop-rest.input) (g.W.Write.contents c.loop-rest.output) c.loop-rest.seen (ends_by c.loop-rest.rest.now c.loop-rest.seen (c.goes_on.ensures.stops c.loop-rest-test.false)) (c.loop-rest.invariant p is plain)
+returns-clause-searched g c = λ p is plain. so_far_end p c.args.job.now (g.F.Open.holds c.args.files.now) (name_bytes c.args.names.now)
+    (g.R.Read.remaining c.args.input.now) (g.W.Sink.taken c.args.output.now) (name_bytes c.loop-rest.rest.now)
+    (g.R.Read.remaining c.loop-rest.input) (g.W.Sink.taken c.loop-rest.output) c.loop-rest.seen (ends_by c.loop-rest.rest.now c.loop-rest.seen (c.goes_on.ensures.stops c.loop-rest-test.false)) (c.loop-rest.invariant p is plain)
 
 pub returns-clause-begun : goal.returns-clause-begun
 returns-clause-begun g c = λ p is plain.
-    let held = g.W.Write.contents c.loop-rest.output in
+    let held = g.W.Sink.taken c.loop-rest.output in
     (c.loop-rest.invariant p is plain).begun held
-    (begun_none p c.args.job.now (g.F.Open.holds c.args.files.now) (names_of c.loop-rest.rest.now) (g.R.Read.remaining c.loop-rest.input) held held (Keeps-refl held))
+    (begun_none p c.args.job.now (g.F.Open.holds c.args.files.now) (name_bytes c.loop-rest.rest.now) (g.R.Read.remaining c.loop-rest.input) held held (Keeps-refl held))

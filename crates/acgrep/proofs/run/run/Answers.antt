@@ -1,7 +1,8 @@
 -- What was said was done, and a flush keeps what was written.
 use Rattle.std.proofs.Common.{◌≡◌, ◌<◌, ℕ, inl, inr, arith, subst, sym}
-use Rattle.acgrep.specs.Arguments.{Said, said, said_by, texts}
-use Rattle.acgrep.specs.Runs.{AsksToSearch, Begins, Searches}
+use Rattle.programs.specs.Arguments.{texts}
+use Rattle.acgrep.specs.Arguments.{Said, said, said_by}
+use Rattle.acgrep.specs.Runs.{AsksToSearch, BeginsSearch, Searches}
 use Rattle.acgrep.proofs.Kept.{begins_held, same_said, searches_kept}
 use Rattle.acgrep.proofs.run.run.Goals as goal
 
@@ -11,9 +12,9 @@ returns-in-Ok-clause-searches g c given is asks low =
     let terminal = c.args.terminal in
     let left = g.R.Read.remaining c.args.input.now in
     let left' = g.R.Read.remaining c.answer-status.new.input in
-    let held = g.W.Write.contents c.args.output.now in
-    let held' = g.W.Write.contents c.answer-status.new.output in
-    let held'' = g.W.Write.contents c.finish.new.output in
+    let held = g.W.Sink.taken c.args.output.now in
+    let held' = g.W.Sink.taken c.answer-status.new.output in
+    let held'' = g.W.Sink.taken c.finish.new.output in
     let same : said c.in-Ok.given ≡ given = same_said (said_by (texts c.args.arguments.now)) given (said c.in-Ok.given) is c.in-Ok.ensures.read in
     let status : c.finish.result ≡ c.answer-status.result = elim c.finish.ensures.status [ inl kept ↦ kept | inr two ↦ absurd (omega (arith, low, two)) ] in
     let done : Searches holds terminal (said c.in-Ok.given) left left' held held' c.answer-status.result =
@@ -28,13 +29,13 @@ returns-in-Ok-clause-begins g c given is asks =
     let holds = g.F.Open.holds c.args.files.now in
     let terminal = c.args.terminal in
     let left = g.R.Read.remaining c.args.input.now in
-    let held = g.W.Write.contents c.args.output.now in
-    let held' = g.W.Write.contents c.answer-status.new.output in
-    let held'' = g.W.Write.contents c.finish.new.output in
+    let held = g.W.Sink.taken c.args.output.now in
+    let held' = g.W.Sink.taken c.answer-status.new.output in
+    let held'' = g.W.Sink.taken c.finish.new.output in
     let same : said c.in-Ok.given ≡ given = same_said (said_by (texts c.args.arguments.now)) given (said c.in-Ok.given) is c.in-Ok.ensures.read in
-    let done : Begins holds terminal (said c.in-Ok.given) left held held' = c.answer-status.ensures.begins (subst (λ (s : Said). AsksToSearch s.flags) (sym same) asks) in
-    let kept : Begins holds terminal (said c.in-Ok.given) left held held'' = begins_held held' held'' c.finish.ensures.kept holds terminal _ _ _ left held done in
-    subst (λ (s : Said). Begins holds terminal s left held held'') same kept
+    let done : BeginsSearch holds terminal (said c.in-Ok.given) left held held' = c.answer-status.ensures.begins (subst (λ (s : Said). AsksToSearch s.flags) (sym same) asks) in
+    let kept : BeginsSearch holds terminal (said c.in-Ok.given) left held held'' = begins_held held' held'' c.finish.ensures.kept holds terminal _ _ _ left held done in
+    subst (λ (s : Said). BeginsSearch holds terminal s left held held'') same kept
 
 pub returns-in-Err-clause-begins : goal.returns-in-Err-clause-begins
 returns-in-Err-clause-begins g c given is asks = inl c.finish-in-Err.ensures.kept

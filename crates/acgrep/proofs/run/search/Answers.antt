@@ -5,7 +5,7 @@ use Rattle.std.proofs.lemmas.List.{length-map}
 use Rattle.aho_core.specs.Replacement.{pieces_of}
 use Rattle.acgrep.specs.Lines.{lines}
 use Rattle.acgrep.specs.Runs.{IsJob, selects_none}
-use Rattle.acgrep.specs.Searchers.{patterns_by}
+use Rattle.acgrep.specs.Searchers.{patterns_asked}
 use Rattle.acgrep.proofs.Unselected.{none_selected}
 use Rattle.acgrep.proofs.WordLists.{lines_plain}
 use Rattle.acgrep.proofs.run.search.Goals as goal
@@ -13,7 +13,7 @@ use Rattle.acgrep.proofs.run.search.Goals as goal
 pub search_by-requires : goal.search_by-requires
 search_by-requires g c =
     let flags = c.args.flags.now in
-    let asked = patterns_by flags.kind flags.ignore_case (pieces_of c.as_slice-words.result.now) in
+    let asked = patterns_asked flags.kind flags.ignore_case (pieces_of c.as_slice-words.result.now) in
     record { of = (asked, c.in-Ok-build.ensures.of asked refl (record { words_are = refl; rule = refl })) }
 
 pub returns-in-Ok-build-clause-searches : goal.returns-in-Ok-build-clause-searches
@@ -21,7 +21,7 @@ returns-in-Ok-build-clause-searches g c low =
     let flags = c.args.flags.now in
     let text = c.in-Some.keys.text.items in
     let same : pieces_of c.as_slice-words.result.now ≡ lines text = ap pieces_of c.as_slice-words.ensures.value ∙ c.in-Ok.ensures.lines ∙ ap lines c.as_slice.ensures.value in
-    let asked = patterns_by flags.kind flags.ignore_case (lines text) in
+    let asked = patterns_asked flags.kind flags.ignore_case (lines text) in
     let some : selects_none flags.invert (lines text) ≡ false = ap (selects_none flags.invert) (sym same) ∙ sym c.selects_none.ensures ∙ c.if-selects_none.false in
     record {
       words = lines text;
@@ -45,9 +45,9 @@ returns-then-selects_none-clause-searches g c low =
       between = g.R.Read.remaining c.read_keys.new.input;
       read = c.in-Some.ensures.words;
       searched = rw none (record {
-        passed = none_selected (patterns_by flags.kind flags.ignore_case (lines text)) flags.invert (lines text) refl none;
+        passed = none_selected (patterns_asked flags.kind flags.ignore_case (lines text)) flags.invert (lines text) refl none;
         unread = refl;
-        unwritten = Keeps-refl (g.W.Write.contents c.args.output.now);
+        unwritten = Keeps-refl (g.W.Sink.taken c.args.output.now);
         none = refl;
       });
     }
@@ -57,7 +57,7 @@ returns-in-Ok-build-clause-begins g c =
     let flags = c.args.flags.now in
     let text = c.in-Some.keys.text.items in
     let same : pieces_of c.as_slice-words.result.now ≡ lines text = ap pieces_of c.as_slice-words.ensures.value ∙ c.in-Ok.ensures.lines ∙ ap lines c.as_slice.ensures.value in
-    let asked = patterns_by flags.kind flags.ignore_case (lines text) in
+    let asked = patterns_asked flags.kind flags.ignore_case (lines text) in
     inr (record {
       words = lines text;
       between = g.R.Read.remaining c.read_keys.new.input;
@@ -68,13 +68,13 @@ returns-in-Ok-build-clause-begins g c =
     })
 
 pub returns-in_default-clause-begins : goal.returns-in_default-clause-begins
-returns-in_default-clause-begins g c = inl (Keeps-refl (g.W.Write.contents c.args.output.now))
+returns-in_default-clause-begins g c = inl (Keeps-refl (g.W.Sink.taken c.args.output.now))
 
 pub returns-in_default-lines_of-clause-begins : goal.returns-in_default-lines_of-clause-begins
-returns-in_default-lines_of-clause-begins g c = inl (Keeps-refl (g.W.Write.contents c.args.output.now))
+returns-in_default-lines_of-clause-begins g c = inl (Keeps-refl (g.W.Sink.taken c.args.output.now))
 
 pub returns-then-selects_none-clause-begins : goal.returns-then-selects_none-clause-begins
-returns-then-selects_none-clause-begins g c = inl (Keeps-refl (g.W.Write.contents c.args.output.now))
+returns-then-selects_none-clause-begins g c = inl (Keeps-refl (g.W.Sink.taken c.args.output.now))
 
 pub returns-clause-begins : goal.returns-clause-begins
-returns-clause-begins g c = inl (Keeps-refl (g.W.Write.contents c.args.output.now))
+returns-clause-begins g c = inl (Keeps-refl (g.W.Sink.taken c.args.output.now))

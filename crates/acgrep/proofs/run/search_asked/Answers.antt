@@ -4,4 +4,4 @@ use Rattle.std.proofs.KnownBytes.{Keeps-refl}
 use Rattle.acgrep.proofs.run.search_asked.Goals as goal
 
 pub returns-in-None-clause-begins : goal.returns-in-None-clause-begins
-returns-in-None-clause-begins g c = inl (Keeps-refl (g.W.Write.contents c.args.output.now))
+returns-in-None-clause-begins g c = inl (Keeps-refl (g.W.Sink.taken c.args.output.now))
