@@ -1,10 +1,10 @@
 //! A call of the program over its arguments and streams.
 
 ghost use Rattle.std.specs.Prelude.{◌≡◌, ◌≢◌, ◌≤◌, ◌⊎◌, true, None, Some, IfOk, IfErr, IfSome, OnOk, option_map};
-ghost use Rattle.programs.specs.Answers.{TellsFailure};
+ghost use Rattle.programs.specs.Answers.{TellsFailure, TellsLine};
 ghost use Rattle.programs.specs.Arguments.{texts};
 ghost use Rattle.programs.specs.Asked.{Asked, Builds, asked_for};
-ghost use Rattle.programs.specs.Failures.{line_of_failure, status_of_failure};
+ghost use Rattle.programs.specs.Failures.{status_of_failure};
 ghost use Rattle.programs.specs.Streams.{WritesBeginning, bytes_held};
 ghost use Rattle.programs.specs.declared.failure.Failure.TheVariants.{Usage};
 ghost use Rattle.acdraw.specs.Calls.{Draws, LeavesDrawing, drawing_by, draws_anchored, usage_line};
@@ -64,7 +64,7 @@ pub fn tell<E: Write>(failure: &Failure, errors: &mut FromWrite<E>) -> u8
     ensures usage { failure.now ≡ Usage
         → WritesBeginning E.Write errors.old errors.new usage_line }
     ensures other { failure.now ≢ Usage
-        → WritesBeginning E.Write errors.old errors.new (line_of_failure failure.now) }
+        → TellsLine E.Write errors.old errors.new failure.now }
 {
     match failure {
         Failure::Usage => {

@@ -12,7 +12,7 @@
 
 ghost use Rattle.std.specs.Prelude.{◌≡◌, ◌<◌, ◌≤◌, IfErr, OnErr, true};
 ghost use Rattle.std.specs.Process.{exit_status};
-ghost use Rattle.programs.specs.Answers.{BeginsLine, PrintsIfDone, WritesIfDone};
+ghost use Rattle.programs.specs.Answers.{PrintsIfDone, TellsLine, WritesIfDone};
 ghost use Rattle.programs.specs.Arguments.{IfGivenAsked, IfGivenReplacing, IfGivenWrong};
 ghost use Rattle.programs.specs.Failures.{HasStatus};
 ghost use Rattle.programs.specs.Streams.{contents, Unread, Unwritten};
@@ -53,7 +53,7 @@ fn exit_code<R: Read, W: Write, E: Write>(
 ) -> ExitCode
     // Where there are no arguments, the failure is told and nothing else is done.
     ensures faulty { IfErr given (HasStatus (exit_status result)) }
-    ensures told { IfErr given (BeginsLine E.Write errors.old errors.new) }
+    ensures told { IfErr given (TellsLine E.Write errors.old errors.new) }
     ensures unread { OnErr given (Unread input.old input.new) }
     ensures unwritten { OnErr given (Unwritten output.old output.new) }
 

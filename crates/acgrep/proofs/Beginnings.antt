@@ -5,7 +5,8 @@ use Rattle.std.specs.Io.KnownBytes.{Appends, Keeps}
 use Rattle.std.proofs.KnownBytes.{Appends-trans}
 use Rattle.aho_core.specs.Patterns.{Patterns}
 use Rattle.acgrep.specs.Lines.{lines}
-use Rattle.acgrep.specs.Written.{AppendsBeginning, BeginsLine, BeginsLines, EachLine, HasMatch, HasNone, IsSelected, SamePlace, SearchesTo, StartsNext, TellsLines, WritesLine, after_lines}
+use Rattle.aho_devices.specs.Counts.{AppendsBeginning}
+use Rattle.acgrep.specs.Written.{BeginsLine, BeginsLines, EachLine, HasMatch, HasNone, IsSelected, SamePlace, SearchesTo, StartsNext, TellsLines, WritesLine, after_lines}
 use Rattle.acgrep.specs.declared.print.Place.{Place}
 use Rattle.acgrep.specs.declared.select.Job.{Job}
 use Rattle.acgrep.specs.declared.select.State.{State}

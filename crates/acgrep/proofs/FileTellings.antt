@@ -9,7 +9,7 @@ use Rattle.acgrep.specs.Files.{EndsFile, IfSearched, IsAny, IsRead, SearchesFile
 use Rattle.acgrep.specs.Lines.{lines}
 use Rattle.acgrep.specs.Printed.{file_line}
 use Rattle.acgrep.specs.Streamed.{SearchesStream, course}
-use Rattle.acgrep.specs.Written.{EachLine, IsPassed, IsSelected, ShowsBy, Tells, at_begin, needs_one, one_more, place_at}
+use Rattle.acgrep.specs.Written.{EachLine, IsPassedOver, IsSelected, ShowsBy, TellsOfLines, at_begin, needs_one, one_more, place_behind}
 use Rattle.acgrep.specs.declared.files.Outcome.{Outcome}
 use Rattle.acgrep.specs.declared.files.Outcome.TheVariants.{Searched, Unread, Stopped}
 use Rattle.acgrep.specs.declared.options.Shown.{Shown}
@@ -46,7 +46,7 @@ text_behind (Some all) None bytes read = absurd read
 text_behind (Some all) (Some rest) bytes read = (rest, sym read, λ end. end)
 
 module _ (p : Patterns) (job : Job) where
-  tells_none : (ls : List (List ℕ)) (place : Place) (count : ℕ) (bytes : List ℕ) (total : ℕ) → needs_one job.shown ≡ true → Tells p job place count ls bytes total → bytes ≡ []
+  tells_none : (ls : List (List ℕ)) (place : Place) (count : ℕ) (bytes : List ℕ) (total : ℕ) → needs_one job.shown ≡ true → TellsOfLines p job place count ls bytes total → bytes ≡ []
   tells_none [] place count bytes total one told = told.0
   tells_none (line ∷ rest) place count bytes total one (inl (selected, (shown, more, shows, behind, is))) =
       is ∙ ap (λ (l : List ℕ). l ++ more) (shows_none p job.shown job.invert job.style place line shown one shows)
@@ -54,29 +54,29 @@ module _ (p : Patterns) (job : Job) where
   tells_none (line ∷ rest) place count bytes total one (inr (passed, behind)) = tells_none rest _ count bytes total one behind
 
   -- the count only grows
-  tells_positive : (ls : List (List ℕ)) (place : Place) (count : ℕ) (bytes : List ℕ) (total : ℕ) → Tells p job place count ls bytes total → 0 < count → 0 < total
+  tells_positive : (ls : List (List ℕ)) (place : Place) (count : ℕ) (bytes : List ℕ) (total : ℕ) → TellsOfLines p job place count ls bytes total → 0 < count → 0 < total
   tells_positive [] place count bytes total told some = omega (arith, told.1, some)
   tells_positive (line ∷ rest) place count bytes total (inl (selected, (shown, more, shows, behind, is))) some =
       tells_positive rest _ (one_more count) more total behind (more_positive count)
   tells_positive (line ∷ rest) place count bytes total (inr (passed, behind)) some = tells_positive rest _ count bytes total behind some
 
   -- where it is not 0 a line is selected
-  tells_some : (ls : List (List ℕ)) (place : Place) (count : ℕ) (bytes : List ℕ) (total : ℕ) → Tells p job place count ls bytes total → count ≡ 0 → 0 < total
+  tells_some : (ls : List (List ℕ)) (place : Place) (count : ℕ) (bytes : List ℕ) (total : ℕ) → TellsOfLines p job place count ls bytes total → count ≡ 0 → 0 < total
       → SomeLine (IsSelected p job.invert) ls
   tells_some [] place count bytes total told zero some = absurd (omega (arith, told.1, zero, some))
   tells_some (line ∷ rest) place count bytes total (inl (selected, told)) zero some = inl selected
   tells_some (line ∷ rest) place count bytes total (inr (passed, behind)) zero some = inr (tells_some rest _ count bytes total behind zero some)
 
   -- and where it is, none
-  tells_each : (ls : List (List ℕ)) (place : Place) (count : ℕ) (bytes : List ℕ) (total : ℕ) → Tells p job place count ls bytes total → total ≡ 0
-      → EachLine (IsPassed p job.invert) ls
+  tells_each : (ls : List (List ℕ)) (place : Place) (count : ℕ) (bytes : List ℕ) (total : ℕ) → TellsOfLines p job place count ls bytes total → total ≡ 0
+      → EachLine (IsPassedOver p job.invert) ls
   tells_each [] place count bytes total told zero = tt
   tells_each (line ∷ rest) place count bytes total (inl (selected, (shown, more, shows, behind, is))) zero =
       absurd (omega (arith, zero, tells_positive rest _ (one_more count) more total behind (more_positive count)))
   tells_each (line ∷ rest) place count bytes total (inr (passed, behind)) zero = (passed, tells_each rest _ count bytes total behind zero)
 
   -- whether one is selected
-  tells_any : (ls : List (List ℕ)) (place : Place) (bytes : List ℕ) (total : ℕ) → Tells p job place 0 ls bytes total → IsAny p job.invert ls (nat_lt 0 total)
+  tells_any : (ls : List (List ℕ)) (place : Place) (bytes : List ℕ) (total : ℕ) → TellsOfLines p job place 0 ls bytes total → IsAny p job.invert ls (nat_lt 0 total)
   tells_any ls place bytes total told =
       elim (cases_Bool (nat_lt 0 total)) [
         | inl some ↦ rw some (tells_some ls place 0 bytes total told refl (ltb-true 0 total some))
@@ -84,16 +84,16 @@ module _ (p : Patterns) (job : Job) where
       ]
 
   -- what is written of a whole text
-  by_whole : (shown : Shown) → shown ≡ job.shown → (text told : List ℕ) (count : ℕ) → Tells p job (place_at 0 job.first) 0 (lines text) told count
+  by_whole : (shown : Shown) → shown ≡ job.shown → (text told : List ℕ) (count : ℕ) → TellsOfLines p job (place_behind 0 job.first) 0 (lines text) told count
       → TellsBy p job shown text (nat_lt 0 count) (told ++ total_if shown job.style count)
   by_whole Lines is text told count tells = (told, count, tells, ap (λ (shown : Shown). told ++ count_if shown job.style count) is)
   by_whole Matches is text told count tells = (told, count, tells, ap (λ (shown : Shown). told ++ count_if shown job.style count) is)
   by_whole Objects is text told count tells = (told, count, tells, ap (λ (shown : Shown). told ++ count_if shown job.style count) is)
   by_whole Count is text told count tells = (told, count, tells, ap (λ (shown : Shown). told ++ count_if shown job.style count) is)
   by_whole Names is text told count tells =
-      ap (λ (l : List ℕ). l ++ total_if Names job.style count) (tells_none (lines text) (place_at 0 job.first) 0 told count (ap needs_one (sym is)) tells)
+      ap (λ (l : List ℕ). l ++ total_if Names job.style count) (tells_none (lines text) (place_behind 0 job.first) 0 told count (ap needs_one (sym is)) tells)
   by_whole Nothing is text told count tells =
-      ap (λ (l : List ℕ). l ++ []) (tells_none (lines text) (place_at 0 job.first) 0 told count (ap needs_one (sym is)) tells)
+      ap (λ (l : List ℕ). l ++ []) (tells_none (lines text) (place_behind 0 job.first) 0 told count (ap needs_one (sym is)) tells)
 
   -- and where one selected line told all
   by_front : (shown : Shown) (text : List ℕ) (count : ℕ) → needs_one shown ≡ true → 0 < count → TellsBy p job shown text true (total_if shown job.style count)
@@ -108,14 +108,14 @@ module _ (p : Patterns) (job : Job) where
 
   -- all of a text was searched
   file_whole : (state : State) (known held meanwhile held' : Option (List ℕ)) (text told : List ℕ) → IfSome known (λ (all : List ℕ). text ≡ all)
-      → Tells p job (place_at 0 job.first) 0 (lines text) told state.selected → Appends held meanwhile told → (any : Bool) → EndsFile job state.selected meanwhile held' any
+      → TellsOfLines p job (place_behind 0 job.first) 0 (lines text) told state.selected → Appends held meanwhile told → (any : Bool) → EndsFile job state.selected meanwhile held' any
       → SearchesFile p job known held held' any
   file_whole state known held meanwhile held' text told of tells written any ends =
       let count = state.selected in
       record {
         text = text;
         of = of;
-        selected = subst (IsAny p job.invert (lines text)) (sym ends.is_any) (tells_any (lines text) (place_at 0 job.first) told count tells);
+        selected = subst (IsAny p job.invert (lines text)) (sym ends.is_any) (tells_any (lines text) (place_behind 0 job.first) told count tells);
         bytes = told ++ total_if job.shown job.style count;
         tells = subst (λ (any : Bool). TellsBy p job job.shown text any (told ++ total_if job.shown job.style count)) (sym ends.is_any) (by_whole job.shown refl text told count tells);
         written = Appends-trans held meanwhile held' told (total_if job.shown job.style count) written ends.written;
@@ -123,16 +123,16 @@ module _ (p : Patterns) (job : Job) where
 
   -- a line was selected that told all
   file_front : (state : State) (known held meanwhile held' : Option (List ℕ)) (text told : List ℕ) (ls : List (List ℕ)) → IfSome known (λ (all : List ℕ). text ≡ all)
-      → Tells p job (place_at 0 job.first) 0 ls told state.selected → needs_one job.shown ≡ true → 0 < state.selected → (SomeLine (IsSelected p job.invert) ls → SomeLine (IsSelected p job.invert) (lines text))
+      → TellsOfLines p job (place_behind 0 job.first) 0 ls told state.selected → needs_one job.shown ≡ true → 0 < state.selected → (SomeLine (IsSelected p job.invert) ls → SomeLine (IsSelected p job.invert) (lines text))
       → Appends held meanwhile told → (any : Bool) → EndsFile job state.selected meanwhile held' any → SearchesFile p job known held held' any × (any ≡ true)
   file_front state known held meanwhile held' text told ls of tells one some front written any ends =
       let count = state.selected in
       let is : any ≡ true = ends.is_any ∙ lt-ltb 0 count some in
-      let none : told ≡ [] = tells_none ls (place_at 0 job.first) 0 told count one tells in (
+      let none : told ≡ [] = tells_none ls (place_behind 0 job.first) 0 told count one tells in (
         record {
           text = text;
           of = of;
-          selected = subst (IsAny p job.invert (lines text)) (sym is) (front (tells_some ls (place_at 0 job.first) 0 told count tells refl some));
+          selected = subst (IsAny p job.invert (lines text)) (sym is) (front (tells_some ls (place_behind 0 job.first) 0 told count tells refl some));
           bytes = total_if job.shown job.style count;
           tells = subst (λ (any : Bool). TellsBy p job job.shown text any (total_if job.shown job.style count)) (sym is) (by_front job.shown text count one some);
           written = subst (λ (l : List ℕ). Appends held held' (l ++ total_if job.shown job.style count)) none
@@ -159,7 +159,7 @@ module _ (p : Patterns) (job : Job) where
                   let same : lines text ≡ to.searched = ap lines all ∙ to.cut ∙ ap (λ (l : List ℕ). to.searched ++ lines l) whole ∙ append-nil to.searched in
                   record {
                     file = file_whole state left held meanwhile held' text tells.bytes known
-                        (subst (λ (ls : List (List ℕ)). Tells p job (place_at 0 job.first) 0 ls tells.bytes state.selected) (sym same) tells.told) tells.written any ends;
+                        (subst (λ (ls : List (List ℕ)). TellsOfLines p job (place_behind 0 job.first) 0 ls tells.bytes state.selected) (sym same) tells.told) tells.written any ends;
                     reads = read any;
                   }
               | inr (one, some) ↦

@@ -3,10 +3,11 @@ use Rattle.std.proofs.Common.{◌≡◌, inl, inr, ◌⊎◌, ℕ, Bool, List, [
 use Rattle.std.specs.Io.KnownBytes.{Appends, Keeps}
 use Rattle.std.proofs.KnownBytes.{Appends-trans, Keeps-trans}
 use Rattle.aho_core.specs.Patterns.{Patterns}
-use Rattle.acgrep.specs.Files.{AreBegun, BeginsFile, BeginsTotal, IfBroken, total_if}
+use Rattle.acgrep.specs.Files.{AreFilesBegun, BeginsFile, BeginsTotal, IfBroken, total_if}
 use Rattle.acgrep.specs.Lines.{lines}
 use Rattle.acgrep.specs.Streamed.{BeginsStream, course}
-use Rattle.acgrep.specs.Written.{AppendsBeginning, ShowsBy, StartsNext, after_lines, at_begin, place_at}
+use Rattle.aho_devices.specs.Counts.{AppendsBeginning}
+use Rattle.acgrep.specs.Written.{ShowsBy, StartsNext, after_lines, at_begin, place_behind}
 use Rattle.acgrep.specs.declared.files.Outcome.{Outcome}
 use Rattle.acgrep.specs.declared.files.Outcome.TheVariants.{Searched, Unread, Stopped}
 use Rattle.acgrep.specs.declared.options.Shown.{Shown}
@@ -85,7 +86,7 @@ module _ (p : Patterns) (job : Job) where
       let (more, known, none) = text_behind left left' (stream.searched ++ stream.rest) stream.consumed in
       let text = (stream.searched ++ stream.rest) ++ more in
       let begins = stream.begins in
-      let start = after_lines (place_at 0 job.first) begins.first in
+      let start = after_lines (place_behind 0 job.first) begins.first in
       let (others, cut) : (others : List (List ℕ)) × (lines text ≡ lines stream.searched ++ others) =
       elim stream.ends [
         | inl whole ↦ (lines (stream.rest ++ more), ap lines (append_assoc stream.searched stream.rest more) ∙ lines_append stream.searched (stream.rest ++ more) whole)
@@ -152,7 +153,7 @@ module _ (p : Patterns) (job : Job) where
     count = 0;
     tells = (refl, refl);
     begun = [];
-    starts = inl (starts_none p job (place_at 0 job.first) (lines bytes));
+    starts = inl (starts_none p job (place_behind 0 job.first) (lines bytes));
     written = keeps_nil held held' keeps;
   }
 
@@ -179,13 +180,13 @@ file_known p job known known' held held' keeps begins = record {
 
 module _ (p : Patterns) (job : Job) (holds : List ℕ → Option (List ℕ)) where
   -- nothing is written
-  pub begun_none : (names : List (List ℕ)) (left held held' : Option (List ℕ)) → Keeps held held' → AreBegun p job holds names left held held'
+  pub begun_none : (names : List (List ℕ)) (left held held' : Option (List ℕ)) → Keeps held held' → AreFilesBegun p job holds names left held held'
   begun_none [] left held held' keeps = keeps
   begun_none (name ∷ names) left held held' keeps = inl keeps
 
   -- the output keeps what it holds
-  pub begun_kept : (held' held'' : Option (List ℕ)) → Keeps held' held'' → (names : List (List ℕ)) (left held : Option (List ℕ)) → AreBegun p job holds names left held held'
-      → AreBegun p job holds names left held held''
+  pub begun_kept : (held' held'' : Option (List ℕ)) → Keeps held' held'' → (names : List (List ℕ)) (left held : Option (List ℕ)) → AreFilesBegun p job holds names left held held'
+      → AreFilesBegun p job holds names left held held''
   begun_kept held' held'' kept [] left held begun = Keeps-trans held held' held'' begun kept
   begun_kept held' held'' kept (name ∷ names) left held (inl keeps) = inl (Keeps-trans held held' held'' keeps kept)
   begun_kept held' held'' kept (name ∷ names) left held (inr (between, meanwhile, leaves, one, more)) =

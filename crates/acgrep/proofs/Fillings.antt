@@ -3,7 +3,7 @@ use Rattle.std.proofs.Common.{◌≡◌, ℕ, ◌+◌, ◌-◌, ◌≤◌, ◌<�
 use Rattle.std.specs.Io.KnownBytes.{Consumes, IsAtEnd}
 use Rattle.std.proofs.Math.Seq.{take-append-add}
 use Rattle.std.proofs.lemmas.List.{length-drop, length-take-le, take-append-le, take-take}
-use Rattle.acgrep.specs.Filled.{Fills}
+use Rattle.acgrep.specs.Filled.{FillsBehind}
 
 filled : (held count len : ℕ) (items shown read post tail : List ℕ) → shown ≡ items → held ≤ length shown → count ≤ length read → held + count ≤ len
     → take (held + count) (take len ((take held shown ++ (read ++ post)) ++ tail)) ≡ take held items ++ take count read
@@ -22,7 +22,7 @@ filled held count len items shown read post tail same within came room =
 pub room_filled : (held count len : ℕ) (items shown read post tail : List ℕ) (left left' : Option (List ℕ)) → shown ≡ items → length shown ≡ len → held < len
     → length read ≡ length (take (length shown - held) (drop held shown)) → count ≤ length read
     → Consumes left left' (take count read) → (count ≡ 0 → 0 < length read → IsAtEnd left')
-    → Fills (take held items) (take (held + count) (take len ((take held shown ++ (read ++ post)) ++ tail))) left left' count
+    → FillsBehind (take held items) (take (held + count) (take len ((take held shown ++ (read ++ post)) ++ tail))) left left' count
 room_filled held count len items shown read post tail left left' same size low free came consumed ended =
     let rest : length (drop held shown) ≡ length shown - held = length-drop held shown in
     let room : length read ≡ length shown - held = free ∙ length-take-le (length shown - held) (drop held shown) (omega (arith, rest)) in

@@ -6,16 +6,17 @@ use Rattle.std.proofs.KnownBytes.{Keeps-trans}
 use Rattle.std.proofs.lemmas.Bool.{cases_Bool}
 use Rattle.aho_core.specs.Patterns.{Patterns}
 use Rattle.acgrep.specs.Arguments.{Origin, Said}
-use Rattle.acgrep.specs.Files.{AreSearched, AreSearchedOr, is_enough, or_input}
-use Rattle.acgrep.specs.Runs.{BeginsFor, FindsNone, SearchesFor, SearchesWords, selects_none}
-use Rattle.acgrep.specs.Searchers.{patterns_by}
+use Rattle.programs.specs.Names.{or_input}
+use Rattle.acgrep.specs.Files.{AreFilesSearched, AreSearchedOr, is_enough}
+use Rattle.acgrep.specs.Runs.{BeginsFor, SelectsNoLine, SearchesFor, SearchesWords, selects_none}
+use Rattle.acgrep.specs.Searchers.{patterns_asked}
 use Rattle.acgrep.specs.declared.options.Flags.{Flags}
 use Rattle.acgrep.specs.declared.select.Job.{Job}
 use Rattle.acgrep.proofs.FilesBegun.{begun_kept}
 
 module _ (held' held'' : Option (List ℕ)) (kept : Keeps held' held'') where
   searched_kept : (p : Patterns) (job : Job) (holds : List ℕ → Option (List ℕ)) (names : List (List ℕ)) (left left' held : Option (List ℕ)) (any : Bool)
-      → AreSearched p job holds names left left' held held' any → AreSearched p job holds names left left' held held'' any
+      → AreFilesSearched p job holds names left left' held held' any → AreFilesSearched p job holds names left left' held held'' any
   searched_kept p job holds [] left left' held any are = (are.0, Keeps-trans held held' held'' are.1 kept, are.2)
   searched_kept p job holds (name ∷ names) left left' held any (between, meanwhile, first, one, more) = (
     between,
@@ -41,8 +42,8 @@ module _ (held' held'' : Option (List ℕ)) (kept : Keeps held' held'') where
   pub searches_kept : (holds : List ℕ → Option (List ℕ)) (terminal : Bool) (flags : Flags) (sources : List Origin) (names : List (List ℕ)) (left left' held : Option (List ℕ)) (status : ℕ)
       → SearchesFor holds terminal flags sources names left left' held held' status → SearchesFor holds terminal flags sources names left left' held held'' status
   searches_kept holds terminal flags sources names left left' held status done =
-      let p = patterns_by flags.kind flags.ignore_case done.words in
-      let Passed = FindsNone p flags.invert done.between left' held held' status in
+      let p = patterns_asked flags.kind flags.ignore_case done.words in
+      let Passed = SelectsNoLine p flags.invert done.between left' held held' status in
       let Found = SearchesWords holds terminal flags done.words names done.between left' held held' status in
       record {
         words = done.words;
@@ -69,7 +70,7 @@ module _ (held' held'' : Option (List ℕ)) (kept : Keeps held' held'') where
     read = begins.read;
     job = begins.job;
     is_job = begins.is_job;
-    begun = begun_kept (patterns_by flags.kind flags.ignore_case begins.words) begins.job holds held' held'' kept (or_input names) begins.between held begins.begun;
+    begun = begun_kept (patterns_asked flags.kind flags.ignore_case begins.words) begins.job holds held' held'' kept (or_input names) begins.between held begins.begun;
   })
 
 -- what was said is one thing alone

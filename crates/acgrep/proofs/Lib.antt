@@ -16,3 +16,4 @@ pub mod StreamsBegun
 pub mod Tellings
 pub mod Unselected
 pub mod WordLists
+mod Told

@@ -6,7 +6,9 @@ use Rattle.std.proofs.Math.ListN.{get_or}
 use Rattle.std.proofs.lemmas.Bool.{cases_Bool}
 use Rattle.std.proofs.lemmas.List.{take_all}
 use Rattle.aho_core.specs.Patterns.{Patterns}
-use Rattle.acgrep.specs.Files.{AreBegun, AreSearched, AreSearchedOr, BeginsName, HasSelected, IfBroken, IfSearched, IsAny, LeavesInput, OneIsSelected, SearchesName, SearchesNames, is_enough, known_of, names_of, nothing_seen, or_input, seen_after, status_by, status_of}
+use Rattle.programs.specs.Names.{name_bytes, or_input}
+use Rattle.programs.specs.Answers.{status_of}
+use Rattle.acgrep.specs.Files.{AreFilesBegun, AreFilesSearched, AreSearchedOr, BeginsName, HasSelected, IfBroken, IfSearched, IsAny, LeavesInput, OneIsSelected, SearchesName, SearchesNames, is_enough, known_of, nothing_seen, seen_after, status_by}
 use Rattle.acgrep.specs.Lines.{lines}
 use Rattle.acgrep.specs.declared.files.Outcome.{Outcome}
 use Rattle.acgrep.specs.declared.files.Outcome.TheVariants.{Searched, Unread, Stopped}
@@ -28,7 +30,7 @@ or_both true b c = refl
 or_both false b c = refl
 
 -- a selected line is enough only under `-q`
-enough_only : (shown : Shown) (any : Bool) → is_enough shown any ≡ true → (shown ≡ Nothing) × (any ≡ true)
+pub enough_only : (shown : Shown) (any : Bool) → is_enough shown any ≡ true → (shown ≡ Nothing) × (any ≡ true)
 enough_only Lines any is = absurd (cc)
 enough_only Matches any is = absurd (cc)
 enough_only Objects any is = absurd (cc)
@@ -48,12 +50,12 @@ status_clean Nothing false = refl
 module _ (p : Patterns) (job : Job) (holds : List ℕ → Option (List ℕ)) (names : List (List ℕ)) (begin held₀ : Option (List ℕ)) where
   -- the files before those of `rest` were searched
   pub record SoFar (rest : List (List ℕ)) (left held : Option (List ℕ)) (seen : Seen) : Type 0 where
-    pub ended : seen.failed ≡ false → seen.ended ≡ true → AreSearched p job holds names begin left held₀ held true × (seen.selected ≡ true)
-    pub on : seen.failed ≡ false → seen.ended ≡ false → (left' held' : Option (List ℕ)) (any : Bool) → AreSearched p job holds rest left left' held held' any
-        → AreSearched p job holds names begin left' held₀ held' (seen.selected || any)
+    pub ended : seen.failed ≡ false → seen.ended ≡ true → AreFilesSearched p job holds names begin left held₀ held true × (seen.selected ≡ true)
+    pub on : seen.failed ≡ false → seen.ended ≡ false → (left' held' : Option (List ℕ)) (any : Bool) → AreFilesSearched p job holds rest left left' held held' any
+        → AreFilesSearched p job holds names begin left' held₀ held' (seen.selected || any)
     pub finds : OneIsSelected p job holds rest left → OneIsSelected p job holds names begin
     pub found : job.shown ≡ Nothing → seen.selected ≡ true → OneIsSelected p job holds names begin
-    pub begun : (held' : Option (List ℕ)) → AreBegun p job holds rest left held held' → AreBegun p job holds names begin held₀ held'
+    pub begun : (held' : Option (List ℕ)) → AreFilesBegun p job holds rest left held held' → AreFilesBegun p job holds names begin held₀ held'
 
   -- in a file that was searched
   name_has : (name : List ℕ) (left left' held held' : Option (List ℕ)) → SearchesName p job holds name left left' held held' true → HasSelected p job (known_of holds name left)
@@ -68,13 +70,13 @@ module _ (p : Patterns) (job : Job) (holds : List ℕ → Option (List ℕ)) (na
     ended = λ clean ends.
         let enough : is_enough job.shown first ≡ true = subst (λ (b : Bool). (b || is_enough job.shown first) ≡ true) goes ends in
         let only = enough_only job.shown first enough in (
-          subst (AreSearched p job holds names begin left' held₀ held') (or_true seen.selected)
+          subst (AreFilesSearched p job holds names begin left' held₀ held') (or_true seen.selected)
               (so_far.on clean goes left' held' true (left', held', first, searched, rw enough (refl, Keeps-refl held', refl))),
           ap (λ (b : Bool). seen.selected || b) only.1 ∙ or_true seen.selected,
         );
     on = λ clean next left'' held'' others more.
         let enough : is_enough job.shown first ≡ false = subst (λ (b : Bool). (b || is_enough job.shown first) ≡ false) goes next in
-        subst (AreSearched p job holds names begin left'' held₀ held'') (or_both seen.selected first others)
+        subst (AreFilesSearched p job holds names begin left'' held₀ held'') (or_both seen.selected first others)
         (so_far.on clean goes left'' held'' (first || others) (left', held', first, searched, rw enough (others, more, refl)));
     finds = λ one. so_far.finds (inr (left', leaves, one));
     found = λ quiet is.
@@ -107,11 +109,11 @@ module _ (p : Patterns) (job : Job) (holds : List ℕ → Option (List ℕ)) (na
   so_far_end rest left held seen ends so_far = record {
     searched = λ clean.
         elim (cases_Bool seen.ended) [
-          | inl is ↦ let (all, selected) = so_far.ended clean is in subst (AreSearched p job holds names begin left held₀ held) (sym selected) all
+          | inl is ↦ let (all, selected) = so_far.ended clean is in subst (AreFilesSearched p job holds names begin left held₀ held) (sym selected) all
           | inr goes ↦
               let none : rest ≡ [] = elim ends [ inl none ↦ none | inr is ↦ absurd (cc) ] in
-              subst (AreSearched p job holds names begin left held₀ held) (or_false seen.selected)
-              (so_far.on clean goes left held false (subst (λ (l : List (List ℕ)). AreSearched p job holds l left left held held false) (sym none) (refl, Keeps-refl held, refl)))
+              subst (AreFilesSearched p job holds names begin left held₀ held) (or_false seen.selected)
+              (so_far.on clean goes left held false (subst (λ (l : List (List ℕ)). AreFilesSearched p job holds l left left held held false) (sym none) (refl, Keeps-refl held, refl)))
         ];
     found = so_far.found;
   }
@@ -142,22 +144,22 @@ status_searched p job holds names left left' held held' seen names_are low =
     ]
 
 -- the first of some names, and those behind it
-pub names_cut : (names : List (Bor (List ℕ))) (d : Bor (List ℕ)) → 0 < length names → names_of names ≡ (get_or names 0 d).now ∷ names_of (take (length names - 1) (drop 1 names))
+pub names_cut : (names : List (Bor (List ℕ))) (d : Bor (List ℕ)) → 0 < length names → name_bytes names ≡ (get_or names 0 d).now ∷ name_bytes (take (length names - 1) (drop 1 names))
 names_cut [] d some = absurd (omega (arith, some))
 names_cut (name ∷ []) d some = refl
 names_cut (name ∷ next ∷ rest) d some =
-    ap (λ (l : List (Bor (List ℕ))). name.now ∷ names_of l) (sym (take_all (length (name ∷ next ∷ rest) - 1) (next ∷ rest) (omega arith)))
+    ap (λ (l : List (Bor (List ℕ))). name.now ∷ name_bytes l) (sym (take_all (length (name ∷ next ∷ rest) - 1) (next ∷ rest) (omega arith)))
 
 -- where no name is left, none of their bytes are
-pub ends_by : (rest : List (Bor (List ℕ))) (seen : Seen) → (rest ≡ []) ⊎ (seen.ended ≡ true) → (names_of rest ≡ []) ⊎ (seen.ended ≡ true)
-ends_by rest seen (inl none) = inl (ap names_of none)
+pub ends_by : (rest : List (Bor (List ℕ))) (seen : Seen) → (rest ≡ []) ⊎ (seen.ended ≡ true) → (name_bytes rest ≡ []) ⊎ (seen.ended ≡ true)
+ends_by rest seen (inl none) = inl (ap name_bytes none)
 ends_by rest seen (inr ended) = inr ended
 
 -- standard input is searched where no file is named
-pub input_alone : (names : List (Bor (List ℕ))) → length names ≡ 0 → or_input (names_of names) ≡ codes "-" ∷ []
+pub input_alone : (names : List (Bor (List ℕ))) → length names ≡ 0 → or_input (name_bytes names) ≡ codes "-" ∷ []
 input_alone [] none = refl
 input_alone (name ∷ names) none = absurd (omega (arith, none))
 
-pub names_asked : (names : List (Bor (List ℕ))) → 0 < length names → or_input (names_of names) ≡ names_of names
+pub names_asked : (names : List (Bor (List ℕ))) → 0 < length names → or_input (name_bytes names) ≡ name_bytes names
 names_asked [] some = absurd (omega (arith, some))
 names_asked (name ∷ names) some = refl

@@ -6,24 +6,24 @@ use Rattle.std.proofs.KnownBytes.{Appends-trans}
 use Rattle.std.proofs.lemmas.Bool.{ne_eqb}
 use Rattle.std.proofs.lemmas.List.Concat.{flat_map-append}
 use Rattle.aho_core.specs.Occurrence.{Occurrence}
-use Rattle.acgrep.specs.Objects.{escaped, number_named, object_by, objects_by}
-use Rattle.acgrep.specs.Printed.{number_at, offset_at}
+use Rattle.acgrep.specs.Objects.{json_escaped, number_named, object_by, objects_by}
+use Rattle.acgrep.specs.Printed.{line_number_at, offset_at}
 use Rattle.acgrep.specs.declared.print.Place.{Place}
 use Rattle.acgrep.specs.declared.print.Style.{Style}
 
 -- the object of a match of this range and number
 abbrev object_at : Style → Place → ℕ → ℕ → ℕ → List ℕ
 object_at style place start end number =
-    codes "{\"file\":\"" ++ (escaped style.name.now ++ (codes "\""
-    ++ (number_named (codes "line") (number_at place)
+    codes "{\"file\":\"" ++ (json_escaped style.name.now ++ (codes "\""
+    ++ (number_named (codes "line") (line_number_at place)
     ++ (number_named (codes "start") (offset_at place start)
     ++ (number_named (codes "end") (offset_at place end)
     ++ (number_named (codes "pattern") number ++ codes "}\n"))))))
 
 -- its parts, one after another
 pub object_one : (style : Style) (place : Place) (m : Occurrence) (start end number : ℕ) → start ≡ m.start → end ≡ m.end → number ≡ m.pattern → (start ≡ end → ⊥)
-    → (s t u v w x y z : Option (List ℕ)) → Appends s t (codes "{\"file\":\"") → Appends t u (escaped style.name.now)
-    → Appends u v (codes "\",\"line\":" ++ decimal (number_at place)) → Appends v w (codes ",\"start\":" ++ decimal (offset_at place start))
+    → (s t u v w x y z : Option (List ℕ)) → Appends s t (codes "{\"file\":\"") → Appends t u (json_escaped style.name.now)
+    → Appends u v (codes "\",\"line\":" ++ decimal (line_number_at place)) → Appends v w (codes ",\"start\":" ++ decimal (offset_at place start))
     → Appends w x (codes ",\"end\":" ++ decimal (offset_at place end)) → Appends x y (codes ",\"pattern\":" ++ decimal number)
     → Appends y z (codes "}\n") → Appends s z (object_by style place m)
 object_one style place m start end number starts ends numbers some s t u v w x y z opens name line first behind pattern closes =

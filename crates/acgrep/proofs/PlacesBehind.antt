@@ -5,7 +5,7 @@ use Rattle.std.proofs.Math.Nat.{mod-add-mod, mod-eq_of_lt, mod-lt}
 use Rattle.std.specs.Prelude.{slice_index}
 use Rattle.memchr.specs.Find.{is_byte, places, places_from}
 use Rattle.acgrep.specs.Lines.{joined_to, lines}
-use Rattle.acgrep.specs.Written.{EndsLine, IsNumbered, SamePlace, after_line, after_lines}
+use Rattle.acgrep.specs.Written.{EndsLine, NumbersLines, SamePlace, after_line, after_lines}
 use Rattle.acgrep.specs.declared.print.Place.{Place}
 use Rattle.acgrep.specs.declared.select.Job.{Job}
 use Rattle.acgrep.proofs.FirstLines.{lines_joined}
@@ -69,7 +69,7 @@ bytes_on (line ∷ rest) place low =
     ∙ ap (λ (n : ℕ). n % 2 ^ 64) all
 
 pub place_behind : (job : Job) (before after : Place) (text : List ℕ) → before.lines < 2 ^ 64 → before.bytes < 2 ^ 64
-    → (IsNumbered job → after.lines ≡ (before.lines + length (places (is_byte 10) text)) % 2 ^ 64) → after.bytes ≡ (before.bytes + length text) % 2 ^ 64
+    → (NumbersLines job → after.lines ≡ (before.lines + length (places (is_byte 10) text)) % 2 ^ 64) → after.bytes ≡ (before.bytes + length text) % 2 ^ 64
     → EndsLine text → SamePlace job after (after_lines before (lines text))
 place_behind job before after text low few counted sized ends =
     let (count, size) = places_first text ends in

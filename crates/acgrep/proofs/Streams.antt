@@ -7,7 +7,7 @@ use Rattle.std.proofs.Math.Seq.{drop-append_seam, drop-append-add}
 use Rattle.std.proofs.lemmas.List.{get_or-append-add, length-take-le}
 use Rattle.aho_core.specs.Patterns.{Patterns}
 use Rattle.acgrep.specs.Lines.{IsNewline, lines}
-use Rattle.acgrep.specs.Filled.{Fills, Reads}
+use Rattle.acgrep.specs.Filled.{FillsBehind, ReadsOn}
 use Rattle.acgrep.specs.Streamed.{ReadsSome, SearchesLines, SearchesStream, SearchesWhole, course}
 use Rattle.acgrep.specs.Written.{EndsLine, IsSettled, SamePlace, SearchesText, after_lines}
 use Rattle.acgrep.specs.declared.print.Place.{Place}
@@ -24,7 +24,7 @@ keeps_nil (Some xs) None keeps = absurd keeps
 keeps_nil (Some xs) (Some ys) keeps = keeps ∙ sym (append-nil xs)
 
 -- one read after another
-pub reads_both : (a b c : Option (List ℕ)) → Reads a b → Reads b c → Reads a c
+pub reads_both : (a b c : Option (List ℕ)) → ReadsOn a b → ReadsOn b c → ReadsOn a c
 reads_both a b c (one, first) (other, second) = (one ++ other, Consumes-trans a b c one other first second)
 
 -- a test that answered no
@@ -159,7 +159,7 @@ module _ (p : Patterns) (job : Job) where
       }
 
   -- a read that gives bytes, and the search of their whole lines
-  pub reads_some : (a b : State) (x y z l m : Option (List ℕ)) (kept_before filled kept_after : List ℕ) (count : ℕ) → Keeps x y → Fills kept_before filled l m count
+  pub reads_some : (a b : State) (x y z l m : Option (List ℕ)) (kept_before filled kept_after : List ℕ) (count : ℕ) → Keeps x y → FillsBehind kept_before filled l m count
       → SearchesWhole p job a b y z filled kept_after → ReadsSome p job (course a b x z l m) kept_before kept_after false
   reads_some a b x y z l m kept_before filled kept_after count keeps fills searches = record {
     came = fills.came;
@@ -172,7 +172,7 @@ module _ (p : Patterns) (job : Job) where
   }
 
   -- a read that gives none
-  pub reads_none : (a : State) (x y l m : Option (List ℕ)) (kept_before kept_after : List ℕ) (count : ℕ) → Keeps x y → Fills kept_before kept_after l m count → count ≡ 0
+  pub reads_none : (a : State) (x y l m : Option (List ℕ)) (kept_before kept_after : List ℕ) (count : ℕ) → Keeps x y → FillsBehind kept_before kept_after l m count → count ≡ 0
       → ReadsSome p job (course a a x y l m) kept_before kept_after true
   reads_none a x y l m kept_before kept_after count keeps fills zero = record {
     came = fills.came;

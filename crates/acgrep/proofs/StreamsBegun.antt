@@ -3,7 +3,7 @@ use Rattle.std.proofs.Common.{◌≡◌, inl, inr, ℕ, ◌-◌, ◌≤◌, ◌<
 use Rattle.std.specs.Io.KnownBytes.{Appends, Consumes, Keeps}
 use Rattle.std.proofs.KnownBytes.{Consumes-trans}
 use Rattle.aho_core.specs.Patterns.{Patterns}
-use Rattle.acgrep.specs.Filled.{Fills}
+use Rattle.acgrep.specs.Filled.{FillsBehind}
 use Rattle.acgrep.specs.Lines.{IsNewline, lines}
 use Rattle.acgrep.specs.Streamed.{BeginsSome, BeginsStream, BeginsWhole, ReadsSome, SearchesLines, SearchesStream, course}
 use Rattle.acgrep.specs.Written.{BeginsLines, EndsLine, IsSettled, SamePlace, SearchesText, after_lines}
@@ -64,7 +64,7 @@ module _ (p : Patterns) (job : Job) where
   }
 
   -- bytes came, and of their whole lines a beginning is written
-  pub some_begins : (a b : State) (x y z l m : Option (List ℕ)) (kept filled : List ℕ) (count : ℕ) → Keeps x y → Fills kept filled l m count
+  pub some_begins : (a b : State) (x y z l m : Option (List ℕ)) (kept filled : List ℕ) (count : ℕ) → Keeps x y → FillsBehind kept filled l m count
       → BeginsWhole p job a b y z filled → BeginsSome p job (course a b x z l m) kept
   some_begins a b x y z l m kept filled count keeps fills begins = record {
     came = fills.came;

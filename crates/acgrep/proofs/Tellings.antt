@@ -10,8 +10,8 @@ use Rattle.aho_core.specs.Occurrence.{Occurrence}
 use Rattle.acgrep.proofs.LineLists.{ends_drop}
 use Rattle.acgrep.specs.Lines.{lines}
 use Rattle.acgrep.specs.Objects.{objects_by}
-use Rattle.acgrep.specs.Printed.{WritesColored, color_of, colored_from, colored_line_by, head_of, match_by, matches_by, number_at, offset_at, painted, part_of}
-use Rattle.acgrep.specs.Written.{EachLine, EndsLine, HasMatch, HasNone, IsPassed, IsSelected, LineOf, SamePlace, SearchesTo, ShowsBy, Tells, TellsLines, WritesLine, after_line, after_lines, is_numbered, one_more, place_at}
+use Rattle.acgrep.specs.Printed.{WritesColored, color_of, colored_from, colored_line_by, head_of, match_by, matches_by, line_number_at, offset_at, painted, part_of}
+use Rattle.acgrep.specs.Written.{EachLine, EndsLine, HasMatch, HasNone, IsPassedOver, IsSelected, LineOf, SamePlace, SearchesTo, ShowsBy, TellsOfLines, TellsLines, WritesLine, after_line, after_lines, is_numbered, one_more, place_behind}
 use Rattle.acgrep.specs.declared.options.Shown.{Shown}
 use Rattle.acgrep.specs.declared.options.Shown.TheVariants.{Lines, Matches, Objects, Count, Names, Nothing}
 use Rattle.acgrep.specs.declared.print.Place.{Place}
@@ -70,7 +70,7 @@ colored_shows p job place old new line lines colored writes =
     )
 
 -- what stands before a line is the same
-same_head : (job : Job) (a b : Place) (offset : ℕ) → SamePlace job a b → head_of job.style (number_at a) offset ≡ head_of job.style (number_at b) offset
+same_head : (job : Job) (a b : Place) (offset : ℕ) → SamePlace job a b → head_of job.style (line_number_at a) offset ≡ head_of job.style (line_number_at b) offset
 same_head job a b offset same =
     elim (cases_Bool job.style.number) [
       | inl asked ↦ ap (λ (n : ℕ). head_of job.style ((n + 1) % 2 ^ 64) offset) (same.lines (asked_numbered job.shown job.style.number asked))
@@ -79,8 +79,8 @@ same_head job a b offset same =
 
 match_same : (job : Job) (a b : Place) (line : List ℕ) (m : Occurrence) → SamePlace job a b → match_by job.style a line m ≡ match_by job.style b line m
 match_same job a b line m same =
-    let heads : head_of job.style (number_at a) (offset_at a m.start) ≡ head_of job.style (number_at b) (offset_at b m.start) =
-    same_head job a b (offset_at a m.start) same ∙ ap (λ (n : ℕ). head_of job.style (number_at b) ((n + m.start) % 2 ^ 64)) same.bytes in
+    let heads : head_of job.style (line_number_at a) (offset_at a m.start) ≡ head_of job.style (line_number_at b) (offset_at b m.start) =
+    same_head job a b (offset_at a m.start) same ∙ ap (λ (n : ℕ). head_of job.style (line_number_at b) ((n + m.start) % 2 ^ 64)) same.bytes in
     ap (λ (head : List ℕ). if m.start == m.end then [] else head ++ (painted job.style.color (color_of (codes "01;31")) (part_of line m.start m.end) ++ codes "\n")) heads
 
 matches_same : (job : Job) (a b : Place) (line : List ℕ) (ms : List Occurrence) → SamePlace job a b → matches_by job.style a line ms ≡ matches_by job.style b line ms
@@ -90,10 +90,10 @@ matches_same job a b line (m ∷ ms) same =
     ∙ ap (λ (l : List ℕ). match_by job.style b line m ++ l) (matches_same job a b line ms same)
 
 place_same : (a b : Place) → a.lines ≡ b.lines → a.bytes ≡ b.bytes → a ≡ b
-place_same a b lines bytes = ap (λ (n : ℕ). place_at n a.bytes) lines ∙ ap (place_at b.lines) bytes
+place_same a b lines bytes = ap (λ (n : ℕ). place_behind n a.bytes) lines ∙ ap (place_behind b.lines) bytes
 
-start_same : (job : Job) (a b : Place) → SamePlace job a b → head_of job.style (number_at a) a.bytes ≡ head_of job.style (number_at b) b.bytes
-start_same job a b same = same_head job a b a.bytes same ∙ ap (λ (n : ℕ). head_of job.style (number_at b) n) same.bytes
+start_same : (job : Job) (a b : Place) → SamePlace job a b → head_of job.style (line_number_at a) a.bytes ≡ head_of job.style (line_number_at b) b.bytes
+start_same job a b same = same_head job a b a.bytes same ∙ ap (λ (n : ℕ). head_of job.style (line_number_at b) n) same.bytes
 
 line_same : (p : Patterns) (colored : Bool) (job : Job) (a b : Place) (line bytes : List ℕ) → SamePlace job a b
     → LineOf p colored job.style a line bytes → LineOf p colored job.style b line bytes
@@ -115,7 +115,7 @@ by_same p Nothing invert job a b line bytes counted same shows = shows
 
 -- lines tell the same from places that are the same
 pub tells_same : (p : Patterns) (job : Job) (ls : List (List ℕ)) (a b : Place) (count : ℕ) (bytes : List ℕ) (total : ℕ) → SamePlace job a b
-    → Tells p job a count ls bytes total → Tells p job b count ls bytes total
+    → TellsOfLines p job a count ls bytes total → TellsOfLines p job b count ls bytes total
 tells_same p job [] a b count bytes total same told = told
 tells_same p job (line ∷ rest) a b count bytes total same (inl (selected, (shown, more, shows, behind, is))) =
     inl (
@@ -133,9 +133,9 @@ tells_same p job (line ∷ rest) a b count bytes total same (inr (passed, behind
 
 -- lines and those behind them
 pub tells_append : (p : Patterns) (job : Job) (ls ms : List (List ℕ)) (place : Place) (count mid total : ℕ) (bytes more : List ℕ)
-    → Tells p job place count ls bytes mid → Tells p job (after_lines place ls) mid ms more total → Tells p job place count (ls ++ ms) (bytes ++ more) total
+    → TellsOfLines p job place count ls bytes mid → TellsOfLines p job (after_lines place ls) mid ms more total → TellsOfLines p job place count (ls ++ ms) (bytes ++ more) total
 tells_append p job [] ms place count mid total bytes more (none, same) behind =
-    subst (λ (l : List ℕ). Tells p job place count ms (l ++ more) total) (sym none) (subst (λ (n : ℕ). Tells p job place n ms more total) same behind)
+    subst (λ (l : List ℕ). TellsOfLines p job place count ms (l ++ more) total) (sym none) (subst (λ (n : ℕ). TellsOfLines p job place n ms more total) same behind)
 tells_append p job (line ∷ rest) ms place count mid total bytes more (inl (selected, (shown, others, shows, told, is))) behind =
     inl (
       selected,
@@ -151,7 +151,7 @@ tells_append p job (line ∷ rest) ms place count mid total bytes more (inr (pas
     inr (passed, tells_append p job rest ms (after_line place line) count mid total bytes more told behind)
 
 -- where no pattern occurs in any line, and such lines are not selected, nothing is written
-tells_passed : (p : Patterns) (job : Job) (ls : List (List ℕ)) (place : Place) (count : ℕ) → job.invert ≡ false → EachLine (HasNone p) ls → Tells p job place count ls [] count
+tells_passed : (p : Patterns) (job : Job) (ls : List (List ℕ)) (place : Place) (count : ℕ) → job.invert ≡ false → EachLine (HasNone p) ls → TellsOfLines p job place count ls [] count
 tells_passed p job [] place count plain each = (refl, refl)
 tells_passed p job (line ∷ rest) place count plain (none, each) =
     inr (subst (λ (b : Bool). MatchBool b (HasMatch p line) (HasNone p line)) (sym plain) none, tells_passed p job rest (after_line place line) count plain each)
@@ -167,7 +167,7 @@ module _ (p : Patterns) (job : Job) where
   }
 
   -- a line that is not
-  pub one_passed : (before after : State) (old new : Option (List ℕ)) (line : List ℕ) → IsPassed p job.invert line → after.selected ≡ before.selected
+  pub one_passed : (before after : State) (old new : Option (List ℕ)) (line : List ℕ) → IsPassedOver p job.invert line → after.selected ≡ before.selected
       → new ≡ old → TellsLines p job before after old new (line ∷ [])
   one_passed before after old new line passed counted unwritten = record {
     bytes = [];
@@ -179,7 +179,7 @@ module _ (p : Patterns) (job : Job) where
       → new ≡ old → TellsLines p job before after old new ls
   all_passed before after old new ls plain each counted unwritten = record {
     bytes = [];
-    told = subst (λ (n : ℕ). Tells p job before.place before.selected ls [] n) (sym counted) (tells_passed p job ls before.place before.selected plain each);
+    told = subst (λ (n : ℕ). TellsOfLines p job before.place before.selected ls [] n) (sym counted) (tells_passed p job ls before.place before.selected plain each);
     written = subst (λ (held : Option (List ℕ)). Appends old held []) (sym unwritten) (Appends-nil old);
   }
 

@@ -4,7 +4,7 @@ use Rattle.std.specs.Prelude.{slice_index_or, slice_range}
 use Rattle.aho_core.specs.Bytes.{IsSameWord}
 use Rattle.aho_core.specs.Patterns.{Patterns, pattern_at}
 use Rattle.acgrep.specs.Runs.{selects_none}
-use Rattle.acgrep.specs.Written.{HasMatch, IsPassed}
+use Rattle.acgrep.specs.Written.{HasMatch, IsPassedOver}
 use Rattle.acgrep.proofs.LineLists.{take_zero}
 
 -- an empty pattern occurs in each line
@@ -26,7 +26,7 @@ empty_matches p words are line =
     )
 
 -- where no line is selected each is passed over
-pub none_selected : (p : Patterns) (invert : Bool) (words : List (List ℕ)) → p.words ≡ words → selects_none invert words ≡ true → (line : List ℕ) → IsPassed p invert line
+pub none_selected : (p : Patterns) (invert : Bool) (words : List (List ℕ)) → p.words ≡ words → selects_none invert words ≡ true → (line : List ℕ) → IsPassedOver p invert line
 none_selected p false [] are is line = λ m occurs. absurd (omega (arith, occurs.numbered, ap length are))
 none_selected p false (word ∷ words) are is line = absurd (cc)
 none_selected p true [] are is line = absurd (cc)

@@ -11,11 +11,11 @@ use Rattle.std.proofs.lemmas.List.{take_all}
 use Rattle.memchr.specs.Find.{Nowhere}
 use Rattle.aho_core.specs.declared.search.MatchKind.{MatchKind}
 use Rattle.acgrep.specs.Arguments.{Origin, origin_of}
-use Rattle.acgrep.specs.Files.{is_input}
+use Rattle.programs.specs.Names.{is_input}
 use Rattle.acgrep.specs.Lines.{IsNewline, joined_to, lines}
 use Rattle.acgrep.specs.Loading.{AddsText, AddsWords}
 use Rattle.acgrep.specs.Runs.{AreWords, origins_of}
-use Rattle.acgrep.specs.Searchers.{patterns_by}
+use Rattle.acgrep.specs.Searchers.{patterns_asked}
 use Rattle.acgrep.specs.Selected.{HoldNoNewline}
 use Rattle.acgrep.specs.Written.{EachLine, EndsLine}
 use Rattle.acgrep.specs.declared.arguments.Source.{Source}
@@ -91,7 +91,7 @@ plain_at (word ∷ words) zero plain low = plain.0
 plain_at (word ∷ words) (suc number) plain low = plain_at words number plain.1 (omega (arith, low))
 
 -- patterns that are lines hold no newline
-pub lines_plain : (kind : MatchKind) (ignore_case : Bool) (text : List ℕ) → HoldNoNewline (patterns_by kind ignore_case (lines text))
+pub lines_plain : (kind : MatchKind) (ignore_case : Bool) (text : List ℕ) → HoldNoNewline (patterns_asked kind ignore_case (lines text))
 lines_plain kind ignore_case text number place low within = plain_at (lines text) number (plain_lines text) low place within
 
 module _ (holds : List ℕ → Option (List ℕ)) where

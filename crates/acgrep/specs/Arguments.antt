@@ -1,4 +1,5 @@
 -- What the arguments, those after the program's name, say.
+use Rattle.programs.specs.Arguments.{kind_by}
 use Rattle.std.specs.Prelude.{◌≡◌, ℕ, ◌==◌, ◌^◌, ◌||◌, ◌&&◌, nat_lt, Bool, true, false, List, [], ◌∷◌, ◌++◌, Option, Some, None, codes, drop, length, map, take, String, string_bytes, option_and_then, option_map, if◌then◌else◌}
 use Rattle.std.specs.Str.{all_ascii_digits, bytes_eq}
 use Rattle.std.specs.Str.Parse.{digits_value}
@@ -88,7 +89,7 @@ name_by argument =
     else offset_by argument
 
 -- what was said, and what an argument waits for
-pub record Read : Type 0 where
+pub record ReadSoFar : Type 0 where
   pub awaits : Awaited
   pub said : Said
 
@@ -100,19 +101,19 @@ abbrev pub with_source : ℕ → List ℕ → Said → Said
 with_source letter argument s = record s { sources = s.sources ++ (record { is_file = letter == 102; bytes = argument } ∷ []) }
 
 -- the argument of an option that takes one stands behind its letter, or is the next one
-abbrev pub taken_by : ℕ → List ℕ → Said → Read
+abbrev pub taken_by : ℕ → List ℕ → Said → ReadSoFar
 taken_by letter [] s = record { awaits = Letter letter; said = s }
 taken_by letter (first ∷ rest) s = record { awaits = Fresh; said = with_source letter (first ∷ rest) s }
 
 -- joined letters
-abbrev pub letters_by : List ℕ → Said → Option Read
+abbrev pub letters_by : List ℕ → Said → Option ReadSoFar
 letters_by [] s = Some (record { awaits = Fresh; said = s })
 letters_by (letter ∷ rest) s =
     if letter == 101 || letter == 102 then Some (taken_by letter rest s)
     else option_and_then (λ flags. letters_by rest (record s { flags = flags })) (turned_on letter s.flags)
 
 -- what a whole name turns on
-abbrev pub named_by : Named → Said → Read
+abbrev pub named_by : Named → Said → ReadSoFar
 named_by Help s = record { awaits = Fresh; said = record s { flags = record s.flags { help = true } } }
 named_by Version s = record { awaits = Fresh; said = record s { flags = record s.flags { version = true } } }
 named_by Json s = record { awaits = Fresh; said = record s { flags = record s.flags { json = true } } }
@@ -124,32 +125,24 @@ named_by FirstFollows s = record { awaits = Offset; said = s }
 named_by End s = record { awaits = Operands; said = s }
 
 -- what stands behind a hyphen: nothing is an operand of its own, and a name that is not known is wrong
-abbrev pub behind_hyphen : List ℕ → Said → Option Read
+abbrev pub behind_hyphen : List ℕ → Said → Option ReadSoFar
 behind_hyphen [] s = Some (record { awaits = Fresh; said = with_operand (45 ∷ []) s })
 behind_hyphen (first ∷ rest) s = if first == 45 then None else letters_by (first ∷ rest) s
 
 -- an argument that is no whole name
-abbrev pub plain_by : List ℕ → Said → Option Read
+abbrev pub plain_by : List ℕ → Said → Option ReadSoFar
 plain_by [] s = Some (record { awaits = Fresh; said = with_operand [] s })
 plain_by (first ∷ rest) s =
     if first == 45 then behind_hyphen rest s
     else Some (record { awaits = Fresh; said = with_operand (first ∷ rest) s })
 
 -- an argument that stands where an option may
-abbrev pub fresh_by : Option Named → List ℕ → Said → Option Read
+abbrev pub fresh_by : Option Named → List ℕ → Said → Option ReadSoFar
 fresh_by (Some named) argument s = Some (named_by named s)
 fresh_by None argument s = plain_by argument s
 
--- the argument of `--kind`
-abbrev pub kind_by : List ℕ → Option MatchKind
-kind_by argument =
-    if bytes_eq argument (codes "first") then Some LeftmostFirst
-    else if bytes_eq argument (codes "longest") then Some LeftmostLongest
-    else if bytes_eq argument (codes "standard") then Some Standard
-    else None
-
 -- an argument, by what the one before waits for
-abbrev pub argument_by : Awaited → List ℕ → Said → Option Read
+abbrev pub argument_by : Awaited → List ℕ → Said → Option ReadSoFar
 argument_by Fresh argument s = fresh_by (name_by argument) argument s
 argument_by (Letter letter) argument s = Some (record { awaits = Fresh; said = with_source letter argument s })
 argument_by Kind argument s = option_map (λ kind. named_by (Which kind) s) (kind_by argument)
@@ -197,14 +190,10 @@ nothing_said = record { flags = no_flags; sources = []; operands = [] }
 abbrev pub said_by : List (List ℕ) → Option Said
 said_by arguments = arguments_by Fresh arguments nothing_said
 
--- the bytes of each argument
-abbrev pub texts : {Z : Type 0} → List (String Z) → List (List ℕ)
-texts arguments = map string_bytes arguments
-
 -- a refusal tells that the arguments are wrong, or that memory ran out
-abbrev pub IsRefused : {A : Type 0} → Option A → Refusal → Type 0
-IsRefused outcome (Wrong wrong) = outcome ≡ None
-IsRefused outcome OutOfMemory = Unit {0}
+abbrev pub AreRefused : {A : Type 0} → Option A → Refusal → Type 0
+AreRefused outcome (Wrong wrong) = outcome ≡ None
+AreRefused outcome OutOfMemory = Unit {0}
 
 -- what is written of a file: of several options `-q` goes first, then `-l`, `-c`, `--json` and `-o`
 abbrev pub shown_by : Flags → Shown

@@ -1,13 +1,15 @@
 -- What is written of files, one after another.
+use Rattle.programs.specs.Answers.{status_of}
+use Rattle.programs.specs.Names.{is_input, or_input}
 use Rattle.std.specs.Prelude.{◌≡◌, ◌⊎◌, ℕ, ◌||◌, nat_lt, Bool, true, false, List, [], ◌∷◌, ◌++◌, Option, IfSome, MatchBool, codes, map, if◌then◌else◌}
 use Rattle.std.specs.Borrow.{Bor}
 use Rattle.std.specs.Io.KnownBytes.{Appends, Consumes, IsAtEnd, Keeps}
 use Rattle.std.specs.Str.{bytes_eq}
 use Rattle.aho_core.specs.Patterns.{Patterns}
-use Rattle.acgrep.specs.Filled.{Reads}
+use Rattle.acgrep.specs.Filled.{ReadsOn}
 use Rattle.acgrep.specs.Lines.{lines}
 use Rattle.acgrep.specs.Printed.{count_by, file_line}
-use Rattle.acgrep.specs.Written.{EachLine, IsPassed, IsSelected, StartsNext, Tells, after_lines, needs_one, place_at}
+use Rattle.acgrep.specs.Written.{EachLine, IsPassedOver, IsSelected, StartsNext, TellsOfLines, after_lines, needs_one, place_behind}
 use Rattle.acgrep.specs.declared.files.Outcome.{Outcome}
 use Rattle.acgrep.specs.declared.files.Outcome.TheVariants.{Searched, Unread, Stopped}
 use Rattle.acgrep.specs.declared.files.Seen.{Seen}
@@ -23,7 +25,7 @@ SomeLine P (line ∷ rest) = P line ⊎ SomeLine P rest
 
 -- whether one of these lines is selected
 abbrev pub IsAny : Patterns → Bool → List (List ℕ) → Bool → Type 0
-IsAny p invert ls any = MatchBool any (SomeLine (IsSelected p invert) ls) (EachLine (IsPassed p invert) ls)
+IsAny p invert ls any = MatchBool any (SomeLine (IsSelected p invert) ls) (EachLine (IsPassedOver p invert) ls)
 
 -- behind the lines of a file stands their count where it is asked for
 abbrev pub count_if : Shown → Style → ℕ → List ℕ
@@ -46,7 +48,7 @@ total_if Nothing style count = []
 -- what is told of each line of a text from the begin of its file on, and the count of selected lines
 abbrev pub TellsEach : Patterns → Job → List ℕ → List ℕ → Type 0
 TellsEach p job text bytes =
-    (told : List ℕ) × (count : ℕ) × Tells p job (place_at 0 job.first) 0 (lines text) told count × (bytes ≡ told ++ count_if job.shown job.style count)
+    (told : List ℕ) × (count : ℕ) × TellsOfLines p job (place_behind 0 job.first) 0 (lines text) told count × (bytes ≡ told ++ count_if job.shown job.style count)
 
 -- what is written of a file with this text: of its lines, its name where one is selected, or nothing
 abbrev pub TellsBy : Patterns → Job → Shown → List ℕ → Bool → List ℕ → Type 0
@@ -88,10 +90,6 @@ pub record IsNamed (job : Job) (bytes : List ℕ) (named : Job) : Type 0 where
   pub color : named.style.color ≡ job.style.color
   pub first : named.first ≡ job.first
 
--- '-' is standard input
-abbrev pub is_input : List ℕ → Bool
-is_input name = bytes_eq name (codes "-")
-
 -- how a file is called in what is written
 abbrev pub shown_name : List ℕ → List ℕ
 shown_name name = if is_input name then codes "(standard input)" else name
@@ -117,13 +115,13 @@ is_enough Names any = false
 is_enough Nothing any = any
 
 -- the files of these names were searched, one after another; `any` says whether a line is selected
-abbrev pub AreSearched : Patterns → Job → (List ℕ → Option (List ℕ)) → List (List ℕ) → (left left' held held' : Option (List ℕ)) → Bool → Type 0
-AreSearched p job holds [] left left' held held' any = (left' ≡ left) × Keeps held held' × (any ≡ false)
-AreSearched p job holds (name ∷ names) left left' held held' any =
+abbrev pub AreFilesSearched : Patterns → Job → (List ℕ → Option (List ℕ)) → List (List ℕ) → (left left' held held' : Option (List ℕ)) → Bool → Type 0
+AreFilesSearched p job holds [] left left' held held' any = (left' ≡ left) × Keeps held held' × (any ≡ false)
+AreFilesSearched p job holds (name ∷ names) left left' held held' any =
     (between : Option (List ℕ)) × (meanwhile : Option (List ℕ)) × (first : Bool) × SearchesName p job holds name left between held meanwhile first
     × MatchBool (is_enough job.shown first)
     ((left' ≡ between) × Keeps meanwhile held' × (any ≡ true))
-    ((others : Bool) × AreSearched p job holds names between left' meanwhile held' others × (any ≡ (first || others)))
+    ((others : Bool) × AreFilesSearched p job holds names between left' meanwhile held' others × (any ≡ (first || others)))
 
 -- a file of these bytes, where they are known, has a selected line
 abbrev pub HasSelected : Patterns → Job → Option (List ℕ) → Type 0
@@ -131,22 +129,13 @@ HasSelected p job known = (text : List ℕ) × IfSome known (λ bytes. text ≡ 
 
 -- only standard input is read from the input
 abbrev pub LeavesInput : List ℕ → (left left' : Option (List ℕ)) → Type 0
-LeavesInput name left left' = MatchBool (is_input name) (Reads left left') (left' ≡ left)
+LeavesInput name left left' = MatchBool (is_input name) (ReadsOn left left') (left' ≡ left)
 
 -- one of these files has a selected line, whether those before it could be read or not
 abbrev pub OneIsSelected : Patterns → Job → (List ℕ → Option (List ℕ)) → List (List ℕ) → Option (List ℕ) → Type 0
 OneIsSelected p job holds [] left = ⊥
 OneIsSelected p job holds (name ∷ names) left =
     HasSelected p job (known_of holds name left) ⊎ ((between : Option (List ℕ)) × LeavesInput name left between × OneIsSelected p job holds names between)
-
--- the bytes of each name
-abbrev pub names_of : List (Bor (List ℕ)) → List (List ℕ)
-names_of names = map (λ name. name.now) names
-
--- standard input where none is given
-abbrev pub or_input : List (List ℕ) → List (List ℕ)
-or_input [] = codes "-" ∷ []
-or_input (name ∷ names) = name ∷ names
 
 -- before any file was searched
 abbrev pub nothing_seen : Seen
@@ -169,14 +158,10 @@ abbrev pub status_by : Shown → Seen → ℕ
 status_by shown seen =
     if is_enough shown seen.selected then 0 else (if seen.failed then 2 else (if seen.selected then 0 else 1))
 
--- the status of a search without an error
-abbrev pub status_of : Bool → ℕ
-status_of any = if any then 0 else 1
-
 -- the files of these names were searched, and the status tells it; under `-q` that is all, even where others cannot be read
 abbrev pub AreSearchedOr : Patterns → Job → (List ℕ → Option (List ℕ)) → List (List ℕ) → (left left' held held' : Option (List ℕ)) → ℕ → Type 0
 AreSearchedOr p job holds names left left' held held' status =
-    ((any : Bool) × AreSearched p job holds names left left' held held' any × (status ≡ status_of any))
+    ((any : Bool) × AreFilesSearched p job holds names left left' held held' any × (status ≡ status_of any))
     ⊎ ((job.shown ≡ Nothing) × (status ≡ 0) × OneIsSelected p job holds names left)
 
 -- what is asked of a file as a whole was written
@@ -186,7 +171,7 @@ pub record EndsFile (job : Job) (count : ℕ) (held held' : Option (List ℕ)) (
 
 -- what was seen is so: where no error was told all were searched, and one selected line that is enough was seen in one of them
 pub record SearchesNames (p : Patterns) (job : Job) (holds : List ℕ → Option (List ℕ)) (names : List (List ℕ)) (left left' held held' : Option (List ℕ)) (seen : Seen) : Type 0 where
-  pub searched : seen.failed ≡ false → AreSearched p job holds names left left' held held' seen.selected
+  pub searched : seen.failed ≡ false → AreFilesSearched p job holds names left left' held held' seen.selected
   pub found : job.shown ≡ Nothing → seen.selected ≡ true → OneIsSelected p job holds names left
 
 -- a beginning of what is asked of a file as a whole is written, of which so many lines were selected
@@ -206,9 +191,9 @@ pub record BeginsFile (p : Patterns) (job : Job) (known held held' : Option (Lis
   pub cut : lines text ≡ first ++ left
   pub told : List ℕ
   pub count : ℕ
-  pub tells : Tells p job (place_at 0 job.first) 0 first told count
+  pub tells : TellsOfLines p job (place_behind 0 job.first) 0 first told count
   pub begun : List ℕ
-  pub starts : StartsNext p job (after_lines (place_at 0 job.first) first) left begun ⊎ ((missing : List ℕ) × (total_if job.shown job.style count ≡ begun ++ missing))
+  pub starts : StartsNext p job (after_lines (place_behind 0 job.first) first) left begun ⊎ ((missing : List ℕ) × (total_if job.shown job.style count ≡ begun ++ missing))
   pub written : Appends held held' (told ++ begun)
 
 -- what is so where a file was not searched
@@ -225,10 +210,10 @@ pub record BeginsName (p : Patterns) (job : Job) (holds : List ℕ → Option (L
 
 -- of some first ones of the files of these names, one after another, all that is asked is written, or a beginning of it; and
 -- nothing else
-abbrev pub AreBegun : Patterns → Job → (List ℕ → Option (List ℕ)) → List (List ℕ) → (left held held' : Option (List ℕ)) → Type 0
-AreBegun p job holds [] left held held' = Keeps held held'
-AreBegun p job holds (name ∷ names) left held held' =
+abbrev pub AreFilesBegun : Patterns → Job → (List ℕ → Option (List ℕ)) → List (List ℕ) → (left held held' : Option (List ℕ)) → Type 0
+AreFilesBegun p job holds [] left held held' = Keeps held held'
+AreFilesBegun p job holds (name ∷ names) left held held' =
     Keeps held held'
     ⊎ ((between : Option (List ℕ)) × (meanwhile : Option (List ℕ)) × LeavesInput name left between
     × (((any : Bool) × SearchesName p job holds name left between held meanwhile any) ⊎ BeginsName p job holds name left held meanwhile)
-    × AreBegun p job holds names between meanwhile held')
+    × AreFilesBegun p job holds names between meanwhile held')

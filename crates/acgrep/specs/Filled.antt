@@ -3,7 +3,7 @@ use Rattle.std.specs.Prelude.{◌≡◌, ℕ, List, ◌++◌, Option, length}
 use Rattle.std.specs.Io.KnownBytes.{Consumes, IsAtEnd}
 
 -- what comes stands behind the bytes before, and nothing comes only at the end
-pub record Fills (before after : List ℕ) (left_before left_after : Option (List ℕ)) (count : ℕ) : Type 0 where
+pub record FillsBehind (before after : List ℕ) (left_before left_after : Option (List ℕ)) (count : ℕ) : Type 0 where
   pub came : List ℕ
   pub behind : after ≡ before ++ came
   pub read : Consumes left_before left_after came
@@ -11,5 +11,5 @@ pub record Fills (before after : List ℕ) (left_before left_after : Option (Lis
   pub ended : count ≡ 0 → IsAtEnd left_after
 
 -- some bytes were read
-abbrev pub Reads : Option (List ℕ) → Option (List ℕ) → Type 0
-Reads left left' = (bytes : List ℕ) × Consumes left left' bytes
+abbrev pub ReadsOn : Option (List ℕ) → Option (List ℕ) → Type 0
+ReadsOn left left' = (bytes : List ℕ) × Consumes left left' bytes

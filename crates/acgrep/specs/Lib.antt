@@ -9,4 +9,5 @@ pub mod Runs
 pub mod Searchers
 pub mod Selected
 pub mod Streamed
+pub mod Told
 pub mod Written

@@ -6,7 +6,7 @@ use Rattle.aho_core.specs.Iteration.{AreFinds}
 use Rattle.aho_core.specs.Occurrence.{Occurrence}
 use Rattle.aho_core.specs.Patterns.{Patterns}
 use Rattle.aho_core.specs.Search.{plain_search}
-use Rattle.acgrep.specs.Printed.{number_at, offset_at}
+use Rattle.acgrep.specs.Printed.{line_number_at, offset_at}
 use Rattle.acgrep.specs.declared.print.Place.{Place}
 use Rattle.acgrep.specs.declared.print.Style.{Style}
 
@@ -23,8 +23,8 @@ escaped_byte byte =
     else byte ∷ []
 
 -- bytes as they stand there
-abbrev pub escaped : List ℕ → List ℕ
-escaped bytes = flat_map (λ byte. escaped_byte byte) bytes
+abbrev pub json_escaped : List ℕ → List ℕ
+json_escaped bytes = flat_map (λ byte. escaped_byte byte) bytes
 
 -- a member of an object that is a number, behind a comma
 abbrev pub number_named : List ℕ → ℕ → List ℕ
@@ -34,8 +34,8 @@ number_named name number = codes ",\"" ++ (name ++ (codes "\":" ++ decimal numbe
 abbrev pub object_by : Style → Place → Occurrence → List ℕ
 object_by style place m =
     if m.start == m.end then []
-    else codes "{\"file\":\"" ++ (escaped style.name.now ++ (codes "\""
-    ++ (number_named (codes "line") (number_at place)
+    else codes "{\"file\":\"" ++ (json_escaped style.name.now ++ (codes "\""
+    ++ (number_named (codes "line") (line_number_at place)
     ++ (number_named (codes "start") (offset_at place m.start)
     ++ (number_named (codes "end") (offset_at place m.end)
     ++ (number_named (codes "pattern") m.pattern ++ codes "}\n"))))))

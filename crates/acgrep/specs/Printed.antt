@@ -38,12 +38,12 @@ abbrev pub head_of : Style → ℕ → ℕ → List ℕ
 head_of style number offset = name_part style ++ (number_if style.number style.color number ++ number_if style.offset style.color offset)
 
 -- the number of a line; numbers wrap at 2^64
-abbrev pub number_at : Place → ℕ
-number_at place = (place.lines + 1) % 2 ^ 64
+abbrev pub line_number_at : Place → ℕ
+line_number_at place = (place.lines + 1) % 2 ^ 64
 
 -- a line of a file
 abbrev pub line_by : Style → Place → List ℕ → List ℕ
-line_by style place line = head_of style (number_at place) place.bytes ++ (line ++ codes "\n")
+line_by style place line = head_of style (line_number_at place) place.bytes ++ (line ++ codes "\n")
 
 -- the number of selected lines
 abbrev pub count_by : Style → ℕ → List ℕ
@@ -65,7 +65,7 @@ offset_at place start = (place.bytes + start) % 2 ^ 64
 abbrev pub match_by : Style → Place → List ℕ → Occurrence → List ℕ
 match_by style place line m =
     if m.start == m.end then []
-    else head_of style (number_at place) (offset_at place m.start)
+    else head_of style (line_number_at place) (offset_at place m.start)
     ++ (painted style.color (color_of (codes "01;31")) (part_of line m.start m.end) ++ codes "\n")
 
 -- one match after another
@@ -88,7 +88,7 @@ colored_from line at (m ∷ ms) = colored_by line at m ++ colored_from line (beh
 
 -- a line of a file with each of these matches in colour
 abbrev pub colored_line_by : Style → Place → List ℕ → List Occurrence → List ℕ
-colored_line_by style place line ms = head_of style (number_at place) place.bytes ++ (colored_from line 0 ms ++ codes "\n")
+colored_line_by style place line ms = head_of style (line_number_at place) place.bytes ++ (colored_from line 0 ms ++ codes "\n")
 
 -- the matches of a line, one after another, are written and nothing else
 pub record WritesFinds (old new : Option (List ℕ)) (p : Patterns) (style : Style) (place : Place) (line : List ℕ) : Type 0 where

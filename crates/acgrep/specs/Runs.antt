@@ -2,11 +2,13 @@
 use Rattle.std.specs.Prelude.{◌≡◌, ◌⊎◌, ℕ, ◌&&◌, nat_lt, Bool, MatchBool, true, false, List, [], ◌∷◌, ◌++◌, Option, Some, IfSome, String, codes, length, map, unwrap_or}
 use Rattle.std.specs.Io.KnownBytes.{Consumes, IsAtEnd, Keeps}
 use Rattle.aho_core.specs.Patterns.{Patterns}
-use Rattle.acgrep.specs.Arguments.{Origin, Said, origin_of, said_by, shown_by, texts}
-use Rattle.acgrep.specs.Files.{AreBegun, AreSearchedOr, is_input, or_input}
+use Rattle.programs.specs.Arguments.{texts}
+use Rattle.acgrep.specs.Arguments.{Origin, Said, origin_of, said_by, shown_by}
+use Rattle.programs.specs.Names.{is_input, or_input}
+use Rattle.acgrep.specs.Files.{AreFilesBegun, AreSearchedOr}
 use Rattle.acgrep.specs.Lines.{lines}
-use Rattle.acgrep.specs.Searchers.{patterns_by}
-use Rattle.acgrep.specs.Written.{IsPassed}
+use Rattle.acgrep.specs.Searchers.{patterns_asked}
+use Rattle.acgrep.specs.Written.{IsPassedOver}
 use Rattle.acgrep.specs.declared.arguments.Source.{Source}
 use Rattle.acgrep.specs.declared.options.Color.{Color}
 use Rattle.acgrep.specs.declared.options.Color.TheVariants.{Auto, Always, Never}
@@ -50,7 +52,7 @@ IsTextOf holds name left left' text =
     MatchBool (is_input name) (Consumes left left' text × IsAtEnd left') ((left' ≡ left) × IfSome (holds name) (λ bytes. text ≡ bytes))
 
 -- the patterns of the file of this name are its lines
-pub record AreInFile (holds : List ℕ → Option (List ℕ)) (name : List ℕ) (left left' : Option (List ℕ)) (words : List (List ℕ)) : Type 0 where
+pub record AreLinesOfFile (holds : List ℕ → Option (List ℕ)) (name : List ℕ) (left left' : Option (List ℕ)) (words : List (List ℕ)) : Type 0 where
   pub text : List ℕ
   pub is : IsTextOf holds name left left' text
   pub are : words ≡ lines text
@@ -58,7 +60,7 @@ pub record AreInFile (holds : List ℕ → Option (List ℕ)) (name : List ℕ) 
 -- those of a text too, of which an empty one has one
 abbrev pub AreOf : (List ℕ → Option (List ℕ)) → Origin → (left left' : Option (List ℕ)) → List (List ℕ) → Type 0
 AreOf holds source left left' words =
-    MatchBool source.is_file (AreInFile holds source.bytes left left' words) ((left' ≡ left) × (words ≡ lines (source.bytes ++ codes "\n")))
+    MatchBool source.is_file (AreLinesOfFile holds source.bytes left left' words) ((left' ≡ left) × (words ≡ lines (source.bytes ++ codes "\n")))
 
 -- the patterns of all sources, one after another
 abbrev pub AreWords : (List ℕ → Option (List ℕ)) → List Origin → (left left' : Option (List ℕ)) → List (List ℕ) → Type 0
@@ -106,11 +108,11 @@ pub record IsJob (flags : Flags) (terminal : Bool) (count : ℕ) (job : Job) : T
 pub record SearchesWords (holds : List ℕ → Option (List ℕ)) (terminal : Bool) (flags : Flags) (words names : List (List ℕ)) (left left' held held' : Option (List ℕ)) (status : ℕ) : Type 0 where
   pub job : Job
   pub is_job : IsJob flags terminal (length names) job
-  pub searched : AreSearchedOr (patterns_by flags.kind flags.ignore_case words) job holds (or_input names) left left' held held' status
+  pub searched : AreSearchedOr (patterns_asked flags.kind flags.ignore_case words) job holds (or_input names) left left' held held' status
 
 -- no line is selected, whatever it holds: nothing was read and nothing written, and the status tells it
-pub record FindsNone (p : Patterns) (invert : Bool) (left left' held held' : Option (List ℕ)) (status : ℕ) : Type 0 where
-  pub passed : (line : List ℕ) → IsPassed p invert line
+pub record SelectsNoLine (p : Patterns) (invert : Bool) (left left' held held' : Option (List ℕ)) (status : ℕ) : Type 0 where
+  pub passed : (line : List ℕ) → IsPassedOver p invert line
   pub unread : left' ≡ left
   pub unwritten : Keeps held held'
   pub none : status ≡ 1
@@ -120,7 +122,7 @@ pub record SearchesFor (holds : List ℕ → Option (List ℕ)) (terminal : Bool
   pub words : List (List ℕ)
   pub between : Option (List ℕ)
   pub read : AreWords holds sources left between words
-  pub searched : MatchBool (selects_none flags.invert words) (FindsNone (patterns_by flags.kind flags.ignore_case words) flags.invert between left' held held' status)
+  pub searched : MatchBool (selects_none flags.invert words) (SelectsNoLine (patterns_asked flags.kind flags.ignore_case words) flags.invert between left' held held' status)
       (SearchesWords holds terminal flags words names between left' held held' status)
 
 -- what was said was done; `left` is what the input has left, and `held` what the output holds
@@ -136,13 +138,13 @@ pub record BeginsWords (holds : List ℕ → Option (List ℕ)) (terminal : Bool
   pub read : AreWords holds sources left between words
   pub job : Job
   pub is_job : IsJob flags terminal (length names) job
-  pub begun : AreBegun (patterns_by flags.kind flags.ignore_case words) job holds (or_input names) between held held'
+  pub begun : AreFilesBegun (patterns_asked flags.kind flags.ignore_case words) job holds (or_input names) between held held'
 
 -- or nothing is
 abbrev pub BeginsFor : (List ℕ → Option (List ℕ)) → Bool → Flags → List Origin → List (List ℕ) → (left held held' : Option (List ℕ)) → Type 0
 BeginsFor holds terminal flags sources names left held held' = Keeps held held' ⊎ BeginsWords holds terminal flags sources names left held held'
 
 -- whatever comes of what was said: what is written is a beginning of what is asked
-abbrev pub Begins : (List ℕ → Option (List ℕ)) → Bool → Said → (left held held' : Option (List ℕ)) → Type 0
-Begins holds terminal given left held held' =
+abbrev pub BeginsSearch : (List ℕ → Option (List ℕ)) → Bool → Said → (left held held' : Option (List ℕ)) → Type 0
+BeginsSearch holds terminal given left held held' =
     BeginsFor holds terminal given.flags (sources_by given.sources given.operands) (names_by given.sources given.operands) left held held'

@@ -10,17 +10,12 @@ use Rattle.acgrep.specs.declared.searcher.Searcher.{Searcher}
 use Rattle.acgrep.specs.declared.searcher.Searcher.TheVariants.{Rows, Trie}
 
 -- these words, by a match kind and a case rule
-abbrev pub patterns_by : MatchKind → Bool → List (List ℕ) → Patterns
-patterns_by kind ignore_case words = record { words = words; kind = kind; ignore_case = ignore_case }
-
--- these are the patterns, by whatever kind
-pub record ArePatterns (p : Patterns) (ignore_case : Bool) (words : List (List ℕ)) : Type 0 where
-  pub words_are : p.words ≡ words
-  pub rule : p.ignore_case ≡ ignore_case
+abbrev pub patterns_asked : MatchKind → Bool → List (List ℕ) → Patterns
+patterns_asked kind ignore_case words = record { words = words; kind = kind; ignore_case = ignore_case }
 
 -- how the automaton that rows are made of is built: without a prefilter
-abbrev pub settings_by : MatchKind → Bool → Settings
-settings_by kind ignore_case = record default_settings { kind = kind; ignore_case = ignore_case; prefilter = false }
+abbrev pub settings_asked : MatchKind → Bool → Settings
+settings_asked kind ignore_case = record default_settings { kind = kind; ignore_case = ignore_case; prefilter = false }
 
 -- the automaton that is held is of these patterns
 abbrev pub IsSearcherOf : Patterns → Searcher → Type 0

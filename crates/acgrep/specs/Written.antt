@@ -29,8 +29,8 @@ abbrev pub IsSelected : Patterns → Bool → List ℕ → Type 0
 IsSelected p invert line = MatchBool invert (HasNone p line) (HasMatch p line)
 
 -- any other line is passed over
-abbrev pub IsPassed : Patterns → Bool → List ℕ → Type 0
-IsPassed p invert line = MatchBool invert (HasMatch p line) (HasNone p line)
+abbrev pub IsPassedOver : Patterns → Bool → List ℕ → Type 0
+IsPassedOver p invert line = MatchBool invert (HasMatch p line) (HasNone p line)
 
 -- each line is so
 abbrev pub EachLine : (List ℕ → Type 0) → List (List ℕ) → Type 0
@@ -73,12 +73,12 @@ abbrev pub WritesLine : Patterns → Job → Place → Option (List ℕ) → Opt
 WritesLine p job place old new line =
     (bytes : List ℕ) × ShowsLine p job place line bytes × Appends old new bytes
 
-abbrev pub place_at : ℕ → ℕ → Place
-place_at count offset = record { lines = count; bytes = offset }
+abbrev pub place_behind : ℕ → ℕ → Place
+place_behind count offset = record { lines = count; bytes = offset }
 
 -- the begin of a file whose first byte stands there
 abbrev pub at_begin : ℕ → State
-at_begin first = record { place = place_at 0 first; selected = 0 }
+at_begin first = record { place = place_behind 0 first; selected = 0 }
 
 -- the place behind a line and its newline; numbers wrap at 2^64
 abbrev pub after_line : Place → List ℕ → Place
@@ -93,16 +93,16 @@ abbrev pub one_more : ℕ → ℕ
 one_more count = min (count + 1) (2 ^ 64 - 1)
 
 -- the lines from a place on: these bytes are written, and the count of selected lines goes on from `count` to `total`
-abbrev pub Tells : Patterns → Job → Place → ℕ → List (List ℕ) → List ℕ → ℕ → Type 0
-Tells p job place count [] bytes total = (bytes ≡ []) × (total ≡ count)
-Tells p job place count (line ∷ rest) bytes total =
-    (IsSelected p job.invert line × ((shown : List ℕ) × (more : List ℕ) × ShowsLine p job place line shown × Tells p job (after_line place line) (one_more count) rest more total × (bytes ≡ shown ++ more)))
-    ⊎ (IsPassed p job.invert line × Tells p job (after_line place line) count rest bytes total)
+abbrev pub TellsOfLines : Patterns → Job → Place → ℕ → List (List ℕ) → List ℕ → ℕ → Type 0
+TellsOfLines p job place count [] bytes total = (bytes ≡ []) × (total ≡ count)
+TellsOfLines p job place count (line ∷ rest) bytes total =
+    (IsSelected p job.invert line × ((shown : List ℕ) × (more : List ℕ) × ShowsLine p job place line shown × TellsOfLines p job (after_line place line) (one_more count) rest more total × (bytes ≡ shown ++ more)))
+    ⊎ (IsPassedOver p job.invert line × TellsOfLines p job (after_line place line) count rest bytes total)
 
 -- these lines are searched: what is told of them is written, and nothing else
 pub record TellsLines (p : Patterns) (job : Job) (before after : State) (old new : Option (List ℕ)) (searched : List (List ℕ)) : Type 0 where
   pub bytes : List ℕ
-  pub told : Tells p job before.place before.selected searched bytes after.selected
+  pub told : TellsOfLines p job before.place before.selected searched bytes after.selected
   pub written : Appends old new bytes
 
 -- whether the numbers of lines are written: where that is asked for, and in objects
@@ -114,13 +114,13 @@ is_numbered Count asked = asked
 is_numbered Names asked = asked
 is_numbered Nothing asked = asked
 
-abbrev pub IsNumbered : Job → Type 0
-IsNumbered job = is_numbered job.shown job.style.number ≡ true
+abbrev pub NumbersLines : Job → Type 0
+NumbersLines job = is_numbered job.shown job.style.number ≡ true
 
 -- two places are the same for what is written; lines are counted only where they are numbered
 pub record SamePlace (job : Job) (one other : Place) : Type 0 where
   pub bytes : one.bytes ≡ other.bytes
-  pub lines : IsNumbered job → one.lines ≡ other.lines
+  pub lines : NumbersLines job → one.lines ≡ other.lines
 
 -- a text is empty or ends in a newline
 abbrev pub EndsLine : List ℕ → Type 0
@@ -157,10 +157,6 @@ pub record SearchesText (p : Patterns) (job : Job) (before after : State) (old n
   pub searches : SearchesTo p job before after old new text left
   pub ends : (left ≡ []) ⊎ IsSettled job after
 
--- a beginning of these bytes is written, and nothing else
-abbrev pub AppendsBeginning : Option (List ℕ) → Option (List ℕ) → List ℕ → Type 0
-AppendsBeginning old new bytes = (count : ℕ) × (count ≤ length bytes) × Appends old new (take count bytes)
-
 -- a beginning of what is shown of a line
 pub record StartsLine (p : Patterns) (job : Job) (place : Place) (line begun : List ℕ) : Type 0 where
   pub shown : List ℕ
@@ -186,7 +182,7 @@ pub record BeginsLines (p : Patterns) (job : Job) (before : State) (count : ℕ)
   pub left : List (List ℕ)
   pub cut : ls ≡ first ++ left
   pub told : List ℕ
-  pub tells : Tells p job before.place before.selected first told count
+  pub tells : TellsOfLines p job before.place before.selected first told count
   pub begun : List ℕ
   pub starts : StartsNext p job (after_lines before.place first) left begun
   pub written : Appends old new (told ++ begun)

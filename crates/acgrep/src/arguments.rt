@@ -3,10 +3,12 @@
 //! Options may be joined, take their argument joined or as the next one, and stand behind files. Two hyphens end them.
 
 ghost use Rattle.std.specs.Prelude.{◌≡◌, Some, IfOk, IfErr, OnOk, option_map, string_bytes};
-ghost use Rattle.acgrep.specs.Arguments.{IsRefused, argument_by, kind_by, letters_by, name_by, named_by, number_by, offset_by, plain_by, said, said_by, taken_by, texts, with_operand, with_source};
+ghost use Rattle.programs.specs.Arguments.{kind_by, texts};
+ghost use Rattle.acgrep.specs.Arguments.{AreRefused, argument_by, letters_by, name_by, named_by, number_by, offset_by, plain_by, said, said_by, taken_by, with_operand, with_source};
 
 use crate::options::{Color, Flags};
 use chromesquid::MatchKind;
+use programs::command::parse_kind;
 use std::alloc::{AllocError, Global};
 
 /// Where patterns come from.
@@ -21,6 +23,8 @@ pub enum Source<'a> {
 /// Why arguments are wrong. Each holds what has to be named.
 #[derive(Clone, Copy)]
 pub enum Wrong<'a> {
+    /// Some argument is not UTF-8.
+    NotText,
     /// There is no pattern.
     NoPattern,
     /// No option has this letter.
@@ -112,7 +116,7 @@ pub enum Named {
 /// Reads the arguments after the program's name.
 pub fn parse<'a>(alloc: Global, arguments: &'a [String]) -> Result<Given<'a>, Refusal<'a>>
     ensures read { IfOk result (λ given. said_by (texts arguments.now) ≡ Some (said given)) }
-    ensures refused { IfErr result (IsRefused (said_by (texts arguments.now))) }
+    ensures refused { IfErr result (AreRefused (said_by (texts arguments.now))) }
 {
     let mut given = Given {
         flags: Flags::new(),
@@ -142,7 +146,7 @@ fn read_argument<'a>(
     ensures read { IfOk result (λ awaited. argument_by before (string_bytes argument.now) (said given.old)
         ≡ Some (record { awaits = awaited; said = said given.new })) }
     ensures refused { IfErr result
-        (IsRefused (argument_by before (string_bytes argument.now) (said given.old))) }
+        (AreRefused (argument_by before (string_bytes argument.now) (said given.old))) }
 {
     match before {
         Awaited::Letter(letter) => {
@@ -166,9 +170,9 @@ fn read_argument<'a>(
 fn read_kind<'a>(given: &mut Given<'a>, argument: &'a str) -> Result<Awaited, Refusal<'a>>
     ensures read { IfOk result (λ awaited. option_map (λ kind. named_by (Named.Which kind) (said given.old)) (kind_by argument.now)
         ≡ Some (record { awaits = awaited; said = said given.new })) }
-    ensures refused { IfErr result (IsRefused (kind_by argument.now)) }
+    ensures refused { IfErr result (AreRefused (kind_by argument.now)) }
 {
-    match kind_of(argument) {
+    match parse_kind(argument) {
         Some(kind) => Ok(turn_on(given, Named::Which(kind))),
         None => Err(Refusal::Wrong(Wrong::UnknownKind(argument.as_bytes()))),
     }
@@ -179,7 +183,7 @@ fn read_offset<'a>(given: &mut Given<'a>, argument: &'a str) -> Result<Awaited, 
     ensures read { IfOk result (λ awaited.
         option_map (λ first. named_by (Named.First first) (said given.old)) (number_by argument.now)
         ≡ Some (record { awaits = awaited; said = said given.new })) }
-    ensures refused { IfErr result (IsRefused (number_by argument.now)) }
+    ensures refused { IfErr result (AreRefused (number_by argument.now)) }
 {
     match number_of(argument) {
         Some(first) => Ok(turn_on(given, Named::First(first))),
@@ -233,18 +237,6 @@ fn number_of(digits: &str) -> Option<u64>
     }
 }
 
-/// The match kind of a name.
-fn kind_of(argument: &str) -> Option<MatchKind>
-    ensures kind { result ≡ kind_by argument.now }
-{
-    match argument {
-        "first" => Some(MatchKind::LeftmostFirst),
-        "longest" => Some(MatchKind::LeftmostLongest),
-        "standard" => Some(MatchKind::Standard),
-        _ => None,
-    }
-}
-
 /// Turns on what a name means, and answers what it waits for.
 fn turn_on(given: &mut Given<'_>, named: Named) -> Awaited
     ensures named { named_by named (said given.old) ≡ record { awaits = result; said = said given.new } }
@@ -267,7 +259,7 @@ fn turn_on(given: &mut Given<'_>, named: Named) -> Awaited
 fn read_plain<'a>(given: &mut Given<'a>, argument: &'a [u8]) -> Result<Awaited, Refusal<'a>>
     ensures read { IfOk result (λ awaited. plain_by argument.now (said given.old)
         ≡ Some (record { awaits = awaited; said = said given.new })) }
-    ensures refused { IfErr result (IsRefused (plain_by argument.now (said given.old))) }
+    ensures refused { IfErr result (AreRefused (plain_by argument.now (said given.old))) }
 {
     match argument {
         [b'-', b'-', ..] => Err(Refusal::Wrong(wrong_name(argument))),
@@ -296,7 +288,7 @@ fn wrong_name(argument: &[u8]) -> Wrong<'_> {
 fn read_letters<'a>(given: &mut Given<'a>, letters: &'a [u8]) -> Result<Awaited, Refusal<'a>>
     ensures read { IfOk result (λ awaited. letters_by letters.now (said given.old)
         ≡ Some (record { awaits = awaited; said = said given.new })) }
-    ensures refused { IfErr result (IsRefused (letters_by letters.now (said given.old))) }
+    ensures refused { IfErr result (AreRefused (letters_by letters.now (said given.old))) }
 {
     let mut rest = letters;
     while let Some((letter, behind)) = rest.split_first() {

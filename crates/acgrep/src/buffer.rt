@@ -1,7 +1,7 @@
 //! The bytes that were read and not searched yet.
 
 ghost use Rattle.std.specs.Prelude.{◌≡◌, ◌≤◌, ◌<◌, IfOk, OnOk, drop, length, take, vec_len};
-ghost use Rattle.acgrep.specs.Filled.{Fills, Reads};
+ghost use Rattle.acgrep.specs.Filled.{FillsBehind, ReadsOn};
 
 use std::alloc::{AllocError, Global};
 use std::io;
@@ -59,10 +59,10 @@ impl Buffer {
     /// Reads once behind the bytes, and answers how many came.
     pub fn fill<R: Read>(&mut self, input: &mut R) -> io::Result<usize>
         requires room { self.now.held < vec_len self.now.room }
-        ensures filled { IfOk result (Fills (take self.old.held self.old.room.items)
+        ensures filled { IfOk result (FillsBehind (take self.old.held self.old.room.items)
             (take self.new.held self.new.room.items)
             (R.remaining input.old) (R.remaining input.new)) }
-        ensures reads { Reads (R.remaining input.old) (R.remaining input.new) }
+        ensures reads { ReadsOn (R.remaining input.old) (R.remaining input.new) }
     {
         let count = input.read(&mut self.room[self.held..])?;
         self.held += count;

@@ -1,6 +1,7 @@
 //! Why a search stops.
 
-use chromesquid::MatchError;
+use chromesquid::{MatchError, StreamError};
+use programs::reason::Reason;
 use std::alloc::AllocError;
 use std::io;
 
@@ -11,21 +12,10 @@ pub enum Stop {
     Search(MatchError),
     /// Memory runs out.
     OutOfMemory,
-    /// The input cannot be read.
-    Read(io::Error),
+    /// The input cannot be read, for this reason.
+    Read(Reason),
     /// The output cannot be written.
-    Write(io::Error),
-}
-
-impl Stop {
-    /// The same where the output is memory: what cannot be written there is for want of memory.
-    pub fn in_memory(self) -> Stop {
-        match self {
-            Stop::Search(error) => Stop::Search(error),
-            Stop::OutOfMemory | Stop::Write(_) => Stop::OutOfMemory,
-            Stop::Read(error) => Stop::Read(error),
-        }
-    }
+    Write,
 }
 
 impl From<MatchError> for Stop {
@@ -40,9 +30,16 @@ impl From<AllocError> for Stop {
     }
 }
 
-/// The only errors of std that are handed on by `?` are those of the output.
+/// The only errors of std that are handed on by `?` are those of what is put together in memory.
 impl From<io::Error> for Stop {
-    fn from(error: io::Error) -> Stop {
-        Stop::Write(error)
+    fn from(_error: io::Error) -> Stop {
+        Stop::OutOfMemory
+    }
+}
+
+/// The only errors of a stream that are handed on by `?` are those of the output.
+impl From<StreamError> for Stop {
+    fn from(_error: StreamError) -> Stop {
+        Stop::Write
     }
 }

@@ -1,23 +1,27 @@
 //! Searching the files of a call, one after another.
 
-ghost use Rattle.std.specs.Prelude.{◌≡◌, ◌≤◌, ◌<◌, ◌⊎◌, [], IsTrue, OnOk, false, length, true};
+ghost use Rattle.std.specs.Prelude.{◌≡◌, ◌≤◌, ◌<◌, ◌⊎◌, ℕ, List, [], IsTrue, OnOk, false, length, true};
 ghost use Rattle.std.specs.Io.KnownBytes.{Appends};
 ghost use Rattle.aho_core.specs.Patterns.{Patterns};
-ghost use Rattle.acgrep.specs.Filled.{Reads};
-ghost use Rattle.acgrep.specs.Files.{AreBegun, AreSearchedOr, BeginsFile, BeginsName, BeginsTotal, EndsFile, IfBroken, IfSearched, IsNamed, LeavesInput, SearchesFile, SearchesName, SearchesNames, SearchesReader, is_enough, names_of, nothing_seen, or_input, seen_after, status_by, total_if};
+ghost use Rattle.acgrep.specs.Filled.{ReadsOn};
+ghost use Rattle.programs.specs.Names.{IsAmong, name_bytes, or_input};
+ghost use Rattle.programs.specs.Telling.{TellsSome};
+ghost use Rattle.acgrep.specs.Told.{IsMessage, TellsIf, TellsOutcome, TellsStatus, shown_names};
+ghost use Rattle.acgrep.specs.Files.{AreFilesBegun, AreSearchedOr, BeginsFile, BeginsName, BeginsTotal, EndsFile, IfBroken, IfSearched, IsNamed, LeavesInput, SearchesFile, SearchesName, SearchesNames, SearchesReader, is_enough, nothing_seen, seen_after, shown_name, status_by, total_if};
 ghost use Rattle.acgrep.specs.Selected.{HoldNoNewline};
 
 use crate::buffer::Buffer;
 use crate::failure::Stop;
-use crate::keys::{INPUT, INPUT_NAME, is_input, open_named, tell_fault};
+use crate::keys::{INPUT, INPUT_NAME, is_input, open_named};
 use crate::open::Open;
 use crate::options::Shown;
-use crate::page::write_page;
 use crate::print::{Style, put_count, put_name};
 use crate::select::{Job, State};
 use crate::stream::search_stream;
-use crate::tell::{tell, tell_of, tell_write};
-use chromesquid::Automaton;
+use crate::tell::{tell_fault, tell_memory, tell_search, tell_write};
+use chromesquid::{Automaton, Sink, write_whole};
+use programs::errors::Errors;
+use programs::reason::Reason;
 use std::alloc::Global;
 use std::io;
 use std::io::{Read, Write};
@@ -117,25 +121,30 @@ fn is_enough(shown: Shown, any: bool) -> bool
 }
 
 /// Searches all files, and answers the status. A file that cannot be read does not stop the others.
-pub fn search_files<A: Automaton, F: Open, R: Read, W: Write, E: Write>(
+pub fn search_files<A: Automaton, F: Open, R: Read, W: Sink, E: Sink>(
     automaton: &A,
     job: &Job<'_>,
     files: &Files<'_, F>,
     input: &mut R,
     output: &mut W,
-    errors: &mut E,
+    errors: &mut Errors<'_, E>,
 ) -> u8
     requires of { (p : Patterns) × A.is_of automaton.now p }
     ensures bound { result ≤ 2 }
     ensures searched { (p : Patterns) → A.is_of automaton.now p → HoldNoNewline p → result < 2
-        → AreSearchedOr p job.now (F.holds files.now.files.now) (or_input (names_of files.now.names.now))
+        → AreSearchedOr p job.now (F.holds files.now.files.now) (or_input (name_bytes files.now.names.now))
         (R.remaining input.old) (R.remaining input.new)
-        (W.contents output.old) (W.contents output.new) result }
+        (W.taken output.old) (W.taken output.new) result }
 
     // Whatever the status, a beginning of what is asked is written.
     ensures begun { (p : Patterns) → A.is_of automaton.now p → HoldNoNewline p
-        → AreBegun p job.now (F.holds files.now.files.now) (or_input (names_of files.now.names.now))
-        (R.remaining input.old) (W.contents output.old) (W.contents output.new) }
+        → AreFilesBegun p job.now (F.holds files.now.files.now) (or_input (name_bytes files.now.names.now))
+        (R.remaining input.old) (W.taken output.old) (W.taken output.new) }
+
+    // What is told tells why a file was not searched; where the status tells of no error, nothing is told.
+    ensures told { TellsStatus E.Sink
+        (IsMessage (shown_names (or_input (name_bytes files.now.names.now))))
+        job.now.shown result errors.old errors.new }
 {
     if files.names.is_empty() {
         let names = [INPUT];
@@ -163,7 +172,7 @@ pub fn search_files<A: Automaton, F: Open, R: Read, W: Write, E: Write>(
 }
 
 /// Searches the files of these names, and answers the status.
-fn search_names<A: Automaton, F: Open, R: Read, W: Write, E: Write>(
+fn search_names<A: Automaton, F: Open, R: Read, W: Sink, E: Sink>(
     automaton: &A,
     job: &Job<'_>,
     alloc: Global,
@@ -171,20 +180,22 @@ fn search_names<A: Automaton, F: Open, R: Read, W: Write, E: Write>(
     names: &[&[u8]],
     input: &mut R,
     output: &mut W,
-    errors: &mut E,
+    errors: &mut Errors<'_, E>,
 ) -> u8
     requires of { (p : Patterns) × A.is_of automaton.now p }
     ensures bound { result ≤ 2 }
     ensures searched { (p : Patterns) → A.is_of automaton.now p → HoldNoNewline p → result < 2
-        → AreSearchedOr p job.now (F.holds files.now) (names_of names.now)
+        → AreSearchedOr p job.now (F.holds files.now) (name_bytes names.now)
         (R.remaining input.old) (R.remaining input.new)
-        (W.contents output.old) (W.contents output.new) result }
+        (W.taken output.old) (W.taken output.new) result }
     ensures begun { (p : Patterns) → A.is_of automaton.now p → HoldNoNewline p
-        → AreBegun p job.now (F.holds files.now) (names_of names.now)
-        (R.remaining input.old) (W.contents output.old) (W.contents output.new) }
+        → AreFilesBegun p job.now (F.holds files.now) (name_bytes names.now)
+        (R.remaining input.old) (W.taken output.old) (W.taken output.new) }
+    ensures told { TellsStatus E.Sink (IsMessage (shown_names (name_bytes names.now)))
+        job.now.shown result errors.old errors.new }
 {
     let Ok(mut buffer) = Buffer::new(alloc) else {
-        tell(errors, &[b"out of memory"]);
+        tell_memory(errors);
         return 2;
     };
     let mut page = Vec::new(alloc);
@@ -203,7 +214,7 @@ fn search_names<A: Automaton, F: Open, R: Read, W: Write, E: Write>(
 }
 
 /// Searches the files of these names, one after another, and answers what was seen.
-fn search_each<A: Automaton, F: Open, R: Read, W: Write, E: Write>(
+fn search_each<A: Automaton, F: Open, R: Read, W: Sink, E: Sink>(
     automaton: &A,
     job: &Job<'_>,
     files: &F,
@@ -212,16 +223,18 @@ fn search_each<A: Automaton, F: Open, R: Read, W: Write, E: Write>(
     input: &mut R,
     page: &mut Vec<u8>,
     output: &mut W,
-    errors: &mut E,
+    errors: &mut Errors<'_, E>,
 ) -> Seen
     requires of { (p : Patterns) × A.is_of automaton.now p }
     ensures searched { (p : Patterns) → A.is_of automaton.now p → HoldNoNewline p
-        → SearchesNames p job.now (F.holds files.now) (names_of names.now)
+        → SearchesNames p job.now (F.holds files.now) (name_bytes names.now)
         (R.remaining input.old) (R.remaining input.new)
-        (W.contents output.old) (W.contents output.new) result }
+        (W.taken output.old) (W.taken output.new) result }
     ensures begun { (p : Patterns) → A.is_of automaton.now p → HoldNoNewline p
-        → AreBegun p job.now (F.holds files.now) (names_of names.now)
-        (R.remaining input.old) (W.contents output.old) (W.contents output.new) }
+        → AreFilesBegun p job.now (F.holds files.now) (name_bytes names.now)
+        (R.remaining input.old) (W.taken output.old) (W.taken output.new) }
+    ensures told { TellsIf E.Sink (IsMessage (shown_names (name_bytes names.now)))
+        result.failed errors.old errors.new }
 {
     let mut seen = Seen::new();
     let mut rest = names;
@@ -245,7 +258,7 @@ fn goes_on(rest: &[&[u8]], seen: Seen) -> bool
 }
 
 /// Searches the file of a name.
-fn search_name<A: Automaton, F: Open, R: Read, W: Write, E: Write>(
+fn search_name<A: Automaton, F: Open, R: Read, W: Sink, E: Sink>(
     automaton: &A,
     job: &Job<'_>,
     files: &F,
@@ -254,17 +267,19 @@ fn search_name<A: Automaton, F: Open, R: Read, W: Write, E: Write>(
     input: &mut R,
     page: &mut Vec<u8>,
     output: &mut W,
-    errors: &mut E,
+    errors: &mut Errors<'_, E>,
 ) -> Outcome
     requires of { (p : Patterns) × A.is_of automaton.now p }
     ensures searched { (p : Patterns) → A.is_of automaton.now p → HoldNoNewline p
         → IfSearched result (SearchesName p job.now (F.holds files.now) name.now
         (R.remaining input.old) (R.remaining input.new)
-        (W.contents output.old) (W.contents output.new)) }
+        (W.taken output.old) (W.taken output.new)) }
     ensures begun { (p : Patterns) → A.is_of automaton.now p → HoldNoNewline p
         → IfBroken result (BeginsName p job.now (F.holds files.now) name.now
-        (R.remaining input.old) (W.contents output.old) (W.contents output.new)) }
+        (R.remaining input.old) (W.taken output.old) (W.taken output.new)) }
     ensures leaves { LeavesInput name.now (R.remaining input.old) (R.remaining input.new) }
+    ensures told { (names : List (List ℕ)) → IsAmong (shown_name name.now) names
+        → TellsOutcome E.Sink (IsMessage names) result errors.old errors.new }
 {
     if is_input(name) {
         let named = job_for(job, INPUT_NAME);
@@ -275,7 +290,7 @@ fn search_name<A: Automaton, F: Open, R: Read, W: Write, E: Write>(
 }
 
 /// Opens the file of a name and searches it.
-fn search_named<A: Automaton, F: Open, W: Write, E: Write>(
+fn search_named<A: Automaton, F: Open, W: Sink, E: Sink>(
     automaton: &A,
     job: &Job<'_>,
     files: &F,
@@ -283,45 +298,49 @@ fn search_named<A: Automaton, F: Open, W: Write, E: Write>(
     buffer: &mut Buffer,
     page: &mut Vec<u8>,
     output: &mut W,
-    errors: &mut E,
+    errors: &mut Errors<'_, E>,
 ) -> Outcome
     requires of { (p : Patterns) × A.is_of automaton.now p }
     ensures searched { (p : Patterns) → A.is_of automaton.now p → HoldNoNewline p
         → IfSearched result (SearchesFile p job.now (F.holds files.now name.now)
-        (W.contents output.old) (W.contents output.new)) }
+        (W.taken output.old) (W.taken output.new)) }
     ensures begun { (p : Patterns) → A.is_of automaton.now p → HoldNoNewline p
         → IfBroken result (BeginsFile p job.now (F.holds files.now name.now)
-        (W.contents output.old) (W.contents output.new)) }
+        (W.taken output.old) (W.taken output.new)) }
+    ensures told { (names : List (List ℕ)) → IsAmong job.now.style.name.now names
+        → TellsOutcome E.Sink (IsMessage names) result errors.old errors.new }
 {
     match open_named(files, name) {
         Ok(mut file) => search_one(automaton, job, buffer, &mut file, page, output, errors),
         Err(error) => {
             let _ = output.flush();
-            tell_fault(name, &error, errors);
+            tell_fault(job.style.name, Reason::of(&error), errors);
             Outcome::Unread
         }
     }
 }
 
 /// Searches what a reader gives, and writes what is asked of it.
-fn search_one<A: Automaton, R: Read, W: Write, E: Write>(
+fn search_one<A: Automaton, R: Read, W: Sink, E: Sink>(
     automaton: &A,
     job: &Job<'_>,
     buffer: &mut Buffer,
     reader: &mut R,
     page: &mut Vec<u8>,
     output: &mut W,
-    errors: &mut E,
+    errors: &mut Errors<'_, E>,
 ) -> Outcome
     requires of { (p : Patterns) × A.is_of automaton.now p }
     ensures searched { (p : Patterns) → A.is_of automaton.now p → HoldNoNewline p
         → IfSearched result (SearchesReader p job.now
         (R.remaining reader.old) (R.remaining reader.new)
-        (W.contents output.old) (W.contents output.new)) }
+        (W.taken output.old) (W.taken output.new)) }
     ensures begun { (p : Patterns) → A.is_of automaton.now p → HoldNoNewline p
         → IfBroken result (BeginsFile p job.now (R.remaining reader.old)
-        (W.contents output.old) (W.contents output.new)) }
-    ensures reads { Reads (R.remaining reader.old) (R.remaining reader.new) }
+        (W.taken output.old) (W.taken output.new)) }
+    ensures reads { ReadsOn (R.remaining reader.old) (R.remaining reader.new) }
+    ensures told { (names : List (List ℕ)) → IsAmong job.now.style.name.now names
+        → TellsOutcome E.Sink (IsMessage names) result errors.old errors.new }
 {
     let mut state = State::new(job.first);
     match search_stream(automaton, job, buffer, reader, &mut state, page, output) {
@@ -331,38 +350,42 @@ fn search_one<A: Automaton, R: Read, W: Write, E: Write>(
 }
 
 /// Writes what is asked of a file that was searched.
-fn end_file<W: Write, E: Write>(
+fn end_file<W: Sink, E: Sink>(
     job: &Job<'_>,
     state: &State,
     page: &mut Vec<u8>,
     output: &mut W,
-    errors: &mut E,
+    errors: &mut Errors<'_, E>,
 ) -> Outcome
     ensures ended { IfSearched result (EndsFile job.now state.now.selected
-        (W.contents output.old) (W.contents output.new)) }
+        (W.taken output.old) (W.taken output.new)) }
     ensures begun { IfBroken result (BeginsTotal job.now state.now.selected
-        (W.contents output.old) (W.contents output.new)) }
+        (W.taken output.old) (W.taken output.new)) }
+    ensures told { (names : List (List ℕ)) →
+        TellsOutcome E.Sink (IsMessage names) result errors.old errors.new }
 {
     match put_total(job, state.selected, page, output) {
         Ok(()) => Outcome::Searched(state.selected > 0),
-        Err(error) => {
-            tell_write(errors, &error);
+        Err(stop) => {
+            tell_total(&stop, errors);
             Outcome::Stopped
         }
     }
 }
 
 /// Tells why a search stopped. Of a file that cannot be read to its end is written what is asked of it so far.
-fn break_off<W: Write, E: Write>(
+fn break_off<W: Sink, E: Sink>(
     job: &Job<'_>,
     state: &State,
     stop: &Stop,
     page: &mut Vec<u8>,
     output: &mut W,
-    errors: &mut E,
+    errors: &mut Errors<'_, E>,
 ) -> Outcome
     ensures unsearched { IfSearched result (λ any. ⊥) }
-    ensures begun { BeginsTotal job.now state.now.selected (W.contents output.old) (W.contents output.new) }
+    ensures begun { BeginsTotal job.now state.now.selected (W.taken output.old) (W.taken output.new) }
+    ensures told { (names : List (List ℕ)) → IsAmong job.now.style.name.now names
+        → TellsSome E.Sink (IsMessage names) errors.old errors.new }
 {
     let _ = output.flush();
     if tell_stop(job.style.name, stop, errors) {
@@ -370,27 +393,27 @@ fn break_off<W: Write, E: Write>(
     }
     match put_total(job, state.selected, page, output) {
         Ok(()) => Outcome::Unread,
-        Err(error) => {
-            tell_write(errors, &error);
+        Err(stop) => {
+            tell_total(&stop, errors);
             Outcome::Stopped
         }
     }
 }
 
 /// Writes what is asked of a file as a whole, of which this many lines were selected. It is put together first.
-fn put_total<W: Write>(
+fn put_total<W: Sink>(
     job: &Job<'_>,
     selected: u64,
     page: &mut Vec<u8>,
     output: &mut W,
-) -> io::Result<()>
-    ensures written { OnOk result (Appends (W.contents output.old) (W.contents output.new)
+) -> Result<(), Stop>
+    ensures written { OnOk result (Appends (W.taken output.old) (W.taken output.new)
         (total_if job.now.shown job.now.style selected)) }
-    ensures begun { BeginsTotal job.now selected (W.contents output.old) (W.contents output.new) }
+    ensures begun { BeginsTotal job.now selected (W.taken output.old) (W.taken output.new) }
 {
     page.clear();
     put_asked(job, selected, page)?;
-    write_page(output, page.as_slice())
+    Ok(write_whole(output, page.as_slice())?)
 }
 
 /// Puts together what is asked of a file as a whole, of which this many lines were selected.
@@ -406,24 +429,37 @@ fn put_asked<W: Write>(job: &Job<'_>, selected: u64, output: &mut W) -> io::Resu
 }
 
 /// Tells why a search stopped, and answers whether that ends the call.
-fn tell_stop<E: Write>(name: &[u8], stop: &Stop, errors: &mut E) -> bool {
+fn tell_stop<E: Sink>(name: &[u8], stop: &Stop, errors: &mut Errors<'_, E>) -> bool
+    ensures told { (names : List (List ℕ)) → IsAmong name.now names
+        → TellsSome E.Sink (IsMessage names) errors.old errors.new }
+{
     match stop {
-        Stop::Read(error) => {
-            tell_fault(name, error, errors);
+        Stop::Read(reason) => {
+            tell_fault(name, *reason, errors);
             false
         }
-        Stop::Write(error) => {
-            tell_write(errors, error);
+        Stop::Write => {
+            tell_write(errors);
             true
         }
         Stop::Search(error) => {
-            tell_of(errors, b"search", error);
+            tell_search(error, errors);
             true
         }
         Stop::OutOfMemory => {
-            tell(errors, &[name, b": out of memory"]);
+            tell_fault(name, Reason::OutOfMemory, errors);
             true
         }
+    }
+}
+
+/// Tells why what is asked of a file as a whole was not written: memory ran out, or the output cannot be written.
+fn tell_total<E: Sink>(stop: &Stop, errors: &mut Errors<'_, E>)
+    ensures told { (names : List (List ℕ)) → TellsSome E.Sink (IsMessage names) errors.old errors.new }
+{
+    match stop {
+        Stop::OutOfMemory => tell_memory(errors),
+        _ => tell_write(errors),
     }
 }
 

@@ -5,7 +5,7 @@ ghost use Rattle.std.specs.Iterator.Runs.{WholeRun};
 ghost use Rattle.std.specs.Prelude.{◌≡◌, ◌<◌, ◌++◌, OnOk, decimal};
 ghost use Rattle.std.specs.Io.KnownBytes.{Appends};
 ghost use Rattle.aho_core.specs.Patterns.{Patterns};
-ghost use Rattle.acgrep.specs.Objects.{WritesObjects, escaped, escaped_byte, hex_of, object_by, objects_by};
+ghost use Rattle.acgrep.specs.Objects.{WritesObjects, json_escaped, escaped_byte, hex_of, object_by, objects_by};
 
 use crate::failure::Stop;
 use crate::print::{DIGITS, Place, Style, put_digits};
@@ -92,7 +92,7 @@ fn put_field<W: Write>(output: &mut W, before: &[u8], number: u64) -> io::Result
 /// Writes bytes as they stand in a JSON string.
 fn put_escaped<W: Write>(output: &mut W, bytes: &[u8]) -> io::Result<()>
     ensures written { OnOk result (Appends (W.contents output.old) (W.contents output.new)
-        (escaped bytes.now)) }
+        (json_escaped bytes.now)) }
 {
     for byte in bytes {
         put_byte(output, *byte)?;

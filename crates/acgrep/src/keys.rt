@@ -1,23 +1,26 @@
 //! Reading the patterns that a call names, and telling which one is refused.
 
-ghost use Rattle.std.specs.Prelude.{◌≡◌, IfOk, IfSome, OnOk, true};
+ghost use Rattle.std.specs.Prelude.{◌≡◌, ℕ, List, IfOk, IfSome, IsNone, IsSome, OnOk, true};
 ghost use Rattle.std.specs.Io.KnownBytes.{Keeps};
 ghost use Rattle.acgrep.specs.Arguments.{origin_of};
-ghost use Rattle.acgrep.specs.Files.{is_input};
+ghost use Rattle.programs.specs.Names.{IsAmong, is_input};
 ghost use Rattle.acgrep.specs.Lines.{lines};
 ghost use Rattle.acgrep.specs.Loading.{AddsText, AddsWords};
 ghost use Rattle.acgrep.specs.Runs.{AreWords, origins_of};
+ghost use Rattle.acgrep.specs.Told.{IsMessage, MayName, source_names};
 ghost use Rattle.acgrep.specs.Written.{EndsLine};
+ghost use Rattle.programs.specs.Telling.{TellsSome};
 
 use crate::arguments::Source;
 use crate::open::Open;
 use crate::patterns::Keys;
-use crate::tell::{tell, tell_of};
-use chromesquid::BuildError;
+use crate::tell::{tell_build, tell_fault, tell_memory};
+use chromesquid::{BuildError, Sink};
 use memchr::memchr_iter;
+use programs::errors::Errors;
+use programs::reason::Reason;
 use std::alloc::Global;
-use std::fmt::{InlineText, Write as _};
-use std::io::{ErrorKind, Read, Write};
+use std::io::{ErrorKind, Read};
 use std::{io, str};
 
 /// The name of standard input among the arguments.
@@ -26,19 +29,19 @@ pub const INPUT: &[u8] = b"-";
 /// The name of standard input in what is written.
 pub const INPUT_NAME: &[u8] = b"(standard input)";
 
-/// The room for a number and a text around it.
-const ROOM: usize = 160;
-
 /// The patterns of all sources, or none where one cannot be read, which is told.
-pub fn read_keys<F: Open, R: Read, E: Write>(
+pub fn read_keys<F: Open, R: Read, E: Sink>(
     alloc: Global,
     sources: &[Source<'_>],
     files: &F,
     input: &mut R,
-    errors: &mut E,
+    errors: &mut Errors<'_, E>,
 ) -> Option<Keys>
     ensures words { IfSome result (λ keys. AreWords (F.holds files.now) (origins_of sources.now)
         (R.remaining input.old) (R.remaining input.new) (lines keys.text.items)) }
+    ensures silent { IsSome result → errors.new ≡ errors.old }
+    ensures told { IsNone result → TellsSome E.Sink
+        (IsMessage (source_names (origins_of sources.now))) errors.old errors.new }
 {
     let mut keys = Keys::new(alloc);
     let mut rest = sources;
@@ -47,7 +50,7 @@ pub fn read_keys<F: Open, R: Read, E: Write>(
         match read_source(&mut keys, source, files, input) {
             Ok(()) => {}
             Err(error) => {
-                tell_fault(name_of(source), &error, errors);
+                tell_source(source, Reason::of(&error), errors);
                 return None;
             }
         }
@@ -56,11 +59,14 @@ pub fn read_keys<F: Open, R: Read, E: Write>(
     Some(keys)
 }
 
-/// The name of the file of a source. A text has none.
-fn name_of<'a>(source: Source<'a>) -> &'a [u8] {
+/// Tells why a source cannot be read. Where it is a text, memory ran out.
+fn tell_source<E: Sink>(source: Source<'_>, reason: Reason, errors: &mut Errors<'_, E>)
+    ensures told { (names : List (List ℕ)) → IsAmong (origin_of source.entry).bytes names
+        → TellsSome E.Sink (IsMessage names) errors.old errors.new }
+{
     match source {
-        Source::Text(_) => b"",
-        Source::File(name) => name,
+        Source::Text(_) => tell_memory(errors),
+        Source::File(name) => tell_fault(name, reason, errors),
     }
 }
 
@@ -129,15 +135,6 @@ pub fn is_input(name: &[u8]) -> bool
     name == INPUT
 }
 
-/// Tells why a file cannot be read, or that memory ran out.
-pub fn tell_fault<E: Write>(name: &[u8], error: &io::Error, errors: &mut E) {
-    if error.kind() == ErrorKind::OutOfMemory {
-        tell(errors, &[b"out of memory"]);
-    } else {
-        tell_of(errors, name, error);
-    }
-}
-
 /// Opens a file by the bytes of its name.
 pub fn open_named<F: Open>(files: &F, name: &[u8]) -> io::Result<F::File>
     ensures told { IfOk result (λ file.
@@ -150,25 +147,36 @@ pub fn open_named<F: Open>(files: &F, name: &[u8]) -> io::Result<F::File>
 }
 
 /// Tells which pattern is refused, by its file and line, or by its number among the patterns of an argument.
-pub fn tell_refusal<E: Write>(
+pub fn tell_refusal<E: Sink>(
     keys: &Keys,
     sources: &[Source<'_>],
     error: &BuildError,
-    errors: &mut E,
-) {
-    let number = match error {
-        BuildError::PatternTooLong { pattern, .. } => pattern.as_usize(),
-        _ => {
-            tell_of(errors, b"patterns", error);
-            return;
+    errors: &mut Errors<'_, E>,
+)
+    ensures told { TellsSome E.Sink (IsMessage (source_names (origins_of sources.now)))
+        errors.old errors.new }
+{
+    match error {
+        BuildError::PatternTooLong { pattern, .. } => {
+            let (source, line) = origin_of(keys, pattern.as_usize());
+            tell_build(
+                source_name(sources, source),
+                Some(line as u64),
+                error,
+                errors,
+            );
         }
-    };
-    let (source, line) = origin_of(keys, number);
-    let mut text: InlineText<{ ROOM }> = InlineText::new();
-    let _ = write!(text, "line {line}: {error}");
-    match sources.get(source) {
-        Some(Source::File(name)) => tell(errors, &[*name, b": ", text.as_str().as_bytes()]),
-        _ => tell(errors, &[b"pattern: ", text.as_str().as_bytes()]),
+        _ => tell_build(b"patterns", None, error, errors),
+    }
+}
+
+/// How the source of this number is called: a file by its name.
+fn source_name<'a>(sources: &[Source<'a>], number: usize) -> &'a [u8]
+    ensures named { MayName (source_names (origins_of sources.now)) result.now }
+{
+    match sources.get(number) {
+        Some(Source::File(name)) => name,
+        _ => b"pattern",
     }
 }
 

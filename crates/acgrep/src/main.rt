@@ -14,7 +14,6 @@ mod keys;
 mod lines;
 mod open;
 mod options;
-mod page;
 mod patterns;
 mod print;
 mod run;
@@ -23,29 +22,32 @@ mod select;
 mod stream;
 mod tell;
 
+use chromesquid::FromWrite;
 use open::System;
-use run::run;
-use std::io::{BufWriter, IsTerminal, Write};
+use programs::arguments::arguments;
+use programs::closed::{Noted, Quiet};
+use programs::errors::Errors;
+use programs::failure::Failure;
+use run::{refuse, run};
+use std::cell::Cell;
+use std::env;
+use std::io::{BufWriter, IsTerminal};
 use std::process::ExitCode;
-use std::{env, io};
-use tell::{tell, tell_of};
 
 /// How many bytes of output are kept before they are written.
 const OUTPUT_CAPACITY: usize = 64 * 1024;
 
 fn main(rt: HostRuntime) -> ExitCode {
-    let mut errors = rt.stderr();
-    let given = match given_arguments(&rt) {
+    let reason = Cell::new(None);
+    let mut errors = Errors::new(FromWrite::new(Quiet::new(rt.stderr(), &reason)), &reason);
+    let given = match arguments(&rt) {
         Ok(given) => given,
-        Err(error) => {
-            tell_unread(&mut errors, &error);
-            return ExitCode::from(2);
-        }
+        Err(failure) => return ExitCode::from(refuse(&failure, &mut errors)),
     };
     let terminal = rt.stdout().is_terminal() && has_colors(&rt);
-    let Ok(mut output) = BufWriter::with_capacity(rt.alloc(), OUTPUT_CAPACITY, rt.stdout()) else {
-        tell(&mut errors, &[b"out of memory"]);
-        return ExitCode::from(2);
+    let noted = Noted::new(rt.stdout(), &reason);
+    let Ok(output) = BufWriter::with_capacity(rt.alloc(), OUTPUT_CAPACITY, noted) else {
+        return ExitCode::from(refuse(&Failure::OutOfMemory, &mut errors));
     };
     let status = run(
         rt.alloc(),
@@ -53,30 +55,10 @@ fn main(rt: HostRuntime) -> ExitCode {
         terminal,
         &System::new(&rt),
         &mut rt.stdin(),
-        &mut output,
+        &mut FromWrite::new(output),
         &mut errors,
     );
     ExitCode::from(status)
-}
-
-/// The arguments after the program's name. `collect` goes on where its first allocation is refused, so they are put one after
-/// another.
-fn given_arguments(rt: &HostRuntime) -> io::Result<Vec<String>> {
-    let mut arguments = Vec::new(rt.alloc());
-    for argument in env::args(rt)?.skip(1) {
-        if arguments.push(argument).is_err() {
-            return Err(io::Error::from(io::ErrorKind::OutOfMemory));
-        }
-    }
-    Ok(arguments)
-}
-
-/// Tells why the arguments cannot be read.
-fn tell_unread<E: Write>(errors: &mut E, error: &io::Error) {
-    match error.kind() {
-        io::ErrorKind::InvalidData => tell(errors, &[b"an argument is not UTF-8"]),
-        _ => tell_of(errors, b"arguments", error),
-    }
 }
 
 /// Whether the terminal has colours: it has a name, and is not called dumb.

@@ -1,12 +1,17 @@
 //! A call over its arguments, files and streams.
 
-ghost use Rattle.std.specs.Prelude.{◌≡◌, ◌≤◌, ◌<◌, ◌⊎◌, None, nat_lt, unwrap_or};
+ghost use Rattle.std.specs.Prelude.{◌≡◌, ◌≤◌, ◌<◌, ◌⊎◌, ℕ, List, [], None, Some, false, nat_lt, true, unwrap_or};
 ghost use Rattle.std.specs.Io.KnownBytes.{Keeps};
 ghost use Rattle.aho_core.specs.Patterns.{Patterns};
 ghost use Rattle.aho_core.specs.Replacement.{pieces_of};
-ghost use Rattle.acgrep.specs.Arguments.{said, said_by, texts};
-ghost use Rattle.acgrep.specs.Files.{AreBegun, AreSearchedOr, names_of, or_input};
-ghost use Rattle.acgrep.specs.Runs.{AsksToSearch, Begins, BeginsFor, GivesNone, IfSaid, IsJob, Searches, SearchesFor, are_empty, is_colored, origins_of, selects_none};
+ghost use Rattle.programs.specs.Arguments.{texts};
+ghost use Rattle.acgrep.specs.Arguments.{said, said_by, shown_by};
+ghost use Rattle.programs.specs.Names.{name_bytes, or_input};
+ghost use Rattle.programs.specs.Telling.{Tells, TellsSome};
+ghost use Rattle.acgrep.specs.declared.options.Shown.{Shown};
+ghost use Rattle.acgrep.specs.Told.{IsMessage, MayTell, TellsStatus, names_said, names_told, shown_names};
+ghost use Rattle.acgrep.specs.Files.{AreFilesBegun, AreSearchedOr};
+ghost use Rattle.acgrep.specs.Runs.{AsksToSearch, BeginsSearch, BeginsFor, GivesNone, IfSaid, IsJob, Searches, SearchesFor, are_empty, is_colored, origins_of, selects_none};
 ghost use Rattle.acgrep.specs.Searchers.{IsSearcherOf};
 ghost use Rattle.acgrep.specs.Selected.{HoldNoNewline};
 
@@ -20,20 +25,23 @@ use crate::patterns::lines_of;
 use crate::print::Style;
 use crate::searcher::Searcher;
 use crate::select::Job;
-use crate::tell::{tell, tell_write, tell_wrong};
+use crate::tell::{tell_memory, tell_write, tell_wrong};
+use chromesquid::{Sink, write_whole};
+use programs::errors::Errors;
+use programs::failure::Failure;
 use std::alloc::Global;
-use std::io::{Read, Write};
+use std::io::Read;
 
 /// Does what the arguments after the program's name ask for, and answers the exit status: 0 where a line was selected, 1 where
 /// none was, and 2 where an error occurred. `terminal` says whether the output is a terminal with colours.
-pub fn run<F: Open, R: Read, W: Write, E: Write>(
+pub fn run<F: Open, R: Read, W: Sink, E: Sink>(
     alloc: Global,
     arguments: &[String],
     terminal: bool,
     files: &F,
     input: &mut R,
     output: &mut W,
-    errors: &mut E,
+    errors: &mut Errors<'_, E>,
 ) -> u8
     ensures bound { result ≤ 2 }
 
@@ -41,7 +49,7 @@ pub fn run<F: Open, R: Read, W: Write, E: Write>(
     ensures usage { said_by (texts arguments.now) ≡ None → result ≡ 2 }
     ensures unread { said_by (texts arguments.now) ≡ None → input.new ≡ input.old }
     ensures unwritten { said_by (texts arguments.now) ≡ None
-        → Keeps (W.contents output.old) (W.contents output.new) }
+        → Keeps (W.taken output.old) (W.taken output.new) }
 
     // A search needs a pattern.
     ensures patternless { IfSaid arguments.now (λ said. AsksToSearch said.flags → GivesNone said
@@ -51,13 +59,24 @@ pub fn run<F: Open, R: Read, W: Write, E: Write>(
     ensures searches { IfSaid arguments.now (λ said. AsksToSearch said.flags → result < 2
         → Searches (F.holds files.now) terminal said
         (R.remaining input.old) (R.remaining input.new)
-        (W.contents output.old) (W.contents output.new) result) }
+        (W.taken output.old) (W.taken output.new) result) }
 
     // Whatever the status, what is written is a beginning of what is asked: the files are told one after another, and one that
     // cannot be read, or to whose end the output cannot be written, by some first lines and a beginning of what follows.
     ensures begins { IfSaid arguments.now (λ said. AsksToSearch said.flags
-        → Begins (F.holds files.now) terminal said
-        (R.remaining input.old) (W.contents output.old) (W.contents output.new)) }
+        → BeginsSearch (F.holds files.now) terminal said
+        (R.remaining input.old) (W.taken output.old) (W.taken output.new)) }
+
+    // Where the status tells of no error nothing is told, but under `-q` of files that cannot be read. Where it tells of one, a line
+    // says why: whole, unless writing it failed.
+    ensures tells { Tells E.Sink (MayTell (names_said (said_by (texts arguments.now)))) errors.old errors.new }
+    ensures silent { IfSaid arguments.now (λ said. said.flags.quiet ≡ false
+        → result < 2 → errors.new ≡ errors.old) }
+    ensures says_why { result ≡ 2 → TellsSome E.Sink
+        (MayTell (names_said (said_by (texts arguments.now)))) errors.old errors.new }
+
+    // All output was flushed where the status tells of no error.
+    ensures flushed { result < 2 → W.flushed output.new ≡ true }
 {
     match parse(alloc, arguments) {
         Ok(given) => {
@@ -72,24 +91,43 @@ pub fn run<F: Open, R: Read, W: Write, E: Write>(
 }
 
 /// Tells why the arguments are refused.
-fn tell_refused<E: Write>(refusal: Refusal<'_>, errors: &mut E) {
+fn tell_refused<E: Sink>(refusal: Refusal<'_>, errors: &mut Errors<'_, E>)
+    ensures told { (names : List (List ℕ)) → TellsSome E.Sink (MayTell names) errors.old errors.new }
+{
     match refusal {
         Refusal::Wrong(wrong) => tell_wrong(errors, wrong),
-        Refusal::OutOfMemory => tell(errors, &[b"out of memory"]),
+        Refusal::OutOfMemory => tell_memory(errors),
     }
 }
 
+/// Tells why there are no arguments, or no memory to begin with, and answers the exit status.
+pub fn refuse<E: Sink>(failure: &Failure, errors: &mut Errors<'_, E>) -> u8
+    ensures failed { result ≡ 2 }
+    ensures told { TellsSome E.Sink (MayTell []) errors.old errors.new }
+{
+    match failure {
+        Failure::OutOfMemory => tell_refused(Refusal::OutOfMemory, errors),
+        _ => tell_refused(Refusal::Wrong(Wrong::NotText), errors),
+    }
+    2
+}
+
 /// Hands on what the output keeps, and answers the status.
-fn finish<W: Write, E: Write>(status: u8, output: &mut W, errors: &mut E) -> u8
+fn finish<W: Sink, E: Sink>(status: u8, output: &mut W, errors: &mut Errors<'_, E>) -> u8
     ensures status { (result ≡ status) ⊎ (result ≡ 2) }
-    ensures kept { Keeps (W.contents output.old) (W.contents output.new) }
+    ensures kept { Keeps (W.taken output.old) (W.taken output.new) }
+    ensures flushed { result < 2 → W.flushed output.new ≡ true }
+    ensures silent { result < 2 → errors.new ≡ errors.old }
+    ensures told_before { 2 ≤ status → errors.new ≡ errors.old }
+    ensures told { status < 2 → result ≡ 2 → (names : List (List ℕ)) →
+        TellsSome E.Sink (IsMessage names) errors.old errors.new }
 {
     match output.flush() {
         Ok(()) => status,
-        Err(error) => {
+        Err(_) => {
             // Where the status is 2 it is told already why.
             if status < 2 {
-                tell_write(errors, &error);
+                tell_write(errors);
             }
             2
         }
@@ -97,24 +135,26 @@ fn finish<W: Write, E: Write>(status: u8, output: &mut W, errors: &mut E) -> u8
 }
 
 /// Does what right arguments ask for.
-fn answer<F: Open, R: Read, W: Write, E: Write>(
+fn answer<F: Open, R: Read, W: Sink, E: Sink>(
     alloc: Global,
     given: &Given<'_>,
     terminal: bool,
     files: &F,
     input: &mut R,
     output: &mut W,
-    errors: &mut E,
+    errors: &mut Errors<'_, E>,
 ) -> u8
     ensures bound { result ≤ 2 }
     ensures patternless { AsksToSearch given.now.flags → GivesNone (said given.now) → result ≡ 2 }
     ensures searches { AsksToSearch given.now.flags → result < 2
         → Searches (F.holds files.now) terminal (said given.now)
         (R.remaining input.old) (R.remaining input.new)
-        (W.contents output.old) (W.contents output.new) result }
+        (W.taken output.old) (W.taken output.new) result }
     ensures begins { AsksToSearch given.now.flags
-        → Begins (F.holds files.now) terminal (said given.now)
-        (R.remaining input.old) (W.contents output.old) (W.contents output.new) }
+        → BeginsSearch (F.holds files.now) terminal (said given.now)
+        (R.remaining input.old) (W.taken output.old) (W.taken output.new) }
+    ensures told { TellsStatus E.Sink (MayTell (names_said (Some (said given.now))))
+        (shown_by given.now.flags) result errors.old errors.new }
 {
     if given.flags.version {
         return write_text(VERSION, output, errors);
@@ -126,22 +166,24 @@ fn answer<F: Open, R: Read, W: Write, E: Write>(
 }
 
 /// Searches as the arguments say. Where no option gives patterns the first operand does.
-fn search_asked<F: Open, R: Read, W: Write, E: Write>(
+fn search_asked<F: Open, R: Read, W: Sink, E: Sink>(
     alloc: Global,
     given: &Given<'_>,
     terminal: bool,
     files: &F,
     input: &mut R,
     output: &mut W,
-    errors: &mut E,
+    errors: &mut Errors<'_, E>,
 ) -> u8
     ensures bound { result ≤ 2 }
     ensures patternless { GivesNone (said given.now) → result ≡ 2 }
     ensures searches { result < 2 → Searches (F.holds files.now) terminal (said given.now)
         (R.remaining input.old) (R.remaining input.new)
-        (W.contents output.old) (W.contents output.new) result }
-    ensures begins { Begins (F.holds files.now) terminal (said given.now)
-        (R.remaining input.old) (W.contents output.old) (W.contents output.new) }
+        (W.taken output.old) (W.taken output.new) result }
+    ensures begins { BeginsSearch (F.holds files.now) terminal (said given.now)
+        (R.remaining input.old) (W.taken output.old) (W.taken output.new) }
+    ensures told { TellsStatus E.Sink (MayTell (names_said (Some (said given.now))))
+        (shown_by given.now.flags) result errors.old errors.new }
 {
     let flags = &given.flags;
     let sources = given.sources.as_slice();
@@ -166,20 +208,22 @@ fn search_asked<F: Open, R: Read, W: Write, E: Write>(
 }
 
 /// Writes a text, and answers the status.
-fn write_text<W: Write, E: Write>(text: &[u8], output: &mut W, errors: &mut E) -> u8
+fn write_text<W: Sink, E: Sink>(text: &[u8], output: &mut W, errors: &mut Errors<'_, E>) -> u8
     ensures bound { result ≤ 2 }
+    ensures told { (shown : Shown) → (names : List (List ℕ)) →
+        TellsStatus E.Sink (MayTell names) shown result errors.old errors.new }
 {
-    match output.write_all(text) {
+    match write_whole(output, text) {
         Ok(()) => 0,
-        Err(error) => {
-            tell_write(errors, &error);
+        Err(_) => {
+            tell_write(errors);
             2
         }
     }
 }
 
 /// Searches the files of these names for the patterns of these sources.
-fn search<F: Open, R: Read, W: Write, E: Write>(
+fn search<F: Open, R: Read, W: Sink, E: Sink>(
     alloc: Global,
     flags: &Flags,
     terminal: bool,
@@ -188,22 +232,25 @@ fn search<F: Open, R: Read, W: Write, E: Write>(
     files: &F,
     input: &mut R,
     output: &mut W,
-    errors: &mut E,
+    errors: &mut Errors<'_, E>,
 ) -> u8
     ensures bound { result ≤ 2 }
     ensures searches { result < 2 → SearchesFor (F.holds files.now) terminal flags.now
-        (origins_of sources.now) (names_of names.now)
+        (origins_of sources.now) (name_bytes names.now)
         (R.remaining input.old) (R.remaining input.new)
-        (W.contents output.old) (W.contents output.new) result }
+        (W.taken output.old) (W.taken output.new) result }
     ensures begins { BeginsFor (F.holds files.now) terminal flags.now
-        (origins_of sources.now) (names_of names.now)
-        (R.remaining input.old) (W.contents output.old) (W.contents output.new) }
+        (origins_of sources.now) (name_bytes names.now)
+        (R.remaining input.old) (W.taken output.old) (W.taken output.new) }
+    ensures told { TellsStatus E.Sink
+        (MayTell (names_told (origins_of sources.now) (name_bytes names.now)))
+        (shown_by flags.now) result errors.old errors.new }
 {
     let Some(keys) = read_keys(alloc, sources, files, input, errors) else {
         return 2;
     };
     let Ok(patterns) = lines_of(alloc, keys.text.as_slice()) else {
-        tell(errors, &[b"out of memory"]);
+        tell_memory(errors);
         return 2;
     };
     let words = patterns.as_slice();
@@ -226,23 +273,26 @@ fn search<F: Open, R: Read, W: Write, E: Write>(
 }
 
 /// Searches these files by an automaton.
-fn search_by<F: Open, R: Read, W: Write, E: Write>(
+fn search_by<F: Open, R: Read, W: Sink, E: Sink>(
     searcher: &Searcher,
     job: &Job<'_>,
     files: &Files<'_, F>,
     input: &mut R,
     output: &mut W,
-    errors: &mut E,
+    errors: &mut Errors<'_, E>,
 ) -> u8
     requires of { (p : Patterns) × IsSearcherOf p searcher.now }
     ensures bound { result ≤ 2 }
     ensures searched { (p : Patterns) → IsSearcherOf p searcher.now → HoldNoNewline p → result < 2
-        → AreSearchedOr p job.now (F.holds files.now.files.now) (or_input (names_of files.now.names.now))
+        → AreSearchedOr p job.now (F.holds files.now.files.now) (or_input (name_bytes files.now.names.now))
         (R.remaining input.old) (R.remaining input.new)
-        (W.contents output.old) (W.contents output.new) result }
+        (W.taken output.old) (W.taken output.new) result }
     ensures begun { (p : Patterns) → IsSearcherOf p searcher.now → HoldNoNewline p
-        → AreBegun p job.now (F.holds files.now.files.now) (or_input (names_of files.now.names.now))
-        (R.remaining input.old) (W.contents output.old) (W.contents output.new) }
+        → AreFilesBegun p job.now (F.holds files.now.files.now) (or_input (name_bytes files.now.names.now))
+        (R.remaining input.old) (W.taken output.old) (W.taken output.new) }
+    ensures told { TellsStatus E.Sink
+        (IsMessage (shown_names (or_input (name_bytes files.now.names.now))))
+        job.now.shown result errors.old errors.new }
 {
     match searcher {
         Searcher::Rows(rows) => search_files(rows, job, files, input, output, errors),

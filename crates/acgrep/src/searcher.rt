@@ -1,17 +1,16 @@
 //! The automaton by which files are searched. No answer depends on how it is made.
 
-ghost use Rattle.std.specs.Prelude.{◌≡◌, IfOk, IfSome};
+ghost use Rattle.std.specs.Prelude.{◌≡◌, IfOk};
 ghost use Rattle.aho_core.specs.Patterns.{Patterns};
 ghost use Rattle.aho_core.specs.Replacement.{pieces_of};
-ghost use Rattle.aho_prefilter.specs.Prefilter.{IsPrefilterOf};
-ghost use Rattle.acgrep.specs.Searchers.{ArePatterns, IsSearcherOf, settings_by};
+ghost use Rattle.programs.specs.Asked.{ArePatterns};
+ghost use Rattle.acgrep.specs.Searchers.{IsSearcherOf, settings_asked};
 
 use aho_corasick::noncontiguous::{Builder, NFA};
-use aho_hybrid::hybrid::{DEFAULT_BUDGET, Hybrid};
-use aho_prefilter::laws::held_serves_each_kind;
-use aho_prefilter::prefilter::{PackedBuilder, Prefilter};
+use aho_hybrid::hybrid::Hybrid;
 use chromesquid::{Automaton, BuildError, MatchKind};
-use std::alloc::{AllocError, Global};
+use programs::rows::rows_of;
+use std::alloc::Global;
 
 /// An automaton of some patterns.
 #[derive(Drop)]
@@ -47,25 +46,6 @@ impl Searcher {
     }
 }
 
-/// The automaton with rows of what an `NFA` of these patterns is of; none where it would have too many states.
-fn rows_of(
-    alloc: Global,
-    nfa: &NFA,
-    ignore_case: bool,
-    patterns: &[&[u8]],
-) -> Result<Option<Hybrid>, AllocError>
-    ensures of { (p : Patterns) → ArePatterns p ignore_case (pieces_of patterns.now)
-        → ⟦<NFA as Automaton>⟧.is_of nfa.now p
-        → IfOk result (λ made. IfSome made (λ rows. ⟦<Hybrid as Automaton>⟧.is_of rows p)) }
-{
-    let prefilter = prefilter_of(alloc, ignore_case, patterns)?;
-    match Hybrid::with_prefilter(alloc, nfa, DEFAULT_BUDGET, prefilter) {
-        Ok(rows) => Ok(Some(rows)),
-        Err(BuildError::OutOfMemory) => Err(AllocError),
-        Err(_) => Ok(None),
-    }
-}
-
 /// The automaton that rows are made of.
 fn trie_of(
     alloc: Global,
@@ -82,7 +62,7 @@ fn trie_of(
 
 /// How it is built. The rows have the prefilter.
 fn builder_for(kind: MatchKind, ignore_case: bool) -> Builder
-    ensures settings { result ≡ settings_by kind ignore_case }
+    ensures settings { result ≡ settings_asked kind ignore_case }
 {
     let mut builder = NFA::builder();
     builder
@@ -90,21 +70,4 @@ fn builder_for(kind: MatchKind, ignore_case: bool) -> Builder
         .ascii_case_insensitive(ignore_case)
         .prefilter(false);
     builder
-}
-
-/// The prefilter of these patterns, which may be a packed search, if there is one.
-fn prefilter_of(
-    alloc: Global,
-    ignore_case: bool,
-    patterns: &[&[u8]],
-) -> Result<Option<Prefilter>, AllocError>
-    ensures of { (p : Patterns) → ArePatterns p ignore_case (pieces_of patterns.now)
-        → IfOk result (λ held. IfSome held (λ prefilter. IsPrefilterOf prefilter p)) }
-{
-    held_serves_each_kind();
-    let mut builder = PackedBuilder::new(alloc, ignore_case);
-    for pattern in patterns {
-        builder.add(pattern)?;
-    }
-    builder.build()
 }

@@ -5,15 +5,14 @@ ghost use Rattle.memchr.specs.Find.{is_byte, places};
 ghost use Rattle.aho_core.specs.Patterns.{Patterns};
 ghost use Rattle.acgrep.specs.Lines.{lines};
 ghost use Rattle.acgrep.specs.Selected.{HoldNoNewline, IsLine, IsNextLine, IsNoneSelected};
-ghost use Rattle.acgrep.specs.Written.{BeginsLine, BeginsLines, EachLine, EndsLine, HasMatch, HasNone, IsNumbered, IsSelected, IsSettled, SamePlace, SearchesText, SearchesTo, TellsLines, after_line, after_lines, at_begin, WritesLine, is_numbered, needs_one, one_more, place_at};
+ghost use Rattle.acgrep.specs.Written.{BeginsLine, BeginsLines, EachLine, EndsLine, HasMatch, HasNone, NumbersLines, IsSelected, IsSettled, SamePlace, SearchesText, SearchesTo, TellsLines, after_line, after_lines, at_begin, WritesLine, is_numbered, needs_one, one_more, place_behind};
 
 use crate::failure::Stop;
 use crate::json::put_objects;
 use crate::lines::{behind, line_end, line_start};
 use crate::options::Shown;
-use crate::page::write_page;
 use crate::print::{Place, Style, put_colored_line, put_line, put_matches};
-use chromesquid::{Automaton, Input, Span};
+use chromesquid::{Automaton, Input, Sink, Span, write_whole};
 use memchr::memchr_iter;
 use std::io::Write;
 
@@ -126,7 +125,7 @@ fn line_around(text: &[u8], place: usize) -> Span
 }
 
 /// Searches a text of whole lines, and writes what is asked of those that are selected.
-pub fn search_text<A: Automaton, W: Write>(
+pub fn search_text<A: Automaton, W: Sink>(
     automaton: &A,
     job: &Job<'_>,
     text: &[u8],
@@ -143,12 +142,12 @@ pub fn search_text<A: Automaton, W: Write>(
     // What is told of the lines is written, in order.
     ensures written { (p : Patterns) → A.is_of automaton.now p → HoldNoNewline p →
         OnOk result (SearchesText p job.now state.old state.new
-        (W.contents output.old) (W.contents output.new) text.now) }
+        (W.taken output.old) (W.taken output.new) text.now) }
 
     // Where it fails a beginning of that is.
     ensures begun { (p : Patterns) → A.is_of automaton.now p → HoldNoNewline p →
         OnErr result (BeginsLines p job.now state.old state.new.selected
-        (W.contents output.old) (W.contents output.new) (lines text.now)) }
+        (W.taken output.old) (W.taken output.new) (lines text.now)) }
 {
     let mut rest = text;
     while job.goes_on(rest, state) {
@@ -158,7 +157,7 @@ pub fn search_text<A: Automaton, W: Write>(
 }
 
 /// Searches the lines up to the first with a match and that one, and answers what follows.
-fn search_some<'t, A: Automaton, W: Write>(
+fn search_some<'t, A: Automaton, W: Sink>(
     automaton: &A,
     job: &Job<'_>,
     text: &'t [u8],
@@ -173,10 +172,10 @@ fn search_some<'t, A: Automaton, W: Write>(
         → OnOk result (state.new.selected ≡ 0 → (state.old.selected ≡ 0) × HasNone p text.now) }
     ensures written { (p : Patterns) → A.is_of automaton.now p → HoldNoNewline p →
         IfOk result (λ left. SearchesTo p job.now state.old state.new
-        (W.contents output.old) (W.contents output.new) text.now left.now) }
+        (W.taken output.old) (W.taken output.new) text.now left.now) }
     ensures begun { (p : Patterns) → A.is_of automaton.now p → HoldNoNewline p →
         OnErr result (BeginsLines p job.now state.old state.new.selected
-        (W.contents output.old) (W.contents output.new) (lines text.now)) }
+        (W.taken output.old) (W.taken output.new) (lines text.now)) }
 {
     match next_line(automaton, text)? {
         Some(line) => {
@@ -199,7 +198,7 @@ fn search_some<'t, A: Automaton, W: Write>(
 }
 
 /// Goes over a line with a match.
-fn pass_matched<A: Automaton, W: Write>(
+fn pass_matched<A: Automaton, W: Sink>(
     automaton: &A,
     job: &Job<'_>,
     line: &[u8],
@@ -212,10 +211,10 @@ fn pass_matched<A: Automaton, W: Write>(
     ensures placed { OnOk result (state.new.place ≡ after_line state.old.place line.now) }
     ensures written { (p : Patterns) → A.is_of automaton.now p → HasMatch p line.now
         → OnOk result (TellsLines p job.now state.old state.new
-        (W.contents output.old) (W.contents output.new) (line.now ∷ [])) }
+        (W.taken output.old) (W.taken output.new) (line.now ∷ [])) }
     ensures begun { (p : Patterns) → A.is_of automaton.now p → HasMatch p line.now
         → OnErr result (BeginsLines p job.now state.old state.new.selected
-        (W.contents output.old) (W.contents output.new) (line.now ∷ [])) }
+        (W.taken output.old) (W.taken output.new) (line.now ∷ [])) }
 {
     if job.invert {
         state.place = behind_line(state.place, line);
@@ -225,7 +224,7 @@ fn pass_matched<A: Automaton, W: Write>(
 }
 
 /// Goes over a selected line.
-fn pass_selected<A: Automaton, W: Write>(
+fn pass_selected<A: Automaton, W: Sink>(
     automaton: &A,
     job: &Job<'_>,
     line: &[u8],
@@ -238,10 +237,10 @@ fn pass_selected<A: Automaton, W: Write>(
     ensures placed { OnOk result (state.new.place ≡ after_line state.old.place line.now) }
     ensures shown { (p : Patterns) → A.is_of automaton.now p → OnOk result
         (WritesLine p job.now state.old.place
-        (W.contents output.old) (W.contents output.new) line.now) }
+        (W.taken output.old) (W.taken output.new) line.now) }
     ensures begun { (p : Patterns) → A.is_of automaton.now p → IsSelected p job.now.invert line.now
         → OnErr result (BeginsLines p job.now state.old state.new.selected
-        (W.contents output.old) (W.contents output.new) (line.now ∷ [])) }
+        (W.taken output.old) (W.taken output.new) (line.now ∷ [])) }
 {
     show(automaton, job, line, state.place, page, output)?;
     state.selected = state.selected.saturating_add(1);
@@ -250,7 +249,7 @@ fn pass_selected<A: Automaton, W: Write>(
 }
 
 /// Goes over lines without a match.
-fn pass_others<A: Automaton, W: Write>(
+fn pass_others<A: Automaton, W: Sink>(
     automaton: &A,
     job: &Job<'_>,
     text: &[u8],
@@ -266,11 +265,11 @@ fn pass_others<A: Automaton, W: Write>(
     ensures written { (p : Patterns) → A.is_of automaton.now p
         → EachLine (HasNone p) (lines text.now)
         → OnOk result (TellsLines p job.now state.old state.new
-        (W.contents output.old) (W.contents output.new) (lines text.now)) }
+        (W.taken output.old) (W.taken output.new) (lines text.now)) }
     ensures begun { (p : Patterns) → A.is_of automaton.now p
         → EachLine (HasNone p) (lines text.now)
         → OnErr result (BeginsLines p job.now state.old state.new.selected
-        (W.contents output.old) (W.contents output.new) (lines text.now)) }
+        (W.taken output.old) (W.taken output.new) (lines text.now)) }
 {
     if job.invert {
         return pass_each(automaton, job, text, state, page, output);
@@ -280,7 +279,7 @@ fn pass_others<A: Automaton, W: Write>(
 }
 
 /// Goes over lines that are all selected.
-fn pass_each<A: Automaton, W: Write>(
+fn pass_each<A: Automaton, W: Sink>(
     automaton: &A,
     job: &Job<'_>,
     text: &[u8],
@@ -293,11 +292,11 @@ fn pass_each<A: Automaton, W: Write>(
     ensures written { (p : Patterns) → A.is_of automaton.now p → job.now.invert ≡ true
         → EachLine (HasNone p) (lines text.now)
         → OnOk result (TellsLines p job.now state.old state.new
-        (W.contents output.old) (W.contents output.new) (lines text.now)) }
+        (W.taken output.old) (W.taken output.new) (lines text.now)) }
     ensures begun { (p : Patterns) → A.is_of automaton.now p → job.now.invert ≡ true
         → EachLine (HasNone p) (lines text.now)
         → OnErr result (BeginsLines p job.now state.old state.new.selected
-        (W.contents output.old) (W.contents output.new) (lines text.now)) }
+        (W.taken output.old) (W.taken output.new) (lines text.now)) }
 {
     let mut rest = text;
     while !rest.is_empty() {
@@ -331,7 +330,7 @@ fn skip(job: &Job<'_>, text: &[u8], state: &mut State)
 /// The place behind a text, from how many lines and bytes stand before it.
 fn behind_text(job: &Job<'_>, text: &[u8], count: u64, offset: u64) -> Place
     ensures placed { EndsLine text.now
-        → SamePlace job.now result (after_lines (place_at count offset) (lines text.now)) }
+        → SamePlace job.now result (after_lines (place_behind count offset) (lines text.now)) }
 {
     Place {
         lines: lines_behind(job, text, count),
@@ -341,7 +340,7 @@ fn behind_text(job: &Job<'_>, text: &[u8], count: u64, offset: u64) -> Place
 
 /// How many lines stand before what follows a text. They are counted only where lines are numbered.
 fn lines_behind(job: &Job<'_>, text: &[u8], count: u64) -> u64
-    ensures counted { IsNumbered job.now
+    ensures counted { NumbersLines job.now
         → result ≡ (count + length (places (is_byte 10) text.now)) % 2 ^ 64 }
 {
     if job.numbers() {
@@ -359,7 +358,7 @@ fn newlines(text: &[u8]) -> u64
 
 /// Writes what is asked of a selected line. It is put together first: where the output cannot be written to the end, what is
 /// there is a beginning of it.
-fn show<A: Automaton, W: Write>(
+fn show<A: Automaton, W: Sink>(
     automaton: &A,
     job: &Job<'_>,
     line: &[u8],
@@ -369,14 +368,14 @@ fn show<A: Automaton, W: Write>(
 ) -> Result<(), Stop>
     requires of { (p : Patterns) × A.is_of automaton.now p }
     ensures shown { (p : Patterns) → A.is_of automaton.now p → OnOk result
-        (WritesLine p job.now place (W.contents output.old) (W.contents output.new) line.now) }
+        (WritesLine p job.now place (W.taken output.old) (W.taken output.new) line.now) }
     ensures begun { (p : Patterns) → A.is_of automaton.now p → OnErr result
-        (BeginsLine p job.now place (W.contents output.old) (W.contents output.new) line.now) }
+        (BeginsLine p job.now place (W.taken output.old) (W.taken output.new) line.now) }
 {
     page.clear();
     match put_shown(automaton, job, line, place, page) {
-        Ok(()) => Ok(write_page(output, page.as_slice())?),
-        Err(stop) => Err(stop.in_memory()),
+        Ok(()) => Ok(write_whole(output, page.as_slice())?),
+        Err(stop) => Err(stop),
     }
 }
 

@@ -2,7 +2,7 @@
 
 ghost use Rattle.std.specs.Prelude.{◌≤◌, ◌-◌, ◌<◌, IfOk, OnErr, OnOk, length, take};
 ghost use Rattle.aho_core.specs.Patterns.{Patterns};
-ghost use Rattle.acgrep.specs.Filled.{Reads};
+ghost use Rattle.acgrep.specs.Filled.{ReadsOn};
 ghost use Rattle.acgrep.specs.Lines.{IsNewline};
 ghost use Rattle.acgrep.specs.Selected.{HoldNoNewline};
 ghost use Rattle.acgrep.specs.Streamed.{BeginsSome, BeginsStream, BeginsWhole, ReadsSome, SearchesStream, SearchesWhole, course};
@@ -11,12 +11,12 @@ use crate::buffer::Buffer;
 use crate::failure::Stop;
 use crate::lines::line_start;
 use crate::select::{Job, State, search_text};
-use chromesquid::Automaton;
-use std::io;
-use std::io::{Read, Write};
+use chromesquid::{Automaton, Sink};
+use programs::reason::Reason;
+use std::io::Read;
 
 /// Searches all that a reader gives. What is settled is handed on before each read.
-pub fn search_stream<A: Automaton, R: Read, W: Write>(
+pub fn search_stream<A: Automaton, R: Read, W: Sink>(
     automaton: &A,
     job: &Job<'_>,
     buffer: &mut Buffer,
@@ -28,17 +28,17 @@ pub fn search_stream<A: Automaton, R: Read, W: Write>(
     requires of { (p : Patterns) × A.is_of automaton.now p }
     ensures written { (p : Patterns) → A.is_of automaton.now p → HoldNoNewline p →
         OnOk result (SearchesStream p job.now (course state.old state.new
-        (W.contents output.old) (W.contents output.new)
+        (W.taken output.old) (W.taken output.new)
         (R.remaining input.old) (R.remaining input.new))) }
 
     // Where it fails a beginning of that is written.
     ensures begun { (p : Patterns) → A.is_of automaton.now p → HoldNoNewline p →
         OnErr result (BeginsStream p job.now (course state.old state.new
-        (W.contents output.old) (W.contents output.new)
+        (W.taken output.old) (W.taken output.new)
         (R.remaining input.old) (R.remaining input.new))) }
 
     // Whatever comes of it, the reader is only read.
-    ensures reads { Reads (R.remaining input.old) (R.remaining input.new) }
+    ensures reads { ReadsOn (R.remaining input.old) (R.remaining input.new) }
 {
     buffer.clear();
     for _ in 0..u64::MAX {
@@ -49,11 +49,11 @@ pub fn search_stream<A: Automaton, R: Read, W: Write>(
             return search_text(automaton, job, buffer.bytes(), state, page, output);
         }
     }
-    Err(Stop::Read(io::Error::other("too many reads")))
+    Err(Stop::Read(Reason::Fault))
 }
 
 /// Reads once and searches the whole lines that are there, or tells that nothing came.
-fn read_some<A: Automaton, R: Read, W: Write>(
+fn read_some<A: Automaton, R: Read, W: Sink>(
     automaton: &A,
     job: &Job<'_>,
     buffer: &mut Buffer,
@@ -65,21 +65,21 @@ fn read_some<A: Automaton, R: Read, W: Write>(
     requires of { (p : Patterns) × A.is_of automaton.now p }
     ensures read { (p : Patterns) → A.is_of automaton.now p → HoldNoNewline p →
         IfOk result (ReadsSome p job.now (course state.old state.new
-        (W.contents output.old) (W.contents output.new)
+        (W.taken output.old) (W.taken output.new)
         (R.remaining input.old) (R.remaining input.new))
         (take buffer.old.held buffer.old.room.items) (take buffer.new.held buffer.new.room.items)) }
     ensures begun { (p : Patterns) → A.is_of automaton.now p → HoldNoNewline p →
         OnErr result (BeginsSome p job.now (course state.old state.new
-        (W.contents output.old) (W.contents output.new)
+        (W.taken output.old) (W.taken output.new)
         (R.remaining input.old) (R.remaining input.new))
         (take buffer.old.held buffer.old.room.items)) }
-    ensures reads { Reads (R.remaining input.old) (R.remaining input.new) }
+    ensures reads { ReadsOn (R.remaining input.old) (R.remaining input.new) }
 {
     output.flush()?;
     buffer.make_room()?;
     let count = match buffer.fill(input) {
         Ok(count) => count,
-        Err(error) => return Err(Stop::Read(error)),
+        Err(error) => return Err(Stop::Read(Reason::of(&error))),
     };
     if count == 0 {
         return Ok(true);
@@ -89,7 +89,7 @@ fn read_some<A: Automaton, R: Read, W: Write>(
 }
 
 /// Searches the whole lines, where a newline can be among the last `count` bytes alone, and keeps what follows.
-fn search_whole<A: Automaton, W: Write>(
+fn search_whole<A: Automaton, W: Sink>(
     automaton: &A,
     job: &Job<'_>,
     buffer: &mut Buffer,
@@ -101,11 +101,11 @@ fn search_whole<A: Automaton, W: Write>(
     requires of { (p : Patterns) × A.is_of automaton.now p }
     ensures searched { (p : Patterns) → A.is_of automaton.now p → HoldNoNewline p →
         OnOk result (SearchesWhole p job.now state.old state.new
-        (W.contents output.old) (W.contents output.new)
+        (W.taken output.old) (W.taken output.new)
         (take buffer.old.held buffer.old.room.items) (take buffer.new.held buffer.new.room.items)) }
     ensures begun { (p : Patterns) → A.is_of automaton.now p → HoldNoNewline p →
         OnErr result (BeginsWhole p job.now state.old state.new
-        (W.contents output.old) (W.contents output.new)
+        (W.taken output.old) (W.taken output.new)
         (take buffer.old.held buffer.old.room.items)) }
 {
     let whole = whole_lines(buffer.bytes(), count);

@@ -1,75 +1,102 @@
-//! Telling on standard error why something was not done.
+//! What is told on standard error: why something was not done.
+
+ghost use Rattle.std.specs.List.{concat};
+ghost use Rattle.std.specs.Prelude.{ℕ, List};
+ghost use Rattle.programs.specs.Names.{IsAmong};
+ghost use Rattle.programs.specs.Telling.{TellsBytes, TellsSome};
+ghost use Rattle.acgrep.specs.Told.{IsMessage, MayName, wrong_parts};
 
 use crate::arguments::Wrong;
 use crate::help::USAGE;
-use std::fmt::{Display, InlineText, Write as _};
-use std::io;
-use std::io::{ErrorKind, Write};
+use chromesquid::{BuildError, MatchError, Sink};
+use programs::errors::Errors;
+use programs::reason::Reason;
 
-/// The room for the text of an error.
-const ROOM: usize = 320;
+/// The program's name.
+const PROGRAM: &[u8] = b"acgrep";
 
-/// Writes a line of these parts behind the program's name. Where it cannot be written nothing else is done.
-pub fn tell<E: Write>(errors: &mut E, parts: &[&[u8]]) {
-    let _ = errors.write_all(b"acgrep: ");
-    for part in parts {
-        let _ = errors.write_all(*part);
-    }
-    let _ = errors.write_all(b"\n");
+/// Tells that memory ran out.
+pub fn tell_memory<E: Sink>(errors: &mut Errors<'_, E>)
+    ensures told { (names : List (List ℕ)) → TellsSome E.Sink (IsMessage names) errors.old errors.new }
+{
+    errors.tell(PROGRAM, None, None, Reason::OutOfMemory.text().as_bytes());
 }
 
-/// Writes what an error says of something that is named.
-pub fn tell_of<E: Write, D: Display>(errors: &mut E, name: &[u8], error: &D) {
-    let mut text: InlineText<{ ROOM }> = InlineText::new();
-    let _ = write!(text, "{error}");
-    tell(errors, &[name, b": ", text.as_str().as_bytes()]);
+/// Tells why a file of this name cannot be opened or read.
+pub fn tell_fault<E: Sink>(name: &[u8], reason: Reason, errors: &mut Errors<'_, E>)
+    ensures told { (names : List (List ℕ)) → IsAmong name.now names
+        → TellsSome E.Sink (IsMessage names) errors.old errors.new }
+{
+    errors.tell(PROGRAM, Some(name), None, reason.text().as_bytes());
 }
 
-/// Writes why the output cannot be written, or put together in memory. Where nobody reads it any more, nobody waits for that: a
-/// program that is ended by the signal for it says nothing either.
-pub fn tell_write<E: Write>(errors: &mut E, error: &io::Error) {
-    match error.kind() {
-        ErrorKind::BrokenPipe => {}
-        ErrorKind::OutOfMemory => tell(errors, &[b"out of memory"]),
-        _ => tell_of(errors, b"write error", error),
-    }
+/// Tells why the output cannot be written.
+pub fn tell_write<E: Sink>(errors: &mut Errors<'_, E>)
+    ensures told { (names : List (List ℕ)) → TellsSome E.Sink (IsMessage names) errors.old errors.new }
+{
+    errors.tell_unwritten(PROGRAM);
 }
 
-/// Writes why arguments are wrong, and how to get help.
-pub fn tell_wrong<E: Write>(errors: &mut E, wrong: Wrong<'_>) {
+/// Tells why the search is refused.
+pub fn tell_search<E: Sink>(error: &MatchError, errors: &mut Errors<'_, E>)
+    ensures told { (names : List (List ℕ)) → TellsSome E.Sink (IsMessage names) errors.old errors.new }
+{
+    errors.tell_search(PROGRAM, Some(b"search"), error);
+}
+
+/// Tells why the patterns of a file, or another name, are refused, and at which line.
+pub fn tell_build<E: Sink>(
+    name: &[u8],
+    line: Option<u64>,
+    error: &BuildError,
+    errors: &mut Errors<'_, E>,
+)
+    ensures told { (names : List (List ℕ)) → MayName names name.now
+        → TellsSome E.Sink (IsMessage names) errors.old errors.new }
+{
+    errors.tell_build(PROGRAM, Some(name), line, error);
+}
+
+/// Tells why arguments are wrong, and how to get help.
+pub fn tell_wrong<E: Sink>(errors: &mut Errors<'_, E>, wrong: Wrong<'_>)
+    ensures told { TellsBytes E.Sink errors.old errors.new (concat (wrong_parts wrong.entry)) }
+{
     match wrong {
-        Wrong::NoPattern => tell(errors, &[b"no pattern is given"]),
-        Wrong::UnknownLetter(letter) => tell(errors, &[b"unknown option '-", &[letter], b"'"]),
-        Wrong::UnknownName(name) => tell(errors, &[b"unknown option '", name, b"'"]),
-        Wrong::NoArgument(letter) => {
-            tell(errors, &[b"option '-", &[letter], b"' needs an argument"])
+        Wrong::NotText => errors.write(&[b"acgrep: an argument is not UTF-8\n"]),
+        Wrong::NoPattern => errors.write(&[b"acgrep: no pattern is given\n", USAGE]),
+        Wrong::UnknownLetter(letter) => {
+            errors.write(&[b"acgrep: unknown option '-", &[letter], b"'\n", USAGE])
         }
-        Wrong::NoKind => tell(errors, &[b"option '--kind' needs an argument"]),
-        Wrong::UnknownKind(name) => tell(
-            errors,
-            &[
-                b"option '--kind' takes first, longest or standard, not '",
-                name,
-                b"'",
-            ],
-        ),
-        Wrong::UnknownColor(name) => tell(
-            errors,
-            &[
-                b"option '--color' takes auto, always or never, not '",
-                name,
-                b"'",
-            ],
-        ),
-        Wrong::NoOffset => tell(errors, &[b"option '--offset' needs an argument"]),
-        Wrong::NoNumber(number) => tell(
-            errors,
-            &[
-                b"option '--offset' takes a number below 2^64, not '",
-                number,
-                b"'",
-            ],
-        ),
+        Wrong::UnknownName(name) => {
+            errors.write(&[b"acgrep: unknown option '", name, b"'\n", USAGE])
+        }
+        Wrong::NoArgument(letter) => errors.write(&[
+            b"acgrep: option '-",
+            &[letter],
+            b"' needs an argument\n",
+            USAGE,
+        ]),
+        Wrong::NoKind => { errors.write(&[b"acgrep: option '--kind' needs an argument\n", USAGE]) }
+        Wrong::UnknownKind(name) => errors.write(&[
+            b"acgrep: option '--kind' takes first, longest or standard, not '",
+            name,
+            b"'\n",
+            USAGE,
+        ]),
+        Wrong::UnknownColor(name) => errors.write(&[
+            b"acgrep: option '--color' takes auto, always or never, not '",
+            name,
+            b"'\n",
+            USAGE,
+        ]),
+        Wrong::NoOffset => {
+            errors.write(&[b"acgrep: option '--offset' needs an argument\n", USAGE])
+        }
+        Wrong::NoNumber(number) => errors.write(&[
+            b"acgrep: option '--offset' takes a number below 2^64, not '",
+            number,
+            b"'\n",
+            USAGE,
+        ]),
     }
-    let _ = errors.write_all(USAGE);
 }

@@ -1,6 +1,9 @@
-mod Beginnings
-mod Calls
-mod Lent
-mod Matches
-mod Pairs
-mod Replacings
+pub mod Beginnings
+pub mod Calls
+pub mod Lent
+pub mod Matches
+pub mod Pairs
+pub mod Replacings
+pub mod Ends
+pub mod Tellings
+pub mod Lines

@@ -27,11 +27,6 @@ use Rattle.programs.specs.Failures.{IsOfWrite, LeavesReplacing, failure_of_strea
 use Rattle.programs.specs.declared.failure.Failure.{Failure}
 use Rattle.programs.specs.declared.failure.Failure.TheVariants.{Usage, Build, Search, OutOfMemory, PositionLimit as LimitMet, Read as ReadFailed, Write as WriteFailed, WriteZero as TookNothing}
 
--- known bytes are at their end where they can only be none
-pub at_end : (known : Option (List ℕ)) → ((bytes : List ℕ) → known ≡ Some bytes → bytes ≡ []) → IsAtEnd known
-at_end None none = tt
-at_end (Some bytes) none = none bytes refl
-
 -- what was refused before the stream was begun leaves all untouched
 pub leaves_stream : {untouched begun most : Type 0} (error : StreamError) → (IsMakingRefusal error → untouched) → begun → (IsFillRefusal error → most) → LeavesReplacing untouched begun most (failure_of_stream error)
 leaves_stream (Match cause) same some near = same tt

@@ -71,15 +71,16 @@ module _ {W : Type 0} (Writes : Writers W) where
     pub meant : AreMeant matches
     pub begun : WritesBeginning Writes old new (lines_of matches)
 
-  -- a beginning of the line of a failure is written
-  abbrev pub BeginsLine : FromWrite W → FromWrite W → Failure → Type 0
-  BeginsLine old new failure = WritesBeginning Writes old new (line_of_failure failure)
+  -- the line of a failure is written: all of it where no write failed or took nothing, and else a beginning of it
+  pub record TellsLine (old new : FromWrite W) (failure : Failure) : Type 0 where
+    pub begun : WritesBeginning Writes old new (line_of_failure failure)
+    pub whole : new.failures ≡ old.failures → new.empty_writes ≡ old.empty_writes → WritesBytes Writes old new (line_of_failure failure)
 
-  -- the line of a failure of this status is begun, and the failure leaves what it should
+  -- the line of a failure of this status is written, and the failure leaves what it should
   pub record TellsFailure (old new : FromWrite W) (status : ℕ) (Left : Failure → Type 0) : Type 0 where
     pub failure : Failure
     pub told : HasStatus status failure
-    pub begun : BeginsLine old new failure
+    pub line : TellsLine old new failure
     pub left : Left failure
 
 -- all of the input was read, and these are the matches that are asked for

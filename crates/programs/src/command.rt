@@ -72,7 +72,8 @@ pub fn parse_find(arguments: &[String]) -> Option<Request<'_>>
     parse_cased(kind, rest)
 }
 
-fn parse_kind(argument: &str) -> Option<MatchKind>
+/// The match kind that an argument names, if it names one.
+pub fn parse_kind(argument: &str) -> Option<MatchKind>
     ensures kind { result ≡ kind_by argument.now }
 {
     match argument {

@@ -2,13 +2,18 @@
 
 ghost use Rattle.std.specs.Prelude.{◌≡◌, IfOk};
 
+use crate::parts::{write_build_line, write_parts, write_search_line};
 use aho_core::error::{BuildError, MatchError, StreamError};
+use aho_devices::device::Sink;
 use std::alloc::AllocError;
 use std::fmt;
 use std::fmt::{InlineText, Write};
 
 /// The room for a failure's line. The longest is that of a pattern's number, with two numbers of twenty digits: 130 bytes.
 const LINE_CAPACITY: usize = 160;
+
+/// What is told of wrong arguments.
+const USAGE: &[u8] = b"usage: acfind find KIND [-i] PATTERN.. | overlap PATTERN.. | replace P R ..";
 
 /// Why a call answers nothing.
 #[derive(Drop)]
@@ -34,6 +39,7 @@ pub enum Failure {
 impl Failure {
     ghost use Rattle.std.specs.Fmt.InlineText.{inline_text};
     ghost use Rattle.programs.specs.Failures.{status_of_failure, line_of_failure};
+    ghost use Rattle.programs.specs.Telling.{WritesParts};
 
     /// The exit status: 3 where a device fails, and else 2.
     pub fn status(&self) -> u8
@@ -46,6 +52,26 @@ impl Failure {
             | Failure::OutOfMemory
             | Failure::PositionLimit => 2,
             Failure::Read | Failure::Write | Failure::WriteZero => 3,
+        }
+    }
+
+    /// Writes the text and a line end. It takes no memory, so that memory has run out can be told too.
+    ///
+    /// # Errors
+    ///
+    /// A write failed or took no byte. A beginning of the line was written then.
+    pub fn write_line<S: Sink>(&self, sink: &mut S) -> Result<(), StreamError>
+        ensures written { WritesParts S.Sink sink.old sink.new (line_of_failure self.now) result }
+    {
+        match self {
+            Failure::Usage => write_parts(sink, &[USAGE, b"\n"]),
+            Failure::Build(error) => write_build_line(sink, error),
+            Failure::Search(error) => write_search_line(sink, error),
+            Failure::OutOfMemory => write_parts(sink, &[b"out of memory", b"\n"]),
+            Failure::PositionLimit => write_parts(sink, &[b"position limit reached", b"\n"]),
+            Failure::Read => write_parts(sink, &[b"read fault", b"\n"]),
+            Failure::Write => write_parts(sink, &[b"write fault", b"\n"]),
+            Failure::WriteZero => write_parts(sink, &[b"write took no bytes", b"\n"]),
         }
     }
 

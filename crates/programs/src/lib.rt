@@ -6,9 +6,13 @@
 #![tactic(auto)]
 
 pub mod arguments;
+pub mod closed;
 pub mod command;
+pub mod errors;
 pub mod failure;
+pub mod parts;
 pub mod print;
+pub mod reason;
 mod replace;
-mod rows;
+pub mod rows;
 pub mod run;

@@ -17,7 +17,11 @@ use aho_prefilter::prefilter::{PackedBuilder, Prefilter};
 use std::alloc::{AllocError, Global};
 
 /// The prefilter of these patterns, which may be a packed search, if there is one.
-fn prefilter_of(
+///
+/// # Errors
+///
+/// The error says that memory ran out.
+pub fn prefilter_of(
     alloc: Global,
     ignore_case: bool,
     patterns: &[&[u8]],
@@ -38,7 +42,7 @@ fn prefilter_of(
 /// # Errors
 ///
 /// The error says that memory ran out.
-pub(crate) fn rows_of(
+pub fn rows_of(
     alloc: Global,
     nfa: &NFA,
     ignore_case: bool,

@@ -5,25 +5,25 @@ ghost use Rattle.std.specs.Io.KnownBytes.{Consumes, IsAtEnd};
 ghost use Rattle.aho_core.specs.Patterns.{Patterns};
 ghost use Rattle.aho_core.specs.declared.search.Anchored.TheVariants.{No};
 ghost use Rattle.aho_core.specs.declared.search.MatchKind.TheVariants.{Standard};
-ghost use Rattle.programs.specs.Answers.{AreFindsIn, AreMatches, BeginsLine, BeginsMatches, Begun, LeavesMatches, LeavesReplacement, Prints, PrintsAll, PrintsIfDone, PrintsMatches, TellsFailure, WritesIfDone, WritesReplacement, status_of};
+ghost use Rattle.programs.specs.Answers.{AreFindsIn, AreMatches, BeginsMatches, Begun, LeavesMatches, LeavesReplacement, Prints, PrintsAll, PrintsIfDone, PrintsMatches, TellsFailure, TellsLine, WritesIfDone, WritesReplacement, status_of};
 ghost use Rattle.programs.specs.Arguments.{AreWrong, AskForNone, IfAsked, IfReplacing};
 ghost use Rattle.programs.specs.Asked.{Builds, BuildsReplacing, asked_for, asked_patterns, kind_of, settings_for};
 ghost use Rattle.aho_devices.specs.Counts.{counted};
-ghost use Rattle.programs.specs.Failures.{is_failed_read, status_of_failure, line_of_failure, IsOfWrite, LeavesPrinting};
-ghost use Rattle.programs.specs.Streams.{bytes_left, contents, Unread, Unwritten, WritesBytes};
+ghost use Rattle.programs.specs.Failures.{is_failed_read, status_of_failure, IsOfWrite, LeavesPrinting};
+ghost use Rattle.programs.specs.Streams.{bytes_left, contents, Unread, Unwritten};
 ghost use Rattle.programs.specs.declared.command.Task.TheVariants.{Overlap};
 ghost use Rattle.programs.specs.declared.failure.Failure.TheVariants.{Usage};
 
 use crate::command::{Request, Task, parse, parse_replace};
 use crate::failure::Failure;
-use crate::print::{print, write_whole};
+use crate::print::print;
 use crate::replace::replace;
 use crate::rows::rows_for;
 use aho_automaton::automaton::Automaton;
 use aho_corasick::noncontiguous::{Builder, NFA};
 use aho_core::search::Input;
 use aho_devices::adapters::{FromRead, FromWrite};
-use aho_devices::device::Source;
+use aho_devices::device::{Sink, Source};
 use std::alloc::Global;
 use std::io::{Read, Write};
 
@@ -48,7 +48,7 @@ pub fn run<R: Read, W: Write, E: Write>(
     ensures usage { AreWrong arguments.now → result ≡ 2 }
     ensures unread { AreWrong arguments.now → Unread input.old input.new }
     ensures unwritten { AreWrong arguments.now → Unwritten output.old output.new }
-    ensures tells_usage { AreWrong arguments.now → BeginsLine E.Write errors.old errors.new Usage }
+    ensures tells_usage { AreWrong arguments.now → TellsLine E.Write errors.old errors.new Usage }
 
     // For right arguments the automaton is built before anything is read.
     ensures built_first { IfAsked arguments.now (λ asked.
@@ -89,22 +89,14 @@ pub fn run<R: Read, W: Write, E: Write>(
 /// Writes why a call answers nothing as a line, and answers the exit status, whether that could be written or not.
 pub fn report<E: Write>(failure: &Failure, errors: &mut FromWrite<E>) -> u8
     ensures status { result ≡ status_of_failure failure.now }
-    ensures begun { BeginsLine E.Write errors.old errors.new failure.now }
+    ensures line { TellsLine E.Write errors.old errors.new failure.now }
 {
-    let _ = write_failure(failure, errors);
-    failure.status()
-}
-
-/// Writes why a call answers nothing as a line.
-fn write_failure<E: Write>(failure: &Failure, errors: &mut FromWrite<E>) -> Result<(), Failure>
-    ensures written { OnOk result
-        (WritesBytes E.Write errors.old errors.new (line_of_failure failure.now)) }
-    ensures begun { BeginsLine E.Write errors.old errors.new failure.now }
-{
-    // Each line has room: one that had none would not be written.
-    match failure.line() {
-        Ok(line) => write_whole(errors, line.as_str().as_bytes()),
-        Err(_) => Err(Failure::Write),
+    match failure.write_line(errors) {
+        Ok(()) => {
+            let _ = errors.flush();
+            failure.status()
+        }
+        Err(_) => failure.status(),
     }
 }
 

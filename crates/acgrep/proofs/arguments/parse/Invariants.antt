@@ -1,6 +1,7 @@
 -- What is left of the arguments says what all of them do.
 use Rattle.std.proofs.Common.{◌≡◌, length}
-use Rattle.acgrep.specs.Arguments.{arguments_by, said, said_by, texts}
+use Rattle.programs.specs.Arguments.{texts}
+use Rattle.acgrep.specs.Arguments.{arguments_by, said, said_by}
 use Rattle.acgrep.proofs.arguments.parse.Given as goal
 
 abbrev pub invariant-loop-argument : goal.invariant-loop-argument

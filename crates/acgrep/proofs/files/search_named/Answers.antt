@@ -6,9 +6,9 @@ pub returns-in-Ok-clause-begun : goal.returns-in-Ok-clause-begun
 returns-in-Ok-clause-begun g c = λ p is plain.
     if_broken c.search_one.result
     (file_known p c.args.job.now (g.F.Open.holds c.args.files.now c.args.name.now) (g.F.File.Read.remaining c.in-Ok.file)
-    (g.W.Write.contents c.args.output.now) (g.W.Write.contents c.search_one.new.output) c.in-Ok.ensures.told)
+    (g.W.Sink.taken c.args.output.now) (g.W.Sink.taken c.search_one.new.output) c.in-Ok.ensures.told)
     (c.search_one.ensures.begun p is plain)
 
 pub returns-in-Err-clause-begun : goal.returns-in-Err-clause-begun
 returns-in-Err-clause-begun g c = λ p is plain.
-    file_none p c.args.job.now (g.F.Open.holds c.args.files.now c.args.name.now) (g.W.Write.contents c.args.output.now) (g.W.Write.contents c.flush.new.self) c.flush.ensures.bytes
+    file_none p c.args.job.now (g.F.Open.holds c.args.files.now c.args.name.now) (g.W.Sink.taken c.args.output.now) (g.W.Sink.taken c.flush.new.self) c.flush.ensures.kept

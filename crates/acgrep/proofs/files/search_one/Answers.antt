@@ -1,4 +1,6 @@
 -- What was searched of the reader, and what is asked of the file as a whole.
+use Rattle.acgrep.specs.Told.{IsMessage}
+use Rattle.acgrep.proofs.Told.{outcome-some}
 use Rattle.std.proofs.Common.{subst}
 use Rattle.acgrep.specs.Files.{EndsFile, SearchesReader}
 use Rattle.acgrep.specs.Streamed.{BeginsStream, SearchesStream, course}
@@ -14,9 +16,9 @@ returns-in-Ok-clause-searched g c = λ p is plain.
     let job = c.args.job.now in
     let left = g.R.Read.remaining c.args.reader.now in
     let left' = g.R.Read.remaining c.search_stream.new.input in
-    let held = g.W.Write.contents c.args.output.now in
-    let meanwhile = g.W.Write.contents c.search_stream.new.output in
-    let held' = g.W.Write.contents c.end_file.new.output in
+    let held = g.W.Sink.taken c.args.output.now in
+    let meanwhile = g.W.Sink.taken c.search_stream.new.output in
+    let held' = g.W.Sink.taken c.end_file.new.output in
     let state = c.search_stream.new.state in
     let stream : SearchesStream p job (course (at_begin job.first) state held meanwhile left left') =
     subst (λ (first : State). SearchesStream p job (course first state held meanwhile left left')) c.new-state.ensures.begin (c.in-Ok.ensures.written p is plain) in
@@ -28,13 +30,13 @@ returns-in-Ok-clause-begun g c = λ p is plain.
     let job = c.args.job.now in
     let left = g.R.Read.remaining c.args.reader.now in
     let left' = g.R.Read.remaining c.search_stream.new.input in
-    let held = g.W.Write.contents c.args.output.now in
-    let meanwhile = g.W.Write.contents c.search_stream.new.output in
+    let held = g.W.Sink.taken c.args.output.now in
+    let meanwhile = g.W.Sink.taken c.search_stream.new.output in
     let state = c.search_stream.new.state in
     let stream : SearchesStream p job (course (at_begin job.first) state held meanwhile left left') =
     subst (λ (first : State). SearchesStream p job (course first state held meanwhile left left')) c.new-state.ensures.begin (c.in-Ok.ensures.written p is plain) in
     if_broken c.end_file.result
-    (file_begins p job state left left' held meanwhile (g.W.Write.contents c.end_file.new.output) (stream_whole p job (at_begin job.first) state held meanwhile left left' stream))
+    (file_begins p job state left left' held meanwhile (g.W.Sink.taken c.end_file.new.output) (stream_whole p job (at_begin job.first) state held meanwhile left left' stream))
     c.end_file.ensures.begun
 
 pub returns-in-Err-clause-begun : goal.returns-in-Err-clause-begun
@@ -42,9 +44,13 @@ returns-in-Err-clause-begun g c = λ p is plain.
     let job = c.args.job.now in
     let left = g.R.Read.remaining c.args.reader.now in
     let left' = g.R.Read.remaining c.search_stream.new.input in
-    let held = g.W.Write.contents c.args.output.now in
-    let meanwhile = g.W.Write.contents c.search_stream.new.output in
+    let held = g.W.Sink.taken c.args.output.now in
+    let meanwhile = g.W.Sink.taken c.search_stream.new.output in
     let state = c.search_stream.new.state in
     let stream : BeginsStream p job (course (at_begin job.first) state held meanwhile left left') =
     subst (λ (first : State). BeginsStream p job (course first state held meanwhile left left')) c.new-state.ensures.begin (c.in-Err.ensures.begun p is plain) in
-    on_broken c.break_off.result (file_begins p job state left left' held meanwhile (g.W.Write.contents c.break_off.new.output) stream c.break_off.ensures.begun)
+    on_broken c.break_off.result (file_begins p job state left left' held meanwhile (g.W.Sink.taken c.break_off.new.output) stream c.break_off.ensures.begun)
+
+pub returns-in-Err-clause-told : goal.returns-in-Err-clause-told
+returns-in-Err-clause-told g c = λ names is.
+    outcome-some g.E.Sink (IsMessage names) c.break_off.result c.args.errors.now c.break_off.new.errors c.break_off.ensures.unsearched (c.break_off.ensures.told names is)

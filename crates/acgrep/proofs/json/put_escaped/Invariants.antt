@@ -1,8 +1,8 @@
 -- The bytes that came so far were written.
 use Rattle.std.proofs.Common.{take}
 use Rattle.std.specs.Io.KnownBytes.{Appends}
-use Rattle.acgrep.specs.Objects.{escaped}
+use Rattle.acgrep.specs.Objects.{json_escaped}
 use Rattle.acgrep.proofs.json.put_escaped.Given as goal
 
 abbrev pub invariant-loop-byte : goal.invariant-loop-byte
-invariant-loop-byte g l = Appends (g.W.Write.contents l.initial.output) (g.W.Write.contents l.output) (escaped (take l.byte-index l.fn.bytes))
+invariant-loop-byte g l = Appends (g.W.Write.contents l.initial.output) (g.W.Write.contents l.output) (json_escaped (take l.byte-index l.fn.bytes))

@@ -1,19 +1,26 @@
 -- The automaton was built of the lines that were read.
-use Rattle.std.proofs.Common.{◌≡◌, ◌∙◌, ℕ, false, true, ap, inl, inr, refl, subst, sym}
+use Rattle.std.proofs.Common.{◌≡◌, ◌∙◌, ◌++◌, arith, List, ℕ, false, true, ap, inl, inr, refl, subst, sym}
 use Rattle.std.proofs.KnownBytes.{Keeps-refl}
 use Rattle.std.proofs.lemmas.List.{length-map}
 use Rattle.aho_core.specs.Replacement.{pieces_of}
 use Rattle.acgrep.specs.Lines.{lines}
-use Rattle.acgrep.specs.Runs.{IsJob, selects_none}
-use Rattle.acgrep.specs.Searchers.{patterns_by}
+use Rattle.acgrep.specs.Runs.{IsJob, origins_of, selects_none}
+use Rattle.acgrep.specs.Searchers.{patterns_asked}
 use Rattle.acgrep.proofs.Unselected.{none_selected}
 use Rattle.acgrep.proofs.WordLists.{lines_plain}
+use Rattle.programs.specs.Names.{name_bytes, or_input}
+use Rattle.programs.specs.declared.errors.Errors.{Errors}
+use Rattle.programs.proofs.Lines.{some-weaker}
+use Rattle.acgrep.specs.Arguments.{shown_by}
+use Rattle.acgrep.specs.Told.{IsMessage, MayTell, TellsStatus, names_told, shown_names, source_names}
+use Rattle.acgrep.specs.declared.options.Shown.{Shown}
+use Rattle.acgrep.proofs.Told.{among-first, among-later, message-more, status-none, status-some, status-weaker}
 use Rattle.acgrep.proofs.run.search.Goals as goal
 
 pub search_by-requires : goal.search_by-requires
 search_by-requires g c =
     let flags = c.args.flags.now in
-    let asked = patterns_by flags.kind flags.ignore_case (pieces_of c.as_slice-words.result.now) in
+    let asked = patterns_asked flags.kind flags.ignore_case (pieces_of c.as_slice-words.result.now) in
     record { of = (asked, c.in-Ok-build.ensures.of asked refl (record { words_are = refl; rule = refl })) }
 
 pub returns-in-Ok-build-clause-searches : goal.returns-in-Ok-build-clause-searches
@@ -21,7 +28,7 @@ returns-in-Ok-build-clause-searches g c low =
     let flags = c.args.flags.now in
     let text = c.in-Some.keys.text.items in
     let same : pieces_of c.as_slice-words.result.now ≡ lines text = ap pieces_of c.as_slice-words.ensures.value ∙ c.in-Ok.ensures.lines ∙ ap lines c.as_slice.ensures.value in
-    let asked = patterns_by flags.kind flags.ignore_case (lines text) in
+    let asked = patterns_asked flags.kind flags.ignore_case (lines text) in
     let some : selects_none flags.invert (lines text) ≡ false = ap (selects_none flags.invert) (sym same) ∙ sym c.selects_none.ensures ∙ c.if-selects_none.false in
     record {
       words = lines text;
@@ -45,9 +52,9 @@ returns-then-selects_none-clause-searches g c low =
       between = g.R.Read.remaining c.read_keys.new.input;
       read = c.in-Some.ensures.words;
       searched = rw none (record {
-        passed = none_selected (patterns_by flags.kind flags.ignore_case (lines text)) flags.invert (lines text) refl none;
+        passed = none_selected (patterns_asked flags.kind flags.ignore_case (lines text)) flags.invert (lines text) refl none;
         unread = refl;
-        unwritten = Keeps-refl (g.W.Write.contents c.args.output.now);
+        unwritten = Keeps-refl (g.W.Sink.taken c.args.output.now);
         none = refl;
       });
     }
@@ -57,7 +64,7 @@ returns-in-Ok-build-clause-begins g c =
     let flags = c.args.flags.now in
     let text = c.in-Some.keys.text.items in
     let same : pieces_of c.as_slice-words.result.now ≡ lines text = ap pieces_of c.as_slice-words.ensures.value ∙ c.in-Ok.ensures.lines ∙ ap lines c.as_slice.ensures.value in
-    let asked = patterns_by flags.kind flags.ignore_case (lines text) in
+    let asked = patterns_asked flags.kind flags.ignore_case (lines text) in
     inr (record {
       words = lines text;
       between = g.R.Read.remaining c.read_keys.new.input;
@@ -68,13 +75,51 @@ returns-in-Ok-build-clause-begins g c =
     })
 
 pub returns-in_default-clause-begins : goal.returns-in_default-clause-begins
-returns-in_default-clause-begins g c = inl (Keeps-refl (g.W.Write.contents c.args.output.now))
+returns-in_default-clause-begins g c = inl (Keeps-refl (g.W.Sink.taken c.args.output.now))
 
 pub returns-in_default-lines_of-clause-begins : goal.returns-in_default-lines_of-clause-begins
-returns-in_default-lines_of-clause-begins g c = inl (Keeps-refl (g.W.Write.contents c.args.output.now))
+returns-in_default-lines_of-clause-begins g c = inl (Keeps-refl (g.W.Sink.taken c.args.output.now))
 
 pub returns-then-selects_none-clause-begins : goal.returns-then-selects_none-clause-begins
-returns-then-selects_none-clause-begins g c = inl (Keeps-refl (g.W.Write.contents c.args.output.now))
+returns-then-selects_none-clause-begins g c = inl (Keeps-refl (g.W.Sink.taken c.args.output.now))
 
 pub returns-clause-begins : goal.returns-clause-begins
-returns-clause-begins g c = inl (Keeps-refl (g.W.Write.contents c.args.output.now))
+returns-clause-begins g c = inl (Keeps-refl (g.W.Sink.taken c.args.output.now))
+
+pub returns-in_default-clause-told : goal.returns-in_default-clause-told
+returns-in_default-clause-told g c =
+    let sources = source_names (origins_of c.args.sources.now) in
+    let files = shown_names (or_input (name_bytes c.args.names.now)) in
+    let may : (line : List ℕ) → IsMessage sources line → MayTell (sources ++ files) line = λ line is. inl (message-more sources (sources ++ files) (λ name is. among-first name sources files is) line is) in
+    status-some g.E.Sink (MayTell (sources ++ files)) (shown_by c.args.flags.now) c.args.errors.now c.read_keys.new.errors
+    (some-weaker g.E.Sink (IsMessage sources) (MayTell (sources ++ files)) c.args.errors.now c.read_keys.new.errors may (c.in_default.ensures.told refl))
+
+pub returns-in_default-lines_of-clause-told : goal.returns-in_default-lines_of-clause-told
+returns-in_default-lines_of-clause-told g c =
+    let names = names_told (origins_of c.args.sources.now) (name_bytes c.args.names.now) in
+    subst (λ (e : Errors g.row.E.Denot). TellsStatus g.E.Sink (MayTell names) (shown_by c.args.flags.now) 2 e c.tell_memory.new.errors) (c.in-Some.ensures.silent refl)
+    (status-some g.E.Sink (MayTell names) (shown_by c.args.flags.now) c.read_keys.new.errors c.tell_memory.new.errors (some-weaker g.E.Sink (IsMessage names) (MayTell names) c.read_keys.new.errors c.tell_memory.new.errors (λ line is. inl is) (c.tell_memory.ensures.told names)))
+
+pub returns-then-selects_none-clause-told : goal.returns-then-selects_none-clause-told
+returns-then-selects_none-clause-told g c =
+    let names = names_told (origins_of c.args.sources.now) (name_bytes c.args.names.now) in
+    subst (λ (e : Errors g.row.E.Denot). TellsStatus g.E.Sink (MayTell names) (shown_by c.args.flags.now) 1 c.args.errors.now e) (sym (c.in-Some.ensures.silent refl))
+    (status-none g.E.Sink (MayTell names) (shown_by c.args.flags.now) 1 c.args.errors.now (omega arith))
+
+pub returns-in-Ok-build-clause-told : goal.returns-in-Ok-build-clause-told
+returns-in-Ok-build-clause-told g c =
+    let sources = source_names (origins_of c.args.sources.now) in
+    let files = shown_names (or_input (name_bytes c.args.names.now)) in
+    let may : (line : List ℕ) → IsMessage files line → MayTell (sources ++ files) line = λ line is. inl (message-more files (sources ++ files) (λ name is. among-later name sources files is) line is) in
+    let told = subst (λ (shown : Shown). TellsStatus g.E.Sink (IsMessage files) shown c.search_by.result c.read_keys.new.errors c.search_by.new.errors) c.job_of-job.ensures.job.shown c.search_by.ensures.told in
+    subst (λ (e : Errors g.row.E.Denot). TellsStatus g.E.Sink (MayTell (sources ++ files)) (shown_by c.args.flags.now) c.search_by.result e c.search_by.new.errors) (c.in-Some.ensures.silent refl)
+    (status-weaker g.E.Sink (IsMessage files) (MayTell (sources ++ files)) (shown_by c.args.flags.now) c.search_by.result c.read_keys.new.errors c.search_by.new.errors may told)
+
+pub returns-clause-told : goal.returns-clause-told
+returns-clause-told g c =
+    let sources = source_names (origins_of c.args.sources.now) in
+    let files = shown_names (or_input (name_bytes c.args.names.now)) in
+    let may : (line : List ℕ) → IsMessage sources line → MayTell (sources ++ files) line = λ line is. inl (message-more sources (sources ++ files) (λ name is. among-first name sources files is) line is) in
+    subst (λ (e : Errors g.row.E.Denot). TellsStatus g.E.Sink (MayTell (sources ++ files)) (shown_by c.args.flags.now) 2 e c.tell_refusal.new.errors) (c.in-Some.ensures.silent refl)
+    (status-some g.E.Sink (MayTell (sources ++ files)) (shown_by c.args.flags.now) c.read_keys.new.errors c.tell_refusal.new.errors
+    (some-weaker g.E.Sink (IsMessage sources) (MayTell (sources ++ files)) c.read_keys.new.errors c.tell_refusal.new.errors may c.tell_refusal.ensures.told))

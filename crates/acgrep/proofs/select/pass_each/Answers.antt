@@ -22,7 +22,7 @@ loop-rest-preserved g c =
     record {
       placed = ap (λ (place : Place). after_lines place (lines left)) done.placed ∙ ap (after_lines c.loop-rest.state.place) (sym more) ∙ c.loop-rest.invariant.placed;
       passed = λ p is invert each. passing_step p c.args.job.now c.args.state.now c.loop-rest.state c.pass_selected.new.state
-          (g.W.Write.contents c.args.output.now) (g.W.Write.contents c.loop-rest.output) (g.W.Write.contents c.pass_selected.new.output)
+          (g.W.Sink.taken c.args.output.now) (g.W.Sink.taken c.loop-rest.output) (g.W.Sink.taken c.pass_selected.new.output)
           c.args.text.now rest (take end rest) left invert more done.placed done.counted (done.shown p is) (c.loop-rest.invariant.passed p is invert each);
     }
 
@@ -34,5 +34,5 @@ returns-in_err-pass_selected-clause-begun g c = λ p is invert each.
     let full : 0 < length rest = grind (arith, common_steps, c.is_empty.ensures, c.loop-rest-test.true) in
     let more : lines rest ≡ take end rest ∷ lines left = lines_first rest end full c.line_end-end.ensures.within c.line_end-end.ensures.none c.line_end-end.ensures.newline in
     on_err c.from_residual.result (begins_passing p c.args.job.now c.args.state.now c.loop-rest.state c.pass_selected.new.state.selected
-    (g.W.Write.contents c.args.output.now) (g.W.Write.contents c.loop-rest.output) (g.W.Write.contents c.pass_selected.new.output)
+    (g.W.Sink.taken c.args.output.now) (g.W.Sink.taken c.loop-rest.output) (g.W.Sink.taken c.pass_selected.new.output)
     c.args.text.now rest (take end rest) left invert more (c.loop-rest.invariant.passed p is invert each) (c.in_err-pass_selected.ensures.begun p is))

@@ -1,7 +1,7 @@
 -- A line with a match is selected.
 use Rattle.std.proofs.Common.{Bool, refl, sym, subst}
 use Rattle.std.specs.Prelude.{MatchBool, Result, Ok, Err, OnOk}
-use Rattle.acgrep.specs.Written.{HasMatch, HasNone, IsPassed, IsSelected}
+use Rattle.acgrep.specs.Written.{HasMatch, HasNone, IsPassedOver, IsSelected}
 use Rattle.acgrep.proofs.Tellings.{one_passed, one_selected}
 use Rattle.acgrep.proofs.select.pass_matched.Goals as goal
 
@@ -12,7 +12,7 @@ on_both (Err e) P Q R follows one other = tt
 
 pub returns-clause-written : goal.returns-clause-written
 returns-clause-written g c = λ p is has.
-    let held = g.W.Write.contents in
+    let held = g.W.Sink.taken in
     let line = c.args.line.now in
     let selected : IsSelected p c.args.job.now.invert line = subst (λ (b : Bool). MatchBool b (HasNone p line) (HasMatch p line)) (sym c.if-job.false) has in
     on_both c.pass_selected.result _ _ _
@@ -27,7 +27,7 @@ returns-clause-begun g c = λ p is has.
 
 pub returns-then-job-clause-written : goal.returns-then-job-clause-written
 returns-then-job-clause-written g c = λ p is has.
-    let held = g.W.Write.contents c.args.output.now in
+    let held = g.W.Sink.taken c.args.output.now in
     let line = c.args.line.now in
-    let passed : IsPassed p c.args.job.now.invert line = subst (λ (b : Bool). MatchBool b (HasMatch p line) (HasNone p line)) (sym c.if-job.true) has in
+    let passed : IsPassedOver p c.args.job.now.invert line = subst (λ (b : Bool). MatchBool b (HasMatch p line) (HasNone p line)) (sym c.if-job.true) has in
     one_passed p c.args.job.now c.args.state.now _ held held line passed refl refl

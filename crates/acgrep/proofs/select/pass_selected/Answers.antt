@@ -4,5 +4,5 @@ use Rattle.acgrep.proofs.select.pass_selected.Goals as goal
 
 pub returns-in_err-show-clause-begun : goal.returns-in_err-show-clause-begun
 returns-in_err-show-clause-begun g c = λ p is selected.
-    on_err c.from_residual.result (begins_one p c.args.job.now c.args.state.now (g.W.Write.contents c.args.output.now) (g.W.Write.contents c.show.new.output) c.args.line.now
+    on_err c.from_residual.result (begins_one p c.args.job.now c.args.state.now (g.W.Sink.taken c.args.output.now) (g.W.Sink.taken c.show.new.output) c.args.line.now
     selected (c.in_err-show.ensures.begun p is))

@@ -21,7 +21,7 @@ returns-in_ok-pass_matched-in-Some-clause-written g c = λ p is plain.
     let others = c.in_ok-pass_others-in-Some.ensures in
     let matched = c.in_ok-pass_matched-in-Some.ensures in
     searches_line p c.args.job.now c.args.state.now c.pass_others.new.state c.pass_matched.new.state
-    (g.W.Write.contents c.args.output.now) (g.W.Write.contents c.pass_others.new.output) (g.W.Write.contents c.pass_matched.new.output)
+    (g.W.Sink.taken c.args.output.now) (g.W.Sink.taken c.pass_others.new.output) (g.W.Sink.taken c.pass_matched.new.output)
     text front (slice_range text line.start line.end) left (line.end + 1) cut c.behind.ensures.rest
     (others.written p is (front_lines p plain text line first)) (others.placed (front_ends p plain text line first))
     (matched.written p is (first_has p plain text line first)) matched.placed
@@ -35,12 +35,12 @@ returns-in_ok-pass_others-in-None-clause-written g c = λ p is plain.
     let empty : left ≡ [] = ap (λ (n : ℕ). take n (drop (length text) text)) count ∙ take_zero (drop (length text) text) in
     let others = c.in_ok-pass_others-in-None.ensures in
     searches_all p c.args.job.now c.args.state.now c.pass_others-in-None.new.state
-    (g.W.Write.contents c.args.output.now) (g.W.Write.contents c.pass_others-in-None.new.output)
+    (g.W.Sink.taken c.args.output.now) (g.W.Sink.taken c.pass_others-in-None.new.output)
     text left empty (others.written p is (none_in_lines p text none)) others.placed
 
 pub returns-in_err-line-clause-begun : goal.returns-in_err-line-clause-begun
 returns-in_err-line-clause-begun g c = λ p is plain.
-    let held = g.W.Write.contents c.args.output.now in
+    let held = g.W.Sink.taken c.args.output.now in
     on_err c.from_residual.result (begins_none p c.args.job.now c.args.state.now held held (lines c.args.text.now) (Appends-nil held))
 
 pub returns-in_err-pass_others-in-Some-clause-begun : goal.returns-in_err-pass_others-in-Some-clause-begun
@@ -50,7 +50,7 @@ returns-in_err-pass_others-in-Some-clause-begun g c = λ p is plain.
     let front = take line.start text in
     let first : IsFirstWith p text line = subst (IsNextLine p text) c.in-Some.is (c.in_ok-line.ensures.next p is plain) in
     on_err c.from_residual-in_err-pass_others-in-Some.result (begins_front p c.args.job.now c.args.state.now c.pass_others.new.state.selected
-    (g.W.Write.contents c.args.output.now) (g.W.Write.contents c.pass_others.new.output) text front
+    (g.W.Sink.taken c.args.output.now) (g.W.Sink.taken c.pass_others.new.output) text front
     (slice_range text line.start line.end ∷ lines (drop (line.end + 1) text)) (cut_lines p plain text line first c.requires.some)
     (c.in_err-pass_others-in-Some.ensures.begun p is (front_lines p plain text line first)))
 
@@ -63,7 +63,7 @@ returns-in_err-pass_matched-in-Some-clause-begun g c = λ p is plain.
     let others = c.in_ok-pass_others-in-Some.ensures in
     on_err c.from_residual-in_err-pass_matched-in-Some.result
     (begins_line p c.args.job.now c.args.state.now c.pass_others.new.state c.pass_matched.new.state.selected
-    (g.W.Write.contents c.args.output.now) (g.W.Write.contents c.pass_others.new.output) (g.W.Write.contents c.pass_matched.new.output)
+    (g.W.Sink.taken c.args.output.now) (g.W.Sink.taken c.pass_others.new.output) (g.W.Sink.taken c.pass_matched.new.output)
     text front (slice_range text line.start line.end) (drop (line.end + 1) text) (cut_lines p plain text line first c.requires.some)
     (others.written p is (front_lines p plain text line first)) (others.placed (front_ends p plain text line first))
     (c.in_err-pass_matched-in-Some.ensures.begun p is (first_has p plain text line first)))

@@ -5,15 +5,15 @@ use Rattle.acgrep.proofs.Beginnings.{on_err, page_begins, page_writes}
 use Rattle.acgrep.proofs.select.show.Goals as goal
 
 pub returns-in-Err-clause-begun : goal.returns-in-Err-clause-begun
-returns-in-Err-clause-begun g c = λ p is. record { begun = []; starts = inl refl; written = Appends-nil (g.W.Write.contents c.args.output.now) }
+returns-in-Err-clause-begun g c = λ p is. record { begun = []; starts = inl refl; written = Appends-nil (g.W.Sink.taken c.args.output.now) }
 
-pub returns-in_err-write_page-in-Ok-clause-begun : goal.returns-in_err-write_page-in-Ok-clause-begun
-returns-in_err-write_page-in-Ok-clause-begun g c = λ p is.
+pub returns-in_err-write_whole-in-Ok-clause-begun : goal.returns-in_err-write_whole-in-Ok-clause-begun
+returns-in_err-write_whole-in-Ok-clause-begun g c = λ p is.
     on_err c.from_residual.result
-    (page_begins p c.args.job.now c.args.place (g.W.Write.contents c.args.output.now) (g.W.Write.contents c.write_page.new.output) c.args.line.now
-    c.clear.new.self.items c.put_shown.new.output.items c.as_slice.result.now c.clear.ensures.items c.as_slice.ensures.value (c.in-Ok.ensures.shown p is) c.write_page.ensures.begun)
+    (page_begins p c.args.job.now c.args.place (g.W.Sink.taken c.args.output.now) (g.W.Sink.taken c.write_whole.new.sink) c.args.line.now
+    c.clear.new.self.items c.put_shown.new.output.items c.as_slice.result.now c.clear.ensures.items c.as_slice.ensures.value (c.in-Ok.ensures.shown p is) c.in_err-write_whole-in-Ok.ensures.beginning)
 
-pub returns-in_ok-write_page-in-Ok-clause-shown : goal.returns-in_ok-write_page-in-Ok-clause-shown
-returns-in_ok-write_page-in-Ok-clause-shown g c = λ p is.
-    page_writes p c.args.job.now c.args.place (g.W.Write.contents c.args.output.now) (g.W.Write.contents c.write_page.new.output) c.args.line.now
-    c.clear.new.self.items c.put_shown.new.output.items c.as_slice.result.now c.clear.ensures.items c.as_slice.ensures.value (c.in-Ok.ensures.shown p is) c.in_ok-write_page-in-Ok.ensures.written
+pub returns-in_ok-write_whole-in-Ok-clause-shown : goal.returns-in_ok-write_whole-in-Ok-clause-shown
+returns-in_ok-write_whole-in-Ok-clause-shown g c = λ p is.
+    page_writes p c.args.job.now c.args.place (g.W.Sink.taken c.args.output.now) (g.W.Sink.taken c.write_whole.new.sink) c.args.line.now
+    c.clear.new.self.items c.put_shown.new.output.items c.as_slice.result.now c.clear.ensures.items c.as_slice.ensures.value (c.in-Ok.ensures.shown p is) c.in_ok-write_whole-in-Ok.ensures.whole

@@ -14,7 +14,7 @@ use Rattle.acgrep.proofs.stream.search_stream.Goals as goal
 
 pub loop-init : goal.loop-init
 loop-init g c = record {
-  searched = λ p is plain. stream_start p c.args.job.now c.args.state.now (g.W.Write.contents c.args.output.now) (g.R.Read.remaining c.args.input.now)
+  searched = λ p is plain. stream_start p c.args.job.now c.args.state.now (g.W.Sink.taken c.args.output.now) (g.R.Read.remaining c.args.input.now)
       (take c.clear.new.self.held c.clear.new.self.room.items)
       (ap (λ (n : ℕ). take n c.clear.new.self.room.items) c.clear.ensures.none ∙ take_zero c.clear.new.self.room.items);
   reads = ([], Consumes-nil (g.R.Read.remaining c.args.input.now));
@@ -22,7 +22,7 @@ loop-init g c = record {
 
 pub returns-then-is_done-clause-written : goal.returns-then-is_done-clause-written
 returns-then-is_done-clause-written g c = λ p is plain.
-    stream_stop p c.args.job.now c.args.state.now c.loop.state (g.W.Write.contents c.args.output.now) (g.W.Write.contents c.loop.output)
+    stream_stop p c.args.job.now c.args.state.now c.loop.state (g.W.Sink.taken c.args.output.now) (g.W.Sink.taken c.loop.output)
     (g.R.Read.remaining c.args.input.now) (g.R.Read.remaining c.loop.input) (take c.loop.buffer.held c.loop.buffer.room.items)
     (c.is_done.ensures.settled.0 c.if-is_done.true) (c.loop.invariant.searched p is plain)
 
@@ -33,15 +33,15 @@ returns-in_err-read_some-clause-reads g c =
 pub returns-then-branch-clause-written : goal.returns-then-branch-clause-written
 returns-then-branch-clause-written g c = λ p is plain.
     let kept = take c.read_some.new.buffer.held c.read_some.new.buffer.room.items in
-    let some : ReadsSome p c.args.job.now (course c.loop.state c.read_some.new.state (g.W.Write.contents c.loop.output) (g.W.Write.contents c.read_some.new.output)
+    let some : ReadsSome p c.args.job.now (course c.loop.state c.read_some.new.state (g.W.Sink.taken c.loop.output) (g.W.Sink.taken c.read_some.new.output)
     (g.R.Read.remaining c.loop.input) (g.R.Read.remaining c.read_some.new.input)) (take c.loop.buffer.held c.loop.buffer.room.items) kept c.in_ok-read_some.field-0 =
     c.in_ok-read_some.ensures.read p is plain in
-    stream_last p c.args.job.now c.args.state.now c.loop.state c.read_some.new.state c.search_text.new.state (g.W.Write.contents c.args.output.now)
-    (g.W.Write.contents c.loop.output) (g.W.Write.contents c.read_some.new.output) (g.W.Write.contents c.search_text.new.output)
+    stream_last p c.args.job.now c.args.state.now c.loop.state c.read_some.new.state c.search_text.new.state (g.W.Sink.taken c.args.output.now)
+    (g.W.Sink.taken c.loop.output) (g.W.Sink.taken c.read_some.new.output) (g.W.Sink.taken c.search_text.new.output)
     (g.R.Read.remaining c.args.input.now) (g.R.Read.remaining c.loop.input) (g.R.Read.remaining c.read_some.new.input) (take c.loop.buffer.held c.loop.buffer.room.items) kept
     c.in_ok-read_some.field-0 c.search_text.result
     (not_done c.is_done.result (IsSettled c.args.job.now c.loop.state) c.is_done.ensures.settled.1 c.if-is_done.false) c.if-branch.true (c.loop.invariant.searched p is plain) some
-    (subst (λ (l : List ℕ). OnOk c.search_text.result (SearchesText p c.args.job.now c.read_some.new.state c.search_text.new.state (g.W.Write.contents c.read_some.new.output) (g.W.Write.contents c.search_text.new.output) l))
+    (subst (λ (l : List ℕ). OnOk c.search_text.result (SearchesText p c.args.job.now c.read_some.new.state c.search_text.new.state (g.W.Sink.taken c.read_some.new.output) (g.W.Sink.taken c.search_text.new.output) l))
     c.bytes.ensures.bytes (c.search_text.ensures.written p is plain))
 
 pub returns-then-branch-clause-reads : goal.returns-then-branch-clause-reads
@@ -51,8 +51,8 @@ returns-then-branch-clause-reads g c =
 pub loop-preserved : goal.loop-preserved
 loop-preserved g c = record {
   searched = λ p is plain.
-      stream_step p c.args.job.now c.args.state.now c.loop.state c.read_some.new.state (g.W.Write.contents c.args.output.now)
-      (g.W.Write.contents c.loop.output) (g.W.Write.contents c.read_some.new.output)
+      stream_step p c.args.job.now c.args.state.now c.loop.state c.read_some.new.state (g.W.Sink.taken c.args.output.now)
+      (g.W.Sink.taken c.loop.output) (g.W.Sink.taken c.read_some.new.output)
       (g.R.Read.remaining c.args.input.now) (g.R.Read.remaining c.loop.input) (g.R.Read.remaining c.read_some.new.input) (take c.loop.buffer.held c.loop.buffer.room.items)
       (take c.read_some.new.buffer.held c.read_some.new.buffer.room.items) c.in_ok-read_some.field-0
       (not_done c.is_done.result (IsSettled c.args.job.now c.loop.state) c.is_done.ensures.settled.1 c.if-is_done.false) (c.loop.invariant.searched p is plain) (c.in_ok-read_some.ensures.read p is plain);
@@ -61,27 +61,27 @@ loop-preserved g c = record {
 
 pub returns-in_err-read_some-clause-begun : goal.returns-in_err-read_some-clause-begun
 returns-in_err-read_some-clause-begun g c = λ p is plain.
-    on_err c.from_residual.result (stream_begins p c.args.job.now c.args.state.now c.loop.state c.read_some.new.state (g.W.Write.contents c.args.output.now)
-    (g.W.Write.contents c.loop.output) (g.W.Write.contents c.read_some.new.output)
+    on_err c.from_residual.result (stream_begins p c.args.job.now c.args.state.now c.loop.state c.read_some.new.state (g.W.Sink.taken c.args.output.now)
+    (g.W.Sink.taken c.loop.output) (g.W.Sink.taken c.read_some.new.output)
     (g.R.Read.remaining c.args.input.now) (g.R.Read.remaining c.loop.input) (g.R.Read.remaining c.read_some.new.input) (take c.loop.buffer.held c.loop.buffer.room.items)
     (not_done c.is_done.result (IsSettled c.args.job.now c.loop.state) c.is_done.ensures.settled.1 c.if-is_done.false) (c.loop.invariant.searched p is plain) (c.in_err-read_some.ensures.begun p is plain))
 
 pub returns-then-branch-clause-begun : goal.returns-then-branch-clause-begun
 returns-then-branch-clause-begun g c = λ p is plain.
     let kept = take c.read_some.new.buffer.held c.read_some.new.buffer.room.items in
-    let some : ReadsSome p c.args.job.now (course c.loop.state c.read_some.new.state (g.W.Write.contents c.loop.output) (g.W.Write.contents c.read_some.new.output)
+    let some : ReadsSome p c.args.job.now (course c.loop.state c.read_some.new.state (g.W.Sink.taken c.loop.output) (g.W.Sink.taken c.read_some.new.output)
     (g.R.Read.remaining c.loop.input) (g.R.Read.remaining c.read_some.new.input)) (take c.loop.buffer.held c.loop.buffer.room.items) kept c.in_ok-read_some.field-0 =
     c.in_ok-read_some.ensures.read p is plain in
     on_err_weaker c.search_text.result
-    (stream_last_begins p c.args.job.now c.args.state.now c.loop.state c.read_some.new.state c.search_text.new.state (g.W.Write.contents c.args.output.now)
-    (g.W.Write.contents c.loop.output) (g.W.Write.contents c.read_some.new.output) (g.W.Write.contents c.search_text.new.output)
+    (stream_last_begins p c.args.job.now c.args.state.now c.loop.state c.read_some.new.state c.search_text.new.state (g.W.Sink.taken c.args.output.now)
+    (g.W.Sink.taken c.loop.output) (g.W.Sink.taken c.read_some.new.output) (g.W.Sink.taken c.search_text.new.output)
     (g.R.Read.remaining c.args.input.now) (g.R.Read.remaining c.loop.input) (g.R.Read.remaining c.read_some.new.input) (take c.loop.buffer.held c.loop.buffer.room.items) kept
     c.in_ok-read_some.field-0
     (not_done c.is_done.result (IsSettled c.args.job.now c.loop.state) c.is_done.ensures.settled.1 c.if-is_done.false) c.if-branch.true (c.loop.invariant.searched p is plain) some)
-    (subst (λ (l : List ℕ). OnErr c.search_text.result (BeginsLines p c.args.job.now c.read_some.new.state c.search_text.new.state.selected (g.W.Write.contents c.read_some.new.output) (g.W.Write.contents c.search_text.new.output) (lines l)))
+    (subst (λ (l : List ℕ). OnErr c.search_text.result (BeginsLines p c.args.job.now c.read_some.new.state c.search_text.new.state.selected (g.W.Sink.taken c.read_some.new.output) (g.W.Sink.taken c.search_text.new.output) (lines l)))
     c.bytes.ensures.bytes (c.search_text.ensures.begun p is plain))
 
 pub returns-clause-begun : goal.returns-clause-begun
 returns-clause-begun g c = λ p is plain.
-    stream_begins_stop p c.args.job.now c.args.state.now c.loop.state (g.W.Write.contents c.args.output.now) (g.W.Write.contents c.loop.output)
+    stream_begins_stop p c.args.job.now c.args.state.now c.loop.state (g.W.Sink.taken c.args.output.now) (g.W.Sink.taken c.loop.output)
     (g.R.Read.remaining c.args.input.now) (g.R.Read.remaining c.loop.input) (take c.loop.buffer.held c.loop.buffer.room.items) (c.loop.invariant.searched p is plain)

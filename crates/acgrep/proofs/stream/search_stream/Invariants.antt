@@ -1,7 +1,7 @@
 -- The whole lines that were read so far are searched, and what follows them is in the buffer.
 use Rattle.std.proofs.Common.{take}
 use Rattle.aho_core.specs.Patterns.{Patterns}
-use Rattle.acgrep.specs.Filled.{Reads}
+use Rattle.acgrep.specs.Filled.{ReadsOn}
 use Rattle.acgrep.specs.Selected.{HoldNoNewline}
 use Rattle.acgrep.specs.Streamed.{SearchesLines, course}
 use Rattle.acgrep.proofs.stream.search_stream.Given as goal
@@ -9,7 +9,7 @@ use Rattle.acgrep.proofs.stream.search_stream.Given as goal
 abbrev pub invariant-loop : goal.invariant-loop
 invariant-loop g l = record {
   searched : (p : Patterns) → g.A.Automaton.is_of l.fn.automaton p → HoldNoNewline p
-      → SearchesLines p l.fn.job (course l.initial.state l.state (g.W.Write.contents l.initial.output) (g.W.Write.contents l.output)
+      → SearchesLines p l.fn.job (course l.initial.state l.state (g.W.Sink.taken l.initial.output) (g.W.Sink.taken l.output)
       (g.R.Read.remaining l.initial.input) (g.R.Read.remaining l.input)) (take l.buffer.held l.buffer.room.items);
-  reads : Reads (g.R.Read.remaining l.initial.input) (g.R.Read.remaining l.input);
+  reads : ReadsOn (g.R.Read.remaining l.initial.input) (g.R.Read.remaining l.input);
 }

@@ -1,7 +1,8 @@
 -- What the library promises of the devices holds of the reader and the writer.
 use Rattle.std.proofs.Common.{◌≢◌, ◌∙◌, sym, ap}
 use Rattle.aho_build.proofs.StoppedBuilds.{IfErr-given}
-use Rattle.programs.proofs.Replacings.{at_end, begins_asked, leaves_stream, most_asked, replaces_asked}
+use Rattle.programs.proofs.Ends.{at_end}
+use Rattle.programs.proofs.Replacings.{begins_asked, leaves_stream, most_asked, replaces_asked}
 use Rattle.programs.proofs.replace.replace_all.Goals as goal
 
 pub returns-in_err-try_stream_replace_all-clause-leaves : goal.returns-in_err-try_stream_replace_all-clause-leaves

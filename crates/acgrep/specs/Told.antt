@@ -1,0 +1,97 @@
+-- What is told on standard error.
+use Rattle.std.specs.Prelude.{◌≡◌, ◌⊎◌, ℕ, ◌<◌, ⊤, Bool, MatchBool, List, [], ◌∷◌, ◌++◌, Option, Some, None, IfSome, codes, map}
+use Rattle.std.specs.List.{concat}
+use Rattle.aho_core.specs.Texts.{build_error_text, match_error_text}
+use Rattle.aho_core.specs.declared.error.BuildError.{BuildError}
+use Rattle.aho_core.specs.declared.error.MatchErrorKind.{MatchErrorKind}
+use Rattle.aho_devices.specs.declared.device.Sink.{Ghosts as SinkGhosts}
+use Rattle.programs.specs.Messages.{Message, message_by, reason_text}
+use Rattle.programs.specs.Names.{IsAmong, or_input}
+use Rattle.programs.specs.Telling.{Tells, TellsSome}
+use Rattle.programs.specs.declared.errors.Errors.{Errors}
+use Rattle.programs.specs.declared.reason.Reason.{Reason}
+use Rattle.acgrep.specs.Arguments.{Origin, Said}
+use Rattle.acgrep.specs.Files.{shown_name}
+use Rattle.acgrep.specs.Runs.{names_by, sources_by}
+use Rattle.acgrep.specs.declared.arguments.Wrong.{Wrong}
+use Rattle.acgrep.specs.declared.arguments.Wrong.TheVariants.{NotText, NoPattern, UnknownLetter, UnknownName, NoArgument, NoKind, UnknownKind, UnknownColor, NoOffset, NoNumber}
+use Rattle.acgrep.specs.declared.files.Outcome.{Outcome}
+use Rattle.acgrep.specs.declared.files.Outcome.TheVariants.{Searched, Unread, Stopped}
+use Rattle.acgrep.specs.declared.options.Shown.{Shown}
+use Rattle.acgrep.specs.declared.options.Shown.TheVariants.{Nothing}
+
+-- what a message may tell of beside a file
+abbrev pub others_told : List (List ℕ)
+others_told = codes "write error" ∷ codes "search" ∷ codes "patterns" ∷ codes "pattern" ∷ []
+
+-- a call of the system failed, or the patterns or the search were refused
+abbrev pub IsToldCause : List ℕ → Type 0
+IsToldCause cause = ((reason : Reason) × (cause ≡ reason_text reason))
+    ⊎ (((error : BuildError) × (cause ≡ build_error_text error)) ⊎ ((error : MatchErrorKind) × (cause ≡ match_error_text error)))
+
+-- that, or one of these files
+abbrev pub MayName : List (List ℕ) → List ℕ → Type 0
+MayName names name = IsAmong name others_told ⊎ IsAmong name names
+
+-- a line of the program's name, a file's name, which is one of these, a line's number and a cause
+pub record IsMessage (names : List (List ℕ)) (line : List ℕ) : Type 0 where
+  pub message : Message
+  pub name : IfSome message.name (MayName names)
+  pub cause : IsToldCause message.cause
+  pub is : line ≡ message_by (codes "acgrep") message
+
+-- what a call with wrong arguments writes behind the reason
+abbrev pub usage_text : List ℕ
+usage_text = codes "usage: acgrep [OPTIONS] [PATTERN] [FILE..]\nTry 'acgrep --help' for more.\n"
+
+-- why arguments are wrong, and how to get help
+abbrev pub wrong_parts : Wrong → List (List ℕ)
+wrong_parts NotText = codes "acgrep: an argument is not UTF-8\n" ∷ []
+wrong_parts NoPattern = codes "acgrep: no pattern is given\n" ∷ usage_text ∷ []
+wrong_parts (UnknownLetter letter) = codes "acgrep: unknown option '-" ∷ (letter ∷ []) ∷ codes "'\n" ∷ usage_text ∷ []
+wrong_parts (UnknownName name) = codes "acgrep: unknown option '" ∷ name.now ∷ codes "'\n" ∷ usage_text ∷ []
+wrong_parts (NoArgument letter) = codes "acgrep: option '-" ∷ (letter ∷ []) ∷ codes "' needs an argument\n" ∷ usage_text ∷ []
+wrong_parts NoKind = codes "acgrep: option '--kind' needs an argument\n" ∷ usage_text ∷ []
+wrong_parts (UnknownKind name) = codes "acgrep: option '--kind' takes first, longest or standard, not '" ∷ name.now ∷ codes "'\n" ∷ usage_text ∷ []
+wrong_parts (UnknownColor name) = codes "acgrep: option '--color' takes auto, always or never, not '" ∷ name.now ∷ codes "'\n" ∷ usage_text ∷ []
+wrong_parts NoOffset = codes "acgrep: option '--offset' needs an argument\n" ∷ usage_text ∷ []
+wrong_parts (NoNumber number) = codes "acgrep: option '--offset' takes a number below 2^64, not '" ∷ number.now ∷ codes "'\n" ∷ usage_text ∷ []
+
+-- that is told of wrong arguments
+abbrev pub IsUsage : List ℕ → Type 0
+IsUsage line = (wrong : Wrong) × (line ≡ concat (wrong_parts wrong))
+
+-- the files of patterns and those that are searched, as they are told; a pattern among the arguments stands there too
+abbrev pub source_names : List Origin → List (List ℕ)
+source_names sources = map (λ source. source.bytes) sources
+
+abbrev pub shown_names : List (List ℕ) → List (List ℕ)
+shown_names names = map (λ name. shown_name name) names
+
+abbrev pub names_told : List Origin → List (List ℕ) → List (List ℕ)
+names_told sources names = source_names sources ++ shown_names (or_input names)
+
+abbrev pub names_said : Option Said → List (List ℕ)
+names_said None = []
+names_said (Some said) = names_told (sources_by said.sources said.operands) (names_by said.sources said.operands)
+
+-- a line that a call may write to standard error whose arguments name these files
+abbrev pub MayTell : List (List ℕ) → List ℕ → Type 0
+MayTell names line = IsMessage names line ⊎ IsUsage line
+
+module _ {E : Type 0} (K : SinkGhosts E) (IsLine : List ℕ → Type 0) where
+  -- one line or more is told where that is so, and else nothing
+  abbrev pub TellsIf : Bool → Errors E → Errors E → Type 0
+  TellsIf failed old new = MatchBool failed (TellsSome K IsLine old new) (new ≡ old)
+
+  -- one line or more is told where a file was not searched, and else nothing
+  abbrev pub TellsOutcome : Outcome → Errors E → Errors E → Type 0
+  TellsOutcome (Searched any) old new = new ≡ old
+  TellsOutcome Unread old new = TellsSome K IsLine old new
+  TellsOutcome Stopped old new = TellsSome K IsLine old new
+
+  -- only such lines are told: none where the status tells of no error, but for files that cannot be read under `-q`, and else one or more
+  pub record TellsStatus (shown : Shown) (status : ℕ) (old new : Errors E) : Type 0 where
+    pub tells : Tells K IsLine old new
+    pub silent : status < 2 → (shown ≡ Nothing → ⊥) → new ≡ old
+    pub some : status ≡ 2 → TellsSome K IsLine old new

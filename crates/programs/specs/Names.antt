@@ -1,0 +1,22 @@
+-- The names of files among the arguments.
+use Rattle.std.specs.Prelude.{◌≡◌, ◌⊎◌, ℕ, Bool, List, [], ◌∷◌, codes, map}
+use Rattle.std.specs.Borrow.{Bor}
+use Rattle.std.specs.Str.{bytes_eq}
+
+-- '-' is standard input
+abbrev pub is_input : List ℕ → Bool
+is_input name = bytes_eq name (codes "-")
+
+-- standard input where none is given
+abbrev pub or_input : List (List ℕ) → List (List ℕ)
+or_input [] = codes "-" ∷ []
+or_input (name ∷ names) = name ∷ names
+
+-- the bytes of each name
+abbrev pub name_bytes : List (Bor (List ℕ)) → List (List ℕ)
+name_bytes names = map (λ name. name.now) names
+
+-- a name is one of these
+abbrev pub IsAmong : List ℕ → List (List ℕ) → Type 0
+IsAmong name [] = ⊥
+IsAmong name (first ∷ names) = (name ≡ first) ⊎ IsAmong name names

@@ -1,0 +1,208 @@
+//! Standard error of a program, and the messages that are written to it.
+
+ghost use Rattle.std.specs.List.{concat};
+ghost use Rattle.std.specs.Prelude.{◌≡◌, ◌++◌, None, Some, codes, false, option_map};
+ghost use Rattle.aho_core.specs.Replacement.{pieces_of};
+ghost use Rattle.aho_core.specs.Texts.{build_error_text, match_error_text};
+ghost use Rattle.programs.specs.Failures.{failure_text, line_of_failure};
+ghost use Rattle.programs.specs.Messages.{head_by, line_before, message_by, name_before, reason_text};
+ghost use Rattle.programs.specs.Telling.{TellsBytes};
+
+use crate::failure::Failure;
+use crate::parts::{MAX_DIGITS, digits_of, write_build_line, write_parts, write_search_line};
+use crate::reason::Reason;
+use aho_core::error::{BuildError, MatchError};
+use aho_devices::device::Sink;
+use std::cell::Cell;
+
+/// Standard error of a program. After the first write that fails nothing more is written, so a line that was cut off stays the
+/// last one.
+#[derive(Drop)]
+pub struct Errors<'c, E> {
+    pub(crate) sink: E,
+    pub(crate) failed: bool,
+    noted: &'c Cell<Option<Reason>>,
+}
+
+impl<'c, E: Sink> Errors<'c, E> {
+    /// The sink as standard error, and where it is noted why the output cannot be written.
+    pub fn new(sink: E, noted: &'c Cell<Option<Reason>>) -> Errors<'c, E>
+        ensures sink { result.sink ≡ sink }
+        ensures writes { result.failed ≡ false }
+    {
+        Errors {
+            sink,
+            failed: false,
+            noted,
+        }
+    }
+
+    /// Whether a write has failed.
+    pub fn has_failed(&self) -> bool
+        ensures failed { result ≡ self.now.failed }
+    {
+        self.failed
+    }
+
+    /// Writes these parts, one after another.
+    pub fn write(&mut self, parts: &[&[u8]])
+        ensures told { TellsBytes E.Sink self.old self.new (concat (pieces_of parts.now)) }
+    {
+        if self.failed {
+            return;
+        }
+        match write_parts(&mut self.sink, parts) {
+            Ok(()) => {}
+            Err(_) => self.failed = true,
+        }
+    }
+
+    /// Writes a message as a line: the name of the program, what is told of, its line there, and the cause. The name and the line
+    /// are left out where there is none.
+    pub fn tell(&mut self, program: &[u8], name: Option<&[u8]>, line: Option<u64>, cause: &[u8])
+        ensures told { TellsBytes E.Sink self.old self.new (message_by program.now (record {
+          name = option_map (λ name. name.now) name.entry;
+          line = line;
+          cause = cause.now;
+        })) }
+    {
+        self.begin(program, name, line);
+        self.write(&[cause, b"\n"]);
+    }
+
+    /// Writes as such a message why an automaton is refused.
+    pub fn tell_build(
+        &mut self,
+        program: &[u8],
+        name: Option<&[u8]>,
+        line: Option<u64>,
+        error: &BuildError,
+    )
+        ensures told { TellsBytes E.Sink self.old self.new (message_by program.now (record {
+          name = option_map (λ name. name.now) name.entry;
+          line = line;
+          cause = build_error_text error.now;
+        })) }
+    {
+        self.begin(program, name, line);
+        self.write_build(error);
+    }
+
+    /// Writes as such a message why a search is refused.
+    pub fn tell_search(&mut self, program: &[u8], name: Option<&[u8]>, error: &MatchError)
+        ensures told { TellsBytes E.Sink self.old self.new (message_by program.now (record {
+          name = option_map (λ name. name.now) name.entry;
+          line = None;
+          cause = match_error_text error.now;
+        })) }
+    {
+        self.begin(program, name, None);
+        self.write_search(error);
+    }
+
+    /// Writes as such a message why the output cannot be written, as it is noted.
+    pub fn tell_unwritten(&mut self, program: &[u8])
+        ensures told { (reason : Reason) × TellsBytes E.Sink self.old self.new
+            (message_by program.now (record {
+              name = Some (codes "write error");
+              line = None;
+              cause = reason_text reason;
+            })) }
+    {
+        let reason = match self.noted.get() {
+            Some(reason) => reason,
+            None => Reason::Fault,
+        };
+        self.tell(
+            program,
+            Some(b"write error"),
+            None,
+            reason.text().as_bytes(),
+        );
+    }
+
+    /// Writes as such a message why a call answers nothing.
+    pub fn tell_failure(&mut self, program: &[u8], failure: &Failure)
+        ensures told { TellsBytes E.Sink self.old self.new (message_by program.now (record {
+          name = None;
+          line = None;
+          cause = failure_text failure.now;
+        })) }
+    {
+        self.begin(program, None, None);
+        self.write_failure(failure);
+    }
+
+    /// Writes what stands before the cause of a message.
+    fn begin(&mut self, program: &[u8], name: Option<&[u8]>, line: Option<u64>)
+        ensures told { TellsBytes E.Sink self.old self.new
+            (head_by program.now (option_map (λ name. name.now) name.entry) line) }
+    {
+        self.write(&[program, b": "]);
+        self.write_name(name);
+        self.write_place(line);
+    }
+
+    /// Writes what a message tells of, if it does.
+    fn write_name(&mut self, name: Option<&[u8]>)
+        ensures told { TellsBytes E.Sink self.old self.new
+            (name_before (option_map (λ name. name.now) name.entry)) }
+    {
+        match name {
+            Some(name) => self.write(&[name, b": "]),
+            None => self.write(&[]),
+        }
+    }
+
+    /// Writes of which line of it, if it does.
+    fn write_place(&mut self, line: Option<u64>)
+        ensures told { TellsBytes E.Sink self.old self.new (line_before line) }
+    {
+        let mut room = [0; MAX_DIGITS];
+        match line {
+            Some(line) => self.write(&[b"line ", digits_of(line, &mut room), b": "]),
+            None => self.write(&[]),
+        }
+    }
+
+    /// Writes why an automaton is refused, and a line end.
+    fn write_build(&mut self, error: &BuildError)
+        ensures told { TellsBytes E.Sink self.old self.new
+            (build_error_text error.now ++ codes "\n") }
+    {
+        if self.failed {
+            return;
+        }
+        match write_build_line(&mut self.sink, error) {
+            Ok(()) => {}
+            Err(_) => self.failed = true,
+        }
+    }
+
+    /// Writes why a search is refused, and a line end.
+    fn write_search(&mut self, error: &MatchError)
+        ensures told { TellsBytes E.Sink self.old self.new
+            (match_error_text error.now ++ codes "\n") }
+    {
+        if self.failed {
+            return;
+        }
+        match write_search_line(&mut self.sink, error) {
+            Ok(()) => {}
+            Err(_) => self.failed = true,
+        }
+    }
+
+    /// Writes why a call answers nothing, and a line end.
+    fn write_failure(&mut self, failure: &Failure)
+        ensures told { TellsBytes E.Sink self.old self.new (line_of_failure failure.now) }
+    {
+        if self.failed {
+            return;
+        }
+        match failure.write_line(&mut self.sink) {
+            Ok(()) => {}
+            Err(_) => self.failed = true,
+        }
+    }
+}

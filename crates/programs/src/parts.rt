@@ -1,0 +1,141 @@
+//! Writing a line that is made of parts, and the lines of refused builds and searches.
+
+ghost use Rattle.std.specs.List.{concat};
+ghost use Rattle.std.specs.Prelude.{◌≡◌, ◌++◌, codes, decimal};
+ghost use Rattle.aho_core.specs.Replacement.{pieces_of};
+ghost use Rattle.aho_core.specs.Texts.{build_error_text, kind_name, match_error_text};
+ghost use Rattle.programs.specs.Telling.{WritesParts};
+
+use aho_core::error::{BuildError, MatchError, MatchErrorKind, StreamError};
+use aho_core::search::MatchKind;
+use aho_devices::device::Sink;
+use aho_devices::write::write_whole;
+use itoa::write_digits;
+
+/// The most digits that a number has.
+pub(crate) const MAX_DIGITS: usize = 20;
+
+/// Writes these parts, one after another. The first write that fails or takes no byte is the error, and a beginning was
+/// written then.
+pub fn write_parts<S: Sink>(sink: &mut S, parts: &[&[u8]]) -> Result<(), StreamError>
+    ensures written { WritesParts S.Sink sink.old sink.new (concat (pieces_of parts.now)) result }
+{
+    let mut rest = parts;
+    while !rest.is_empty() {
+        write_whole(sink, rest[0])?;
+        rest = &rest[1..];
+    }
+    Ok(())
+}
+
+/// The digits of a number, at the end of the room.
+pub(crate) fn digits_of(number: u64, room: &mut [u8; MAX_DIGITS]) -> &[u8]
+    ensures digits { result.now ≡ decimal number }
+{
+    let start = write_digits(number, room, MAX_DIGITS);
+    &room[start..]
+}
+
+/// Writes why an automaton is refused, and a line end.
+pub fn write_build_line<S: Sink>(sink: &mut S, error: &BuildError) -> Result<(), StreamError>
+    ensures written { WritesParts S.Sink sink.old sink.new
+        (build_error_text error.now ++ codes "\n") result }
+{
+    match error {
+        BuildError::StateIDOverflow { max, requested } => {
+            let mut most = [0; MAX_DIGITS];
+            let mut wanted = [0; MAX_DIGITS];
+            let parts = [
+                b"state identifier overflow: failed to create state ID from ",
+                digits_of(*requested, &mut wanted),
+                b", which exceeds the max of ",
+                digits_of(*max, &mut most),
+                b"\n",
+            ];
+            write_parts(sink, &parts)
+        }
+        BuildError::PatternIDOverflow { max, requested } => {
+            let mut most = [0; MAX_DIGITS];
+            let mut wanted = [0; MAX_DIGITS];
+            let parts = [
+                b"pattern identifier overflow: failed to create pattern ID from ",
+                digits_of(*requested, &mut wanted),
+                b", which exceeds the max of ",
+                digits_of(*max, &mut most),
+                b"\n",
+            ];
+            write_parts(sink, &parts)
+        }
+        BuildError::PatternTooLong { pattern, len, max } => {
+            let mut number = [0; MAX_DIGITS];
+            let mut length = [0; MAX_DIGITS];
+            let mut most = [0; MAX_DIGITS];
+            let parts = [
+                b"pattern ",
+                digits_of(pattern.as_usize() as u64, &mut number),
+                b" with length ",
+                digits_of(*len as u64, &mut length),
+                b" exceeds the maximum pattern length of ",
+                digits_of(*max as u64, &mut most),
+                b"\n",
+            ];
+            write_parts(sink, &parts)
+        }
+        BuildError::OutOfMemory => write_parts(sink, &[b"out of memory", b"\n"]),
+    }
+}
+
+/// The name of a match kind.
+fn name_of(kind: MatchKind) -> &'static [u8]
+    ensures name { result.now ≡ kind_name kind }
+{
+    match kind {
+        MatchKind::Standard => b"Standard",
+        MatchKind::LeftmostFirst => b"LeftmostFirst",
+        MatchKind::LeftmostLongest => b"LeftmostLongest",
+    }
+}
+
+/// Writes why a search is refused, and a line end.
+pub fn write_search_line<S: Sink>(sink: &mut S, error: &MatchError) -> Result<(), StreamError>
+    ensures written { WritesParts S.Sink sink.old sink.new
+        (match_error_text error.now ++ codes "\n") result }
+{
+    match error.kind() {
+        MatchErrorKind::InvalidInputAnchored => {
+            write_parts(
+                sink,
+                &[b"anchored searches are not supported or enabled", b"\n"],
+            )
+        }
+        MatchErrorKind::InvalidInputUnanchored => write_parts(
+            sink,
+            &[b"unanchored searches are not supported or enabled", b"\n"],
+        ),
+        MatchErrorKind::UnsupportedStream { got } => write_parts(
+            sink,
+            &[
+                b"match kind ",
+                name_of(*got),
+                b" does not support stream searching",
+                b"\n",
+            ],
+        ),
+        MatchErrorKind::UnsupportedOverlapping { got } => write_parts(
+            sink,
+            &[
+                b"match kind ",
+                name_of(*got),
+                b" does not support overlapping searches",
+                b"\n",
+            ],
+        ),
+        MatchErrorKind::UnsupportedEmpty => write_parts(
+            sink,
+            &[
+                b"matching with an empty pattern string is not supported for this operation",
+                b"\n",
+            ],
+        ),
+    }
+}
