@@ -197,8 +197,15 @@ module _ {R W E : Type 0} {Reads : Readers R} (Writes : Writers W) (K : SinkGhos
   pub told_unread : (name : List ℕ) (reason : Reason) (old mid : Streams R W E Reads) (errors : Errors E) → FileOutcome Writes work name (Ok (Some reason)) old.input mid.input old.output mid.output
       → mid.errors ≡ old.errors → TellsBytes K mid.errors errors (unread_line name reason) → ToldOutcome Writes K work name (Ok false) old (record mid { errors = errors })
   told_unread name reason old mid errors file same tells = record {
-    done = (unread_line name reason ∷ [], refl, (inr (reason, refl, file.reason, file.begun), subst (λ (e : Errors E). TellsBytes K e errors (concat (unread_line name reason ∷ []))) same
-        (subst (TellsBytes K mid.errors errors) (sym (append-nil (unread_line name reason))) tells)));
+    done = (
+      unread_line name reason ∷ [],
+      refl,
+      (
+        inr (reason, refl, file.reason, file.begun),
+        subst (λ (e : Errors E). TellsBytes K e errors (concat (unread_line name reason ∷ []))) same
+            (subst (TellsBytes K mid.errors errors) (sym (append-nil (unread_line name reason))) tells),
+      ),
+    );
     cut = tt;
     quiet = λ (is : Ok false ≡ Ok true). absurd (cc);
     untold = tt;

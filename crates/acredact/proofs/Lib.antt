@@ -12,3 +12,4 @@ mod Done
 mod Loaded
 mod Calls
 mod Given
+mod Ready

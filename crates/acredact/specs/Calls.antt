@@ -2,6 +2,7 @@
 use Rattle.std.specs.Prelude.{◌≡◌, ◌⊎◌, ℕ, ◌||◌, Bool, true, false, List, [], ◌∷◌, Option, Result, Ok, IfErr, IfOk, OnErr, OnOk, codes, map, unwrap_or, if◌then◌else◌}
 use Rattle.std.specs.declared.io.traits.Read.{Ghosts as Readers}
 use Rattle.std.specs.declared.io.traits.Write.{Ghosts as Writers}
+use Rattle.aho_core.specs.declared.error.BuildError.{BuildError}
 use Rattle.aho_devices.specs.Counts.{counted}
 use Rattle.aho_devices.specs.declared.adapters.FromWrite.{FromWrite}
 use Rattle.aho_devices.specs.declared.device.Sink.{Ghosts as SinkGhosts}
@@ -13,7 +14,7 @@ use Rattle.programs.specs.declared.failure.Failure.{Failure as OtherFailure}
 use Rattle.programs.specs.declared.failure.Failure.TheVariants.{Usage, Build, Search, OutOfMemory, PositionLimit, Read, Write, WriteZero}
 use Rattle.programs.specs.declared.reason.Reason.{Reason}
 use Rattle.acredact.specs.Arguments.{Given, GivesNoPattern, has, is_same, last_value}
-use Rattle.acredact.specs.Builds.{IsBuildFailure, patterns_by_given}
+use Rattle.acredact.specs.Builds.{patterns_by_given}
 use Rattle.acredact.specs.Counts.{counts_text}
 use Rattle.acredact.specs.Failures.{IsFailureLine}
 use Rattle.acredact.specs.Files.{AreCut, AreDone, AreRedacted, Does, Work, are_none, unread_line}
@@ -85,10 +86,10 @@ OutputFails output output' =
 abbrev pub IsPrintFailure : Type 0 → Failure → Type 0
 IsPrintFailure fails failure = ((failure ≡ Other Write) ⊎ (failure ≡ Other WriteZero)) × fails
 
--- why files are not redacted by these words: the library refuses them, memory runs out, or the output fails
-abbrev pub IsRunFailure : List Given → List (List ℕ) → (fails : Type 0) → Failure → Type 0
-IsRunFailure given words fails failure =
-    ((error : _) × (failure ≡ Other (Build error)) × IsBuildFailure given words error)
+-- why files are not redacted: the library refuses them, memory runs out, or the output fails
+abbrev pub IsRunFailure : (fails : Type 0) → Failure → Type 0
+IsRunFailure fails failure =
+    ((error : BuildError) × (failure ≡ Other (Build error)))
     ⊎ ((failure ≡ Other OutOfMemory) ⊎ IsPrintFailure fails failure)
 
 -- why a call ends early: there is no pattern, one of the options cannot be loaded, the counts cannot be written, or the files are
@@ -98,8 +99,7 @@ MayFail call fails failure =
     ((failure ≡ Arguments NoRoom) ⊎ ((failure ≡ Arguments NoPattern) × GivesNoPattern call.given))
     ⊎ (CannotLoadOne (reading_by call) call.given failure
     ⊎ (((failure ≡ Counts) × (has Count call.given ≡ true))
-    ⊎ ((secrets : List Secret) × (left : Option (List ℕ)) × (left' : Option (List ℕ)) × AreGiven (reading_by call) call.given secrets left left'
-    × IsRunFailure call.given (patterns_in secrets) fails failure)))
+    ⊎ IsRunFailure fails failure))
 
 -- the line that tells why a file was not read to its end
 abbrev pub IsUnreadLine : List (List ℕ) → List ℕ → Type 0
@@ -178,11 +178,11 @@ module _ {R : Type 0} {Reads : Readers R} {W : Type 0} (Writes : Writers W) wher
       pub told : OnErr result (Tells K (IsLineOf call (OutputFails streams.output streams'.output)) streams.errors streams'.errors)
 
     -- what comes of the files, where the failure says why they are not redacted
-    pub record RunOutcome (given : List Given) (words : List (List ℕ)) (work : Work) (result : Result Bool Failure) (streams streams' : Streams R W E Reads) : Type 0 where
+    pub record RunOutcome (work : Work) (result : Result Bool Failure) (streams streams' : Streams R W E Reads) : Type 0 where
       pub done : IfOk result (λ all. (lines : List (List ℕ)) × (all ≡ are_none lines) × Does Writes K streams streams' (AreDone work work.names lines) lines)
       pub cut : OnErr result ((streams' ≡ streams) ⊎ ((lines : List (List ℕ)) × Does Writes K streams streams' (AreCut work work.names lines) lines))
       pub quiet : result ≡ Ok true → streams'.errors ≡ streams.errors
-      pub fails : IfErr result (IsRunFailure given words (OutputFails streams.output streams'.output))
+      pub fails : IfErr result (IsRunFailure (OutputFails streams.output streams'.output))
 
 -- what comes of a call whose patterns are loaded: these secrets, and so many bytes are left of the input
 abbrev pub IfLoaded : Call → List Secret → Option (List ℕ) → (Option (List ℕ) → Type 0) → Type 0

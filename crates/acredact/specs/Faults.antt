@@ -2,7 +2,6 @@
 use Rattle.std.specs.Prelude.{Bool, true, false, Option, Some, None, Result, Ok, Err}
 use Rattle.aho_core.specs.declared.error.stream.StreamError.{StreamError}
 use Rattle.aho_core.specs.declared.error.stream.StreamError.TheVariants.{Match, Read, Write, WriteZero, Memory, PositionLimit}
-
 use Rattle.programs.specs.declared.reason.Reason.{Reason}
 use Rattle.programs.specs.declared.reason.Reason.TheVariants.{NotFound, Denied, Directory, NoDirectory, Links, LongName, Invalid, Full, TooLarge, Quota, Interrupted, Unavailable, Closed, OutOfMemory, PositionLimit as TooLong, ReadFault, Fault}
 

@@ -19,8 +19,10 @@ pub fn counts_of(alloc: Global, rules: &[Rule], counted: bool) -> Result<Vec<u64
 {
     let mut counts = Vec::new(alloc);
     if counted {
-        for _rule in rules {
+        let mut rest = rules;
+        while !rest.is_empty() {
             counts.push(0)?;
+            rest = &rest[1..];
         }
     }
     Ok(counts)
@@ -69,12 +71,7 @@ fn text_of(alloc: Global, rules: &[Rule], counts: &[u64]) -> Result<Vec<u8>, All
 }
 
 /// Puts the line of a pattern.
-fn put_count(
-    text: &mut Vec<u8>,
-    count: u64,
-    number: usize,
-    line: usize,
-) -> Result<(), AllocError>
+fn put_count(text: &mut Vec<u8>, count: u64, number: usize, line: usize) -> Result<(), AllocError>
     ensures put { OnOk result (text.new.items ≡ text.old.items ++ count_line count number line) }
 {
     put_number(text, count)?;

@@ -115,7 +115,11 @@ pub fn tell_failure<E: Sink>(errors: &mut Errors<'_, E>, failure: &Failure<'_>)
         Failure::Arguments(mistake) => tell_mistake(errors, *mistake),
         Failure::Pattern(fault) => tell_about(errors, "-e", text_of(*fault)),
         Failure::Unread(name, reason) => tell_unread(errors, name, *reason),
-        Failure::Empty(name) => tell_about(errors, name, "no pattern: give --allow-empty to allow it"),
+        Failure::Empty(name) => tell_about(
+            errors,
+            name,
+            "no pattern: give --allow-empty to allow it",
+        ),
         Failure::Line(name, line) => tell_line(errors, name, *line),
         Failure::Counts => tell_alone(errors, "the counts cannot be written"),
         Failure::Other(other) => tell_other(errors, other),
@@ -178,8 +182,5 @@ fn tell_other<E: Sink>(errors: &mut Errors<'_, E>, other: &failure::Failure)
 fn is_of_output(other: &failure::Failure) -> bool
     ensures is { result ≡ is_of_output other.now }
 {
-    matches!(
-        other,
-        failure::Failure::Write | failure::Failure::WriteZero
-    )
+    matches!(other, failure::Failure::Write | failure::Failure::WriteZero)
 }

@@ -99,7 +99,14 @@ fn redact_told<A: Automaton, F: Folder, I: Read, W: Write, E: Sink>(
     ensures outcome { IfOf A.Automaton automaton.now (λ p. ToldOutcome W.Write E.Sink
         (work_of F.Folder job.now p) name.now result streams.old streams.new) }
 {
-    match redact_file(automaton, job, name, counts, &mut streams.input, &mut streams.output)? {
+    match redact_file(
+        automaton,
+        job,
+        name,
+        counts,
+        &mut streams.input,
+        &mut streams.output,
+    )? {
         None => Ok(true),
         Some(reason) => {
             tell_unread(&mut streams.errors, name, reason);

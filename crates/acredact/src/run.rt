@@ -1,6 +1,7 @@
 //! A call of the program over its arguments, files and streams.
 
-ghost use Rattle.std.specs.Prelude.{◌≡◌, ◌⊎◌, ℕ, List, MatchBool, IfErr, IfOk, IfSome, OnOk, None, false, length, true};
+ghost use Rattle.std.specs.Prelude.{◌≡◌, ◌≤◌, ◌⊎◌, ℕ, List, MatchBool, IfErr, IfOk, IfSome, OnOk, None, false, length, true};
+ghost use Rattle.std.specs.List.{All};
 ghost use Rattle.programs.specs.Arguments.{texts};
 ghost use Rattle.programs.specs.Names.{name_bytes};
 ghost use Rattle.programs.specs.Streams.{WritesBytes, bytes_left};
@@ -10,7 +11,7 @@ ghost use Rattle.acredact.specs.Calls.{BeginsCall, CallOutcome, IfLoaded, IsCoun
 ghost use Rattle.acredact.specs.Failures.{IsFailureLine};
 ghost use Rattle.acredact.specs.Files.{FilesOutcome, work_of};
 ghost use Rattle.acredact.specs.Secrets.{IfOf, IsReady};
-ghost use Rattle.acredact.specs.Tables.{patterns_in, secrets_of};
+ghost use Rattle.acredact.specs.Tables.{secrets_of};
 ghost use Rattle.acredact.specs.declared.arguments.Expects.TheVariants.{Any};
 ghost use Rattle.acredact.specs.declared.arguments.Word.TheVariants.{Count};
 
@@ -232,6 +233,7 @@ fn redact_counted<'a, F: Folder, I: Read, W: Write, E: Sink>(
     folder: &F,
     streams: &mut Streams<'_, I, W, E>,
 ) -> Result<bool, Failure<'a>>
+    requires some { All (λ secret. 1 ≤ length secret.pattern) (secrets_of rules.now) }
     ensures outcome { IfLoaded (call_of F.Folder folder.now (all_given given.now))
         (secrets_of rules.now) (bytes_left streams.old.input) (λ left. CallOutcome W.Write E.Sink
         (call_of F.Folder folder.now (all_given given.now)) left result streams.old streams.new) }
@@ -239,33 +241,43 @@ fn redact_counted<'a, F: Folder, I: Read, W: Write, E: Sink>(
 {
     let counted = has(given, Word::Count);
     let mut counts = counts_of(alloc, rules, counted)?;
-    let slots = counts.as_mut_slice();
-    let all = redact_all(alloc, given, rules, folder, slots, streams)?;
-    tell_counted(alloc, counted, rules, counts.as_slice(), &mut streams.errors)?;
-    Ok(all)
+    // Not by `?`: this error may hold names.
+    match redact_all(alloc, given, rules, folder, counts.as_mut_slice(), streams) {
+        Ok(all) => tell_counted(
+            alloc,
+            all,
+            counted,
+            rules,
+            counts.as_slice(),
+            &mut streams.errors,
+        ),
+        Err(failure) => Err(failure),
+    }
 }
 
-/// Tells the counts, where they are asked for.
+/// Tells the counts, where they are asked for, and answers whether all files were read.
 fn tell_counted<'a, E: Sink>(
     alloc: Global,
+    all: bool,
     counted: bool,
     rules: &[Rule],
     counts: &[u64],
     errors: &mut Errors<'_, E>,
-) -> Result<(), Failure<'a>>
+) -> Result<bool, Failure<'a>>
+    ensures all { IfOk result (λ done. done ≡ all) }
     ensures told { OnOk result (MatchBool counted (TellsCounts E.Sink errors.old errors.new)
         (errors.new ≡ errors.old)) }
     ensures lines { Tells E.Sink (IsCountsLine counted) errors.old errors.new }
     ensures fails { IfErr result (IsCountsFailure counted) }
 {
     if !counted {
-        return Ok(());
+        return Ok(all);
     }
     tell_counts(alloc, errors, rules, counts)?;
     if errors.has_failed() {
         return Err(Failure::Counts);
     }
-    Ok(())
+    Ok(all)
 }
 
 /// What is written for a pattern that has no replacement of its own.
@@ -287,7 +299,8 @@ fn redact_all<'a, F: Folder, I: Read, W: Write, E: Sink>(
     counts: &mut [u64],
     streams: &mut Streams<'_, I, W, E>,
 ) -> Result<bool, Failure<'a>>
-    ensures outcome { RunOutcome W.Write E.Sink (all_given given.now) (patterns_in (secrets_of rules.now))
+    requires some { All (λ secret. 1 ≤ length secret.pattern) (secrets_of rules.now) }
+    ensures outcome { RunOutcome W.Write E.Sink
         (work_by (call_of F.Folder folder.now (all_given given.now)) (secrets_of rules.now))
         result streams.old streams.new }
     ensures flushed { OnOk result (streams.new.output.device.flushed ≡ true) }

@@ -6,7 +6,9 @@ use Rattle.acredact.proofs.files.redact_opened.Goals as goal
 
 pub returns : goal.returns
 returns g c = record {
-  outcome = λ p of.
-      (bytes_left c.redact_input.new.input, subst (λ (left : Option (List ℕ)). TextOutcome g.W.Write (redactor_of c.args.job.now p) c.redact_input.result left (bytes_left c.redact_input.new.input) c.args.output.now c.redact_input.new.output)
-      (ap g.I.Read.remaining c.new-source.ensures.reader) (c.redact_input.ensures.outcome p of));
+  outcome = λ p of. (
+    bytes_left c.redact_input.new.input,
+    subst (λ (left : Option (List ℕ)). TextOutcome g.W.Write (redactor_of c.args.job.now p) c.redact_input.result left (bytes_left c.redact_input.new.input) c.args.output.now c.redact_input.new.output)
+        (ap g.I.Read.remaining c.new-source.ensures.reader) (c.redact_input.ensures.outcome p of),
+  );
 }
