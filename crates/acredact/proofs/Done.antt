@@ -21,7 +21,7 @@ use Rattle.programs.specs.declared.errors.Errors.{Errors}
 use Rattle.programs.specs.declared.reason.Reason.{Reason}
 use Rattle.programs.proofs.Tellings.{tells-later}
 use Rattle.acredact.specs.Faults.{IsOutputEnd}
-use Rattle.acredact.specs.Files.{AreCut, AreDone, AreRedacted, BeginsName, Does, FailsByOutput, FileOutcome, FilesOutcome, IsDone, RedactsName, ToldOutcome, Work, are_none, unread_line}
+use Rattle.acredact.specs.Files.{AreCut, AreDone, AreRedacted, BeginsNamed, Does, FailsByOutput, FileOutcome, FilesOutcome, IsDone, RedactsName, ToldOutcome, Work, are_none, unread_line}
 use Rattle.acredact.specs.declared.streams.Streams.{Streams}
 
 -- the lines of two

@@ -6,7 +6,7 @@ use Rattle.std.specs.List.{AllZip, slice_split}
 use Rattle.std.proofs.lemmas.Bool.{ne_eqb}
 use Rattle.std.proofs.lemmas.List.Splits.{slice_split_at, slice_split_none}
 use Rattle.acredact.specs.LineFaults.{IsLineFaultBy, IsListFault, NamesNone}
-use Rattle.acredact.specs.Tables.{HoldsBy, IsAdded, IsAddedList, IsWithout, Secret, line_by, lines_in}
+use Rattle.acredact.specs.Tables.{HoldsBy, IsAdded, IsAddedList, IsWithout, Secret, stripped_by, lines_in}
 use Rattle.acredact.specs.declared.patterns.BadLine.{BadLine}
 use Rattle.acredact.specs.declared.patterns.Form.{Form}
 
@@ -42,7 +42,7 @@ lines_some [] some = absurd (omega (arith, some))
 lines_some (byte ∷ bytes) some = refl
 
 -- one line's secret is added as that of a list of one line
-pub added_one : (form : Form) (old new : List Secret) (line : List ℕ) → (form.table ≡ false → ends_with_byte 13 (line_by form line) ≡ false) → IsAdded form.table old new (line_by form line)
+pub added_one : (form : Form) (old new : List Secret) (line : List ℕ) → (form.table ≡ false → ends_with_byte 13 (stripped_by form line) ≡ false) → IsAdded form.table old new (stripped_by form line)
     → IsAddedList form old new (line ∷ [])
 added_one form old new line no_return added = record {
   more = added.secret ∷ [];

@@ -18,7 +18,7 @@ use Rattle.programs.specs.Names.{is_input}
 use Rattle.programs.specs.Streams.{bytes_held, bytes_left}
 use Rattle.programs.specs.declared.reason.Reason.{Reason}
 use Rattle.acredact.specs.Faults.{IsOutputEnd, IsReadReason, IsStreamEnd, is_unread, reading_of}
-use Rattle.acredact.specs.Files.{BeginsName, BeginsText, FailsByOutput, FileOutcome, MayBeUnread, RedactsName, RedactsText, TextOutcome, Work}
+use Rattle.acredact.specs.Files.{BeginsNamed, BeginsText, FailsByOutput, FileOutcome, MayBeUnread, RedactsName, RedactsText, TextOutcome, Work}
 use Rattle.acredact.specs.Reads.{OfName, ReadsText}
 use Rattle.acredact.specs.Secrets.{Redactor}
 use Rattle.acredact.specs.Streams.{RedactsStream, StartsStream, StreamOutcome}

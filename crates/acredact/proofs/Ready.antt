@@ -14,7 +14,7 @@ use Rattle.programs.specs.declared.reason.Reason.{Reason}
 use Rattle.acredact.specs.Arguments.{Given, GivesNoPattern, has}
 use Rattle.acredact.specs.Calls.{gives_pattern}
 use Rattle.acredact.specs.Loading.{AreGiven, OptionGives, Reading, Rules}
-use Rattle.acredact.specs.Secrets.{IsReady}
+use Rattle.acredact.specs.Secrets.{CanRedact}
 use Rattle.acredact.specs.Tables.{HoldsBy, Secret, patterns_in}
 use Rattle.acredact.specs.declared.arguments.Word.{Word}
 use Rattle.acredact.specs.declared.arguments.Word.TheVariants.{IgnoreCase, Kind, Pattern, Patterns as PatternFile, Table, With, Count, Crlf, AllowEmpty, Help, Version, File}
@@ -65,7 +65,7 @@ started (Err error) is = absurd (cc)
 
 -- an automaton is ready
 pub ready_of : {A : Type 0} (G : Ghosts A) (automaton : A) (p : Patterns) (count : ℕ) → G.is_of automaton p → G.lengths automaton ≡ map length p.words → IsOk (G.start automaton No)
-    → 1 ≤ shortest (map length p.words) → count ≡ length p.words → IsReady G automaton count
+    → 1 ≤ shortest (map length p.words) → count ≡ length p.words → CanRedact G automaton count
 ready_of G automaton p count of are starts some one =
     let start = started (G.start automaton No) starts in
     record {

@@ -189,3 +189,7 @@ pub record GivesNoPattern (given : List Given) : Type 0 where
 -- what holds of the options and files that are given, where they ask for a redaction
 abbrev pub IfAsked : {Z : Type 0} → List (String Z) → (List Given → Type 0) → Type 0
 IfAsked arguments Holds = (given : List Given) → given_by Any (texts arguments) ≡ Some given → AsksToRedact given → Holds given
+
+-- the arguments are wrong
+abbrev pub AreMistaken : {Z : Type 0} → List (String Z) → Type 0
+AreMistaken arguments = given_by Any (texts arguments) ≡ None

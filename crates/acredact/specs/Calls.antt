@@ -132,8 +132,8 @@ abbrev pub IsWrongLine : List (List ℕ) → List ℕ → Type 0
 IsWrongLine arguments line = (failure : Failure) × IsWrongFailure arguments failure × IsFailureLine failure line
 
 -- what is told where there are no arguments to read
-abbrev pub IsRefusal : OtherFailure → List ℕ → Type 0
-IsRefusal failure line = IsFailureLine NotText line ⊎ IsFailureLine (Other failure) line
+abbrev pub IsRefusedLine : OtherFailure → List ℕ → Type 0
+IsRefusedLine failure line = IsFailureLine NotText line ⊎ IsFailureLine (Other failure) line
 
 -- the counts are told whole
 pub record TellsCounts {E : Type 0} (K : SinkGhosts E) (errors errors' : Errors E) : Type 0 where

@@ -6,7 +6,7 @@ use Rattle.programs.specs.declared.failure.Failure.{Failure as OtherFailure}
 use Rattle.programs.specs.declared.failure.Failure.TheVariants.{Usage, Build, Search, OutOfMemory, PositionLimit, Read, Write, WriteZero}
 use Rattle.acredact.specs.LineFaults.{line_fault_text}
 use Rattle.programs.specs.declared.reason.Reason.{Reason}
-use Rattle.acredact.specs.Messages.{about, alone, line_about, line_of}
+use Rattle.acredact.specs.Messages.{about, alone, line_about, told_line}
 use Rattle.acredact.specs.Mistakes.{mistake_message}
 use Rattle.acredact.specs.declared.failure.Failure.{Failure}
 use Rattle.acredact.specs.declared.failure.Failure.TheVariants.{NotText, Arguments, Pattern, Unread, Empty, Line, Counts, Other}
@@ -27,7 +27,7 @@ is_of_output WriteZero = true
 abbrev pub IsOtherLine : OtherFailure → List ℕ → Type 0
 IsOtherLine other line =
     ((is_of_output other ≡ true) × ((reason : Reason) × (line ≡ line_about (codes "write error") (reason_text reason))))
-    ⊎ ((is_of_output other ≡ false) × (line ≡ line_of (alone (failure_text other))))
+    ⊎ ((is_of_output other ≡ false) × (line ≡ told_line (alone (failure_text other))))
 
 -- what is told of a line of a file
 abbrev pub bad_line : List ℕ → BadLine → Message
@@ -35,11 +35,11 @@ bad_line name bad = record { name = Some name; line = Some bad.number; cause = l
 
 -- the line that tells a failure: of what, and why. Of a pattern it holds nothing, and of a file its name
 abbrev pub IsFailureLine : Failure → List ℕ → Type 0
-IsFailureLine NotText line = line ≡ line_of (alone (codes "an argument is not UTF-8"))
-IsFailureLine (Arguments mistake) line = line ≡ line_of (mistake_message mistake)
-IsFailureLine (Pattern fault) line = line ≡ line_of (about (codes "-e") (line_fault_text fault))
-IsFailureLine (Unread name reason) line = line ≡ line_of (about name.now (reason_text reason))
-IsFailureLine (Empty name) line = line ≡ line_of (about name.now (codes "no pattern: give --allow-empty to allow it"))
-IsFailureLine (Line name bad) line = line ≡ line_of (bad_line name.now bad)
-IsFailureLine Counts line = line ≡ line_of (alone (codes "the counts cannot be written"))
+IsFailureLine NotText line = line ≡ told_line (alone (codes "an argument is not UTF-8"))
+IsFailureLine (Arguments mistake) line = line ≡ told_line (mistake_message mistake)
+IsFailureLine (Pattern fault) line = line ≡ told_line (about (codes "-e") (line_fault_text fault))
+IsFailureLine (Unread name reason) line = line ≡ told_line (about name.now (reason_text reason))
+IsFailureLine (Empty name) line = line ≡ told_line (about name.now (codes "no pattern: give --allow-empty to allow it"))
+IsFailureLine (Line name bad) line = line ≡ told_line (bad_line name.now bad)
+IsFailureLine Counts line = line ≡ told_line (alone (codes "the counts cannot be written"))
 IsFailureLine (Other other) line = IsOtherLine other line

@@ -65,8 +65,8 @@ abbrev pub RedactsName : Work → List ℕ → (left left' held held' : Option (
 RedactsName work name left left' held held' = OfName work.holds name (λ l l'. RedactsText work.redactor l l' held held') left left'
 
 -- or a beginning of it
-abbrev pub BeginsName : Work → List ℕ → (left left' held held' : Option (List ℕ)) → Type 0
-BeginsName work name left left' held held' = OfName work.holds name (λ l l'. BeginsText work.redactor l l' held held') left left'
+abbrev pub BeginsNamed : Work → List ℕ → (left left' held held' : Option (List ℕ)) → Type 0
+BeginsNamed work name left left' held held' = OfName work.holds name (λ l l'. BeginsText work.redactor l l' held held') left left'
 
 -- and of each file, one after another
 abbrev pub AreRedacted : Work → List (List ℕ) → (left left' held held' : Option (List ℕ)) → Type 0
@@ -86,7 +86,7 @@ unread_line name reason = line_about name (reason_text reason)
 abbrev pub IsDone : Work → List ℕ → (lines : List (List ℕ)) → (left left' held held' : Option (List ℕ)) → Type 0
 IsDone work name lines left left' held held' =
     ((lines ≡ []) × RedactsName work name left left' held held')
-    ⊎ ((reason : Reason) × (lines ≡ unread_line name reason ∷ []) × MayBeUnread work name reason × BeginsName work name left left' held held')
+    ⊎ ((reason : Reason) × (lines ≡ unread_line name reason ∷ []) × MayBeUnread work name reason × BeginsNamed work name left left' held held')
 
 -- that is so of each file, one after another
 abbrev pub AreDone : Work → List (List ℕ) → (lines : List (List ℕ)) → (left left' held held' : Option (List ℕ)) → Type 0
@@ -100,7 +100,7 @@ AreDone work (name ∷ names) lines left left' held held' =
 abbrev pub AreCut : Work → List (List ℕ) → (lines : List (List ℕ)) → (left left' held held' : Option (List ℕ)) → Type 0
 AreCut work [] lines left left' held held' = (lines ≡ []) × (left' ≡ left) × Keeps held held'
 AreCut work (name ∷ names) lines left left' held held' =
-    ((lines ≡ []) × BeginsName work name left left' held held')
+    ((lines ≡ []) × BeginsNamed work name left left' held held')
     ⊎ ((first : List (List ℕ)) × (rest : List (List ℕ)) × (lines ≡ first ++ rest)
     × (between : Option (List ℕ)) × (meanwhile : Option (List ℕ))
     × IsDone work name first left between held meanwhile × AreCut work names rest between left' meanwhile held')
@@ -129,7 +129,7 @@ module _ {W : Type 0} (Writes : Writers W) where
     pub record FileOutcome (work : Work) (name : List ℕ) (result : Result (Option Reason) StreamError) (input input' : FromRead R Reads) (output output' : FromWrite W) : Type 0 where
       pub redacted : result ≡ Ok None
           → RedactsName work name (bytes_left input) (bytes_left input') (bytes_held Writes output) (bytes_held Writes output')
-      pub begun : BeginsName work name (bytes_left input) (bytes_left input') (bytes_held Writes output) (bytes_held Writes output')
+      pub begun : BeginsNamed work name (bytes_left input) (bytes_left input') (bytes_held Writes output) (bytes_held Writes output')
       pub reason : IfOk result (λ unread. IfSome unread (MayBeUnread work name))
       pub fails : FailsByOutput result output output'
 
@@ -143,7 +143,7 @@ module _ {W : Type 0} (Writes : Writers W) where
       -- what comes of a file, where it is told if it was not read to its end; else nothing is told
       pub record ToldOutcome (work : Work) (name : List ℕ) (result : Result Bool StreamError) (streams streams' : Streams R W E Reads) : Type 0 where
         pub done : IfOk result (λ whole. (lines : List (List ℕ)) × (whole ≡ are_none lines) × Does streams streams' (IsDone work name lines) lines)
-        pub cut : OnErr result (Does streams streams' (BeginsName work name) [])
+        pub cut : OnErr result (Does streams streams' (BeginsNamed work name) [])
         pub quiet : result ≡ Ok true → streams'.errors ≡ streams.errors
         pub untold : OnErr result (streams'.errors ≡ streams.errors)
         pub fails : FailsByOutput result streams.output streams'.output

@@ -1,7 +1,7 @@
 -- Why a line of a file of patterns or of a table holds no secret.
 use Rattle.std.specs.Prelude.{◌≡◌, ◌⊎◌, ℕ, ◌+◌, ◌-◌, ◌^◌, min, Bool, MatchBool, true, false, List, [], ◌∷◌, ◌++◌, codes, length, nat_eq}
 use Rattle.std.specs.Io.BufRead.{ends_with_byte}
-use Rattle.acredact.specs.Tables.{IsWithout, in_table, line_by}
+use Rattle.acredact.specs.Tables.{IsWithout, in_table, stripped_by}
 use Rattle.acredact.specs.declared.patterns.BadLine.{BadLine}
 use Rattle.acredact.specs.declared.patterns.Form.{Form}
 use Rattle.acredact.specs.declared.patterns.LineFault.{LineFault}
@@ -43,8 +43,8 @@ IsLineFault table line fault = (fault ≡ OutOfMemory) ⊎ MatchBool table (IsRo
 -- and why a line of a file does not
 abbrev pub IsLineFaultBy : Form → List ℕ → LineFault → Type 0
 IsLineFaultBy form line fault =
-    ((fault ≡ CarriageReturn) × (form.table ≡ false) × (ends_with_byte 13 (line_by form line) ≡ true))
-    ⊎ IsLineFault form.table (line_by form line) fault
+    ((fault ≡ CarriageReturn) × (form.table ≡ false) × (ends_with_byte 13 (stripped_by form line) ≡ true))
+    ⊎ IsLineFault form.table (stripped_by form line) fault
 
 -- the line of this number among some lines holds no secret for this reason
 pub record IsListFault (form : Form) (lines : List (List ℕ)) (bad : BadLine) : Type 0 where

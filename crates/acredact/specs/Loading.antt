@@ -32,8 +32,8 @@ pub record Reading : Type 1 where
   pub refuses : List ℕ → Reason → Type 0
   pub rules : Rules
 
-abbrev pub lists_of : {F X : Type 0} → Folders F X → Lists F → Reading
-lists_of D lists = record { holds = D.holds lists.folder.now; refuses = D.refuses lists.folder.now; rules = rules_for lists }
+abbrev pub reading_of_lists : {F X : Type 0} → Folders F X → Lists F → Reading
+reading_of_lists D lists = record { holds = D.holds lists.folder.now; refuses = D.refuses lists.folder.now; rules = rules_for lists }
 
 abbrev pub form_by : Rules → Bool → Form
 form_by rules table = record { table = table; crlf = rules.crlf }
@@ -143,14 +143,14 @@ IsTextFailure rules table file text Counts = ⊥
 IsTextFailure rules table file text (Other failure) = ⊥
 
 -- the text is that of the list, where the folder tells it
-abbrev pub IsTextOf : Reading → List ℕ → List ℕ → Type 0
-IsTextOf reading file text = is_input file ≡ false → IfSome (reading.holds file) (λ bytes. text ≡ bytes)
+abbrev pub IsListText : Reading → List ℕ → List ℕ → Type 0
+IsListText reading file text = is_input file ≡ false → IfSome (reading.holds file) (λ bytes. text ≡ bytes)
 
 -- the list of a name cannot be read, or its text holds none
 abbrev pub IsFileFailure : Reading → Bool → List ℕ → Failure → Type 0
 IsFileFailure reading table file failure =
     ((name : _) × (reason : Reason) × (failure ≡ Unread name reason) × (name.now ≡ file) × CannotRead reading file reason)
-    ⊎ ((text : List ℕ) × IsTextOf reading file text × IsTextFailure reading.rules table file text failure)
+    ⊎ ((text : List ℕ) × IsListText reading file text × IsTextFailure reading.rules table file text failure)
 
 -- an option does not give its secrets
 abbrev pub CannotLoad : Reading → Given → Failure → Type 0

@@ -3,8 +3,8 @@ use Rattle.std.specs.Prelude.{ℕ, List, None, Some, codes}
 use Rattle.programs.specs.Messages.{Message, message_by}
 
 -- the line of a message
-abbrev pub line_of : Message → List ℕ
-line_of message = message_by (codes "acredact") message
+abbrev pub told_line : Message → List ℕ
+told_line message = message_by (codes "acredact") message
 
 -- what it is about, and why
 abbrev pub about : List ℕ → List ℕ → Message
@@ -15,4 +15,4 @@ abbrev pub alone : List ℕ → Message
 alone cause = record { name = None; line = None; cause = cause }
 
 abbrev pub line_about : List ℕ → List ℕ → List ℕ
-line_about name cause = line_of (about name cause)
+line_about name cause = told_line (about name cause)

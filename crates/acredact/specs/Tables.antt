@@ -48,13 +48,13 @@ lines_in [] = []
 lines_in (byte ∷ bytes) = slice_split (λ b. nat_eq b 10) (strip_last 10 (byte ∷ bytes))
 
 -- without a carriage return at its end, where those are left out
-abbrev pub line_by : Form → List ℕ → List ℕ
-line_by form line = if form.crlf then strip_last 13 line else line
+abbrev pub stripped_by : Form → List ℕ → List ℕ
+stripped_by form line = if form.crlf then strip_last 13 line else line
 
 -- a line of a file holds a secret: a pattern of a file of patterns ends in no carriage return
 pub record HoldsBy (form : Form) (line : List ℕ) (secret : Secret) : Type 0 where
-  pub holds : Holds form.table (line_by form line) secret
-  pub no_return : form.table ≡ false → ends_with_byte 13 (line_by form line) ≡ false
+  pub holds : Holds form.table (stripped_by form line) secret
+  pub no_return : form.table ≡ false → ends_with_byte 13 (stripped_by form line) ≡ false
 
 -- what is written for a pattern: its own replacement, or a text where it has none
 abbrev pub piece_by : List ℕ → Secret → List ℕ

@@ -1,7 +1,7 @@
 //! How many matches of each pattern were replaced.
 
 ghost use Rattle.std.specs.Prelude.{◌≡◌, ◌++◌, IfOk, OnErr, OnOk, decimal};
-ghost use Rattle.acredact.specs.Counts.{count_line, counts_text, lines_of_rules, origin_of, zeros};
+ghost use Rattle.acredact.specs.Counts.{count_line, counts_text, lines_of_rules, place_told, zeros};
 ghost use Rattle.programs.specs.Telling.{TellsBytes};
 
 use crate::patterns::Rule;
@@ -85,7 +85,7 @@ fn put_count(text: &mut Vec<u8>, count: u64, number: usize, line: usize) -> Resu
 
 /// Puts the number of a line, or `-e` where it is 0.
 fn put_origin(text: &mut Vec<u8>, line: usize) -> Result<(), AllocError>
-    ensures put { OnOk result (text.new.items ≡ text.old.items ++ origin_of line) }
+    ensures put { OnOk result (text.new.items ≡ text.old.items ++ place_told line) }
 {
     if line == 0 {
         text.extend_from_slice(b"-e")?;

@@ -5,7 +5,7 @@ ghost use Rattle.programs.specs.Messages.{reason_text};
 ghost use Rattle.programs.specs.Telling.{TellsBytes};
 ghost use Rattle.acredact.specs.Failures.{IsFailureLine, IsOtherLine, bad_line, is_of_output};
 ghost use Rattle.acredact.specs.LineFaults.{line_fault_text};
-ghost use Rattle.acredact.specs.Messages.{alone, line_about, line_of};
+ghost use Rattle.acredact.specs.Messages.{alone, line_about, told_line};
 ghost use Rattle.acredact.specs.Mistakes.{mistake_message};
 
 use crate::arguments::{Mistake, name_of};
@@ -100,7 +100,7 @@ fn tell_about<E: Sink>(errors: &mut Errors<'_, E>, name: &str, cause: &str)
 
 /// Tells a cause as a line.
 fn tell_alone<E: Sink>(errors: &mut Errors<'_, E>, cause: &str)
-    ensures told { TellsBytes E.Sink errors.old errors.new (line_of (alone cause.now)) }
+    ensures told { TellsBytes E.Sink errors.old errors.new (told_line (alone cause.now)) }
 {
     errors.tell(PROGRAM, None, None, cause.as_bytes());
 }
@@ -128,7 +128,7 @@ pub fn tell_failure<E: Sink>(errors: &mut Errors<'_, E>, failure: &Failure<'_>)
 
 /// Tells as a line what is wrong with the arguments.
 fn tell_mistake<E: Sink>(errors: &mut Errors<'_, E>, mistake: Mistake<'_>)
-    ensures told { TellsBytes E.Sink errors.old errors.new (line_of (mistake_message mistake.entry)) }
+    ensures told { TellsBytes E.Sink errors.old errors.new (told_line (mistake_message mistake.entry)) }
 {
     match mistake {
         Mistake::Unknown(argument) => tell_about(errors, "unknown option", argument),
@@ -141,7 +141,7 @@ fn tell_mistake<E: Sink>(errors: &mut Errors<'_, E>, mistake: Mistake<'_>)
 
 /// Tells as a line what is wrong with a line of a file.
 fn tell_line<E: Sink>(errors: &mut Errors<'_, E>, name: &str, bad: BadLine)
-    ensures told { TellsBytes E.Sink errors.old errors.new (line_of (bad_line name.now bad)) }
+    ensures told { TellsBytes E.Sink errors.old errors.new (told_line (bad_line name.now bad)) }
 {
     errors.tell(
         PROGRAM,

@@ -7,7 +7,7 @@ ghost use Rattle.programs.specs.Names.{is_input};
 ghost use Rattle.programs.specs.Streams.{bytes_left};
 ghost use Rattle.acredact.specs.Faults.{is_unread, reading_of};
 ghost use Rattle.acredact.specs.Files.{FileOutcome, FilesOutcome, TextOutcome, ToldOutcome, redactor_of, work_of};
-ghost use Rattle.acredact.specs.Secrets.{IfOf, IsReady};
+ghost use Rattle.acredact.specs.Secrets.{IfOf, CanRedact};
 ghost use Rattle.acredact.specs.Streams.{StreamOutcome};
 
 use crate::failure::tell_unread;
@@ -49,7 +49,7 @@ pub fn redact_files<A: Automaton, F: Folder, I: Read, W: Write, E: Sink>(
     counts: &mut [u64],
     streams: &mut Streams<'_, I, W, E>,
 ) -> Result<bool, StreamError>
-    requires ready { IsReady A.Automaton automaton.now (length job.now.replacements.now) }
+    requires ready { CanRedact A.Automaton automaton.now (length job.now.replacements.now) }
     ensures outcome { IfOf A.Automaton automaton.now (λ p.
         FilesOutcome W.Write E.Sink (work_of F.Folder job.now p) result streams.old streams.new) }
     ensures flushed { OnOk result (streams.new.output.device.flushed ≡ true) }
@@ -66,7 +66,7 @@ fn redact_each<A: Automaton, F: Folder, I: Read, W: Write, E: Sink>(
     counts: &mut [u64],
     streams: &mut Streams<'_, I, W, E>,
 ) -> Result<bool, StreamError>
-    requires ready { IsReady A.Automaton automaton.now (length job.now.replacements.now) }
+    requires ready { CanRedact A.Automaton automaton.now (length job.now.replacements.now) }
     ensures outcome { IfOf A.Automaton automaton.now (λ p.
         FilesOutcome W.Write E.Sink (work_of F.Folder job.now p) result streams.old streams.new) }
 {
@@ -95,7 +95,7 @@ fn redact_told<A: Automaton, F: Folder, I: Read, W: Write, E: Sink>(
     counts: &mut [u64],
     streams: &mut Streams<'_, I, W, E>,
 ) -> Result<bool, StreamError>
-    requires ready { IsReady A.Automaton automaton.now (length job.now.replacements.now) }
+    requires ready { CanRedact A.Automaton automaton.now (length job.now.replacements.now) }
     ensures outcome { IfOf A.Automaton automaton.now (λ p. ToldOutcome W.Write E.Sink
         (work_of F.Folder job.now p) name.now result streams.old streams.new) }
 {
@@ -124,7 +124,7 @@ fn redact_file<A: Automaton, F: Folder, I: Read, W: Write>(
     input: &mut FromRead<I>,
     output: &mut FromWrite<W>,
 ) -> Result<Option<Reason>, StreamError>
-    requires ready { IsReady A.Automaton automaton.now (length job.now.replacements.now) }
+    requires ready { CanRedact A.Automaton automaton.now (length job.now.replacements.now) }
     ensures outcome { IfOf A.Automaton automaton.now (λ p. FileOutcome W.Write
         (work_of F.Folder job.now p) name.now result input.old input.new output.old output.new) }
 {
@@ -152,7 +152,7 @@ fn redact_opened<A: Automaton, F, I: Read + Drop, W: Write>(
     reader: I,
     output: &mut FromWrite<W>,
 ) -> Result<Option<Reason>, StreamError>
-    requires ready { IsReady A.Automaton automaton.now (length job.now.replacements.now) }
+    requires ready { CanRedact A.Automaton automaton.now (length job.now.replacements.now) }
     ensures outcome { IfOf A.Automaton automaton.now (λ p. (rest : Option (List ℕ)) × TextOutcome
         W.Write (redactor_of job.now p) result (I.remaining reader) rest output.old output.new) }
 {
@@ -168,7 +168,7 @@ fn redact_input<A: Automaton, F, I: Read, W: Write>(
     input: &mut FromRead<I>,
     output: &mut FromWrite<W>,
 ) -> Result<Option<Reason>, StreamError>
-    requires ready { IsReady A.Automaton automaton.now (length job.now.replacements.now) }
+    requires ready { CanRedact A.Automaton automaton.now (length job.now.replacements.now) }
     ensures outcome { IfOf A.Automaton automaton.now (λ p. TextOutcome W.Write (redactor_of job.now p)
         result (bytes_left input.old) (bytes_left input.new) output.old output.new) }
     ensures failed { input.new.failures ≡ counted (is_unread result) input.old.failures }
@@ -185,7 +185,7 @@ fn redact_stream<A: Automaton, F, R: Source, W: Sink>(
     source: &mut R,
     sink: &mut W,
 ) -> Result<(), StreamError>
-    requires ready { IsReady A.Automaton automaton.now (length job.now.replacements.now) }
+    requires ready { CanRedact A.Automaton automaton.now (length job.now.replacements.now) }
     ensures outcome { IfOf A.Automaton automaton.now (λ p. StreamOutcome R.Source W.Sink
         (redactor_of job.now p) result source.old source.new sink.old sink.new) }
 {

@@ -4,7 +4,7 @@ ghost use Rattle.std.specs.Prelude.{◌≡◌, ℕ, List, Option, IfErr, IfOk, O
 ghost use Rattle.aho_devices.specs.Counts.{counted};
 ghost use Rattle.programs.specs.Streams.{bytes_left};
 ghost use Rattle.acredact.specs.Arguments.{all_given, given_of};
-ghost use Rattle.acredact.specs.Loading.{AreGiven, CannotLoad, CannotLoadOne, CannotRead, IsAddedFile, IsAddedItem, IsAddedText, IsFileFailure, IsPatternFailure, IsTextFailure, IsTextReason, is_failed_text, lists_of, rules_for};
+ghost use Rattle.acredact.specs.Loading.{AreGiven, CannotLoad, CannotLoadOne, CannotRead, IsAddedFile, IsAddedItem, IsAddedText, IsFileFailure, IsPatternFailure, IsTextFailure, IsTextReason, is_failed_text, reading_of_lists, rules_for};
 ghost use Rattle.acredact.specs.Reads.{OfName, ReadsText};
 ghost use Rattle.acredact.specs.Tables.{IsAdded, secrets_of};
 
@@ -45,9 +45,9 @@ pub fn rules<'a, F: Folder, I: Read>(
     items: &[Item<'a>],
     input: &mut FromRead<I>,
 ) -> Result<Vec<Rule>, Failure<'a>>
-    ensures given { IfOk result (λ rules. AreGiven (lists_of F.Folder lists.now) (all_given items.now)
+    ensures given { IfOk result (λ rules. AreGiven (reading_of_lists F.Folder lists.now) (all_given items.now)
         (secrets_of rules.items) (bytes_left input.old) (bytes_left input.new)) }
-    ensures fails { IfErr result (CannotLoadOne (lists_of F.Folder lists.now) (all_given items.now)) }
+    ensures fails { IfErr result (CannotLoadOne (reading_of_lists F.Folder lists.now) (all_given items.now)) }
 {
     let mut rules = Vec::new(lists.alloc);
     let mut rest = items;
@@ -69,10 +69,10 @@ fn add_item<'a, F: Folder, I: Read>(
     item: Item<'a>,
     input: &mut FromRead<I>,
 ) -> Result<(), Failure<'a>>
-    ensures added { OnOk result (IsAddedItem (lists_of F.Folder lists.now) (given_of item.entry)
+    ensures added { OnOk result (IsAddedItem (reading_of_lists F.Folder lists.now) (given_of item.entry)
         (secrets_of rules.old.items) (secrets_of rules.new.items)
         (bytes_left input.old) (bytes_left input.new)) }
-    ensures fails { IfErr result (CannotLoad (lists_of F.Folder lists.now) (given_of item.entry)) }
+    ensures fails { IfErr result (CannotLoad (reading_of_lists F.Folder lists.now) (given_of item.entry)) }
 {
     match item.word {
         Word::Pattern => add_pattern(lists.alloc, rules, item.value),
@@ -106,10 +106,10 @@ fn add_file<'a, F: Folder, I: Read>(
     table: bool,
     input: &mut FromRead<I>,
 ) -> Result<(), Failure<'a>>
-    ensures added { OnOk result (IsAddedFile (lists_of F.Folder lists.now) table name.now
+    ensures added { OnOk result (IsAddedFile (reading_of_lists F.Folder lists.now) table name.now
         (secrets_of rules.old.items) (secrets_of rules.new.items)
         (bytes_left input.old) (bytes_left input.new)) }
-    ensures fails { IfErr result (IsFileFailure (lists_of F.Folder lists.now) table name.now) }
+    ensures fails { IfErr result (IsFileFailure (reading_of_lists F.Folder lists.now) table name.now) }
 {
     match read_list(lists, name, input) {
         Ok(text) => add_text(lists, rules, name, table, text.as_slice()),
@@ -150,7 +150,7 @@ fn read_list<F: Folder, I: Read>(
 ) -> Result<Vec<u8>, Reason>
     ensures text { IfOk result (λ text. OfName (F.holds lists.now.folder.now) name.now
         (ReadsText text.items) (bytes_left input.old) (bytes_left input.new)) }
-    ensures fails { IfErr result (CannotRead (lists_of F.Folder lists.now) name.now) }
+    ensures fails { IfErr result (CannotRead (reading_of_lists F.Folder lists.now) name.now) }
 {
     if is_input(name) {
         return read_whole(lists.alloc, input);

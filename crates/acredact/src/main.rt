@@ -17,15 +17,12 @@ mod rows;
 mod run;
 mod streams;
 
-ghost use Rattle.std.specs.Prelude.{◌≡◌, ◌⊎◌, IfErr, IfOk, None, false, true};
+ghost use Rattle.std.specs.Prelude.{◌≡◌, ◌⊎◌, IfErr, IfOk, true};
 ghost use Rattle.std.specs.Process.{exit_status};
-ghost use Rattle.programs.specs.Arguments.{texts};
 ghost use Rattle.programs.specs.Streams.{bytes_left};
 ghost use Rattle.programs.specs.Telling.{TellsSome};
-ghost use Rattle.acredact.specs.Arguments.{GivesNoPattern, IfAsked, given_by, has};
-ghost use Rattle.acredact.specs.Calls.{BeginsCall, IsLineOf, IsRefusal, IsWrongLine, OutputFails, RedactsCall, TellsCounts, call_of};
-ghost use Rattle.acredact.specs.declared.arguments.Expects.TheVariants.{Any};
-ghost use Rattle.acredact.specs.declared.arguments.Word.TheVariants.{Count};
+ghost use Rattle.acredact.specs.Arguments.{AreMistaken, IfAsked};
+ghost use Rattle.acredact.specs.Calls.{BeginsCall, IsRefusedLine, RedactsCall, call_of};
 
 use aho_devices::adapters::{FromRead, FromWrite};
 use aho_devices::device::Sink;
@@ -70,10 +67,10 @@ fn exit_code<F: Folder, I: Read, W: Write, E: Sink>(
     streams: &mut Streams<'_, I, W, E>,
 ) -> ExitCode
     ensures faulty { IfErr given (λ _. exit_status result ≡ 2) }
-    ensures refused { IfErr given (λ failure. TellsSome E.Sink (IsRefusal failure)
+    ensures refused { IfErr given (λ failure. TellsSome E.Sink (IsRefusedLine failure)
         streams.old.errors streams.new.errors) }
     ensures wrong { IfOk given (λ arguments.
-        given_by Any (texts arguments.items) ≡ None → exit_status result ≡ 2) }
+        AreMistaken arguments.items → exit_status result ≡ 2) }
     ensures redacts { IfOk given (λ arguments. IfAsked arguments.items (λ given.
         exit_status result ≡ 0 → RedactsCall W.Write (call_of F.Folder folder.now given)
         (bytes_left streams.old.input) streams.old streams.new)) }

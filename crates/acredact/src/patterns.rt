@@ -4,7 +4,7 @@ ghost use Rattle.std.specs.Prelude.{◌≡◌, [], ◌<◌, ◌≤◌, ◌∷◌
 ghost use Rattle.std.specs.Io.BufRead.{ends_with_byte, strip_last};
 ghost use Rattle.aho_core.specs.Replacement.{pieces_of};
 ghost use Rattle.acredact.specs.LineFaults.{IsBadStart, IsLineFault, IsLineFaultBy, IsListFault, IsTextFault};
-ghost use Rattle.acredact.specs.Tables.{Holds, IsAdded, IsAddedList, IsWithout, escape_of, in_table, line_by, lines_in, patterns_in, piece_by, secret_of, secrets_of};
+ghost use Rattle.acredact.specs.Tables.{Holds, IsAdded, IsAddedList, IsWithout, escape_of, in_table, stripped_by, lines_in, patterns_in, piece_by, secret_of, secrets_of};
 
 use std::alloc::{AllocError, AllocFailed, Global};
 use std::slice;
@@ -265,7 +265,7 @@ fn add_listed(
         (secrets_of rules.old.items) (secrets_of rules.new.items) (line.now ∷ [])) }
     ensures fault { IfErr result (IsLineFaultBy form line.now) }
 {
-    let line = line_by(form, line);
+    let line = stripped_by(form, line);
     if !form.table && ends_in_return(line) {
         return Err(LineFault::CarriageReturn);
     }
@@ -273,8 +273,8 @@ fn add_listed(
 }
 
 /// A line as its rule stands in it: without a carriage return at its end, where those are left out.
-fn line_by(form: Form, line: &[u8]) -> &[u8]
-    ensures line { result.now ≡ line_by form line.now }
+fn stripped_by(form: Form, line: &[u8]) -> &[u8]
+    ensures line { result.now ≡ stripped_by form line.now }
 {
     if form.crlf {
         return without_last(line, b'\r');

@@ -2,8 +2,8 @@
 
 ghost use Rattle.std.specs.Prelude.{◌≡◌, ◌<◌, ◌≤◌, [], length, slice_index, slice_index_or, slice_set};
 ghost use Rattle.aho_core.specs.Replacement.{pieces_of};
-ghost use Rattle.acredact.specs.Counts.{one_more};
-ghost use Rattle.acredact.specs.Secrets.{IfOf, IsReady, redactor_by};
+ghost use Rattle.acredact.specs.Counts.{counted_more};
+ghost use Rattle.acredact.specs.Secrets.{IfOf, CanRedact, redactor_by};
 ghost use Rattle.acredact.specs.Streams.{StreamOutcome, WritesPiece};
 
 use aho_automaton::automaton::Automaton;
@@ -27,7 +27,7 @@ pub fn redact<A: Automaton, R: Source, W: Sink>(
     source: &mut R,
     sink: &mut W,
 ) -> Result<(), StreamError>
-    requires ready { IsReady A.Automaton automaton.now (length replacements.now) }
+    requires ready { CanRedact A.Automaton automaton.now (length replacements.now) }
     ensures outcome { IfOf A.Automaton automaton.now (λ p. StreamOutcome R.Source W.Sink
         (redactor_by p replacements.now) result source.old source.new sink.old sink.new) }
 {
@@ -43,7 +43,7 @@ pub fn redact_counting<A: Automaton, R: Source, W: Sink>(
     source: &mut R,
     sink: &mut W,
 ) -> Result<(), StreamError>
-    requires ready { IsReady A.Automaton automaton.now (length replacements.now) }
+    requires ready { CanRedact A.Automaton automaton.now (length replacements.now) }
     ensures outcome { IfOf A.Automaton automaton.now (λ p. StreamOutcome R.Source W.Sink
         (redactor_by p replacements.now) result source.old source.new sink.old sink.new) }
 {
@@ -70,7 +70,7 @@ fn put_counted<W: Sink>(
 /// One match more of the pattern of this number. A count stops at the greatest number.
 fn count_one(counts: &mut [u64], number: usize)
     ensures counted { number < length counts.old → counts.new
-        ≡ slice_set counts.old number (one_more (slice_index counts.old number)) }
+        ≡ slice_set counts.old number (counted_more (slice_index counts.old number)) }
     ensures uncounted { length counts.old ≤ number → counts.new ≡ counts.old }
 {
     if number < counts.len() {

@@ -1,18 +1,17 @@
 //! A call of the program over its arguments, files and streams.
 
-ghost use Rattle.std.specs.Prelude.{◌≡◌, ◌≤◌, ◌⊎◌, ℕ, List, MatchBool, IfErr, IfOk, IfSome, OnOk, None, false, length, true};
+ghost use Rattle.std.specs.Prelude.{◌≡◌, ◌≤◌, ◌⊎◌, ℕ, List, MatchBool, IfErr, IfOk, IfSome, OnOk, false, length, true};
 ghost use Rattle.std.specs.List.{All};
 ghost use Rattle.programs.specs.Arguments.{texts};
 ghost use Rattle.programs.specs.Names.{name_bytes};
 ghost use Rattle.programs.specs.Streams.{WritesBytes, bytes_left};
 ghost use Rattle.programs.specs.Telling.{Tells, TellsBytes, TellsSome};
-ghost use Rattle.acredact.specs.Arguments.{AsksToRedact, GivesNoPattern, IfAsked, all_given, given_by, has};
-ghost use Rattle.acredact.specs.Calls.{BeginsCall, CallOutcome, IfLoaded, IsCountsFailure, IsCountsLine, IsLineOf, IsPrintFailure, IsRefusal, IsWrongFailure, IsWrongLine, OutputFails, RedactsCall, RunOutcome, TellsCounts, call_of, gives_pattern, names_asked, text_asked, work_by};
+ghost use Rattle.acredact.specs.Arguments.{AreMistaken, AsksToRedact, GivesNoPattern, IfAsked, all_given, has};
+ghost use Rattle.acredact.specs.Calls.{BeginsCall, CallOutcome, IfLoaded, IsCountsFailure, IsCountsLine, IsLineOf, IsPrintFailure, IsRefusedLine, IsWrongFailure, IsWrongLine, OutputFails, RedactsCall, RunOutcome, TellsCounts, call_of, gives_pattern, names_asked, text_asked, work_by};
 ghost use Rattle.acredact.specs.Failures.{IsFailureLine};
 ghost use Rattle.acredact.specs.Files.{FilesOutcome, work_of};
-ghost use Rattle.acredact.specs.Secrets.{IfOf, IsReady};
+ghost use Rattle.acredact.specs.Secrets.{IfOf, CanRedact};
 ghost use Rattle.acredact.specs.Tables.{secrets_of};
-ghost use Rattle.acredact.specs.declared.arguments.Expects.TheVariants.{Any};
 ghost use Rattle.acredact.specs.declared.arguments.Word.TheVariants.{Count};
 
 use crate::arguments::{Item, Mistake, Word, has, is_same, items, last_value};
@@ -73,12 +72,12 @@ pub fn run<F: Folder, I: Read, W: Write, E: Sink>(
     streams: &mut Streams<'_, I, W, E>,
 ) -> u8
     // Wrong arguments are found and told before anything is read or written.
-    ensures wrong { given_by Any (texts arguments.now) ≡ None → result ≡ 2 }
-    ensures unread { given_by Any (texts arguments.now) ≡ None
+    ensures wrong { AreMistaken arguments.now → result ≡ 2 }
+    ensures unread { AreMistaken arguments.now
         → streams.new.input ≡ streams.old.input }
-    ensures unwritten { given_by Any (texts arguments.now) ≡ None
+    ensures unwritten { AreMistaken arguments.now
         → streams.new.output ≡ streams.old.output }
-    ensures tells_wrong { given_by Any (texts arguments.now) ≡ None → TellsSome E.Sink
+    ensures tells_wrong { AreMistaken arguments.now → TellsSome E.Sink
         (IsWrongLine (texts arguments.now)) streams.old.errors streams.new.errors }
     ensures patternless { IfAsked arguments.now (λ given. GivesNoPattern given → result ≡ 2) }
 
@@ -127,7 +126,7 @@ fn report<E: Sink>(failure: &Failure<'_>, errors: &mut Errors<'_, E>) -> u8
 /// Tells why there are no arguments, or no memory to begin with, and answers the exit status.
 pub fn refuse<E: Sink>(failure: failure::Failure, errors: &mut Errors<'_, E>) -> u8
     ensures failed { result ≡ 2 }
-    ensures told { TellsSome E.Sink (IsRefusal failure) errors.old errors.new }
+    ensures told { TellsSome E.Sink (IsRefusedLine failure) errors.old errors.new }
 {
     match failure {
         failure::Failure::Usage => report(&Failure::NotText, errors),
@@ -142,9 +141,9 @@ fn answer<'a, F: Folder, I: Read, W: Write, E: Sink>(
     folder: &F,
     streams: &mut Streams<'_, I, W, E>,
 ) -> Result<bool, Failure<'a>>
-    ensures wrong { given_by Any (texts arguments.entry.now) ≡ None
+    ensures wrong { AreMistaken arguments.entry.now
         → OnOk result ⊥ × (streams.new ≡ streams.old) }
-    ensures mistake { given_by Any (texts arguments.entry.now) ≡ None
+    ensures mistake { AreMistaken arguments.entry.now
         → IfErr result (IsWrongFailure (texts arguments.entry.now)) }
     ensures patternless { IfAsked arguments.entry.now (λ given. GivesNoPattern given → OnOk result ⊥) }
     ensures outcome { IfAsked arguments.entry.now (λ given. CallOutcome W.Write E.Sink
@@ -329,8 +328,8 @@ fn redact_by<A: Automaton, B: Automaton, F: Folder, I: Read, W: Write, E: Sink>(
     counts: &mut [u64],
     streams: &mut Streams<'_, I, W, E>,
 ) -> Result<bool, StreamError>
-    requires ready { IsReady A.Automaton automaton.now (length job.now.replacements.now) }
-    requires rows { IfSome rows (λ rows. IsReady B.Automaton rows.now (length job.now.replacements.now)) }
+    requires ready { CanRedact A.Automaton automaton.now (length job.now.replacements.now) }
+    requires rows { IfSome rows (λ rows. CanRedact B.Automaton rows.now (length job.now.replacements.now)) }
     ensures outcome { IfOf A.Automaton automaton.now (λ p. IfSome rows.entry (λ rows. B.is_of rows.now p)
         → FilesOutcome W.Write E.Sink (work_of F.Folder job.now p) result streams.old streams.new) }
     ensures flushed { OnOk result (streams.new.output.device.flushed ≡ true) }

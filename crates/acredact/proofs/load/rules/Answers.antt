@@ -2,7 +2,7 @@
 use Rattle.std.proofs.Common.{rules, ◌≡◌, ◌≤◌, List, [], ap, length, subst, sym}
 use Rattle.programs.specs.Streams.{bytes_left}
 use Rattle.acredact.specs.Arguments.{all_given}
-use Rattle.acredact.specs.Loading.{lists_of}
+use Rattle.acredact.specs.Loading.{reading_of_lists}
 use Rattle.acredact.specs.Tables.{Secret, secrets_of}
 use Rattle.acredact.proofs.Loaded.{GivenSoFar, given_end, given_fails, given_next, given_none}
 use Rattle.acredact.proofs.load.rules.Goals as goal
@@ -10,7 +10,7 @@ use Rattle.acredact.proofs.load.rules.Goals as goal
 pub loop-rest-init : goal.loop-rest-init
 loop-rest-init g c =
     let none : secrets_of c.new-rules.result.items ≡ [] = ap secrets_of c.new-rules.ensures.items in
-    subst (λ (l : List Secret). GivenSoFar (lists_of g.F.Folder c.args.lists.now) (all_given c.args.items.now) (bytes_left c.args.input.now) (all_given c.args.items.now) l (bytes_left c.args.input.now)) (sym none) (given_none _ _ _)
+    subst (λ (l : List Secret). GivenSoFar (reading_of_lists g.F.Folder c.args.lists.now) (all_given c.args.items.now) (bytes_left c.args.input.now) (all_given c.args.items.now) l (bytes_left c.args.input.now)) (sym none) (given_none _ _ _)
 
 pub loop-rest-preserved : goal.loop-rest-preserved
 loop-rest-preserved g c =

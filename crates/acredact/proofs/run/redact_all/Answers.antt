@@ -18,7 +18,7 @@ use Rattle.acredact.specs.Arguments.{all_given}
 use Rattle.acredact.specs.Builds.{patterns_by_given}
 use Rattle.acredact.specs.Calls.{RunOutcome, call_of, names_asked, pieces_asked, work_by}
 use Rattle.acredact.specs.Files.{FilesOutcome}
-use Rattle.acredact.specs.Secrets.{IsReady}
+use Rattle.acredact.specs.Secrets.{CanRedact}
 use Rattle.acredact.specs.Tables.{patterns_in, piece_by, secrets_of}
 use Rattle.acredact.specs.declared.failure.Failure.{Failure}
 use Rattle.acredact.specs.declared.failure.Failure.TheVariants.{Other}
@@ -49,7 +49,7 @@ rows_are g c =
     (c.in_ok-rows.ensures.of p (record { words_are = sym (words_are g c); rule = sym c.has.ensures.has }) (nfa_is g c))
 
 rows_ready : (rows : Option (Bor Hybrid)) (p : Patterns) (count : ℕ) → IfSome rows (λ rows. HybridGhosts.is_of rows.now p) → IfSome rows (λ rows. IsOk (HybridGhosts.start rows.now No))
-    → 1 ≤ shortest (map length p.words) → count ≡ length p.words → IfSome rows (λ rows. IsReady HybridGhosts rows.now count)
+    → 1 ≤ shortest (map length p.words) → count ≡ length p.words → IfSome rows (λ rows. CanRedact HybridGhosts rows.now count)
 rows_ready None p count of starts some one = tt
 rows_ready (Some rows) p count of starts some one = ready_of HybridGhosts rows.now p count of (rows-laws rows.now p of).lengths_are starts some one
 
