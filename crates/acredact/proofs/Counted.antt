@@ -1,87 +1,162 @@
 -- What a replacement by a closure writes, where the closure writes the piece of each match.
-use Rattle.std.proofs.Common.{arith, inl, inr, ◌≡◌, ◌⊎◌, ℕ, ◌+◌, ◌≤◌, ◌<◌, Bool, true, false, List, [], ◌∷◌, ◌++◌, Option, length, take, drop, refl, sym, ap, subst, ◌∙◌, append-nil, append_assoc, le_refl}
-use Rattle.std.specs.Prelude.{None, Some, Result, Ok, Err, MatchBool, OnErr, OnOk, map, slice_index_or, slice_range}
+use Rattle.std.proofs.Common.{arith, inl, inr, ◌≡◌, ◌⊎◌, ℕ, ◌≤◌, Bool, true, false, List, [], ◌∷◌, ◌++◌, Option, length, map, take, drop, refl, sym, ap, subst, ◌∙◌, append-nil, le_refl}
+use Rattle.std.specs.Prelude.{None, Some, Result, Ok, Err, IfErr, MatchBool, OnErr, OnOk, ◌&&◌, slice_index_or, slice_range}
 use Rattle.std.specs.Borrow.{Bor, MutBor}
 use Rattle.std.specs.Fn.{Mut}
 use Rattle.std.specs.Io.{StartsWith}
 use Rattle.std.specs.Io.KnownBytes.{Appends}
-use Rattle.std.proofs.KnownBytes.{Appends-nil, Appends-trans}
-use Rattle.std.proofs.Math.Seq.{take-append_seam, take-append-add, take-length}
-use Rattle.std.proofs.lemmas.Bool.{cases_lt}
-use Rattle.std.proofs.lemmas.List.{append_cancel_left, length-append, length-take-le, take-append-drop}
+use Rattle.std.proofs.KnownBytes.{Appends-nil, Appends-trans, Consumes-nil}
+use Rattle.std.proofs.lemmas.List.{append_cancel_left, length-take-le}
 use Rattle.aho_core.specs.ClosureRun.{CalledOn, ClosureRun}
 use Rattle.aho_core.specs.Iteration.{AreFinds}
 use Rattle.aho_core.specs.Laws.{shortest}
-use Rattle.aho_core.specs.Patterns.{Patterns}
-use Rattle.aho_core.specs.Search.{plain_search}
 use Rattle.aho_core.specs.Occurrence.{Occurrence}
 use Rattle.aho_core.specs.Replacement.{replaced, replaced_from}
-use Rattle.aho_core.specs.declared.error.MatchErrorKind.{MatchErrorKind}
-use Rattle.aho_core.specs.declared.error.MatchErrorKind.TheVariants.{UnsupportedEmpty}
+use Rattle.aho_core.specs.Search.{plain_search}
 use Rattle.aho_core.specs.declared.error.stream.StreamError.{StreamError}
-use Rattle.aho_core.specs.declared.error.stream.StreamError.TheVariants.{Match as Refused, Memory}
-use Rattle.aho_core.specs.declared.search.Anchored.TheVariants.{No}
-use Rattle.aho_devices.specs.Counts.{AppendsBeginning}
+use Rattle.aho_core.specs.declared.error.stream.StreamError.TheVariants.{Match as Refused, Read, Write, WriteZero, Memory, PositionLimit}
+use Rattle.aho_devices.specs.Counts.{AppendsBeginning, counted}
+use Rattle.aho_devices.specs.Refusals.{IsFillRefusal, IsWriteRefusal, is_read_fault, is_write_fault, is_write_of_nothing}
 use Rattle.aho_devices.specs.declared.device.Sink.{Ghosts as SinkGhosts}
 use Rattle.aho_devices.specs.declared.device.Source.{Ghosts as SourceGhosts}
 use Rattle.aho_laws.proofs.Iterations.{finds-exist}
 use Rattle.aho_automaton.specs.declared.automaton.Automaton.{Ghosts}
+use Rattle.aho_stream.specs.Refills.{is_limit}
 use Rattle.aho_stream.specs.Replacing.{MayBe, SourceGave}
 use Rattle.aho_stream.specs.StreamRun.{CallsOn, CanBegin, RefusesUntouched, RunsOver, SinkTakes}
-use Rattle.acredact.specs.Secrets.{Begins, IsBegun, IsRedacted}
-use Rattle.acredact.proofs.Covered.{none_left}
-use Rattle.acredact.proofs.Redactions.{whole_begun}
+use Rattle.programs.proofs.Beginnings.{beginning-later, beginning-more}
+use Rattle.acredact.specs.Faults.{IsStreamEnd}
+use Rattle.acredact.specs.Secrets.{BeginsRedaction, Redactor}
+use Rattle.acredact.specs.Streams.{RedactsStream, StartsStream, StreamOutcome, WritesPiece}
+use Rattle.acredact.proofs.Redactions.{begins_by, begins_nothing, redaction_by, some_by, starts_whole}
 
--- the whole of one, then a beginning of another
-beginning-later : (old mid new : Option (List ℕ)) (bs cs : List ℕ) → Appends old mid bs → AppendsBeginning mid new cs → AppendsBeginning old new (bs ++ cs)
-beginning-later old mid new bs cs grown begun = (
-  length bs + begun.0,
-  omega (arith, begun.1, length-append bs cs),
-  subst (Appends old new) (sym (take-append-add bs cs begun.0)) (Appends-trans old mid new bs (take begun.0 cs) grown begun.2),
-)
+-- an error of a run: of the reading where it stopped, or of a write
+abbrev IsRunError : Bool → StreamError → Type 0
+IsRunError stopped error = MatchBool stopped (IsFillRefusal error) (IsWriteRefusal error) ⊎ IsWriteRefusal error
 
--- a beginning of the first is one of both
-beginning-more : (old new : Option (List ℕ)) (bs cs : List ℕ) → AppendsBeginning old new bs → AppendsBeginning old new (bs ++ cs)
-beginning-more old new bs cs begun =
-    let n = begun.0 in
-    let split : bs ++ cs ≡ take n bs ++ (drop n bs ++ cs) = ap (λ l. l ++ cs) (sym (take-append-drop n bs)) ∙ append_assoc (take n bs) (drop n bs) cs in
-    let same : take (length (take n bs)) (bs ++ cs) ≡ take n bs = ap (take (length (take n bs))) split ∙ take-append_seam (take n bs) (drop n bs ++ cs) in (
-      length (take n bs),
-      omega (arith, ap length split, length-append (take n bs) (drop n bs ++ cs)),
-      subst (Appends old new) (sym same) begun.2,
-    )
+-- a read fault is one of the reading
+read_stops : (stopped : Bool) (error : StreamError) → IsRunError stopped error → (stopped && is_read_fault {A = Unit {0}} (Err error)) ≡ is_read_fault {A = Unit {0}} (Err error)
+read_stops true error is = refl
+read_stops false (Refused cause) is = refl
+read_stops false (Read fault) (inl is) = absurd is
+read_stops false (Read fault) (inr is) = absurd is
+read_stops false (Write fault) is = refl
+read_stops false WriteZero is = refl
+read_stops false Memory is = refl
+read_stops false PositionLimit is = refl
+
+-- and so is the limit
+limit_stops : (stopped : Bool) (error : StreamError) → IsRunError stopped error → is_limit {A = Unit {0}} (Err error) ≡ true → stopped ≡ true
+limit_stops true error is met = refl
+limit_stops false (Refused cause) is met = met
+limit_stops false (Read fault) is met = met
+limit_stops false (Write fault) is met = met
+limit_stops false WriteZero is met = met
+limit_stops false Memory is met = met
+limit_stops false PositionLimit (inl is) met = absurd is
+limit_stops false PositionLimit (inr is) met = absurd is
+
+no_refusal : (stopped : Bool) (error : StreamError) → IsRunError stopped error → IsStreamEnd error
+no_refusal true (Refused cause) (inl is) = absurd is
+no_refusal true (Refused cause) (inr is) = absurd is
+no_refusal false (Refused cause) (inl is) = absurd is
+no_refusal false (Refused cause) (inr is) = absurd is
+no_refusal stopped (Read fault) is = tt
+no_refusal stopped (Write fault) is = tt
+no_refusal stopped WriteZero is = tt
+no_refusal stopped Memory is = tt
+no_refusal stopped PositionLimit is = tt
+
+-- where no read stopped
+never_stops : (stopped : Bool) → (stopped && false) ≡ false
+never_stops true = refl
+never_stops false = refl
+
+-- some bytes are taken, or a beginning of them where the run failed
+record Takes {W : Type 0} (K : SinkGhosts W) (stopped : Bool) (result : Result (Unit {0}) StreamError) (old new : W) (bytes : List ℕ) : Type 0 where
+  whole : OnOk result (Appends (K.taken old) (K.taken new) bytes)
+  beginning : OnErr result (AppendsBeginning (K.taken old) (K.taken new) bytes)
+  write_failed : K.failures new ≡ counted (is_write_fault result) (K.failures old)
+  took_nothing : K.empty_writes new ≡ counted (is_write_of_nothing result) (K.empty_writes old)
+  only : IfErr result (IsRunError stopped)
+
+module _ {W : Type 0} (K : SinkGhosts W) (stopped : Bool) where
+  of_error : (error : StreamError) → MatchBool stopped (IsFillRefusal error) (IsWriteRefusal error) → IsRunError stopped error
+  of_error error is = inl is
+
+  takes_sink : (old : W) (bytes : List ℕ) (result : Result (Unit {0}) StreamError) (new : W) → SinkTakes K stopped old bytes result new → Takes K stopped result old new bytes
+  takes_sink old bytes (Ok x) new takes = record { whole = takes.whole; beginning = tt; write_failed = takes.write_failed; took_nothing = takes.took_nothing; only = tt }
+  takes_sink old bytes (Err error) new takes =
+      record { whole = tt; beginning = takes.beginning; write_failed = takes.write_failed; took_nothing = takes.took_nothing; only = of_error error takes.only }
+
+  takes_piece : (old : W) (piece : List ℕ) (error : StreamError) (new : W) → WritesPiece K (Err error) old new piece → Takes K stopped (Err error) old new piece
+  takes_piece old piece error new writes =
+      record { whole = tt; beginning = writes.beginning; write_failed = writes.write_failed; took_nothing = writes.took_nothing; only = inr writes.only }
+
+  -- all of some bytes, and then others
+  takes_later : (old mid new : W) (result : Result (Unit {0}) StreamError) (bs cs : List ℕ) → Takes K stopped (Ok tt) old mid bs → Takes K stopped result mid new cs → Takes K stopped result old new (bs ++ cs)
+  takes_later old mid new (Ok x) bs cs first later = record {
+    whole = Appends-trans _ _ _ bs cs first.whole later.whole;
+    beginning = tt;
+    write_failed = later.write_failed ∙ first.write_failed;
+    took_nothing = later.took_nothing ∙ first.took_nothing;
+    only = tt;
+  }
+  takes_later old mid new (Err error) bs cs first later = record {
+    whole = tt;
+    beginning = beginning-later _ _ _ bs cs first.whole later.beginning;
+    write_failed = later.write_failed ∙ ap (counted (is_write_fault {A = Unit {0}} (Err error))) first.write_failed;
+    took_nothing = later.took_nothing ∙ ap (counted (is_write_of_nothing {A = Unit {0}} (Err error))) first.took_nothing;
+    only = later.only;
+  }
+
+  -- what fails takes a beginning of more
+  takes_more : (old new : W) (error : StreamError) (bs cs : List ℕ) → Takes K stopped (Err error) old new bs → Takes K stopped (Err error) old new (bs ++ cs)
+  takes_more old new error bs cs takes = record {
+    whole = tt;
+    beginning = beginning-more _ _ bs cs takes.beginning;
+    write_failed = takes.write_failed;
+    took_nothing = takes.took_nothing;
+    only = takes.only;
+  }
 
 module _ {F W : Type 0} (K : SinkGhosts W) (calls : F → Occurrence → List ℕ → W → Result Bool StreamError → F → W → Type 0) (stopped : Bool) (haystack : List ℕ)
     (piece : Occurrence → List ℕ) (Fits : F → Type 0)
     -- the closure writes a match's piece, and goes on as it is
     (goes_on : (f : F) (m : Occurrence) (matched : List ℕ) (old : W) (goes : Bool) (next : F) (new : W) → Fits f → calls f m matched old (Ok goes) next new
-    → (goes ≡ true) × Fits next × Appends (K.taken old) (K.taken new) (piece m))
+    → (goes ≡ true) × Fits next × WritesPiece K (Ok tt) old new (piece m))
     (fails : (f : F) (m : Occurrence) (matched : List ℕ) (old : W) (reason : StreamError) (next : F) (new : W) → Fits f → calls f m matched old (Err reason) next new
-    → AppendsBeginning (K.taken old) (K.taken new) (piece m)) where
+    → WritesPiece K (Err reason) old new (piece m)) where
   abbrev Runs : ℕ → List Occurrence → F → W → Result (Unit {0}) StreamError → F → W → Type 0
   Runs at ms f old result last new = ClosureRun (SinkTakes K stopped) calls haystack at ms f old result last new
 
-  run_ends : (ms : List Occurrence) (at : ℕ) (f : F) (old : W) (last : F) (new : W) → Fits f → Runs at ms f old (Ok tt) last new
-      → Appends (K.taken old) (K.taken new) (replaced_from haystack at ms piece)
-  run_ends [] at f old last new fits run = run.1.whole
-  run_ends (m ∷ ms) at f old last new fits (inl refused) = let clash = refused.1 in absurd (cc)
-  run_ends (m ∷ ms) at f old last new fits (inr (lent, gap, (Err reason, next, left, called, ends))) = let clash = ends.0 in absurd (cc)
-  run_ends (m ∷ ms) at f old last new fits (inr (lent, gap, (Ok goes, next, left, called, ends))) =
-      let step = goes_on f m (slice_range haystack m.start m.end) lent goes next left fits called in
-      let later : Runs m.end ms next left (Ok tt) last new = subst (λ (b : Bool). MatchBool b (Runs m.end ms next left (Ok tt) last new) ((last ≡ next) × SinkTakes K stopped left (drop m.end haystack) (Ok tt) new)) step.0 ends in
-      Appends-trans _ _ _ _ _ gap.whole (Appends-trans _ _ _ _ _ step.2 (run_ends ms m.end next left last new step.1 later))
+  piece_taken : (old : W) (m : Occurrence) (new : W) → WritesPiece K (Ok tt) old new (piece m) → Takes K stopped (Ok tt) old new (piece m)
+  piece_taken old m new writes = record { whole = writes.whole; beginning = tt; write_failed = writes.write_failed; took_nothing = writes.took_nothing; only = tt }
 
-  run_fails : (ms : List Occurrence) (at : ℕ) (f : F) (old : W) (error : StreamError) (last : F) (new : W) → Fits f → Runs at ms f old (Err error) last new
-      → AppendsBeginning (K.taken old) (K.taken new) (replaced_from haystack at ms piece)
-  run_fails [] at f old error last new fits run = run.1.beginning
-  run_fails (m ∷ ms) at f old error last new fits (inl refused) = beginning-more _ _ _ _ refused.3.beginning
-  run_fails (m ∷ ms) at f old error last new fits (inr (lent, gap, (Err reason, next, left, called, ends))) =
-      let stop : AppendsBeginning (K.taken lent) (K.taken left) (piece m) = fails f m (slice_range haystack m.start m.end) lent reason next left fits called in
-      beginning-later _ _ _ _ _ gap.whole (beginning-more _ _ _ _ (subst (λ (w : W). AppendsBeginning (K.taken lent) (K.taken w) (piece m)) (sym ends.2) stop))
-  run_fails (m ∷ ms) at f old error last new fits (inr (lent, gap, (Ok goes, next, left, called, ends))) =
+  run_takes : (ms : List Occurrence) (at : ℕ) (f : F) (old : W) (result : Result (Unit {0}) StreamError) (last : F) (new : W) → Fits f → Runs at ms f old result last new
+      → Takes K stopped result old new (replaced_from haystack at ms piece)
+  run_takes [] at f old result last new fits run = takes_sink K stopped old (drop at haystack) result new run.1
+  run_takes (m ∷ ms) at f old (Ok x) last new fits (inl refused) = let clash = refused.1 in absurd (cc)
+  run_takes (m ∷ ms) at f old (Err error) last new fits (inl refused) =
+      takes_more K stopped old new error (slice_range haystack at m.start) (piece m ++ replaced_from haystack m.end ms piece)
+      (takes_sink K stopped old (slice_range haystack at m.start) (Err error) new refused.3)
+  run_takes (m ∷ ms) at f old (Ok x) last new fits (inr (lent, gap, (Err reason, next, left, called, ends))) = let clash = ends.0 in absurd (cc)
+  run_takes (m ∷ ms) at f old (Err error) last new fits (inr (lent, gap, (Err reason, next, left, called, ends))) =
+      let same : error ≡ reason = let is = ends.0 in cc in
+      let wrote : Takes K stopped (Err error) lent new (piece m) =
+      subst (λ (e : StreamError). Takes K stopped (Err e) lent new (piece m)) (sym same)
+      (subst (λ (w : W). Takes K stopped (Err reason) lent w (piece m)) (sym ends.2)
+      (takes_piece K stopped lent (piece m) reason left (fails f m (slice_range haystack m.start m.end) lent reason next left fits called))) in
+      takes_later K stopped old lent new (Err error) (slice_range haystack at m.start) (piece m ++ replaced_from haystack m.end ms piece)
+      (takes_sink K stopped old (slice_range haystack at m.start) (Ok tt) lent gap)
+      (takes_more K stopped lent new error (piece m) (replaced_from haystack m.end ms piece) wrote)
+  run_takes (m ∷ ms) at f old result last new fits (inr (lent, gap, (Ok goes, next, left, called, ends))) =
       let step = goes_on f m (slice_range haystack m.start m.end) lent goes next left fits called in
-      let later : Runs m.end ms next left (Err error) last new = subst (λ (b : Bool). MatchBool b (Runs m.end ms next left (Err error) last new) ((last ≡ next) × SinkTakes K stopped left (drop m.end haystack) (Err error) new)) step.0 ends in
-      beginning-later _ _ _ _ _ gap.whole (beginning-later _ _ _ _ _ step.2 (run_fails ms m.end next left error last new step.1 later))
+      let later : Runs m.end ms next left result last new = subst (λ (b : Bool). MatchBool b (Runs m.end ms next left result last new) ((last ≡ next) × SinkTakes K stopped left (drop m.end haystack) result new)) step.0 ends in
+      takes_later K stopped old lent new result (slice_range haystack at m.start) (piece m ++ replaced_from haystack m.end ms piece)
+      (takes_sink K stopped old (slice_range haystack at m.start) (Ok tt) lent gap)
+      (takes_later K stopped lent left new result (piece m) (replaced_from haystack m.end ms piece)
+      (piece_taken lent m left step.2) (run_takes ms m.end next left result last new step.1 later))
 
 -- none may follow what was given
 no_more : (given : List ℕ) (ended : Bool) → MayBe given ended given
@@ -89,108 +164,132 @@ no_more given true = ([], sym (append-nil given), refl)
 no_more given false = ([], sym (append-nil given), tt)
 
 -- a beginning of some bytes, by known ones that grow by a beginning of them
-begins_by : (bytes rest : List ℕ) (count : ℕ) → count ≤ length rest → bytes ≡ take count rest → StartsWith rest bytes
-begins_by bytes rest count within is =
+begins_known : (bytes rest : List ℕ) (count : ℕ) → count ≤ length rest → bytes ≡ take count rest → StartsWith rest bytes
+begins_known bytes rest count within is =
     let sized : length bytes ≡ count = ap length is ∙ length-take-le count rest within in
     ap (λ n. take n rest) sized ∙ sym is
 
 -- what was written once is what was written, by whichever beginnings that is told
 same_beginning : (old new : List ℕ) (bytes rest : List ℕ) (count : ℕ) → new ≡ old ++ bytes → count ≤ length rest → new ≡ old ++ take count rest → StartsWith rest bytes
-same_beginning old new bytes rest count first within second = begins_by bytes rest count within (append_cancel_left old bytes (take count rest) (sym first ∙ second))
+same_beginning old new bytes rest count first within second = begins_known bytes rest count within (append_cancel_left old bytes (take count rest) (sym first ∙ second))
 
-module _ (p : Patterns) (pieces : List (List ℕ)) (given : List ℕ) (ended : Bool) where
-  -- a beginning of each redaction that may come was written
-  abbrev pub BeginsEach : (old new : Option (List ℕ)) → Type 0
-  BeginsEach old new = (bytes : List ℕ) (ms : List Occurrence) → MayBe given ended bytes → AreFinds p (plain_search bytes) None ms → AppendsBeginning old new (replaced bytes ms pieces)
+module _ (r : Redactor) (some : 1 ≤ shortest (map length r.patterns.words)) (given : List ℕ) (ended : Bool) where
+  -- a beginning of each replacement that may come was written
+  abbrev BeginsEach : (old new : Option (List ℕ)) → Type 0
+  BeginsEach old new = (bytes : List ℕ) (ms : List Occurrence) → MayBe given ended bytes → AreFinds r.patterns (plain_search bytes) None ms → AppendsBeginning old new (replaced bytes ms r.pieces)
 
   -- so it is a beginning of all of them
-  begins_each : (old new : Option (List ℕ)) → BeginsEach old new → (part : List ℕ) × Begins p pieces part × Appends old new part
-  begins_each None new each = ([], record { given = given; ended = ended; beginning = λ bytes ms may finds. refl }, tt)
+  begins_each : (old new : Option (List ℕ)) → BeginsEach old new → (part : List ℕ) × BeginsRedaction r given ended part × Appends old new part
+  begins_each None new each = ([], begins_nothing r some given ended, tt)
   begins_each (Some old) None each =
-      let finds = finds-exist p (plain_search given) None (le_refl (length given)) in
+      let finds = finds-exist r.patterns (plain_search given) None (le_refl (length given)) in
       absurd ((each given finds.0 (no_more given ended) finds.1).2)
   begins_each (Some old) (Some new) each =
-      let finds = finds-exist p (plain_search given) None (le_refl (length given)) in
+      let finds = finds-exist r.patterns (plain_search given) None (le_refl (length given)) in
       let one = each given finds.0 (no_more given ended) finds.1 in
-      let part = take one.0 (replaced given finds.0 pieces) in (
+      let part = take one.0 (replaced given finds.0 r.pieces) in (
         part,
-        record {
-          given = given;
-          ended = ended;
-          beginning = λ bytes ms may found. let other = each bytes ms may found in same_beginning old new part (replaced bytes ms pieces) other.0 one.2 other.1 other.2;
-        },
+        begins_by r some given ended part (λ bytes ms may found. let other = each bytes ms may found in same_beginning old new part (replaced bytes ms r.pieces) other.0 one.2 other.1 other.2),
         one.2,
       )
 
-module _ {A R W F : Type 0} (G : Ghosts A) (S : SourceGhosts R) (K : SinkGhosts W) (automaton : A) (p : Patterns) (of : G.is_of automaton p) (pieces : List (List ℕ))
+module _ {A R W F : Type 0} (G : Ghosts A) (S : SourceGhosts R) (K : SinkGhosts W) (automaton : A) (r : Redactor) (of : G.is_of automaton r.patterns)
+    (are : G.lengths automaton ≡ map length r.patterns.words) (can : CanBegin G automaton)
     (calls : Mut F (Bor Occurrence × (Bor (List ℕ) × (MutBor W × Unit {0}))) (Result (Unit {0}) StreamError × (MutBor W × Unit {0})))
     (source source' : R) (closure : F) (sink sink' : W) (Fits : F → Type 0) (fits : Fits closure)
     (goes_on : (f : F) (m : Occurrence) (matched : List ℕ) (old : W) (next : F) (new : W) → Fits f → CalledOn calls f m matched old (Ok tt) next new
-    → Fits next × Appends (K.taken old) (K.taken new) (slice_index_or pieces m.pattern []))
+    → Fits next × WritesPiece K (Ok tt) old new (slice_index_or r.pieces m.pattern []))
     (fails : (f : F) (m : Occurrence) (matched : List ℕ) (old : W) (reason : StreamError) (next : F) (new : W) → Fits f → CalledOn calls f m matched old (Err reason) next new
-    → AppendsBeginning (K.taken old) (K.taken new) (slice_index_or pieces m.pattern [])) where
-  -- a run that has ended wrote the redaction
-  counted_whole : 1 ≤ shortest (map length p.words) → RunsOver G S K automaton calls source source' closure sink (Ok tt) sink' → IsRedacted S K p pieces source source' sink sink'
-  counted_whole some over =
-      let finds = finds-exist p (plain_search over.given) None (le_refl (length over.given)) in
-      let run = over.run p over.given finds.0 of (no_more over.given over.ended) finds.1 in
-      record {
-        given = over.given;
-        gives = subst (SourceGave S source source' over.given) over.whole over.gives;
-        matches = finds.0;
-        found = finds.1;
-        safe = none_left p some over.given finds.0 finds.1;
-        written = run_ends K (CallsOn calls) over.stopped over.given (λ m. slice_index_or pieces m.pattern []) Fits
-            (λ f m matched old goes next new is called. let step = goes_on f m matched old next new is called.1 in (called.0, step.0, step.1))
-            (λ f m matched old reason next new is called. fails f m matched old reason next new is called)
-            finds.0 0 closure sink run.0 sink' fits run.1;
-      }
+    → WritesPiece K (Err reason) old new (slice_index_or r.pieces m.pattern [])) where
+  some_one : 1 ≤ shortest (map length r.patterns.words)
+  some_one = some_by G S K automaton r of are can source source' sink sink'
 
-  -- and one that has failed began it
-  counted_begun : (error : StreamError) → RunsOver G S K automaton calls source source' closure sink (Err error) sink' → IsBegun K p pieces sink sink'
-  counted_begun error over =
-      let begun = begins_each p pieces over.given over.ended (K.taken sink) (K.taken sink')
-      (λ bytes ms may finds. let run = over.run p bytes ms of may finds in
-      run_fails K (CallsOn calls) over.stopped bytes (λ m. slice_index_or pieces m.pattern []) Fits
+  -- what a run took, by the finds of any text that may come
+  over_takes : (result : Result (Unit {0}) StreamError) (over : RunsOver G S K automaton calls source source' closure sink result sink') (bytes : List ℕ) (ms : List Occurrence)
+      → MayBe over.given over.ended bytes → AreFinds r.patterns (plain_search bytes) None ms → Takes K over.stopped result sink sink' (replaced bytes ms r.pieces)
+  over_takes result over bytes ms may found =
+      let run = over.run r.patterns bytes ms of may found in
+      run_takes K (CallsOn calls) over.stopped bytes (λ m. slice_index_or r.pieces m.pattern []) Fits
       (λ f m matched old goes next new is called. let step = goes_on f m matched old next new is called.1 in (called.0, step.0, step.1))
       (λ f m matched old reason next new is called. fails f m matched old reason next new is called)
-      ms 0 closure sink error run.0 sink' fits run.1) in
-      record { part = begun.0; begins = begun.1; written = begun.2 }
+      ms 0 closure sink result run.0 sink' fits run.1
 
-  counted_refused : (error : StreamError) (result : Result (Unit {0}) StreamError) → RefusesUntouched result error source source' sink sink'
-      → OnOk result (IsRedacted S K p pieces source source' sink sink') × IsBegun K p pieces sink sink'
-  counted_refused error (Ok x) refused = let clash = refused.0 in absurd (cc)
-  counted_refused error (Err other) refused = (
-    tt,
-    record {
+  -- that of the bytes that were given
+  given_takes : (result : Result (Unit {0}) StreamError) (over : RunsOver G S K automaton calls source source' closure sink result sink')
+      → (ms : List Occurrence) × AreFinds r.patterns (plain_search over.given) None ms × Takes K over.stopped result sink sink' (replaced over.given ms r.pieces)
+  given_takes result over =
+      let finds = finds-exist r.patterns (plain_search over.given) None (le_refl (length over.given)) in
+      (finds.0, finds.1, over_takes result over over.given finds.0 (no_more over.given over.ended) finds.1)
+
+  ran_whole : RunsOver G S K automaton calls source source' closure sink (Ok tt) sink' → StreamOutcome S K r (Ok tt) source source' sink sink'
+  ran_whole over =
+      let taken = given_takes (Ok tt) over in
+      let whole : RedactsStream S K r source source' sink sink' = record {
+        text = over.given;
+        gives = subst (SourceGave S source source' over.given) over.whole over.gives;
+        redaction = replaced over.given taken.0 r.pieces;
+        redacts = redaction_by r some_one over.given taken.0 taken.1;
+        written = taken.2.whole;
+      } in
+      record {
+        redacted = whole;
+        begun = starts_whole whole;
+        read_failed = over.read_failed ∙ ap (λ (b : Bool). counted b (S.failures source)) (never_stops over.stopped);
+        write_failed = taken.2.write_failed;
+        took_nothing = taken.2.took_nothing;
+        limit = λ (met : false ≡ true). absurd (cc);
+        only = tt;
+      }
+
+  ran_begun : (error : StreamError) → RunsOver G S K automaton calls source source' closure sink (Err error) sink' → StreamOutcome S K r (Err error) source source' sink sink'
+  ran_begun error over =
+      let taken = given_takes (Err error) over in
+      let begun = begins_each r some_one over.given over.ended (K.taken sink) (K.taken sink') (λ bytes ms may found. (over_takes (Err error) over bytes ms may found).beginning) in
+      record {
+        redacted = tt;
+        begun = record { given = over.given; ended = over.ended; gives = over.gives; part = begun.0; begins = begun.1; written = begun.2 };
+        read_failed = over.read_failed ∙ ap (λ (b : Bool). counted b (S.failures source)) (read_stops over.stopped error taken.2.only);
+        write_failed = taken.2.write_failed;
+        took_nothing = taken.2.took_nothing;
+        limit = λ met. (over.given, over.gives.bytes, over.limit (limit_stops over.stopped error taken.2.only met) met);
+        only = no_refusal over.stopped error taken.2.only;
+      }
+
+  ran : (result : Result (Unit {0}) StreamError) → RunsOver G S K automaton calls source source' closure sink result sink' → StreamOutcome S K r result source source' sink sink'
+  ran (Ok tt) over = ran_whole over
+  ran (Err error) over = ran_begun error over
+
+  -- before a stream was begun nothing is touched
+  untouched : StreamOutcome S K r (Err Memory) source source sink sink
+  untouched = record {
+    redacted = tt;
+    begun = record {
+      given = [];
+      ended = false;
+      gives = record { bytes = Consumes-nil (S.remaining source); end = refl };
       part = [];
-      begins = record { given = []; ended = false; beginning = λ bytes ms may finds. refl };
-      written = subst (λ (w : W). Appends (K.taken sink) (K.taken w) []) (sym refused.2) (Appends-nil (K.taken sink));
-    },
-  )
+      begins = begins_nothing r some_one [] false;
+      written = Appends-nil (K.taken sink);
+    };
+    read_failed = refl;
+    write_failed = refl;
+    took_nothing = refl;
+    limit = λ (met : false ≡ true). absurd (cc);
+    only = tt;
+  }
 
-  counted_ran : (result : Result (Unit {0}) StreamError) → 1 ≤ shortest (map length p.words) → RunsOver G S K automaton calls source source' closure sink result sink'
-      → OnOk result (IsRedacted S K p pieces source source' sink sink') × IsBegun K p pieces sink sink'
-  counted_ran (Ok tt) some over = (counted_whole some over, whole_begun (counted_whole some over))
-  counted_ran (Err error) some over = (tt, counted_begun error over)
+  no_memory : (result : Result (Unit {0}) StreamError) → RefusesUntouched result Memory source source' sink sink' → StreamOutcome S K r result source source' sink sink'
+  no_memory result refused =
+      subst (λ (e : Result (Unit {0}) StreamError). StreamOutcome S K r e source source' sink sink') (sym refused.0)
+      (subst (λ (s : R). StreamOutcome S K r (Err Memory) source s sink sink') (sym refused.1)
+      (subst (λ (k : W). StreamOutcome S K r (Err Memory) source source sink k) (sym refused.2) untouched))
 
   -- whatever is answered
-  pub counted_of : (result : Result (Unit {0}) StreamError) (start : Result ℕ MatchErrorKind) → G.start automaton No ≡ start → G.lengths automaton ≡ map length p.words
-      → (shortest (G.lengths automaton) ≡ 0 → RefusesUntouched result (Refused UnsupportedEmpty) source source' sink sink')
-      → ((reason : MatchErrorKind) → 1 ≤ shortest (G.lengths automaton) → G.start automaton No ≡ Err reason → RefusesUntouched result (Refused reason) source source' sink sink')
+  pub counted_of : (result : Result (Unit {0}) StreamError)
       → (CanBegin G automaton → RefusesUntouched result Memory source source' sink sink' ⊎ RunsOver G S K automaton calls source source' closure sink result sink')
-      → OnOk result (IsRedacted S K p pieces source source' sink sink') × IsBegun K p pieces sink sink'
-  counted_of result start is are empty refused runs =
-      elim (cases_lt 0 (shortest (G.lengths automaton))) [
-        | inl some ↦ by_start start is (omega (arith, some))
-        | inr none ↦ counted_refused (Refused UnsupportedEmpty) result (empty (omega (arith, none)))
+      → StreamOutcome S K r result source source' sink sink'
+  counted_of result runs =
+      elim (runs can) [
+        | inl memory ↦ no_memory result memory
+        | inr over ↦ ran result over
       ]
-    where
-      by_start : (start : Result ℕ MatchErrorKind) → G.start automaton No ≡ start → 1 ≤ shortest (G.lengths automaton)
-          → OnOk result (IsRedacted S K p pieces source source' sink sink') × IsBegun K p pieces sink sink'
-      by_start (Err reason) is some = counted_refused (Refused reason) result (refused reason some is)
-      by_start (Ok sid) is some =
-          elim (runs (sid, some, is)) [
-            | inl memory ↦ counted_refused Memory result memory
-            | inr over ↦ counted_ran result (subst (λ (ns : List ℕ). 1 ≤ shortest ns) are some) over
-          ]

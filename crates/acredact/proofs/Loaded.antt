@@ -1,49 +1,77 @@
 -- The patterns that options give, one after another.
-use Rattle.std.proofs.Common.{◌≡◌, ℕ, ◌≤◌, ◌-◌, List, [], ◌∷◌, ◌++◌, Option, Some, length, take, drop, get_or, refl, sym, ap, subst, ◌∙◌, append-nil, append_assoc, arith}
-use Rattle.std.specs.Borrow.{Bor}
-use Rattle.std.specs.Option.{option_map}
-use Rattle.std.specs.Prelude.{None, IfSome}
+use Rattle.std.proofs.Common.{◌≡◌, inl, inr, ℕ, ◌≤◌, ◌-◌, List, [], ◌∷◌, ◌++◌, Option, length, take, drop, get_or, refl, sym, ap, subst, ◌∙◌, append-nil, append_assoc, arith}
+use Rattle.std.specs.Prelude.{Bool, MatchBool, IfSome, true, false}
+use Rattle.std.specs.Io.KnownBytes.{Keeps}
+use Rattle.std.proofs.KnownBytes.{Consumes-all}
 use Rattle.std.proofs.Math.Seq.{take-length}
+use Rattle.programs.specs.Names.{is_input}
 use Rattle.acredact.specs.declared.arguments.Item.{Item}
+use Rattle.acredact.specs.declared.failure.Failure.{Failure}
 use Rattle.acredact.specs.Arguments.{Given, all_given, given_of}
-use Rattle.acredact.specs.Loading.{IsAddedItem}
-use Rattle.acredact.specs.Runs.{AreGiven}
+use Rattle.acredact.specs.Loading.{AreGiven, CannotLoad, CannotLoadOne, IsAddedFile, IsAddedItem, IsAddedText, IsFileFailure, IsTextFailure, Reading}
+use Rattle.acredact.specs.Reads.{OfName, ReadsText}
 use Rattle.acredact.specs.Tables.{Secret}
+use Rattle.acredact.proofs.OneFile.{known_read, of_folder, of_input}
 
-module _ (holds : List ℕ → Option (List ℕ)) (all : List Given) where
-  -- what the options so far gave, and what the others are to give, is what all give
-  abbrev pub AreGivenWith : List Given → List Secret → Type 0
-  AreGivenWith rest secrets = (more : List Secret) → AreGiven holds rest more → AreGiven holds all (secrets ++ more)
+module _ (reading : Reading) (all : List Given) (before : Option (List ℕ)) where
+  -- what the options so far gave, and what the others are to give, is what all give; and one that cannot be loaded is one of all
+  pub record GivenSoFar (rest : List Given) (secrets : List Secret) (between : Option (List ℕ)) : Type 0 where
+    pub given : (more : List Secret) (left : Option (List ℕ)) → AreGiven reading rest more between left → AreGiven reading all (secrets ++ more) before left
+    pub fails : (failure : Failure) → CannotLoadOne reading rest failure → CannotLoadOne reading all failure
 
-  given_more : (item : Given) (rest : List Given) (old new : List Secret) → AreGivenWith (item ∷ rest) old → IsAddedItem holds item old new → AreGivenWith rest new
-  given_more item rest old new before added more given =
-      subst (AreGiven holds all) (sym (append_assoc old added.more more) ∙ ap (λ l. l ++ more) (sym added.grown))
-      (before (added.more ++ more) (added.more, more, refl, added.of, given))
+  given_more : (item : Given) (rest : List Given) (old new : List Secret) (between left : Option (List ℕ)) → GivenSoFar (item ∷ rest) old between → IsAddedItem reading item old new between left → GivenSoFar rest new left
+  given_more item rest old new between left so added = record {
+    given = λ more last given.
+        subst (λ (l : List Secret). AreGiven reading all l before last) (sym (append_assoc old added.more more) ∙ ap (λ l. l ++ more) (sym added.grown))
+        (so.given (added.more ++ more) last (added.more, more, refl, left, added.of, given));
+    fails = λ failure one. so.fails failure (inr one);
+  }
 
-  given_all : (secrets : List Secret) → AreGivenWith [] secrets → AreGiven holds all secrets
-  given_all secrets before = subst (AreGiven holds all) (append-nil secrets) (before [] refl)
+  pub given_end : (items : List Item) (secrets : List Secret) (left : Option (List ℕ)) → length items ≡ 0 → GivenSoFar (all_given items) secrets left → AreGiven reading all secrets before left
+  given_end [] secrets left none so = subst (λ (l : List Secret). AreGiven reading all l before left) (append-nil secrets) (so.given [] left (refl, refl))
+  given_end (item ∷ items) secrets left none so = absurd (omega (arith, none))
 
   -- the first of some items, and then the others
-  pub given_next : (items : List Item) (other : Item) (old new : List Secret) → 1 ≤ length items → AreGivenWith (all_given items) old
-      → IsAddedItem holds (given_of (get_or items 0 other)) old new → AreGivenWith (all_given (take (length items - 1) (drop 1 items))) new
-  given_next [] other old new some before added = absurd (omega (arith, some))
-  given_next (item ∷ items) other old new some before added =
+  pub given_next : (items : List Item) (other : Item) (old new : List Secret) (between left : Option (List ℕ)) → 1 ≤ length items → GivenSoFar (all_given items) old between
+      → IsAddedItem reading (given_of (get_or items 0 other)) old new between left → GivenSoFar (all_given (take (length items - 1) (drop 1 items))) new left
+  given_next [] other old new between left some so added = absurd (omega (arith, some))
+  given_next (item ∷ items) other old new between left some so added =
       let count : length (item ∷ items) - 1 ≡ length items = omega arith in
       let rest : take (length (item ∷ items) - 1) items ≡ items = ap (λ n. take n items) count ∙ take-length items in
-      subst (λ (items : List Item). AreGivenWith (all_given items) new) (sym rest) (given_more (given_of item) (all_given items) old new before added)
+      subst (λ (items : List Item). GivenSoFar (all_given items) new left) (sym rest) (given_more (given_of item) (all_given items) old new between left so added)
 
-  pub given_end : (items : List Item) (secrets : List Secret) → length items ≡ 0 → AreGivenWith (all_given items) secrets → AreGiven holds all secrets
-  given_end [] secrets none before = given_all secrets before
-  given_end (item ∷ items) secrets none before = absurd (omega (arith, none))
+  pub given_fails : (items : List Item) (other : Item) (secrets : List Secret) (between : Option (List ℕ)) (failure : Failure) → 1 ≤ length items → GivenSoFar (all_given items) secrets between
+      → CannotLoad reading (given_of (get_or items 0 other)) failure → CannotLoadOne reading all failure
+  given_fails [] other secrets between failure some so fails = absurd (omega (arith, some))
+  given_fails (item ∷ items) other secrets between failure some so fails = so.fails failure (inl fails)
 
--- what was given is one list alone
-pub same_given : (asked : Option (List Given)) (given items : List Given) → asked ≡ Some given → asked ≡ Some items → items ≡ given
-same_given asked given items first second = some_same items given (sym second ∙ first)
-  where
-    some_same : (x y : List Given) → Some x ≡ Some y → x ≡ y
-    some_same x y e = cc
+  pub given_none : GivenSoFar all [] before
+  given_none = record { given = λ more left given. given; fails = λ failure one. one }
 
--- what holds of a value that is there holds of it where it is lent
-pub lent : {X : Type 0} (held : Option X) (shown : Option (Bor X)) (P : X → Type 0) → option_map (λ x. x.now) shown ≡ held → IfSome held P → IfSome shown (λ x. P x.now)
-lent held None P same is = tt
-lent held (Some x) P same is = subst (λ o. IfSome o P) (sym same) is
+-- a text that is read of an opened file is that of the file
+known_text : (told left left' : Option (List ℕ)) (text : List ℕ) → Keeps told left → ReadsText text left left' → ReadsText text told left'
+known_text told left left' text kept reads = record { read = known_read told left left' text kept reads.read; ended = reads.ended }
+
+-- and of a file by its name
+pub text_input : (holds : List ℕ → Option (List ℕ)) (name text : List ℕ) (left left' : Option (List ℕ)) → is_input name ≡ true → ReadsText text left left' → OfName holds name (ReadsText text) left left'
+text_input holds name text left left' is reads = of_input holds name (ReadsText text) left left' is reads
+
+pub text_opened : (holds : List ℕ → Option (List ℕ)) (name text : List ℕ) (left opened : Option (List ℕ)) → is_input name ≡ false → Keeps (holds name) opened
+    → (rest : Option (List ℕ)) × ReadsText text opened rest → OfName holds name (ReadsText text) left left
+text_opened holds name text left opened is kept (rest, reads) = of_folder holds name (ReadsText text) left left is refl rest (known_text (holds name) opened rest text kept reads)
+
+-- the text that is read is what the folder tells
+text_told : (holds : List ℕ → Option (List ℕ)) (name text : List ℕ) (left left' : Option (List ℕ)) → OfName holds name (ReadsText text) left left' → is_input name ≡ false → IfSome (holds name) (λ bytes. text ≡ bytes)
+text_told holds name text left left' reads is =
+    let read = subst (λ (b : Bool). MatchBool b (ReadsText text left left') ((left' ≡ left) × (rest : Option (List ℕ)) × ReadsText text (holds name) rest)) is reads in
+    Consumes-all (holds name) read.1 text [] text read.2.read read.2.ended refl
+
+-- what the text of a list gives is what the list does
+pub file_added : (reading : Reading) (table : Bool) (name text : List ℕ) (old new : List Secret) (left left' : Option (List ℕ)) → OfName reading.holds name (ReadsText text) left left'
+    → IsAddedText reading.rules table text old new → IsAddedFile reading table name old new left left'
+file_added reading table name text old new left left' reads added =
+    record { more = added.more; grown = added.grown; held = record { text = text; reads = reads; held = added.held } }
+
+pub file_fails : (reading : Reading) (table : Bool) (name text : List ℕ) (left left' : Option (List ℕ)) (failure : Failure) → OfName reading.holds name (ReadsText text) left left'
+    → IsTextFailure reading.rules table name text failure → IsFileFailure reading table name failure
+file_fails reading table name text left left' failure reads fails = inr (text, text_told reading.holds name text left left' reads, fails)

@@ -1,11 +1,11 @@
 -- What the arguments, those after the program's name, ask for.
 use Rattle.std.specs.Prelude.{◌≡◌, ℕ, ◌&&◌, Bool, true, false, List, [], ◌∷◌, ◌++◌, Option, Some, None, codes, filter, is_some, map, option_and_then, option_map, unwrap_or, nat_eq, String, string_bytes, if◌then◌else◌}
-use Rattle.std.specs.Borrow.{Bor}
 use Rattle.std.specs.Str.{bytes_eq}
 use Rattle.aho_core.specs.declared.search.MatchKind.{MatchKind}
-use Rattle.aho_core.specs.declared.search.MatchKind.TheVariants.{Standard, LeftmostFirst, LeftmostLongest}
+use Rattle.aho_core.specs.declared.search.MatchKind.TheVariants.{LeftmostLongest}
+use Rattle.programs.specs.Arguments.{kind_by, texts}
 use Rattle.acredact.specs.declared.arguments.Word.{Word}
-use Rattle.acredact.specs.declared.arguments.Word.TheVariants.{IgnoreCase, Kind, Pattern, Patterns, Table, With, Count, Help, Version, File}
+use Rattle.acredact.specs.declared.arguments.Word.TheVariants.{IgnoreCase, Kind, Pattern, Patterns, Table, With, Count, Crlf, AllowEmpty, Help, Version, File}
 use Rattle.acredact.specs.declared.arguments.Expects.{Expects}
 use Rattle.acredact.specs.declared.arguments.Expects.TheVariants.{Any, Value, Name}
 use Rattle.acredact.specs.declared.arguments.Item.{Item}
@@ -41,6 +41,8 @@ word_by argument =
     else if bytes_eq argument (codes "-t") then Some Table
     else if bytes_eq argument (codes "--with") then Some With
     else if bytes_eq argument (codes "--count") then Some Count
+    else if bytes_eq argument (codes "--crlf") then Some Crlf
+    else if bytes_eq argument (codes "--allow-empty") then Some AllowEmpty
     else if bytes_eq argument (codes "--help") then Some Help
     else if bytes_eq argument (codes "--version") then Some Version
     else if bytes_eq argument (codes "-") then Some File
@@ -55,17 +57,11 @@ takes_value Table = true
 takes_value With = true
 takes_value IgnoreCase = false
 takes_value Count = false
+takes_value Crlf = false
+takes_value AllowEmpty = false
 takes_value Help = false
 takes_value Version = false
 takes_value File = false
-
--- the match kind of this name
-abbrev pub kind_by : List ℕ → Option MatchKind
-kind_by name =
-    if bytes_eq name (codes "longest") then Some LeftmostLongest
-    else if bytes_eq name (codes "first") then Some LeftmostFirst
-    else if bytes_eq name (codes "standard") then Some Standard
-    else None
 
 -- the values that an option can have
 abbrev pub is_value_of : Word → List ℕ → Bool
@@ -76,32 +72,34 @@ is_value_of Patterns value = true
 is_value_of Table value = true
 is_value_of With value = true
 is_value_of Count value = true
+is_value_of Crlf value = true
+is_value_of AllowEmpty value = true
 is_value_of Help value = true
 is_value_of Version value = true
 is_value_of File value = true
 
 -- what an argument is read as: an item that it completes, if any, and what is expected of the next; none where it is wrong
-pub record Read : Type 0 where
+pub record ReadAs : Type 0 where
   pub item : Option Given
   pub next : Expects
 
-abbrev pub completed : Word → List ℕ → Expects → Option Read
+abbrev pub completed : Word → List ℕ → Expects → Option ReadAs
 completed word value next = Some (record { item = Some (given word value); next = next })
 
-abbrev pub expected : Expects → Option Read
+abbrev pub expected : Expects → Option ReadAs
 expected next = Some (record { item = None; next = next })
 
 -- an option that needs a value waits for it
-abbrev pub word_read : Word → List ℕ → Option Read
+abbrev pub word_read : Word → List ℕ → Option ReadAs
 word_read word argument = if takes_value word then expected (Value word) else completed word argument Any
 
 -- an option or a file; behind '--' there are files alone
-abbrev pub any_by : List ℕ → Option Read
+abbrev pub any_by : List ℕ → Option ReadAs
 any_by argument =
     if bytes_eq argument (codes "--") then expected Name
     else option_and_then (λ word. word_read word argument) (word_by argument)
 
-abbrev pub read_by : Expects → List ℕ → Option Read
+abbrev pub read_by : Expects → List ℕ → Option ReadAs
 read_by Any argument = any_by argument
 read_by (Value word) argument = if is_value_of word argument then completed word argument Any else None
 read_by Name argument = completed File argument Name
@@ -119,28 +117,30 @@ given_by Name [] = Some []
 given_by expects (argument ∷ rest) = option_and_then (λ read. option_map (with_item read.item) (given_by read.next rest)) (read_by expects argument)
 
 -- what the code answers of an argument
-abbrev pub read_of : Reading → Option Read
+abbrev pub read_of : Reading → Option ReadAs
 read_of (Whole item next) = Some (record { item = Some (given_of item); next = next })
 read_of (Begun next) = expected next
 read_of (Wrong mistake) = None
 
 -- this option
-abbrev pub is_word : Word → Word → Bool
-is_word IgnoreCase IgnoreCase = true
-is_word Kind Kind = true
-is_word Pattern Pattern = true
-is_word Patterns Patterns = true
-is_word Table Table = true
-is_word With With = true
-is_word Count Count = true
-is_word Help Help = true
-is_word Version Version = true
-is_word File File = true
-is_word x y = false
+abbrev pub is_same : Word → Word → Bool
+is_same IgnoreCase IgnoreCase = true
+is_same Kind Kind = true
+is_same Pattern Pattern = true
+is_same Patterns Patterns = true
+is_same Table Table = true
+is_same With With = true
+is_same Count Count = true
+is_same Crlf Crlf = true
+is_same AllowEmpty AllowEmpty = true
+is_same Help Help = true
+is_same Version Version = true
+is_same File File = true
+is_same x y = false
 
 -- the value of an item of this option
 abbrev pub value_of : Word → Given → Option (List ℕ)
-value_of word item = if is_word word item.word then Some item.value else None
+value_of word item = if is_same word item.word then Some item.value else None
 
 -- the first of two that there is
 abbrev pub or_else : Option (List ℕ) → Option (List ℕ) → Option (List ℕ)
@@ -156,23 +156,40 @@ last_value word (item ∷ items) = or_else (last_value word items) (value_of wor
 abbrev pub has : Word → List Given → Bool
 has word items = is_some (last_value word items)
 
+-- how an option that needs a value is called
+abbrev pub option_name : Word → List ℕ
+option_name Kind = codes "--kind"
+option_name Pattern = codes "-e"
+option_name Patterns = codes "-f"
+option_name Table = codes "-t"
+option_name With = codes "--with"
+option_name IgnoreCase = codes "-e"
+option_name Count = codes "-e"
+option_name Crlf = codes "-e"
+option_name AllowEmpty = codes "-e"
+option_name Help = codes "-e"
+option_name Version = codes "-e"
+option_name File = codes "-e"
+
 -- the match kind that is asked for: the longest of those that begin first, where none is
 abbrev pub kind_asked : List Given → MatchKind
 kind_asked items = unwrap_or (option_and_then kind_by (last_value Kind items)) LeftmostLongest
-
--- the bytes of each argument
-abbrev pub texts : {Z : Type 0} → List (String Z) → List (List ℕ)
-texts arguments = map string_bytes arguments
-
--- the bytes of each name
-abbrev pub names_of : List (Bor (List ℕ)) → List (List ℕ)
-names_of names = map (λ name. name.now) names
 
 -- a redaction is asked for: no help and no version
 pub record AsksToRedact (given : List Given) : Type 0 where
   pub no_help : has Help given ≡ false
   pub no_version : has Version given ≡ false
 
+-- no option gives patterns
+pub record GivesNoPattern (given : List Given) : Type 0 where
+  pub no_pattern : has Pattern given ≡ false
+  pub no_patterns : has Patterns given ≡ false
+  pub no_table : has Table given ≡ false
+
 -- what holds of the options and files that are given, where they ask for a redaction
 abbrev pub IfAsked : {Z : Type 0} → List (String Z) → (List Given → Type 0) → Type 0
 IfAsked arguments Holds = (given : List Given) → given_by Any (texts arguments) ≡ Some given → AsksToRedact given → Holds given
+
+-- the arguments are wrong
+abbrev pub AreMistaken : {Z : Type 0} → List (String Z) → Type 0
+AreMistaken arguments = given_by Any (texts arguments) ≡ None

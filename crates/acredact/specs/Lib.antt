@@ -1,10 +1,21 @@
--- what the arguments ask for
+-- what the arguments ask for, and what is told of wrong ones
 pub mod Arguments
+pub mod Messages
+pub mod Mistakes
 -- what the lines of files of patterns and of tables hold
 pub mod Tables
--- that no secret is passed on
+pub mod LineFaults
+-- what a redaction is, and that no secret is passed on
 pub mod Secrets
--- what a call searches for
-pub mod Runs
+pub mod Faults
+pub mod Streams
+-- what is written of files
+pub mod Reads
+pub mod Files
 -- what the options add to the patterns
 pub mod Loading
+-- what a call does and tells
+pub mod Builds
+pub mod Counts
+pub mod Failures
+pub mod Calls

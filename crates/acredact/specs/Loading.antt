@@ -1,17 +1,165 @@
--- What the options add to the patterns that were loaded before.
-use Rattle.std.specs.Prelude.{◌≡◌, ℕ, Bool, List, ◌++◌, Option}
+-- What the options give, one after another, and why they do not.
+use Rattle.std.specs.Prelude.{◌≡◌, ◌⊎◌, ℕ, Bool, true, false, List, [], ◌∷◌, ◌++◌, Option, Some, None, IfSome, Result, Ok, Err}
+use Rattle.std.specs.List.{AllZip}
+use Rattle.std.specs.declared.vec.Vec.{Vec}
+use Rattle.programs.specs.Names.{is_input}
+use Rattle.programs.specs.declared.failure.Failure.TheVariants.{OutOfMemory as NoMemory}
+use Rattle.programs.specs.declared.reason.Reason.{Reason}
+use Rattle.programs.specs.declared.reason.Reason.TheVariants.{NotFound, Denied, Directory, NoDirectory, Links, LongName, Invalid, Full, TooLarge, Quota, Interrupted, Unavailable, Closed, OutOfMemory, PositionLimit, ReadFault, Fault}
 use Rattle.acredact.specs.Arguments.{Given}
-use Rattle.acredact.specs.Runs.{AreInFile, AreOfWord}
-use Rattle.acredact.specs.Tables.{Secret}
+use Rattle.acredact.specs.LineFaults.{IsLineFault, IsListFault}
+use Rattle.acredact.specs.Reads.{OfName, ReadsText}
+use Rattle.acredact.specs.Tables.{Holds, HoldsBy, IsAdded, Secret, lines_in}
+use Rattle.acredact.specs.declared.arguments.Word.{Word}
+use Rattle.acredact.specs.declared.arguments.Word.TheVariants.{IgnoreCase, Kind, Pattern, Patterns, Table, With, Count, Crlf, AllowEmpty, Help, Version, File}
+use Rattle.acredact.specs.declared.failure.Failure.{Failure}
+use Rattle.acredact.specs.declared.failure.Failure.TheVariants.{NotText, Arguments, Pattern as BadPattern, Unread, Empty, Line, Counts, Other}
+use Rattle.acredact.specs.declared.folder.Folder.{Ghosts as Folders}
+use Rattle.acredact.specs.declared.load.Lists.{Lists}
+use Rattle.acredact.specs.declared.patterns.Form.{Form}
 
--- what a file of patterns or a table holds is added
-pub record IsAddedFile (holds : List ℕ → Option (List ℕ)) (table : Bool) (name : List ℕ) (old new : List Secret) : Type 0 where
+-- how lists, the files of patterns and tables, are read
+pub record Rules : Type 0 where
+  pub crlf : Bool
+  pub allow_empty : Bool
+
+abbrev pub rules_for : {F : Type 0} → Lists F → Rules
+rules_for lists = record { crlf = lists.crlf; allow_empty = lists.allow_empty }
+
+-- and by which folder
+pub record Reading : Type 1 where
+  pub holds : List ℕ → Option (List ℕ)
+  pub refuses : List ℕ → Reason → Type 0
+  pub rules : Rules
+
+abbrev pub reading_of_lists : {F X : Type 0} → Folders F X → Lists F → Reading
+reading_of_lists D lists = record { holds = D.holds lists.folder.now; refuses = D.refuses lists.folder.now; rules = rules_for lists }
+
+abbrev pub form_by : Rules → Bool → Form
+form_by rules table = record { table = table; crlf = rules.crlf }
+
+-- the text of a list holds these secrets, one in each line
+pub record HoldsSecrets (rules : Rules) (table : Bool) (text : List ℕ) (secrets : List Secret) : Type 0 where
+  pub some : text ≡ [] → rules.allow_empty ≡ true
+  pub held : AllZip (HoldsBy (form_by rules table)) (lines_in text) secrets
+
+-- the list of this name was read, and it holds these
+pub record GivesSecrets (reading : Reading) (table : Bool) (name : List ℕ) (secrets : List Secret) (left left' : Option (List ℕ)) : Type 0 where
+  pub text : List ℕ
+  pub reads : OfName reading.holds name (ReadsText text) left left'
+  pub held : HoldsSecrets reading.rules table text secrets
+
+-- a pattern among the arguments is its bytes
+abbrev pub IsSecret : List ℕ → List Secret → Type 0
+IsSecret value secrets = (secret : Secret) × (secrets ≡ secret ∷ []) × Holds false value secret
+
+-- the secrets that an option gives
+abbrev pub OptionGives : Reading → Word → List ℕ → List Secret → (left left' : Option (List ℕ)) → Type 0
+OptionGives reading Pattern value secrets left left' = IsSecret value secrets × (left' ≡ left)
+OptionGives reading Patterns value secrets left left' = GivesSecrets reading false value secrets left left'
+OptionGives reading Table value secrets left left' = GivesSecrets reading true value secrets left left'
+OptionGives reading IgnoreCase value secrets left left' = (secrets ≡ []) × (left' ≡ left)
+OptionGives reading Kind value secrets left left' = (secrets ≡ []) × (left' ≡ left)
+OptionGives reading With value secrets left left' = (secrets ≡ []) × (left' ≡ left)
+OptionGives reading Count value secrets left left' = (secrets ≡ []) × (left' ≡ left)
+OptionGives reading Crlf value secrets left left' = (secrets ≡ []) × (left' ≡ left)
+OptionGives reading AllowEmpty value secrets left left' = (secrets ≡ []) × (left' ≡ left)
+OptionGives reading Help value secrets left left' = (secrets ≡ []) × (left' ≡ left)
+OptionGives reading Version value secrets left left' = (secrets ≡ []) × (left' ≡ left)
+OptionGives reading File value secrets left left' = (secrets ≡ []) × (left' ≡ left)
+
+-- the secrets that all options give, in order
+abbrev pub AreGiven : Reading → List Given → List Secret → (left left' : Option (List ℕ)) → Type 0
+AreGiven reading [] secrets left left' = (secrets ≡ []) × (left' ≡ left)
+AreGiven reading (item ∷ items) secrets left left' = (first : List Secret) × (rest : List Secret) × (secrets ≡ first ++ rest)
+    × (between : Option (List ℕ)) × OptionGives reading item.word item.value first left between × AreGiven reading items rest between left'
+
+-- what a list holds is added
+pub record IsAddedText (rules : Rules) (table : Bool) (text : List ℕ) (old new : List Secret) : Type 0 where
   pub more : List Secret
   pub grown : new ≡ old ++ more
-  pub held : AreInFile holds table name more
+  pub held : HoldsSecrets rules table text more
+
+pub record IsAddedFile (reading : Reading) (table : Bool) (name : List ℕ) (old new : List Secret) (left left' : Option (List ℕ)) : Type 0 where
+  pub more : List Secret
+  pub grown : new ≡ old ++ more
+  pub held : GivesSecrets reading table name more left left'
 
 -- what an option gives is added
-pub record IsAddedItem (holds : List ℕ → Option (List ℕ)) (item : Given) (old new : List Secret) : Type 0 where
+pub record IsAddedItem (reading : Reading) (item : Given) (old new : List Secret) (left left' : Option (List ℕ)) : Type 0 where
   pub more : List Secret
   pub grown : new ≡ old ++ more
-  pub of : AreOfWord holds item.word item.value more
+  pub of : OptionGives reading item.word item.value more left left'
+
+-- a text is not read to its end: a read fails, or memory runs out
+abbrev pub IsTextReason : Reason → Type 0
+IsTextReason reason = (reason ≡ ReadFault) ⊎ (reason ≡ OutOfMemory)
+
+-- a read failed
+abbrev pub is_failed_text : {A : Type 0} → Result A Reason → Bool
+is_failed_text (Ok text) = false
+is_failed_text (Err NotFound) = false
+is_failed_text (Err Denied) = false
+is_failed_text (Err Directory) = false
+is_failed_text (Err NoDirectory) = false
+is_failed_text (Err Links) = false
+is_failed_text (Err LongName) = false
+is_failed_text (Err Invalid) = false
+is_failed_text (Err Full) = false
+is_failed_text (Err TooLarge) = false
+is_failed_text (Err Quota) = false
+is_failed_text (Err Interrupted) = false
+is_failed_text (Err Unavailable) = false
+is_failed_text (Err Closed) = false
+is_failed_text (Err OutOfMemory) = false
+is_failed_text (Err PositionLimit) = false
+is_failed_text (Err ReadFault) = true
+is_failed_text (Err Fault) = false
+
+-- the list of a name cannot be read for this reason
+abbrev pub CannotRead : Reading → List ℕ → Reason → Type 0
+CannotRead reading name reason = IsTextReason reason ⊎ reading.refuses name reason
+
+-- a pattern among the arguments holds no secret
+abbrev pub IsPatternFailure : List ℕ → Failure → Type 0
+IsPatternFailure value NotText = ⊥
+IsPatternFailure value (Arguments mistake) = ⊥
+IsPatternFailure value (BadPattern fault) = IsLineFault false value fault
+IsPatternFailure value (Unread name reason) = ⊥
+IsPatternFailure value (Empty name) = ⊥
+IsPatternFailure value (Line name bad) = ⊥
+IsPatternFailure value Counts = ⊥
+IsPatternFailure value (Other failure) = ⊥
+
+-- the text of the list of a name holds none
+abbrev pub IsTextFailure : Rules → Bool → List ℕ → List ℕ → Failure → Type 0
+IsTextFailure rules table file text NotText = ⊥
+IsTextFailure rules table file text (Arguments mistake) = ⊥
+IsTextFailure rules table file text (BadPattern fault) = ⊥
+IsTextFailure rules table file text (Unread name reason) = ⊥
+IsTextFailure rules table file text (Empty name) = (name.now ≡ file) × (text ≡ []) × (rules.allow_empty ≡ false)
+IsTextFailure rules table file text (Line name bad) = (name.now ≡ file) × IsListFault (form_by rules table) (lines_in text) bad
+IsTextFailure rules table file text Counts = ⊥
+IsTextFailure rules table file text (Other failure) = ⊥
+
+-- the text is that of the list, where the folder tells it
+abbrev pub IsListText : Reading → List ℕ → List ℕ → Type 0
+IsListText reading file text = is_input file ≡ false → IfSome (reading.holds file) (λ bytes. text ≡ bytes)
+
+-- the list of a name cannot be read, or its text holds none
+abbrev pub IsFileFailure : Reading → Bool → List ℕ → Failure → Type 0
+IsFileFailure reading table file failure =
+    ((name : _) × (reason : Reason) × (failure ≡ Unread name reason) × (name.now ≡ file) × CannotRead reading file reason)
+    ⊎ ((text : List ℕ) × IsListText reading file text × IsTextFailure reading.rules table file text failure)
+
+-- an option does not give its secrets
+abbrev pub CannotLoad : Reading → Given → Failure → Type 0
+CannotLoad reading item failure =
+    ((item.word ≡ Pattern) × IsPatternFailure item.value failure)
+    ⊎ (((item.word ≡ Patterns) × IsFileFailure reading false item.value failure)
+    ⊎ ((item.word ≡ Table) × IsFileFailure reading true item.value failure))
+
+-- one of them does not
+abbrev pub CannotLoadOne : Reading → List Given → Failure → Type 0
+CannotLoadOne reading [] failure = ⊥
+CannotLoadOne reading (item ∷ items) failure = CannotLoad reading item failure ⊎ CannotLoadOne reading items failure

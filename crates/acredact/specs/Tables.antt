@@ -1,7 +1,8 @@
 -- What the lines of a file of patterns and of a table hold.
 use Rattle.std.specs.Prelude.{◌≡◌, ℕ, ◌≤◌, Bool, true, false, List, [], ◌∷◌, ◌++◌, Option, Some, None, codes, length, map, nat_eq, option_map, unwrap_or, if◌then◌else◌}
-use Rattle.std.specs.Io.BufRead.{strip_last}
+use Rattle.std.specs.Io.BufRead.{ends_with_byte, strip_last}
 use Rattle.std.specs.List.{All, AllZip, flat_map, slice_split}
+use Rattle.acredact.specs.declared.patterns.Form.{Form}
 use Rattle.acredact.specs.declared.patterns.Rule.{Rule}
 
 -- how a byte stands in a table: a TAB, a line end and a backslash as two bytes, and any other as itself
@@ -13,8 +14,8 @@ escape_of byte =
     else byte ∷ []
 
 -- and how bytes do
-abbrev pub escaped : List ℕ → List ℕ
-escaped bytes = flat_map escape_of bytes
+abbrev pub in_table : List ℕ → List ℕ
+in_table bytes = flat_map escape_of bytes
 
 -- a pattern, and its own replacement where it has one
 pub record Secret : Type 0 where
@@ -32,19 +33,28 @@ abbrev pub IsPlain : List ℕ → Secret → Type 0
 IsPlain line secret = (secret.pattern ≡ line) × (secret.replacement ≡ None)
 
 -- a line of a table is a pattern as it stands in a table, a TAB, and its replacement as it stands there
-abbrev pub IsRow : List ℕ → Secret → Type 0
-IsRow line secret = (piece : List ℕ) × (secret.replacement ≡ Some piece) × (line ≡ escaped secret.pattern ++ (9 ∷ escaped piece))
+abbrev pub IsTableLine : List ℕ → Secret → Type 0
+IsTableLine line secret = (piece : List ℕ) × (secret.replacement ≡ Some piece) × (line ≡ in_table secret.pattern ++ (9 ∷ in_table piece))
 
 -- a line, of a table or of a file of patterns, holds a pattern that is not empty
 pub record Holds (table : Bool) (line : List ℕ) (secret : Secret) : Type 0 where
   pub some : 1 ≤ length secret.pattern
   pub plain : table ≡ false → IsPlain line secret
-  pub row : table ≡ true → IsRow line secret
+  pub row : table ≡ true → IsTableLine line secret
 
 -- the lines of a text, without their line ends: the last may have none
-abbrev pub lines_of : List ℕ → List (List ℕ)
-lines_of [] = []
-lines_of (byte ∷ bytes) = slice_split (λ b. nat_eq b 10) (strip_last 10 (byte ∷ bytes))
+abbrev pub lines_in : List ℕ → List (List ℕ)
+lines_in [] = []
+lines_in (byte ∷ bytes) = slice_split (λ b. nat_eq b 10) (strip_last 10 (byte ∷ bytes))
+
+-- without a carriage return at its end, where those are left out
+abbrev pub stripped_by : Form → List ℕ → List ℕ
+stripped_by form line = if form.crlf then strip_last 13 line else line
+
+-- a line of a file holds a secret: a pattern of a file of patterns ends in no carriage return
+pub record HoldsBy (form : Form) (line : List ℕ) (secret : Secret) : Type 0 where
+  pub holds : Holds form.table (stripped_by form line) secret
+  pub no_return : form.table ≡ false → ends_with_byte 13 (stripped_by form line) ≡ false
 
 -- what is written for a pattern: its own replacement, or a text where it has none
 abbrev pub piece_by : List ℕ → Secret → List ℕ
@@ -54,11 +64,17 @@ piece_by text secret = unwrap_or secret.replacement text
 abbrev pub IsWithout : ℕ → List ℕ → Type 0
 IsWithout byte text = All (λ b. nat_eq b byte ≡ false) text
 
--- what some lines hold is added, in order
-pub record IsAdded (table : Bool) (old new : List Secret) (lines : List (List ℕ)) : Type 0 where
+-- what a line holds is added
+pub record IsAdded (table : Bool) (old new : List Secret) (line : List ℕ) : Type 0 where
+  pub secret : Secret
+  pub grown : new ≡ old ++ (secret ∷ [])
+  pub held : Holds table line secret
+
+-- what the lines of a file hold is added, in order
+pub record IsAddedList (form : Form) (old new : List Secret) (lines : List (List ℕ)) : Type 0 where
   pub more : List Secret
   pub grown : new ≡ old ++ more
-  pub held : AllZip (Holds table) lines more
+  pub held : AllZip (HoldsBy form) lines more
 
 -- the bytes of the patterns
 abbrev pub patterns_in : List Secret → List (List ℕ)

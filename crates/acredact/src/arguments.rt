@@ -1,10 +1,10 @@
 //! What the arguments of a call are: options with their values, and names of files.
 
-ghost use Rattle.std.specs.Prelude.{◌≡◌, ◌⊎◌, Some, None, IfErr, IfOk, option_map};
-ghost use Rattle.acredact.specs.Arguments.{all_given, any_by, completed, file_by, given_by, has, is_value_of, is_word, kind_asked, kind_by, last_value, read_by, read_of, takes_value, texts, word_by, word_read};
+ghost use Rattle.std.specs.Prelude.{◌≡◌, Some, None, IfErr, IfOk, option_map};
+ghost use Rattle.programs.specs.Arguments.{kind_by, texts};
+ghost use Rattle.acredact.specs.Arguments.{all_given, any_by, completed, file_by, given_by, has, is_same, is_value_of, kind_asked, last_value, option_name, read_by, read_of, takes_value, word_by, word_read};
+ghost use Rattle.acredact.specs.Mistakes.{IsMistake, IsMistaken};
 ghost use Rattle.acredact.specs.declared.arguments.Expects.TheVariants.{Any, Value};
-ghost use Rattle.acredact.specs.declared.arguments.Mistake.TheVariants.{OutOfMemory, Unknown};
-ghost use Rattle.acredact.specs.declared.arguments.Reading.TheVariants.{Wrong};
 
 use aho_core::search::MatchKind;
 use std::alloc::Global;
@@ -26,6 +26,10 @@ pub enum Word {
     With,
     /// `--count`: the number of matches of each pattern is told.
     Count,
+    /// `--crlf`: a carriage return at the end of a line of a file of patterns or of a table is left out.
+    Crlf,
+    /// `--allow-empty`: a file of patterns or a table may be empty.
+    AllowEmpty,
     /// `--help`: only the help is written.
     Help,
     /// `--version`: only the version is written.
@@ -92,6 +96,8 @@ fn word_of(argument: &str) -> Option<Word>
         "-t" => Some(Word::Table),
         "--with" => Some(Word::With),
         "--count" => Some(Word::Count),
+        "--crlf" => Some(Word::Crlf),
+        "--allow-empty" => Some(Word::AllowEmpty),
         "--help" => Some(Word::Help),
         "--version" => Some(Word::Version),
         "-" => Some(Word::File),
@@ -110,7 +116,9 @@ fn file_of(argument: &str) -> Option<Word>
 }
 
 /// How an option that needs a value is called.
-pub fn name_of(word: Word) -> &'static str {
+pub fn name_of(word: Word) -> &'static str
+    ensures name { result.now ≡ option_name word }
+{
     match word {
         Word::Kind => "--kind",
         Word::Patterns => "-f",
@@ -146,8 +154,7 @@ fn kind_by(name: &str) -> Option<MatchKind>
 pub fn items(alloc: Global, arguments: &[String]) -> Result<Vec<Item<'_>>, Mistake<'_>>
     ensures given { IfOk result (λ items.
         given_by Any (texts arguments.now) ≡ Some (all_given items.items)) }
-    ensures wrong { IfErr result (λ mistake.
-        (mistake ≡ OutOfMemory) ⊎ (given_by Any (texts arguments.now) ≡ None)) }
+    ensures wrong { IfErr result (IsMistake Any (texts arguments.now)) }
 {
     let mut items = Vec::new(alloc);
     let mut expects = Expects::Any;
@@ -174,6 +181,7 @@ pub fn items(alloc: Global, arguments: &[String]) -> Result<Vec<Item<'_>>, Mista
 /// What an argument is read as, where this is expected.
 fn read(expects: Expects, argument: &str) -> Reading<'_>
     ensures read { read_of result ≡ read_by expects argument.now }
+    ensures wrong { IsMistaken expects argument.now result }
 {
     match expects {
         Expects::Any => read_any(argument),
@@ -193,7 +201,7 @@ fn whole(word: Word, value: &str, next: Expects) -> Reading<'_>
 fn read_any(argument: &str) -> Reading<'_>
     ensures read { read_of result ≡ any_by argument.now }
     // An option that there is not is named.
-    ensures unknown { any_by argument.now ≡ None → result ≡ Wrong (Unknown argument.entry) }
+    ensures wrong { IsMistaken Any argument.now result }
 {
     if argument == "--" {
         return Reading::Begun(Expects::Name);
@@ -217,6 +225,7 @@ fn read_word(word: Word, argument: &str) -> Reading<'_>
 /// The value of an option.
 fn read_value(word: Word, value: &str) -> Reading<'_>
     ensures read { read_of result ≡ read_by (Value word) value.now }
+    ensures wrong { IsMistaken (Value word) value.now result }
 {
     if is_value_of(word, value) {
         return whole(word, value, Expects::Any);
@@ -235,8 +244,8 @@ fn is_value_of(word: Word, value: &str) -> bool
 }
 
 /// Whether these are the same option.
-pub fn is_word(word: Word, other: Word) -> bool
-    ensures is { result ≡ is_word word other }
+pub fn is_same(word: Word, other: Word) -> bool
+    ensures same { result ≡ is_same word other }
 {
     word == other
 }
@@ -255,7 +264,7 @@ pub fn last_value<'a>(items: &[Item<'a>], word: Word) -> Option<&'a str>
     let mut value = None;
     let mut rest = items;
     while !rest.is_empty() {
-        if is_word(word, rest[0].word) {
+        if is_same(word, rest[0].word) {
             value = Some(rest[0].value);
         }
         rest = &rest[1..];

@@ -1,36 +1,105 @@
 //! How many matches of each pattern were replaced.
 
-use crate::failure::write_number;
-use crate::patterns::{Rule, escaped};
-use aho_core::error::StreamError;
+ghost use Rattle.std.specs.Prelude.{◌≡◌, ◌++◌, IfOk, OnErr, OnOk, decimal};
+ghost use Rattle.acredact.specs.Counts.{count_line, counts_text, lines_of_rules, place_told, zeros};
+ghost use Rattle.programs.specs.Telling.{TellsBytes};
+
+use crate::patterns::Rule;
 use aho_devices::device::Sink;
-use aho_devices::write::write_whole;
+use itoa::write_digits;
+use programs::errors::Errors;
 use std::alloc::{AllocError, Global};
 
+/// The most digits that a number has.
+const MAX_DIGITS: usize = 20;
+
 /// A count for each rule where they are counted, and else none.
-pub fn counts_of(alloc: Global, rules: &[Rule], counted: bool) -> Result<Vec<u64>, AllocError> {
+pub fn counts_of(alloc: Global, rules: &[Rule], counted: bool) -> Result<Vec<u64>, AllocError>
+    ensures counts { IfOk result (λ counts. counts.items ≡ zeros counted rules.now) }
+{
     let mut counts = Vec::new(alloc);
     if counted {
-        for _rule in rules {
+        let mut rest = rules;
+        while !rest.is_empty() {
             counts.push(0)?;
+            rest = &rest[1..];
         }
     }
     Ok(counts)
 }
 
-/// Writes a line for each pattern: how many of its matches were replaced, a TAB, and the pattern as it stands in a table.
-pub fn tell_counts<E: Sink>(errors: &mut E, rules: &[Rule], counts: &[u64]) {
-    for (rule, count) in rules.iter().zip(counts) {
-        let _ = tell_count(errors, rule, *count);
-    }
+/// Writes a line for each pattern by one write: how many of its matches were replaced, a TAB, its number from 1 on, a TAB, and the
+/// number of its line in its file, or `-e`.
+///
+/// # Errors
+///
+/// The error says that memory ran out, and nothing was written then.
+pub fn tell_counts<E: Sink>(
+    alloc: Global,
+    errors: &mut Errors<'_, E>,
+    rules: &[Rule],
+    counts: &[u64],
+) -> Result<(), AllocError>
+    ensures told { OnOk result (TellsBytes E.Sink errors.old errors.new
+        (counts_text 1 (lines_of_rules rules.now) counts.now)) }
+    ensures untold { OnErr result (errors.new ≡ errors.old) }
+{
+    let text = text_of(alloc, rules, counts)?;
+    errors.write(&[text.as_slice()]);
+    Ok(())
 }
 
-/// Writes the line of a pattern.
-fn tell_count<E: Sink>(errors: &mut E, rule: &Rule, count: u64) -> Result<(), StreamError> {
-    write_number(errors, count)?;
-    write_whole(errors, b"\t")?;
-    for byte in &rule.pattern {
-        write_whole(errors, escaped(byte))?;
+/// The lines of all patterns.
+fn text_of(alloc: Global, rules: &[Rule], counts: &[u64]) -> Result<Vec<u8>, AllocError>
+    ensures text { IfOk result (λ text.
+        text.items ≡ counts_text 1 (lines_of_rules rules.now) counts.now) }
+{
+    let mut text = Vec::new(alloc);
+    let mut rest = rules;
+    let mut left = counts;
+    let mut number: usize = 1;
+    while !rest.is_empty() {
+        if left.is_empty() {
+            return Ok(text);
+        }
+        put_count(&mut text, left[0], number, rest[0].line)?;
+        number = number.saturating_add(1);
+        rest = &rest[1..];
+        left = &left[1..];
     }
-    write_whole(errors, b"\n")
+    Ok(text)
+}
+
+/// Puts the line of a pattern.
+fn put_count(text: &mut Vec<u8>, count: u64, number: usize, line: usize) -> Result<(), AllocError>
+    ensures put { OnOk result (text.new.items ≡ text.old.items ++ count_line count number line) }
+{
+    put_number(text, count)?;
+    text.push(b'\t')?;
+    put_number(text, number as u64)?;
+    text.push(b'\t')?;
+    put_origin(text, line)?;
+    text.push(b'\n')?;
+    Ok(())
+}
+
+/// Puts the number of a line, or `-e` where it is 0.
+fn put_origin(text: &mut Vec<u8>, line: usize) -> Result<(), AllocError>
+    ensures put { OnOk result (text.new.items ≡ text.old.items ++ place_told line) }
+{
+    if line == 0 {
+        text.extend_from_slice(b"-e")?;
+        return Ok(());
+    }
+    put_number(text, line as u64)
+}
+
+/// Puts a number in decimal.
+fn put_number(text: &mut Vec<u8>, number: u64) -> Result<(), AllocError>
+    ensures put { OnOk result (text.new.items ≡ text.old.items ++ decimal number) }
+{
+    let mut digits = [0; MAX_DIGITS];
+    let start = write_digits(number, &mut digits, MAX_DIGITS);
+    text.extend_from_slice(&digits[start..])?;
+    Ok(())
 }

@@ -1,15 +1,24 @@
 //! Why a call ends early, and how that is told.
 
+ghost use Rattle.std.specs.Prelude.{◌≡◌, ℕ, List};
+ghost use Rattle.programs.specs.Messages.{reason_text};
+ghost use Rattle.programs.specs.Telling.{TellsBytes};
+ghost use Rattle.acredact.specs.Failures.{IsFailureLine, IsOtherLine, bad_line, is_of_output};
+ghost use Rattle.acredact.specs.LineFaults.{line_fault_text};
+ghost use Rattle.acredact.specs.Messages.{alone, line_about, told_line};
+ghost use Rattle.acredact.specs.Mistakes.{mistake_message};
+
 use crate::arguments::{Mistake, name_of};
 use crate::patterns::{BadLine, LineFault};
 use aho_core::error::{BuildError, StreamError};
 use aho_devices::device::Sink;
-use aho_devices::write::write_whole;
-use itoa::write_digits;
+use programs::errors::Errors;
 use programs::failure;
+use programs::reason::Reason;
 use std::alloc::AllocError;
-use std::io;
-use std::io::ErrorKind;
+
+/// The name that stands before each message.
+const PROGRAM: &[u8] = b"acredact";
 
 /// Why a call ends early.
 #[derive(Drop)]
@@ -22,154 +31,156 @@ pub enum Failure<'a> {
     Pattern(LineFault),
     /// A file of patterns or a table cannot be read, for this reason.
     Unread(&'a str, Reason),
+    /// A file of patterns or a table is empty.
+    Empty(&'a str),
     /// A line of a file of patterns or of a table is wrong.
     Line(&'a str, BadLine),
+    /// The counts cannot be written to standard error.
+    Counts,
     /// The patterns are refused, memory runs out, or output cannot be written.
     Other(failure::Failure),
 }
 
 impl<'a> From<Mistake<'a>> for Failure<'a> {
+    ghost use Rattle.acredact.specs.declared.failure.Failure.TheVariants.{Arguments};
+
+    ghost from_gives = { λ mistake failure. failure ≡ Arguments mistake };
+
     fn from(mistake: Mistake<'a>) -> Failure<'a> {
         Failure::Arguments(mistake)
     }
 }
 
 impl From<AllocError> for Failure<'_> {
-    fn from(error: AllocError) -> Self {
-        Failure::Other(failure::Failure::from(error))
+    ghost use Rattle.acredact.specs.declared.failure.Failure.TheVariants.{Other};
+    ghost use Rattle.programs.specs.declared.failure.Failure.TheVariants.{OutOfMemory};
+
+    ghost from_gives = { λ _ failure. failure ≡ Other OutOfMemory };
+
+    fn from(_error: AllocError) -> Self {
+        Failure::Other(failure::Failure::OutOfMemory)
     }
 }
 
 impl From<BuildError> for Failure<'_> {
+    ghost use Rattle.acredact.specs.declared.failure.Failure.TheVariants.{Other};
+    ghost use Rattle.programs.specs.declared.failure.Failure.TheVariants.{Build};
+
+    ghost from_gives = { λ error failure. failure ≡ Other (Build error) };
+
     fn from(error: BuildError) -> Self {
-        Failure::Other(failure::Failure::from(error))
+        Failure::Other(failure::Failure::Build(error))
     }
 }
 
 impl From<StreamError> for Failure<'_> {
+    ghost use Rattle.acredact.specs.declared.failure.Failure.TheVariants.{Other};
+    ghost use Rattle.programs.specs.Failures.{failure_of_stream};
+
+    ghost from_gives = { λ error failure. failure ≡ Other (failure_of_stream error) };
+
     fn from(error: StreamError) -> Self {
         Failure::Other(failure::Failure::from(error))
     }
 }
 
-/// Why a file cannot be opened or read to its end.
-#[derive(Clone, Copy, PartialEq, Eq)]
-pub enum Reason {
-    /// There is none of this name.
-    NotFound,
-    /// It may not be read.
-    Denied,
-    /// It is a directory.
-    Directory,
-    /// Memory runs out.
-    OutOfMemory,
-    /// It is longer than a stream may be.
-    PositionLimit,
-    /// A call of the system fails for another reason.
-    Fault,
+/// Tells as a line why a file is not read to its end.
+pub fn tell_unread<E: Sink>(errors: &mut Errors<'_, E>, name: &str, reason: Reason)
+    ensures told { TellsBytes E.Sink errors.old errors.new (line_about name.now (reason_text reason)) }
+{
+    tell_about(errors, name, reason.text())
 }
 
-impl Reason {
-    /// The reason of an error of the system.
-    pub fn of(error: &io::Error) -> Reason {
-        match error.kind() {
-            ErrorKind::NotFound => Reason::NotFound,
-            ErrorKind::PermissionDenied => Reason::Denied,
-            ErrorKind::IsADirectory => Reason::Directory,
-            ErrorKind::OutOfMemory => Reason::OutOfMemory,
-            _ => Reason::Fault,
-        }
-    }
-
-    /// What is told of it.
-    pub fn text(self) -> &'static str {
-        match self {
-            Reason::NotFound => "No such file or directory",
-            Reason::Denied => "Permission denied",
-            Reason::Directory => "Is a directory",
-            Reason::OutOfMemory => "out of memory",
-            Reason::PositionLimit => "position limit reached",
-            Reason::Fault => "read fault",
-        }
-    }
+/// Tells as a line what is wrong with something, and why.
+fn tell_about<E: Sink>(errors: &mut Errors<'_, E>, name: &str, cause: &str)
+    ensures told { TellsBytes E.Sink errors.old errors.new (line_about name.now cause.now) }
+{
+    errors.tell(PROGRAM, Some(name.as_bytes()), None, cause.as_bytes());
 }
 
-/// Writes a line: the program's name, and a text.
-fn tell_text<E: Sink>(errors: &mut E, text: &str) -> Result<(), StreamError> {
-    write_whole(errors, b"acredact: ")?;
-    write_whole(errors, text.as_bytes())?;
-    write_whole(errors, b"\n")
+/// Tells a cause as a line.
+fn tell_alone<E: Sink>(errors: &mut Errors<'_, E>, cause: &str)
+    ensures told { TellsBytes E.Sink errors.old errors.new (told_line (alone cause.now)) }
+{
+    errors.tell(PROGRAM, None, None, cause.as_bytes());
 }
 
-/// Writes a line: the program's name, and two texts.
-pub fn tell<E: Sink>(errors: &mut E, about: &str, text: &str) -> Result<(), StreamError> {
-    write_whole(errors, b"acredact: ")?;
-    write_whole(errors, about.as_bytes())?;
-    write_whole(errors, b": ")?;
-    write_whole(errors, text.as_bytes())?;
-    write_whole(errors, b"\n")
-}
-
-/// Writes why a call ends early as a line.
-pub fn tell_failure<E: Sink>(errors: &mut E, failure: &Failure<'_>) -> Result<(), StreamError> {
+/// Tells as a line why a call ends early.
+pub fn tell_failure<E: Sink>(errors: &mut Errors<'_, E>, failure: &Failure<'_>)
+    ensures told { (line : List ℕ) × IsFailureLine failure.now line
+        × TellsBytes E.Sink errors.old errors.new line }
+{
     match failure {
-        Failure::NotText => tell_text(errors, "an argument is not UTF-8"),
+        Failure::NotText => tell_alone(errors, "an argument is not UTF-8"),
         Failure::Arguments(mistake) => tell_mistake(errors, *mistake),
-        Failure::Pattern(fault) => tell(errors, "-e", text_of(*fault)),
-        Failure::Unread(name, reason) => tell(errors, name, reason.text()),
+        Failure::Pattern(fault) => tell_about(errors, "-e", text_of(*fault)),
+        Failure::Unread(name, reason) => tell_unread(errors, name, *reason),
+        Failure::Empty(name) => tell_about(
+            errors,
+            name,
+            "no pattern: give --allow-empty to allow it",
+        ),
         Failure::Line(name, line) => tell_line(errors, name, *line),
+        Failure::Counts => tell_alone(errors, "the counts cannot be written"),
         Failure::Other(other) => tell_other(errors, other),
     }
 }
 
-/// Writes what is wrong with the arguments as a line.
-fn tell_mistake<E: Sink>(errors: &mut E, mistake: Mistake<'_>) -> Result<(), StreamError> {
+/// Tells as a line what is wrong with the arguments.
+fn tell_mistake<E: Sink>(errors: &mut Errors<'_, E>, mistake: Mistake<'_>)
+    ensures told { TellsBytes E.Sink errors.old errors.new (told_line (mistake_message mistake.entry)) }
+{
     match mistake {
-        Mistake::Unknown(argument) => tell(errors, "unknown option", argument),
-        Mistake::UnknownKind(kind) => tell(errors, "unknown kind", kind),
-        Mistake::NoValue(word) => tell(errors, "no value", name_of(word)),
-        Mistake::NoPattern => tell_text(errors, "no pattern: give -e, -f or -t, or --help"),
-        Mistake::OutOfMemory => tell_text(errors, "out of memory"),
+        Mistake::Unknown(argument) => tell_about(errors, "unknown option", argument),
+        Mistake::UnknownKind(kind) => tell_about(errors, "unknown kind", kind),
+        Mistake::NoValue(word) => tell_about(errors, "no value", name_of(word)),
+        Mistake::NoPattern => tell_alone(errors, "no pattern: give -e, -f or -t, or --help"),
+        Mistake::OutOfMemory => tell_alone(errors, "out of memory"),
     }
 }
 
-/// Writes what is wrong with a line of a file as a line.
-fn tell_line<E: Sink>(errors: &mut E, name: &str, line: BadLine) -> Result<(), StreamError> {
-    write_whole(errors, b"acredact: ")?;
-    write_whole(errors, name.as_bytes())?;
-    write_whole(errors, b": line ")?;
-    write_number(errors, line.number as u64)?;
-    write_whole(errors, b": ")?;
-    write_whole(errors, text_of(line.fault).as_bytes())?;
-    write_whole(errors, b"\n")
-}
-
-/// Writes a number in decimal.
-pub fn write_number<E: Sink>(errors: &mut E, number: u64) -> Result<(), StreamError> {
-    let mut digits = [0; 20];
-    let start = write_digits(number, &mut digits, 20);
-    write_whole(errors, &digits[start..])
+/// Tells as a line what is wrong with a line of a file.
+fn tell_line<E: Sink>(errors: &mut Errors<'_, E>, name: &str, bad: BadLine)
+    ensures told { TellsBytes E.Sink errors.old errors.new (told_line (bad_line name.now bad)) }
+{
+    errors.tell(
+        PROGRAM,
+        Some(name.as_bytes()),
+        Some(bad.number as u64),
+        text_of(bad.fault).as_bytes(),
+    );
 }
 
 /// What is told of a line that holds no rule.
-fn text_of(fault: LineFault) -> &'static str {
+fn text_of(fault: LineFault) -> &'static str
+    ensures text { result.now ≡ line_fault_text fault }
+{
     match fault {
         LineFault::EmptyPattern => "empty pattern",
         LineFault::NoTab => "no TAB",
+        LineFault::SecondTab => "second TAB: write \\t",
         LineFault::BadEscape => "bad escape: write \\t, \\n or \\\\",
+        LineFault::CarriageReturn => {
+            "carriage return at the end of a pattern: give --crlf to leave it out"
+        }
         LineFault::OutOfMemory => "out of memory",
     }
 }
 
-/// Writes another failure as a line.
-fn tell_other<E: Sink>(errors: &mut E, other: &failure::Failure) -> Result<(), StreamError> {
-    write_whole(errors, b"acredact: ")?;
-    if matches!(other, failure::Failure::Write | failure::Failure::WriteZero) {
-        return write_whole(errors, b"write error\n");
+/// Tells another failure as a line.
+fn tell_other<E: Sink>(errors: &mut Errors<'_, E>, other: &failure::Failure)
+    ensures told { (line : List ℕ) × IsOtherLine other.now line
+        × TellsBytes E.Sink errors.old errors.new line }
+{
+    if is_of_output(other) {
+        return errors.tell_unwritten(PROGRAM);
     }
-    // Each line has room: one that had none would not be written.
-    match other.line() {
-        Ok(line) => write_whole(errors, line.as_str().as_bytes()),
-        Err(_) => Ok(()),
-    }
+    errors.tell_failure(PROGRAM, other);
+}
+
+/// Whether the output failed, or took nothing.
+fn is_of_output(other: &failure::Failure) -> bool
+    ensures is { result ≡ is_of_output other.now }
+{
+    matches!(other, failure::Failure::Write | failure::Failure::WriteZero)
 }

@@ -1,60 +1,80 @@
 //! The redaction of files, one after another.
 
-ghost use Rattle.std.specs.Prelude.{◌≡◌, ◌&&◌, None, Ok, OnOk, length, true};
+ghost use Rattle.std.specs.Prelude.{◌≡◌, ◌&&◌, ℕ, List, Option, OnOk, length, true};
 ghost use Rattle.aho_core.specs.Patterns.{Patterns};
-ghost use Rattle.aho_core.specs.Replacement.{pieces_of};
-ghost use Rattle.programs.specs.Streams.{bytes_held, bytes_left};
-ghost use Rattle.acredact.specs.Arguments.{names_of};
-ghost use Rattle.acredact.specs.Runs.{AreBegun, AreRedacted, IsReady, IsRedactedFile, IsRedactedKnown, IsRedactedText, is_input};
-ghost use Rattle.acredact.specs.Secrets.{IsBegun, IsRedacted};
+ghost use Rattle.aho_devices.specs.Counts.{counted};
+ghost use Rattle.programs.specs.Names.{is_input};
+ghost use Rattle.programs.specs.Streams.{bytes_left};
+ghost use Rattle.acredact.specs.Faults.{is_unread, reading_of};
+ghost use Rattle.acredact.specs.Files.{FileOutcome, FilesOutcome, TextOutcome, ToldOutcome, redactor_of, work_of};
+ghost use Rattle.acredact.specs.Secrets.{IfOf, CanRedact};
+ghost use Rattle.acredact.specs.Streams.{StreamOutcome};
 
-use crate::failure::{Reason, tell};
+use crate::failure::tell_unread;
 use crate::folder::Folder;
 use crate::redact::{redact, redact_counting};
+use crate::streams::Streams;
 use aho_automaton::automaton::Automaton;
 use aho_core::error::StreamError;
 use aho_devices::adapters::{FromRead, FromWrite};
 use aho_devices::device::{Sink, Source};
+use programs::reason::Reason;
 use std::alloc::Global;
 use std::io::{Read, Write};
 
-/// What is done to each file.
+/// What is done to which files.
 #[derive(Clone, Copy)]
-pub struct Job<'s, 'r, 't, A> {
+pub struct Job<'s, 't, F> {
     /// What memory is taken from.
     pub alloc: Global,
-    /// What searches.
-    pub automaton: &'s A,
+    /// What opens files.
+    pub folder: &'s F,
+    /// The names of the files.
+    pub names: &'s [&'t str],
     /// What is written in the place of each pattern.
-    pub replacements: &'r [&'t [u8]],
+    pub replacements: &'s [&'t [u8]],
     /// Whether the matches of each pattern are counted.
     pub counted: bool,
 }
 
-/// Redacts each file, and answers whether all were read. A file that cannot be read is told, and the others are still read.
-pub fn redact_files<A: Automaton, F: Folder, I: Read, W: Write, E: Write>(
-    job: &Job<'_, '_, '_, A>,
-    files: &[&str],
-    folder: &F,
+/// Redacts all files, and flushes. It answers whether all were read to their ends: one that was not is told, and the others are
+/// still redacted.
+///
+/// # Errors
+///
+/// `Write` and `WriteZero` where the output fails or takes nothing, and `Memory` where it runs out.
+pub fn redact_files<A: Automaton, F: Folder, I: Read, W: Write, E: Sink>(
+    automaton: &A,
+    job: &Job<'_, '_, F>,
     counts: &mut [u64],
-    input: &mut FromRead<I>,
-    output: &mut FromWrite<W>,
-    errors: &mut FromWrite<E>,
+    streams: &mut Streams<'_, I, W, E>,
 ) -> Result<bool, StreamError>
-    requires ready { IsReady A.Automaton job.now.automaton.now (length job.now.replacements.now) }
-    ensures redacted { (p : Patterns) → A.is_of job.now.automaton.now p
-        → result ≡ Ok true → AreRedacted (F.holds folder.now) p (pieces_of job.now.replacements.now)
-        (names_of files.now) (bytes_left input.old) (bytes_left input.new)
-        (bytes_held W.Write output.old) (bytes_held W.Write output.new) }
-    ensures begun { (p : Patterns) → A.is_of job.now.automaton.now p
-        → AreBegun p (pieces_of job.now.replacements.now)
-        (bytes_held W.Write output.old) (bytes_held W.Write output.new) }
+    requires ready { CanRedact A.Automaton automaton.now (length job.now.replacements.now) }
+    ensures outcome { IfOf A.Automaton automaton.now (λ p.
+        FilesOutcome W.Write E.Sink (work_of F.Folder job.now p) result streams.old streams.new) }
+    ensures flushed { OnOk result (streams.new.output.device.flushed ≡ true) }
+{
+    let all = redact_each(automaton, job, counts, streams)?;
+    streams.output.flush()?;
+    Ok(all)
+}
+
+/// Redacts each file, and answers whether all were read to their ends.
+fn redact_each<A: Automaton, F: Folder, I: Read, W: Write, E: Sink>(
+    automaton: &A,
+    job: &Job<'_, '_, F>,
+    counts: &mut [u64],
+    streams: &mut Streams<'_, I, W, E>,
+) -> Result<bool, StreamError>
+    requires ready { CanRedact A.Automaton automaton.now (length job.now.replacements.now) }
+    ensures outcome { IfOf A.Automaton automaton.now (λ p.
+        FilesOutcome W.Write E.Sink (work_of F.Folder job.now p) result streams.old streams.new) }
 {
     let mut all = true;
-    let mut rest = files;
+    let mut rest = job.names;
     while !rest.is_empty() {
-        let read = redact_told(job, rest[0], folder, counts, input, output, errors)?;
-        all = both(all, read);
+        let whole = redact_told(automaton, job, rest[0], counts, streams)?;
+        all = both(all, whole);
         rest = &rest[1..];
     }
     Ok(all)
@@ -67,29 +87,29 @@ fn both(first: bool, second: bool) -> bool
     first && second
 }
 
-/// Redacts a file, and answers whether it was read to its end. One that cannot be read is told.
-fn redact_told<A: Automaton, F: Folder, I: Read, W: Write, E: Write>(
-    job: &Job<'_, '_, '_, A>,
+/// Redacts a file, and answers whether it was read to its end. One that was not is told.
+fn redact_told<A: Automaton, F: Folder, I: Read, W: Write, E: Sink>(
+    automaton: &A,
+    job: &Job<'_, '_, F>,
     name: &str,
-    folder: &F,
     counts: &mut [u64],
-    input: &mut FromRead<I>,
-    output: &mut FromWrite<W>,
-    errors: &mut FromWrite<E>,
+    streams: &mut Streams<'_, I, W, E>,
 ) -> Result<bool, StreamError>
-    requires ready { IsReady A.Automaton job.now.automaton.now (length job.now.replacements.now) }
-    ensures redacted { (p : Patterns) → A.is_of job.now.automaton.now p
-        → result ≡ Ok true → IsRedactedFile (F.holds folder.now) p (pieces_of job.now.replacements.now)
-        name.now (bytes_left input.old) (bytes_left input.new)
-        (bytes_held W.Write output.old) (bytes_held W.Write output.new) }
-    ensures begun { (p : Patterns) → A.is_of job.now.automaton.now p
-        → AreBegun p (pieces_of job.now.replacements.now)
-        (bytes_held W.Write output.old) (bytes_held W.Write output.new) }
+    requires ready { CanRedact A.Automaton automaton.now (length job.now.replacements.now) }
+    ensures outcome { IfOf A.Automaton automaton.now (λ p. ToldOutcome W.Write E.Sink
+        (work_of F.Folder job.now p) name.now result streams.old streams.new) }
 {
-    match redact_file(job, name, folder, counts, input, output)? {
+    match redact_file(
+        automaton,
+        job,
+        name,
+        counts,
+        &mut streams.input,
+        &mut streams.output,
+    )? {
         None => Ok(true),
         Some(reason) => {
-            let _ = tell(errors, name, reason.text());
+            tell_unread(&mut streams.errors, name, reason);
             Ok(false)
         }
     }
@@ -97,129 +117,92 @@ fn redact_told<A: Automaton, F: Folder, I: Read, W: Write, E: Write>(
 
 /// Redacts a file, and answers why it cannot be read to its end, where it cannot.
 fn redact_file<A: Automaton, F: Folder, I: Read, W: Write>(
-    job: &Job<'_, '_, '_, A>,
+    automaton: &A,
+    job: &Job<'_, '_, F>,
     name: &str,
-    folder: &F,
     counts: &mut [u64],
     input: &mut FromRead<I>,
     output: &mut FromWrite<W>,
 ) -> Result<Option<Reason>, StreamError>
-    requires ready { IsReady A.Automaton job.now.automaton.now (length job.now.replacements.now) }
-    ensures redacted { (p : Patterns) → A.is_of job.now.automaton.now p
-        → result ≡ Ok None → IsRedactedFile (F.holds folder.now) p (pieces_of job.now.replacements.now)
-        name.now (bytes_left input.old) (bytes_left input.new)
-        (bytes_held W.Write output.old) (bytes_held W.Write output.new) }
-    ensures begun { (p : Patterns) → A.is_of job.now.automaton.now p
-        → AreBegun p (pieces_of job.now.replacements.now)
-        (bytes_held W.Write output.old) (bytes_held W.Write output.new) }
+    requires ready { CanRedact A.Automaton automaton.now (length job.now.replacements.now) }
+    ensures outcome { IfOf A.Automaton automaton.now (λ p. FileOutcome W.Write
+        (work_of F.Folder job.now p) name.now result input.old input.new output.old output.new) }
 {
     if is_input(name) {
-        return redact_input(job, counts, input, output);
+        return redact_input(automaton, job, counts, input, output);
     }
-    match folder.open(name) {
-        Ok(file) => redact_opened(job, counts, file, output),
-        Err(error) => Ok(Some(Reason::of(&error))),
+    match job.folder.open(name) {
+        Ok(file) => redact_opened(automaton, job, counts, file, output),
+        Err(reason) => Ok(Some(reason)),
     }
 }
 
 /// Whether this is the name of standard input.
-fn is_input(name: &str) -> bool
+pub fn is_input(name: &str) -> bool
     ensures is { result ≡ is_input name.now }
 {
     name == "-"
 }
 
-/// Redacts the input to its end.
-fn redact_input<A: Automaton, I: Read, W: Write>(
-    job: &Job<'_, '_, '_, A>,
-    counts: &mut [u64],
-    input: &mut FromRead<I>,
-    output: &mut FromWrite<W>,
-) -> Result<Option<Reason>, StreamError>
-    requires ready { IsReady A.Automaton job.now.automaton.now (length job.now.replacements.now) }
-    ensures redacted { (p : Patterns) → A.is_of job.now.automaton.now p
-        → result ≡ Ok None → IsRedactedText p (pieces_of job.now.replacements.now)
-        (bytes_left input.old) (bytes_left input.new)
-        (bytes_held W.Write output.old) (bytes_held W.Write output.new) }
-    ensures begun { (p : Patterns) → A.is_of job.now.automaton.now p
-        → AreBegun p (pieces_of job.now.replacements.now)
-        (bytes_held W.Write output.old) (bytes_held W.Write output.new) }
-{
-    input.restart();
-    redact_stream(job, counts, input, output)
-}
-
-/// Redacts a reader to its end.
-fn redact_opened<A: Automaton, I: Read + Drop, W: Write>(
-    job: &Job<'_, '_, '_, A>,
+/// Redacts a reader to its end, and answers why it cannot be read to that, where it cannot.
+fn redact_opened<A: Automaton, F, I: Read + Drop, W: Write>(
+    automaton: &A,
+    job: &Job<'_, '_, F>,
     counts: &mut [u64],
     reader: I,
     output: &mut FromWrite<W>,
 ) -> Result<Option<Reason>, StreamError>
-    requires ready { IsReady A.Automaton job.now.automaton.now (length job.now.replacements.now) }
-    ensures redacted { (p : Patterns) → A.is_of job.now.automaton.now p
-        → result ≡ Ok None → IsRedactedKnown p (pieces_of job.now.replacements.now)
-        (I.remaining reader) (bytes_held W.Write output.old) (bytes_held W.Write output.new) }
-    ensures begun { (p : Patterns) → A.is_of job.now.automaton.now p
-        → AreBegun p (pieces_of job.now.replacements.now)
-        (bytes_held W.Write output.old) (bytes_held W.Write output.new) }
+    requires ready { CanRedact A.Automaton automaton.now (length job.now.replacements.now) }
+    ensures outcome { IfOf A.Automaton automaton.now (λ p. (rest : Option (List ℕ)) × TextOutcome
+        W.Write (redactor_of job.now p) result (I.remaining reader) rest output.old output.new) }
 {
     let mut source = FromRead::new(reader);
-    redact_input(job, counts, &mut source, output)
+    redact_input(automaton, job, counts, &mut source, output)
 }
 
-/// Redacts a stream, and answers why it cannot be read to its end, where it cannot.
-fn redact_stream<A: Automaton, R: Source, W: Sink>(
-    job: &Job<'_, '_, '_, A>,
+/// Redacts the input to its end, and answers why it cannot be read to that, where it cannot.
+fn redact_input<A: Automaton, F, I: Read, W: Write>(
+    automaton: &A,
+    job: &Job<'_, '_, F>,
     counts: &mut [u64],
-    source: &mut R,
-    sink: &mut W,
+    input: &mut FromRead<I>,
+    output: &mut FromWrite<W>,
 ) -> Result<Option<Reason>, StreamError>
-    requires ready { IsReady A.Automaton job.now.automaton.now (length job.now.replacements.now) }
-    ensures redacted { (p : Patterns) → A.is_of job.now.automaton.now p
-        → result ≡ Ok None → IsRedacted R.Source W.Sink
-        p (pieces_of job.now.replacements.now) source.old source.new sink.old sink.new }
-    ensures begun { (p : Patterns) → A.is_of job.now.automaton.now p
-        → IsBegun W.Sink p (pieces_of job.now.replacements.now) sink.old sink.new }
+    requires ready { CanRedact A.Automaton automaton.now (length job.now.replacements.now) }
+    ensures outcome { IfOf A.Automaton automaton.now (λ p. TextOutcome W.Write (redactor_of job.now p)
+        result (bytes_left input.old) (bytes_left input.new) output.old output.new) }
+    ensures failed { input.new.failures ≡ counted (is_unread result) input.old.failures }
 {
-    answer_of(redact_by_count(job, counts, source, sink))
+    input.restart();
+    reading_of(redact_stream(automaton, job, counts, input, output))
 }
 
 /// Redacts a stream, and counts its matches where they are counted.
-fn redact_by_count<A: Automaton, R: Source, W: Sink>(
-    job: &Job<'_, '_, '_, A>,
+fn redact_stream<A: Automaton, F, R: Source, W: Sink>(
+    automaton: &A,
+    job: &Job<'_, '_, F>,
     counts: &mut [u64],
     source: &mut R,
     sink: &mut W,
 ) -> Result<(), StreamError>
-    requires ready { IsReady A.Automaton job.now.automaton.now (length job.now.replacements.now) }
-    ensures redacted { (p : Patterns) → A.is_of job.now.automaton.now p
-        → OnOk result (IsRedacted R.Source W.Sink
-        p (pieces_of job.now.replacements.now) source.old source.new sink.old sink.new) }
-    ensures begun { (p : Patterns) → A.is_of job.now.automaton.now p
-        → IsBegun W.Sink p (pieces_of job.now.replacements.now) sink.old sink.new }
+    requires ready { CanRedact A.Automaton automaton.now (length job.now.replacements.now) }
+    ensures outcome { IfOf A.Automaton automaton.now (λ p. StreamOutcome R.Source W.Sink
+        (redactor_of job.now p) result source.old source.new sink.old sink.new) }
 {
     if job.counted {
-        redact_counting(
-            job.alloc,
-            job.automaton,
-            job.replacements,
-            counts,
-            source,
-            sink,
-        )
+        redact_counting(job.alloc, automaton, job.replacements, counts, source, sink)
     } else {
-        redact(job.alloc, job.automaton, job.replacements, source, sink)
+        redact(job.alloc, automaton, job.replacements, source, sink)
     }
 }
 
 /// Why a stream was not read to its end, where that is so; any other error ends the program.
-fn answer_of(done: Result<(), StreamError>) -> Result<Option<Reason>, StreamError>
-    ensures whole { result ≡ Ok None → done ≡ Ok tt }
+fn reading_of(done: Result<(), StreamError>) -> Result<Option<Reason>, StreamError>
+    ensures reading { result ≡ reading_of done }
 {
     match done {
         Ok(()) => Ok(None),
-        Err(StreamError::Read(_)) => Ok(Some(Reason::Fault)),
+        Err(StreamError::Read(_)) => Ok(Some(Reason::ReadFault)),
         Err(StreamError::PositionLimit) => Ok(Some(Reason::PositionLimit)),
         Err(error) => Err(error),
     }

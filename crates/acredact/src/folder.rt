@@ -1,12 +1,14 @@
 //! Where files are opened: that of the process.
 
-ghost use Rattle.std.specs.Prelude.{ℕ, List, Option, None, IfOk};
+ghost use Rattle.std.specs.Prelude.{ℕ, List, Option, None, IfErr, IfOk, ⊤};
 ghost use Rattle.std.specs.Io.KnownBytes.{Keeps};
+ghost use Rattle.programs.specs.declared.reason.Reason.{Reason};
 
+use programs::reason::Reason;
+use std::fs;
 use std::fs::OpenFile;
-use std::io::{ErrorKind, Read};
+use std::io::Read;
 use std::rt::Files;
-use std::{fs, io};
 
 /// What opens files by their names.
 pub trait Folder {
@@ -16,10 +18,14 @@ pub trait Folder {
     /// The bytes of the file of this name, where the folder tells them.
     ghost holds: { Self → List ℕ → Option (List ℕ) };
 
+    /// Why the file of this name may not be opened.
+    ghost refuses: { Self → List ℕ → Reason → Type 0 };
+
     /// Opens the file of this name to be read.
-    fn open(&self, name: &str) -> io::Result<Self::File>
+    fn open(&self, name: &str) -> Result<Self::File, Reason>
         ensures told { IfOk result (λ file.
-            Keeps (holds self.now name.now) (Self.File.remaining file)) };
+            Keeps (holds self.now name.now) (Self.File.remaining file)) }
+        ensures refused { IfErr result (refuses self.now name.now) };
 }
 
 /// The files of the process.
@@ -32,15 +38,21 @@ pub struct Host<'r, R> {
 impl<R: Files> Folder for Host<'_, R> {
     type File = R::File;
 
-    // What the process can read is told by nothing.
+    // What the process can read is told by nothing, and neither is what it cannot.
     ghost holds = { λ folder name. None };
 
-    fn open(&self, name: &str) -> io::Result<R::File> {
-        let file = fs::open(self.rt, name)?;
+    ghost refuses = { λ folder name reason. ⊤ };
+
+    fn open(&self, name: &str) -> Result<R::File, Reason> {
+        let file = match fs::open(self.rt, name) {
+            Ok(file) => file,
+            Err(error) => return Err(Reason::of(&error)),
+        };
         // A directory can be opened, and only reading it would fail.
-        if file.metadata()?.is_dir() {
-            return Err(io::Error::from(ErrorKind::IsADirectory));
+        match file.metadata() {
+            Ok(metadata) if metadata.is_dir() => Err(Reason::Directory),
+            Ok(_) => Ok(file),
+            Err(error) => Err(Reason::of(&error)),
         }
-        Ok(file)
     }
 }

@@ -1,32 +1,59 @@
 //! The rules of all patterns, files and tables that are given.
 
-ghost use Rattle.std.specs.Prelude.{◌∷◌, [], IfOk, OnOk, false};
+ghost use Rattle.std.specs.Prelude.{◌≡◌, ℕ, List, Option, IfErr, IfOk, OnOk, false};
+ghost use Rattle.aho_devices.specs.Counts.{counted};
+ghost use Rattle.programs.specs.Streams.{bytes_left};
 ghost use Rattle.acredact.specs.Arguments.{all_given, given_of};
-ghost use Rattle.acredact.specs.Runs.{AreGiven, IsTold};
-ghost use Rattle.acredact.specs.Loading.{IsAddedFile, IsAddedItem};
+ghost use Rattle.acredact.specs.Loading.{AreGiven, CannotLoad, CannotLoadOne, CannotRead, IsAddedFile, IsAddedItem, IsAddedText, IsFileFailure, IsPatternFailure, IsTextFailure, IsTextReason, is_failed_text, reading_of_lists, rules_for};
+ghost use Rattle.acredact.specs.Reads.{OfName, ReadsText};
 ghost use Rattle.acredact.specs.Tables.{IsAdded, secrets_of};
 
 use crate::arguments::{Item, Word};
-use crate::failure::{Failure, Reason};
+use crate::failure::Failure;
+use crate::files::is_input;
 use crate::folder::Folder;
-use crate::patterns::{Rule, add_line, add_lines};
+use crate::patterns::{Form, Rule, add_line, add_lines};
+use aho_devices::adapters::FromRead;
+use aho_devices::device::Source;
+use programs::reason::Reason;
 use std::alloc::Global;
 use std::io::Read;
 
+/// How many bytes of a list are read at once.
+const PIECE: usize = 16 * 1024;
+
+/// How files of patterns and tables are read.
+#[derive(Clone, Copy)]
+pub struct Lists<'f, F> {
+    /// What memory is taken from.
+    pub alloc: Global,
+    /// What opens files.
+    pub folder: &'f F,
+    /// Whether a carriage return at the end of a line is left out.
+    pub crlf: bool,
+    /// Whether a file may be empty.
+    pub allow_empty: bool,
+}
+
 /// The rules of all patterns, files of patterns and tables that are given, in order.
-pub fn rules<'a, F: Folder>(
-    alloc: Global,
-    folder: &F,
+///
+/// # Errors
+///
+/// The first pattern, file or line that gives no rule, with the reason.
+pub fn rules<'a, F: Folder, I: Read>(
+    lists: &Lists<'_, F>,
     items: &[Item<'a>],
+    input: &mut FromRead<I>,
 ) -> Result<Vec<Rule>, Failure<'a>>
-    ensures given { IfOk result (λ rules.
-        AreGiven (F.holds folder.now) (all_given items.now) (secrets_of rules.items)) }
+    ensures given { IfOk result (λ rules. AreGiven (reading_of_lists F.Folder lists.now) (all_given items.now)
+        (secrets_of rules.items) (bytes_left input.old) (bytes_left input.new)) }
+    ensures fails { IfErr result (CannotLoadOne (reading_of_lists F.Folder lists.now) (all_given items.now)) }
 {
-    let mut rules = Vec::new(alloc);
+    let mut rules = Vec::new(lists.alloc);
     let mut rest = items;
     while !rest.is_empty() {
         // Not by `?`: this error holds names.
-        match add_item(alloc, folder, &mut rules, rest[0]) {
+        match add_item(lists, &mut rules, rest[0], input) {
             Ok(()) => {}
             Err(failure) => return Err(failure),
         }
@@ -36,19 +63,21 @@ pub fn rules<'a, F: Folder>(
 }
 
 /// Adds the rules of an item, if it has any.
-fn add_item<'a, F: Folder>(
-    alloc: Global,
-    folder: &F,
+fn add_item<'a, F: Folder, I: Read>(
+    lists: &Lists<'_, F>,
     rules: &mut Vec<Rule>,
     item: Item<'a>,
+    input: &mut FromRead<I>,
 ) -> Result<(), Failure<'a>>
-    ensures added { OnOk result (IsAddedItem (F.holds folder.now) (given_of item.entry)
-        (secrets_of rules.old.items) (secrets_of rules.new.items)) }
+    ensures added { OnOk result (IsAddedItem (reading_of_lists F.Folder lists.now) (given_of item.entry)
+        (secrets_of rules.old.items) (secrets_of rules.new.items)
+        (bytes_left input.old) (bytes_left input.new)) }
+    ensures fails { IfErr result (CannotLoad (reading_of_lists F.Folder lists.now) (given_of item.entry)) }
 {
     match item.word {
-        Word::Pattern => add_pattern(alloc, rules, item.value),
-        Word::Patterns => add_file(alloc, folder, rules, item.value, false),
-        Word::Table => add_file(alloc, folder, rules, item.value, true),
+        Word::Pattern => add_pattern(lists.alloc, rules, item.value),
+        Word::Patterns => add_file(lists, rules, item.value, false, input),
+        Word::Table => add_file(lists, rules, item.value, true, input),
         _ => Ok(()),
     }
 }
@@ -60,51 +89,108 @@ fn add_pattern<'a>(
     pattern: &'a str,
 ) -> Result<(), Failure<'a>>
     ensures added { OnOk result (IsAdded false
-        (secrets_of rules.old.items) (secrets_of rules.new.items) (pattern.now ∷ [])) }
+        (secrets_of rules.old.items) (secrets_of rules.new.items) pattern.now) }
+    ensures fails { IfErr result (IsPatternFailure pattern.now) }
 {
-    match add_line(alloc, rules, pattern.as_bytes(), false) {
+    match add_line(alloc, rules, pattern.as_bytes(), false, 0) {
         Ok(()) => Ok(()),
         Err(fault) => Err(Failure::Pattern(fault)),
     }
 }
 
 /// Adds the rules of a file: of a table, or of a file of patterns.
-fn add_file<'a, F: Folder>(
-    alloc: Global,
-    folder: &F,
+fn add_file<'a, F: Folder, I: Read>(
+    lists: &Lists<'_, F>,
     rules: &mut Vec<Rule>,
     name: &'a str,
     table: bool,
+    input: &mut FromRead<I>,
 ) -> Result<(), Failure<'a>>
-    ensures added { OnOk result (IsAddedFile (F.holds folder.now) table name.now
-        (secrets_of rules.old.items) (secrets_of rules.new.items)) }
+    ensures added { OnOk result (IsAddedFile (reading_of_lists F.Folder lists.now) table name.now
+        (secrets_of rules.old.items) (secrets_of rules.new.items)
+        (bytes_left input.old) (bytes_left input.new)) }
+    ensures fails { IfErr result (IsFileFailure (reading_of_lists F.Folder lists.now) table name.now) }
 {
-    match read_file(alloc, folder, name) {
-        Ok(text) => match add_lines(alloc, rules, text.as_slice(), table) {
-            Ok(()) => Ok(()),
-            Err(line) => Err(Failure::Line(name, line)),
-        },
+    match read_list(lists, name, input) {
+        Ok(text) => add_text(lists, rules, name, table, text.as_slice()),
         Err(reason) => Err(Failure::Unread(name, reason)),
     }
 }
 
-/// All bytes of a file.
-fn read_file<F: Folder>(alloc: Global, folder: &F, name: &str) -> Result<Vec<u8>, Reason>
-    ensures told { IfOk result (λ text. IsTold (F.holds folder.now name.now) text.items) }
+/// Adds the rules of the text of a file.
+fn add_text<'a, F>(
+    lists: &Lists<'_, F>,
+    rules: &mut Vec<Rule>,
+    name: &'a str,
+    table: bool,
+    text: &[u8],
+) -> Result<(), Failure<'a>>
+    ensures added { OnOk result (IsAddedText (rules_for lists.now) table text.now
+        (secrets_of rules.old.items) (secrets_of rules.new.items)) }
+    ensures fails { IfErr result (IsTextFailure (rules_for lists.now) table name.now text.now) }
 {
-    match folder.open(name) {
-        Ok(file) => read_whole(alloc, file),
-        Err(error) => Err(Reason::of(&error)),
+    if text.is_empty() && !lists.allow_empty {
+        return Err(Failure::Empty(name));
+    }
+    let form = Form {
+        table,
+        crlf: lists.crlf,
+    };
+    match add_lines(lists.alloc, rules, text, form) {
+        Ok(()) => Ok(()),
+        Err(line) => Err(Failure::Line(name, line)),
+    }
+}
+
+/// All bytes of a file, or of the input.
+fn read_list<F: Folder, I: Read>(
+    lists: &Lists<'_, F>,
+    name: &str,
+    input: &mut FromRead<I>,
+) -> Result<Vec<u8>, Reason>
+    ensures text { IfOk result (λ text. OfName (F.holds lists.now.folder.now) name.now
+        (ReadsText text.items) (bytes_left input.old) (bytes_left input.new)) }
+    ensures fails { IfErr result (CannotRead (reading_of_lists F.Folder lists.now) name.now) }
+{
+    if is_input(name) {
+        return read_whole(lists.alloc, input);
+    }
+    match lists.folder.open(name) {
+        Ok(file) => read_opened(lists.alloc, file),
+        Err(reason) => Err(reason),
     }
 }
 
 /// All bytes that a reader gives.
-fn read_whole<R: Read + Drop>(alloc: Global, mut reader: R) -> Result<Vec<u8>, Reason>
-    ensures told { IfOk result (λ text. IsTold (R.remaining reader) text.items) }
+fn read_opened<I: Read + Drop>(alloc: Global, reader: I) -> Result<Vec<u8>, Reason>
+    ensures text { IfOk result (λ text. (rest : Option (List ℕ))
+        × ReadsText text.items (I.remaining reader) rest) }
+    ensures fails { IfErr result IsTextReason }
 {
+    let mut source = FromRead::new(reader);
+    read_whole(alloc, &mut source)
+}
+
+/// All bytes that the input gives. A failed read is not tried again.
+fn read_whole<I: Read>(alloc: Global, input: &mut FromRead<I>) -> Result<Vec<u8>, Reason>
+    ensures text { IfOk result (λ text.
+        ReadsText text.items (bytes_left input.old) (bytes_left input.new)) }
+    ensures fails { IfErr result IsTextReason }
+    // A read fault is answered exactly where a read failed.
+    ensures failed { input.new.failures ≡ counted (is_failed_text result) input.old.failures }
+{
+    input.restart();
     let mut text = Vec::new(alloc);
-    match reader.read_to_end(&mut text) {
-        Ok(_) => Ok(text),
-        Err(error) => Err(Reason::of(&error)),
+    let mut piece = [0; PIECE];
+    loop {
+        match input.read(&mut piece) {
+            Ok(0) => return Ok(text),
+            Ok(count) => {
+                let Ok(()) = text.extend_from_slice(&piece[..count]) else {
+                    return Err(Reason::OutOfMemory);
+                };
+            }
+            Err(_) => return Err(Reason::ReadFault),
+        }
     }
 }

@@ -6,7 +6,6 @@
 #![tactic(auto)]
 
 mod arguments;
-mod closed;
 mod counts;
 mod failure;
 mod files;
@@ -16,70 +15,74 @@ mod patterns;
 mod redact;
 mod rows;
 mod run;
+mod streams;
 
-ghost use Rattle.std.specs.Prelude.{◌≡◌, ◌≤◌, ◌⊎◌, IfErr, IfOk, None, true};
+ghost use Rattle.std.specs.Prelude.{◌≡◌, ◌⊎◌, IfErr, IfOk, true};
 ghost use Rattle.std.specs.Process.{exit_status};
-ghost use Rattle.programs.specs.Streams.{bytes_held, bytes_left, Unwritten};
-ghost use Rattle.acredact.specs.Arguments.{IfAsked, given_by, texts};
-ghost use Rattle.acredact.specs.Runs.{BeginsToRedact, Redacts};
-ghost use Rattle.acredact.specs.declared.arguments.Expects.TheVariants.{Any};
+ghost use Rattle.programs.specs.Streams.{bytes_left};
+ghost use Rattle.programs.specs.Telling.{TellsSome};
+ghost use Rattle.acredact.specs.Arguments.{AreMistaken, IfAsked};
+ghost use Rattle.acredact.specs.Calls.{BeginsCall, IsRefusedLine, RedactsCall, call_of};
 
 use aho_devices::adapters::{FromRead, FromWrite};
-use closed::{Noted, Quiet};
+use aho_devices::device::Sink;
 use folder::{Folder, Host};
 use programs::arguments::arguments;
+use programs::closed::{Noted, Quiet};
+use programs::errors::Errors;
 use programs::failure::Failure;
 use run::{refuse, run};
 use std::alloc::Global;
 use std::cell::Cell;
 use std::io::{BufWriter, Read, Write};
 use std::process::ExitCode;
+use streams::Streams;
 
 /// How many bytes of output are kept before they are written.
 const OUTPUT_CAPACITY: usize = 64 * 1024;
 
 fn main(rt: HostRuntime) -> ExitCode {
     let given = arguments(&rt);
-    let closed = Cell::new(false);
-    let mut errors = FromWrite::new(Quiet::new(rt.stderr(), &closed));
-    let noted = Noted::new(rt.stdout(), &closed);
+    let reason = Cell::new(None);
+    let mut errors = Errors::new(FromWrite::new(Quiet::new(rt.stderr(), &reason)), &reason);
+    let noted = Noted::new(rt.stdout(), &reason);
     match BufWriter::with_capacity(rt.alloc(), OUTPUT_CAPACITY, noted) {
-        Ok(output) => exit_code(
-            rt.alloc(),
-            given,
-            &Host { rt: &rt },
-            &mut FromRead::new(rt.stdin()),
-            &mut FromWrite::new(output),
-            &mut errors,
-        ),
+        Ok(output) => {
+            let mut streams = Streams {
+                input: FromRead::new(rt.stdin()),
+                output: FromWrite::new(output),
+                errors,
+            };
+            exit_code(rt.alloc(), given, &Host { rt: &rt }, &mut streams)
+        }
         Err(_) => ExitCode::from(refuse(Failure::OutOfMemory, &mut errors)),
     }
 }
 
 /// Runs on the arguments, or tells why there are none, and ends with the status.
-fn exit_code<F: Folder, I: Read, W: Write, E: Write>(
+fn exit_code<F: Folder, I: Read, W: Write, E: Sink>(
     alloc: Global,
     given: Result<Vec<String>, Failure>,
     folder: &F,
-    input: &mut FromRead<I>,
-    output: &mut FromWrite<W>,
-    errors: &mut FromWrite<E>,
+    streams: &mut Streams<'_, I, W, E>,
 ) -> ExitCode
     ensures faulty { IfErr given (λ _. exit_status result ≡ 2) }
+    ensures refused { IfErr given (λ failure. TellsSome E.Sink (IsRefusedLine failure)
+        streams.old.errors streams.new.errors) }
     ensures wrong { IfOk given (λ arguments.
-        given_by Any (texts arguments.items) ≡ None → exit_status result ≡ 2) }
-    ensures redacts { IfOk given (λ arguments. IfAsked arguments.items (λ given. exit_status result ≡ 0
-        → Redacts (F.holds folder.now) given (bytes_left input.old) (bytes_left input.new)
-        (bytes_held W.Write output.old) (bytes_held W.Write output.new))) }
+        AreMistaken arguments.items → exit_status result ≡ 2) }
+    ensures redacts { IfOk given (λ arguments. IfAsked arguments.items (λ given.
+        exit_status result ≡ 0 → RedactsCall W.Write (call_of F.Folder folder.now given)
+        (bytes_left streams.old.input) streams.old streams.new)) }
     ensures begins { IfOk given (λ arguments. IfAsked arguments.items (λ given.
-        Unwritten output.old output.new ⊎ BeginsToRedact (F.holds folder.now) given
-        (bytes_held W.Write output.old) (bytes_held W.Write output.new))) }
-    ensures flushed { exit_status result ≡ 0 → output.new.device.flushed ≡ true }
-    ensures bound { exit_status result ≤ 2 }
+        BeginsCall W.Write (call_of F.Folder folder.now given)
+        (bytes_left streams.old.input) streams.old streams.new)) }
+    ensures flushed { exit_status result ≡ 0 → streams.new.output.device.flushed ≡ true }
+    ensures bound { (exit_status result ≡ 0) ⊎ (exit_status result ≡ 2) }
 {
     let status = match given {
-        Ok(arguments) => run(alloc, arguments.as_slice(), folder, input, output, errors),
-        Err(failure) => refuse(failure, errors),
+        Ok(arguments) => run(alloc, arguments.as_slice(), folder, streams),
+        Err(failure) => refuse(failure, &mut streams.errors),
     };
     ExitCode::from(status)
 }

@@ -1,10 +1,10 @@
 //! Patterns with their replacements: of a file of patterns, and of a table.
 
-ghost use Rattle.std.specs.Prelude.{◌≡◌, ◌+◌, ◌<◌, ◌≤◌, ◌∷◌, ◌++◌, Bool, Err, IfErr, IfNone, IfOk, IfSome, OnOk, false, length, map, slice_index, true, ◌≢◌, []};
-ghost use Rattle.std.specs.Io.BufRead.{strip_last};
+ghost use Rattle.std.specs.Prelude.{◌≡◌, [], ◌<◌, ◌≤◌, ◌∷◌, ◌++◌, IfErr, IfNone, IfOk, IfSome, OnOk, OnErr, false, length, map, slice_index, true};
+ghost use Rattle.std.specs.Io.BufRead.{ends_with_byte, strip_last};
 ghost use Rattle.aho_core.specs.Replacement.{pieces_of};
-ghost use Rattle.acredact.specs.declared.patterns.LineFault.TheVariants.{EmptyPattern};
-ghost use Rattle.acredact.specs.Tables.{Holds, IsAdded, IsWithout, escape_of, escaped, lines_of, patterns_in, piece_by, secret_of, secrets_of};
+ghost use Rattle.acredact.specs.LineFaults.{IsBadStart, IsLineFault, IsLineFaultBy, IsListFault, IsTextFault};
+ghost use Rattle.acredact.specs.Tables.{Holds, IsAdded, IsAddedList, IsWithout, escape_of, in_table, stripped_by, lines_in, patterns_in, piece_by, secret_of, secrets_of};
 
 use std::alloc::{AllocError, AllocFailed, Global};
 use std::slice;
@@ -16,6 +16,17 @@ pub struct Rule {
     pub pattern: Vec<u8>,
     /// The bytes that are written in their place.
     pub replacement: Option<Vec<u8>>,
+    /// The number of its line in its file, from 1 on, and 0 for one that is an argument.
+    pub line: usize,
+}
+
+/// How the lines of a file are read.
+#[derive(Clone, Copy)]
+pub struct Form {
+    /// Whether the file is a table, and not a file of patterns.
+    pub table: bool,
+    /// Whether a carriage return at the end of a line is left out.
+    pub crlf: bool,
 }
 
 /// Why a line of a file holds no rule.
@@ -25,38 +36,51 @@ pub enum LineFault {
     EmptyPattern,
     /// There is no TAB in a line of a table.
     NoTab,
-    /// Behind a backslash stands none of `t`, `n` and a backslash, or a TAB stands in a replacement.
+    /// There is a second TAB in a line of a table.
+    SecondTab,
+    /// Behind a backslash stands none of `t`, `n` and a backslash.
     BadEscape,
+    /// A pattern of a file of patterns ends in a carriage return.
+    CarriageReturn,
     /// Memory runs out.
     OutOfMemory,
 }
 
 impl From<AllocError> for LineFault {
+    ghost use Rattle.acredact.specs.declared.patterns.LineFault.TheVariants.{OutOfMemory};
+
+    ghost from_gives = { λ _ fault. fault ≡ OutOfMemory };
+
     fn from(_error: AllocError) -> LineFault {
         LineFault::OutOfMemory
     }
 }
 
 impl<T: Drop> From<AllocFailed<T>> for LineFault {
+    ghost use Rattle.acredact.specs.declared.patterns.LineFault.TheVariants.{OutOfMemory};
+
+    ghost from_gives = { λ _ fault. fault ≡ OutOfMemory };
+
     fn from(_error: AllocFailed<T>) -> LineFault {
         LineFault::OutOfMemory
     }
 }
 
-/// The lines of a text without their line ends. The last line may have none.
-fn body(text: &[u8]) -> &[u8]
-    ensures stripped { result.now ≡ strip_last 10 text.now }
+/// A text without this byte at its end.
+fn without_last(text: &[u8], byte: u8) -> &[u8]
+    ensures stripped { result.now ≡ strip_last byte text.now }
 {
     match text.split_last() {
-        Some((b'\n', front)) => front,
+        Some((last, front)) if *last == byte => front,
         _ => text,
     }
 }
 
 /// The rule of a line of a file of patterns: its bytes are the pattern.
-fn plain(alloc: Global, line: &[u8]) -> Result<Rule, LineFault>
+fn plain(alloc: Global, line: &[u8], number: usize) -> Result<Rule, LineFault>
     ensures rule { IfOk result (λ rule. Holds false line.now (secret_of rule)) }
-    ensures empty { line.now ≡ [] → result ≡ Err EmptyPattern }
+    ensures fault { IfErr result (IsLineFault false line.now) }
+    ensures line { IfOk result (λ rule. rule.line ≡ number) }
 {
     if line.is_empty() {
         return Err(LineFault::EmptyPattern);
@@ -64,12 +88,15 @@ fn plain(alloc: Global, line: &[u8]) -> Result<Rule, LineFault>
     Ok(Rule {
         pattern: copy_of(alloc, line)?,
         replacement: None,
+        line: number,
     })
 }
 
 /// The rule of a line of a table: its pattern, a TAB, and the replacement.
-fn row(alloc: Global, line: &[u8]) -> Result<Rule, LineFault>
+fn row(alloc: Global, line: &[u8], number: usize) -> Result<Rule, LineFault>
     ensures rule { IfOk result (λ rule. Holds true line.now (secret_of rule)) }
+    ensures fault { IfErr result (IsLineFault true line.now) }
+    ensures line { IfOk result (λ rule. rule.line ≡ number) }
 {
     let Some((before, behind)) = split_at(line, b'\t') else {
         return Err(LineFault::NoTab);
@@ -82,6 +109,7 @@ fn row(alloc: Global, line: &[u8]) -> Result<Rule, LineFault>
     Ok(Rule {
         pattern,
         replacement: Some(replacement),
+        line: number,
     })
 }
 
@@ -105,61 +133,59 @@ fn split_at(text: &[u8], byte: u8) -> Option<(&[u8], &[u8])>
 /// The bytes that stand so in a table: `\t` for a TAB, `\n` for a line end, and `\\` for a backslash. Any other byte stands
 /// for itself.
 fn unescaped(alloc: Global, text: &[u8]) -> Result<Vec<u8>, LineFault>
-    ensures escaped { IfOk result (λ bytes. escaped bytes.items ≡ text.now) }
+    ensures bytes { IfOk result (λ bytes. in_table bytes.items ≡ text.now) }
+    ensures fault { IfErr result (IsTextFault text.now) }
 {
     let mut bytes = Vec::new(alloc);
     let mut rest = text;
     while !rest.is_empty() {
-        let Some((byte, more)) = first_byte(rest) else {
-            return Err(LineFault::BadEscape);
-        };
-        bytes.push(byte)?;
-        rest = more;
+        match first_byte(rest) {
+            Ok((byte, more)) => {
+                bytes.push(byte)?;
+                rest = more;
+            }
+            Err(fault) => return Err(fault),
+        }
     }
     Ok(bytes)
 }
 
 /// The byte that stands first in a text, and what follows it.
-fn first_byte(text: &[u8]) -> Option<(u8, &[u8])>
+fn first_byte(text: &[u8]) -> Result<(u8, &[u8]), LineFault>
     requires some { 1 ≤ length text.now }
-    ensures first { IfSome result (λ parts. text.now ≡ escape_of parts.0 ++ parts.1.now) }
-    ensures shorter { IfSome result (λ parts. length parts.1.now < length text.now) }
+    ensures first { IfOk result (λ parts. text.now ≡ escape_of parts.0 ++ parts.1.now) }
+    ensures shorter { IfOk result (λ parts. length parts.1.now < length text.now) }
+    ensures fault { IfErr result (IsBadStart text.now) }
 {
     match text[0] {
         b'\\' => escaped_byte(text),
-        b'\t' | b'\n' => None,
-        byte => Some((byte, &text[1..])),
+        b'\t' => Err(LineFault::SecondTab),
+        b'\n' => Err(LineFault::BadEscape),
+        byte => Ok((byte, &text[1..])),
     }
 }
 
 /// The byte that stands first in a text as a backslash and another, and what follows it.
-fn escaped_byte(text: &[u8]) -> Option<(u8, &[u8])>
+fn escaped_byte(text: &[u8]) -> Result<(u8, &[u8]), LineFault>
     requires some { 1 ≤ length text.now }
     requires backslash { slice_index text.now 0 ≡ 92 }
-    ensures first { IfSome result (λ parts. text.now ≡ escape_of parts.0 ++ parts.1.now) }
-    ensures shorter { IfSome result (λ parts. length parts.1.now < length text.now) }
+    ensures first { IfOk result (λ parts. text.now ≡ escape_of parts.0 ++ parts.1.now) }
+    ensures shorter { IfOk result (λ parts. length parts.1.now < length text.now) }
+    ensures fault { IfErr result (IsBadStart text.now) }
 {
     if text.len() < 2 {
-        return None;
+        return Err(LineFault::BadEscape);
     }
-    match text[1] {
-        b't' => Some((b'\t', &text[2..])),
-        b'n' => Some((b'\n', &text[2..])),
-        b'\\' => Some((b'\\', &text[2..])),
-        _ => None,
+    if text[1] == b't' {
+        return Ok((b'\t', &text[2..]));
     }
-}
-
-/// How a byte stands in a table: a TAB, a line end and a backslash as two bytes, and any other as itself.
-pub fn escaped(byte: &u8) -> &[u8]
-    ensures escape { result.now ≡ escape_of byte.now }
-{
-    match byte {
-        b'\t' => b"\\t",
-        b'\n' => b"\\n",
-        b'\\' => b"\\\\",
-        _ => slice::from_ref(byte),
+    if text[1] == b'n' {
+        return Ok((b'\n', &text[2..]));
     }
+    if text[1] == b'\\' {
+        return Ok((b'\\', &text[2..]));
+    }
+    Err(LineFault::BadEscape)
 }
 
 /// These bytes in memory of their own.
@@ -181,26 +207,31 @@ pub struct BadLine {
 }
 
 /// Adds the rules of a text, one for each line: of a table, or of a file of patterns.
+///
+/// # Errors
+///
+/// The first line that holds no rule, with the reason; or `OutOfMemory`, at any line.
 pub fn add_lines(
     alloc: Global,
     rules: &mut Vec<Rule>,
     text: &[u8],
-    table: bool,
+    form: Form,
 ) -> Result<(), BadLine>
-    ensures added { OnOk result (IsAdded table
-        (secrets_of rules.old.items) (secrets_of rules.new.items) (lines_of text.now)) }
+    ensures added { OnOk result (IsAddedList form
+        (secrets_of rules.old.items) (secrets_of rules.new.items) (lines_in text.now)) }
+    ensures fault { IfErr result (IsListFault form (lines_in text.now)) }
 {
     if text.is_empty() {
         return Ok(());
     }
     let mut number: usize = 1;
-    let mut rest = body(text);
+    let mut rest = without_last(text, b'\n');
     while let Some((line, more)) = split_at(rest, b'\n') {
-        add_numbered(alloc, rules, line, table, number)?;
+        add_numbered(alloc, rules, line, form, number)?;
         number = number.saturating_add(1);
         rest = more;
     }
-    add_numbered(alloc, rules, rest, table, number)
+    add_numbered(alloc, rules, rest, form, number)
 }
 
 /// Adds the rule of the line of this number.
@@ -208,33 +239,72 @@ fn add_numbered(
     alloc: Global,
     rules: &mut Vec<Rule>,
     line: &[u8],
-    table: bool,
+    form: Form,
     number: usize,
 ) -> Result<(), BadLine>
-    ensures added { OnOk result (IsAdded table
+    ensures added { OnOk result (IsAddedList form
         (secrets_of rules.old.items) (secrets_of rules.new.items) (line.now ∷ [])) }
     ensures number { IfErr result (λ bad. bad.number ≡ number) }
+    ensures fault { IfErr result (λ bad. IsLineFaultBy form line.now bad.fault) }
 {
-    match add_line(alloc, rules, line, table) {
+    match add_listed(alloc, rules, line, form, number) {
         Ok(()) => Ok(()),
         Err(fault) => Err(BadLine { number, fault }),
     }
 }
 
-/// Adds the rule of a line.
+/// Adds the rule of the line of a file.
+fn add_listed(
+    alloc: Global,
+    rules: &mut Vec<Rule>,
+    line: &[u8],
+    form: Form,
+    number: usize,
+) -> Result<(), LineFault>
+    ensures added { OnOk result (IsAddedList form
+        (secrets_of rules.old.items) (secrets_of rules.new.items) (line.now ∷ [])) }
+    ensures fault { IfErr result (IsLineFaultBy form line.now) }
+{
+    let line = stripped_by(form, line);
+    if !form.table && ends_in_return(line) {
+        return Err(LineFault::CarriageReturn);
+    }
+    add_line(alloc, rules, line, form.table, number)
+}
+
+/// A line as its rule stands in it: without a carriage return at its end, where those are left out.
+fn stripped_by(form: Form, line: &[u8]) -> &[u8]
+    ensures line { result.now ≡ stripped_by form line.now }
+{
+    if form.crlf {
+        return without_last(line, b'\r');
+    }
+    line
+}
+
+/// Whether a line ends in a carriage return.
+fn ends_in_return(line: &[u8]) -> bool
+    ensures ends { result ≡ ends_with_byte 13 line.now }
+{
+    matches!(line.split_last(), Some((b'\r', _)))
+}
+
+/// Adds the rule of a line, which has this number.
 pub fn add_line(
     alloc: Global,
     rules: &mut Vec<Rule>,
     line: &[u8],
     table: bool,
+    number: usize,
 ) -> Result<(), LineFault>
     ensures added { OnOk result (IsAdded table
-        (secrets_of rules.old.items) (secrets_of rules.new.items) (line.now ∷ [])) }
+        (secrets_of rules.old.items) (secrets_of rules.new.items) line.now) }
+    ensures fault { IfErr result (IsLineFault table line.now) }
 {
     let rule = if table {
-        row(alloc, line)?
+        row(alloc, line, number)?
     } else {
-        plain(alloc, line)?
+        plain(alloc, line, number)?
     };
     rules.push(rule)?;
     Ok(())

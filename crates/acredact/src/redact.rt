@@ -1,12 +1,10 @@
 //! The redaction of one stream.
 
-ghost use Rattle.std.specs.Prelude.{◌≡◌, [], OnErr, OnOk, length, slice_index_or};
-ghost use Rattle.std.specs.Io.KnownBytes.{Appends};
-ghost use Rattle.aho_core.specs.Patterns.{Patterns};
+ghost use Rattle.std.specs.Prelude.{◌≡◌, ◌<◌, ◌≤◌, [], length, slice_index, slice_index_or, slice_set};
 ghost use Rattle.aho_core.specs.Replacement.{pieces_of};
-ghost use Rattle.aho_devices.specs.Counts.{AppendsBeginning};
-ghost use Rattle.acredact.specs.Runs.{IsReady};
-ghost use Rattle.acredact.specs.Secrets.{IsBegun, IsRedacted};
+ghost use Rattle.acredact.specs.Counts.{counted_more};
+ghost use Rattle.acredact.specs.Secrets.{IfOf, CanRedact, redactor_by};
+ghost use Rattle.acredact.specs.Streams.{StreamOutcome, WritesPiece};
 
 use aho_automaton::automaton::Automaton;
 use aho_core::error::StreamError;
@@ -18,8 +16,10 @@ use std::alloc::Global;
 
 /// Writes what the source gives to the sink, with its replacement in the place of each match.
 ///
-/// Where it succeeds, no pattern is left outside of what was replaced. Where it fails, what was written is a beginning of the
-/// replacement.
+/// # Errors
+///
+/// `Read` and `Write` exactly where a read or a write fails, `WriteZero` where a write takes nothing, `PositionLimit` where the
+/// source gave 2^63 - 1 bytes, and `Memory`. What was written is then a beginning of the redaction.
 pub fn redact<A: Automaton, R: Source, W: Sink>(
     alloc: Global,
     automaton: &A,
@@ -27,11 +27,9 @@ pub fn redact<A: Automaton, R: Source, W: Sink>(
     source: &mut R,
     sink: &mut W,
 ) -> Result<(), StreamError>
-    requires ready { IsReady A.Automaton automaton.now (length replacements.now) }
-    ensures redacted { (p : Patterns) → A.is_of automaton.now p → OnOk result (IsRedacted R.Source
-        W.Sink p (pieces_of replacements.now) source.old source.new sink.old sink.new) }
-    ensures begun { (p : Patterns) → A.is_of automaton.now p
-        → IsBegun W.Sink p (pieces_of replacements.now) sink.old sink.new }
+    requires ready { CanRedact A.Automaton automaton.now (length replacements.now) }
+    ensures outcome { IfOf A.Automaton automaton.now (λ p. StreamOutcome R.Source W.Sink
+        (redactor_by p replacements.now) result source.old source.new sink.old sink.new) }
 {
     try_stream_replace_all(alloc, automaton, source, sink, replacements)
 }
@@ -45,11 +43,9 @@ pub fn redact_counting<A: Automaton, R: Source, W: Sink>(
     source: &mut R,
     sink: &mut W,
 ) -> Result<(), StreamError>
-    requires ready { IsReady A.Automaton automaton.now (length replacements.now) }
-    ensures redacted { (p : Patterns) → A.is_of automaton.now p → OnOk result (IsRedacted R.Source
-        W.Sink p (pieces_of replacements.now) source.old source.new sink.old sink.new) }
-    ensures begun { (p : Patterns) → A.is_of automaton.now p
-        → IsBegun W.Sink p (pieces_of replacements.now) sink.old sink.new }
+    requires ready { CanRedact A.Automaton automaton.now (length replacements.now) }
+    ensures outcome { IfOf A.Automaton automaton.now (λ p. StreamOutcome R.Source W.Sink
+        (redactor_by p replacements.now) result source.old source.new sink.old sink.new) }
 {
     try_stream_replace_all_with(alloc, automaton, source, sink, |found, _matched, sink| {
         put_counted(counts, replacements, found, sink)
@@ -63,20 +59,22 @@ fn put_counted<W: Sink>(
     found: &Match,
     sink: &mut W,
 ) -> Result<(), StreamError>
-    ensures whole { OnOk result (Appends (W.taken sink.old) (W.taken sink.new)
-        (slice_index_or (pieces_of replacements.now) found.now.pattern [])) }
-    ensures beginning { OnErr result (AppendsBeginning (W.taken sink.old) (W.taken sink.new)
-        (slice_index_or (pieces_of replacements.now) found.now.pattern [])) }
+    ensures written { WritesPiece W.Sink result sink.old sink.new
+        (slice_index_or (pieces_of replacements.now) found.now.pattern []) }
 {
     let number = found.pattern().as_usize();
     count_one(counts, number);
     write_piece(sink, replacements, number)
 }
 
-/// One match more of the pattern of this number.
-fn count_one(counts: &mut [u64], number: usize) {
-    if let Some(count) = counts.get_mut(number) {
-        *count = count.saturating_add(1);
+/// One match more of the pattern of this number. A count stops at the greatest number.
+fn count_one(counts: &mut [u64], number: usize)
+    ensures counted { number < length counts.old → counts.new
+        ≡ slice_set counts.old number (counted_more (slice_index counts.old number)) }
+    ensures uncounted { length counts.old ≤ number → counts.new ≡ counts.old }
+{
+    if number < counts.len() {
+        counts[number] = counts[number].saturating_add(1);
     }
 }
 
@@ -86,10 +84,8 @@ fn write_piece<W: Sink>(
     replacements: &[&[u8]],
     number: usize,
 ) -> Result<(), StreamError>
-    ensures whole { OnOk result (Appends (W.taken sink.old) (W.taken sink.new)
-        (slice_index_or (pieces_of replacements.now) number [])) }
-    ensures beginning { OnErr result (AppendsBeginning (W.taken sink.old) (W.taken sink.new)
-        (slice_index_or (pieces_of replacements.now) number [])) }
+    ensures written { WritesPiece W.Sink result sink.old sink.new
+        (slice_index_or (pieces_of replacements.now) number []) }
 {
     match replacements.get(number) {
         Some(replacement) => write_whole(sink, replacement),

@@ -1,28 +1,36 @@
 //! A call of the program over its arguments, files and streams.
 
-ghost use Rattle.std.specs.Prelude.{◌≡◌, ◌≤◌, ◌⊎◌, Ok, IfOk, IfSome, OnOk, None, length, true};
-ghost use Rattle.aho_core.specs.Patterns.{Patterns};
-ghost use Rattle.aho_core.specs.Replacement.{pieces_of};
-ghost use Rattle.programs.specs.Streams.{bytes_held, bytes_left, Unwritten};
-ghost use Rattle.acredact.specs.Arguments.{AsksToRedact, IfAsked, all_given, given_by, names_of, texts};
-ghost use Rattle.acredact.specs.Runs.{AreBegun, AreRedacted, BeginsToRedact, Redacts, asked_patterns, names_asked, pieces_asked, text_asked};
-ghost use Rattle.acredact.specs.Tables.{patterns_in, secrets_of};
-ghost use Rattle.acredact.specs.declared.arguments.Expects.TheVariants.{Any};
+ghost use Rattle.std.specs.Prelude.{◌≡◌, ◌≤◌, ◌⊎◌, ℕ, List, MatchBool, IfErr, IfOk, IfSome, OnOk, false, length, true};
+ghost use Rattle.std.specs.List.{All};
+ghost use Rattle.programs.specs.Arguments.{texts};
+ghost use Rattle.programs.specs.Names.{name_bytes};
+ghost use Rattle.programs.specs.Streams.{WritesBytes, bytes_left};
+ghost use Rattle.programs.specs.Telling.{Tells, TellsBytes, TellsSome};
+ghost use Rattle.acredact.specs.Arguments.{AreMistaken, AsksToRedact, GivesNoPattern, IfAsked, all_given, has};
+ghost use Rattle.acredact.specs.Calls.{BeginsCall, CallOutcome, IfLoaded, IsCountsFailure, IsCountsLine, IsLineOf, IsPrintFailure, IsRefusedLine, IsWrongFailure, IsWrongLine, OutputFails, RedactsCall, RunOutcome, TellsCounts, call_of, gives_pattern, names_asked, text_asked, work_by};
+ghost use Rattle.acredact.specs.Failures.{IsFailureLine};
+ghost use Rattle.acredact.specs.Files.{FilesOutcome, work_of};
+ghost use Rattle.acredact.specs.Secrets.{IfOf, CanRedact};
+ghost use Rattle.acredact.specs.Tables.{secrets_of};
+ghost use Rattle.acredact.specs.declared.arguments.Word.TheVariants.{Count};
 
-use crate::arguments::{Item, Mistake, Word, has, is_word, items, last_value};
+use crate::arguments::{Item, Mistake, Word, has, is_same, items, last_value};
 use crate::counts::{counts_of, tell_counts};
 use crate::failure::{Failure, tell_failure};
 use crate::files::{Job, redact_files};
 use crate::folder::Folder;
-use crate::load::rules;
+use crate::load::{Lists, rules};
 use crate::patterns::{Rule, patterns_of, replacements_of};
-use crate::rows::{build, rows_of};
+use crate::rows::build;
+use crate::streams::Streams;
 use aho_automaton::automaton::Automaton;
 use aho_core::error::StreamError;
-use aho_devices::adapters::{FromRead, FromWrite};
+use aho_devices::adapters::FromWrite;
 use aho_devices::device::Sink;
 use aho_devices::write::write_whole;
+use programs::errors::Errors;
 use programs::failure;
+use programs::rows::rows_of;
 use std::alloc::{AllocError, Global};
 use std::io::{Read, Write};
 
@@ -36,12 +44,14 @@ const HELP: &[u8] =
 Writes each FILE with a text in the place of each match of the patterns. No FILE, or -, is standard input.
 
   -e PATTERN    a pattern
-  -f FILE       a file of patterns, one on each line
+  -f FILE       a file of patterns, one on each line; - is standard input
   -t TABLE      a table: on each line a pattern, a TAB and its replacement; \\t, \\n and \\\\ stand for bytes
   -i            ASCII letters are the same in both cases
   --kind KIND   which of several matches is replaced: longest (if none is given), first or standard
   --with TEXT   the replacement of patterns that have none of their own: [redacted] if none is given
   --count       write to standard error how many matches of each pattern were replaced
+  --crlf        leave out a carriage return at the end of a line of a FILE of patterns or a TABLE
+  --allow-empty allow an empty FILE of patterns or TABLE
   --            only FILEs follow
   --help        write this and end
   --version     write the version and end
@@ -55,51 +65,68 @@ const FAILED: u8 = 2;
 
 /// Writes each file with a replacement in the place of each match, and answers the exit status: 0 where all was redacted, and 2
 /// where the arguments or the patterns are wrong, memory runs out, or a file cannot be read or the output not be written.
-pub fn run<F: Folder, I: Read, W: Write, E: Write>(
+pub fn run<F: Folder, I: Read, W: Write, E: Sink>(
     alloc: Global,
     arguments: &[String],
     folder: &F,
-    input: &mut FromRead<I>,
-    output: &mut FromWrite<W>,
-    errors: &mut FromWrite<E>,
+    streams: &mut Streams<'_, I, W, E>,
 ) -> u8
-    // Wrong arguments are found before anything is read or written.
-    ensures wrong { given_by Any (texts arguments.now) ≡ None → result ≡ 2 }
-    ensures unread { given_by Any (texts arguments.now) ≡ None → input.new ≡ input.old }
-    ensures unwritten { given_by Any (texts arguments.now) ≡ None → output.new ≡ output.old }
+    // Wrong arguments are found and told before anything is read or written.
+    ensures wrong { AreMistaken arguments.now → result ≡ 2 }
+    ensures unread { AreMistaken arguments.now
+        → streams.new.input ≡ streams.old.input }
+    ensures unwritten { AreMistaken arguments.now
+        → streams.new.output ≡ streams.old.output }
+    ensures tells_wrong { AreMistaken arguments.now → TellsSome E.Sink
+        (IsWrongLine (texts arguments.now)) streams.old.errors streams.new.errors }
+    ensures patternless { IfAsked arguments.now (λ given. GivesNoPattern given → result ≡ 2) }
 
     // Where the status is 0, the files were redacted, one after another, and no secret is left.
-    ensures redacts { IfAsked arguments.now (λ given. result ≡ 0 → Redacts (F.holds folder.now) given
-        (bytes_left input.old) (bytes_left input.new)
-        (bytes_held W.Write output.old) (bytes_held W.Write output.new)) }
+    ensures redacts { IfAsked arguments.now (λ given. result ≡ 0
+        → RedactsCall W.Write (call_of F.Folder folder.now given)
+        (bytes_left streams.old.input) streams.old streams.new) }
 
-    // Whatever the status is, nothing but beginnings of redactions was written.
-    ensures begins { IfAsked arguments.now (λ given. Unwritten output.old output.new
-        ⊎ BeginsToRedact (F.holds folder.now) given
-        (bytes_held W.Write output.old) (bytes_held W.Write output.new)) }
+    // Whatever the status is, each file's redaction was written or a beginning of it, one after another, and nothing else.
+    ensures begins { IfAsked arguments.now (λ given.
+        BeginsCall W.Write (call_of F.Folder folder.now given)
+        (bytes_left streams.old.input) streams.old streams.new) }
+
+    // Where all was redacted nothing is told but the counts that are asked for.
+    ensures quiet { IfAsked arguments.now (λ given. has Count given ≡ false → result ≡ 0
+        → streams.new.errors ≡ streams.old.errors) }
+    ensures counts { IfAsked arguments.now (λ given. has Count given ≡ true → result ≡ 0
+        → TellsCounts E.Sink streams.old.errors streams.new.errors) }
+
+    // Else lines say why, and hold nothing of a file's content or of a pattern.
+    ensures tells { IfAsked arguments.now (λ given. result ≡ 2 → TellsSome E.Sink
+        (IsLineOf (call_of F.Folder folder.now given) (OutputFails streams.old.output streams.new.output))
+        streams.old.errors streams.new.errors) }
 
     // All output was flushed where the status tells of no failure.
-    ensures flushed { result ≡ 0 → output.new.device.flushed ≡ true }
-    ensures bound { result ≤ 2 }
+    ensures flushed { result ≡ 0 → streams.new.output.device.flushed ≡ true }
+    ensures bound { (result ≡ 0) ⊎ (result ≡ 2) }
 {
-    match answer(alloc, arguments, folder, input, output, errors) {
+    match answer(alloc, arguments, folder, streams) {
         Ok(true) => 0,
         Ok(false) => FAILED,
-        Err(failure) => report(&failure, errors),
+        Err(failure) => report(&failure, &mut streams.errors),
     }
 }
 
-/// Writes why a call ends early as a line, and answers the exit status, whether that could be written or not.
-fn report<E: Write>(failure: &Failure<'_>, errors: &mut FromWrite<E>) -> u8
+/// Tells as a line why a call ends early, and answers the exit status, whether that could be written or not.
+fn report<E: Sink>(failure: &Failure<'_>, errors: &mut Errors<'_, E>) -> u8
     ensures failed { result ≡ 2 }
+    ensures told { (line : List ℕ) × IsFailureLine failure.now line
+        × TellsBytes E.Sink errors.old errors.new line }
 {
-    let _ = tell_failure(errors, failure);
+    tell_failure(errors, failure);
     FAILED
 }
 
 /// Tells why there are no arguments, or no memory to begin with, and answers the exit status.
-pub fn refuse<E: Write>(failure: failure::Failure, errors: &mut FromWrite<E>) -> u8
+pub fn refuse<E: Sink>(failure: failure::Failure, errors: &mut Errors<'_, E>) -> u8
     ensures failed { result ≡ 2 }
+    ensures told { TellsSome E.Sink (IsRefusedLine failure) errors.old errors.new }
 {
     match failure {
         failure::Failure::Usage => report(&Failure::NotText, errors),
@@ -108,76 +135,148 @@ pub fn refuse<E: Write>(failure: failure::Failure, errors: &mut FromWrite<E>) ->
 }
 
 /// Does what the arguments ask for, and answers whether all files were read.
-fn answer<'a, F: Folder, I: Read, W: Write, E: Write>(
+fn answer<'a, F: Folder, I: Read, W: Write, E: Sink>(
     alloc: Global,
     arguments: &'a [String],
     folder: &F,
-    input: &mut FromRead<I>,
-    output: &mut FromWrite<W>,
-    errors: &mut FromWrite<E>,
+    streams: &mut Streams<'_, I, W, E>,
 ) -> Result<bool, Failure<'a>>
-    ensures wrong { given_by Any (texts arguments.entry.now) ≡ None → OnOk result ⊥ }
-    ensures unread { given_by Any (texts arguments.entry.now) ≡ None → input.new ≡ input.old }
-    ensures unwritten { given_by Any (texts arguments.entry.now) ≡ None → output.new ≡ output.old }
-    ensures redacts { IfAsked arguments.entry.now (λ given. result ≡ Ok true
-        → Redacts (F.holds folder.now) given (bytes_left input.old) (bytes_left input.new)
-        (bytes_held W.Write output.old) (bytes_held W.Write output.new)) }
-    ensures begins { IfAsked arguments.entry.now (λ given. Unwritten output.old output.new
-        ⊎ BeginsToRedact (F.holds folder.now) given
-        (bytes_held W.Write output.old) (bytes_held W.Write output.new)) }
-    ensures flushed { OnOk result (output.new.device.flushed ≡ true) }
+    ensures wrong { AreMistaken arguments.entry.now
+        → OnOk result ⊥ × (streams.new ≡ streams.old) }
+    ensures mistake { AreMistaken arguments.entry.now
+        → IfErr result (IsWrongFailure (texts arguments.entry.now)) }
+    ensures patternless { IfAsked arguments.entry.now (λ given. GivesNoPattern given → OnOk result ⊥) }
+    ensures outcome { IfAsked arguments.entry.now (λ given. CallOutcome W.Write E.Sink
+        (call_of F.Folder folder.now given) (bytes_left streams.old.input)
+        result streams.old streams.new) }
+    ensures flushed { OnOk result (streams.new.output.device.flushed ≡ true) }
 {
     let given = items(alloc, arguments)?;
-    answer_items(alloc, given.as_slice(), folder, input, output, errors)
+    answer_items(alloc, given.as_slice(), folder, streams)
 }
 
 /// Does what the options and files ask for, and answers whether all files were read.
-fn answer_items<'a, F: Folder, I: Read, W: Write, E: Write>(
+fn answer_items<'a, F: Folder, I: Read, W: Write, E: Sink>(
     alloc: Global,
     given: &[Item<'a>],
     folder: &F,
-    input: &mut FromRead<I>,
-    output: &mut FromWrite<W>,
-    errors: &mut FromWrite<E>,
+    streams: &mut Streams<'_, I, W, E>,
 ) -> Result<bool, Failure<'a>>
-    ensures redacts { AsksToRedact (all_given given.now) → result ≡ Ok true
-        → Redacts (F.holds folder.now) (all_given given.now) (bytes_left input.old) (bytes_left input.new)
-        (bytes_held W.Write output.old) (bytes_held W.Write output.new) }
-    ensures begins { AsksToRedact (all_given given.now) → Unwritten output.old output.new
-        ⊎ BeginsToRedact (F.holds folder.now) (all_given given.now)
-        (bytes_held W.Write output.old) (bytes_held W.Write output.new) }
-    ensures flushed { OnOk result (output.new.device.flushed ≡ true) }
+    ensures patternless { AsksToRedact (all_given given.now)
+        → GivesNoPattern (all_given given.now) → OnOk result ⊥ }
+    ensures outcome { AsksToRedact (all_given given.now) → CallOutcome W.Write E.Sink
+        (call_of F.Folder folder.now (all_given given.now)) (bytes_left streams.old.input)
+        result streams.old streams.new }
+    ensures flushed { OnOk result (streams.new.output.device.flushed ≡ true) }
 {
     if has(given, Word::Help) {
-        return print(output, HELP);
+        return print(&mut streams.output, HELP);
     }
     if has(given, Word::Version) {
-        return print(output, VERSION);
+        return print(&mut streams.output, VERSION);
     }
-    if !has(given, Word::Pattern) && !has(given, Word::Patterns) && !has(given, Word::Table) {
+    if !gives_pattern(given) {
         return Err(Failure::Arguments(Mistake::NoPattern));
     }
-    match rules(alloc, folder, given) {
-        Ok(rules) => redact_all(
+    load(alloc, given, folder, streams)
+}
+
+/// Whether an option gives patterns.
+fn gives_pattern(given: &[Item<'_>]) -> bool
+    ensures gives { result ≡ gives_pattern (all_given given.now) }
+{
+    has(given, Word::Pattern) || has(given, Word::Patterns) || has(given, Word::Table)
+}
+
+/// Writes a text whole, and answers that nothing was left out.
+fn print<'a, W: Write>(output: &mut FromWrite<W>, text: &[u8]) -> Result<bool, Failure<'a>>
+    ensures printed { OnOk result (WritesBytes W.Write output.old output.new text.now) }
+    ensures all { IfOk result (λ all. all ≡ true) }
+    ensures flushed { OnOk result (output.new.device.flushed ≡ true) }
+    ensures fails { IfErr result (IsPrintFailure (OutputFails output.old output.new)) }
+{
+    write_whole(output, text)?;
+    output.flush()?;
+    Ok(true)
+}
+
+/// Loads all patterns, redacts all files by them, and answers whether all were read.
+fn load<'a, F: Folder, I: Read, W: Write, E: Sink>(
+    alloc: Global,
+    given: &[Item<'a>],
+    folder: &F,
+    streams: &mut Streams<'_, I, W, E>,
+) -> Result<bool, Failure<'a>>
+    ensures outcome { CallOutcome W.Write E.Sink
+        (call_of F.Folder folder.now (all_given given.now)) (bytes_left streams.old.input)
+        result streams.old streams.new }
+    ensures flushed { OnOk result (streams.new.output.device.flushed ≡ true) }
+{
+    let lists = Lists {
+        alloc,
+        folder,
+        crlf: has(given, Word::Crlf),
+        allow_empty: has(given, Word::AllowEmpty),
+    };
+    match rules(&lists, given, &mut streams.input) {
+        Ok(rules) => redact_counted(alloc, given, rules.as_slice(), folder, streams),
+        Err(failure) => Err(failure),
+    }
+}
+
+/// Redacts all files by these rules, tells the counts where they are asked for, and answers whether all files were read.
+fn redact_counted<'a, F: Folder, I: Read, W: Write, E: Sink>(
+    alloc: Global,
+    given: &[Item<'_>],
+    rules: &[Rule],
+    folder: &F,
+    streams: &mut Streams<'_, I, W, E>,
+) -> Result<bool, Failure<'a>>
+    requires some { All (λ secret. 1 ≤ length secret.pattern) (secrets_of rules.now) }
+    ensures outcome { IfLoaded (call_of F.Folder folder.now (all_given given.now))
+        (secrets_of rules.now) (bytes_left streams.old.input) (λ left. CallOutcome W.Write E.Sink
+        (call_of F.Folder folder.now (all_given given.now)) left result streams.old streams.new) }
+    ensures flushed { OnOk result (streams.new.output.device.flushed ≡ true) }
+{
+    let counted = has(given, Word::Count);
+    let mut counts = counts_of(alloc, rules, counted)?;
+    // Not by `?`: this error may hold names.
+    match redact_all(alloc, given, rules, folder, counts.as_mut_slice(), streams) {
+        Ok(all) => tell_counted(
             alloc,
-            given,
-            rules.as_slice(),
-            folder,
-            input,
-            output,
-            errors,
+            all,
+            counted,
+            rules,
+            counts.as_slice(),
+            &mut streams.errors,
         ),
         Err(failure) => Err(failure),
     }
 }
 
-/// Writes a text whole, and answers that nothing was left out.
-fn print<'a, W: Write>(output: &mut FromWrite<W>, text: &[u8]) -> Result<bool, Failure<'a>>
-    ensures flushed { OnOk result (output.new.device.flushed ≡ true) }
+/// Tells the counts, where they are asked for, and answers whether all files were read.
+fn tell_counted<'a, E: Sink>(
+    alloc: Global,
+    all: bool,
+    counted: bool,
+    rules: &[Rule],
+    counts: &[u64],
+    errors: &mut Errors<'_, E>,
+) -> Result<bool, Failure<'a>>
+    ensures all { IfOk result (λ done. done ≡ all) }
+    ensures told { OnOk result (MatchBool counted (TellsCounts E.Sink errors.old errors.new)
+        (errors.new ≡ errors.old)) }
+    ensures lines { Tells E.Sink (IsCountsLine counted) errors.old errors.new }
+    ensures fails { IfErr result (IsCountsFailure counted) }
 {
-    write_whole(output, text)?;
-    output.flush()?;
-    Ok(true)
+    if !counted {
+        return Ok(all);
+    }
+    tell_counts(alloc, errors, rules, counts)?;
+    if errors.has_failed() {
+        return Err(Failure::Counts);
+    }
+    Ok(all)
 }
 
 /// What is written for a pattern that has no replacement of its own.
@@ -191,152 +290,64 @@ fn text_of<'a>(given: &[Item<'a>]) -> &'a [u8]
 }
 
 /// Redacts all files by these rules, and answers whether all were read.
-fn redact_all<'a, F: Folder, I: Read, W: Write, E: Write>(
+fn redact_all<'a, F: Folder, I: Read, W: Write, E: Sink>(
     alloc: Global,
     given: &[Item<'_>],
     rules: &[Rule],
     folder: &F,
-    input: &mut FromRead<I>,
-    output: &mut FromWrite<W>,
-    errors: &mut FromWrite<E>,
+    counts: &mut [u64],
+    streams: &mut Streams<'_, I, W, E>,
 ) -> Result<bool, Failure<'a>>
-    ensures redacted { result ≡ Ok true
-        → AreRedacted (F.holds folder.now)
-        (asked_patterns (all_given given.now) (patterns_in (secrets_of rules.now)))
-        (pieces_asked (all_given given.now) (secrets_of rules.now)) (names_asked (all_given given.now))
-        (bytes_left input.old) (bytes_left input.new)
-        (bytes_held W.Write output.old) (bytes_held W.Write output.new) }
-    ensures begins { Unwritten output.old output.new
-        ⊎ AreBegun (asked_patterns (all_given given.now) (patterns_in (secrets_of rules.now)))
-        (pieces_asked (all_given given.now) (secrets_of rules.now))
-        (bytes_held W.Write output.old) (bytes_held W.Write output.new) }
-    ensures flushed { OnOk result (output.new.device.flushed ≡ true) }
+    requires some { All (λ secret. 1 ≤ length secret.pattern) (secrets_of rules.now) }
+    ensures outcome { RunOutcome W.Write E.Sink
+        (work_by (call_of F.Folder folder.now (all_given given.now)) (secrets_of rules.now))
+        result streams.old streams.new }
+    ensures flushed { OnOk result (streams.new.output.device.flushed ≡ true) }
 {
     let patterns = patterns_of(alloc, rules)?;
     let replacements = replacements_of(alloc, rules, text_of(given))?;
-    let ignore_case = has(given, Word::IgnoreCase);
-    let counted = has(given, Word::Count);
-    let mut counts = counts_of(alloc, rules, counted)?;
-    let files = files(alloc, given)?;
+    let names = names(alloc, given)?;
     let words = patterns.as_slice();
-    let pieces = replacements.as_slice();
-    let names = files.as_slice();
     let nfa = build(alloc, given, words)?;
-    let rows = rows_of(alloc, &nfa, ignore_case, words)?;
-    let all = redact_by(
+    let rows = rows_of(alloc, &nfa, has(given, Word::IgnoreCase), words)?;
+    let job = Job {
         alloc,
-        &nfa,
-        rows.as_ref(),
-        pieces,
-        names,
         folder,
-        counted,
-        counts.as_mut_slice(),
-        input,
-        output,
-        errors,
-    )?;
-    tell_counts(errors, rules, counts.as_slice());
-    Ok(all)
+        names: names.as_slice(),
+        replacements: replacements.as_slice(),
+        counted: has(given, Word::Count),
+    };
+    Ok(redact_by(&nfa, rows.as_ref(), &job, counts, streams)?)
 }
 
 /// Redacts all files by the automaton with rows, if there is one.
-fn redact_by<A: Automaton, B: Automaton, F: Folder, I: Read, W: Write, E: Write>(
-    alloc: Global,
+fn redact_by<A: Automaton, B: Automaton, F: Folder, I: Read, W: Write, E: Sink>(
     automaton: &A,
     rows: Option<&B>,
-    replacements: &[&[u8]],
-    files: &[&str],
-    folder: &F,
-    counted: bool,
+    job: &Job<'_, '_, F>,
     counts: &mut [u64],
-    input: &mut FromRead<I>,
-    output: &mut FromWrite<W>,
-    errors: &mut FromWrite<E>,
+    streams: &mut Streams<'_, I, W, E>,
 ) -> Result<bool, StreamError>
-    requires of { (p : Patterns) × A.is_of automaton.now p × (length replacements.now ≡ length p.words)
-        × IfSome rows (λ rows. B.is_of rows.now p) }
-    ensures redacted { (p : Patterns) → A.is_of automaton.now p
-        → IfSome rows.entry (λ rows. B.is_of rows.now p)
-        → result ≡ Ok true → AreRedacted (F.holds folder.now) p (pieces_of replacements.now)
-        (names_of files.now) (bytes_left input.old) (bytes_left input.new)
-        (bytes_held W.Write output.old) (bytes_held W.Write output.new) }
-    ensures begun { (p : Patterns) → A.is_of automaton.now p
-        → IfSome rows.entry (λ rows. B.is_of rows.now p)
-        → AreBegun p (pieces_of replacements.now)
-        (bytes_held W.Write output.old) (bytes_held W.Write output.new) }
-    ensures flushed { OnOk result (output.new.device.flushed ≡ true) }
+    requires ready { CanRedact A.Automaton automaton.now (length job.now.replacements.now) }
+    requires rows { IfSome rows (λ rows. CanRedact B.Automaton rows.now (length job.now.replacements.now)) }
+    ensures outcome { IfOf A.Automaton automaton.now (λ p. IfSome rows.entry (λ rows. B.is_of rows.now p)
+        → FilesOutcome W.Write E.Sink (work_of F.Folder job.now p) result streams.old streams.new) }
+    ensures flushed { OnOk result (streams.new.output.device.flushed ≡ true) }
 {
     match rows {
-        Some(automaton) => redact_with(
-            alloc,
-            automaton,
-            replacements,
-            files,
-            folder,
-            counted,
-            counts,
-            input,
-            output,
-            errors,
-        ),
-        None => redact_with(
-            alloc,
-            automaton,
-            replacements,
-            files,
-            folder,
-            counted,
-            counts,
-            input,
-            output,
-            errors,
-        ),
+        Some(automaton) => redact_files(automaton, job, counts, streams),
+        None => redact_files(automaton, job, counts, streams),
     }
 }
 
-/// Redacts all files by an automaton, and flushes.
-fn redact_with<A: Automaton, F: Folder, I: Read, W: Write, E: Write>(
-    alloc: Global,
-    automaton: &A,
-    replacements: &[&[u8]],
-    files: &[&str],
-    folder: &F,
-    counted: bool,
-    counts: &mut [u64],
-    input: &mut FromRead<I>,
-    output: &mut FromWrite<W>,
-    errors: &mut FromWrite<E>,
-) -> Result<bool, StreamError>
-    requires of { (p : Patterns) × A.is_of automaton.now p × (length replacements.now ≡ length p.words) }
-    ensures redacted { (p : Patterns) → A.is_of automaton.now p
-        → result ≡ Ok true → AreRedacted (F.holds folder.now) p (pieces_of replacements.now)
-        (names_of files.now) (bytes_left input.old) (bytes_left input.new)
-        (bytes_held W.Write output.old) (bytes_held W.Write output.new) }
-    ensures begun { (p : Patterns) → A.is_of automaton.now p
-        → AreBegun p (pieces_of replacements.now)
-        (bytes_held W.Write output.old) (bytes_held W.Write output.new) }
-    ensures flushed { OnOk result (output.new.device.flushed ≡ true) }
-{
-    let job = Job {
-        alloc,
-        automaton,
-        replacements,
-        counted,
-    };
-    let all = redact_files(&job, files, folder, counts, input, output, errors)?;
-    output.flush()?;
-    Ok(all)
-}
-
 /// The names of the files that are read: standard input where none is given.
-fn files<'a>(alloc: Global, given: &[Item<'a>]) -> Result<Vec<&'a str>, AllocError>
-    ensures names { IfOk result (λ files. names_of files.items ≡ names_asked (all_given given.now)) }
+fn names<'a>(alloc: Global, given: &[Item<'a>]) -> Result<Vec<&'a str>, AllocError>
+    ensures names { IfOk result (λ files. name_bytes files.items ≡ names_asked (all_given given.now)) }
 {
     let mut files = Vec::new(alloc);
     let mut rest = given;
     while !rest.is_empty() {
-        if is_word(Word::File, rest[0].word) {
+        if is_same(Word::File, rest[0].word) {
             files.push(rest[0].value)?;
         }
         rest = &rest[1..];

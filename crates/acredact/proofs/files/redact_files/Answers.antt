@@ -1,25 +1,24 @@
--- A file more is redacted, and begun.
-use Rattle.std.proofs.Common.{rules, ◌≡◌, ◌≤◌, ◌∙◌, Ok, ap, length, refl}
-use Rattle.acredact.proofs.Redactions.{begun_both, begun_none, both_so, file_next, names_none, redacted_none, same_in_ok}
+-- A flush keeps what was written.
+use Rattle.std.proofs.Common.{rules, ◌≡◌, sym, subst}
+use Rattle.std.specs.Prelude.{Bool, Result, Ok, Err}
+use Rattle.aho_core.specs.declared.error.stream.StreamError.{StreamError}
+use Rattle.acredact.specs.Files.{FilesOutcome, work_of}
+use Rattle.acredact.proofs.Done.{flush_done, flush_fails}
 use Rattle.acredact.proofs.files.redact_files.Goals as goal
 
-pub loop-rest-init : goal.loop-rest-init
-loop-rest-init g c = (λ p of all left held redacted. redacted, λ p of. begun_none p _ _)
+pub returns-in_err-all-clause-outcome : goal.returns-in_err-all-clause-outcome
+returns-in_err-all-clause-outcome g c =
+    let is : c.from_residual.result ≡ Err c.in_err-all.field-0.0 = search rules in λ p of.
+    subst (λ (r : Result Bool StreamError). FilesOutcome g.W.Write g.E.Sink (work_of g.F.Folder c.args.job.now p) r c.args.streams.now c.redact_each.new.streams) (sym is) (c.in_err-all.ensures.outcome p of)
 
-pub loop-rest-preserved : goal.loop-rest-preserved
-loop-rest-preserved g c =
-    let some : 1 ≤ length c.loop-rest.rest.now = search rules in (
-      λ p of all left held others.
-          let both = both_so c.loop-rest.all c.in_ok-read.read c.both-all.result c.both-all.ensures.both all in
-          c.loop-rest.invariant.0 p of both.0 left held
-          (file_next p _ _ c.loop-rest.rest.now _ some _ _ _ _ _ _ (c.redact_told.ensures.redacted p of (c.in_ok-read.was ∙ ap Ok both.1)) others),
-      λ p of. begun_both p _ _ _ _ (c.loop-rest.invariant.1 p of) (c.redact_told.ensures.begun p of),
-    )
+pub returns-in_err-flush-clause-outcome : goal.returns-in_err-flush-clause-outcome
+returns-in_err-flush-clause-outcome g c =
+    let is : c.from_residual-in_err-flush.result ≡ Err c.in_err-flush.field-0.0 = search rules in λ p of.
+    subst (λ (r : Result Bool StreamError). FilesOutcome g.W.Write g.E.Sink (work_of g.F.Folder c.args.job.now p) r c.args.streams.now (record c.redact_each.new.streams { output = c.flush.new.self })) (sym is)
+    (flush_fails g.W.Write g.E.Sink (work_of g.F.Folder c.args.job.now p) _ _ _ _ _ (c.in_ok-all.ensures.outcome p of)
+    c.in_err-flush.ensures.kept c.in_err-flush.ensures.failures c.in_err-flush.ensures.empty_writes c.in_err-flush.ensures.only)
 
-pub returns-in_err-read-clause-begun : goal.returns-in_err-read-clause-begun
-returns-in_err-read-clause-begun g c p of = begun_both p _ _ _ _ (c.loop-rest.invariant.1 p of) (c.redact_told.ensures.begun p of)
-
-pub returns-clause-redacted : goal.returns-clause-redacted
-returns-clause-redacted g c p of is =
-    let none : length c.loop-rest.rest.now ≡ 0 = search rules in
-    c.loop-rest.invariant.0 p of (same_in_ok _ _ _ refl is) _ _ (redacted_none p _ _ _ _ _ (names_none c.loop-rest.rest.now none))
+pub returns-clause-outcome : goal.returns-clause-outcome
+returns-clause-outcome g c = λ p of.
+    flush_done g.W.Write g.E.Sink (work_of g.F.Folder c.args.job.now p) _ _ _ _ (c.in_ok-all.ensures.outcome p of)
+    c.in_ok-flush.ensures.kept c.in_ok-flush.ensures.failures c.in_ok-flush.ensures.empty_writes

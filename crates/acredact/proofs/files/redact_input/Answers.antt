@@ -1,12 +1,30 @@
 -- The input is read to its end.
-use Rattle.std.proofs.Common.{◌≢◌, ap}
-use Rattle.acredact.proofs.Redactions.{at_end, begun_one, text_of}
+use Rattle.std.proofs.Common.{◌≡◌, ◌≢◌, ap, sym, subst, ◌∙◌, Option}
+use Rattle.std.specs.Prelude.{Bool, Result}
+use Rattle.std.proofs.lemmas.Result.{on_ok_weaker}
+use Rattle.aho_core.specs.declared.error.stream.StreamError.{StreamError}
+use Rattle.aho_devices.specs.Counts.{counted}
+use Rattle.programs.specs.Streams.{bytes_left}
+use Rattle.programs.proofs.Ends.{at_end}
+use Rattle.programs.specs.declared.reason.Reason.{Reason}
+use Rattle.acredact.specs.Faults.{is_unread}
+use Rattle.acredact.specs.Files.{TextOutcome, redactor_of}
+use Rattle.acredact.proofs.OneFile.{begins_of, outcome_by, reading_unread, text_of}
 use Rattle.acredact.proofs.files.redact_input.Goals as goal
 
-pub returns-clause-redacted : goal.returns-clause-redacted
-returns-clause-redacted g c p of is =
-    text_of (c.redact_stream.ensures.redacted p of is) (ap (λ device. g.I.Read.remaining device.reader) c.restart.ensures.device) c.restart.ensures.empty_reads
-    (λ (some : c.redact_stream.new.source.empty_reads ≢ 0). at_end _ (λ bytes known. c.redact_stream.new.source.ended bytes some known))
+pub returns-clause-outcome : goal.returns-clause-outcome
+returns-clause-outcome g c = λ p of.
+    let stream = c.redact_stream.ensures.outcome p of in
+    let left = ap (λ device. g.I.Read.remaining device.reader) c.restart.ensures.device in
+    let none = c.restart.ensures.empty_reads in
+    let ends = λ (some : c.redact_stream.new.source.empty_reads ≢ 0). at_end _ (λ bytes known. c.redact_stream.new.source.ended bytes some known) in
+    subst (λ (e : Result (Option Reason) StreamError). TextOutcome g.W.Write (redactor_of c.args.job.now p) e (bytes_left c.args.input.now) (bytes_left c.redact_stream.new.source) c.args.output.now c.redact_stream.new.sink) (sym c.reading_of.ensures.reading)
+    (outcome_by g.W.Write _ c.redact_stream.result _ _ c.args.output.now c.redact_stream.new.sink
+    (on_ok_weaker c.redact_stream.result (λ whole. text_of _ _ _ _ _ _ _ _ left none ends whole) stream.redacted)
+    (begins_of _ _ _ _ _ _ _ _ left none ends stream.begun) stream.write_failed stream.took_nothing stream.only)
 
-pub returns-clause-begun : goal.returns-clause-begun
-returns-clause-begun g c p of = begun_one p _ (c.redact_stream.ensures.begun p of)
+pub returns-clause-failed : goal.returns-clause-failed
+returns-clause-failed g c =
+    let stream = c.redact_stream.ensures.outcome c.requires.ready.patterns c.requires.ready.of in
+    stream.read_failed ∙ ap (counted _) c.restart.ensures.failures
+    ∙ ap (λ (b : Bool). counted b c.args.input.now.failures) (reading_unread c.redact_stream.result ∙ ap is_unread (sym c.reading_of.ensures.reading))

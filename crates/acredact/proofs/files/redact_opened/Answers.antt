@@ -1,7 +1,14 @@
 -- The reader is read to its end.
-use Rattle.std.proofs.Common.{ap}
-use Rattle.acredact.proofs.Redactions.{known_of}
+use Rattle.std.proofs.Common.{Option, List, ℕ, ap, subst}
+use Rattle.programs.specs.Streams.{bytes_left}
+use Rattle.acredact.specs.Files.{TextOutcome, redactor_of}
 use Rattle.acredact.proofs.files.redact_opened.Goals as goal
 
-pub returns-clause-redacted : goal.returns-clause-redacted
-returns-clause-redacted g c p of is = known_of _ (ap g.I.Read.remaining c.new-source.ensures.reader) (c.redact_input.ensures.redacted p of is)
+pub returns : goal.returns
+returns g c = record {
+  outcome = λ p of. (
+    bytes_left c.redact_input.new.input,
+    subst (λ (left : Option (List ℕ)). TextOutcome g.W.Write (redactor_of c.args.job.now p) c.redact_input.result left (bytes_left c.redact_input.new.input) c.args.output.now c.redact_input.new.output)
+        (ap g.I.Read.remaining c.new-source.ensures.reader) (c.redact_input.ensures.outcome p of),
+  );
+}

@@ -1,12 +1,14 @@
 -- What the options so far gave is loaded.
 use Rattle.std.proofs.Common.{length}
+use Rattle.programs.specs.Streams.{bytes_left}
 use Rattle.acredact.specs.Arguments.{all_given}
+use Rattle.acredact.specs.Loading.{reading_of_lists}
 use Rattle.acredact.specs.Tables.{secrets_of}
-use Rattle.acredact.proofs.Loaded.{AreGivenWith}
+use Rattle.acredact.proofs.Loaded.{GivenSoFar}
 use Rattle.acredact.proofs.load.rules.Given as goal
 
 abbrev pub invariant-loop-rest : goal.invariant-loop-rest
-invariant-loop-rest g l = AreGivenWith (g.F.Folder.holds l.fn.folder) (all_given l.fn.items) (all_given l.rest) (secrets_of l.rules.items)
+invariant-loop-rest g l = GivenSoFar (reading_of_lists g.F.Folder l.fn.lists) (all_given l.fn.items) (bytes_left l.initial.input) (all_given l.rest) (secrets_of l.rules.items) (bytes_left l.input)
 
 abbrev pub decreases-loop-rest : goal.decreases-loop-rest
 decreases-loop-rest g l = length l.rest

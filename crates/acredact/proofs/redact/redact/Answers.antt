@@ -1,10 +1,12 @@
--- What is written is the replacement of the finds, and none is left.
-use Rattle.acredact.proofs.Redactions.{begun_of, redacted_of}
+-- What is written is the redaction, and why it ends early is told.
+use Rattle.acredact.specs.Secrets.{redactor_by}
+use Rattle.acredact.proofs.Redactions.{outcome_of}
 use Rattle.acredact.proofs.redact.redact.Goals as goal
 
-pub returns-clause-redacted : goal.returns-clause-redacted
-returns-clause-redacted g c p of =
-    redacted_of _ _ _ _ p of _ _ _ _ _ c.try_stream_replace_all.result (g.met.A.Automaton.laws _ _ of).lengths_are c.try_stream_replace_all.ensures.empty c.try_stream_replace_all.ensures.replaced
-
-pub returns-clause-begun : goal.returns-clause-begun
-returns-clause-begun g c p of = begun_of _ _ _ _ p of _ _ _ _ _ c.try_stream_replace_all.result c.try_stream_replace_all.ensures.replaced c.try_stream_replace_all.ensures.begun
+pub returns : goal.returns
+returns g c = record {
+  outcome = λ p of.
+      let call = c.try_stream_replace_all in
+      outcome_of g.A.Automaton g.R.Source g.W.Sink c.args.automaton.now (redactor_by p c.args.replacements.now) of (g.met.A.Automaton.laws _ _ of).lengths_are c.requires.ready.begins
+      _ _ _ _ call.result call.ensures.replaced call.ensures.begun call.ensures.read_failed call.ensures.write_failed call.ensures.took_nothing call.ensures.limit call.ensures.suits;
+}

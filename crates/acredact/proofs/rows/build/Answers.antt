@@ -1,5 +1,5 @@
 -- The patterns that were passed are those of the slice.
-use Rattle.std.proofs.Common.{◌≡◌, ◌∙◌, sym, subst, ap, List, ℕ}
+use Rattle.std.proofs.Common.{rules, ◌≡◌, ◌∙◌, sym, subst, ap, List, ℕ}
 use Rattle.std.proofs.lemmas.Iterator.{items_from_drains, YieldsList-from_slice}
 use Rattle.std.proofs.lemmas.Iterator.Consumers.{YieldsList-from_copied}
 use Rattle.std.proofs.lemmas.List.{map-id}
@@ -22,4 +22,5 @@ returns c =
           subst (λ (s : Settings). ghosts.is_of nfa (made s (pieces_of c.args.patterns.now))) c.builder_of.ensures.settings
           (subst (λ ws. ghosts.is_of nfa (made c.builder_of.result ws)) patterns built.2))
           c.build.ensures.built;
+      starts = search rules;
     }

@@ -1,20 +1,22 @@
--- The items are those that are asked for.
-use Rattle.std.proofs.Common.{ap, sym, subst, List, ◌∙◌}
-use Rattle.programs.specs.Streams.{bytes_held, bytes_left, Unwritten}
-use Rattle.std.specs.Prelude.{◌⊎◌}
-use Rattle.acredact.proofs.Loaded.{same_given}
-use Rattle.acredact.specs.Arguments.{AsksToRedact, Given, all_given}
-use Rattle.acredact.specs.Runs.{BeginsToRedact, Redacts}
+-- Where arguments are right only memory is wanted.
+use Rattle.std.proofs.Common.{rules, ◌≡◌, inl, inr, ap, sym, subst}
+use Rattle.std.specs.Prelude.{Bool, Err, Result}
+use Rattle.programs.specs.Arguments.{texts}
+use Rattle.programs.specs.Streams.{bytes_left}
+use Rattle.acredact.specs.Calls.{CallOutcome, call_of}
+use Rattle.acredact.specs.declared.arguments.Expects.TheVariants.{Any}
+use Rattle.acredact.specs.declared.failure.Failure.{Failure}
+use Rattle.acredact.specs.declared.failure.Failure.TheVariants.{Arguments}
+use Rattle.acredact.proofs.Calls.{call_refused}
+use Rattle.acredact.proofs.Given.{never_wrong}
 use Rattle.acredact.proofs.run.answer.Goals as goal
 
-pub returns-clause-redacts : goal.returns-clause-redacts
-returns-clause-redacts g c given is asks done =
-    let same = ap all_given c.as_slice.ensures.value ∙ same_given _ given _ is c.in_ok-given.ensures.given in
-    subst (λ (items : List Given). Redacts (g.F.Folder.holds c.args.folder.now) items (bytes_left c.args.input.now) (bytes_left c.answer_items.new.input) (bytes_held g.W.Write c.args.output.now) (bytes_held g.W.Write c.answer_items.new.output))
-    same (c.answer_items.ensures.redacts (subst AsksToRedact (sym same) asks) done)
-
-pub returns-clause-begins : goal.returns-clause-begins
-returns-clause-begins g c given is asks =
-    let same = ap all_given c.as_slice.ensures.value ∙ same_given _ given _ is c.in_ok-given.ensures.given in
-    subst (λ (items : List Given). Unwritten c.args.output.now c.answer_items.new.output ⊎ BeginsToRedact (g.F.Folder.holds c.args.folder.now) items (bytes_held g.W.Write c.args.output.now) (bytes_held g.W.Write c.answer_items.new.output))
-    same (c.answer_items.ensures.begins (subst AsksToRedact (sym same) asks))
+pub returns-in_err-given-clause-outcome : goal.returns-in_err-given-clause-outcome
+returns-in_err-given-clause-outcome g c = λ given right asks.
+    let is : c.from_residual.result ≡ Err (Arguments c.in_err-given.field-0.0) = search rules in
+    subst (λ (r : Result Bool Failure). CallOutcome g.W.Write g.E.Sink (call_of g.F.Folder c.args.folder.now given) (bytes_left c.args.streams.now.input) r c.args.streams.now c.args.streams.now) (sym is)
+    (call_refused g.W.Write g.E.Sink (call_of g.F.Folder c.args.folder.now given) (bytes_left c.args.streams.now.input) c.args.streams.now.input c.args.streams.now (Arguments c.in_err-given.field-0.0)
+    (inl (inl (elim c.in_err-given.ensures.wrong [
+      | inl memory ↦ ap Arguments memory
+      | inr wrong ↦ absurd (never_wrong Any (texts c.args.arguments.now) given _ right wrong)
+    ]))))

@@ -1,15 +1,30 @@
 -- Both automata are of the patterns that are asked for, and there is a replacement for each.
-use Rattle.std.proofs.Common.{◌≡◌, ◌∙◌, ap, sym, subst, length, map, List, ℕ, Ok, inr, refl}
-use Rattle.std.specs.Prelude.{IfSome}
+use Rattle.std.proofs.Common.{rules, ◌≡◌, ◌≤◌, ◌∙◌, ap, sym, subst, length, map, List, ℕ, refl}
+use Rattle.std.specs.Prelude.{Bool, IfSome, IsOk, None, Ok, Option, Some, Err, Result}
+use Rattle.std.specs.Borrow.{Bor}
 use Rattle.std.proofs.lemmas.List.{length-map}
+use Rattle.aho_core.specs.Laws.{shortest}
+use Rattle.aho_core.specs.Patterns.{Patterns}
+use Rattle.aho_core.specs.declared.search.Anchored.TheVariants.{No}
 use Rattle.aho_core.specs.Replacement.{pieces_of}
 use Rattle.aho_corasick.specs.contracts.noncontiguous.NFAAutomaton.TheImpl.{ghosts as NFAGhosts}
 use Rattle.aho_hybrid.specs.contracts.hybrid.HybridAutomaton.TheImpl.{ghosts as HybridGhosts}
-use Rattle.acredact.specs.Arguments.{all_given, names_of}
-use Rattle.acredact.specs.Runs.{asked_patterns, names_asked, pieces_asked}
+use Rattle.aho_corasick.specs.contracts.noncontiguous.NFAAutomaton.TheImpl.Laws.{laws-law as nfa-laws}
+use Rattle.aho_hybrid.specs.contracts.hybrid.HybridAutomaton.TheImpl.Laws.{laws-law as rows-laws}
+use Rattle.aho_hybrid.specs.declared.hybrid.Hybrid.{Hybrid}
+use Rattle.programs.specs.Failures.{failure_of_stream}
+use Rattle.programs.specs.Names.{name_bytes}
+use Rattle.acredact.specs.Arguments.{all_given}
+use Rattle.acredact.specs.Builds.{patterns_by_given}
+use Rattle.acredact.specs.Calls.{RunOutcome, call_of, names_asked, pieces_asked, work_by}
+use Rattle.acredact.specs.Files.{FilesOutcome}
+use Rattle.acredact.specs.Secrets.{CanRedact}
 use Rattle.acredact.specs.Tables.{patterns_in, piece_by, secrets_of}
-use Rattle.acredact.proofs.Loaded.{lent}
-use Rattle.acredact.proofs.Redactions.{begun_as, redacted_as, same_in_ok}
+use Rattle.acredact.specs.declared.failure.Failure.{Failure}
+use Rattle.acredact.specs.declared.failure.Failure.TheVariants.{Other}
+use Rattle.programs.proofs.Lent.{lent}
+use Rattle.acredact.proofs.Ready.{ready_of, some_shortest}
+use Rattle.acredact.proofs.Calls.{run_done, run_fails, run_memory, run_refused, work_as}
 use Rattle.acredact.proofs.run.redact_all.Goals.{After-as_ref}
 use Rattle.acredact.proofs.run.redact_all.Given.{Over}
 use Rattle.acredact.proofs.run.redact_all.Goals as goal
@@ -17,47 +32,56 @@ use Rattle.acredact.proofs.run.redact_all.Goals as goal
 words_are : (g : Over) (c : After-as_ref g) → pieces_of c.as_slice-words.result.now ≡ patterns_in (secrets_of c.args.rules.now)
 words_are g c = ap pieces_of c.as_slice-words.ensures.value ∙ c.in_ok-patterns.ensures.patterns
 
-pieces_are : (g : Over) (c : After-as_ref g) → pieces_of c.as_slice-pieces.result.now ≡ pieces_asked (all_given c.args.given.now) (secrets_of c.args.rules.now)
-pieces_are g c = ap pieces_of c.as_slice-pieces.ensures.value ∙ c.in_ok-replacements.ensures.pieces ∙ ap (λ text. map (piece_by text) (secrets_of c.args.rules.now)) c.text_of.ensures.text
+pieces_are : (g : Over) (c : After-as_ref g) → pieces_of c.as_slice-2.result.now ≡ pieces_asked (all_given c.args.given.now) (secrets_of c.args.rules.now)
+pieces_are g c = ap pieces_of c.as_slice-2.ensures.value ∙ c.in_ok-replacements.ensures.pieces ∙ ap (λ text. map (piece_by text) (secrets_of c.args.rules.now)) c.text_of.ensures.text
 
-names_are : (g : Over) (c : After-as_ref g) → names_of c.as_slice-names.result.now ≡ names_asked (all_given c.args.given.now)
-names_are g c = ap names_of c.as_slice-names.ensures.value ∙ c.in_ok-files.ensures.names
+names_are : (g : Over) (c : After-as_ref g) → name_bytes c.as_slice.result.now ≡ names_asked (all_given c.args.given.now)
+names_are g c = ap name_bytes c.as_slice.ensures.value ∙ c.in_ok-names.ensures.names
 
-nfa_is : (g : Over) (c : After-as_ref g) → NFAGhosts.is_of c.in_ok-nfa.nfa (asked_patterns (all_given c.args.given.now) (patterns_in (secrets_of c.args.rules.now)))
-nfa_is g c = subst (λ (words : List (List ℕ)). NFAGhosts.is_of c.in_ok-nfa.nfa (asked_patterns (all_given c.args.given.now) words)) (words_are g c) c.in_ok-nfa.ensures.of
+nfa_is : (g : Over) (c : After-as_ref g) → NFAGhosts.is_of c.in_ok-nfa.nfa (patterns_by_given (all_given c.args.given.now) (patterns_in (secrets_of c.args.rules.now)))
+nfa_is g c = subst (λ (words : List (List ℕ)). NFAGhosts.is_of c.in_ok-nfa.nfa (patterns_by_given (all_given c.args.given.now) words)) (words_are g c) c.in_ok-nfa.ensures.of
 
 rows_are : (g : Over) (c : After-as_ref g)
-    → IfSome c.as_ref.result (λ rows. HybridGhosts.is_of rows.now (asked_patterns (all_given c.args.given.now) (patterns_in (secrets_of c.args.rules.now))))
+    → IfSome c.as_ref.result (λ rows. HybridGhosts.is_of rows.now (patterns_by_given (all_given c.args.given.now) (patterns_in (secrets_of c.args.rules.now))))
 rows_are g c =
-    let p = asked_patterns (all_given c.args.given.now) (patterns_in (secrets_of c.args.rules.now)) in
+    let p = patterns_by_given (all_given c.args.given.now) (patterns_in (secrets_of c.args.rules.now)) in
     lent c.in_ok-rows.rows c.as_ref.result (λ rows. HybridGhosts.is_of rows p) c.as_ref.ensures.value
-    (c.in_ok-rows.ensures.of p (record { words_are = sym (words_are g c); rule = sym c.has-ignore_case.ensures.has }) (nfa_is g c))
+    (c.in_ok-rows.ensures.of p (record { words_are = sym (words_are g c); rule = sym c.has.ensures.has }) (nfa_is g c))
+
+rows_ready : (rows : Option (Bor Hybrid)) (p : Patterns) (count : ℕ) → IfSome rows (λ rows. HybridGhosts.is_of rows.now p) → IfSome rows (λ rows. IsOk (HybridGhosts.start rows.now No))
+    → 1 ≤ shortest (map length p.words) → count ≡ length p.words → IfSome rows (λ rows. CanRedact HybridGhosts rows.now count)
+rows_ready None p count of starts some one = tt
+rows_ready (Some rows) p count of starts some one = ready_of HybridGhosts rows.now p count of (rows-laws rows.now p of).lengths_are starts some one
 
 pub redact_by-requires : goal.redact_by-requires
 redact_by-requires g c =
-    let p = asked_patterns (all_given c.args.given.now) (patterns_in (secrets_of c.args.rules.now)) in
+    let p = patterns_by_given (all_given c.args.given.now) (patterns_in (secrets_of c.args.rules.now)) in
     let after = (goal.at.redact_by-requires g c).After-as_ref in
+    let some = some_shortest (secrets_of c.args.rules.now) c.requires.some in
+    let one : length c.as_slice-2.result.now ≡ length (patterns_in (secrets_of c.args.rules.now)) =
+    sym (length-map c.as_slice-2.result.now (λ piece. piece.now)) ∙ ap length (pieces_are g after) ∙ length-map (secrets_of c.args.rules.now) _ ∙ sym (length-map (secrets_of c.args.rules.now) _) in
+    let starts = lent c.in_ok-rows.rows c.as_ref.result (λ rows. IsOk (HybridGhosts.start rows No)) c.as_ref.ensures.value c.in_ok-rows.ensures.starts in
     record {
-      of = (
-        p,
-        nfa_is g after,
-        sym (length-map c.as_slice-pieces.result.now (λ piece. piece.now)) ∙ ap length (pieces_are g after) ∙ length-map (secrets_of c.args.rules.now) _ ∙ sym (length-map (secrets_of c.args.rules.now) _),
-        rows_are g after,
-      );
+      ready = ready_of NFAGhosts c.in_ok-nfa.nfa p _ (nfa_is g after) (nfa-laws c.in_ok-nfa.nfa p (nfa_is g after)).lengths_are c.in_ok-nfa.ensures.starts some one;
+      rows = rows_ready c.as_ref.result p _ (rows_are g after) starts some one;
     }
 
-pub returns-in_err-all-clause-begins : goal.returns-in_err-all-clause-begins
-returns-in_err-all-clause-begins g c =
-    let after = (goal.at.returns-in_err-all-clause-begins g c).After-as_ref in
-    inr (begun_as _ _ _ _ _ (pieces_are g after) (c.redact_by.ensures.begun _ (nfa_is g after) (rows_are g after)))
+pub returns-in_err-redact_by-clause-outcome : goal.returns-in_err-redact_by-clause-outcome
+returns-in_err-redact_by-clause-outcome g c =
+    let p = patterns_by_given (all_given c.args.given.now) (patterns_in (secrets_of c.args.rules.now)) in
+    let after = (goal.at.returns-in_err-redact_by-clause-outcome g c).After-as_ref in
+    let work = work_by (call_of g.F.Folder c.args.folder.now (all_given c.args.given.now)) (secrets_of c.args.rules.now) in
+    let is : c.from_residual-in_err-redact_by.result ≡ Err (Other (failure_of_stream c.in_err-redact_by.field-0.0)) = search rules in
+    subst (λ (r : Result Bool Failure). RunOutcome g.W.Write g.E.Sink work r c.args.streams.now c.redact_by.new.streams) (sym is)
+    (run_fails g.W.Write g.E.Sink work _ _ _
+    (work_as (g.F.Folder.holds c.args.folder.now) (g.F.Folder.refuses c.args.folder.now) p _ _ _ _ (names_are g after) (pieces_are g after)
+    (λ w. FilesOutcome g.W.Write g.E.Sink w (Err c.in_err-redact_by.field-0.0) c.args.streams.now c.redact_by.new.streams) (c.in_err-redact_by.ensures.outcome p (nfa_is g after) (rows_are g after))))
 
-pub returns-clause-redacted : goal.returns-clause-redacted
-returns-clause-redacted g c is =
-    let after = (goal.at.returns-clause-redacted g c).After-as_ref in
-    redacted_as _ _ _ _ _ _ _ _ _ _ (pieces_are g after) (names_are g after)
-    (c.redact_by.ensures.redacted _ (nfa_is g after) (rows_are g after) (c.in_ok-all.was ∙ ap Ok (same_in_ok _ _ _ refl is)))
-
-pub returns-clause-begins : goal.returns-clause-begins
-returns-clause-begins g c =
-    let after = (goal.at.returns-clause-begins g c).After-as_ref in
-    inr (begun_as _ _ _ _ _ (pieces_are g after) (c.redact_by.ensures.begun _ (nfa_is g after) (rows_are g after)))
+pub returns-clause-outcome : goal.returns-clause-outcome
+returns-clause-outcome g c =
+    let p = patterns_by_given (all_given c.args.given.now) (patterns_in (secrets_of c.args.rules.now)) in
+    let after = (goal.at.returns-clause-outcome g c).After-as_ref in
+    let work = work_by (call_of g.F.Folder c.args.folder.now (all_given c.args.given.now)) (secrets_of c.args.rules.now) in
+    run_done g.W.Write g.E.Sink work _ _ _
+    (work_as (g.F.Folder.holds c.args.folder.now) (g.F.Folder.refuses c.args.folder.now) p _ _ _ _ (names_are g after) (pieces_are g after)
+    (λ w. FilesOutcome g.W.Write g.E.Sink w (Ok c.in_ok-redact_by.field-0) c.args.streams.now c.redact_by.new.streams) (c.in_ok-redact_by.ensures.outcome p (nfa_is g after) (rows_are g after)))

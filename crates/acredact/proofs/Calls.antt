@@ -1,0 +1,257 @@
+-- What comes of a call, by what comes of its files.
+use Rattle.std.proofs.Common.{◌≡◌, inl, inr, ℕ, List, [], ◌∷◌, ◌++◌, Option, true, false, refl, sym, ap, subst, ◌∙◌, append-nil}
+use Rattle.std.specs.Prelude.{Bool, ◌⊎◌, MatchBool, None, Some, Result, Ok, Err, IfErr, IfOk, OnErr, OnOk}
+use Rattle.std.specs.List.{All, concat}
+use Rattle.std.specs.declared.io.traits.Read.{Ghosts as Readers}
+use Rattle.std.specs.declared.io.traits.Write.{Ghosts as Writers}
+use Rattle.std.proofs.lemmas.List.Elements.{All-append, All-cons, All-head, All-nil, All-tail, All-weaker}
+use Rattle.aho_core.specs.Patterns.{Patterns}
+use Rattle.aho_core.specs.declared.error.stream.StreamError.{StreamError}
+use Rattle.aho_core.specs.declared.error.stream.StreamError.TheVariants.{Match, Read, Write, WriteZero, Memory, PositionLimit}
+use Rattle.aho_devices.specs.declared.adapters.FromRead.{FromRead}
+use Rattle.aho_devices.specs.declared.device.Sink.{Ghosts as SinkGhosts}
+use Rattle.programs.specs.Failures.{failure_of_stream}
+use Rattle.programs.specs.Names.{IsAmong}
+use Rattle.programs.specs.Streams.{bytes_held, bytes_left}
+use Rattle.programs.specs.Telling.{Tells, TellsBytes, TellsSome}
+use Rattle.programs.specs.declared.errors.Errors.{Errors}
+use Rattle.programs.specs.declared.failure.Failure.TheVariants.{OutOfMemory}
+use Rattle.programs.specs.declared.reason.Reason.{Reason}
+use Rattle.programs.proofs.Tellings.{tells-later}
+use Rattle.acredact.specs.Arguments.{Given, has}
+use Rattle.acredact.specs.Calls.{BeginsCall, BeginsFiles, Call, CallOutcome, IsCountsFailure, IsCountsLine, IsLineOf, IsRunFailure, IsUnreadLine, MayFail, OutputFails, RedactsCall, RunOutcome, TellsCounts, names_asked, reading_by, work_by}
+use Rattle.acredact.specs.Counts.{counts_text}
+use Rattle.acredact.specs.Files.{AreCut, AreDone, FilesOutcome, IsDone, Work, are_none, unread_line}
+use Rattle.acredact.specs.Loading.{AreGiven}
+use Rattle.acredact.specs.Tables.{Secret, patterns_in}
+use Rattle.acredact.specs.declared.arguments.Word.TheVariants.{Count}
+use Rattle.acredact.specs.declared.failure.Failure.{Failure}
+use Rattle.acredact.specs.declared.failure.Failure.TheVariants.{Counts, Other}
+use Rattle.acredact.specs.declared.streams.Streams.{Streams}
+use Rattle.acredact.proofs.Done.{concat_both, cut_of, redacted_of, tells_none}
+
+-- no line is one
+none_are : (lines : List (List ℕ)) → are_none lines ≡ true → lines ≡ []
+none_are [] none = refl
+none_are (line ∷ lines) none = absurd (cc)
+
+-- the lines that are told of files tell each why one of them was not read to its end
+unread_more : (name : List ℕ) (names : List (List ℕ)) (lines : List (List ℕ)) → All (IsUnreadLine names) lines → All (IsUnreadLine (name ∷ names)) lines
+unread_more name names lines = All-weaker (IsUnreadLine names) (IsUnreadLine (name ∷ names)) (λ line is. (is.0, is.1, inr is.2, is.3)) lines
+
+module _ (work : Work) where
+  unread_one : (name : List ℕ) (names lines : List (List ℕ)) (left left' held held' : Option (List ℕ)) → IsDone work name lines left left' held held' → All (IsUnreadLine (name ∷ names)) lines
+  unread_one name names lines left left' held held' (inl is) = subst (All (IsUnreadLine (name ∷ names))) (sym is.0) (All-nil (IsUnreadLine (name ∷ names)))
+  unread_one name names lines left left' held held' (inr is) =
+      subst (All (IsUnreadLine (name ∷ names))) (sym is.1) (All-cons (IsUnreadLine (name ∷ names)) (unread_line name is.0) [] (name, is.0, inl refl, refl) (All-nil (IsUnreadLine (name ∷ names))))
+
+  unread_of : (names lines : List (List ℕ)) (left left' held held' : Option (List ℕ)) → AreCut work names lines left left' held held' → All (IsUnreadLine names) lines
+  unread_of [] lines left left' held held' cut = subst (All (IsUnreadLine [])) (sym cut.0) (All-nil (IsUnreadLine []))
+  unread_of (name ∷ names) lines left left' held held' (inl cut) = subst (All (IsUnreadLine (name ∷ names))) (sym cut.0) (All-nil (IsUnreadLine (name ∷ names)))
+  unread_of (name ∷ names) lines left left' held held' (inr (first, rest, are, between, meanwhile, is, others)) =
+      subst (All (IsUnreadLine (name ∷ names))) (sym are) (All-append (IsUnreadLine (name ∷ names)) first rest (unread_one name names first left between held meanwhile is)
+      (unread_more name names rest (unread_of names rest between left' meanwhile held' others)))
+
+-- nothing was told, where nothing has changed
+pub tells_same : {E : Type 0} (K : SinkGhosts E) (IsLine : List ℕ → Type 0) (old new : Errors E) → new ≡ old → Tells K IsLine old new
+tells_same K IsLine old new same = record { told = []; are_lines = All-nil IsLine; written = subst (λ (e : Errors _). TellsBytes K old e []) (sym same) (tells_none K old) }
+
+-- the text of the counts was
+pub tells_counts : {E : Type 0} (K : SinkGhosts E) (counted : Bool) (old new : Errors E) (lines counts : List ℕ) → counted ≡ true → TellsBytes K old new (counts_text 1 lines counts) → Tells K (IsCountsLine counted) old new
+tells_counts K counted old new lines counts is told = record {
+  told = counts_text 1 lines counts ∷ [];
+  are_lines = All-cons (IsCountsLine counted) (counts_text 1 lines counts) [] (is, (lines, counts, refl)) (All-nil (IsCountsLine counted));
+  written = subst (TellsBytes K old new) (sym (append-nil (counts_text 1 lines counts))) told;
+}
+
+-- before anything was touched
+module _ {R : Type 0} {Reads : Readers R} {W E : Type 0} (Writes : Writers W) (K : SinkGhosts E) (work : Work) where
+  pub run_refused : (streams : Streams R W E Reads) (failure : Failure) → IsRunFailure (OutputFails streams.output streams.output) failure → RunOutcome Writes K work (Err failure) streams streams
+  run_refused streams failure fails = record { done = tt; cut = inl refl; quiet = λ (is : Err failure ≡ Ok true). absurd (cc); fails = fails }
+
+  -- memory may always run out
+  pub run_memory : (streams : Streams R W E Reads) → RunOutcome Writes K work (Err (Other OutOfMemory)) streams streams
+  run_memory streams = run_refused streams (Other OutOfMemory) (inr (inl refl))
+
+  run_failure : (error : StreamError) (old new : Streams R W E Reads) → FilesOutcome Writes K work (Err error) old new → IsRunFailure (OutputFails old.output new.output) (Other (failure_of_stream error))
+  run_failure (Match cause) old new files = absurd files.fails.only
+  run_failure (Read fault) old new files = absurd files.fails.only
+  run_failure (Write fault) old new files = inr (inr (inl refl, inl files.fails.write_failed))
+  run_failure WriteZero old new files = inr (inr (inr refl, inr files.fails.took_nothing))
+  run_failure Memory old new files = inr (inl refl)
+  run_failure PositionLimit old new files = absurd files.fails.only
+
+  pub run_fails : (error : StreamError) (old new : Streams R W E Reads) → FilesOutcome Writes K work (Err error) old new → RunOutcome Writes K work (Err (Other (failure_of_stream error))) old new
+  run_fails error old new files = record {
+    done = tt;
+    cut = inr files.cut;
+    quiet = λ (is : Err (Other (failure_of_stream error)) ≡ Ok true). absurd (cc);
+    fails = run_failure error old new files;
+  }
+
+  pub run_done : (all : Bool) (old new : Streams R W E Reads) → FilesOutcome Writes K work (Ok all) old new → RunOutcome Writes K work (Ok all) old new
+  run_done all old new files = record { done = files.done; cut = tt; quiet = λ is. files.quiet (let so : Ok all ≡ Ok true = is in cc); fails = tt }
+
+module _ {R : Type 0} {Reads : Readers R} {W E : Type 0} (Writes : Writers W) (K : SinkGhosts E) (call : Call) (left : Option (List ℕ)) where
+  -- what comes of a call that ends before its files
+  pub call_refused : (input : FromRead R Reads) (old : Streams R W E Reads) (failure : Failure) → MayFail call (OutputFails old.output old.output) failure
+      → CallOutcome Writes K call left (Err failure) old (record old { input = input })
+  call_refused input old failure fails = record {
+    redacts = λ (is : Err failure ≡ Ok true). absurd (cc);
+    begins = inl refl;
+    quiet = λ none (is : Err failure ≡ Ok true). absurd (cc);
+    counts = λ some (is : Err failure ≡ Ok true). absurd (cc);
+    partly = λ (is : Err failure ≡ Ok false). absurd (cc);
+    fails = fails;
+    told = record { told = []; are_lines = All-nil _; written = tells_none K old.errors };
+  }
+
+  module _ (secrets : List Secret) (old mid : Streams R W E Reads) (loaded : AreGiven (reading_by call) call.given secrets left (bytes_left old.input)) where
+    -- what may be told, and why
+    may_fail : (fails : Type 0) (failure : Failure) → IsRunFailure fails failure → MayFail call fails failure
+    may_fail fails failure is = inr (inr (inr is))
+
+    lines_cut : (fails : Type 0) (lines : List (List ℕ)) (left' held held' : Option (List ℕ)) → AreCut (work_by call secrets) (work_by call secrets).names lines (bytes_left old.input) left' held held' → All (IsLineOf call fails) lines
+    lines_cut fails lines left' held held' cut = All-weaker (IsUnreadLine (names_asked call.given)) (IsLineOf call fails) (λ line is. inl is) lines (unread_of (work_by call secrets) (work_by call secrets).names lines (bytes_left old.input) left' held held' cut)
+
+    begun_by : (lines : List (List ℕ)) → AreCut (work_by call secrets) (work_by call secrets).names lines (bytes_left old.input) (bytes_left mid.input) (bytes_held Writes old.output) (bytes_held Writes mid.output)
+        → (errors : Errors E) → BeginsCall Writes call left old (record mid { errors = errors })
+    begun_by lines cut errors = inr (record { secrets = secrets; between = bytes_left old.input; loaded = loaded; lines = lines; cut = cut })
+
+    -- the files' redaction fails
+    pub call_cut : (failure : Failure) → RunOutcome Writes K (work_by call secrets) (Err failure) old mid → CallOutcome Writes K call left (Err failure) old mid
+    call_cut failure run = record {
+      redacts = λ (is : Err failure ≡ Ok true). absurd (cc);
+      begins = elim run.cut [
+        | inl same ↦ inl (ap (λ (s : Streams R W E Reads). s.output) same)
+        | inr cut ↦ begun_by cut.0 cut.1.0 mid.errors
+      ];
+      quiet = λ none (is : Err failure ≡ Ok true). absurd (cc);
+      counts = λ some (is : Err failure ≡ Ok true). absurd (cc);
+      partly = λ (is : Err failure ≡ Ok false). absurd (cc);
+      fails = may_fail _ failure run.fails;
+      told = elim run.cut [
+        | inl same ↦ record { told = []; are_lines = All-nil _; written = subst (λ (s : Streams R W E Reads). TellsBytes K old.errors s.errors []) (sym same) (tells_none K old.errors) }
+        | inr cut ↦ record { told = cut.0; are_lines = lines_cut _ cut.0 _ _ _ cut.1.0; written = cut.1.1 }
+      ];
+    }
+
+    -- the lines of the files, and then those of the counts
+    lines_both : (fails : Type 0) (lines more : List (List ℕ)) (errors : Errors E) → All (IsLineOf call fails) lines → All (IsCountsLine (has Count call.given)) more
+        → TellsBytes K old.errors mid.errors (concat lines) → TellsBytes K mid.errors errors (concat more) → Tells K (IsLineOf call fails) old.errors errors
+    lines_both fails lines more errors are counts first later = record {
+      told = lines ++ more;
+      are_lines = All-append (IsLineOf call fails) lines more are (All-weaker (IsCountsLine (has Count call.given)) (IsLineOf call fails) (λ line is. inr (inr is)) more counts);
+      written = subst (TellsBytes K old.errors errors) (sym (concat_both lines more)) (tells-later K first later);
+    }
+
+    -- one or more, where some are
+    some_both : (fails : Type 0) (lines more : List (List ℕ)) (errors : Errors E) → false ≡ are_none lines → All (IsLineOf call fails) lines → All (IsCountsLine (has Count call.given)) more
+        → TellsBytes K old.errors mid.errors (concat lines) → TellsBytes K mid.errors errors (concat more) → TellsSome K (IsLineOf call fails) old.errors errors
+    unfolding lines_both
+    some_both fails [] more errors none are counts first later = absurd (cc)
+    some_both fails (line ∷ lines) more errors none are counts first later =
+        let all = lines_both fails (line ∷ lines) more errors are counts first later in
+        record { first = line; is_line = All-head (IsLineOf call fails) line (lines ++ more) all.are_lines; more = lines ++ more; are_lines = All-tail (IsLineOf call fails) line (lines ++ more) all.are_lines; written = all.written }
+
+    -- the counts are told
+    pub call_done : (all : Bool) (errors : Errors E) → RunOutcome Writes K (work_by call secrets) (Ok all) old mid
+        → MatchBool (has Count call.given) (TellsCounts K mid.errors errors) (errors ≡ mid.errors) → Tells K (IsCountsLine (has Count call.given)) mid.errors errors
+        → CallOutcome Writes K call left (Ok all) old (record mid { errors = errors })
+    call_done all errors run counts told =
+        let (lines, is_all, (done, first)) = run.done in
+        let cut = cut_of (work_by call secrets) _ lines _ _ _ _ done in
+        let are = λ (fails : Type 0). lines_cut fails lines _ _ _ cut in
+        record {
+          redacts = λ (is : Ok all ≡ Ok true).
+              let so : all ≡ true = cc in
+              record {
+                secrets = secrets;
+                between = bytes_left old.input;
+                loaded = loaded;
+                redacted = redacted_of (work_by call secrets) _ lines _ _ _ _ (none_are lines (sym is_all ∙ so)) done;
+              };
+          begins = begun_by lines cut errors;
+          quiet = λ none (is : Ok all ≡ Ok true). subst (λ (b : Bool). MatchBool b (TellsCounts K mid.errors errors) (errors ≡ mid.errors)) none counts ∙ run.quiet is;
+          counts = λ some (is : Ok all ≡ Ok true). subst (λ (e : Errors E). TellsCounts K e errors) (run.quiet is) (subst (λ (b : Bool). MatchBool b (TellsCounts K mid.errors errors) (errors ≡ mid.errors)) some counts);
+          partly = λ (is : Ok all ≡ Ok false).
+              let so : all ≡ false = cc in
+              some_both _ lines told.told errors (sym so ∙ is_all) (are _) told.are_lines first told.written;
+          fails = tt;
+          told = tt;
+        }
+
+    -- or they are not
+    pub call_untold : (all : Bool) (errors : Errors E) (failure : Failure) → RunOutcome Writes K (work_by call secrets) (Ok all) old mid
+        → IsCountsFailure (has Count call.given) failure → Tells K (IsCountsLine (has Count call.given)) mid.errors errors
+        → CallOutcome Writes K call left (Err failure) old (record mid { errors = errors })
+    call_untold all errors failure run fails told =
+        let (lines, is_all, (done, first)) = run.done in
+        let cut = cut_of (work_by call secrets) _ lines _ _ _ _ done in
+        record {
+          redacts = λ (is : Err failure ≡ Ok true). absurd (cc);
+          begins = begun_by lines cut errors;
+          quiet = λ none (is : Err failure ≡ Ok true). absurd (cc);
+          counts = λ some (is : Err failure ≡ Ok true). absurd (cc);
+          partly = λ (is : Err failure ≡ Ok false). absurd (cc);
+          fails = elim fails.1 [
+            | inl counts ↦ inr (inr (inl (counts, fails.0)))
+            | inr memory ↦ may_fail _ failure (inr (inl memory))
+          ];
+          told = lines_both _ lines told.told errors (lines_cut _ lines _ _ _ cut) told.are_lines first told.written;
+        }
+
+    -- by what is answered of that
+    pub call_told : (all counted : Bool) (result : Result Bool Failure) (errors : Errors E) → counted ≡ has Count call.given → RunOutcome Writes K (work_by call secrets) (Ok all) old mid
+        → IfOk result (λ done. done ≡ all) → OnOk result (MatchBool counted (TellsCounts K mid.errors errors) (errors ≡ mid.errors))
+        → IfErr result (IsCountsFailure counted) → Tells K (IsCountsLine counted) mid.errors errors → CallOutcome Writes K call left result old (record mid { errors = errors })
+    call_told all counted (Ok done) errors is run same counts fails told =
+        subst (λ (b : Bool). CallOutcome Writes K call left (Ok b) old (record mid { errors = errors })) (sym same)
+        (call_done all errors run (subst (λ (b : Bool). MatchBool b (TellsCounts K mid.errors errors) (errors ≡ mid.errors)) is counts) (subst (λ (b : Bool). Tells K (IsCountsLine b) mid.errors errors) is told))
+    call_told all counted (Err failure) errors is run same counts fails told =
+        call_untold all errors failure run (subst (λ (b : Bool). IsCountsFailure b failure) is fails) (subst (λ (b : Bool). Tells K (IsCountsLine b) mid.errors errors) is told)
+
+-- what holds of some work holds of the same with the same names and pieces
+pub work_as : (holds : List ℕ → Option (List ℕ)) (refuses : List ℕ → Reason → Type 0) (p : Patterns) (names names' pieces pieces' : List (List ℕ)) → names ≡ names' → pieces ≡ pieces'
+    → (P : Work → Type 0) → P (record { holds = holds; refuses = refuses; names = names; redactor = record { patterns = p; pieces = pieces } })
+    → P (record { holds = holds; refuses = refuses; names = names'; redactor = record { patterns = p; pieces = pieces' } })
+work_as holds refuses p names names' pieces pieces' same alike P is =
+    subst (λ (l : List (List ℕ)). P (record { holds = holds; refuses = refuses; names = names'; redactor = record { patterns = p; pieces = l } })) alike
+    (subst (λ (l : List (List ℕ)). P (record { holds = holds; refuses = refuses; names = l; redactor = record { patterns = p; pieces = pieces } })) same is)
+
+-- a call as it is from a state whose input was read further
+module _ {R : Type 0} {Reads : Readers R} {W E : Type 0} (Writes : Writers W) (K : SinkGhosts E) (call : Call) (left : Option (List ℕ)) where
+  begins_from : (old new : Streams R W E Reads) (input : FromRead R Reads) → BeginsCall Writes call left (record old { input = input }) new → BeginsCall Writes call left old new
+  begins_from old new input (inl same) = inl same
+  begins_from old new input (inr begun) = inr (record { secrets = begun.secrets; between = begun.between; loaded = begun.loaded; lines = begun.lines; cut = begun.cut })
+
+  pub call_from : (old new : Streams R W E Reads) (input : FromRead R Reads) (result : Result Bool Failure) → CallOutcome Writes K call left result (record old { input = input }) new → CallOutcome Writes K call left result old new
+  call_from old new input result of = record {
+    redacts = λ is. let done = of.redacts is in record { secrets = done.secrets; between = done.between; loaded = done.loaded; redacted = done.redacted };
+    begins = begins_from old new input of.begins;
+    quiet = of.quiet;
+    counts = of.counts;
+    partly = of.partly;
+    fails = of.fails;
+    told = of.told;
+  }
+
+  -- and to one in which more was told
+  pub begins_told : (old new : Streams R W E Reads) (errors : Errors E) → BeginsCall Writes call left old new → BeginsCall Writes call left old (record new { errors = errors })
+  begins_told old new errors (inl same) = inl same
+  begins_told old new errors (inr begun) = inr (record { secrets = begun.secrets; between = begun.between; loaded = begun.loaded; lines = begun.lines; cut = begun.cut })
+
+-- a line more
+pub tells_last : {E : Type 0} (K : SinkGhosts E) (IsLine : List ℕ → Type 0) (old mid new : Errors E) (line : List ℕ) → Tells K IsLine old mid → IsLine line → TellsBytes K mid new line → TellsSome K IsLine old new
+tells_last K IsLine old mid new line before is told =
+    some_last before.told before.are_lines (tells-later K before.written told)
+  where
+    some_last : (lines : List (List ℕ)) → All IsLine lines → TellsBytes K old new (concat lines ++ line) → TellsSome K IsLine old new
+    some_last [] are written = record { first = line; is_line = is; more = []; are_lines = All-nil IsLine; written = subst (TellsBytes K old new) (sym (append-nil line)) written }
+    some_last (first ∷ lines) are written = record {
+      first = first;
+      is_line = All-head IsLine first lines are;
+      more = lines ++ (line ∷ []);
+      are_lines = All-append IsLine lines (line ∷ []) (All-tail IsLine first lines are) (All-cons IsLine line [] is (All-nil IsLine));
+      written = subst (TellsBytes K old new) (ap (λ l. concat (first ∷ lines) ++ l) (sym (append-nil line)) ∙ sym (concat_both (first ∷ lines) (line ∷ []))) written;
+    }

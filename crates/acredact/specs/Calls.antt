@@ -1,0 +1,189 @@
+-- What a call does, by what its arguments ask for, and what it tells.
+use Rattle.std.specs.Prelude.{◌≡◌, ◌⊎◌, ℕ, ◌||◌, Bool, true, false, List, [], ◌∷◌, Option, Result, Ok, IfErr, IfOk, OnErr, OnOk, codes, map, unwrap_or, if◌then◌else◌}
+use Rattle.std.specs.declared.io.traits.Read.{Ghosts as Readers}
+use Rattle.std.specs.declared.io.traits.Write.{Ghosts as Writers}
+use Rattle.aho_core.specs.declared.error.BuildError.{BuildError}
+use Rattle.aho_devices.specs.Counts.{counted}
+use Rattle.aho_devices.specs.declared.adapters.FromWrite.{FromWrite}
+use Rattle.aho_devices.specs.declared.device.Sink.{Ghosts as SinkGhosts}
+use Rattle.programs.specs.Names.{IsAmong, or_input}
+use Rattle.programs.specs.Streams.{bytes_held, bytes_left}
+use Rattle.programs.specs.Telling.{Tells, TellsBytes, TellsSome}
+use Rattle.programs.specs.declared.errors.Errors.{Errors}
+use Rattle.programs.specs.declared.failure.Failure.{Failure as OtherFailure}
+use Rattle.programs.specs.declared.failure.Failure.TheVariants.{Usage, Build, Search, OutOfMemory, PositionLimit, Read, Write, WriteZero}
+use Rattle.programs.specs.declared.reason.Reason.{Reason}
+use Rattle.acredact.specs.Arguments.{Given, GivesNoPattern, has, is_same, last_value}
+use Rattle.acredact.specs.Builds.{patterns_by_given}
+use Rattle.acredact.specs.Counts.{counts_text}
+use Rattle.acredact.specs.Failures.{IsFailureLine}
+use Rattle.acredact.specs.Files.{AreCut, AreDone, AreRedacted, Does, Work, are_none, unread_line}
+use Rattle.acredact.specs.Loading.{AreGiven, CannotLoadOne, Reading, Rules}
+use Rattle.acredact.specs.Mistakes.{IsMistake}
+use Rattle.acredact.specs.Secrets.{Redactor}
+use Rattle.acredact.specs.Tables.{Secret, patterns_in, piece_by}
+use Rattle.acredact.specs.declared.arguments.Expects.TheVariants.{Any}
+use Rattle.acredact.specs.declared.arguments.Mistake.TheVariants.{NoPattern, OutOfMemory as NoRoom}
+use Rattle.acredact.specs.declared.arguments.Word.{Word}
+use Rattle.acredact.specs.declared.arguments.Word.TheVariants.{Count, Crlf, AllowEmpty, File, Pattern as PatternOption, Patterns as PatternFile, Table, With}
+use Rattle.acredact.specs.declared.failure.Failure.{Failure}
+use Rattle.acredact.specs.declared.failure.Failure.TheVariants.{NotText, Arguments, Pattern, Unread, Empty, Line, Counts, Other}
+use Rattle.acredact.specs.declared.folder.Folder.{Ghosts as Folders}
+use Rattle.acredact.specs.declared.streams.Streams.{Streams}
+
+-- the options and files that are given, and what the folder holds under a name and why it may refuse to open it
+pub record Call : Type 1 where
+  pub holds : List ℕ → Option (List ℕ)
+  pub refuses : List ℕ → Reason → Type 0
+  pub given : List Given
+
+abbrev pub call_of : {F X : Type 0} → Folders F X → F → List Given → Call
+call_of D folder given = record { holds = D.holds folder; refuses = D.refuses folder; given = given }
+
+-- whether an option gives patterns
+abbrev pub gives_pattern : List Given → Bool
+gives_pattern given = has PatternOption given || has PatternFile given || has Table given
+
+abbrev pub rules_asked : List Given → Rules
+rules_asked given = record { crlf = has Crlf given; allow_empty = has AllowEmpty given }
+
+abbrev pub reading_by : Call → Reading
+reading_by call = record { holds = call.holds; refuses = call.refuses; rules = rules_asked call.given }
+
+-- the names of the files, in order
+abbrev pub names_given : List Given → List (List ℕ)
+names_given [] = []
+names_given (item ∷ items) = if is_same File item.word then item.value ∷ names_given items else names_given items
+
+abbrev pub names_asked : List Given → List (List ℕ)
+names_asked given = or_input (names_given given)
+
+-- what is written for a pattern that has no replacement of its own
+abbrev pub text_asked : List Given → List ℕ
+text_asked given = unwrap_or (last_value With given) (codes "[redacted]")
+
+-- what is written for each pattern
+abbrev pub pieces_asked : List Given → List Secret → List (List ℕ)
+pieces_asked given secrets = map (piece_by (text_asked given)) secrets
+
+abbrev pub redactor_by_given : List Given → List Secret → Redactor
+redactor_by_given given secrets = record { patterns = patterns_by_given given (patterns_in secrets); pieces = pieces_asked given secrets }
+
+abbrev pub work_by : Call → List Secret → Work
+work_by call secrets = record {
+  holds = call.holds;
+  refuses = call.refuses;
+  names = names_asked call.given;
+  redactor = redactor_by_given call.given secrets;
+}
+
+-- the output failed, or took nothing
+abbrev pub OutputFails : {W : Type 0} → FromWrite W → FromWrite W → Type 0
+OutputFails output output' =
+    (output'.failures ≡ counted true output.failures) ⊎ (output'.empty_writes ≡ counted true output.empty_writes)
+
+-- why a text of the program is not written
+abbrev pub IsPrintFailure : Type 0 → Failure → Type 0
+IsPrintFailure fails failure = ((failure ≡ Other Write) ⊎ (failure ≡ Other WriteZero)) × fails
+
+-- why files are not redacted: the library refuses them, memory runs out, or the output fails
+abbrev pub IsRunFailure : (fails : Type 0) → Failure → Type 0
+IsRunFailure fails failure =
+    ((error : BuildError) × (failure ≡ Other (Build error)))
+    ⊎ ((failure ≡ Other OutOfMemory) ⊎ IsPrintFailure fails failure)
+
+-- why a call ends early: there is no pattern, one of the options cannot be loaded, the counts cannot be written, or the files are
+-- not redacted
+abbrev pub MayFail : Call → (fails : Type 0) → Failure → Type 0
+MayFail call fails failure =
+    ((failure ≡ Arguments NoRoom) ⊎ ((failure ≡ Arguments NoPattern) × GivesNoPattern call.given))
+    ⊎ (CannotLoadOne (reading_by call) call.given failure
+    ⊎ (((failure ≡ Counts) × (has Count call.given ≡ true))
+    ⊎ IsRunFailure fails failure))
+
+-- the line that tells why a file was not read to its end
+abbrev pub IsUnreadLine : List (List ℕ) → List ℕ → Type 0
+IsUnreadLine names line = (name : List ℕ) × (reason : Reason) × IsAmong name names × (line ≡ unread_line name reason)
+
+-- the lines of the counts
+abbrev pub IsCountsText : List ℕ → Type 0
+IsCountsText text = (lines : List ℕ) × (counts : List ℕ) × (text ≡ counts_text 1 lines counts)
+
+-- that, where they are asked for
+abbrev pub IsCountsLine : Bool → List ℕ → Type 0
+IsCountsLine counted line = (counted ≡ true) × IsCountsText line
+
+-- why the counts are not told
+abbrev pub IsCountsFailure : Bool → Failure → Type 0
+IsCountsFailure counted failure = (counted ≡ true) × ((failure ≡ Counts) ⊎ (failure ≡ Other OutOfMemory))
+
+-- what may be told of a call: a file that is not read to its end, why it ends early, and the counts where they are asked for
+abbrev pub IsLineOf : Call → (fails : Type 0) → List ℕ → Type 0
+IsLineOf call fails line =
+    IsUnreadLine (names_asked call.given) line
+    ⊎ (((failure : Failure) × MayFail call fails failure × IsFailureLine failure line)
+    ⊎ IsCountsLine (has Count call.given) line)
+
+-- what is told of wrong arguments
+abbrev pub IsWrongFailure : List (List ℕ) → Failure → Type 0
+IsWrongFailure arguments failure = (mistake : _) × (failure ≡ Arguments mistake) × IsMistake Any arguments mistake
+
+abbrev pub IsWrongLine : List (List ℕ) → List ℕ → Type 0
+IsWrongLine arguments line = (failure : Failure) × IsWrongFailure arguments failure × IsFailureLine failure line
+
+-- what is told where there are no arguments to read
+abbrev pub IsRefusedLine : OtherFailure → List ℕ → Type 0
+IsRefusedLine failure line = IsFailureLine NotText line ⊎ IsFailureLine (Other failure) line
+
+-- the counts are told whole
+pub record TellsCounts {E : Type 0} (K : SinkGhosts E) (errors errors' : Errors E) : Type 0 where
+  pub text : List ℕ
+  pub is_text : IsCountsText text
+  pub told : TellsBytes K errors errors' text
+  pub whole : errors'.failed ≡ false
+
+module _ {R : Type 0} {Reads : Readers R} {W : Type 0} (Writes : Writers W) where
+  module _ {E : Type 0} (call : Call) (left : Option (List ℕ)) (streams streams' : Streams R W E Reads) where
+    -- all patterns were loaded, of the input with so many bytes left, and all files were redacted
+    pub record RedactsCall : Type 0 where
+      pub secrets : List Secret
+      pub between : Option (List ℕ)
+      pub loaded : AreGiven (reading_by call) call.given secrets left between
+      pub redacted : AreRedacted (work_by call secrets) (names_asked call.given) between (bytes_left streams'.input)
+          (bytes_held Writes streams.output) (bytes_held Writes streams'.output)
+
+    -- all patterns were loaded, and of some first files the redaction or a beginning of it was written
+    pub record BeginsFiles : Type 0 where
+      pub secrets : List Secret
+      pub between : Option (List ℕ)
+      pub loaded : AreGiven (reading_by call) call.given secrets left between
+      pub lines : List (List ℕ)
+      pub cut : AreCut (work_by call secrets) (names_asked call.given) lines between (bytes_left streams'.input)
+          (bytes_held Writes streams.output) (bytes_held Writes streams'.output)
+
+    -- or nothing was written
+    abbrev pub BeginsCall : Type 0
+    BeginsCall = (streams'.output ≡ streams.output) ⊎ BeginsFiles
+
+  module _ {E : Type 0} (K : SinkGhosts E) where
+    -- what comes of a call
+    pub record CallOutcome (call : Call) (left : Option (List ℕ)) (result : Result Bool Failure) (streams streams' : Streams R W E Reads) : Type 0 where
+      pub redacts : result ≡ Ok true → RedactsCall call left streams streams'
+      pub begins : BeginsCall call left streams streams'
+      pub quiet : has Count call.given ≡ false → result ≡ Ok true → streams'.errors ≡ streams.errors
+      pub counts : has Count call.given ≡ true → result ≡ Ok true → TellsCounts K streams.errors streams'.errors
+      pub partly : result ≡ Ok false
+          → TellsSome K (IsLineOf call (OutputFails streams.output streams'.output)) streams.errors streams'.errors
+      pub fails : IfErr result (MayFail call (OutputFails streams.output streams'.output))
+      pub told : OnErr result (Tells K (IsLineOf call (OutputFails streams.output streams'.output)) streams.errors streams'.errors)
+
+    -- what comes of the files, where the failure says why they are not redacted
+    pub record RunOutcome (work : Work) (result : Result Bool Failure) (streams streams' : Streams R W E Reads) : Type 0 where
+      pub done : IfOk result (λ all. (lines : List (List ℕ)) × (all ≡ are_none lines) × Does Writes K streams streams' (AreDone work work.names lines) lines)
+      pub cut : OnErr result ((streams' ≡ streams) ⊎ ((lines : List (List ℕ)) × Does Writes K streams streams' (AreCut work work.names lines) lines))
+      pub quiet : result ≡ Ok true → streams'.errors ≡ streams.errors
+      pub fails : IfErr result (IsRunFailure (OutputFails streams.output streams'.output))
+
+-- what comes of a call whose patterns are loaded: these secrets, and so many bytes are left of the input
+abbrev pub IfLoaded : Call → List Secret → Option (List ℕ) → (Option (List ℕ) → Type 0) → Type 0
+IfLoaded call secrets between Holds = (left : Option (List ℕ)) → AreGiven (reading_by call) call.given secrets left between → Holds left

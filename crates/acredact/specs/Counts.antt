@@ -1,0 +1,28 @@
+-- How many matches of each pattern were replaced, and how that is told.
+use Rattle.std.specs.Prelude.{ℕ, ◌+◌, ◌-◌, ◌^◌, ◌==◌, min, Bool, true, false, List, [], ◌∷◌, ◌++◌, codes, decimal, map, if◌then◌else◌}
+use Rattle.acredact.specs.declared.patterns.Rule.{Rule}
+
+-- one match more; a count stops at the greatest number
+abbrev pub counted_more : ℕ → ℕ
+counted_more count = min (count + 1) (2 ^ 64 - 1)
+
+-- before anything was replaced
+abbrev pub zeros : Bool → List Rule → List ℕ
+zeros counted rules = if counted then map (λ rule. 0) rules else []
+
+-- the line of a pattern in its file, or '-e'
+abbrev pub place_told : ℕ → List ℕ
+place_told line = if line == 0 then codes "-e" else decimal line
+
+-- the line that tells of a pattern: three numbers, and nothing of its bytes
+abbrev pub count_line : ℕ → ℕ → ℕ → List ℕ
+count_line count number line = decimal count ++ (codes "\t" ++ (decimal number ++ (codes "\t" ++ (place_told line ++ codes "\n"))))
+
+-- those of all patterns, from one number on, by the lines in their files
+abbrev pub counts_text : ℕ → (lines counts : List ℕ) → List ℕ
+counts_text number [] counts = []
+counts_text number (line ∷ lines) [] = []
+counts_text number (line ∷ lines) (count ∷ counts) = count_line count number line ++ counts_text (counted_more number) lines counts
+
+abbrev pub lines_of_rules : List Rule → List ℕ
+lines_of_rules rules = map (λ rule. rule.line) rules

@@ -1,0 +1,45 @@
+-- Why a call ends early, and how that is told.
+use Rattle.std.specs.Prelude.{◌≡◌, ◌⊎◌, ℕ, Bool, true, false, List, Some, codes}
+use Rattle.programs.specs.Failures.{failure_text}
+use Rattle.programs.specs.Messages.{Message, reason_text}
+use Rattle.programs.specs.declared.failure.Failure.{Failure as OtherFailure}
+use Rattle.programs.specs.declared.failure.Failure.TheVariants.{Usage, Build, Search, OutOfMemory, PositionLimit, Read, Write, WriteZero}
+use Rattle.acredact.specs.LineFaults.{line_fault_text}
+use Rattle.programs.specs.declared.reason.Reason.{Reason}
+use Rattle.acredact.specs.Messages.{about, alone, line_about, told_line}
+use Rattle.acredact.specs.Mistakes.{mistake_message}
+use Rattle.acredact.specs.declared.failure.Failure.{Failure}
+use Rattle.acredact.specs.declared.failure.Failure.TheVariants.{NotText, Arguments, Pattern, Unread, Empty, Line, Counts, Other}
+use Rattle.acredact.specs.declared.patterns.BadLine.{BadLine}
+
+-- the output failed, or took nothing
+abbrev pub is_of_output : OtherFailure → Bool
+is_of_output Usage = false
+is_of_output (Build error) = false
+is_of_output (Search error) = false
+is_of_output OutOfMemory = false
+is_of_output PositionLimit = false
+is_of_output Read = false
+is_of_output Write = true
+is_of_output WriteZero = true
+
+-- the line that tells a failure of the library
+abbrev pub IsOtherLine : OtherFailure → List ℕ → Type 0
+IsOtherLine other line =
+    ((is_of_output other ≡ true) × ((reason : Reason) × (line ≡ line_about (codes "write error") (reason_text reason))))
+    ⊎ ((is_of_output other ≡ false) × (line ≡ told_line (alone (failure_text other))))
+
+-- what is told of a line of a file
+abbrev pub bad_line : List ℕ → BadLine → Message
+bad_line name bad = record { name = Some name; line = Some bad.number; cause = line_fault_text bad.fault }
+
+-- the line that tells a failure: of what, and why. Of a pattern it holds nothing, and of a file its name
+abbrev pub IsFailureLine : Failure → List ℕ → Type 0
+IsFailureLine NotText line = line ≡ told_line (alone (codes "an argument is not UTF-8"))
+IsFailureLine (Arguments mistake) line = line ≡ told_line (mistake_message mistake)
+IsFailureLine (Pattern fault) line = line ≡ told_line (about (codes "-e") (line_fault_text fault))
+IsFailureLine (Unread name reason) line = line ≡ told_line (about name.now (reason_text reason))
+IsFailureLine (Empty name) line = line ≡ told_line (about name.now (codes "no pattern: give --allow-empty to allow it"))
+IsFailureLine (Line name bad) line = line ≡ told_line (bad_line name.now bad)
+IsFailureLine Counts line = line ≡ told_line (alone (codes "the counts cannot be written"))
+IsFailureLine (Other other) line = IsOtherLine other line

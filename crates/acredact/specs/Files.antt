@@ -1,0 +1,156 @@
+-- What is written of files, one after another, and what is told of those that cannot be read.
+use Rattle.std.specs.Prelude.{◌≡◌, ◌⊎◌, ℕ, Bool, true, false, List, [], ◌∷◌, ◌++◌, Option, None, Result, Ok, IfErr, IfOk, IfSome, OnErr}
+use Rattle.std.specs.Io.KnownBytes.{Appends, Consumes, IsAtEnd, Keeps}
+use Rattle.std.specs.List.{concat}
+use Rattle.std.specs.declared.io.traits.Read.{Ghosts as Readers}
+use Rattle.std.specs.declared.io.traits.Write.{Ghosts as Writers}
+use Rattle.aho_core.specs.Patterns.{Patterns}
+use Rattle.aho_core.specs.declared.error.stream.StreamError.{StreamError}
+use Rattle.aho_devices.specs.Counts.{counted}
+use Rattle.aho_devices.specs.Refusals.{is_write_fault, is_write_of_nothing}
+use Rattle.aho_devices.specs.declared.adapters.FromRead.{FromRead}
+use Rattle.aho_devices.specs.declared.adapters.FromWrite.{FromWrite}
+use Rattle.aho_devices.specs.declared.device.Sink.{Ghosts as SinkGhosts}
+use Rattle.programs.specs.Messages.{reason_text}
+use Rattle.programs.specs.Names.{name_bytes}
+use Rattle.programs.specs.Streams.{bytes_held, bytes_left}
+use Rattle.programs.specs.Telling.{TellsBytes}
+use Rattle.programs.specs.declared.reason.Reason.{Reason}
+use Rattle.acredact.specs.Faults.{IsOutputEnd, IsReadReason}
+use Rattle.acredact.specs.Messages.{line_about}
+use Rattle.acredact.specs.Reads.{OfName, ReadsText}
+use Rattle.acredact.specs.Secrets.{BeginsRedaction, IsRedaction, Redactor, redactor_by}
+use Rattle.acredact.specs.declared.files.Job.{Job}
+use Rattle.acredact.specs.declared.folder.Folder.{Ghosts as Folders}
+use Rattle.acredact.specs.declared.streams.Streams.{Streams}
+
+-- what is done to which files: what the folder holds under a name, where it tells that, and why it may not open what has the name
+pub record Work : Type 1 where
+  pub holds : List ℕ → Option (List ℕ)
+  pub refuses : List ℕ → Reason → Type 0
+  pub names : List (List ℕ)
+  pub redactor : Redactor
+
+abbrev pub redactor_of : {F : Type 0} → Job F → Patterns → Redactor
+redactor_of job p = redactor_by p job.replacements.now
+
+abbrev pub work_of : {F X : Type 0} → Folders F X → Job F → Patterns → Work
+work_of D job p = record {
+  holds = D.holds job.folder.now;
+  refuses = D.refuses job.folder.now;
+  names = name_bytes job.names.now;
+  redactor = redactor_of job p;
+}
+
+-- a text was read to its end, and its redaction was written
+pub record RedactsText (r : Redactor) (left left' held held' : Option (List ℕ)) : Type 0 where
+  pub text : List ℕ
+  pub reads : ReadsText text left left'
+  pub redaction : List ℕ
+  pub redacts : IsRedaction r text redaction
+  pub written : Appends held held' redaction
+
+-- some of a text was read, and a beginning of its redaction was written
+pub record BeginsText (r : Redactor) (left left' held held' : Option (List ℕ)) : Type 0 where
+  pub given : List ℕ
+  pub ended : Bool
+  pub read : Consumes left left' given
+  pub at_end : ended ≡ true → IsAtEnd left'
+  pub part : List ℕ
+  pub begins : BeginsRedaction r given ended part
+  pub written : Appends held held' part
+
+-- the redaction of the file of this name was written
+abbrev pub RedactsName : Work → List ℕ → (left left' held held' : Option (List ℕ)) → Type 0
+RedactsName work name left left' held held' = OfName work.holds name (λ l l'. RedactsText work.redactor l l' held held') left left'
+
+-- or a beginning of it
+abbrev pub BeginsNamed : Work → List ℕ → (left left' held held' : Option (List ℕ)) → Type 0
+BeginsNamed work name left left' held held' = OfName work.holds name (λ l l'. BeginsText work.redactor l l' held held') left left'
+
+-- and of each file, one after another
+abbrev pub AreRedacted : Work → List (List ℕ) → (left left' held held' : Option (List ℕ)) → Type 0
+AreRedacted work [] left left' held held' = (left' ≡ left) × Keeps held held'
+AreRedacted work (name ∷ names) left left' held held' = (between : Option (List ℕ)) × (meanwhile : Option (List ℕ))
+    × RedactsName work name left between held meanwhile × AreRedacted work names between left' meanwhile held'
+
+-- a file may be told as unread for this reason: the folder may refuse it, or a read fails
+abbrev pub MayBeUnread : Work → List ℕ → Reason → Type 0
+MayBeUnread work name reason = IsReadReason reason ⊎ work.refuses name reason
+
+-- the line that tells it
+abbrev pub unread_line : List ℕ → Reason → List ℕ
+unread_line name reason = line_about name (reason_text reason)
+
+-- the redaction of a file was written, and nothing is told; or a beginning of it, and why the file was not read to its end is told
+abbrev pub IsDone : Work → List ℕ → (lines : List (List ℕ)) → (left left' held held' : Option (List ℕ)) → Type 0
+IsDone work name lines left left' held held' =
+    ((lines ≡ []) × RedactsName work name left left' held held')
+    ⊎ ((reason : Reason) × (lines ≡ unread_line name reason ∷ []) × MayBeUnread work name reason × BeginsNamed work name left left' held held')
+
+-- that is so of each file, one after another
+abbrev pub AreDone : Work → List (List ℕ) → (lines : List (List ℕ)) → (left left' held held' : Option (List ℕ)) → Type 0
+AreDone work [] lines left left' held held' = (lines ≡ []) × (left' ≡ left) × Keeps held held'
+AreDone work (name ∷ names) lines left left' held held' =
+    (first : List (List ℕ)) × (rest : List (List ℕ)) × (lines ≡ first ++ rest)
+    × (between : Option (List ℕ)) × (meanwhile : Option (List ℕ))
+    × IsDone work name first left between held meanwhile × AreDone work names rest between left' meanwhile held'
+
+-- that is so of some first files, and then a beginning of the redaction of the next was written
+abbrev pub AreCut : Work → List (List ℕ) → (lines : List (List ℕ)) → (left left' held held' : Option (List ℕ)) → Type 0
+AreCut work [] lines left left' held held' = (lines ≡ []) × (left' ≡ left) × Keeps held held'
+AreCut work (name ∷ names) lines left left' held held' =
+    ((lines ≡ []) × BeginsNamed work name left left' held held')
+    ⊎ ((first : List (List ℕ)) × (rest : List (List ℕ)) × (lines ≡ first ++ rest)
+    × (between : Option (List ℕ)) × (meanwhile : Option (List ℕ))
+    × IsDone work name first left between held meanwhile × AreCut work names rest between left' meanwhile held')
+
+-- whether there are none
+abbrev pub are_none : List (List ℕ) → Bool
+are_none [] = true
+are_none (line ∷ lines) = false
+
+-- a fault of the output is answered exactly where its count rose, and no other but that memory ran out
+pub record FailsByOutput {X W : Type 0} (result : Result X StreamError) (output output' : FromWrite W) : Type 0 where
+  pub write_failed : output'.failures ≡ counted (is_write_fault result) output.failures
+  pub took_nothing : output'.empty_writes ≡ counted (is_write_of_nothing result) output.empty_writes
+  pub only : IfErr result IsOutputEnd
+
+module _ {W : Type 0} (Writes : Writers W) where
+  -- what comes of a text, by what a reader of it has left before and after: where no reason is answered it was read to its end
+  pub record TextOutcome (r : Redactor) (result : Result (Option Reason) StreamError) (left left' : Option (List ℕ)) (output output' : FromWrite W) : Type 0 where
+    pub redacted : result ≡ Ok None → RedactsText r left left' (bytes_held Writes output) (bytes_held Writes output')
+    pub begun : BeginsText r left left' (bytes_held Writes output) (bytes_held Writes output')
+    pub reason : IfOk result (λ unread. IfSome unread IsReadReason)
+    pub fails : FailsByOutput result output output'
+
+  module _ {R : Type 0} {Reads : Readers R} where
+    -- what comes of the file of a name
+    pub record FileOutcome (work : Work) (name : List ℕ) (result : Result (Option Reason) StreamError) (input input' : FromRead R Reads) (output output' : FromWrite W) : Type 0 where
+      pub redacted : result ≡ Ok None
+          → RedactsName work name (bytes_left input) (bytes_left input') (bytes_held Writes output) (bytes_held Writes output')
+      pub begun : BeginsNamed work name (bytes_left input) (bytes_left input') (bytes_held Writes output) (bytes_held Writes output')
+      pub reason : IfOk result (λ unread. IfSome unread (MayBeUnread work name))
+      pub fails : FailsByOutput result output output'
+
+    module _ {E : Type 0} (K : SinkGhosts E) where
+      -- this is written, and these lines are told
+      abbrev pub Does : Streams R W E Reads → Streams R W E Reads → ((left left' held held' : Option (List ℕ)) → Type 0) → List (List ℕ) → Type 0
+      Does streams streams' Written lines =
+          Written (bytes_left streams.input) (bytes_left streams'.input) (bytes_held Writes streams.output) (bytes_held Writes streams'.output)
+          × TellsBytes K streams.errors streams'.errors (concat lines)
+
+      -- what comes of a file, where it is told if it was not read to its end; else nothing is told
+      pub record ToldOutcome (work : Work) (name : List ℕ) (result : Result Bool StreamError) (streams streams' : Streams R W E Reads) : Type 0 where
+        pub done : IfOk result (λ whole. (lines : List (List ℕ)) × (whole ≡ are_none lines) × Does streams streams' (IsDone work name lines) lines)
+        pub cut : OnErr result (Does streams streams' (BeginsNamed work name) [])
+        pub quiet : result ≡ Ok true → streams'.errors ≡ streams.errors
+        pub untold : OnErr result (streams'.errors ≡ streams.errors)
+        pub fails : FailsByOutput result streams.output streams'.output
+
+      -- what comes of all files
+      pub record FilesOutcome (work : Work) (result : Result Bool StreamError) (streams streams' : Streams R W E Reads) : Type 0 where
+        pub done : IfOk result (λ all. (lines : List (List ℕ)) × (all ≡ are_none lines) × Does streams streams' (AreDone work work.names lines) lines)
+        pub cut : OnErr result ((lines : List (List ℕ)) × Does streams streams' (AreCut work work.names lines) lines)
+        pub quiet : result ≡ Ok true → streams'.errors ≡ streams.errors
+        pub fails : FailsByOutput result streams.output streams'.output

@@ -1,0 +1,65 @@
+-- Why a line of a file of patterns or of a table holds no secret.
+use Rattle.std.specs.Prelude.{◌≡◌, ◌⊎◌, ℕ, ◌+◌, ◌-◌, ◌^◌, min, Bool, MatchBool, true, false, List, [], ◌∷◌, ◌++◌, codes, length, nat_eq}
+use Rattle.std.specs.Io.BufRead.{ends_with_byte}
+use Rattle.acredact.specs.Tables.{IsWithout, in_table, stripped_by}
+use Rattle.acredact.specs.declared.patterns.BadLine.{BadLine}
+use Rattle.acredact.specs.declared.patterns.Form.{Form}
+use Rattle.acredact.specs.declared.patterns.LineFault.{LineFault}
+use Rattle.acredact.specs.declared.patterns.LineFault.TheVariants.{EmptyPattern, NoTab, SecondTab, BadEscape, CarriageReturn, OutOfMemory}
+
+-- behind a backslash stands none of 't', 'n' and a backslash
+abbrev pub NamesNone : List ℕ → Type 0
+NamesNone [] = Unit {0}
+NamesNone (byte ∷ bytes) = (nat_eq byte 116 ≡ false) × (nat_eq byte 110 ≡ false) × (nat_eq byte 92 ≡ false)
+
+-- a text begins with what stands for no byte in a table: a TAB, or else a line end or a backslash that names no byte
+abbrev pub IsBadStart : List ℕ → LineFault → Type 0
+IsBadStart text EmptyPattern = ⊥
+IsBadStart text NoTab = ⊥
+IsBadStart text SecondTab = (rest : List ℕ) × (text ≡ 9 ∷ rest)
+IsBadStart text BadEscape = (rest : List ℕ) × ((text ≡ 10 ∷ rest) ⊎ ((text ≡ 92 ∷ rest) × NamesNone rest))
+IsBadStart text CarriageReturn = ⊥
+IsBadStart text OutOfMemory = ⊥
+
+-- that is so of a text behind some bytes, or memory runs out
+abbrev pub IsTextFault : List ℕ → LineFault → Type 0
+IsTextFault text fault = (fault ≡ OutOfMemory) ⊎ ((bytes : List ℕ) × (rest : List ℕ) × (text ≡ in_table bytes ++ rest) × IsBadStart rest fault)
+
+-- a line of a file of patterns is empty
+abbrev pub IsPlainFault : List ℕ → LineFault → Type 0
+IsPlainFault line fault = (fault ≡ OutOfMemory) ⊎ ((fault ≡ EmptyPattern) × (line ≡ []))
+
+-- a line of a table has no TAB, nothing before it, or before or behind it what stands for no byte
+abbrev pub IsRowFault : List ℕ → LineFault → Type 0
+IsRowFault line fault =
+    ((fault ≡ NoTab) × IsWithout 9 line)
+    ⊎ ((before : List ℕ) × (behind : List ℕ) × (line ≡ before ++ (9 ∷ behind)) × IsWithout 9 before
+    × (((fault ≡ EmptyPattern) × (before ≡ [])) ⊎ (IsTextFault before fault ⊎ IsTextFault behind fault)))
+
+-- why a line holds no secret, where memory does not run out
+abbrev pub IsLineFault : Bool → List ℕ → LineFault → Type 0
+IsLineFault table line fault = (fault ≡ OutOfMemory) ⊎ MatchBool table (IsRowFault line fault) (IsPlainFault line fault)
+
+-- and why a line of a file does not
+abbrev pub IsLineFaultBy : Form → List ℕ → LineFault → Type 0
+IsLineFaultBy form line fault =
+    ((fault ≡ CarriageReturn) × (form.table ≡ false) × (ends_with_byte 13 (stripped_by form line) ≡ true))
+    ⊎ IsLineFault form.table (stripped_by form line) fault
+
+-- the line of this number among some lines holds no secret for this reason
+pub record IsListFault (form : Form) (lines : List (List ℕ)) (bad : BadLine) : Type 0 where
+  pub front : List (List ℕ)
+  pub line : List ℕ
+  pub rest : List (List ℕ)
+  pub are : lines ≡ front ++ (line ∷ rest)
+  pub number : bad.number ≡ min (length front + 1) (2 ^ 64 - 1)
+  pub fault : IsLineFaultBy form line bad.fault
+
+-- what is told of it
+abbrev pub line_fault_text : LineFault → List ℕ
+line_fault_text EmptyPattern = codes "empty pattern"
+line_fault_text NoTab = codes "no TAB"
+line_fault_text SecondTab = codes "second TAB: write \\t"
+line_fault_text BadEscape = codes "bad escape: write \\t, \\n or \\\\"
+line_fault_text CarriageReturn = codes "carriage return at the end of a pattern: give --crlf to leave it out"
+line_fault_text OutOfMemory = codes "out of memory"

@@ -1,0 +1,14 @@
+-- What is read of the file of a name.
+use Rattle.std.specs.Prelude.{◌≡◌, ℕ, MatchBool, List, Option}
+use Rattle.std.specs.Io.KnownBytes.{Consumes, IsAtEnd}
+use Rattle.programs.specs.Names.{is_input}
+
+-- it is what the input has left, or what the folder holds under the name
+abbrev pub OfName : (holds : List ℕ → Option (List ℕ)) → List ℕ → (Option (List ℕ) → Option (List ℕ) → Type 0) → (left left' : Option (List ℕ)) → Type 0
+OfName holds name Reads left left' =
+    MatchBool (is_input name) (Reads left left') ((left' ≡ left) × (rest : Option (List ℕ)) × Reads (holds name) rest)
+
+-- a text was read to its end
+pub record ReadsText (text : List ℕ) (left left' : Option (List ℕ)) : Type 0 where
+  pub read : Consumes left left' text
+  pub ended : IsAtEnd left'

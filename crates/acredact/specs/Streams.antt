@@ -1,0 +1,50 @@
+-- What the redaction of one stream reads and writes.
+use Rattle.std.specs.Prelude.{◌≡◌, ℕ, Bool, List, Result, IfErr, OnErr, OnOk, true}
+use Rattle.std.specs.Io.KnownBytes.{Appends}
+use Rattle.aho_core.specs.declared.error.stream.StreamError.{StreamError}
+use Rattle.aho_devices.specs.Counts.{AppendsBeginning, counted}
+use Rattle.aho_devices.specs.Refusals.{IsWriteRefusal, is_read_fault, is_write_fault, is_write_of_nothing}
+use Rattle.aho_devices.specs.declared.device.Sink.{Ghosts as SinkGhosts}
+use Rattle.aho_devices.specs.declared.device.Source.{Ghosts as SourceGhosts}
+use Rattle.aho_stream.specs.After.{greatest_position}
+use Rattle.aho_stream.specs.Refills.{is_limit}
+use Rattle.aho_stream.specs.Replacing.{GaveAsMany, SourceGave}
+use Rattle.acredact.specs.Secrets.{BeginsRedaction, IsRedaction, Redactor}
+use Rattle.acredact.specs.Faults.{IsStreamEnd}
+
+-- a piece was written, or a beginning of it where a write failed or took nothing
+pub record WritesPiece {W : Type 0} (K : SinkGhosts W) (result : Result (Unit {0}) StreamError) (sink sink' : W) (piece : List ℕ) : Type 0 where
+  pub whole : OnOk result (Appends (K.taken sink) (K.taken sink') piece)
+  pub beginning : OnErr result (AppendsBeginning (K.taken sink) (K.taken sink') piece)
+  pub write_failed : K.failures sink' ≡ counted (is_write_fault result) (K.failures sink)
+  pub took_nothing : K.empty_writes sink' ≡ counted (is_write_of_nothing result) (K.empty_writes sink)
+  pub only : IfErr result IsWriteRefusal
+
+-- from a source and a sink before a call to those after it
+module _ {R W : Type 0} (S : SourceGhosts R) (K : SinkGhosts W) where
+  -- a stream has ended, and its redaction was written
+  pub record RedactsStream (r : Redactor) (source source' : R) (sink sink' : W) : Type 0 where
+    pub text : List ℕ
+    pub gives : SourceGave S source source' text true
+    pub redaction : List ℕ
+    pub redacts : IsRedaction r text redaction
+    pub written : Appends (K.taken sink) (K.taken sink') redaction
+
+  -- some of a stream was read, and a beginning of its redaction was written
+  pub record StartsStream (r : Redactor) (source source' : R) (sink sink' : W) : Type 0 where
+    pub given : List ℕ
+    pub ended : Bool
+    pub gives : SourceGave S source source' given ended
+    pub part : List ℕ
+    pub begins : BeginsRedaction r given ended part
+    pub written : Appends (K.taken sink) (K.taken sink') part
+
+  -- what comes of a stream: a fault of a device is answered exactly where its count rose, and the limit where it was met
+  pub record StreamOutcome (r : Redactor) (result : Result (Unit {0}) StreamError) (source source' : R) (sink sink' : W) : Type 0 where
+    pub redacted : OnOk result (RedactsStream r source source' sink sink')
+    pub begun : StartsStream r source source' sink sink'
+    pub read_failed : S.failures source' ≡ counted (is_read_fault result) (S.failures source)
+    pub write_failed : K.failures sink' ≡ counted (is_write_fault result) (K.failures sink)
+    pub took_nothing : K.empty_writes sink' ≡ counted (is_write_of_nothing result) (K.empty_writes sink)
+    pub limit : is_limit result ≡ true → GaveAsMany S source source' greatest_position
+    pub only : IfErr result IsStreamEnd

@@ -1,0 +1,16 @@
+//! What a call of the program reads and writes besides files.
+
+use aho_devices::adapters::{FromRead, FromWrite};
+use programs::errors::Errors;
+use std::io::Read;
+
+/// The streams of a call.
+#[derive(Drop)]
+pub struct Streams<'c, I: Read, W, E> {
+    /// Standard input.
+    pub input: FromRead<I>,
+    /// Standard output.
+    pub output: FromWrite<W>,
+    /// Standard error.
+    pub errors: Errors<'c, E>,
+}
