@@ -205,7 +205,7 @@ module _ {A R W F : Type 0} (G : Ghosts A) (S : SourceGhosts R) (K : SinkGhosts 
   some_one = some_by G S K automaton r of are can source source' sink sink'
 
   -- what a run took, by the finds of any text that may come
-  over_takes : (result : Result (Unit {0}) StreamError) (over : RunsOver G S K automaton calls source source' closure sink result sink') (bytes : List ℕ) (ms : List Occurrence)
+  over_takes : (result : Result (Unit {0}) StreamError) (over : RunsOver S K (G.is_of automaton) calls source source' closure sink result sink') (bytes : List ℕ) (ms : List Occurrence)
       → MayBe over.given over.ended bytes → AreFinds r.patterns (plain_search bytes) None ms → Takes K over.stopped result sink sink' (replaced bytes ms r.pieces)
   over_takes result over bytes ms may found =
       let run = over.run r.patterns bytes ms of may found in
@@ -215,13 +215,13 @@ module _ {A R W F : Type 0} (G : Ghosts A) (S : SourceGhosts R) (K : SinkGhosts 
       ms 0 closure sink result run.0 sink' fits run.1
 
   -- that of the bytes that were given
-  given_takes : (result : Result (Unit {0}) StreamError) (over : RunsOver G S K automaton calls source source' closure sink result sink')
+  given_takes : (result : Result (Unit {0}) StreamError) (over : RunsOver S K (G.is_of automaton) calls source source' closure sink result sink')
       → (ms : List Occurrence) × AreFinds r.patterns (plain_search over.given) None ms × Takes K over.stopped result sink sink' (replaced over.given ms r.pieces)
   given_takes result over =
       let finds = finds-exist r.patterns (plain_search over.given) None (le_refl (length over.given)) in
       (finds.0, finds.1, over_takes result over over.given finds.0 (no_more over.given over.ended) finds.1)
 
-  ran_whole : RunsOver G S K automaton calls source source' closure sink (Ok tt) sink' → StreamOutcome S K r (Ok tt) source source' sink sink'
+  ran_whole : RunsOver S K (G.is_of automaton) calls source source' closure sink (Ok tt) sink' → StreamOutcome S K r (Ok tt) source source' sink sink'
   ran_whole over =
       let taken = given_takes (Ok tt) over in
       let whole : RedactsStream S K r source source' sink sink' = record {
@@ -241,7 +241,7 @@ module _ {A R W F : Type 0} (G : Ghosts A) (S : SourceGhosts R) (K : SinkGhosts 
         only = tt;
       }
 
-  ran_begun : (error : StreamError) → RunsOver G S K automaton calls source source' closure sink (Err error) sink' → StreamOutcome S K r (Err error) source source' sink sink'
+  ran_begun : (error : StreamError) → RunsOver S K (G.is_of automaton) calls source source' closure sink (Err error) sink' → StreamOutcome S K r (Err error) source source' sink sink'
   ran_begun error over =
       let taken = given_takes (Err error) over in
       let begun = begins_each r some_one over.given over.ended (K.taken sink) (K.taken sink') (λ bytes ms may found. (over_takes (Err error) over bytes ms may found).beginning) in
@@ -251,11 +251,11 @@ module _ {A R W F : Type 0} (G : Ghosts A) (S : SourceGhosts R) (K : SinkGhosts 
         read_failed = over.read_failed ∙ ap (λ (b : Bool). counted b (S.failures source)) (read_stops over.stopped error taken.2.only);
         write_failed = taken.2.write_failed;
         took_nothing = taken.2.took_nothing;
-        limit = λ met. (over.given, over.gives.bytes, over.limit (limit_stops over.stopped error taken.2.only met) met);
+        limit = λ met. let at_limit = over.limit (limit_stops over.stopped error taken.2.only met) met in (over.given, subst (SourceGave S source source' over.given) at_limit.1 over.gives, at_limit.0);
         only = no_refusal over.stopped error taken.2.only;
       }
 
-  ran : (result : Result (Unit {0}) StreamError) → RunsOver G S K automaton calls source source' closure sink result sink' → StreamOutcome S K r result source source' sink sink'
+  ran : (result : Result (Unit {0}) StreamError) → RunsOver S K (G.is_of automaton) calls source source' closure sink result sink' → StreamOutcome S K r result source source' sink sink'
   ran (Ok tt) over = ran_whole over
   ran (Err error) over = ran_begun error over
 
@@ -286,7 +286,7 @@ module _ {A R W F : Type 0} (G : Ghosts A) (S : SourceGhosts R) (K : SinkGhosts 
 
   -- whatever is answered
   pub counted_of : (result : Result (Unit {0}) StreamError)
-      → (CanBegin G automaton → RefusesUntouched result Memory source source' sink sink' ⊎ RunsOver G S K automaton calls source source' closure sink result sink')
+      → (CanBegin G automaton → RefusesUntouched result Memory source source' sink sink' ⊎ RunsOver S K (G.is_of automaton) calls source source' closure sink result sink')
       → StreamOutcome S K r result source source' sink sink'
   counted_of result runs =
       elim (runs can) [

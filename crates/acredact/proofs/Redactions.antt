@@ -21,7 +21,7 @@ use Rattle.aho_laws.proofs.Iterations.{finds-exist}
 use Rattle.aho_automaton.specs.declared.automaton.Automaton.{Ghosts}
 use Rattle.aho_stream.specs.After.{greatest_position}
 use Rattle.aho_stream.specs.Refills.{is_limit}
-use Rattle.aho_stream.specs.Replacing.{BeginsStream, GaveAsMany, MayBe, ReplacesStream, SourceGave}
+use Rattle.aho_stream.specs.Replacing.{BeginsReplacing, GaveAsMany, MayBe, ReplacesStream, SourceGave}
 use Rattle.aho_stream.specs.StreamRun.{CanBegin}
 use Rattle.acredact.specs.Faults.{IsStreamEnd}
 use Rattle.acredact.specs.Secrets.{BeginsRedaction, IsRedaction, Redactor}
@@ -74,7 +74,7 @@ module _ {A R W : Type 0} (G : Ghosts A) (S : SourceGhosts R) (K : SinkGhosts W)
   pub some_by : 1 ≤ shortest (map length r.patterns.words)
   some_by = some_of G automaton r.patterns are can
 
-  whole_of : ReplacesStream G S K automaton r.pieces source source' sink sink' → RedactsStream S K r source source' sink sink'
+  whole_of : ReplacesStream S K (G.is_of automaton) r.pieces source source' sink sink' → RedactsStream S K r source source' sink sink'
   whole_of whole =
       let finds = finds-exist r.patterns (plain_search whole.given) None (le_refl (length whole.given)) in
       record {
@@ -85,7 +85,7 @@ module _ {A R W : Type 0} (G : Ghosts A) (S : SourceGhosts R) (K : SinkGhosts W)
         written = whole.writes r.patterns finds.0 of finds.1;
       }
 
-  begun_of : BeginsStream G S K automaton r.pieces source source' sink sink' → StartsStream S K r source source' sink sink'
+  begun_of : BeginsReplacing S K (G.is_of automaton) r.pieces source source' sink sink' → StartsStream S K r source source' sink sink'
   begun_of begun = record {
     given = begun.given;
     ended = begun.ended;
@@ -105,8 +105,8 @@ module _ {A R W : Type 0} (G : Ghosts A) (S : SourceGhosts R) (K : SinkGhosts W)
   never_refused result Memory is suits = tt
   never_refused result PositionLimit is suits = tt
 
-  pub outcome_of : (result : Result (Unit {0}) StreamError) → OnOk result (ReplacesStream G S K automaton r.pieces source source' sink sink')
-      → OnErr result (BeginsStream G S K automaton r.pieces source source' sink sink')
+  pub outcome_of : (result : Result (Unit {0}) StreamError) → OnOk result (ReplacesStream S K (G.is_of automaton) r.pieces source source' sink sink')
+      → OnErr result (BeginsReplacing S K (G.is_of automaton) r.pieces source source' sink sink')
       → S.failures source' ≡ counted (is_read_fault result) (S.failures source)
       → K.failures sink' ≡ counted (is_write_fault result) (K.failures sink)
       → K.empty_writes sink' ≡ counted (is_write_of_nothing result) (K.empty_writes sink)
