@@ -51,8 +51,8 @@ abbrev pub GivesFirstFinds : {S : Type 0} → (S → Option Occurrence → S →
 GivesFirstFinds gives p search it = EachRunFrom gives it (λ run. AreFirstFinds p search None run.items)
 
 -- the places of a span, its end among them
-abbrev pub places : Search → ℕ
-places search = search.end + 1 - search.start
+abbrev pub span_places : Search → ℕ
+span_places search = search.end + 1 - search.start
 
 -- so it is of the finds of a haystack, whatever patterns the automaton is of
 abbrev pub HoldsOfFinds : (Patterns → Type 0) → List ℕ → (List Occurrence → Type 0) → Type 0

@@ -1,4 +1,5 @@
 pub mod Reading
+pub mod Effects
 pub mod Finding
 pub mod Fused
 pub mod Overlaps

@@ -91,5 +91,5 @@ RefusesFirst kind start search old result =
     (reason : MatchErrorKind) → kind ≡ Standard → old.id ≡ None → search.start ≤ search.end → start search.anchored ≡ Err reason → result ≡ Err reason
 
 -- what is found in a span that starts above its end: nothing, and only the last match is forgotten
-abbrev pub FindsNone : Progress → Progress → Result (Unit {0}) MatchErrorKind → Type 0
-FindsNone old new result = (result ≡ Ok tt) × (new ≡ without_match old)
+abbrev pub FindsNothing : Progress → Progress → Result (Unit {0}) MatchErrorKind → Type 0
+FindsNothing old new result = (result ≡ Ok tt) × (new ≡ without_match old)

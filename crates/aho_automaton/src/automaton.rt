@@ -28,9 +28,9 @@ ghost use Rattle.aho_core.specs.declared.search.MatchKind.TheVariants.{Standard}
 ghost use Rattle.aho_core.specs.Steps.{GoesOn, IsPaid};
 ghost use Rattle.aho_prefilter.specs.Prefilter.{IsPrefilterOf};
 ghost use Rattle.aho_prefilter.specs.declared.prefilter.Searcher.{Searcher};
-ghost use Rattle.aho_automaton.specs.Finding.{GivesFinds, GivesFirstFinds, HoldsOfFinds, places};
+ghost use Rattle.aho_automaton.specs.Finding.{GivesFinds, GivesFirstFinds, HoldsOfFinds, span_places};
 ghost use Rattle.aho_automaton.specs.Fused.{IsFused};
-ghost use Rattle.aho_automaton.specs.Overlaps.{FindsNext, FindsNone, FitsNext, FitsSome, ListsAll, ListsFirst, RefusesFirst};
+ghost use Rattle.aho_automaton.specs.Overlaps.{FindsNext, FindsNothing, FitsNext, FitsSome, ListsAll, ListsFirst, RefusesFirst};
 
 mod reference;
 mod with_prefilter;
@@ -259,8 +259,8 @@ pub trait Automaton {
         ensures found { (p : Patterns) → is_of self.now p → IfOk result (IsAnswer p input.now) }
         ensures error { IfErr result (λ reason. start self.now input.now.anchored ≡ Err reason) }
         ensures ok { (sid : ℕ) → start self.now input.now.anchored ≡ Ok sid → IsOk result }
-        ensures refused { (reason : MatchErrorKind) → input.now.start ≤ input.now.end →
-            start self.now input.now.anchored ≡ Err reason → result ≡ Err reason }
+        ensures refused { (e : MatchErrorKind) → input.now.start ≤ input.now.end →
+            start self.now input.now.anchored ≡ Err e → result ≡ Err e }
         ensures done { input.now.end < input.now.start → result ≡ Ok None }
     {
         let mut walk = Counted::new(self);
@@ -302,11 +302,11 @@ pub trait Automaton {
         ensures first { (p : Patterns) → is_of self.now p → IfOk result
             (GivesFirstFinds ⟦<FindIter<'a, 'h, Self> as Iterator>⟧.next_gives p input.entry) }
         ensures bound { IfOk result (λ it. UpTo
-            (⟦<FindIter<'a, 'h, Self> as Iterator>⟧.remaining it) (places input.entry)) }
+            (⟦<FindIter<'a, 'h, Self> as Iterator>⟧.remaining it) (span_places input.entry)) }
         ensures fused { IfOk result (IsFused ⟦<FindIter<'a, 'h, Self> as Iterator>⟧.next_gives) }
         ensures error { IfErr result (λ reason. start self.now input.entry.anchored ≡ Err reason) }
-        ensures refused { (reason : MatchErrorKind) → start self.now input.entry.anchored ≡ Err reason
-            → result ≡ Err reason }
+        ensures refused { (e : MatchErrorKind) → start self.now input.entry.anchored ≡ Err e
+            → result ≡ Err e }
         ensures ok { (sid : ℕ) → start self.now input.entry.anchored ≡ Ok sid → IsOk result }
     {
         FindIter::new(self, input)
@@ -346,7 +346,7 @@ pub trait Automaton {
             → IsOk result }
         ensures cleared { IfErr result (λ _. state.new ≡ without_match state.old) }
         ensures done { kind self.now ≡ Standard → input.now.end < input.now.start
-            → FindsNone state.old state.new result }
+            → FindsNothing state.old state.new result }
         ensures found { FindsNext (is_of self.now) (valid self.now) (held self.now) input.now
             state.old state.new result }
         ensures fits { FitsNext (is_of self.now) (valid self.now) (held self.now) input.now
@@ -374,15 +374,15 @@ pub trait Automaton {
             → result ≡ Err (UnsupportedOverlapping (kind self.now)) }
         ensures anchored { kind self.now ≡ Standard → input.entry.anchored ≡ Yes
             → result ≡ Err InvalidInputAnchored }
-        ensures refused { (reason : MatchErrorKind) → kind self.now ≡ Standard
-            → input.entry.anchored ≡ No → start self.now No ≡ Err reason → result ≡ Err reason }
+        ensures refused { (e : MatchErrorKind) → kind self.now ≡ Standard
+            → input.entry.anchored ≡ No → start self.now No ≡ Err e → result ≡ Err e }
         ensures ok { (sid : ℕ) → kind self.now ≡ Standard → input.entry.anchored ≡ No
             → start self.now No ≡ Ok sid → IsOk result }
         ensures ready { (p : Patterns) → is_of self.now p
             → IfOk result ⟦<FindOverlappingIter<'a, 'h, Self> as Iterator>⟧.can_next }
         ensures bound { IfOk result (λ it.
             UpTo (⟦<FindOverlappingIter<'a, 'h, Self> as Iterator>⟧.remaining it)
-            (length (lengths self.now) * places input.entry)) }
+            (length (lengths self.now) * span_places input.entry)) }
         ensures lists { (p : Patterns) → is_of self.now p → IfOk result
             (ListsAll ⟦<FindOverlappingIter<'a, 'h, Self> as Iterator>⟧.next_gives p input.entry) }
         ensures first { (p : Patterns) → is_of self.now p → IfOk result
@@ -422,8 +422,8 @@ pub trait Automaton {
         ensures replaced { HoldsOfFinds (is_of self.now) haystack.now (λ ms.
             IfOk result (λ text. string_bytes text ≡
             replaced haystack.now (on_boundaries haystack.now ms) (pieces_of replace_with.now))) }
-        ensures refused { (reason : MatchErrorKind) → start self.now No ≡ Err reason →
-            result ≡ Err (ReplaceError.Match reason) }
+        ensures refused { (e : MatchErrorKind) → start self.now No ≡ Err e →
+            result ≡ Err (ReplaceError.Match e) }
         ensures error { (reason : MatchErrorKind) → result ≡ Err (ReplaceError.Match reason) →
             start self.now No ≡ Err reason }
     {
@@ -454,8 +454,8 @@ pub trait Automaton {
         ensures replaced { HoldsOfFinds (is_of self.now) haystack.now (λ ms.
             IfOk result (λ bytes. vec_items bytes ≡
             replaced haystack.now ms (pieces_of replace_with.now))) }
-        ensures refused { (reason : MatchErrorKind) → start self.now No ≡ Err reason →
-            result ≡ Err (ReplaceError.Match reason) }
+        ensures refused { (e : MatchErrorKind) → start self.now No ≡ Err e →
+            result ≡ Err (ReplaceError.Match e) }
         ensures error { (reason : MatchErrorKind) → result ≡ Err (ReplaceError.Match reason) →
             start self.now No ≡ Err reason }
     {
@@ -495,8 +495,8 @@ pub trait Automaton {
             result ≡ Err ReplaceError.Memory →
             RunsInMemory F.FnMut string_bytes haystack.now
             (on_boundaries haystack.now ms) replace_with dst.old (Err alloc_error) dst.new) }
-        ensures refused { (reason : MatchErrorKind) → start self.now No ≡ Err reason →
-            result ≡ Err (ReplaceError.Match reason) }
+        ensures refused { (e : MatchErrorKind) → start self.now No ≡ Err e →
+            result ≡ Err (ReplaceError.Match e) }
         ensures error { (reason : MatchErrorKind) → result ≡ Err (ReplaceError.Match reason) →
             start self.now No ≡ Err reason }
         ensures unchanged { (reason : MatchErrorKind) → result ≡ Err (ReplaceError.Match reason) →
@@ -534,8 +534,8 @@ pub trait Automaton {
             result ≡ Err ReplaceError.Memory →
             RunsInMemory F.FnMut vec_items haystack.now
             ms replace_with dst.old (Err alloc_error) dst.new) }
-        ensures refused { (reason : MatchErrorKind) → start self.now No ≡ Err reason →
-            result ≡ Err (ReplaceError.Match reason) }
+        ensures refused { (e : MatchErrorKind) → start self.now No ≡ Err e →
+            result ≡ Err (ReplaceError.Match e) }
         ensures error { (reason : MatchErrorKind) → result ≡ Err (ReplaceError.Match reason) →
             start self.now No ≡ Err reason }
         ensures unchanged { (reason : MatchErrorKind) → result ≡ Err (ReplaceError.Match reason) →

@@ -40,13 +40,12 @@
 ghost use Rattle.std.specs.Prelude.{◌≡◌, ℕ, [], ◌+◌, ◌-◌, ◌*◌, ◌<◌, ◌≤◌, ◌^◌, IsOk, IfOk, IfErr, Ok, Err, None, Some, IsSome, Result, length, false, true};
 ghost use Rattle.aho_core.specs.Answer.{IsAnswer};
 ghost use Rattle.aho_core.specs.Laws.{Fits, first_is_answer, told};
-ghost use Rattle.aho_core.specs.Occurrence.{Occurrence};
 ghost use Rattle.aho_core.specs.Patterns.{Patterns};
 ghost use Rattle.aho_core.specs.Search.{search_of};
 ghost use Rattle.aho_core.specs.declared.error.MatchErrorKind.{MatchErrorKind};
-ghost use Rattle.aho_core.specs.declared.search.Anchored.TheVariants.{No, Yes};
+ghost use Rattle.aho_core.specs.declared.search.Anchored.TheVariants.{No};
 ghost use Rattle.aho_prefilter.specs.Candidate.{IsCandidate};
-ghost use Rattle.aho_automaton.specs.Reading.{ReadsLongest, ReadsNear, ReadsUpTo};
+ghost use Rattle.aho_automaton.specs.Effects.{BeginsIn, Costs, CostsNothing, ReadsNoFurther, Untouched};
 ghost use Rattle.aho_automaton.specs.WalkEnds.{AnswersSearch, WaitsFor, WaitsOnlyIf, WaitsWithin};
 ghost use Rattle.aho_automaton.specs.declared.find.WalkEnd.TheVariants.{Answer};
 
@@ -151,31 +150,18 @@ fn find_from<W: Walk, T: Text>(
     requires unread { T.next text.old ≤ span.start }
     requires room { W.lookups walk.old + 2 * (span.end - span.start) < 2 ^ 128 }
     requires of { (p : Patterns) × W.Of.is_of (W.of walk.old) p }
-    requires valid { W.Of.valid (W.of walk.old) sid }
+    requires begins { BeginsIn W.Of.Automaton (W.of walk.old) anchored sid }
     requires unanchored { may_wait ≡ true → anchored ≡ No }
-    requires shallow { W.Of.depth (W.of walk.old) sid ≡ 0 }
-    requires begins { (p : Patterns) → W.Of.is_of (W.of walk.old) p →
-        W.Of.held (W.of walk.old) p anchored [] sid }
     ensures found { (p : Patterns) → W.Of.is_of (W.of walk.old) p →
         AnswersSearch p (search_of (T.bytes text.old) span anchored earliest) result }
-    ensures forward { T.next text.old ≤ T.next text.new }
     ensures may_wait { WaitsOnlyIf may_wait result }
     ensures waits_within { WaitsWithin span.start span.end (T.next text.new) result }
     ensures waits_for { (p : Patterns) → W.Of.is_of (W.of walk.old) p →
         WaitsFor p (T.bytes text.old) span.start span.end result }
-    ensures same_walk { W.of walk.new ≡ W.of walk.old }
-    ensures same_text { T.bytes text.new ≡ T.bytes text.old }
-    ensures cost { W.lookups walk.new ≤ W.lookups walk.old + 2 * (T.next text.new - span.start) }
-    ensures two_a_byte { W.lookups walk.new
-        ≤ W.lookups walk.old + 2 * (T.reads text.new - T.reads text.old) }
-    ensures grows { W.lookups walk.old ≤ W.lookups walk.new }
-    ensures reads_grow { T.reads text.old ≤ T.reads text.new }
-    ensures once { T.reads text.new - T.reads text.old ≤ T.next text.new - span.start }
-    ensures read { ReadsUpTo (T.next text.old) (T.next text.new) span.end }
-    ensures near { anchored ≡ No → (m : Occurrence) → result ≡ Answer (Some m) →
-        ReadsNear W.Of.Automaton (W.of walk.old) T.Text text.old text.new earliest m }
-    ensures anchored_near { anchored ≡ Yes →
-        ReadsLongest W.Of.Automaton (W.of walk.old) T.Text text.old text.new span.start }
+    ensures untouched { Untouched W.Walk T.Text walk.old walk.new text.old text.new }
+    ensures costs { Costs W.Walk T.Text walk.old walk.new text.old text.new span.start }
+    ensures reads { ReadsNoFurther W.Of.Automaton (W.of walk.old) T.Text text.old text.new
+        (search_of (T.bytes text.old) span anchored earliest) (λ m. result ≡ Answer (Some m)) }
 {
     let Span { start, end } = span;
     let stops = stops_at_first(walk, earliest);
@@ -220,26 +206,13 @@ fn find_to_end<W: Walk, T: Text>(
     requires unread { T.next text.old ≤ span.start }
     requires room { W.lookups walk.old + 2 * (span.end - span.start) < 2 ^ 128 }
     requires of { (p : Patterns) × W.Of.is_of (W.of walk.old) p }
-    requires valid { W.Of.valid (W.of walk.old) sid }
-    requires shallow { W.Of.depth (W.of walk.old) sid ≡ 0 }
-    requires begins { (p : Patterns) → W.Of.is_of (W.of walk.old) p →
-        W.Of.held (W.of walk.old) p anchored [] sid }
+    requires begins { BeginsIn W.Of.Automaton (W.of walk.old) anchored sid }
     ensures found { (p : Patterns) → W.Of.is_of (W.of walk.old) p →
         IsAnswer p (search_of (T.bytes text.old) span anchored earliest) result }
-    ensures forward { T.next text.old ≤ T.next text.new }
-    ensures same_walk { W.of walk.new ≡ W.of walk.old }
-    ensures same_text { T.bytes text.new ≡ T.bytes text.old }
-    ensures cost { W.lookups walk.new ≤ W.lookups walk.old + 2 * (T.next text.new - span.start) }
-    ensures two_a_byte { W.lookups walk.new
-        ≤ W.lookups walk.old + 2 * (T.reads text.new - T.reads text.old) }
-    ensures grows { W.lookups walk.old ≤ W.lookups walk.new }
-    ensures reads_grow { T.reads text.old ≤ T.reads text.new }
-    ensures once { T.reads text.new - T.reads text.old ≤ T.next text.new - span.start }
-    ensures read { ReadsUpTo (T.next text.old) (T.next text.new) span.end }
-    ensures near { anchored ≡ No → (m : Occurrence) → result ≡ Some m →
-        ReadsNear W.Of.Automaton (W.of walk.old) T.Text text.old text.new earliest m }
-    ensures anchored_near { anchored ≡ Yes →
-        ReadsLongest W.Of.Automaton (W.of walk.old) T.Text text.old text.new span.start }
+    ensures untouched { Untouched W.Walk T.Text walk.old walk.new text.old text.new }
+    ensures costs { Costs W.Walk T.Text walk.old walk.new text.old text.new span.start }
+    ensures reads { ReadsNoFurther W.Of.Automaton (W.of walk.old) T.Text text.old text.new
+        (search_of (T.bytes text.old) span anchored earliest) (λ m. result ≡ Some m) }
 {
     match find_from(walk, text, span, anchored, earliest, false, sid) {
         WalkEnd::Answer(found) => found,
@@ -286,24 +259,13 @@ fn find_skipping<W: Walk, T: Text>(
     requires unread { T.next text.old ≤ span.start }
     requires room { W.lookups walk.old + 2 * (span.end - span.start) < 2 ^ 128 }
     requires of { (p : Patterns) × W.Of.is_of (W.of walk.old) p }
-    requires valid { W.Of.valid (W.of walk.old) sid }
-    requires shallow { W.Of.depth (W.of walk.old) sid ≡ 0 }
-    requires begins { (p : Patterns) → W.Of.is_of (W.of walk.old) p →
-        W.Of.held (W.of walk.old) p No [] sid }
+    requires begins { BeginsIn W.Of.Automaton (W.of walk.old) No sid }
     ensures found { (p : Patterns) → W.Of.is_of (W.of walk.old) p →
         IsAnswer p (search_of (T.bytes text.old) span No earliest) result }
-    ensures forward { T.next text.old ≤ T.next text.new }
-    ensures same_walk { W.of walk.new ≡ W.of walk.old }
-    ensures same_text { T.bytes text.new ≡ T.bytes text.old }
-    ensures cost { W.lookups walk.new ≤ W.lookups walk.old + 2 * (T.next text.new - span.start) }
-    ensures two_a_byte { W.lookups walk.new
-        ≤ W.lookups walk.old + 2 * (T.reads text.new - T.reads text.old) }
-    ensures grows { W.lookups walk.old ≤ W.lookups walk.new }
-    ensures reads_grow { T.reads text.old ≤ T.reads text.new }
-    ensures once { T.reads text.new - T.reads text.old ≤ T.next text.new - span.start }
-    ensures read { ReadsUpTo (T.next text.old) (T.next text.new) span.end }
-    ensures near { (m : Occurrence) → result ≡ Some m →
-        ReadsNear W.Of.Automaton (W.of walk.old) T.Text text.old text.new earliest m }
+    ensures untouched { Untouched W.Walk T.Text walk.old walk.new text.old text.new }
+    ensures costs { Costs W.Walk T.Text walk.old walk.new text.old text.new span.start }
+    ensures reads { ReadsNoFurther W.Of.Automaton (W.of walk.old) T.Text text.old text.new
+        (search_of (T.bytes text.old) span No earliest) (λ m. result ≡ Some m) }
 {
     let Span { start, end } = span;
     let mut at = start;
@@ -358,38 +320,24 @@ pub fn find_in<W: Walk, T: Text>(
         IfOk result (IsAnswer p (search_of (T.bytes text.old) span anchored earliest)) }
     ensures error { IfErr result (λ reason. W.Of.start (W.of walk.old) anchored ≡ Err reason) }
     ensures ok { (sid : ℕ) → W.Of.start (W.of walk.old) anchored ≡ Ok sid → IsOk result }
-    ensures refused { (reason : MatchErrorKind) → span.start ≤ span.end →
-        W.Of.start (W.of walk.old) anchored ≡ Err reason → result ≡ Err reason }
+    ensures refused { (e : MatchErrorKind) → span.start ≤ span.end →
+        W.Of.start (W.of walk.old) anchored ≡ Err e → result ≡ Err e }
     ensures done { span.end < span.start → result ≡ Ok None }
 
-    // What stays, and what it costs: two look-ups at most for each byte that it reads, and no more reads than it passes
-    // bytes from the span's start on.
-    ensures same_walk { W.of walk.new ≡ W.of walk.old }
-    ensures same_text { T.bytes text.new ≡ T.bytes text.old }
-    ensures cost { W.lookups walk.new ≤ W.lookups walk.old + 2 * (T.next text.new - span.start) }
+    // What stays, and what it costs: at most two look-ups for each byte that it reads.
+    ensures untouched { Untouched W.Walk T.Text walk.old walk.new text.old text.new }
+    ensures costs { Costs W.Walk T.Text walk.old walk.new text.old text.new span.start }
     ensures cost_of_span { W.lookups walk.new ≤ W.lookups walk.old + 2 * (span.end - span.start) }
-    ensures two_a_byte { W.lookups walk.new
-        ≤ W.lookups walk.old + 2 * (T.reads text.new - T.reads text.old) }
-    ensures grows { W.lookups walk.old ≤ W.lookups walk.new }
-    ensures reads_grow { T.reads text.old ≤ T.reads text.new }
-    ensures once { T.reads text.new - T.reads text.old ≤ T.next text.new - span.start }
 
-    // No byte comes again: the place that may be read next never falls.
-    ensures forward { T.next text.old ≤ T.next text.new }
-
-    // How far it reads: an unanchored search not far past the match that it finds, an anchored one not far past the longest
-    // pattern.
-    ensures read { ReadsUpTo (T.next text.old) (T.next text.new) span.end }
-    ensures near { anchored ≡ No → (m : Occurrence) → result ≡ Ok (Some m) →
-        ReadsNear W.Of.Automaton (W.of walk.old) T.Text text.old text.new earliest m }
-    ensures anchored_near { anchored ≡ Yes →
-        ReadsLongest W.Of.Automaton (W.of walk.old) T.Text text.old text.new span.start }
+    // How far it reads: no byte comes again, and none is read far past what it finds.
+    ensures reads { ReadsNoFurther W.Of.Automaton (W.of walk.old) T.Text text.old text.new
+        (search_of (T.bytes text.old) span anchored earliest) (λ m. result ≡ Ok (Some m)) }
 
     // A search that is refused or done reads nothing and looks nothing up.
-    ensures refused_unread { IfErr result (λ reason. T.next text.new ≡ T.next text.old) }
-    ensures refused_uncounted { IfErr result (λ reason. W.lookups walk.new ≡ W.lookups walk.old) }
-    ensures done_unread { span.end < span.start → T.next text.new ≡ T.next text.old }
-    ensures done_uncounted { span.end < span.start → W.lookups walk.new ≡ W.lookups walk.old }
+    ensures refused_free { IfErr result (λ _.
+        CostsNothing W.Walk T.Text walk.old walk.new text.old text.new) }
+    ensures done_free { span.end < span.start →
+        CostsNothing W.Walk T.Text walk.old walk.new text.old text.new }
 {
     if span.start > span.end {
         return Ok(None);

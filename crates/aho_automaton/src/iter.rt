@@ -7,7 +7,7 @@ ghost use Rattle.aho_core.specs.Iteration.{IsNextFind};
 ghost use Rattle.aho_core.specs.Patterns.{Patterns};
 ghost use Rattle.aho_core.specs.declared.error.MatchErrorKind.{MatchErrorKind};
 ghost use Rattle.aho_automaton.specs.Fused.{IsFused};
-ghost use Rattle.aho_automaton.specs.Finding.{GivesFinds, GivesFirstFinds, GivesNext, from_next_place, last_after, places, places_left, search_after};
+ghost use Rattle.aho_automaton.specs.Finding.{GivesFinds, GivesFirstFinds, GivesNext, from_next_place, last_after, span_places, places_left, search_after};
 
 use crate::automaton::Automaton;
 use aho_core::error::MatchError;
@@ -45,7 +45,7 @@ impl<'a, 'h, A: Automaton> FindIter<'a, 'h, A> {
         ensures first { (p : Patterns) → A.is_of automaton.entry.now p → IfOk result
             (GivesFirstFinds ⟦<FindIter<'a, 'h, A> as Iterator>⟧.next_gives p input.entry) }
         ensures bound { IfOk result (λ it. UpTo
-            (⟦<FindIter<'a, 'h, A> as Iterator>⟧.remaining it) (places input.entry)) }
+            (⟦<FindIter<'a, 'h, A> as Iterator>⟧.remaining it) (span_places input.entry)) }
         ensures fused { IfOk result (IsFused ⟦<FindIter<'a, 'h, A> as Iterator>⟧.next_gives) }
         ensures error { IfErr result (λ reason.
             A.start automaton.entry.now input.entry.anchored ≡ Err reason) }

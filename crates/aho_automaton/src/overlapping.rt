@@ -26,7 +26,7 @@ ghost use Rattle.aho_core.specs.Progress.{fresh, without_match};
 ghost use Rattle.aho_core.specs.declared.error.MatchErrorKind.TheVariants.{UnsupportedOverlapping};
 ghost use Rattle.aho_core.specs.declared.search.Anchored.TheVariants.{No};
 ghost use Rattle.aho_core.specs.declared.search.MatchKind.TheVariants.{Standard};
-ghost use Rattle.aho_automaton.specs.Overlaps.{CanGive, FindsNext, FindsNone, FitsNext, FitsSome, GivesOverlapping, RefusesFirst, ended, ends_at, left};
+ghost use Rattle.aho_automaton.specs.Overlaps.{CanGive, FindsNext, FindsNothing, FitsNext, FitsSome, GivesOverlapping, RefusesFirst, ended, ends_at, left};
 ghost use Rattle.aho_automaton.specs.Standing.{FindsFrom, FitsAfter, Skips, Stands, StandsPartWay, Walks, left_from_place, left_of};
 
 use crate::automaton::Automaton;
@@ -322,7 +322,7 @@ pub(crate) fn find_overlapping<A: Automaton>(
 
     // What is found.
     ensures done { A.kind automaton.now ≡ Standard → input.now.end < input.now.start
-        → FindsNone state.old state.new result }
+        → FindsNothing state.old state.new result }
     ensures found { FindsNext (A.is_of automaton.now) (A.valid automaton.now)
         (A.held automaton.now) input.now state.old state.new result }
     ensures fits { FitsNext (A.is_of automaton.now) (A.valid automaton.now)

@@ -14,6 +14,7 @@ pub mod Trie
 pub mod Overlapping
 pub mod Progress
 pub mod Replacement
+pub mod Cover
 pub mod ClosureRun
 pub mod Failure
 pub mod MatchList

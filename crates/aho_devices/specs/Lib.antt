@@ -1,3 +1,4 @@
 pub mod Counts
 pub mod Refusals
 pub mod Buffer
+pub mod Errors

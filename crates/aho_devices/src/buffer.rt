@@ -82,7 +82,7 @@ impl Buffer {
         self.end == self.buf.len()
     }
 
-    /// Lets go of all but the last bytes, `min_buffer_len` of them. It takes no memory.
+    /// Lets go of all but the last bytes, `min_buffer_len` of them. The buffer keeps its length.
     pub fn roll(&mut self)
         requires enough { self.old.least ≤ length self.old.bytes }
         ensures rolled { self.new ≡ rolled self.old }
@@ -95,7 +95,7 @@ impl Buffer {
 
     /// Reads at least once, and on until `min_buffer_len` bytes are held, a read is empty or fails, or `room` bytes
     /// were read. No read asks for more than what is left of `room`. With no room at all nothing is read, and
-    /// `PositionLimit` is answered. What was read before a fault is kept. It takes no memory.
+    /// `PositionLimit` is answered. What was read before a fault is kept. The buffer keeps its length.
     pub fn fill<R: Source>(&mut self, source: &mut R, room: u64) -> Result<Filled, StreamError>
         requires free { length self.old.bytes < self.old.size }
         ensures gained { Gains self.old self.new (R.remaining source.old) (R.remaining source.new) }
@@ -142,8 +142,8 @@ impl Buffer {
         }
     }
 
-    /// Reads once, at most `room` bytes. With no room at all nothing is read, and `PositionLimit` is answered. It takes no
-    /// memory.
+    /// Reads once, at most `room` bytes. With no room at all nothing is read, and `PositionLimit` is answered. The buffer
+    /// keeps its length.
     pub fn fill_once<R: Source>(&mut self, source: &mut R, room: u64) -> Result<Filled, StreamError>
         requires free { length self.old.bytes < self.old.size }
         ensures gained { Gains self.old self.new (R.remaining source.old) (R.remaining source.new) }

@@ -58,8 +58,7 @@ pub trait Sink {
         ensures empty_writes { empty_writes self.new
             ≡ counted (is_empty_write result piece.now) (empty_writes self.old) };
 
-    /// Hands on all that it keeps of what it has taken. A replacement of a stream flushes before each read, so that all it
-    /// has told by then can be seen.
+    /// Hands on all that it keeps of what it has taken.
     fn flush(&mut self) -> Result<(), StreamError>
         ensures flushed { OnOk result (flushed self.new ≡ true) }
         ensures kept { Keeps (taken self.old) (taken self.new) }

@@ -31,8 +31,7 @@ impl Sink for Nowhere {
 }
 
 /// Writes all of `piece`, by as many writes as the sink needs; an empty piece makes no write. Nothing is tried again:
-/// the first write that fails or takes no byte is the error, and a beginning of the piece was taken then. It takes no
-/// memory.
+/// the first write that fails or takes no byte is the error, and a beginning of the piece was taken then.
 pub fn write_whole<W: Sink>(sink: &mut W, piece: &[u8]) -> Result<(), StreamError>
     ensures whole { OnOk result (Appends (W.taken sink.old) (W.taken sink.new) piece.now) }
     ensures beginning { OnErr result

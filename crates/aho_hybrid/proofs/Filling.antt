@@ -7,7 +7,7 @@ use Rattle.std.proofs.lemmas.Nat.{mul-add-lt}
 use Rattle.aho_core.specs.Numbers.{greatest_index}
 use Rattle.aho_table.specs.Alphabet.{class_count}
 use Rattle.aho_table.specs.Table.{IsRising, depth_in, fail_in, matches_in}
-use Rattle.aho_hybrid.specs.Filled.{AreRecords, AreRows, HasEntries, IsDeepState, IsListAt, IsPartAt, IsPlaced, IsRecord, IsShallow, IsStep, Parts, leads_in, moves_of, number_in, row_in, record_at, source_in, source_of, transitions_of}
+use Rattle.aho_hybrid.specs.Filled.{AreRecords, AreRows, HasEntries, IsDeepState, IsListAt, IsPartAt, IsPlaced, IsRecord, IsShallow, IsStep, Parts, leads_in, moves_of, number_in, row_in, record_place, source_in, source_of, transitions_of}
 use Rattle.aho_hybrid.specs.Layout.{record_size, stride_of}
 use Rattle.aho_hybrid.proofs.Counting.{deep-before, deep-first, deep-more, deep_below, row-before, row-more, rows-first, rows_below}
 use Rattle.aho_hybrid.proofs.Listed.{list-grows, part-grows}
@@ -175,7 +175,7 @@ module _ (plan : Parts) where
   }
 
   module _ (count : ℕ) (deep moves lists : List ℕ) (deep_low : ℕ) (filled : AreRecords plan count deep moves lists deep_low) where
-    inside : (i : ℕ) → i < count → count ≤ length plan.states → IsDeepState plan i → record_at plan.row_depth plan.states i + record_size ≤ length deep
+    inside : (i : ℕ) → i < count → count ≤ length plan.states → IsDeepState plan i → record_place plan.row_depth plan.states i + record_size ≤ length deep
     inside i less within is_deep = omega (arith, deep-before plan.row_depth plan.states i count less within is_deep, filled.sized)
 
     -- the state after the records of others has a row
@@ -183,7 +183,7 @@ module _ (plan : Parts) where
     records-passed lists' more within shallow grown = record {
       sized = filled.sized ∙ ap (λ (n : ℕ). n * record_size) (sym (row-more plan.row_depth plan.states count within shallow).1);
       records = λ i below is_deep.
-          record-grows i (record_at plan.row_depth plan.states i) deep deep moves moves lists lists' (inside i (less i below is_deep) (omega (arith, within)) is_deep) (λ n small. refl) (λ place part at. at)
+          record-grows i (record_place plan.row_depth plan.states i) deep deep moves moves lists lists' (inside i (less i below is_deep) (omega (arith, within)) is_deep) (λ n small. refl) (λ place part at. at)
           (λ place list at. subst (λ (l : List ℕ). IsListAt l place list) (sym grown) (list-grows lists more place list at))
           (filled.records i (less i below is_deep) is_deep);
       others = λ i below is_deep past. filled.others i (less i below is_deep) is_deep past;
@@ -208,9 +208,9 @@ module _ (plan : Parts) where
           ap (λ (l : List ℕ). length l) is ∙ length-append deep (link ∷ list ∷ height ∷ place ∷ size ∷ []) ∙ omega (arith, filled.sized)
           ∙ ap (λ (n : ℕ). n * record_size) (sym (deep-more plan.row_depth plan.states count here own).1);
       records = λ i below is_deep.
-          below-or-last (λ (n : ℕ). IsDeepState plan n → IsRecord plan n deep' (record_at plan.row_depth plan.states n) moves' lists') count
+          below-or-last (λ (n : ℕ). IsDeepState plan n → IsRecord plan n deep' (record_place plan.row_depth plan.states n) moves' lists') count
           (λ n less deep_too.
-          record-grows n (record_at plan.row_depth plan.states n) deep deep' moves moves' lists lists' (inside n less (omega (arith, here)) deep_too) kept
+          record-grows n (record_place plan.row_depth plan.states n) deep deep' moves moves' lists lists' (inside n less (omega (arith, here)) deep_too) kept
           (λ place part at. subst (λ (l : List ℕ). IsPartAt l place part) (sym moved) (part-grows moves (moves_of plan count) place part at))
           (λ place list at. subst (λ (l : List ℕ). IsListAt l place list) (sym placed.grown) (list-grows lists placed.more place list at))
           (filled.records n less deep_too))
@@ -223,9 +223,9 @@ module _ (plan : Parts) where
         kept : (n : ℕ) → n < length deep → get_or deep' n 0 ≡ get_or deep n 0
         kept n below = ap (λ (l : List ℕ). get_or l n 0) is ∙ get_or_append_left deep (link ∷ list ∷ height ∷ place ∷ size ∷ []) 0 n below
 
-        last : IsRecord plan count deep' (record_at plan.row_depth plan.states count) moves' lists'
+        last : IsRecord plan count deep' (record_place plan.row_depth plan.states count) moves' lists'
         last =
-            let words = last-words deep (record_at plan.row_depth plan.states count) link list height place size deep' filled.sized is in
+            let words = last-words deep (record_place plan.row_depth plan.states count) link list height place size deep' filled.sized is in
             record {
               link = words.0 ∙ link_is;
               listed = subst (λ (n : ℕ). IsListAt lists' n (matches_in plan.states (source_of plan count))) (sym words.1) placed.listed;

@@ -7,6 +7,8 @@ pub mod Stepping
 pub mod Sizes
 pub mod Filling
 pub mod Near
+pub mod Lows
 pub mod Numbering
 pub mod Made
 pub mod Meant
+pub mod Makers

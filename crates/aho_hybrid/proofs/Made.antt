@@ -14,11 +14,11 @@ use Rattle.aho_hybrid.proofs.Filling.{in-row}
 use Rattle.aho_hybrid.proofs.Listed.{part-at, part-within, within-at}
 use Rattle.aho_hybrid.proofs.Stepping.{flat-child, link-depth, step-near, told, told-none, told-some}
 use Rattle.aho_hybrid.specs.declared.fill.Filled.{Filled}
-use Rattle.aho_hybrid.specs.Filled.{IsDeepState, IsFilled, IsListAt, IsPlan, IsRecord, IsShallow, Parts, deep_count, is_deep, leads_in, moves_of, number_in, record_at, row_in, rows_count, rows_size, source_of, transitions_of}
-use Rattle.aho_hybrid.specs.Layout.{HasRow, IsDeep, IsRow, IsSoundDeep, IsSoundLayout, IsSoundRows, IsStateIn, Layout, child_in, child_of, depth_in as height_in, is_row, link_in, list_place, record_size, stride_of, word_in}
+use Rattle.aho_hybrid.specs.Filled.{IsDeepState, AreLaidOut, IsListAt, IsPlan, IsRecord, IsShallow, Parts, deep_count, is_deep, leads_in, moves_of, number_in, record_place, row_in, rows_count, row_entries, source_of, transitions_of}
+use Rattle.aho_hybrid.specs.Layout.{HasRow, IsDeep, IsAtStride, IsSoundDeep, IsSoundLayout, IsSoundRows, IsStateIn, Layout, child_in, child_of, depth_below_rows, is_row, link_in, list_place, record_size, stride_of, record_word}
 use Rattle.aho_hybrid.specs.Reading.{deep-test, row-depth, row-test, state-cases, state-of_deep, state-of_row}
 
-module _ (plan : Parts) (words : ℕ) (planned : IsPlan plan words) (filled : Filled) (done : IsFilled plan (length plan.states) filled)
+module _ (plan : Parts) (words : ℕ) (planned : IsPlan plan words) (filled : Filled) (done : AreLaidOut plan (length plan.states) filled)
     (starts : AreStarts plan.special plan.states) (sound : IsSound plan.states) where
   abbrev pub count : ℕ
   count = length plan.states
@@ -50,7 +50,7 @@ module _ (plan : Parts) (words : ℕ) (planned : IsPlan plan words) (filled : Fi
 
   -- ---- the numbers of states
 
-  pub dense : length layout.rows ≡ rows_size plan.row_depth plan.states plan.classes
+  pub dense : length layout.rows ≡ row_entries plan.row_depth plan.states plan.classes
   dense = done.rows.sized ∙ ap (λ (m : ℕ). m * stride) (rows-all plan.row_depth plan.states)
 
   pub deep-size : length layout.deep ≡ deep_count plan.row_depth plan.states * record_size
@@ -59,13 +59,13 @@ module _ (plan : Parts) (words : ℕ) (planned : IsPlan plan words) (filled : Fi
   pub number-row : (i : ℕ) → i < count → IsShallow plan i → number_in plan i ≡ row_in plan i
   number-row i below shallow = planned.numbered.number i below ∙ cond-false (is_deep plan.row_depth (state_at plan.states i)) _ _ shallow
 
-  pub number-deep : (i : ℕ) → i < count → IsDeepState plan i → number_in plan i ≡ length layout.rows + record_at plan.row_depth plan.states i
+  pub number-deep : (i : ℕ) → i < count → IsDeepState plan i → number_in plan i ≡ length layout.rows + record_place plan.row_depth plan.states i
   number-deep i below deep =
       planned.numbered.number i below
       ∙ cond-true (is_deep plan.row_depth (state_at plan.states i)) _ _ deep
-      ∙ ap (λ (m : ℕ). m + record_at plan.row_depth plan.states i) (sym dense)
+      ∙ ap (λ (m : ℕ). m + record_place plan.row_depth plan.states i) (sym dense)
 
-  place-deep : (i : ℕ) → i < count → IsDeepState plan i → number_in plan i - length layout.rows ≡ record_at plan.row_depth plan.states i
+  place-deep : (i : ℕ) → i < count → IsDeepState plan i → number_in plan i - length layout.rows ≡ record_place plan.row_depth plan.states i
   place-deep i below deep = omega (arith, number-deep i below deep)
 
   pub row-of : (i : ℕ) → i < count → IsShallow plan i → HasRow layout (number_in plan i)
@@ -80,10 +80,10 @@ module _ (plan : Parts) (words : ℕ) (planned : IsPlan plan words) (filled : Fi
   pub deep-of : (i : ℕ) → i < count → IsDeepState plan i → IsDeep layout (number_in plan i)
   deep-of i below deep = record {
     behind = omega (arith, number-deep i below deep);
-    record_of = subst (IsRow record_size (length layout.deep)) (sym (place-deep i below deep)) here;
+    record_of = subst (IsAtStride record_size (length layout.deep)) (sym (place-deep i below deep)) here;
   }
     where
-      here : IsRow record_size (length layout.deep) (record_at plan.row_depth plan.states i)
+      here : IsAtStride record_size (length layout.deep) (record_place plan.row_depth plan.states i)
       here = record {
         whole = mul-mod_left (deep_at i) record_size;
         within = omega (arith, deep-before plan.row_depth plan.states i count below (omega arith) deep, done.records.sized);
@@ -131,28 +131,28 @@ module _ (plan : Parts) (words : ℕ) (planned : IsPlan plan words) (filled : Fi
 
   -- ---- how deep they are
 
-  word-of : (i index : ℕ) → i < count → IsDeepState plan i → word_in layout (number_in plan i) index ≡ get_or layout.deep (record_at plan.row_depth plan.states i + index) 0
+  word-of : (i index : ℕ) → i < count → IsDeepState plan i → record_word layout (number_in plan i) index ≡ get_or layout.deep (record_place plan.row_depth plan.states i + index) 0
   word-of i index below deep = ap (λ (m : ℕ). get_or layout.deep (m + index) 0) (place-deep i below deep)
 
-  record-of : (i : ℕ) → i < count → IsDeepState plan i → IsRecord plan i layout.deep (record_at plan.row_depth plan.states i) layout.moves layout.lists
+  record-of : (i : ℕ) → i < count → IsDeepState plan i → IsRecord plan i layout.deep (record_place plan.row_depth plan.states i) layout.moves layout.lists
   record-of i below deep = done.records.records i below deep
 
-  height-row : (i : ℕ) → i < count → IsShallow plan i → height_in layout (number_in plan i) ≡ 0
+  pub height-row : (i : ℕ) → i < count → IsShallow plan i → depth_below_rows layout (number_in plan i) ≡ 0
   height-row i below shallow = row-depth layout (number_in plan i) (row-of i below shallow)
 
-  height-deep : (i : ℕ) → i < count → IsDeepState plan i → height_in layout (number_in plan i) + plan.row_depth ≡ depth_in plan.states i
+  pub height-deep : (i : ℕ) → i < count → IsDeepState plan i → depth_below_rows layout (number_in plan i) + plan.row_depth ≡ depth_in plan.states i
   height-deep i below deep =
       ap (λ (m : ℕ). m + plan.row_depth)
-      (cond-false (is_row layout (number_in plan i)) 0 (word_in layout (number_in plan i) 2) (deep-test layout (number_in plan i) (deep-of i below deep)) ∙ word-of i 2 below deep)
+      (cond-false (is_row layout (number_in plan i)) 0 (record_word layout (number_in plan i) 2) (deep-test layout (number_in plan i) (deep-of i below deep)) ∙ word-of i 2 below deep)
       ∙ (record-of i below deep).height
 
-  deep-deeper : (i : ℕ) → IsDeepState plan i → plan.row_depth < depth_in plan.states i
+  pub deep-deeper : (i : ℕ) → IsDeepState plan i → plan.row_depth < depth_in plan.states i
   deep-deeper i deep = grind (arith, nat_tests)
 
-  row-shallow : (i : ℕ) → IsShallow plan i → depth_in plan.states i ≤ plan.row_depth
+  pub row-shallow : (i : ℕ) → IsShallow plan i → depth_in plan.states i ≤ plan.row_depth
   row-shallow i shallow = grind (arith, nat_tests)
 
-  height-most : (i most : ℕ) → i < count → depth_in plan.states i ≤ most + plan.row_depth → height_in layout (number_in plan i) ≤ most
+  height-most : (i most : ℕ) → i < count → depth_in plan.states i ≤ most + plan.row_depth → depth_below_rows layout (number_in plan i) ≤ most
   height-most i most below near =
       elim (cases_Bool (is_deep plan.row_depth (state_at plan.states i))) [
         | inl deep ↦ omega (arith, height-deep i below deep, near)
@@ -165,7 +165,7 @@ module _ (plan : Parts) (words : ℕ) (planned : IsPlan plan words) (filled : Fi
   pub root-shallow : IsShallow plan root
   root-shallow = le-ltb plan.row_depth (depth_in plan.states root) (omega (arith, starts.unanchored.depth))
 
-  height-less : (i j : ℕ) → i < count → j < count → IsDeepState plan j → (i ≡ 0) ⊎ (depth_in plan.states i < depth_in plan.states j) → height_in layout (number_in plan i) < height_in layout (number_in plan j)
+  height-less : (i j : ℕ) → i < count → j < count → IsDeepState plan j → (i ≡ 0) ⊎ (depth_in plan.states i < depth_in plan.states j) → depth_below_rows layout (number_in plan i) < depth_below_rows layout (number_in plan j)
   height-less i j below within deep_too (inl dead) =
       omega (arith, height-row i below (subst (IsShallow plan) (sym dead) dead-shallow), height-deep j within deep_too, deep-deeper j deep_too)
   height-less i j below within deep_too (inr less) =
@@ -239,8 +239,8 @@ module _ (plan : Parts) (words : ℕ) (planned : IsPlan plan words) (filled : Fi
         (λ i below shallow. subst (IsStateIn layout) (sym (entry-of i class below shallow within)) (state-of (leads_in plan (source_of plan i) class) (done.rows.step i class below shallow within).state.0))
         sid row;
     near = λ sid class row within.
-        by-row (λ (m : ℕ). height_in layout (get_or layout.rows (m + class) 0) ≤ 1)
-        (λ i below shallow. subst (λ (m : ℕ). height_in layout m ≤ 1) (sym (entry-of i class below shallow within)) (near i class below shallow within))
+        by-row (λ (m : ℕ). depth_below_rows layout (get_or layout.rows (m + class) 0) ≤ 1)
+        (λ i below shallow. subst (λ (m : ℕ). depth_below_rows layout m ≤ 1) (sym (entry-of i class below shallow within)) (near i class below shallow within))
         sid row;
     dead_stays = λ class within.
         ap (λ (m : ℕ). get_or layout.rows m 0) (first class)
@@ -254,7 +254,7 @@ module _ (plan : Parts) (words : ℕ) (planned : IsPlan plan words) (filled : Fi
       first : (class : ℕ) → class ≡ number_in plan 0 + class
       first class = omega (arith, number-dead)
 
-      near : (i class : ℕ) → i < count → IsShallow plan i → class < class_count plan.classes → height_in layout (number_in plan (leads_in plan (source_of plan i) class)) ≤ 1
+      near : (i class : ℕ) → i < count → IsShallow plan i → class < class_count plan.classes → depth_below_rows layout (number_in plan (leads_in plan (source_of plan i) class)) ≤ 1
       near i class below shallow within =
           let step = done.rows.step i class below shallow within in
           height-most (leads_in plan (source_of plan i) class) 1 step.state.0
@@ -266,8 +266,8 @@ module _ (plan : Parts) (words : ℕ) (planned : IsPlan plan words) (filled : Fi
   pub child-of : (i byte : ℕ) → i < count → IsDeepState plan i → child_in layout (number_in plan i) byte ≡ told plan.numbers (next_in plan.states (source_of plan i) byte)
   child-of i byte below deep =
       let is = record-of i below deep in
-      let at : ℕ = get_or layout.deep (record_at plan.row_depth plan.states i + 3) 0 in
-      ap (λ (m : ℕ). child_of (take m (drop (word_in layout (number_in plan i) 3) layout.moves)) byte) (word-of i 4 below deep ∙ is.moves_size)
+      let at : ℕ = get_or layout.deep (record_place plan.row_depth plan.states i + 3) 0 in
+      ap (λ (m : ℕ). child_of (take m (drop (record_word layout (number_in plan i) 3) layout.moves)) byte) (word-of i 4 below deep ∙ is.moves_size)
       ∙ ap (λ (m : ℕ). child_of (take (length (moves_of plan i)) (drop m layout.moves)) byte) (word-of i 3 below deep)
       ∙ ap (λ (l : List ℕ). child_of l byte) (part-at layout.moves at (moves_of plan i) is.moves_at)
       ∙ flat-child plan.numbers byte (transitions_of plan i) is.rising
@@ -276,7 +276,7 @@ module _ (plan : Parts) (words : ℕ) (planned : IsPlan plan words) (filled : Fi
   link-of i below deep = word-of i 0 below deep ∙ (record-of i below deep).link
 
   next-of : (i byte next : ℕ) → i < count → IsDeepState plan i → byte < 256 → child_in layout (number_in plan i) byte ≡ Some next
-      → IsStateIn layout next × (height_in layout next ≤ height_in layout (number_in plan i) + 1)
+      → IsStateIn layout next × (depth_below_rows layout next ≤ depth_below_rows layout (number_in plan i) + 1)
   next-of i byte next below deep small child =
       let source : ℕ = source_of plan i in
       let leads : ℕ = next_in plan.states source byte in
@@ -289,12 +289,12 @@ module _ (plan : Parts) (words : ℕ) (planned : IsPlan plan words) (filled : Fi
             let near = sound.next_depth source byte (source-state i below) small some in (
               subst (IsStateIn layout) is (state-of leads state.0),
               omega
-                  (arith, ap (height_in layout) is, height-most leads (height_in layout (number_in plan i) + 1) state.0 (omega (arith, near, source-depth i, height-deep i below deep))),
+                  (arith, ap (depth_below_rows layout) is, height-most leads (depth_below_rows layout (number_in plan i) + 1) state.0 (omega (arith, near, source-depth i, height-deep i below deep))),
             )
       ]
 
   linked-of : (i byte : ℕ) → i < count → IsDeepState plan i → byte < 256 → child_in layout (number_in plan i) byte ≡ None
-      → IsStateIn layout (link_in layout (number_in plan i)) × (height_in layout (link_in layout (number_in plan i)) < height_in layout (number_in plan i))
+      → IsStateIn layout (link_in layout (number_in plan i)) × (depth_below_rows layout (link_in layout (number_in plan i)) < depth_below_rows layout (number_in plan i))
   linked-of i byte below deep small child =
       let source : ℕ = source_of plan i in
       let leads : ℕ = next_in plan.states source byte in
@@ -305,7 +305,7 @@ module _ (plan : Parts) (words : ℕ) (planned : IsPlan plan words) (filled : Fi
             let nearer = link-depth plan.states sound source (fail_in plan.states source) (sound.fail_nearer source byte (source-state i below) small none) in
             let is = link-of i below deep in (
               subst (IsStateIn layout) (sym is) (state-of (fail_in plan.states source) state.0),
-              omega (arith, ap (height_in layout) is, height-less (fail_in plan.states source) i state.0 below deep (deeper i source (source-depth i) nearer)),
+              omega (arith, ap (depth_below_rows layout) is, height-less (fail_in plan.states source) i state.0 below deep (deeper i source (source-depth i) nearer)),
             )
       ]
     where
@@ -316,19 +316,19 @@ module _ (plan : Parts) (words : ℕ) (planned : IsPlan plan words) (filled : Fi
 
   sound-deep : IsSoundDeep layout
   sound-deep = record {
-    moves = by-deep (λ (m : ℕ). word_in layout m 3 + word_in layout m 4 ≤ length layout.moves) (λ i below deep. inside i below deep);
+    moves = by-deep (λ (m : ℕ). record_word layout m 3 + record_word layout m 4 ≤ length layout.moves) (λ i below deep. inside i below deep);
     next = λ sid byte next deep small child.
-        by-deep (λ (m : ℕ). child_in layout m byte ≡ Some next → IsStateIn layout next × (height_in layout next ≤ height_in layout m + 1))
+        by-deep (λ (m : ℕ). child_in layout m byte ≡ Some next → IsStateIn layout next × (depth_below_rows layout next ≤ depth_below_rows layout m + 1))
         (λ i below is_deep. next-of i byte next below is_deep small) sid deep child;
     link = λ sid byte deep small child.
-        by-deep (λ (m : ℕ). child_in layout m byte ≡ None → IsStateIn layout (link_in layout m) × (height_in layout (link_in layout m) < height_in layout m))
+        by-deep (λ (m : ℕ). child_in layout m byte ≡ None → IsStateIn layout (link_in layout m) × (depth_below_rows layout (link_in layout m) < depth_below_rows layout m))
         (λ i below is_deep. linked-of i byte below is_deep small) sid deep child;
   }
     where
-      inside : (i : ℕ) → i < count → IsDeepState plan i → word_in layout (number_in plan i) 3 + word_in layout (number_in plan i) 4 ≤ length layout.moves
+      inside : (i : ℕ) → i < count → IsDeepState plan i → record_word layout (number_in plan i) 3 + record_word layout (number_in plan i) 4 ≤ length layout.moves
       inside i below deep =
           let is = record-of i below deep in
-          omega (arith, word-of i 3 below deep, word-of i 4 below deep, is.moves_size, part-within layout.moves (get_or layout.deep (record_at plan.row_depth plan.states i + 3) 0) (moves_of plan i) is.moves_at)
+          omega (arith, word-of i 3 below deep, word-of i 4 below deep, is.moves_size, part-within layout.moves (get_or layout.deep (record_place plan.row_depth plan.states i + 3) 0) (moves_of plan i) is.moves_at)
 
   -- ---- lists
 
@@ -336,7 +336,7 @@ module _ (plan : Parts) (words : ℕ) (planned : IsPlan plan words) (filled : Fi
   place-of i below =
       elim (cases_Bool (is_deep plan.row_depth (state_at plan.states i))) [
         | inl deep ↦ (
-          get_or layout.deep (record_at plan.row_depth plan.states i + 1) 0,
+          get_or layout.deep (record_place plan.row_depth plan.states i + 1) 0,
           cond-false (is_row layout (number_in plan i)) _ _ (deep-test layout (number_in plan i) (deep-of i below deep)) ∙ word-of i 1 below deep,
           (record-of i below deep).listed,
         )
@@ -356,13 +356,13 @@ module _ (plan : Parts) (words : ℕ) (planned : IsPlan plan words) (filled : Fi
         (λ i below.
         let at = place-of i below in
         subst (λ (m : ℕ). m + get_or layout.lists m 0 < length layout.lists) (sym at.1) (within-at layout.lists at.0 (matches_in plan.states (source_of plan i)) at.2));
-    shallow = by-state (λ (m : ℕ). height_in layout m ≤ greatest_index) (λ i below. shallow i below);
+    shallow = by-state (λ (m : ℕ). depth_below_rows layout m ≤ greatest_index) (λ i below. shallow i below);
     small = small;
     small_lists = small_lists;
     small_moves = small_moves;
   }
     where
-      shallow : (i : ℕ) → i < count → height_in layout (number_in plan i) ≤ greatest_index
+      shallow : (i : ℕ) → i < count → depth_below_rows layout (number_in plan i) ≤ greatest_index
       shallow i below =
           elim (cases_Bool (is_deep plan.row_depth (state_at plan.states i))) [
             | inl deep ↦ omega (arith, height-deep i below deep, (record-of i below deep).depth_small)

@@ -7,7 +7,7 @@ use Rattle.aho_build.specs.Walking.{IsSound, IsState, links_left, step_along, st
 use Rattle.aho_table.proofs.TransitionLists.{transition_at-other, transition_at-same}
 use Rattle.aho_table.specs.Alphabet.{class_count}
 use Rattle.aho_table.specs.Table.{State, fail_id, fail_in, next_in, state_at, transition_at}
-use Rattle.aho_hybrid.specs.Filled.{AreAlike, AreMarked, AreRows, HasRowBefore, IsPlan, IsStep, Parts, is_deep, leads_in, number_in, record_at, row_in, rows_size}
+use Rattle.aho_hybrid.specs.Filled.{AreAlike, AreMarked, AreRows, HasRowBefore, IsPlan, IsStep, Parts, is_deep, leads_in, number_in, record_place, row_in, row_entries}
 use Rattle.aho_hybrid.specs.Layout.{stride_of}
 use Rattle.aho_hybrid.proofs.Counting.{row-before, rows_below}
 use Rattle.aho_hybrid.proofs.Filling.{in-row}
@@ -82,7 +82,7 @@ module _ (plan : Parts) (words : ℕ) (planned : IsPlan plan words) (sound : IsS
   pub row-is : number_in plan base ≡ row_in plan base
   row-is =
       planned.numbered.number base (omega (arith, here, has.before))
-      ∙ cond-false (is_deep plan.row_depth (state_at plan.states base)) (rows_size plan.row_depth plan.states plan.classes + record_at plan.row_depth plan.states base) (row_in plan base) has.shallow
+      ∙ cond-false (is_deep plan.row_depth (state_at plan.states base)) (row_entries plan.row_depth plan.states plan.classes + record_place plan.row_depth plan.states base) (row_in plan base) has.shallow
 
   -- the row stands there
   pub row-there : (row : ℕ) → row ≡ number_in plan base → row + class_count plan.classes ≤ length entries

@@ -13,7 +13,7 @@ use Rattle.aho_build.specs.declared.special.Special.{Special}
 use Rattle.aho_corasick.specs.ReadOut.{classes_of, states_of}
 use Rattle.aho_corasick.specs.declared.noncontiguous.NFA.{NFA}
 use Rattle.aho_table.specs.Table.{State, matches_in}
-use Rattle.aho_hybrid.specs.Filled.{Fits, flat, list_words, lists_below, lists_size, moves_below, moves_size, moves_words, number_at, refusal_of, source_in, states_size, told_size, transition_words}
+use Rattle.aho_hybrid.specs.Filled.{FitIndexes, flat, list_words, lists_below, lists_size, moves_below, moves_size, moves_words, number_or_zero, rows_refusal, source_in, state_words, told_size, transition_words}
 
 -- ---- sums over the states below a count
 
@@ -84,12 +84,12 @@ flat-size numbers (transition ∷ transitions) =
       | inl fails ↦
           let test : nat_eq transition.1 1 ≡ true = eq-eqb transition.1 1 fails in
           let none : transition_words transition ≡ 0 = cond-true (nat_eq transition.1 1) 0 2 test in
-          ap (λ (l : List ℕ). length l) (cond-true (nat_eq transition.1 1) (flat numbers transitions) (transition.0 ∷ number_at numbers transition.1 ∷ flat numbers transitions) test)
+          ap (λ (l : List ℕ). length l) (cond-true (nat_eq transition.1 1) (flat numbers transitions) (transition.0 ∷ number_or_zero numbers transition.1 ∷ flat numbers transitions) test)
           ∙ omega (arith, rest, none, sum_by-cons transition_words transition transitions)
       | inr leads ↦
           let test : nat_eq transition.1 1 ≡ false = ne_eqb transition.1 1 leads in
           let two : transition_words transition ≡ 2 = cond-false (nat_eq transition.1 1) 0 2 test in
-          ap (λ (l : List ℕ). length l) (cond-false (nat_eq transition.1 1) (flat numbers transitions) (transition.0 ∷ number_at numbers transition.1 ∷ flat numbers transitions) test)
+          ap (λ (l : List ℕ). length l) (cond-false (nat_eq transition.1 1) (flat numbers transitions) (transition.0 ∷ number_or_zero numbers transition.1 ∷ flat numbers transitions) test)
           ∙ omega (arith, rest, two, sum_by-cons transition_words transition transitions)
     ]
 
@@ -145,7 +145,7 @@ told-again size =
 
 module _ (nfa : NFA) (row_depth : ℕ) where
   abbrev states_are : ℕ
-  states_are = states_size row_depth (states_of nfa) (classes_of nfa)
+  states_are = state_words row_depth (states_of nfa) (classes_of nfa)
 
   abbrev told_of : ℕ → BuildError
   told_of size = StateIDOverflow greatest_index (told_size size)
@@ -156,25 +156,25 @@ module _ (nfa : NFA) (row_depth : ℕ) where
   abbrev of_lists : BuildError
   of_lists = if nat_lt greatest_index (lists_size nfa) then told_of (lists_size nfa) else of_moves
 
-  pub states-refused : greatest_index < states_are → refusal_of nfa row_depth ≡ told_of states_are
+  pub states-refused : greatest_index < states_are → rows_refusal nfa row_depth ≡ told_of states_are
   states-refused above = cond-true (nat_lt greatest_index states_are) (told_of states_are) of_lists (lt-ltb greatest_index states_are above)
 
-  past-states : states_are ≤ greatest_index → refusal_of nfa row_depth ≡ of_lists
+  past-states : states_are ≤ greatest_index → rows_refusal nfa row_depth ≡ of_lists
   past-states fits = cond-false (nat_lt greatest_index states_are) (told_of states_are) of_lists (le-ltb greatest_index states_are fits)
 
-  pub lists-refused : states_are ≤ greatest_index → greatest_index < lists_size nfa → refusal_of nfa row_depth ≡ told_of (lists_size nfa)
+  pub lists-refused : states_are ≤ greatest_index → greatest_index < lists_size nfa → rows_refusal nfa row_depth ≡ told_of (lists_size nfa)
   lists-refused fits above = past-states fits ∙ cond-true (nat_lt greatest_index (lists_size nfa)) (told_of (lists_size nfa)) of_moves (lt-ltb greatest_index (lists_size nfa) above)
 
-  past-lists : states_are ≤ greatest_index → lists_size nfa ≤ greatest_index → refusal_of nfa row_depth ≡ of_moves
+  past-lists : states_are ≤ greatest_index → lists_size nfa ≤ greatest_index → rows_refusal nfa row_depth ≡ of_moves
   past-lists fits also = past-states fits ∙ cond-false (nat_lt greatest_index (lists_size nfa)) (told_of (lists_size nfa)) of_moves (le-ltb greatest_index (lists_size nfa) also)
 
-  pub moves-refused : states_are ≤ greatest_index → lists_size nfa ≤ greatest_index → greatest_index < moves_size nfa row_depth → refusal_of nfa row_depth ≡ told_of (moves_size nfa row_depth)
+  pub moves-refused : states_are ≤ greatest_index → lists_size nfa ≤ greatest_index → greatest_index < moves_size nfa row_depth → rows_refusal nfa row_depth ≡ told_of (moves_size nfa row_depth)
   moves-refused fits also above =
       past-lists fits also
       ∙ cond-true (nat_lt greatest_index (moves_size nfa row_depth)) (told_of (moves_size nfa row_depth)) OutOfMemory (lt-ltb greatest_index (moves_size nfa row_depth) above)
 
   -- where all fit memory was wanted
-  pub memory-wanted : Fits nfa row_depth → refusal_of nfa row_depth ≡ OutOfMemory
+  pub memory-wanted : FitIndexes nfa row_depth → rows_refusal nfa row_depth ≡ OutOfMemory
   memory-wanted fits =
       past-lists fits.states fits.lists
       ∙ cond-false (nat_lt greatest_index (moves_size nfa row_depth)) (told_of (moves_size nfa row_depth)) OutOfMemory (le-ltb greatest_index (moves_size nfa row_depth) fits.moves)

@@ -9,7 +9,7 @@ use Rattle.aho_build.proofs.StepResults.{along-taken}
 use Rattle.aho_build.specs.Walking.{IsSound, IsState, links_left, step_along}
 use Rattle.aho_table.proofs.TransitionLists.{transition_at-other, transition_at-same}
 use Rattle.aho_table.specs.Table.{IsRising, State, depth_in, fail_id, fail_in, next_in, transition_at}
-use Rattle.aho_hybrid.specs.Filled.{flat, number_at}
+use Rattle.aho_hybrid.specs.Filled.{flat, number_or_zero}
 use Rattle.aho_hybrid.specs.Layout.{child_of}
 
 module _ (states : List State) (sound : IsSound states) where
@@ -49,13 +49,13 @@ module _ (states : List State) (sound : IsSound states) where
 
 -- where a byte leads by transitions that are told: nowhere by one to FAIL
 abbrev pub told : List ℕ → ℕ → Option ℕ
-told numbers next = if nat_eq next 1 then None else Some (number_at numbers next)
+told numbers next = if nat_eq next 1 then None else Some (number_or_zero numbers next)
 
 pub told-none : (numbers : List ℕ) (next : ℕ) → next ≡ 1 → told numbers next ≡ None
-told-none numbers next is = cond-true (nat_eq next 1) None (Some (number_at numbers next)) (eq-eqb next 1 is)
+told-none numbers next is = cond-true (nat_eq next 1) None (Some (number_or_zero numbers next)) (eq-eqb next 1 is)
 
-pub told-some : (numbers : List ℕ) (next : ℕ) → next ≢ 1 → told numbers next ≡ Some (number_at numbers next)
-told-some numbers next other = cond-false (nat_eq next 1) None (Some (number_at numbers next)) (ne_eqb next 1 other)
+pub told-some : (numbers : List ℕ) (next : ℕ) → next ≢ 1 → told numbers next ≡ Some (number_or_zero numbers next)
+told-some numbers next other = cond-false (nat_eq next 1) None (Some (number_or_zero numbers next)) (ne_eqb next 1 other)
 
 -- a byte that is below those of a list is not in it
 absent : (transitions : List (ℕ × ℕ)) (byte : ℕ) → All (λ later. byte < later.0) transitions → transition_at transitions byte ≡ 1
@@ -82,7 +82,7 @@ module _ (numbers : List ℕ) (byte : ℕ) where
               | inr other ↦ ap (told numbers) (sym (transition_at-other transition transitions byte other))
             ]
         | inr leads ↦
-            let kept : flat numbers (transition ∷ transitions) ≡ transition.0 ∷ number_at numbers transition.1 ∷ flat numbers transitions =
+            let kept : flat numbers (transition ∷ transitions) ≡ transition.0 ∷ number_or_zero numbers transition.1 ∷ flat numbers transitions =
             cond-false (nat_eq transition.1 1) _ _ (ne_eqb transition.1 1 leads) in
             ap (λ (l : List ℕ). child_of l byte) kept
             ∙ elim (cases_eq transition.0 byte) [
@@ -114,6 +114,6 @@ flat-append numbers (transition ∷ transitions) more =
       | inr leads ↦
           let test : nat_eq transition.1 1 ≡ false = ne_eqb transition.1 1 leads in
           cond-false (nat_eq transition.1 1) _ _ test
-          ∙ ap (λ (l : List ℕ). transition.0 ∷ number_at numbers transition.1 ∷ l) rest
-          ∙ ap (λ (l : List ℕ). l ++ flat numbers more) (sym (cond-false (nat_eq transition.1 1) (flat numbers transitions) (transition.0 ∷ number_at numbers transition.1 ∷ flat numbers transitions) test))
+          ∙ ap (λ (l : List ℕ). transition.0 ∷ number_or_zero numbers transition.1 ∷ l) rest
+          ∙ ap (λ (l : List ℕ). l ++ flat numbers more) (sym (cond-false (nat_eq transition.1 1) (flat numbers transitions) (transition.0 ∷ number_or_zero numbers transition.1 ∷ flat numbers transitions) test))
     ]

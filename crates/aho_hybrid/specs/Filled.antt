@@ -1,5 +1,5 @@
 -- The states of an automaton that is read out, as they are laid out.
-use Rattle.std.specs.Prelude.{◌≡◌, ℕ, ◌+◌, ◌*◌, ◌-◌, ◌^◌, ◌<◌, ◌≤◌, ◌||◌, Bool, not, false, true, List, [], ◌∷◌, ◌++◌, length, map, min, take, nat_eq, nat_lt, slice_index_or, if◌then◌else◌, IfSome}
+use Rattle.std.specs.Prelude.{◌≡◌, ℕ, ◌+◌, ◌*◌, ◌-◌, ◌^◌, ◌<◌, ◌≤◌, ◌||◌, ◌⊎◌, Bool, not, false, true, List, [], ◌∷◌, ◌++◌, length, map, min, take, nat_eq, nat_lt, slice_index_or, if◌then◌else◌, IfSome}
 use Rattle.std.specs.List.{count_by, range_with_len, sum, sum_by}
 use Rattle.aho_core.specs.Numbers.{greatest_index}
 use Rattle.aho_core.specs.declared.error.BuildError.{BuildError}
@@ -33,17 +33,17 @@ unfoldable pub deep_count : ℕ → List State → ℕ
 deep_count row_depth states = count_by (is_deep row_depth) states
 
 -- the entries of all rows: for each state one for each class, and one for its list
-abbrev pub rows_size : ℕ → List State → List Bool → ℕ
-rows_size row_depth states classes = rows_count row_depth states * stride_of classes
+abbrev pub row_entries : ℕ → List State → List Bool → ℕ
+row_entries row_depth states classes = rows_count row_depth states * stride_of classes
 
 -- the words of all rows and records
-abbrev pub states_size : ℕ → List State → List Bool → ℕ
-states_size row_depth states classes = rows_size row_depth states classes + deep_count row_depth states * record_size
+abbrev pub state_words : ℕ → List State → List Bool → ℕ
+state_words row_depth states classes = row_entries row_depth states classes + deep_count row_depth states * record_size
 
 -- the greatest depth down to which rows take at most so many bytes, or 0
 pub record IsRowDepth (states : List State) (classes : List Bool) (budget row_depth : ℕ) : Type 0 where
-  pub fits : 0 < row_depth → rows_size row_depth states classes * 4 ≤ budget
-  pub greatest : 0 < deep_count row_depth states → budget < rows_size (row_depth + 1) states classes * 4
+  pub fits : 0 < row_depth → row_entries row_depth states classes * 4 ≤ budget
+  pub greatest : 0 < deep_count row_depth states → budget < row_entries (row_depth + 1) states classes * 4
 
 -- the bytes that the rows of `from_nfa` may take
 abbrev pub default_budget : ℕ
@@ -53,16 +53,16 @@ default_budget = 327680
 abbrev pub row_at : ℕ → List State → List Bool → ℕ → ℕ
 row_at row_depth states classes sid = rows_count row_depth (take sid states) * stride_of classes
 
-abbrev pub record_at : ℕ → List State → ℕ → ℕ
-record_at row_depth states sid = deep_count row_depth (take sid states) * record_size
+abbrev pub record_place : ℕ → List State → ℕ → ℕ
+record_place row_depth states sid = deep_count row_depth (take sid states) * record_size
 
 -- the number of a state
 abbrev pub number_of : ℕ → List State → List Bool → ℕ → ℕ
 number_of row_depth states classes sid =
-    if is_deep row_depth (state_at states sid) then rows_size row_depth states classes + record_at row_depth states sid else row_at row_depth states classes sid
+    if is_deep row_depth (state_at states sid) then row_entries row_depth states classes + record_place row_depth states sid else row_at row_depth states classes sid
 
 -- the numbers of the states below the count
-pub record AreNumbers (row_depth : ℕ) (states : List State) (classes : List Bool) (count : ℕ) (numbers : List ℕ) : Type 0 where
+pub record AreStateNumbers (row_depth : ℕ) (states : List State) (classes : List Bool) (count : ℕ) (numbers : List ℕ) : Type 0 where
   pub sized : length numbers ≡ count
   pub number : (sid : ℕ) → sid < count → slice_index_or numbers sid 0 ≡ number_of row_depth states classes sid
 
@@ -102,7 +102,7 @@ moves_size nfa row_depth = moves_below row_depth (special_of nfa) (states_of nfa
 
 -- the rows, records, lists and transitions are those of all states
 pub record HasSizes (nfa : NFA) (row_depth : ℕ) (t : Layout) : Type 0 where
-  pub rows : length t.rows ≡ rows_size row_depth (states_of nfa) (classes_of nfa)
+  pub rows : length t.rows ≡ row_entries row_depth (states_of nfa) (classes_of nfa)
   pub deep : length t.deep ≡ deep_count row_depth (states_of nfa) * record_size
   pub moves : length t.moves ≡ moves_size nfa row_depth
   pub lists : length t.lists ≡ lists_size nfa
@@ -110,8 +110,8 @@ pub record HasSizes (nfa : NFA) (row_depth : ℕ) (t : Layout) : Type 0 where
 -- ---- what is refused
 
 -- the number of words of rows and records, that of lists and that of transitions are not above the greatest index
-pub record Fits (nfa : NFA) (row_depth : ℕ) : Type 0 where
-  pub states : states_size row_depth (states_of nfa) (classes_of nfa) ≤ greatest_index
+pub record FitIndexes (nfa : NFA) (row_depth : ℕ) : Type 0 where
+  pub states : state_words row_depth (states_of nfa) (classes_of nfa) ≤ greatest_index
   pub lists : lists_size nfa ≤ greatest_index
   pub moves : moves_size nfa row_depth ≤ greatest_index
 
@@ -128,26 +128,26 @@ abbrev pub IsOutOfMemory : BuildError → Type 0
 IsOutOfMemory error = error ≡ OutOfMemory
 
 -- the first of the three sizes that does not fit is told; where all fit, memory was wanted
-abbrev pub refusal_of : NFA → ℕ → BuildError
-refusal_of nfa row_depth =
-    if nat_lt greatest_index (states_size row_depth (states_of nfa) (classes_of nfa)) then StateIDOverflow greatest_index (told_size (states_size row_depth (states_of nfa) (classes_of nfa)))
+abbrev pub rows_refusal : NFA → ℕ → BuildError
+rows_refusal nfa row_depth =
+    if nat_lt greatest_index (state_words row_depth (states_of nfa) (classes_of nfa)) then StateIDOverflow greatest_index (told_size (state_words row_depth (states_of nfa) (classes_of nfa)))
     else if nat_lt greatest_index (lists_size nfa) then StateIDOverflow greatest_index (told_size (lists_size nfa))
     else if nat_lt greatest_index (moves_size nfa row_depth) then StateIDOverflow greatest_index (told_size (moves_size nfa row_depth))
     else OutOfMemory
 
 -- why the states are refused, with rows for at most so many bytes
-abbrev pub IsRefused : NFA → ℕ → BuildError → Type 0
-IsRefused nfa budget error = (row_depth : ℕ) × IsRowDepth (states_of nfa) (classes_of nfa) budget row_depth × (error ≡ refusal_of nfa row_depth)
+abbrev pub IsRowsRefusal : NFA → ℕ → BuildError → Type 0
+IsRowsRefusal nfa budget error = (row_depth : ℕ) × IsRowDepth (states_of nfa) (classes_of nfa) budget row_depth × (error ≡ rows_refusal nfa row_depth)
 
 -- ---- rows
 
 -- a byte of each class stands at the class's place
-pub record AreFirst (classes : List Bool) (firsts : List ℕ) : Type 0 where
+pub record AreFirstBytes (classes : List Bool) (firsts : List ℕ) : Type 0 where
   pub sized : length firsts ≡ 256
   pub of_class : (byte : ℕ) → byte < 256 → class_of classes (slice_index_or firsts (class_of classes byte) 0) ≡ class_of classes byte
 
--- what the states are made of: the states that are read out, the borders, a byte for each class, the number of each state, and how
--- deep states have rows
+-- what the states are made of: the states that are read out, the borders, a byte for each class, the number of each state, how deep
+-- states have rows, and whether a search may skip from the start
 pub record Parts : Type 0 where
   pub special : Special
   pub states : List State
@@ -155,33 +155,35 @@ pub record Parts : Type 0 where
   pub firsts : List ℕ
   pub numbers : List ℕ
   pub row_depth : ℕ
+  pub skips : Bool
 
-abbrev pub parts_of : NFA → List ℕ → List ℕ → ℕ → Parts
-parts_of nfa firsts numbers row_depth = record {
+abbrev pub parts_of : NFA → List ℕ → List ℕ → ℕ → Bool → Parts
+parts_of nfa firsts numbers row_depth skips = record {
   special = special_of nfa;
   states = states_of nfa;
   classes = classes_of nfa;
   firsts = firsts;
   numbers = numbers;
   row_depth = row_depth;
+  skips = skips;
 }
 
 abbrev pub plan_of : NFA → Plan → Parts
-plan_of nfa plan = parts_of nfa plan.firsts plan.numbers.items plan.row_depth
+plan_of nfa plan = parts_of nfa plan.firsts plan.numbers.items plan.row_depth plan.skips
 
 -- the numbers are those of the states, and the entries of a row are as many as there are classes, and one
 pub record IsPlan (plan : Parts) (stride : ℕ) : Type 0 where
   pub stride_is : stride ≡ stride_of plan.classes
   pub bounded : stride ≤ 257
   pub sized : length plan.firsts ≡ 256
-  pub numbered : AreNumbers plan.row_depth plan.states plan.classes (length plan.states) plan.numbers
+  pub numbered : AreStateNumbers plan.row_depth plan.states plan.classes (length plan.states) plan.numbers
 
 -- the number of a state, and 0 where there is none
-abbrev pub number_at : List ℕ → ℕ → ℕ
-number_at numbers sid = slice_index_or numbers sid 0
+abbrev pub number_or_zero : List ℕ → ℕ → ℕ
+number_or_zero numbers sid = slice_index_or numbers sid 0
 
 abbrev pub number_in : Parts → ℕ → ℕ
-number_in plan sid = number_at plan.numbers sid
+number_in plan sid = number_or_zero plan.numbers sid
 
 -- the state to which a byte of the class leads
 abbrev pub leads_in : Parts → ℕ → ℕ → ℕ
@@ -268,7 +270,7 @@ AreAlike states taken sid at =
 abbrev pub flat : List ℕ → List (ℕ × ℕ) → List ℕ
 flat numbers [] = []
 flat numbers (transition ∷ transitions) =
-    if nat_eq transition.1 fail_id then flat numbers transitions else transition.0 ∷ number_at numbers transition.1 ∷ flat numbers transitions
+    if nat_eq transition.1 fail_id then flat numbers transitions else transition.0 ∷ number_or_zero numbers transition.1 ∷ flat numbers transitions
 
 -- these words stand at this place
 pub record IsPartAt (words : List ℕ) (place : ℕ) (part : List ℕ) : Type 0 where
@@ -299,14 +301,39 @@ pub record IsRecord (plan : Parts) (sid : ℕ) (deep : List ℕ) (at : ℕ) (mov
 
 -- the records of the states below the count
 pub record AreRecords (plan : Parts) (count : ℕ) (deep moves lists : List ℕ) (deep_low : ℕ) : Type 0 where
-  pub sized : length deep ≡ record_at plan.row_depth plan.states count
-  pub records : (i : ℕ) → i < count → IsDeepState plan i → IsRecord plan i deep (record_at plan.row_depth plan.states i) moves lists
+  pub sized : length deep ≡ record_place plan.row_depth plan.states count
+  pub records : (i : ℕ) → i < count → IsDeepState plan i → IsRecord plan i deep (record_place plan.row_depth plan.states i) moves lists
   pub others : (i : ℕ) → i < count → IsDeepState plan i → deep_low ≤ number_in plan i → matches_in plan.states (source_of plan i) ≡ []
 
+-- the number below which states with rows are special whatever they list: past DEAD and, where a search may skip from it, past the start
+abbrev pub first_low : Parts → ℕ
+first_low plan = if plan.skips then number_in plan plan.special.start_unanchored_id + 1 else 1
+
+-- a state below the count lists a pattern
+pub record IsListing (plan : Parts) (count sid : ℕ) : Type 0 where
+  pub below : sid < count
+  pub listing : 0 < length (matches_in plan.states (source_of plan sid))
+
+-- a low number of the rows is 1, or no further than the row of a state that lists a pattern
+abbrev pub IsLowOfRows : Parts → ℕ → ℕ → Type 0
+IsLowOfRows plan count low = (low ≤ 1) ⊎ ((sid : ℕ) × IsListing plan count sid × IsShallow plan sid × (low ≤ row_in plan sid + stride_of plan.classes))
+
+-- one of the records is 0, or no further than the number of a deep state that lists a pattern
+abbrev pub IsLowOfRecords : Parts → ℕ → ℕ → Type 0
+IsLowOfRecords plan count low = (low ≤ 0) ⊎ ((sid : ℕ) × IsListing plan count sid × IsDeepState plan sid × (low ≤ number_in plan sid + 1))
+
+-- the low numbers are no greater than the states ask for
+pub record AreLow (plan : Parts) (count : ℕ) (filled : Filled) : Type 0 where
+  pub first : first_low plan ≤ filled.low
+  pub low : (filled.low ≤ first_low plan) ⊎ (filled.low ≤ filled.list_low)
+  pub list_low : IsLowOfRows plan count filled.list_low
+  pub deep_low : IsLowOfRecords plan count filled.deep_low
+
 -- the states below the count
-pub record IsFilled (plan : Parts) (count : ℕ) (filled : Filled) : Type 0 where
+pub record AreLaidOut (plan : Parts) (count : ℕ) (filled : Filled) : Type 0 where
   pub rows : AreRows plan count filled.entries.items filled.lists.items filled.list_low
   pub records : AreRecords plan count filled.deep.items filled.moves.items filled.lists.items filled.deep_low
   pub special : filled.list_low ≤ filled.low
+  pub lows : AreLow plan count filled
   pub lists_sized : length filled.lists.items ≡ 1 + lists_below plan.special plan.states count
   pub moves_sized : length filled.moves.items ≡ moves_below plan.row_depth plan.special plan.states count

@@ -36,17 +36,17 @@ abbrev pub record_size : ℕ
 record_size = 5
 
 -- a state with a row is numbered by the place where its row begins
-pub record IsRow (stride size sid : ℕ) : Type 0 where
+pub record IsAtStride (stride size sid : ℕ) : Type 0 where
   pub whole : sid % stride ≡ 0
   pub within : sid + stride ≤ size
 
 abbrev pub HasRow : Layout → ℕ → Type 0
-HasRow t sid = IsRow (stride_of t.classes) (length t.rows) sid
+HasRow t sid = IsAtStride (stride_of t.classes) (length t.rows) sid
 
 -- a deep state by the place of its record, counted on from the end of the rows
 pub record IsDeep (t : Layout) (sid : ℕ) : Type 0 where
   pub behind : length t.rows ≤ sid
-  pub record_of : IsRow record_size (length t.deep) (sid - length t.rows)
+  pub record_of : IsAtStride record_size (length t.deep) (sid - length t.rows)
 
 -- whether the number is below those of the deep states
 abbrev pub is_row : Layout → ℕ → Bool
@@ -62,15 +62,15 @@ abbrev pub entry_in : Layout → ℕ → ℕ → ℕ
 entry_in t sid byte = slice_index_or t.rows (sid + class_of t.classes byte) 0
 
 -- a word of a deep state's record
-abbrev pub word_in : Layout → ℕ → ℕ → ℕ
-word_in t sid index = slice_index_or t.deep (sid - length t.rows + index) 0
+abbrev pub record_word : Layout → ℕ → ℕ → ℕ
+record_word t sid index = slice_index_or t.deep (sid - length t.rows + index) 0
 
 abbrev pub link_in : Layout → ℕ → ℕ
-link_in t sid = word_in t sid 0
+link_in t sid = record_word t sid 0
 
 -- how deep a state is below the rows: 0 for a state that has one
-abbrev pub depth_in : Layout → ℕ → ℕ
-depth_in t sid = if is_row t sid then 0 else word_in t sid 2
+abbrev pub depth_below_rows : Layout → ℕ → ℕ
+depth_below_rows t sid = if is_row t sid then 0 else record_word t sid 2
 
 -- transitions are bytes, each with the state that it leads to: the first of a byte
 abbrev pub child_of : List ℕ → ℕ → Option ℕ
@@ -80,7 +80,7 @@ child_of (key ∷ next ∷ moves) byte = if nat_eq key byte then Some next else 
 
 -- the transitions of a deep state
 abbrev pub moves_in : Layout → ℕ → List ℕ
-moves_in t sid = take (word_in t sid 4) (drop (word_in t sid 3) t.moves)
+moves_in t sid = take (record_word t sid 4) (drop (record_word t sid 3) t.moves)
 
 abbrev pub child_in : Layout → ℕ → ℕ → Option ℕ
 child_in t sid byte = child_of (moves_in t sid) byte
@@ -101,11 +101,11 @@ looks_along t byte zero sid = 0
 looks_along t byte (suc left) sid = 1 + (if is_row t sid || is_some (child_in t sid byte) then 0 else looks_along t byte left (link_in t sid))
 
 -- where a byte leads, and the look-ups that this takes
-abbrev pub next_in : Layout → ℕ → ℕ → ℕ
-next_in t sid byte = along t byte (depth_in t sid + 1) sid
+abbrev pub next_state_in : Layout → ℕ → ℕ → ℕ
+next_state_in t sid byte = along t byte (depth_below_rows t sid + 1) sid
 
 abbrev pub looks_in : Layout → ℕ → ℕ → ℕ
-looks_in t sid byte = looks_along t byte (depth_in t sid + 1) sid
+looks_in t sid byte = looks_along t byte (depth_below_rows t sid + 1) sid
 
 -- the list that stands here: its length, and then its patterns
 abbrev pub list_from : List ℕ → ℕ → List ℕ
@@ -113,24 +113,24 @@ list_from lists place = take (slice_index_or lists place 0) (drop (place + 1) li
 
 -- where the list of a state stands
 abbrev pub list_place : Layout → ℕ → ℕ
-list_place t sid = if is_row t sid then slice_index_or t.rows (sid + class_count t.classes) 0 else word_in t sid 1
+list_place t sid = if is_row t sid then slice_index_or t.rows (sid + class_count t.classes) 0 else record_word t sid 1
 
 -- whether a search has to look at the state
-abbrev pub is_special_in : Layout → ℕ → Bool
-is_special_in t sid = if is_row t sid then nat_lt sid t.low else nat_lt sid t.deep_low
+abbrev pub is_special_number : Layout → ℕ → Bool
+is_special_number t sid = if is_row t sid then nat_lt sid t.low else nat_lt sid t.deep_low
 
 -- whether the state is dead or may list a pattern
-abbrev pub is_marked_in : Layout → ℕ → Bool
-is_marked_in t sid = if is_row t sid then nat_lt sid t.list_low else nat_lt sid t.deep_low
+abbrev pub is_marked_number : Layout → ℕ → Bool
+is_marked_number t sid = if is_row t sid then nat_lt sid t.list_low else nat_lt sid t.deep_low
 
 -- what a state lists: only marked ones list a pattern
 abbrev pub list_in : Layout → ℕ → List ℕ
-list_in t sid = if is_marked_in t sid then list_from t.lists (list_place t sid) else []
+list_in t sid = if is_marked_number t sid then list_from t.lists (list_place t sid) else []
 
 -- the state after a word, from a state on
 abbrev pub run_from : Layout → ℕ → List ℕ → ℕ
 run_from t sid [] = sid
-run_from t sid (byte ∷ word) = run_from t (next_in t sid byte) word
+run_from t sid (byte ∷ word) = run_from t (next_state_in t sid byte) word
 
 -- where a state of the words stands: where its own word leads, and at 0 if it is the dead one
 abbrev pub standing_in : Layout → Option (List ℕ) → ℕ
@@ -146,9 +146,9 @@ abbrev pub IsHeldIn : Layout → Patterns → Anchored → List ℕ → ℕ → 
 IsHeldIn t p No word sid = IsReached p word × (sid ≡ standing_in t (held_after p No word))
 IsHeldIn t p Yes word sid = ⊥
 
-abbrev pub start_in : Layout → Anchored → Result ℕ MatchErrorKind
-start_in t No = Ok t.start
-start_in t Yes = Err InvalidInputAnchored
+abbrev pub start_for : Layout → Anchored → Result ℕ MatchErrorKind
+start_for t No = Ok t.start
+start_for t Yes = Err InvalidInputAnchored
 
 -- the look-ups of the byte that follows a word
 abbrev pub lookups_in : Layout → Patterns → List ℕ → ℕ → ℕ
@@ -160,16 +160,16 @@ pub record IsSoundRows (t : Layout) : Type 0 where
   pub dead : HasRow t 0
   pub start : HasRow t t.start
   pub next : (sid class : ℕ) → HasRow t sid → class < class_count t.classes → IsStateIn t (slice_index_or t.rows (sid + class) 0)
-  pub near : (sid class : ℕ) → HasRow t sid → class < class_count t.classes → depth_in t (slice_index_or t.rows (sid + class) 0) ≤ 1
+  pub near : (sid class : ℕ) → HasRow t sid → class < class_count t.classes → depth_below_rows t (slice_index_or t.rows (sid + class) 0) ≤ 1
   pub dead_stays : (class : ℕ) → class < class_count t.classes → slice_index_or t.rows class 0 ≡ 0
   pub dead_marked : 0 < t.list_low
   pub marked_special : t.list_low ≤ t.low
 
 -- a transition of a deep state leads to a state, one deeper at most; a link is followed only to one less deep
 pub record IsSoundDeep (t : Layout) : Type 0 where
-  pub moves : (sid : ℕ) → IsDeep t sid → word_in t sid 3 + word_in t sid 4 ≤ length t.moves
-  pub next : (sid byte next : ℕ) → IsDeep t sid → byte < 256 → child_in t sid byte ≡ Some next → IsStateIn t next × (depth_in t next ≤ depth_in t sid + 1)
-  pub link : (sid byte : ℕ) → IsDeep t sid → byte < 256 → child_in t sid byte ≡ None → IsStateIn t (link_in t sid) × (depth_in t (link_in t sid) < depth_in t sid)
+  pub moves : (sid : ℕ) → IsDeep t sid → record_word t sid 3 + record_word t sid 4 ≤ length t.moves
+  pub next : (sid byte next : ℕ) → IsDeep t sid → byte < 256 → child_in t sid byte ≡ Some next → IsStateIn t next × (depth_below_rows t next ≤ depth_below_rows t sid + 1)
+  pub link : (sid byte : ℕ) → IsDeep t sid → byte < 256 → child_in t sid byte ≡ None → IsStateIn t (link_in t sid) × (depth_below_rows t (link_in t sid) < depth_below_rows t sid)
 
 pub record IsSoundLayout (t : Layout) : Type 0 where
   pub in_rows : IsSoundRows t
@@ -177,7 +177,7 @@ pub record IsSoundLayout (t : Layout) : Type 0 where
   -- a state's list stands within the lists
   pub listed : (sid : ℕ) → IsStateIn t sid → list_place t sid + slice_index_or t.lists (list_place t sid) 0 < length t.lists
   -- how deep it is is an index
-  pub shallow : (sid : ℕ) → IsStateIn t sid → depth_in t sid ≤ greatest_index
+  pub shallow : (sid : ℕ) → IsStateIn t sid → depth_below_rows t sid ≤ greatest_index
   pub small : length t.rows + length t.deep ≤ greatest_index
   pub small_lists : length t.lists ≤ greatest_index + 1
   pub small_moves : length t.moves ≤ greatest_index

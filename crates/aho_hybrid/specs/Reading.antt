@@ -17,7 +17,7 @@ use Rattle.aho_laws.proofs.NamedStates.{reads_by_words}
 use Rattle.aho_laws.proofs.StepLaw.{held_after-push}
 use Rattle.aho_table.proofs.Classes.{class_of-count}
 use Rattle.aho_table.specs.Alphabet.{class_of}
-use Rattle.aho_hybrid.specs.Layout.{HasRow, IsDeep, Layout, IsSoundLayout, IsReached, IsStateIn, IsHeldIn, along, child_in, depth_in, entry_in, is_marked_in, is_row, is_special_in, link_in, list_from, list_in, list_place, looks_along, looks_in, lookups_in, next_in, run_from, standing_in, told_or, word_in}
+use Rattle.aho_hybrid.specs.Layout.{HasRow, IsDeep, Layout, IsSoundLayout, IsReached, IsStateIn, IsHeldIn, along, child_in, depth_below_rows, entry_in, is_marked_number, is_row, is_special_number, link_in, list_from, list_in, list_place, looks_along, looks_in, lookups_in, next_state_in, run_from, standing_in, told_or, record_word}
 
 -- after each word the state that is held lists what the word does, and is dead where it is; the start is held again only where
 -- nothing of the word is left; it stands where the word's state does; and the dead state lists nothing
@@ -37,8 +37,8 @@ row-test t sid row = lt-ltb sid (length t.rows) (omega (arith, row.within))
 pub deep-test : (t : Layout) (sid : ℕ) → IsDeep t sid → is_row t sid ≡ false
 deep-test t sid deep = le-ltb sid (length t.rows) deep.behind
 
-pub row-depth : (t : Layout) (sid : ℕ) → HasRow t sid → depth_in t sid ≡ 0
-row-depth t sid row = cond-true (is_row t sid) 0 (word_in t sid 2) (row-test t sid row)
+pub row-depth : (t : Layout) (sid : ℕ) → HasRow t sid → depth_below_rows t sid ≡ 0
+row-depth t sid row = cond-true (is_row t sid) 0 (record_word t sid 2) (row-test t sid row)
 
 pub state-cases : (t : Layout) (sid : ℕ) → IsStateIn t sid → HasRow t sid ⊎ IsDeep t sid
 state-cases t sid state =
@@ -77,34 +77,34 @@ along-link t byte left sid deep child = (
 
 module _ (t : Layout) (sound : IsSoundLayout t) where
   -- one byte more
-  pub run-push : (sid : ℕ) (word : List ℕ) (byte : ℕ) → run_from t sid (word ++ byte ∷ []) ≡ next_in t (run_from t sid word) byte
+  pub run-push : (sid : ℕ) (word : List ℕ) (byte : ℕ) → run_from t sid (word ++ byte ∷ []) ≡ next_state_in t (run_from t sid word) byte
   run-push sid [] byte = refl
-  run-push sid (x ∷ word) byte = run-push (next_in t sid x) word byte
+  run-push sid (x ∷ word) byte = run-push (next_state_in t sid x) word byte
 
   -- what a step along the links is to keep
   abbrev IsPaidAlong : ℕ → ℕ → ℕ → Type 0
-  IsPaidAlong byte left sid = IsStateIn t (along t byte left sid) × (looks_along t byte left sid + depth_in t (along t byte left sid) ≤ depth_in t sid + 2)
+  IsPaidAlong byte left sid = IsStateIn t (along t byte left sid) × (looks_along t byte left sid + depth_below_rows t (along t byte left sid) ≤ depth_below_rows t sid + 2)
 
-  paid-step : (byte left sid : ℕ) → byte < 256 → depth_in t sid < left + 1 → HasRow t sid ⊎ IsDeep t sid → (o : Option ℕ) → child_in t sid byte ≡ o
-      → ((next : ℕ) → depth_in t next < left → IsStateIn t next → IsPaidAlong byte left next) → IsPaidAlong byte (suc left) sid
+  paid-step : (byte left sid : ℕ) → byte < 256 → depth_below_rows t sid < left + 1 → HasRow t sid ⊎ IsDeep t sid → (o : Option ℕ) → child_in t sid byte ≡ o
+      → ((next : ℕ) → depth_below_rows t next < left → IsStateIn t next → IsPaidAlong byte left next) → IsPaidAlong byte (suc left) sid
   paid-step byte left sid small less (inl row) o child rest =
       let class = class_of-count t.classes byte in
       let led = along-row t byte (suc left) sid (row-test t sid row) (omega arith) in (
         subst (IsStateIn t) (sym led.0) (sound.in_rows.next sid (class_of t.classes byte) row class),
-        omega (arith, led.1, ap (depth_in t) led.0, sound.in_rows.near sid (class_of t.classes byte) row class),
+        omega (arith, led.1, ap (depth_below_rows t) led.0, sound.in_rows.near sid (class_of t.classes byte) row class),
       )
   paid-step byte left sid small less (inr deep) (Some next) child rest =
       let led = along-child t byte (suc left) sid next (deep-test t sid deep) child (omega arith) in
       let is = sound.in_deep.next sid byte next deep small child in
-      (subst (IsStateIn t) (sym led.0) is.0, omega (arith, led.1, ap (depth_in t) led.0, is.1))
+      (subst (IsStateIn t) (sym led.0) is.0, omega (arith, led.1, ap (depth_below_rows t) led.0, is.1))
   paid-step byte left sid small less (inr deep) None child rest =
       let led = along-link t byte left sid (deep-test t sid deep) child in
       let is = sound.in_deep.link sid byte deep small child in
       let further = rest (link_in t sid) (omega (arith, is.1, less)) is.0 in
-      (subst (IsStateIn t) (sym led.0) further.0, omega (arith, led.1, ap (depth_in t) led.0, further.1, is.1))
+      (subst (IsStateIn t) (sym led.0) further.0, omega (arith, led.1, ap (depth_below_rows t) led.0, further.1, is.1))
 
   -- along the links a byte leads from state to state, and what is looked at is paid by what the state is deeper than that
-  pub along-paid : (byte left sid : ℕ) → byte < 256 → depth_in t sid < left → IsStateIn t sid → IsPaidAlong byte left sid
+  pub along-paid : (byte left sid : ℕ) → byte < 256 → depth_below_rows t sid < left → IsStateIn t sid → IsPaidAlong byte left sid
   along-paid byte zero sid small less state = absurd (omega (arith, less))
   along-paid byte (suc left) sid small less state =
       paid-step byte left sid small (omega (arith, less)) (state-cases t sid state) (child_in t sid byte) refl (λ next near is. along-paid byte left next small near is)
@@ -113,8 +113,8 @@ module _ (t : Layout) (sound : IsSoundLayout t) where
   abbrev AreAlike : ℕ → ℕ → ℕ → ℕ → Type 0
   AreAlike byte left other sid = (along t byte left sid ≡ along t byte other sid) × (looks_along t byte left sid ≡ looks_along t byte other sid)
 
-  alike-step : (byte left other sid : ℕ) → byte < 256 → depth_in t sid < left + 1 → depth_in t sid < other + 1 → HasRow t sid ⊎ IsDeep t sid → (o : Option ℕ) → child_in t sid byte ≡ o
-      → ((next : ℕ) → depth_in t next < left → depth_in t next < other → IsStateIn t next → AreAlike byte left other next) → AreAlike byte (suc left) (suc other) sid
+  alike-step : (byte left other sid : ℕ) → byte < 256 → depth_below_rows t sid < left + 1 → depth_below_rows t sid < other + 1 → HasRow t sid ⊎ IsDeep t sid → (o : Option ℕ) → child_in t sid byte ≡ o
+      → ((next : ℕ) → depth_below_rows t next < left → depth_below_rows t next < other → IsStateIn t next → AreAlike byte left other next) → AreAlike byte (suc left) (suc other) sid
   alike-step byte left other sid small less more (inl row) o child rest =
       let one = along-row t byte (suc left) sid (row-test t sid row) (omega arith) in
       let two = along-row t byte (suc other) sid (row-test t sid row) (omega arith) in
@@ -130,7 +130,7 @@ module _ (t : Layout) (sound : IsSoundLayout t) where
       let further = rest (link_in t sid) (omega (arith, is.1, less)) (omega (arith, is.1, more)) is.0 in
       (one.0 ∙ further.0 ∙ sym two.0, one.1 ∙ ap (λ (n : ℕ). 1 + n) further.1 ∙ sym two.1)
 
-  along-alike : (byte left other sid : ℕ) → byte < 256 → depth_in t sid < left → depth_in t sid < other → IsStateIn t sid → AreAlike byte left other sid
+  along-alike : (byte left other sid : ℕ) → byte < 256 → depth_below_rows t sid < left → depth_below_rows t sid < other → IsStateIn t sid → AreAlike byte left other sid
   along-alike byte zero other sid small less more state = absurd (omega (arith, less))
   along-alike byte (suc left) zero sid small less more state = absurd (omega (arith, more))
   along-alike byte (suc left) (suc other) sid small less more state =
@@ -139,35 +139,35 @@ module _ (t : Layout) (sound : IsSoundLayout t) where
 
   -- one link down
   pub linked-step : (sid byte : ℕ) → byte < 256 → IsDeep t sid → child_in t sid byte ≡ None
-      → (next_in t sid byte ≡ next_in t (link_in t sid) byte) × (looks_in t sid byte ≡ 1 + looks_in t (link_in t sid) byte)
+      → (next_state_in t sid byte ≡ next_state_in t (link_in t sid) byte) × (looks_in t sid byte ≡ 1 + looks_in t (link_in t sid) byte)
   linked-step sid byte small deep child =
-      let led = along-link t byte (depth_in t sid) sid (deep-test t sid deep) child in
+      let led = along-link t byte (depth_below_rows t sid) sid (deep-test t sid deep) child in
       let is = sound.in_deep.link sid byte deep small child in
-      let alike = along-alike byte (depth_in t sid) (depth_in t (link_in t sid) + 1) (link_in t sid) small (omega (arith, is.1)) (omega arith) is.0 in
+      let alike = along-alike byte (depth_below_rows t sid) (depth_below_rows t (link_in t sid) + 1) (link_in t sid) small (omega (arith, is.1)) (omega arith) is.0 in
       (fuel ∙ led.0 ∙ alike.0, looks_fuel ∙ led.1 ∙ ap (λ (n : ℕ). 1 + n) alike.1)
     where
-      one_more : depth_in t sid + 1 ≡ suc (depth_in t sid)
+      one_more : depth_below_rows t sid + 1 ≡ suc (depth_below_rows t sid)
       one_more = omega arith
 
-      fuel : next_in t sid byte ≡ along t byte (suc (depth_in t sid)) sid
+      fuel : next_state_in t sid byte ≡ along t byte (suc (depth_below_rows t sid)) sid
       fuel = ap (λ (n : ℕ). along t byte n sid) one_more
 
-      looks_fuel : looks_in t sid byte ≡ looks_along t byte (suc (depth_in t sid)) sid
+      looks_fuel : looks_in t sid byte ≡ looks_along t byte (suc (depth_below_rows t sid)) sid
       looks_fuel = ap (λ (n : ℕ). looks_along t byte n sid) one_more
 
   -- a byte leads from state to state
-  pub next-state : (sid byte : ℕ) → byte < 256 → IsStateIn t sid → IsStateIn t (next_in t sid byte)
-  next-state sid byte small state = (along-paid byte (depth_in t sid + 1) sid small (omega arith) state).0
+  pub next-state : (sid byte : ℕ) → byte < 256 → IsStateIn t sid → IsStateIn t (next_state_in t sid byte)
+  next-state sid byte small state = (along-paid byte (depth_below_rows t sid + 1) sid small (omega arith) state).0
 
-  pub next-paid : (sid byte : ℕ) → byte < 256 → IsStateIn t sid → looks_in t sid byte + depth_in t (next_in t sid byte) ≤ depth_in t sid + 2
-  next-paid sid byte small state = (along-paid byte (depth_in t sid + 1) sid small (omega arith) state).1
+  pub next-paid : (sid byte : ℕ) → byte < 256 → IsStateIn t sid → looks_in t sid byte + depth_below_rows t (next_state_in t sid byte) ≤ depth_below_rows t sid + 2
+  next-paid sid byte small state = (along-paid byte (depth_below_rows t sid + 1) sid small (omega arith) state).1
 
   -- from a dead state it leads to a dead state again
-  pub dead-next : (sid byte : ℕ) → nat_eq sid 0 ≡ true → nat_eq (next_in t sid byte) 0 ≡ true
+  pub dead-next : (sid byte : ℕ) → nat_eq sid 0 ≡ true → nat_eq (next_state_in t sid byte) 0 ≡ true
   dead-next sid byte dead =
       let zero_is : sid ≡ 0 = eqb-true sid 0 dead in
-      let led = along-row t byte (depth_in t 0 + 1) 0 (row-test t 0 sound.in_rows.dead) (omega arith) in
-      ap (λ (n : ℕ). nat_eq (next_in t n byte) 0) zero_is
+      let led = along-row t byte (depth_below_rows t 0 + 1) 0 (row-test t 0 sound.in_rows.dead) (omega arith) in
+      ap (λ (n : ℕ). nat_eq (next_state_in t n byte) 0) zero_is
       ∙ ap (λ (n : ℕ). nat_eq n 0) (led.0 ∙ ap (λ (n : ℕ). get_or t.rows n 0) (first (class_of t.classes byte)) ∙ sound.in_rows.dead_stays (class_of t.classes byte) (class_of-count t.classes byte))
     where
       first : (class : ℕ) → 0 + class ≡ class
@@ -179,13 +179,13 @@ module _ (t : Layout) (sound : IsSoundLayout t) where
     held-run word sid (bytes, small, same) is = is ∙ ap (standing_in t) (sym same) ∙ sym (of.stands bytes small)
 
     -- a state that follows the held one is held after one more byte
-    pub held-next : (anchored : Anchored) (word : List ℕ) (sid byte next : ℕ) → byte < 256 → next ≡ next_in t sid byte → IsHeldIn t p anchored word sid → IsHeldIn t p anchored (word ++ byte ∷ []) next
+    pub held-next : (anchored : Anchored) (word : List ℕ) (sid byte next : ℕ) → byte < 256 → next ≡ next_state_in t sid byte → IsHeldIn t p anchored word sid → IsHeldIn t p anchored (word ++ byte ∷ []) next
     held-next No word sid byte next small is ((bytes, all_small, same), stands) =
         let longer = All-push (λ (b : ℕ). b < 256) bytes byte all_small small in
         let reached : held_after p No (bytes ++ byte ∷ []) ≡ held_after p No (word ++ byte ∷ []) =
         held_after-push p No bytes byte ∙ ap (λ (o : Option (List ℕ)). follow p No o (folded p byte)) same ∙ sym (held_after-push p No word byte) in (
           (bytes ++ byte ∷ [], longer, reached),
-          is ∙ ap (λ (n : ℕ). next_in t n byte) (held-run word sid (bytes, all_small, same) stands) ∙ sym (run-push t.start bytes byte)
+          is ∙ ap (λ (n : ℕ). next_state_in t n byte) (held-run word sid (bytes, all_small, same) stands) ∙ sym (run-push t.start bytes byte)
               ∙ of.stands (bytes ++ byte ∷ []) longer ∙ ap (standing_in t) reached,
         )
     held-next Yes word sid byte next small is held = absurd held
@@ -221,17 +221,17 @@ module _ (t : Layout) (sound : IsSoundLayout t) where
   held-looks p Yes word sid byte held = absurd held
 
   -- a state that is not marked is not dead, and lists nothing
-  pub unmarked_of : (sid : ℕ) → is_marked_in t sid ≡ false → (nat_eq sid 0 ≡ false) × (list_in t sid ≡ [])
+  pub unmarked_of : (sid : ℕ) → is_marked_number t sid ≡ false → (nat_eq sid 0 ≡ false) × (list_in t sid ≡ [])
   unmarked_of sid high = (
     ne_eqb sid 0
         (λ e.
-        both_ways (is_marked_in t sid) high
-        (ap (is_marked_in t) e ∙ cond-true (is_row t 0) (nat_lt 0 t.list_low) (nat_lt 0 t.deep_low) (row-test t 0 sound.in_rows.dead) ∙ lt-ltb 0 t.list_low sound.in_rows.dead_marked)),
-    cond-false (is_marked_in t sid) (list_from t.lists (list_place t sid)) [] high,
+        both_ways (is_marked_number t sid) high
+        (ap (is_marked_number t) e ∙ cond-true (is_row t 0) (nat_lt 0 t.list_low) (nat_lt 0 t.deep_low) (row-test t 0 sound.in_rows.dead) ∙ lt-ltb 0 t.list_low sound.in_rows.dead_marked)),
+    cond-false (is_marked_number t sid) (list_from t.lists (list_place t sid)) [] high,
   )
 
   -- nor is one that is not special
-  plain-unmarked : (sid : ℕ) → is_special_in t sid ≡ false → is_marked_in t sid ≡ false
+  plain-unmarked : (sid : ℕ) → is_special_number t sid ≡ false → is_marked_number t sid ≡ false
   plain-unmarked sid high =
       elim (cases_Bool (is_row t sid)) [
         | inl row ↦
@@ -243,12 +243,12 @@ module _ (t : Layout) (sound : IsSoundLayout t) where
             ∙ sym (cond-false (is_row t sid) (nat_lt sid t.low) (nat_lt sid t.deep_low) deep) ∙ high
       ]
 
-  pub plain_of : (sid : ℕ) → is_special_in t sid ≡ false → (nat_eq sid 0 ≡ false) × (list_in t sid ≡ [])
+  pub plain_of : (sid : ℕ) → is_special_number t sid ≡ false → (nat_eq sid 0 ≡ false) × (list_in t sid ≡ [])
   plain_of sid high = unmarked_of sid (plain-unmarked sid high)
 
   -- a dead state and the start have rows
-  pub dead_shallow_of : (sid : ℕ) → nat_eq sid 0 ≡ true → depth_in t sid ≡ 0
-  dead_shallow_of sid dead = ap (depth_in t) (eqb-true sid 0 dead) ∙ row-depth t 0 sound.in_rows.dead
+  pub dead_shallow_of : (sid : ℕ) → nat_eq sid 0 ≡ true → depth_below_rows t sid ≡ 0
+  dead_shallow_of sid dead = ap (depth_below_rows t) (eqb-true sid 0 dead) ∙ row-depth t 0 sound.in_rows.dead
 
-  pub starts_shallow_of : (sid : ℕ) → nat_eq sid t.start ≡ true → depth_in t sid ≡ 0
-  starts_shallow_of sid first = ap (depth_in t) (eqb-true sid t.start first) ∙ row-depth t t.start sound.in_rows.start
+  pub starts_shallow_of : (sid : ℕ) → nat_eq sid t.start ≡ true → depth_below_rows t sid ≡ 0
+  starts_shallow_of sid first = ap (depth_below_rows t) (eqb-true sid t.start first) ∙ row-depth t t.start sound.in_rows.start

@@ -5,7 +5,7 @@ ghost use Rattle.aho_core.specs.Numbers.{greatest_index};
 ghost use Rattle.aho_corasick.specs.ReadOut.{states_of, special_of, classes_of};
 ghost use Rattle.aho_table.specs.Table.{fail_id, matches_in, state_at};
 ghost use Rattle.aho_hybrid.specs.Layout.{stride_of};
-ghost use Rattle.aho_hybrid.specs.Filled.{Fits, IsRowDepth, IsTooLarge, deep_count, is_deep, list_words, lists_size, moves_size, moves_words, refusal_of, rows_count, rows_size, source_in, told_size, transition_words};
+ghost use Rattle.aho_hybrid.specs.Filled.{FitIndexes, IsRowDepth, IsTooLarge, deep_count, is_deep, list_words, lists_size, moves_size, moves_words, rows_refusal, rows_count, row_entries, source_in, told_size, transition_words};
 
 use aho_automaton::automaton::Automaton;
 use aho_build::special::Special;
@@ -22,9 +22,9 @@ pub fn dense_size(nfa: &NFA, stride: usize, row_depth: usize) -> Result<usize, B
     requires stride { stride ≡ stride_of (classes_of nfa.now) }
     requires bounded { stride ≤ 257 }
     ensures dense { IfOk result (λ dense.
-        dense ≡ rows_size row_depth (states_of nfa.now) (classes_of nfa.now)) }
-    ensures fits { IfOk result (λ dense. Fits nfa.now row_depth) }
-    ensures refused { IfErr result (λ error. error ≡ refusal_of nfa.now row_depth) }
+        dense ≡ row_entries row_depth (states_of nfa.now) (classes_of nfa.now)) }
+    ensures fits { IfOk result (λ dense. FitIndexes nfa.now row_depth) }
+    ensures refused { IfErr result (λ error. error ≡ rows_refusal nfa.now row_depth) }
 {
     let with_rows = rows_count(nfa, row_depth);
     let dense = with_rows * stride;

@@ -1,7 +1,7 @@
 //! The states of a `Hybrid`, made from an `NFA`'s: rows for those near the start, and records for the others, each in the
 //! order of the `NFA`'s numbers.
 
-ghost use Rattle.std.specs.Prelude.{◌≡◌, ℕ, List, true, [], ◌∷◌, ◌++◌, ◌+◌, ◌*◌, ◌<◌, ◌≤◌, length, slice_index_or, IfOk, IfErr, OnOk};
+ghost use Rattle.std.specs.Prelude.{◌≡◌, ◌⊎◌, ℕ, List, true, [], ◌∷◌, ◌++◌, ◌+◌, ◌*◌, ◌<◌, ◌≤◌, length, slice_index_or, IfOk, IfErr, OnOk};
 ghost use Rattle.aho_core.specs.Numbers.{greatest_index};
 ghost use Rattle.aho_core.specs.Patterns.{Patterns};
 ghost use Rattle.aho_build.specs.Walking.{IsState};
@@ -10,7 +10,8 @@ ghost use Rattle.aho_table.specs.Alphabet.{class_count};
 ghost use Rattle.aho_table.specs.Table.{matches_in};
 ghost use Rattle.aho_hybrid.specs.Layout.{IsSoundLayout, stride_of};
 ghost use Rattle.aho_hybrid.specs.Reading.{IsLayoutOf};
-ghost use Rattle.aho_hybrid.specs.Filled.{AreFirst, AreMarked, AreNumbers, AreRows, HasEntries, HasRowBefore, HasSizes, Fits, IsDeepState, IsFilled, IsListAt, IsNear, IsOutOfMemory, IsPlaced, IsPlan, IsRefused, IsRowDepth, IsShallow, IsStep, IsToldBy, flat, is_deep, leads_in, list_words, number_at, number_in, plan_of, rows_size, states_size};
+ghost use Rattle.aho_hybrid.specs.Made.{AreMarkedIn, IsLaidOutOf};
+ghost use Rattle.aho_hybrid.specs.Filled.{AreFirstBytes, AreMarked, AreStateNumbers, AreRows, HasEntries, HasRowBefore, FitIndexes, IsDeepState, AreLaidOut, IsListAt, IsNear, IsOutOfMemory, IsPlaced, IsPlan, IsRowsRefusal, IsShallow, IsStep, IsToldBy, first_low, flat, is_deep, leads_in, list_words, number_or_zero, number_in, plan_of, row_entries, state_words};
 
 use crate::budget::{RECORD_SIZE, dense_size, either, is_deep, row_depth, source_of};
 use crate::rows::Rows;
@@ -64,10 +65,10 @@ pub fn rows_of(alloc: Global, nfa: &NFA, budget: usize, skips: bool) -> Result<R
     ensures of { IfOk result (λ rows. (p : Patterns)
         → ⟦<NFA as Automaton>⟧.is_of nfa.now p
         → IsLayoutOf rows p (⟦<NFA as Automaton>⟧.kind nfa.now) (⟦<NFA as Automaton>⟧.lengths nfa.now)) }
-    ensures sized { IfOk result (λ rows. (row_depth : ℕ)
-        × IsRowDepth (states_of nfa.now) (classes_of nfa.now) budget row_depth
-        × Fits nfa.now row_depth × HasSizes nfa.now row_depth rows) }
-    ensures refused { IfErr result (IsRefused nfa.now budget) }
+    ensures laid_out { IfOk result (IsLaidOutOf ⟦<NFA as Automaton>⟧ nfa.now budget) }
+    ensures marked { IfOk result (λ rows. (p : Patterns)
+        → ⟦<NFA as Automaton>⟧.is_of nfa.now p → AreMarkedIn skips p rows) }
+    ensures refused { IfErr result (IsRowsRefusal nfa.now budget) }
 {
     let stride = nfa.byte_classes().alphabet_len() + 1;
     let row_depth = row_depth(nfa, stride, budget);
@@ -80,7 +81,7 @@ pub fn rows_of(alloc: Global, nfa: &NFA, budget: usize, skips: bool) -> Result<R
         skips,
     };
     let filled = filled_states(alloc, nfa, &plan)?;
-    let start = number_at(&plan.numbers, nfa.special().start_unanchored_id);
+    let start = number_or_zero(&plan.numbers, nfa.special().start_unanchored_id);
     Ok(Rows {
         classes: nfa.byte_classes().copy(),
         entries: filled.entries,
@@ -104,9 +105,9 @@ fn numbers_of(
 ) -> Result<Vec<SmallIndex>, BuildError>
     requires stride { stride ≡ stride_of (classes_of nfa.now) }
     requires bounded { stride ≤ 257 }
-    requires dense { dense ≡ rows_size row_depth (states_of nfa.now) (classes_of nfa.now) }
-    requires small { states_size row_depth (states_of nfa.now) (classes_of nfa.now) ≤ greatest_index }
-    ensures numbers { IfOk result (λ numbers. AreNumbers row_depth (states_of nfa.now)
+    requires dense { dense ≡ row_entries row_depth (states_of nfa.now) (classes_of nfa.now) }
+    requires small { state_words row_depth (states_of nfa.now) (classes_of nfa.now) ≤ greatest_index }
+    ensures numbers { IfOk result (λ numbers. AreStateNumbers row_depth (states_of nfa.now)
         (classes_of nfa.now) (length (states_of nfa.now)) numbers.items) }
     ensures refused { IfErr result IsOutOfMemory }
 {
@@ -126,8 +127,8 @@ fn numbers_of(
 /// All states.
 fn filled_states(alloc: Global, nfa: &NFA, plan: &Plan) -> Result<Filled, BuildError>
     requires plan { IsPlan (plan_of nfa.now plan.now) plan.now.stride }
-    requires fits { Fits nfa.now plan.now.row_depth }
-    ensures filled { IfOk result (IsFilled (plan_of nfa.now plan.now) (length (states_of nfa.now))) }
+    requires fits { FitIndexes nfa.now plan.now.row_depth }
+    ensures filled { IfOk result (AreLaidOut (plan_of nfa.now plan.now) (length (states_of nfa.now))) }
     ensures refused { IfErr result IsOutOfMemory }
 {
     let mut filled = Filled {
@@ -151,9 +152,10 @@ fn filled_states(alloc: Global, nfa: &NFA, plan: &Plan) -> Result<Filled, BuildE
 fn first_low(nfa: &NFA, plan: &Plan) -> usize
     requires plan { IsPlan (plan_of nfa.now plan.now) plan.now.stride }
     ensures some { 0 < result }
+    ensures first { result ≡ first_low (plan_of nfa.now plan.now) }
 {
     if plan.skips {
-        number_at(&plan.numbers, nfa.special().start_unanchored_id).as_usize() + 1
+        number_or_zero(&plan.numbers, nfa.special().start_unanchored_id).as_usize() + 1
     } else {
         1
     }
@@ -162,11 +164,11 @@ fn first_low(nfa: &NFA, plan: &Plan) -> usize
 /// One state more.
 fn add_state(filled: &mut Filled, nfa: &NFA, plan: &Plan, index: usize) -> Result<(), BuildError>
     requires plan { IsPlan (plan_of nfa.now plan.now) plan.now.stride }
-    requires fits { Fits nfa.now plan.now.row_depth }
+    requires fits { FitIndexes nfa.now plan.now.row_depth }
     requires within { index < length (states_of nfa.now) }
     requires small { index ≤ greatest_index }
-    requires filled { IsFilled (plan_of nfa.now plan.now) index filled.old }
-    ensures filled { OnOk result (IsFilled (plan_of nfa.now plan.now) (index + 1) filled.new) }
+    requires filled { AreLaidOut (plan_of nfa.now plan.now) index filled.old }
+    ensures filled { OnOk result (AreLaidOut (plan_of nfa.now plan.now) (index + 1) filled.new) }
     ensures refused { IfErr result IsOutOfMemory }
 {
     if is_deep(nfa, index, plan.row_depth) {
@@ -179,12 +181,12 @@ fn add_state(filled: &mut Filled, nfa: &NFA, plan: &Plan, index: usize) -> Resul
 /// The row of one state more.
 fn add_row(filled: &mut Filled, nfa: &NFA, plan: &Plan, index: usize) -> Result<(), BuildError>
     requires plan { IsPlan (plan_of nfa.now plan.now) plan.now.stride }
-    requires fits { Fits nfa.now plan.now.row_depth }
+    requires fits { FitIndexes nfa.now plan.now.row_depth }
     requires within { index < length (states_of nfa.now) }
     requires small { index ≤ greatest_index }
     requires shallow { IsShallow (plan_of nfa.now plan.now) index }
-    requires filled { IsFilled (plan_of nfa.now plan.now) index filled.old }
-    ensures filled { OnOk result (IsFilled (plan_of nfa.now plan.now) (index + 1) filled.new) }
+    requires filled { AreLaidOut (plan_of nfa.now plan.now) index filled.old }
+    ensures filled { OnOk result (AreLaidOut (plan_of nfa.now plan.now) (index + 1) filled.new) }
     ensures refused { IfErr result IsOutOfMemory }
 {
     let sid = source_of(nfa.special(), index);
@@ -200,12 +202,12 @@ fn add_row(filled: &mut Filled, nfa: &NFA, plan: &Plan, index: usize) -> Result<
 /// The record of one state more.
 fn add_record(filled: &mut Filled, nfa: &NFA, plan: &Plan, index: usize) -> Result<(), BuildError>
     requires plan { IsPlan (plan_of nfa.now plan.now) plan.now.stride }
-    requires fits { Fits nfa.now plan.now.row_depth }
+    requires fits { FitIndexes nfa.now plan.now.row_depth }
     requires within { index < length (states_of nfa.now) }
     requires small { index ≤ greatest_index }
     requires deep { IsDeepState (plan_of nfa.now plan.now) index }
-    requires filled { IsFilled (plan_of nfa.now plan.now) index filled.old }
-    ensures filled { OnOk result (IsFilled (plan_of nfa.now plan.now) (index + 1) filled.new) }
+    requires filled { AreLaidOut (plan_of nfa.now plan.now) index filled.old }
+    ensures filled { OnOk result (AreLaidOut (plan_of nfa.now plan.now) (index + 1) filled.new) }
     ensures refused { IfErr result IsOutOfMemory }
 {
     let own = StateID::new_unchecked(index);
@@ -214,14 +216,14 @@ fn add_record(filled: &mut Filled, nfa: &NFA, plan: &Plan, index: usize) -> Resu
     let place = filled.moves.len();
     push_moves(&mut filled.moves, nfa.transitions(sid), &plan.numbers)?;
     let record = Record {
-        link: number_at(&plan.numbers, nfa.fail(sid)),
+        link: number_or_zero(&plan.numbers, nfa.fail(sid)),
         list,
         height: SmallIndex::new_unchecked(nfa.depth(own) - plan.row_depth),
         place: SmallIndex::new_unchecked(place),
         count: SmallIndex::new_unchecked(filled.moves.len() - place),
     };
     push_record(&mut filled.deep, record)?;
-    let end = number_at(&plan.numbers, own).as_usize() + 1;
+    let end = number_or_zero(&plan.numbers, own).as_usize() + 1;
     filled.deep_low = low_with(filled.deep_low, end, nfa.match_len(sid));
     Ok(())
 }
@@ -250,8 +252,8 @@ fn push_record(deep: &mut Vec<SmallIndex>, words: Record) -> Result<(), BuildErr
 }
 
 /// The number of this state, and 0 where there is none.
-fn number_at(numbers: &[SmallIndex], sid: StateID) -> SmallIndex
-    ensures number { result ≡ number_at numbers.now sid }
+fn number_or_zero(numbers: &[SmallIndex], sid: StateID) -> SmallIndex
+    ensures number { result ≡ number_or_zero numbers.now sid }
 {
     match numbers.get(sid.as_usize()) {
         Some(number) => *number,
@@ -289,7 +291,7 @@ fn push_move(
         return Ok(());
     }
     push(moves, SmallIndex::new_unchecked(byte as usize))?;
-    push(moves, number_at(numbers, next))
+    push(moves, number_or_zero(numbers, next))
 }
 
 /// One more at the end.
@@ -305,7 +307,7 @@ fn push(list: &mut Vec<SmallIndex>, index: SmallIndex) -> Result<(), BuildError>
 
 /// A byte of each class, by the class.
 fn first_bytes(classes: &ByteClasses) -> [u8; 256]
-    ensures first { AreFirst classes.now result }
+    ensures first { AreFirstBytes classes.now result }
 {
     let mut firsts = [0; 256];
     for index in 0..256usize {
@@ -319,6 +321,7 @@ fn first_bytes(classes: &ByteClasses) -> [u8; 256]
 fn low_with(low: usize, end: usize, listed: usize) -> usize
     ensures higher { low ≤ result }
     ensures past { result < end → listed ≡ 0 }
+    ensures no_higher { (result ≡ low) ⊎ ((0 < listed) × (result ≡ end)) }
 {
     if listed > 0 { low.max(end) } else { low }
 }
@@ -350,7 +353,7 @@ fn nearest_row(entries: &[SmallIndex], nfa: &NFA, plan: &Plan, index: usize, sid
         mark(&mut taken, nfa.transitions(at));
         let link = nfa.fail(at);
         if has_row(nfa, plan, index, link) {
-            let row = Some(number_at(&plan.numbers, link));
+            let row = Some(number_or_zero(&plan.numbers, link));
             return Near { row, taken };
         }
         if link.as_usize() >= len {
@@ -434,7 +437,7 @@ fn entry_for(
         return entry_at(entries, row.as_usize() + class);
     }
     let next = nfa.next_state(Anchored::No, sid, plan.firsts[class]);
-    number_at(&plan.numbers, next)
+    number_or_zero(&plan.numbers, next)
 }
 
 /// The entry that stands here, and 0 where there is none.

@@ -1,6 +1,6 @@
 //! The automaton.
 
-ghost use Rattle.std.specs.Prelude.{◌≡◌, ◌+◌, ◌<◌, ◌≤◌, ◌^◌, ℕ, length, IfErr, IfOk, IsOk};
+ghost use Rattle.std.specs.Prelude.{◌≡◌, ◌+◌, ◌<◌, ◌≤◌, ◌^◌, ℕ, length, IfErr, IfOk};
 ghost use Rattle.std.specs.Option.{option_map};
 ghost use Rattle.aho_core.specs.Laws.{shortest, longest};
 ghost use Rattle.aho_core.specs.Numbers.{greatest_index};
@@ -42,10 +42,9 @@ pub struct Hybrid {
 impl Hybrid {
     ghost use Rattle.std.specs.Prelude.{IfSome};
     ghost use Rattle.aho_core.specs.Patterns.{Patterns};
-    ghost use Rattle.aho_core.specs.declared.search.Anchored.TheVariants.{No};
     ghost use Rattle.aho_corasick.specs.Clones.{IsCloneOf};
-    ghost use Rattle.aho_corasick.specs.ReadOut.{classes_of, states_of};
-    ghost use Rattle.aho_hybrid.specs.Filled.{Fits, HasSizes, IsRefused, IsRowDepth, default_budget};
+    ghost use Rattle.aho_hybrid.specs.Filled.{IsRowsRefusal, default_budget};
+    ghost use Rattle.aho_hybrid.specs.Made.{IsMadeOf, TakesAfter};
     ghost use Rattle.aho_hybrid.specs.Reading.{IsLayoutOf};
     ghost use Rattle.aho_prefilter.specs.Prefilter.{IsPrefilterOf};
 
@@ -57,17 +56,9 @@ impl Hybrid {
     pub fn from_nfa(alloc: Global, nfa: &NFA) -> Result<Hybrid, BuildError>
         ensures of { IfOk result (λ made. (p : Patterns)
             → ⟦<NFA as Automaton>⟧.is_of nfa.now p → ⟦<Hybrid as Automaton>⟧.is_of made p) }
-        ensures held { IfOk result (λ made.
-            ⟦<Hybrid as Automaton>⟧.prefilter made ≡ ⟦<NFA as Automaton>⟧.prefilter nfa.now) }
-        ensures kind { IfOk result (λ made.
-            ⟦<Hybrid as Automaton>⟧.kind made ≡ ⟦<NFA as Automaton>⟧.kind nfa.now) }
-        ensures lengths { IfOk result (λ made.
-            ⟦<Hybrid as Automaton>⟧.lengths made ≡ ⟦<NFA as Automaton>⟧.lengths nfa.now) }
-        ensures starts { IfOk result (λ made. IsOk (⟦<Hybrid as Automaton>⟧.start made No)) }
-        ensures sized { IfOk result (λ made. (row_depth : ℕ)
-            × IsRowDepth (states_of nfa.now) (classes_of nfa.now) default_budget row_depth
-            × Fits nfa.now row_depth × HasSizes nfa.now row_depth made.rows) }
-        ensures refused { IfErr result (IsRefused nfa.now default_budget) }
+        ensures made { IfOk result (IsMadeOf ⟦<NFA as Automaton>⟧ ⟦<Hybrid as Automaton>⟧ nfa.now
+            default_budget (⟦<NFA as Automaton>⟧.prefilter nfa.now)) }
+        ensures refused { IfErr result (IsRowsRefusal nfa.now default_budget) }
     {
         Hybrid::with_budget(alloc, nfa, DEFAULT_BUDGET)
     }
@@ -80,17 +71,9 @@ impl Hybrid {
     pub fn with_budget(alloc: Global, nfa: &NFA, budget: usize) -> Result<Hybrid, BuildError>
         ensures of { IfOk result (λ made. (p : Patterns)
             → ⟦<NFA as Automaton>⟧.is_of nfa.now p → ⟦<Hybrid as Automaton>⟧.is_of made p) }
-        ensures held { IfOk result (λ made.
-            ⟦<Hybrid as Automaton>⟧.prefilter made ≡ ⟦<NFA as Automaton>⟧.prefilter nfa.now) }
-        ensures kind { IfOk result (λ made.
-            ⟦<Hybrid as Automaton>⟧.kind made ≡ ⟦<NFA as Automaton>⟧.kind nfa.now) }
-        ensures lengths { IfOk result (λ made.
-            ⟦<Hybrid as Automaton>⟧.lengths made ≡ ⟦<NFA as Automaton>⟧.lengths nfa.now) }
-        ensures starts { IfOk result (λ made. IsOk (⟦<Hybrid as Automaton>⟧.start made No)) }
-        ensures sized { IfOk result (λ made. (row_depth : ℕ)
-            × IsRowDepth (states_of nfa.now) (classes_of nfa.now) budget row_depth
-            × Fits nfa.now row_depth × HasSizes nfa.now row_depth made.rows) }
-        ensures refused { IfErr result (IsRefused nfa.now budget) }
+        ensures made { IfOk result (IsMadeOf ⟦<NFA as Automaton>⟧ ⟦<Hybrid as Automaton>⟧ nfa.now
+            budget (⟦<NFA as Automaton>⟧.prefilter nfa.now)) }
+        ensures refused { IfErr result (IsRowsRefusal nfa.now budget) }
     {
         let rows = rows_of(alloc, nfa, budget, nfa.prefilter().is_some())?;
         let prefilter = clone_of(nfa.prefilter())?;
@@ -114,16 +97,9 @@ impl Hybrid {
             → ⟦<NFA as Automaton>⟧.is_of nfa.now p
             → IfSome prefilter (λ searcher. IsPrefilterOf searcher p)
             → ⟦<Hybrid as Automaton>⟧.is_of made p) }
-        ensures held { IfOk result (λ made. ⟦<Hybrid as Automaton>⟧.prefilter made ≡ prefilter) }
-        ensures kind { IfOk result (λ made.
-            ⟦<Hybrid as Automaton>⟧.kind made ≡ ⟦<NFA as Automaton>⟧.kind nfa.now) }
-        ensures lengths { IfOk result (λ made.
-            ⟦<Hybrid as Automaton>⟧.lengths made ≡ ⟦<NFA as Automaton>⟧.lengths nfa.now) }
-        ensures starts { IfOk result (λ made. IsOk (⟦<Hybrid as Automaton>⟧.start made No)) }
-        ensures sized { IfOk result (λ made. (row_depth : ℕ)
-            × IsRowDepth (states_of nfa.now) (classes_of nfa.now) budget row_depth
-            × Fits nfa.now row_depth × HasSizes nfa.now row_depth made.rows) }
-        ensures refused { IfErr result (IsRefused nfa.now budget) }
+        ensures made { IfOk result (IsMadeOf ⟦<NFA as Automaton>⟧ ⟦<Hybrid as Automaton>⟧ nfa.now
+            budget prefilter) }
+        ensures refused { IfErr result (IsRowsRefusal nfa.now budget) }
     {
         let rows = rows_of(alloc, nfa, budget, prefilter.is_some())?;
         Hybrid::with_rows(alloc, nfa, rows, prefilter)
@@ -144,12 +120,8 @@ impl Hybrid {
             → ⟦<NFA as Automaton>⟧.is_of nfa.now p
             → IfSome prefilter (λ searcher. IsPrefilterOf searcher p)
             → ⟦<Hybrid as Automaton>⟧.is_of made p) }
-        ensures held { IfOk result (λ made. ⟦<Hybrid as Automaton>⟧.prefilter made ≡ prefilter) }
-        ensures kind { IfOk result (λ made.
-            ⟦<Hybrid as Automaton>⟧.kind made ≡ ⟦<NFA as Automaton>⟧.kind nfa.now) }
-        ensures lengths { IfOk result (λ made.
-            ⟦<Hybrid as Automaton>⟧.lengths made ≡ ⟦<NFA as Automaton>⟧.lengths nfa.now) }
-        ensures starts { IfOk result (λ made. IsOk (⟦<Hybrid as Automaton>⟧.start made No)) }
+        ensures takes { IfOk result
+            (TakesAfter ⟦<NFA as Automaton>⟧ ⟦<Hybrid as Automaton>⟧ nfa.now prefilter) }
         ensures rows { IfOk result (λ made. made.rows ≡ rows) }
         ensures refused { IfErr result (λ error. error ≡ OutOfMemory) }
     {
@@ -173,6 +145,7 @@ impl Hybrid {
     /// Out of memory.
     pub fn try_clone(&self) -> Result<Hybrid, AllocError>
         ensures same { IfOk result (λ made. IsCloneOf ⟦<Hybrid as Automaton>⟧ made self.now) }
+        ensures same_rows { IfOk result (λ made. made.rows ≡ self.now.rows) }
     {
         Ok(Hybrid {
             match_kind: self.match_kind,
@@ -189,7 +162,7 @@ impl Automaton for Hybrid {
     ghost use Rattle.std.specs.Prelude.{ℕ, IfSome, nat_eq, true};
     ghost use Rattle.aho_core.specs.Patterns.{Patterns};
     ghost use Rattle.aho_prefilter.specs.Prefilter.{IsPrefilterOf};
-    ghost use Rattle.aho_hybrid.specs.Layout.{IsStateIn, IsHeldIn, depth_in, is_marked_in, is_special_in, lookups_in, next_in, list_in, start_in, memory_in};
+    ghost use Rattle.aho_hybrid.specs.Layout.{IsStateIn, IsHeldIn, depth_below_rows, is_marked_number, is_special_number, lookups_in, next_state_in, list_in, start_for, memory_in};
     ghost use Rattle.aho_hybrid.specs.Reading.{IsLayoutOf, alike_of, reads_of, plain_of, unmarked_of, dead_shallow_of, starts_shallow_of};
 
     ghost is_of = { λ h p. IsLayoutOf h.rows p h.match_kind h.pattern_lens.items
@@ -207,19 +180,19 @@ impl Automaton for Hybrid {
 
     ghost dead = { λ h sid. nat_eq sid 0 };
 
-    ghost special = { λ h sid. is_special_in h.rows sid };
+    ghost special = { λ h sid. is_special_number h.rows sid };
 
-    ghost marked = { λ h sid. is_marked_in h.rows sid };
+    ghost marked = { λ h sid. is_marked_number h.rows sid };
 
     ghost starts = { λ h sid. nat_eq sid h.rows.start };
 
-    ghost depth = { λ h sid. depth_in h.rows sid };
+    ghost depth = { λ h sid. depth_below_rows h.rows sid };
 
-    ghost next = { λ h anchored sid byte. next_in h.rows sid byte };
+    ghost next = { λ h anchored sid byte. next_state_in h.rows sid byte };
 
     ghost lookups = { λ h p anchored word byte. lookups_in h.rows p word byte };
 
-    ghost start = { λ h anchored. start_in h.rows anchored };
+    ghost start = { λ h anchored. start_for h.rows anchored };
 
     ghost memory = { λ h. memory_in h.rows h.pattern_lens.items h.prefilter };
 

@@ -3,7 +3,7 @@
 
 ghost use Rattle.std.specs.Prelude.{◌≡◌, ◌+◌, ◌*◌, ◌<◌, ◌≤◌, ◌^◌, length, nat_lt, slice_get, take, drop, Some, IfOk};
 ghost use Rattle.aho_core.specs.Numbers.{greatest_index};
-ghost use Rattle.aho_hybrid.specs.Layout.{HasRow, IsDeep, IsSoundLayout, IsStateIn, child_in, child_of, depth_in, link_in, next_in, list_in, list_place, looks_in, is_marked_in, is_special_in, entry_in, record_size, word_in};
+ghost use Rattle.aho_hybrid.specs.Layout.{HasRow, IsDeep, IsSoundLayout, IsStateIn, child_in, child_of, depth_below_rows, link_in, next_state_in, list_in, list_place, looks_in, is_marked_number, is_special_number, entry_in, record_size, record_word};
 
 use aho_core::search::{PatternID, SmallIndex, StateID, Work};
 use aho_table::alphabet::ByteClasses;
@@ -84,8 +84,8 @@ impl Rows {
     pub fn step(&self, sid: StateID, byte: u8, work: &mut Work) -> StateID
         requires sound { IsSoundLayout self.now }
         requires state { IsStateIn self.now sid }
-        requires room { work.old + depth_in self.now sid + 2 < 2 ^ 128 }
-        ensures next { result ≡ next_in self.now sid byte }
+        requires room { work.old + depth_below_rows self.now sid + 2 < 2 ^ 128 }
+        ensures next { result ≡ next_state_in self.now sid byte }
         ensures counted { work.new ≡ work.old + looks_in self.now sid byte }
     {
         if sid.as_usize() < self.entries.len() {
@@ -114,8 +114,8 @@ impl Rows {
     fn deep_step(&self, from: StateID, byte: u8, work: &mut Work) -> StateID
         requires sound { IsSoundLayout self.now }
         requires state { IsStateIn self.now from }
-        requires room { work.old + depth_in self.now from + 2 < 2 ^ 128 }
-        ensures next { result ≡ next_in self.now from byte }
+        requires room { work.old + depth_below_rows self.now from + 2 < 2 ^ 128 }
+        ensures next { result ≡ next_state_in self.now from byte }
         ensures counted { work.new ≡ work.old + looks_in self.now from byte }
     {
         let mut sid = from;
@@ -136,7 +136,7 @@ impl Rows {
     fn word(&self, sid: StateID, index: usize) -> usize
         requires deep { IsDeep self.now sid }
         requires within { index < record_size }
-        ensures word { result ≡ word_in self.now sid index }
+        ensures word { result ≡ record_word self.now sid index }
         ensures bound { result ≤ greatest_index }
     {
         self.deep[sid.as_usize() - self.entries.len() + index].as_usize()
@@ -166,7 +166,7 @@ impl Rows {
     /// Whether a search has to look at the state.
     #[inline(always)]
     pub fn is_special(&self, sid: StateID) -> bool
-        ensures special { result ≡ is_special_in self.now sid }
+        ensures special { result ≡ is_special_number self.now sid }
     {
         if sid.as_usize() < self.entries.len() {
             sid.as_usize() < self.low
@@ -178,7 +178,7 @@ impl Rows {
     /// Whether the state is dead or may list a pattern. One that is special only since a search may skip from it is not told.
     #[inline(always)]
     pub fn is_marked(&self, sid: StateID) -> bool
-        ensures marked { result ≡ is_marked_in self.now sid }
+        ensures marked { result ≡ is_marked_number self.now sid }
     {
         if sid.as_usize() < self.entries.len() {
             sid.as_usize() < self.list_low

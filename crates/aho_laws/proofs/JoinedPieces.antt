@@ -37,7 +37,7 @@ placed-moved by at (piece ∷ pieces) =
     ∙ ap (λ (ms : List Occurrence). map (moved (by + at)) piece.found ++ ms) (placed-moved by (at + length piece.bytes) pieces ∙ ap (λ (x : ℕ). placed x pieces) place)
 
 -- the first piece, and then the others
-placed-first : (piece : Piece) (pieces : List Piece) → piece.found ++ map (moved (length piece.bytes)) (placed 0 pieces) ≡ placed 0 (piece ∷ pieces)
+pub placed-first : (piece : Piece) (pieces : List Piece) → piece.found ++ map (moved (length piece.bytes)) (placed 0 pieces) ≡ placed 0 (piece ∷ pieces)
 placed-first piece pieces =
     let place : length piece.bytes + 0 ≡ 0 + length piece.bytes = omega arith in
     ap (λ (ms : List Occurrence). ms ++ map (moved (length piece.bytes)) (placed 0 pieces)) (sym (map-moved_zero piece.found))
@@ -49,7 +49,7 @@ take-has front rest byte zero lt = absurd (omega arith)
 take-has [] rest byte (suc n) lt = inl refl
 take-has (x ∷ front) rest byte (suc n) lt = inr (take-has front rest byte n (omega arith))
 
-part-has : (front rest : List ℕ) (byte start end : ℕ) → start ≤ length front → length front < end → IsMember (slice_range (front ++ byte ∷ rest) start end) byte
+pub part-has : (front rest : List ℕ) (byte start end : ℕ) → start ≤ length front → length front < end → IsMember (slice_range (front ++ byte ∷ rest) start end) byte
 part-has front rest byte start end low high =
     subst (λ (bytes : List ℕ). IsMember (take (end - start) bytes) byte) (sym (drop-append-le start front (byte ∷ rest) low))
     (take-has (drop start front) rest byte (end - start) (omega (arith, length-drop start front)))
@@ -72,7 +72,7 @@ module _ (p : Patterns) where
             ]
       ]
 
-  clear_joined : (byte : ℕ) (left right : List ℕ) → NoneHolds p byte → EndsIn byte left → IsClear p (left ++ right) 0 (length (left ++ right)) (length left)
+  pub clear_joined : (byte : ℕ) (left right : List ℕ) → NoneHolds p byte → EndsIn byte left → IsClear p (left ++ right) 0 (length (left ++ right)) (length left)
   clear_joined byte left right none ends =
       let whole : ends.0 ++ byte ∷ right ≡ left ++ right = sym (ap (λ (text : List ℕ). text ++ right) ends.1 ∙ append_assoc ends.0 (byte ∷ []) right) in
       let place : length ends.0 + 1 ≡ length left = omega (arith, ap length ends.1, length-append ends.0 (byte ∷ [])) in
@@ -120,7 +120,7 @@ module _ (left right : List ℕ) (with : Occurrence → List ℕ) (alike : (m : 
       ∙ ap (λ (bytes : List ℕ). (drop at left ++ slice_range right 0 n.start) ++ bytes) behind
       ∙ append_assoc (drop at left) (slice_range right 0 n.start) (with n ++ replaced_from right n.end ns with)
 
-  replaced-left : (ms ns : List Occurrence) (at : ℕ) → at ≤ length left → IsListedBy EndsBefore ms → ((m : Occurrence) → IsMember ms m → (at ≤ m.start) × (m.start ≤ m.end) × (m.end ≤ length left))
+  pub replaced-left : (ms ns : List Occurrence) (at : ℕ) → at ≤ length left → IsListedBy EndsBefore ms → ((m : Occurrence) → IsMember ms m → (at ≤ m.start) × (m.start ≤ m.end) × (m.end ≤ length left))
       → replaced_from (left ++ right) at (ms ++ map (moved (length left)) ns) with ≡ replaced_from left at ms with ++ replaced_from right 0 ns with
   replaced-left [] ns at low listed inside = replaced-seam ns at low
   replaced-left (m ∷ ms) ns at low listed inside =
@@ -135,20 +135,32 @@ module _ (left right : List ℕ) (with : Occurrence → List ℕ) (alike : (m : 
       ∙ ap (λ (bytes : List ℕ). slice_range left at m.start ++ bytes) (sym (append_assoc (with m) (replaced_from left m.end ms with) (replaced_from right 0 ns with)))
       ∙ sym (append_assoc (slice_range left at m.start) (with m ++ replaced_from left m.end ms with) (replaced_from right 0 ns with))
 
--- the replacement of the pieces
-pub replaced-pieces : (p : Patterns) (pieces : List Piece) (replacements : List (List ℕ)) → AreSearched p pieces → replaced (joined pieces) (placed 0 pieces) replacements ≡ replaced_apart pieces replacements
-replaced-pieces p [] replacements each = refl
-replaced-pieces p (piece ∷ pieces) replacements each =
-    let found = each piece (inl refl) in
+-- the ranges of a piece rise and lie in it
+pub record FitPiece (piece : Piece) : Type 0 where
+  pub apart : IsListedBy EndsBefore piece.found
+  pub ordered : (m : Occurrence) → IsMember piece.found m → m.start ≤ m.end
+  pub within : (m : Occurrence) → IsMember piece.found m → m.end ≤ length piece.bytes
+
+pub replaced-fitting : (pieces : List Piece) (replacements : List (List ℕ)) → ((piece : Piece) → IsMember pieces piece → FitPiece piece) → replaced (joined pieces) (placed 0 pieces) replacements ≡ replaced_apart pieces replacements
+replaced-fitting [] replacements each = refl
+replaced-fitting (piece ∷ pieces) replacements each =
+    let fit = each piece (inl refl) in
     let with_each = λ (m : Occurrence). slice_index_or replacements m.pattern [] in
     ap (λ (ms : List Occurrence). replaced (piece.bytes ++ joined pieces) ms replacements) (sym (placed-first piece pieces))
-    ∙ replaced-left piece.bytes (joined pieces) with_each (λ m. refl) piece.found (placed 0 pieces) 0 (omega arith) (finds-apart p piece.found (plain_search piece.bytes) None found)
-    (λ m in_found. (
-      omega arith,
-      finds-ordered p piece.found (plain_search piece.bytes) None found m in_found,
-      (finds-occur p piece.found (plain_search piece.bytes) None m found in_found).before_end,
-    ))
-    ∙ ap (λ (bytes : List ℕ). replaced piece.bytes piece.found replacements ++ bytes) (replaced-pieces p pieces replacements (λ other later. each other (inr later)))
+    ∙ replaced-left piece.bytes (joined pieces) with_each (λ m. refl) piece.found (placed 0 pieces) 0 (omega arith) fit.apart
+    (λ m in_found. (omega arith, fit.ordered m in_found, fit.within m in_found))
+    ∙ ap (λ (bytes : List ℕ). replaced piece.bytes piece.found replacements ++ bytes) (replaced-fitting pieces replacements (λ other later. each other (inr later)))
+
+-- the replacement of the pieces
+pub replaced-pieces : (p : Patterns) (pieces : List Piece) (replacements : List (List ℕ)) → AreSearched p pieces → replaced (joined pieces) (placed 0 pieces) replacements ≡ replaced_apart pieces replacements
+replaced-pieces p pieces replacements each =
+    replaced-fitting pieces replacements (λ piece there.
+    let found = each piece there in
+    record {
+      apart = finds-apart p piece.found (plain_search piece.bytes) None found;
+      ordered = finds-ordered p piece.found (plain_search piece.bytes) None found;
+      within = λ m in_found. (finds-occur p piece.found (plain_search piece.bytes) None m found in_found).before_end;
+    })
 
 -- the replacement of lines
 pub replaced-lines : (p : Patterns) (byte : ℕ) (pieces : List Piece) (ms : List Occurrence) (replacements : List (List ℕ)) → NoneIsEmpty p → NoneHolds p byte

@@ -25,6 +25,12 @@ pub mod OverlappingParts
 pub mod SpanLists
 -- a haystack whose matches are replaced
 pub mod Replacements
+-- the runs of a cover
+pub mod CoverRuns
+pub mod TextRuns
+pub mod CoverKept
+pub mod CoverClean
+pub mod CoverParts
 -- the test of a character boundary
 pub mod Boundaries
 -- what a run of a replacement closure appends
@@ -78,3 +84,4 @@ pub mod ExhaustiveLists
 pub mod LiteralChecks
 -- the worked tables and lists
 pub mod WorkedExamples
+pub mod CoverExamples

@@ -19,19 +19,25 @@ use Rattle.aho_laws.proofs.Members.{member-flat_map, member-of_flat_map, member-
 use Rattle.aho_laws.proofs.SameWords.{is_same_word-Decides, IsSameWord-length}
 
 module _ (p : Patterns) (haystack : List ℕ) where
+  -- what ends at one place
+  pub occurrences_ending-has : (start end : ℕ) (m : Occurrence) → Occurs p No haystack start end m → IsMember (occurrences_ending p haystack start m.end) m
+  occurrences_ending-has start end m h =
+      let sized = h.sized in
+      let after = h.after_start in
+      let test = λ (number : ℕ). is_same_word p (pattern_at p number) (slice_range haystack m.start m.end) in
+      let same : test m.pattern ≡ true = (is_same_word-Decides p (pattern_at p m.pattern) (slice_range haystack m.start m.end)).1 h.same in
+      member-flat_map (λ at. occurrences_at p haystack at m.end) (places start m.end) m.start m
+      (member-range start (m.end + 1 - start) m.start (omega arith) (omega arith))
+      (member-map (occurrence m.start m.end) (filter test (numbers p)) m.pattern
+      (member-filter test (numbers p) m.pattern same (member-range 0 (length p.words) m.pattern (omega arith) (omega (arith, h.numbered)))))
+
   pub all_occurrences-has : (start end : ℕ) (m : Occurrence) → Occurs p No haystack start end m → IsMember (all_occurrences p haystack start end) m
   all_occurrences-has start end m h =
       let sized = h.sized in
       let after = h.after_start in
       let before = h.before_end in
-      let test = λ (number : ℕ). is_same_word p (pattern_at p number) (slice_range haystack m.start m.end) in
-      let same : test m.pattern ≡ true = (is_same_word-Decides p (pattern_at p m.pattern) (slice_range haystack m.start m.end)).1 h.same in
       member-flat_map (occurrences_ending p haystack start) (places start end) m.end m
-      (member-range start (end + 1 - start) m.end (omega arith) (omega arith))
-      (member-flat_map (λ at. occurrences_at p haystack at m.end) (places start m.end) m.start m
-      (member-range start (m.end + 1 - start) m.start (omega arith) (omega arith))
-      (member-map (occurrence m.start m.end) (filter test (numbers p)) m.pattern
-      (member-filter test (numbers p) m.pattern same (member-range 0 (length p.words) m.pattern (omega arith) (omega (arith, h.numbered))))))
+      (member-range start (end + 1 - start) m.end (omega arith) (omega arith)) (occurrences_ending-has start end m h)
 
   -- what stands in the list of a range
   pub occurrences_at-only : (start end : ℕ) (m : Occurrence) → IsMember (occurrences_at p haystack start end) m
@@ -48,29 +54,35 @@ module _ (p : Patterns) (haystack : List ℕ) where
         subst (λ (o : Occurrence). IsSameWord p (pattern_at p o.pattern) (slice_range haystack o.start o.end)) (sym made.2) same,
       )
 
+  pub occurrences_ending-only : (start end : ℕ) (m : Occurrence) → end ≤ length haystack → IsMember (occurrences_ending p haystack start end) m → Occurs p No haystack start end m × (m.end ≡ end)
+  occurrences_ending-only start end m within h =
+      let by_start = member-of_flat_map (λ at. occurrences_at p haystack at end) (places start end) m h in
+      let here = occurrences_at-only by_start.0 end m by_start.2 in
+      let starts = member-of_range start (end + 1 - start) by_start.0 by_start.1 in
+      let start_is : m.start ≡ by_start.0 = here.0 in
+      let end_is : m.end ≡ end = here.1 in (
+        record {
+          numbered = here.2;
+          after_start = omega (arith, starts);
+          before_end = omega arith;
+          sized = omega (arith, starts, IsSameWord-length p (pattern_at p m.pattern) (slice_range haystack m.start m.end) here.3, length-between haystack m.start m.end (omega arith));
+          same = here.3;
+          admitted = λ e. cc;
+        },
+        end_is,
+      )
+
   pub all_occurrences-only : (start end : ℕ) (m : Occurrence) → end ≤ length haystack → IsMember (all_occurrences p haystack start end) m → Occurs p No haystack start end m
   all_occurrences-only start end m within h =
       let by_end = member-of_flat_map (occurrences_ending p haystack start) (places start end) m h in
-      let by_start = member-of_flat_map (λ at. occurrences_at p haystack at by_end.0) (places start by_end.0) m by_end.2 in
-      let here = occurrences_at-only by_start.0 by_end.0 m by_start.2 in
       let ends = member-of_range start (end + 1 - start) by_end.0 by_end.1 in
-      let starts = member-of_range start (by_end.0 + 1 - start) by_start.0 by_start.1 in
-      let start_is : m.start ≡ by_start.0 = here.0 in
-      let end_is : m.end ≡ by_end.0 = here.1 in
-      record {
-        numbered = here.2;
-        after_start = omega (arith, starts);
-        before_end = omega (arith, ends);
-        sized = omega (arith, starts, ends, IsSameWord-length p (pattern_at p m.pattern) (slice_range haystack m.start m.end) here.3, length-between haystack m.start m.end (omega (arith, ends)));
-        same = here.3;
-        admitted = λ e. cc;
-      }
+      let occurs = (occurrences_ending-only start by_end.0 m (omega (arith, ends)) by_end.2).0 in
+      record { numbered = occurs.numbered; after_start = occurs.after_start; before_end = omega (arith, ends, occurs.before_end); sized = occurs.sized; same = occurs.same; admitted = occurs.admitted }
 
-  -- by end, then start, then number
-  pub all_occurrences-listed : (start end : ℕ) → IsListedBy (IsBefore Standard) (all_occurrences p haystack start end)
-  all_occurrences-listed start end =
-      listed-flat_map_range (IsBefore Standard) (occurrences_ending p haystack start) start (end + 1 - start)
-      (λ e. listed-flat_map_range (IsBefore Standard) (λ at. occurrences_at p haystack at e) start (e + 1 - start)
+  -- by start, then number
+  pub occurrences_ending-listed : (start end : ℕ) → IsListedBy (IsBefore Standard) (occurrences_ending p haystack start end)
+  occurrences_ending-listed start e =
+      listed-flat_map_range (IsBefore Standard) (λ at. occurrences_at p haystack at e) start (e + 1 - start)
       (λ s.
       let test = λ (number : ℕ). is_same_word p (pattern_at p number) (slice_range haystack s e) in
       listed-map (IsBefore Standard) (occurrence s e) (filter test (numbers p))
@@ -79,7 +91,13 @@ module _ (p : Patterns) (haystack : List ℕ) where
       (λ s t x y less in_s in_t.
       let one = occurrences_at-only s e x in_s in
       let two = occurrences_at-only t e y in_t in
-      inr (omega (arith, one, two), inl (omega (arith, one, two)))))
+      inr (omega (arith, one, two), inl (omega (arith, one, two))))
+
+  -- by end, then start, then number
+  pub all_occurrences-listed : (start end : ℕ) → IsListedBy (IsBefore Standard) (all_occurrences p haystack start end)
+  all_occurrences-listed start end =
+      listed-flat_map_range (IsBefore Standard) (occurrences_ending p haystack start) start (end + 1 - start)
+      (λ e. occurrences_ending-listed start e)
       (λ e f x y less in_e in_f.
       let start_x = member-of_flat_map (λ at. occurrences_at p haystack at e) (places start e) x in_e in
       let start_y = member-of_flat_map (λ at. occurrences_at p haystack at f) (places start f) y in_f in

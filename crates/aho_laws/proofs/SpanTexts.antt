@@ -1,8 +1,8 @@
 -- The bytes of a span as a text of their own, and texts that are joined.
 use Rattle.std.proofs.Common.{◌≡◌, inl, inr, ℕ, ◌+◌, ◌-◌, ◌≤◌, List, [], ◌∷◌, ◌++◌, length, map, take, drop, Option, Some, None, refl, sym, ◌∙◌, ap, subst, arith, length-append, length-drop}
 use Rattle.std.specs.Prelude.{slice_range}
-use Rattle.std.proofs.lemmas.List.{take-take, drop-drop, drop-take, length-take}
-use Rattle.std.proofs.Math.Seq.{drop-append_seam, take-append_seam, take-length}
+use Rattle.std.proofs.lemmas.List.{drop-append-le, drop-drop, drop-take, length-take, take-append-le, take-take}
+use Rattle.std.proofs.Math.Seq.{drop-append-add, drop-append_seam, take-append_seam, take-length}
 use Rattle.aho_core.specs.declared.search.Anchored.TheVariants.{No}
 use Rattle.aho_core.specs.declared.search.MatchKind.{MatchKind}
 use Rattle.aho_core.specs.declared.search.MatchKind.TheVariants.{Standard, LeftmostFirst, LeftmostLongest}
@@ -141,6 +141,67 @@ right_part : (left right : List ℕ) → slice_range (left ++ right) (length lef
 right_part left right =
     let count : length (left ++ right) - length left ≡ length right = omega (arith, length-append left right) in
     ap (take (length (left ++ right) - length left)) (drop-append_seam left right) ∙ ap (λ (n : ℕ). take n right) count ∙ take-length right
+
+-- what occurs in one of them occurs in the whole, and the other way round
+module _ (p : Patterns) (left right : List ℕ) where
+  range_left : (start end : ℕ) → start ≤ end → end ≤ length left → slice_range (left ++ right) start end ≡ slice_range left start end
+  range_left start end le within =
+      ap (take (end - start)) (drop-append-le start left right (omega arith)) ∙ take-append-le (end - start) (drop start left) right (omega (arith, length-drop start left))
+
+  range_right : (start end : ℕ) → slice_range (left ++ right) (length left + start) (length left + end) ≡ slice_range right start end
+  range_right start end =
+      let count : (length left + end) - (length left + start) ≡ end - start = omega arith in
+      ap (take ((length left + end) - (length left + start))) (drop-append-add left right start) ∙ ap (λ (n : ℕ). take n (drop start right)) count
+
+  abbrev InWhole : Occurrence → Type 0
+  InWhole m = Occurs p No (left ++ right) 0 (length (left ++ right)) m
+
+  pub Occurs-left : (m : Occurrence) → m.end ≤ length left → InWhole m → Occurs p No left 0 (length left) m
+  Occurs-left m within o = record {
+    numbered = o.numbered;
+    after_start = o.after_start;
+    before_end = within;
+    sized = o.sized;
+    same = subst (IsSameWord p (pattern_at p m.pattern)) (range_left m.start m.end (omega (arith, o.sized)) within) o.same;
+    admitted = λ e. cc;
+  }
+
+  pub Occurs-of_left : (m : Occurrence) → Occurs p No left 0 (length left) m → InWhole m
+  Occurs-of_left m o = record {
+    numbered = o.numbered;
+    after_start = o.after_start;
+    before_end = omega (arith, o.before_end, length-append left right);
+    sized = o.sized;
+    same = subst (IsSameWord p (pattern_at p m.pattern)) (sym (range_left m.start m.end (omega (arith, o.sized)) o.before_end)) o.same;
+    admitted = λ e. cc;
+  }
+
+  pub Occurs-of_right : (m : Occurrence) → Occurs p No right 0 (length right) m → InWhole (moved (length left) m)
+  Occurs-of_right m o = record {
+    numbered = o.numbered;
+    after_start = omega arith;
+    before_end = omega (arith, o.before_end, length-append left right);
+    sized = omega (arith, o.sized);
+    same = subst (IsSameWord p (pattern_at p m.pattern)) (sym (range_right m.start m.end)) o.same;
+    admitted = λ e. cc;
+  }
+
+  pub Occurs-right : (m : Occurrence) → length left ≤ m.start → InWhole m → Occurs p No right 0 (length right) (moved_back (length left) m)
+  Occurs-right m behind o =
+      let starts : length left + (m.start - length left) ≡ m.start = omega arith in
+      let ends : length left + (m.end - length left) ≡ m.end = omega (arith, o.sized) in
+      let bytes : slice_range right (m.start - length left) (m.end - length left) ≡ slice_range (left ++ right) m.start m.end =
+      sym (range_right (m.start - length left) (m.end - length left))
+      ∙ ap (λ (x : ℕ). slice_range (left ++ right) x (length left + (m.end - length left))) starts
+      ∙ ap (slice_range (left ++ right) m.start) ends in
+      record {
+        numbered = o.numbered;
+        after_start = omega arith;
+        before_end = omega (arith, o.before_end, o.sized, length-append left right);
+        sized = omega (arith, o.sized);
+        same = subst (IsSameWord p (pattern_at p m.pattern)) (sym bytes) o.same;
+        admitted = λ e. cc;
+      }
 
 module _ (p : Patterns) (full : NoneIsEmpty p) where
   finds-left : (left right : List ℕ) (ms : List Occurrence) → AreFinds p (plain_search left) None ms → AreFinds p (span_search (left ++ right) 0 (length left)) None ms

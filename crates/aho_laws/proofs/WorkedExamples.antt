@@ -16,14 +16,14 @@ use Rattle.aho_core.specs.Replacement.{replaced}
 use Rattle.aho_core.specs.Step.{lookups, lookups_along}
 use Rattle.aho_core.specs.Trie.{is_kept, is_node, pattern_word}
 
-abbrev exact : MatchKind → List (List ℕ) → Patterns
+abbrev pub exact : MatchKind → List (List ℕ) → Patterns
 exact kind words = record { words = words; kind = kind; ignore_case = false }
 
-abbrev any_case : MatchKind → List (List ℕ) → Patterns
+abbrev pub any_case : MatchKind → List (List ℕ) → Patterns
 any_case kind words = record { words = words; kind = kind; ignore_case = true }
 
 -- the occurrence of a pattern from a place up to another
-abbrev at : ℕ → ℕ → ℕ → Occurrence
+abbrev pub at : ℕ → ℕ → ℕ → Occurrence
 at pattern start end = record { pattern = pattern; start = start; end = end }
 
 abbrev failures : Patterns → List (List ℕ) → List (Option (List ℕ))

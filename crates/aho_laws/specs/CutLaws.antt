@@ -1,12 +1,14 @@
 -- What the laws of a text that is cut say of patterns, of places and of pieces.
-use Rattle.std.specs.Prelude.{◌≡◌, ◌⊎◌, ℕ, ◌+◌, ◌-◌, ◌<◌, ◌≤◌, max, false, nat_le, nat_lt, if◌then◌else◌, List, [], ◌∷◌, ◌++◌, None, filter, flat_map, length, map}
+use Rattle.std.specs.Prelude.{◌≡◌, ◌⊎◌, ◌↔◌, ℕ, ◌+◌, ◌-◌, ◌<◌, ◌≤◌, max, false, nat_le, nat_lt, if◌then◌else◌, List, [], ◌∷◌, ◌++◌, None, filter, flat_map, length, map}
 use Rattle.aho_core.specs.declared.search.Anchored.TheVariants.{No}
 use Rattle.aho_core.specs.Bytes.{IsSameByte}
 use Rattle.aho_core.specs.Iteration.{AreFinds}
 use Rattle.aho_core.specs.Laws.{longest}
-use Rattle.aho_core.specs.Listing.{IsMember}
+use Rattle.aho_core.specs.Listing.{IsListedBy, IsMember}
 use Rattle.aho_core.specs.Occurrence.{Occurrence}
 use Rattle.aho_core.specs.Occurs.{Occurs}
+use Rattle.aho_core.specs.Order.{IsBefore}
+use Rattle.aho_core.specs.Overlapping.{all_occurrences}
 use Rattle.aho_core.specs.Patterns.{Patterns, pattern_at}
 use Rattle.aho_core.specs.Replacement.{replaced}
 use Rattle.aho_core.specs.Search.{Search, plain_search}
@@ -16,6 +18,13 @@ abbrev pub span_search : List ℕ → ℕ → ℕ → Search
 span_search haystack start end =
     record { haystack = haystack; start = start; end = end; anchored = No; earliest = false }
 
+-- the finds of a span, and those of a text
+abbrev pub AreFindsWithin : Patterns → List ℕ → ℕ → ℕ → List Occurrence → Type 0
+AreFindsWithin p haystack start end ms = AreFinds p (span_search haystack start end) None ms
+
+abbrev pub AreFindsOf : Patterns → List ℕ → List Occurrence → Type 0
+AreFindsOf p text ms = AreFinds p (plain_search text) None ms
+
 -- each pattern has at least one byte
 abbrev pub NoneIsEmpty : Patterns → Type 0
 NoneIsEmpty p = (number : ℕ) → number < length p.words → 0 < length (pattern_at p number)
@@ -24,6 +33,22 @@ NoneIsEmpty p = (number : ℕ) → number < length p.words → 0 < length (patte
 abbrev pub IsClear : Patterns → List ℕ → ℕ → ℕ → ℕ → Type 0
 IsClear p haystack start end place =
     (m : Occurrence) → Occurs p No haystack start end m → (m.end ≤ place) ⊎ (place ≤ m.start)
+
+-- a place of the span that no occurrence of it lies across, where no pattern is empty
+pub record IsClearCut (p : Patterns) (haystack : List ℕ) (start cut end : ℕ) : Type 0 where
+  pub full : NoneIsEmpty p
+  pub after_start : start ≤ cut
+  pub before_end : cut ≤ end
+  pub clear : IsClear p haystack start end cut
+
+-- nor does any lie across the seam of two texts
+abbrev pub IsClearSeam : Patterns → List ℕ → List ℕ → Type 0
+IsClearSeam p left right = IsClear p (left ++ right) 0 (length (left ++ right)) (length left)
+
+-- the list has all occurrences of the span, in the order of the match kind
+pub record ListsByKind (p : Patterns) (haystack : List ℕ) (start end : ℕ) (list : List Occurrence) : Type 0 where
+  pub in_order : IsListedBy (IsBefore p.kind) list
+  pub members : (m : Occurrence) → (IsMember list m ↔ IsMember (all_occurrences p haystack start end) m)
 
 -- one pass over a list: whatever starts at a place or later is taken, and the place is then where that ends
 abbrev pub chosen : ℕ → List Occurrence → List Occurrence
@@ -66,6 +91,13 @@ EndsIn byte text = (front : List ℕ) × (text ≡ front ++ byte ∷ [])
 abbrev pub AreCutBehind : ℕ → List Piece → Type 0
 AreCutBehind byte [] = Unit {0}
 AreCutBehind byte (piece ∷ pieces) = ((pieces ≡ []) ⊎ EndsIn byte piece.bytes) × AreCutBehind byte pieces
+
+-- each piece but the last ends in a byte that no pattern holds, and was searched by itself; no pattern is empty
+pub record AreSearchedLines (p : Patterns) (byte : ℕ) (pieces : List Piece) : Type 0 where
+  pub full : NoneIsEmpty p
+  pub none : NoneHolds p byte
+  pub cut : AreCutBehind byte pieces
+  pub each : AreSearched p pieces
 
 -- the text of the pieces
 abbrev pub joined : List Piece → List ℕ

@@ -1,3 +1,4 @@
 pub mod SearchLaws
 pub mod TrieLaws
 pub mod CutLaws
+pub mod CoverLaws

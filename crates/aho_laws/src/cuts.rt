@@ -9,7 +9,7 @@ ghost use Rattle.aho_core.specs.Overlapping.{all_occurrences};
 ghost use Rattle.aho_core.specs.Patterns.{Patterns};
 ghost use Rattle.aho_core.specs.Replacement.{replaced};
 ghost use Rattle.aho_core.specs.Search.{plain_search};
-ghost use Rattle.aho_laws.specs.CutLaws.{AreCutBehind, AreSearched, IsClear, NoneHolds, NoneIsEmpty, Piece, chosen, ending_behind, joined, moved, overlap_start, placed, replaced_apart, span_search};
+ghost use Rattle.aho_laws.specs.CutLaws.{AreFindsWithin, AreFindsOf, AreSearched, AreSearchedLines, IsClear, IsClearCut, IsClearSeam, ListsByKind, NoneHolds, NoneIsEmpty, Piece, chosen, ending_behind, joined, moved, overlap_start, placed, replaced_apart};
 ghost use Rattle.aho_core.specs.declared.search.MatchKind.TheVariants.{Standard};
 
 /// The bytes of a span may be searched as a text of their own. Its finds, moved on by the span's start,
@@ -18,8 +18,8 @@ ghost use Rattle.aho_core.specs.declared.search.MatchKind.TheVariants.{Standard}
 pub fn spans_are_texts()
     ensures finds { (p : Patterns) (haystack : List ℕ) (start end : ℕ) (ms : List Occurrence)
         → NoneIsEmpty p → start ≤ end → end ≤ length haystack
-        → AreFinds p (plain_search (slice_range haystack start end)) None ms
-        → AreFinds p (span_search haystack start end) None (map (moved start) ms) }
+        → AreFindsOf p (slice_range haystack start end) ms
+        → AreFindsWithin p haystack start end (map (moved start) ms) }
     ensures lists { (p : Patterns) (haystack : List ℕ) (start end : ℕ)
         → start ≤ end → end ≤ length haystack
         → all_occurrences p haystack start end ≡ map (moved start)
@@ -31,15 +31,14 @@ pub fn spans_are_texts()
 /// match kind. No pattern may be empty: an empty match at the place would be found in both parts.
 pub fn finds_at_clear_cuts()
     ensures spans { (p : Patterns) (haystack : List ℕ) (start cut end : ℕ) (ms ns : List Occurrence)
-        → NoneIsEmpty p → start ≤ cut → cut ≤ end → IsClear p haystack start end cut
-        → AreFinds p (span_search haystack start cut) None ms
-        → AreFinds p (span_search haystack cut end) None ns
-        → AreFinds p (span_search haystack start end) None (ms ++ ns) }
+        → IsClearCut p haystack start cut end
+        → AreFindsWithin p haystack start cut ms → AreFindsWithin p haystack cut end ns
+        → AreFindsWithin p haystack start end (ms ++ ns) }
     // Two texts, joined where no occurrence lies: the matches of the second move on by the first's length.
     ensures texts { (p : Patterns) (left right : List ℕ) (ms ns : List Occurrence)
-        → NoneIsEmpty p → IsClear p (left ++ right) 0 (length (left ++ right)) (length left)
-        → AreFinds p (plain_search left) None ms → AreFinds p (plain_search right) None ns
-        → AreFinds p (plain_search (left ++ right)) None (ms ++ map (moved (length left)) ns) }
+        → NoneIsEmpty p → IsClearSeam p left right
+        → AreFindsOf p left ms → AreFindsOf p right ns
+        → AreFindsOf p (left ++ right) (ms ++ map (moved (length left)) ns) }
 {}
 
 /// Where no pattern holds a byte, no occurrence lies across a place behind that byte. So the finds of a
@@ -49,8 +48,7 @@ pub fn finds_of_lines()
     ensures clear { (p : Patterns) (byte : ℕ) (front rest : List ℕ) (start end : ℕ)
         → NoneHolds p byte → IsClear p (front ++ byte ∷ rest) start end (length front + 1) }
     ensures finds { (p : Patterns) (byte : ℕ) (pieces : List Piece)
-        → NoneIsEmpty p → NoneHolds p byte → AreCutBehind byte pieces → AreSearched p pieces
-        → AreFinds p (plain_search (joined pieces)) None (placed 0 pieces) }
+        → AreSearchedLines p byte pieces → AreFindsOf p (joined pieces) (placed 0 pieces) }
 {}
 
 /// A text is cut into pieces anywhere, and in each piece its own finds are replaced. Then the results,
@@ -58,15 +56,13 @@ pub fn finds_of_lines()
 /// byte that no pattern holds, as lines are, that is the replacement of the text. There no pattern may
 /// be empty.
 pub fn replaces_in_pieces()
-    ensures pieces { (p : Patterns) (pieces : List Piece) (replacements : List (List ℕ))
+    ensures pieces { (p : Patterns) (pieces : List Piece) (texts : List (List ℕ))
         → AreSearched p pieces
-        → replaced (joined pieces) (placed 0 pieces) replacements
-        ≡ replaced_apart pieces replacements }
+        → replaced (joined pieces) (placed 0 pieces) texts ≡ replaced_apart pieces texts }
     ensures lines { (p : Patterns) (byte : ℕ) (pieces : List Piece) (ms : List Occurrence)
-        (replacements : List (List ℕ))
-        → NoneIsEmpty p → NoneHolds p byte → AreCutBehind byte pieces → AreSearched p pieces
-        → AreFinds p (plain_search (joined pieces)) None ms
-        → replaced (joined pieces) ms replacements ≡ replaced_apart pieces replacements }
+        (texts : List (List ℕ)) → AreSearchedLines p byte pieces
+        → AreFindsOf p (joined pieces) ms
+        → replaced (joined pieces) ms texts ≡ replaced_apart pieces texts }
 {}
 
 /// A span is cut at any place. Its list of all occurrences is that of the part before the cut, and then
@@ -84,11 +80,9 @@ pub fn lists_overlapping_parts()
 /// kind it is sorted first. No pattern may be empty.
 pub fn finds_are_chosen()
     ensures each_kind { (p : Patterns) (haystack : List ℕ) (start end : ℕ) (list : List Occurrence)
-        → NoneIsEmpty p → end ≤ length haystack → IsListedBy (IsBefore p.kind) list
-        → ((m : Occurrence) → (IsMember list m ↔ IsMember (all_occurrences p haystack start end) m))
-        → AreFinds p (span_search haystack start end) None (chosen start list) }
+        → NoneIsEmpty p → end ≤ length haystack → ListsByKind p haystack start end list
+        → AreFindsWithin p haystack start end (chosen start list) }
     ensures standard { (p : Patterns) (haystack : List ℕ) (start end : ℕ)
         → NoneIsEmpty p → end ≤ length haystack → p.kind ≡ Standard
-        → AreFinds p (span_search haystack start end) None
-        (chosen start (all_occurrences p haystack start end)) }
+        → AreFindsWithin p haystack start end (chosen start (all_occurrences p haystack start end)) }
 {}

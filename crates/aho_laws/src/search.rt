@@ -3,7 +3,6 @@
 ghost use Rattle.std.specs.Prelude.{◌≡◌, ◌≤◌, ◌⊎◌, ◌↔◌, ◌++◌, ℕ, true, false, List, Option, length, slice_range, IsCharBoundary, Ok, Some, None};
 ghost use Rattle.aho_core.specs.Answer.{IsAnswer};
 ghost use Rattle.aho_core.specs.Best.{IsBest, IsBestOrNone};
-ghost use Rattle.aho_core.specs.ClosureRun.{RunsInMemory};
 ghost use Rattle.aho_core.specs.Iteration.{AreFinds};
 ghost use Rattle.aho_core.specs.Listing.{IsMember, IsListedBy};
 ghost use Rattle.aho_core.specs.Occurrence.{Occurrence};
@@ -13,7 +12,7 @@ ghost use Rattle.aho_core.specs.Overlapping.{all_occurrences, anchored_occurrenc
 ghost use Rattle.aho_core.specs.Patterns.{Patterns};
 ghost use Rattle.aho_core.specs.Replacement.{is_char_boundary, on_boundaries, replaced, replaced_by};
 ghost use Rattle.aho_core.specs.Search.{Search, plain_search};
-ghost use Rattle.aho_laws.specs.SearchLaws.{AppendsMatched, EndsBefore, IsFollowedBy, IsFrontOfPattern};
+ghost use Rattle.aho_laws.specs.SearchLaws.{AppendsHaystack, AppendsMatched, AreRanges, IsFollowedBy, IsFrontOfPattern, NoneIsBefore};
 ghost use Rattle.aho_core.specs.declared.search.Anchored.{Anchored};
 ghost use Rattle.aho_core.specs.declared.search.Anchored.TheVariants.{No};
 ghost use Rattle.aho_core.specs.declared.search.MatchKind.{MatchKind};
@@ -38,17 +37,12 @@ pub fn orders_strictly()
 /// By each match kind the best occurrence of a span is the one that no occurrence of it is before.
 pub fn best_is_before_the_others()
     // What no occurrence is before is the best.
-    ensures first_is_best { (p : Patterns) (kind : MatchKind) (anchored : Anchored)
-        (haystack : List ℕ) (start end : ℕ) (m : Occurrence)
-        → Occurs p anchored haystack start end m
-        → ((other : Occurrence) → Occurs p anchored haystack start end other
-        → IsBefore kind other m → ⊥)
-        → IsBest kind (Occurs p anchored haystack start end) m }
+    ensures first_is_best { (p : Patterns) (kind : MatchKind) (search : Search) (m : Occurrence)
+        → OccursIn p search m → NoneIsBefore kind (OccursIn p search) m
+        → IsBest kind (OccursIn p search) m }
     // No occurrence is before the best.
-    ensures best_is_first { (p : Patterns) (kind : MatchKind) (anchored : Anchored)
-        (haystack : List ℕ) (start end : ℕ) (m other : Occurrence)
-        → IsBest kind (Occurs p anchored haystack start end) m
-        → Occurs p anchored haystack start end other → IsBefore kind other m → ⊥ }
+    ensures best_is_first { (p : Patterns) (kind : MatchKind) (search : Search) (m : Occurrence)
+        → IsBest kind (OccursIn p search) m → NoneIsBefore kind (OccursIn p search) m }
 {}
 
 /// A search has at most one answer, whatever its haystack and its span are.
@@ -120,9 +114,7 @@ pub fn finds_rise()
 /// is, and so do the matches of an iteration, of a text as well. Where the case rule is off, those
 /// bytes are the patterns.
 pub fn replacing_by_its_own_bytes()
-    ensures ranges { (haystack : List ℕ) (ms : List Occurrence)
-        → IsListedBy EndsBefore ms
-        → ((m : Occurrence) → IsMember ms m → m.start ≤ m.end)
+    ensures ranges { (haystack : List ℕ) (ms : List Occurrence) → AreRanges ms
         → replaced_by haystack ms (λ m. slice_range haystack m.start m.end) ≡ haystack }
     ensures finds { (p : Patterns) (search : Search) (ms : List Occurrence)
         → AreFinds p search None ms
@@ -153,18 +145,12 @@ pub fn appending_the_matched_bytes<S, F>()
 where
     F: FnMut(&Match, &[u8], &mut S) -> Result<bool, AllocError>,
     ensures ranges { (bytes_of : S → List ℕ) (haystack : List ℕ) (ms : List Occurrence)
-        (closure : F) (old new : S)
-        → AppendsMatched F.FnMut bytes_of
-        → IsListedBy EndsBefore ms
-        → ((m : Occurrence) → IsMember ms m → m.start ≤ m.end)
-        → RunsInMemory F.FnMut bytes_of haystack ms closure old (Ok tt) new
-        → bytes_of new ≡ bytes_of old ++ haystack }
+        → AppendsMatched F.FnMut bytes_of → AreRanges ms
+        → AppendsHaystack F.FnMut bytes_of haystack ms }
     ensures finds { (bytes_of : S → List ℕ) (p : Patterns) (haystack : List ℕ)
-        (ms : List Occurrence) (closure : F) (old new : S)
-        → AppendsMatched F.FnMut bytes_of
+        (ms : List Occurrence) → AppendsMatched F.FnMut bytes_of
         → AreFinds p (plain_search haystack) None ms
-        → RunsInMemory F.FnMut bytes_of haystack ms closure old (Ok tt) new
-        → bytes_of new ≡ bytes_of old ++ haystack }
+        → AppendsHaystack F.FnMut bytes_of haystack ms }
 {}
 
 /// The same of a text, of which the matches off character boundaries are skipped.
@@ -172,9 +158,7 @@ pub fn appending_the_matched_text<S, F>()
 where
     F: FnMut(&Match, &str, &mut S) -> Result<bool, AllocError>,
     ensures finds { (bytes_of : S → List ℕ) (p : Patterns) (text : List ℕ)
-        (ms : List Occurrence) (closure : F) (old new : S)
-        → AppendsMatched F.FnMut bytes_of
+        (ms : List Occurrence) → AppendsMatched F.FnMut bytes_of
         → AreFinds p (plain_search text) None ms
-        → RunsInMemory F.FnMut bytes_of text (on_boundaries text ms) closure old (Ok tt) new
-        → bytes_of new ≡ bytes_of old ++ text }
+        → AppendsHaystack F.FnMut bytes_of text (on_boundaries text ms) }
 {}

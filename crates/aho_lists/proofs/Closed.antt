@@ -1,8 +1,8 @@
 -- A list that is closed: it has what it had, and so has every other.
 use Rattle.std.proofs.Common.{◌≡◌, ℕ, ◌+◌, ◌-◌, ◌<◌, ◌≤◌, true, List, ◌++◌, sym, ap, subst, ◌∙◌, inl, inr, arith}
 use Rattle.std.proofs.lemmas.Bool.{cases_eq}
-use Rattle.aho_lists.specs.Words.{room, length_mark, word_at, told, length_at, patterns_at, is_closed, HasPatterns, AreLaid, IsPut, IsClosed}
-use Rattle.aho_lists.proofs.Patterns.{told-above, told-mark, length_at-zero, length_at-some, length-patterns_at, patterns_at-zero, pattern_small, same_patterns, is_closed-below, closed-below}
+use Rattle.aho_lists.specs.Words.{room, length_mark, word_at, told_length, length_at, patterns_at, is_closed, HasPatterns, AreLaid, IsPut, IsClosed}
+use Rattle.aho_lists.proofs.Patterns.{told_length-above, told_length-mark, length_at-zero, length_at-some, length-patterns_at, patterns_at-zero, pattern_small, same_patterns, is_closed-below, closed-below}
 
 -- ---- a word is put behind the last pattern, where room is
 
@@ -12,8 +12,8 @@ IsClosed-put old new list end is free put = record {
   kept = λ i below. put.others i (λ e. omega (arith, below, free, ap (word_at old) e));
   lengths = λ i.
       elim (cases_eq i end) [
-        | inl e ↦ ap (λ (n : ℕ). told (word_at new n)) e ∙ ap told put.here ∙ told-mark 0 (omega arith) ∙ sym (ap (λ (n : ℕ). told (word_at old n)) e ∙ told-above (word_at old end) free)
-        | inr ne ↦ ap told (put.others i ne)
+        | inl e ↦ ap (λ (n : ℕ). told_length (word_at new n)) e ∙ ap told_length put.here ∙ told_length-mark 0 (omega arith) ∙ sym (ap (λ (n : ℕ). told_length (word_at old n)) e ∙ told_length-above (word_at old end) free)
+        | inr ne ↦ ap told_length (put.others i ne)
       ];
 }
 

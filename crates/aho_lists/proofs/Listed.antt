@@ -7,7 +7,7 @@ use Rattle.std.proofs.lemmas.List.{get_or_past, get_or_append_left, get_or-map, 
 use Rattle.std.proofs.Math.Seq.{get_or-append_seam}
 use Rattle.aho_core.specs.Numbers.{greatest_index}
 use Rattle.aho_lists.specs.Lists.{PatternLists, list_at, closed_at, IsList, IsListed}
-use Rattle.aho_lists.specs.Words.{word_at, length_at, patterns_at, is_closed, place_at, pattern_lists, closed_lists, pattern_store, IsHeld, HasPatterns, AreLaid, ArePlaces, AreStored}
+use Rattle.aho_lists.specs.Words.{word_at, length_at, patterns_at, is_closed, place_at, pattern_lists, closed_lists, pattern_store, IsPlaceOfList, HasPatterns, AreLaid, ArePlaces, AreStored}
 use Rattle.aho_lists.proofs.Patterns.{patterns_at-zero, patterns_at-none, length-patterns_at, get_or-patterns_at, list_within, is_closed-none}
 
 -- ---- the lists by their numbers
@@ -36,7 +36,7 @@ known_within words places list known =
       | inr above ↦ absurd (omega (arith, above, known (get_or_past (pattern_lists words places) list [] (omega (arith, length-pattern_lists words places)))))
     ]
 
-pub held_of : (words places : List ℕ) (list : ℕ) → IsList (pattern_lists words places) list → IsHeld words (place_at places list)
+pub held_of : (words places : List ℕ) (list : ℕ) → IsList (pattern_lists words places) list → IsPlaceOfList words (place_at places list)
 held_of words places list known some =
     elim (cases_eq (length_at words (place_at places list)) 0) [
       | inl is ↦ absurd (

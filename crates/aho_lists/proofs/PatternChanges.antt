@@ -5,8 +5,8 @@ use Rattle.std.proofs.lemmas.List.{get_or_past, get_or_append_left, get_or-appen
 use Rattle.std.proofs.lemmas.Grind.{get_or_default_zero}
 use Rattle.std.proofs.Math.Seq.{get_or-append_seam}
 use Rattle.aho_core.specs.Numbers.{greatest_index}
-use Rattle.aho_lists.specs.Words.{room, length_mark, word_at, told, length_at, patterns_at, is_closed, laid, HasPatterns, AreLaid, IsLengthened}
-use Rattle.aho_lists.proofs.Patterns.{told-small, told-room, told-mark, told-some, length_at-zero, length_at-some, some_at, place_within, list_within, length-patterns_at, get_or-patterns_at, pattern_small, patterns_are, same_patterns, is_closed-below, closed-below}
+use Rattle.aho_lists.specs.Words.{room, length_mark, word_at, told_length, length_at, patterns_at, is_closed, laid, HasPatterns, AreLaid, IsLengthened}
+use Rattle.aho_lists.proofs.Patterns.{told_length-small, told_length-room, told_length-mark, told_length-some, length_at-zero, length_at-some, some_at, place_within, list_within, length-patterns_at, get_or-patterns_at, pattern_small, patterns_are, same_patterns, is_closed-below, closed-below}
 
 -- ---- the list has one pattern more, where there was room behind it
 
@@ -15,29 +15,29 @@ module _ (old new : List ℕ) (count list pattern : ℕ) (are : AreLaid old coun
   ne : list ≢ 0
   ne = some_at old list some
 
-  own_told : length_at old list ≡ told (word_at old (list - 1))
+  own_told : length_at old list ≡ told_length (word_at old (list - 1))
   own_told = length_at-some old list ne
 
   own_few : length_at old list < count
   own_few = omega (arith, own_told, are.fewer (list - 1))
 
   own_mark : word_at old (list - 1) ≡ length_mark + length_at old list
-  own_mark = omega (arith, own_told, (told-some (word_at old (list - 1)) (omega (arith, some, own_told))).1)
+  own_mark = omega (arith, own_told, (told_length-some (word_at old (list - 1)) (omega (arith, some, own_told))).1)
 
   -- what is told then
-  told-here : told (word_at new (list - 1)) ≡ length_at old list + 1
-  told-here =
+  told_length-here : told_length (word_at new (list - 1)) ≡ length_at old list + 1
+  told_length-here =
       let is : word_at new (list - 1) ≡ length_mark + (length_at old list + 1) = omega (arith, own_mark, longer.mark) in
-      ap told is ∙ told-mark (length_at old list + 1) (omega (arith, own_few, few))
+      ap told_length is ∙ told_length-mark (length_at old list + 1) (omega (arith, own_few, few))
 
-  told-end : told (word_at new (list + length_at old list)) ≡ told (word_at old (list + length_at old list))
-  told-end = ap told longer.added ∙ told-small pattern small ∙ sym (ap told free ∙ told-room)
+  told_length-end : told_length (word_at new (list + length_at old list)) ≡ told_length (word_at old (list + length_at old list))
+  told_length-end = ap told_length longer.added ∙ told_length-small pattern small ∙ sym (ap told_length free ∙ told_length-room)
 
-  told-other : (place : ℕ) → place ≢ list - 1 → told (word_at new place) ≡ told (word_at old place)
-  told-other place apart =
+  told_length-other : (place : ℕ) → place ≢ list - 1 → told_length (word_at new place) ≡ told_length (word_at old place)
+  told_length-other place apart =
       elim (cases_eq place (list + length_at old list)) [
-        | inl is ↦ ap (λ (i : ℕ). told (word_at new i)) is ∙ told-end ∙ sym (ap (λ (i : ℕ). told (word_at old i)) is)
-        | inr off ↦ ap told (longer.others place apart off)
+        | inl is ↦ ap (λ (i : ℕ). told_length (word_at new i)) is ∙ told_length-end ∙ sym (ap (λ (i : ℕ). told_length (word_at old i)) is)
+        | inr off ↦ ap told_length (longer.others place apart off)
       ]
 
   -- a pattern stays
@@ -47,18 +47,18 @@ module _ (old new : List ℕ) (count list pattern : ℕ) (are : AreLaid old coun
       (λ is. omega (arith, low, ap (word_at old) is, own_mark))
       (λ is. omega (arith, low, ap (word_at old) is, free))
 
-  behind : (place k : ℕ) → place < k → k ≤ place + told (word_at new place) → word_at new k ≤ greatest_index
+  behind : (place k : ℕ) → place < k → k ≤ place + told_length (word_at new place) → word_at new k ≤ greatest_index
   behind place k past within =
       elim (cases_eq place (list - 1)) [
         | inl is ↦ elim (cases_eq k (list + length_at old list)) [
           | inl end ↦ omega (arith, small, longer.added, ap (word_at new) end)
           | inr inner ↦
-              let told_so = ap (λ (i : ℕ). told (word_at new i)) is ∙ told-here in
+              let told_so = ap (λ (i : ℕ). told_length (word_at new i)) is ∙ told_length-here in
               let low = are.patterns (list - 1) k (omega arith) (omega (arith, ne, own_told, inner)) in
               omega (arith, low, stays k low)
         ]
         | inr apart ↦
-            let low = are.patterns place k past (omega (arith, told-other place apart)) in
+            let low = are.patterns place k past (omega (arith, told_length-other place apart)) in
             omega (arith, low, stays k low)
       ]
 
@@ -67,8 +67,8 @@ module _ (old new : List ℕ) (count list pattern : ℕ) (are : AreLaid old coun
     patterns = behind;
     fewer = λ place.
         elim (cases_eq place (list - 1)) [
-          | inl is ↦ omega (arith, own_few, ap (λ (i : ℕ). told (word_at new i)) is, told-here)
-          | inr apart ↦ omega (arith, told-other place apart, are.fewer place)
+          | inl is ↦ omega (arith, own_few, ap (λ (i : ℕ). told_length (word_at new i)) is, told_length-here)
+          | inr apart ↦ omega (arith, told_length-other place apart, are.fewer place)
         ];
   }
 
@@ -76,7 +76,7 @@ module _ (old new : List ℕ) (count list pattern : ℕ) (are : AreLaid old coun
   others-len other apart =
       elim (cases_eq other 0) [
         | inl is ↦ ap (length_at new) is ∙ length_at-zero new ∙ sym (ap (length_at old) is ∙ length_at-zero old)
-        | inr first ↦ length_at-some new other first ∙ told-other (other - 1) (λ is. omega (arith, apart, first, ne)) ∙ sym (length_at-some old other first)
+        | inr first ↦ length_at-some new other first ∙ told_length-other (other - 1) (λ is. omega (arith, apart, first, ne)) ∙ sym (length_at-some old other first)
       ]
 
   others-same : (other : ℕ) → other ≢ list → patterns_at new other ≡ patterns_at old other
@@ -102,7 +102,7 @@ module _ (old new : List ℕ) (count list pattern : ℕ) (are : AreLaid old coun
 
   listed-len : length_at new list ≡ length (patterns_at old list ++ pattern ∷ [])
   listed-len =
-      omega (arith, length_at-some new list ne, told-here, length-patterns_at old count list are, length-append (patterns_at old list) (pattern ∷ []))
+      omega (arith, length_at-some new list ne, told_length-here, length-patterns_at old count list are, length-append (patterns_at old list) (pattern ∷ []))
 
   stays_below : (k : ℕ) → word_at old k < room → word_at new k < room
   stays_below k below =
@@ -181,28 +181,28 @@ module _ (old : List ℕ) (count now : ℕ) (items : List ℕ) (more : ℕ) (are
       let below : k - suc (length old) < length items = omega arith in
       omega (arith, ap (word_at new) is, word-in (k - suc (length old)) below, small (k - suc (length old)) below)
 
-  told-past : (place : ℕ) → length old < place → told (word_at new place) ≡ 0
-  told-past place past =
+  told_length-past : (place : ℕ) → length old < place → told_length (word_at new place) ≡ 0
+  told_length-past place past =
       elim (cases_lt (length old + length items) place) [
         | inl beyond ↦
             let is : place ≡ length old + suc (length items + (place - suc (length old + length items))) = omega arith in
-            ap (λ (i : ℕ). told (word_at new i)) is ∙ ap told (word-past (place - suc (length old + length items))) ∙ told-room
-        | inr inside ↦ told-small (word_at new place) (in_items place past inside)
+            ap (λ (i : ℕ). told_length (word_at new i)) is ∙ ap told_length (word-past (place - suc (length old + length items))) ∙ told_length-room
+        | inr inside ↦ told_length-small (word_at new place) (in_items place past inside)
       ]
 
-  told-mark-here : told (word_at new (length old)) ≡ length items
-  told-mark-here = ap told word-mark ∙ told-mark (length items) few
+  told_length-mark-here : told_length (word_at new (length old)) ≡ length items
+  told_length-mark-here = ap told_length word-mark ∙ told_length-mark (length items) few
 
-  behind-laid : (place k : ℕ) → place < k → k ≤ place + told (word_at new place) → word_at new k ≤ greatest_index
+  behind-laid : (place k : ℕ) → place < k → k ≤ place + told_length (word_at new place) → word_at new k ≤ greatest_index
   behind-laid place k past inside =
       elim (cases_lt place (length old)) [
         | inl left ↦
-            let same = ap told (word-left place left) in
+            let same = ap told_length (word-left place left) in
             let ends = place_within old count place are (omega arith) in
             omega (arith, word-left k (omega arith), are.patterns place k past (omega arith))
         | inr right ↦ elim (cases_eq place (length old)) [
-          | inl is ↦ in_items k (omega arith) (omega (arith, ap (λ (i : ℕ). told (word_at new i)) is, told-mark-here))
-          | inr apart ↦ absurd (omega (arith, apart, told-past place (omega (arith, apart))))
+          | inl is ↦ in_items k (omega arith) (omega (arith, ap (λ (i : ℕ). told_length (word_at new i)) is, told_length-mark-here))
+          | inr apart ↦ absurd (omega (arith, apart, told_length-past place (omega (arith, apart))))
         ]
       ]
 
@@ -211,10 +211,10 @@ module _ (old : List ℕ) (count now : ℕ) (items : List ℕ) (more : ℕ) (are
     patterns = behind-laid;
     fewer = λ place.
         elim (cases_lt place (length old)) [
-          | inl left ↦ omega (arith, ap told (word-left place left), are.fewer place)
+          | inl left ↦ omega (arith, ap told_length (word-left place left), are.fewer place)
           | inr right ↦ elim (cases_eq place (length old)) [
-            | inl is ↦ omega (arith, ap (λ (i : ℕ). told (word_at new i)) is, told-mark-here)
-            | inr apart ↦ omega (arith, told-past place (omega (arith, apart)))
+            | inl is ↦ omega (arith, ap (λ (i : ℕ). told_length (word_at new i)) is, told_length-mark-here)
+            | inr apart ↦ omega (arith, told_length-past place (omega (arith, apart)))
           ]
         ];
   }
@@ -223,7 +223,7 @@ module _ (old : List ℕ) (count now : ℕ) (items : List ℕ) (more : ℕ) (are
   same_len other inside =
       elim (cases_eq other 0) [
         | inl is ↦ ap (length_at new) is ∙ length_at-zero new ∙ sym (ap (length_at old) is ∙ length_at-zero old)
-        | inr first ↦ length_at-some new other first ∙ ap told (word-left (other - 1) (omega (arith, first))) ∙ sym (length_at-some old other first)
+        | inr first ↦ length_at-some new other first ∙ ap told_length (word-left (other - 1) (omega (arith, first))) ∙ sym (length_at-some old other first)
       ]
 
   laid-others : (other : ℕ) → other ≤ length old → patterns_at new other ≡ patterns_at old other
@@ -246,8 +246,8 @@ module _ (old : List ℕ) (count now : ℕ) (items : List ℕ) (more : ℕ) (are
       patterns_are new now (length old + 1) items AreLaid-laid
       (
       length_at-some new (length old + 1) (λ is. omega arith)
-      ∙ ap (λ (i : ℕ). told (word_at new i)) (before-next (length old))
-      ∙ told-mark-here
+      ∙ ap (λ (i : ℕ). told_length (word_at new i)) (before-next (length old))
+      ∙ told_length-mark-here
       )
       (λ i below. ap (word_at new) (next-place (length old) i) ∙ word-in i below)
 

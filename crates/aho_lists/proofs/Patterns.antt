@@ -6,32 +6,32 @@ use Rattle.std.proofs.lemmas.List.{get_or_past, get_or-take, get_or-drop, length
 use Rattle.std.proofs.lemmas.List.Elements.{All-from_get_or}
 use Rattle.std.proofs.lemmas.Grind.{get_or_default_zero, same_number_lists}
 use Rattle.aho_core.specs.Numbers.{greatest_index}
-use Rattle.aho_lists.specs.Words.{room, length_mark, word_at, told, length_at, patterns_at, is_closed, IsHeld, AreLaid}
+use Rattle.aho_lists.specs.Words.{room, length_mark, word_at, told_length, length_at, patterns_at, is_closed, IsPlaceOfList, AreLaid}
 
 -- ---- the length that a word tells
 
-told-below : (word : ℕ) → word < room → told word ≡ word - length_mark
-unfolding told
-told-below word below = rw (lt-ltb word room below) refl
+told_length-below : (word : ℕ) → word < room → told_length word ≡ word - length_mark
+unfolding told_length
+told_length-below word below = rw (lt-ltb word room below) refl
 
-pub told-above : (word : ℕ) → room ≤ word → told word ≡ 0
-unfolding told
-told-above word above = rw (le-ltb word room above) refl
+pub told_length-above : (word : ℕ) → room ≤ word → told_length word ≡ 0
+unfolding told_length
+told_length-above word above = rw (le-ltb word room above) refl
 
-pub told-small : (word : ℕ) → word ≤ greatest_index → told word ≡ 0
-told-small word small = omega (arith, told-below word (omega arith))
+pub told_length-small : (word : ℕ) → word ≤ greatest_index → told_length word ≡ 0
+told_length-small word small = omega (arith, told_length-below word (omega arith))
 
-pub told-room : told room ≡ 0
-told-room = told-above room (omega arith)
+pub told_length-room : told_length room ≡ 0
+told_length-room = told_length-above room (omega arith)
 
-pub told-mark : (n : ℕ) → n ≤ greatest_index → told (length_mark + n) ≡ n
-told-mark n few = omega (arith, told-below (length_mark + n) (omega arith))
+pub told_length-mark : (n : ℕ) → n ≤ greatest_index → told_length (length_mark + n) ≡ n
+told_length-mark n few = omega (arith, told_length-below (length_mark + n) (omega arith))
 
-pub told-some : (word : ℕ) → 0 < told word → (word < room) × (word ≡ length_mark + told word)
-told-some word some =
+pub told_length-some : (word : ℕ) → 0 < told_length word → (word < room) × (word ≡ length_mark + told_length word)
+told_length-some word some =
     elim (cases_lt word room) [
-      | inl below ↦ (below, omega (arith, told-below word below))
-      | inr above ↦ absurd (omega (arith, told-above word above))
+      | inl below ↦ (below, omega (arith, told_length-below word below))
+      | inr above ↦ absurd (omega (arith, told_length-above word above))
     ]
 
 -- ---- where lists lie
@@ -40,11 +40,11 @@ pub length_at-zero : (words : List ℕ) → length_at words 0 ≡ 0
 unfolding length_at
 length_at-zero words = refl
 
-pub length_at-suc : (words : List ℕ) (place : ℕ) → length_at words (suc place) ≡ told (word_at words place)
+pub length_at-suc : (words : List ℕ) (place : ℕ) → length_at words (suc place) ≡ told_length (word_at words place)
 unfolding length_at
 length_at-suc words place = refl
 
-pub length_at-some : (words : List ℕ) (list : ℕ) → list ≢ 0 → length_at words list ≡ told (word_at words (list - 1))
+pub length_at-some : (words : List ℕ) (list : ℕ) → list ≢ 0 → length_at words list ≡ told_length (word_at words (list - 1))
 length_at-some words list some =
     let e : list ≡ suc (list - 1) = omega (arith, some) in
     ap (length_at words) e ∙ length_at-suc words (list - 1)
@@ -56,17 +56,17 @@ some_at words list some is = omega (arith, ap (length_at words) is, length_at-ze
 pub mark_at : (words : List ℕ) (list : ℕ) → 0 < length_at words list → word_at words (list - 1) ≡ length_mark + length_at words list
 mark_at words list some =
     let is = length_at-some words list (some_at words list some) in
-    omega (arith, is, (told-some (word_at words (list - 1)) (omega (arith, some, is))).1)
+    omega (arith, is, (told_length-some (word_at words (list - 1)) (omega (arith, some, is))).1)
 
 -- a place that tells a length, and the patterns behind it, are inside
-pub place_within : (words : List ℕ) (count place : ℕ) → AreLaid words count → 0 < told (word_at words place)
-    → place + told (word_at words place) < length words
+pub place_within : (words : List ℕ) (count place : ℕ) → AreLaid words count → 0 < told_length (word_at words place)
+    → place + told_length (word_at words place) < length words
 place_within words count place are some =
-    elim (cases_lt (place + told (word_at words place)) (length words)) [
+    elim (cases_lt (place + told_length (word_at words place)) (length words)) [
       | inl below ↦ below
       | inr above ↦ absurd (
-          let small = are.patterns place (place + told (word_at words place)) (omega arith) (omega arith) in
-          omega (arith, small, get_or_past words (place + told (word_at words place)) room above)
+          let small = are.patterns place (place + told_length (word_at words place)) (omega arith) (omega arith) in
+          omega (arith, small, get_or_past words (place + told_length (word_at words place)) room above)
           )
     ]
 
@@ -78,7 +78,7 @@ list_within words count list are some =
     omega (arith, none, is, place_within words count (list - 1) are (omega arith))
 
 -- also for a number that has the empty list
-pub own_within : (words : List ℕ) (count list : ℕ) → AreLaid words count → IsHeld words list → list + length_at words list ≤ length words
+pub own_within : (words : List ℕ) (count list : ℕ) → AreLaid words count → IsPlaceOfList words list → list + length_at words list ≤ length words
 own_within words count list are held =
     elim (cases_eq list 0) [
       | inl is ↦ omega (arith, ap (length_at words) is, length_at-zero words)
@@ -111,8 +111,8 @@ patterns_at-past words list past =
     patterns_at-none words list
     (
     length_at-some words list (λ is. omega arith)
-    ∙ ap told (get_or_past words (list - 1) room (omega arith))
-    ∙ told-room
+    ∙ ap told_length (get_or_past words (list - 1) room (omega arith))
+    ∙ told_length-room
     )
 
 pub length-patterns_at : (words : List ℕ) (count list : ℕ) → AreLaid words count → length (patterns_at words list) ≡ length_at words list
@@ -176,6 +176,6 @@ is_closed-none = le-ltb room room (omega arith)
 
 pub AreLaid-none : AreLaid [] 1
 AreLaid-none = record {
-  patterns = λ place k past inside. absurd (omega (arith, told-room));
-  fewer = λ place. omega (arith, told-room);
+  patterns = λ place k past inside. absurd (omega (arith, told_length-room));
+  fewer = λ place. omega (arith, told_length-room);
 }

@@ -3,7 +3,7 @@
 -- stands is closed: it cannot grow there. Lists have numbers from 1 on, and a second vector has the places by these numbers.
 use Rattle.std.specs.Prelude.{◌≡◌, ◌≢◌, ◌⊎◌, ℕ, zero, suc, ◌+◌, ◌-◌, ◌<◌, ◌≤◌, Bool, true, List, ◌∷◌, drop, length, map, nat_lt, if◌then◌else◌, slice_index_or, take}
 use Rattle.aho_core.specs.Numbers.{greatest_index}
-use Rattle.aho_lists.specs.Lists.{PatternLists}
+use Rattle.aho_lists.specs.Lists.{IsListed, PatternLists, list_at}
 
 -- the word of a place where nothing stands
 abbrev pub room : ℕ
@@ -17,13 +17,13 @@ abbrev pub word_at : List ℕ → ℕ → ℕ
 word_at words place = slice_index_or words place room
 
 -- the length that a word tells, and 0 for a pattern or room
-unfoldable pub told : ℕ → ℕ
-told word = if nat_lt word room then word - length_mark else 0
+unfoldable pub told_length : ℕ → ℕ
+told_length word = if nat_lt word room then word - length_mark else 0
 
 -- how many patterns the list at this place has
 unfoldable pub length_at : List ℕ → ℕ → ℕ
 length_at words zero = 0
-length_at words (suc place) = told (word_at words place)
+length_at words (suc place) = told_length (word_at words place)
 
 -- and which
 unfoldable pub patterns_at : List ℕ → ℕ → List ℕ
@@ -49,18 +49,27 @@ abbrev pub pattern_store : List ℕ → List ℕ → ℕ → ℕ → PatternList
 pattern_store words places count limit =
     record { lists = pattern_lists words places; closed = closed_lists words places; count = count; limit = limit }
 
+-- the patterns of the list of this number
+abbrev pub listed_in : List ℕ → List ℕ → ℕ → List ℕ
+listed_in words places list = list_at (pattern_lists words places) list
+
+-- from these words and places to those the list of this number has come to have these patterns, whatever the counts are
+abbrev pub IsListedIn : List ℕ → List ℕ → List ℕ → List ℕ → ℕ → ℕ → List ℕ → Type 0
+IsListedIn words places words' places' list made patterns =
+    (count now limit : ℕ) → IsListed (pattern_store words places count limit) (pattern_store words' places' now limit) list made patterns
+
 -- a list as it is laid down
 abbrev pub laid : List ℕ → List ℕ
 laid patterns = (length_mark + length patterns) ∷ patterns
 
 -- the place is that of a list, or 0
-abbrev pub IsHeld : List ℕ → ℕ → Type 0
-IsHeld words list = list ≢ 0 → 0 < length_at words list
+abbrev pub IsPlaceOfList : List ℕ → ℕ → Type 0
+IsPlaceOfList words list = list ≢ 0 → 0 < length_at words list
 
 -- behind each word that tells a length there are so many patterns, fewer than `count`
 pub record AreLaid (words : List ℕ) (count : ℕ) : Type 0 where
-  pub patterns : (place k : ℕ) → place < k → k ≤ place + told (word_at words place) → word_at words k ≤ greatest_index
-  pub fewer : (place : ℕ) → told (word_at words place) < count
+  pub patterns : (place k : ℕ) → place < k → k ≤ place + told_length (word_at words place) → word_at words k ≤ greatest_index
+  pub fewer : (place : ℕ) → told_length (word_at words place) < count
 
 -- each list has a place of its own among the words, the later its number the later
 pub record ArePlaces (words places : List ℕ) : Type 0 where
@@ -74,6 +83,11 @@ pub record AreStored (words places : List ℕ) (count limit : ℕ) : Type 0 wher
   pub laid_down : AreLaid words count
   pub placed : ArePlaces words places
   pub fewer : length places < count
+
+-- a store of these words and places has become one of those, with so many more patterns listed, if there was room for them
+abbrev pub StoresMore : List ℕ → List ℕ → List ℕ → List ℕ → ℕ → Type 0
+StoresMore words places words' places' more =
+    (count limit : ℕ) → AreStored words places count limit → count + more ≤ limit + 1 → AreStored words' places' (count + more) limit
 
 -- a store of these words and places may list so many patterns more
 pub record MayList (words places : List ℕ) (more : ℕ) : Type 0 where
@@ -99,7 +113,7 @@ pub record IsLengthened (old : List ℕ) (list pattern : ℕ) (new : List ℕ) :
 pub record IsClosed (old : List ℕ) (list : ℕ) (new : List ℕ) : Type 0 where
   pub closed : word_at new (list + length_at old list) < room
   pub kept : (i : ℕ) → word_at old i < room → word_at new i ≡ word_at old i
-  pub lengths : (i : ℕ) → told (word_at new i) ≡ told (word_at old i)
+  pub lengths : (i : ℕ) → told_length (word_at new i) ≡ told_length (word_at old i)
 
 -- the list at this place has these patterns now, at another or where it was: `IsListed` in words
 pub record HasPatterns (old new : List ℕ) (list made : ℕ) (items : List ℕ) : Type 0 where

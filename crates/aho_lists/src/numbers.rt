@@ -5,8 +5,8 @@
 //! however many words there are.
 
 ghost use Rattle.std.specs.Prelude.{◌≡◌, ◌⊎◌, ◌+◌, ◌<◌, ◌≤◌, ◌∷◌, ◌++◌, [], ℕ, true, length, take, IfOk, OnOk, OnErr};
-ghost use Rattle.aho_lists.specs.Lists.{list_at, closed_at, IsList, IsListed, IsOwnNumber};
-ghost use Rattle.aho_lists.specs.Words.{room, place_at, pattern_lists, closed_lists, pattern_store, AreStored, MayList};
+ghost use Rattle.aho_lists.specs.Lists.{closed_at, IsList, IsOwnNumber};
+ghost use Rattle.aho_lists.specs.Words.{room, place_at, listed_in, pattern_lists, closed_lists, AreStored, IsListedIn, MayList, StoresMore};
 
 use crate::words::{join_patterns, push_pattern};
 use aho_core::search::PatternID;
@@ -71,10 +71,9 @@ pub(crate) fn push_listed(
 ) -> Result<u32, AllocError>
     requires stored { MayList words.old.items places.old.items 1 }
     requires known { IsList (pattern_lists words.old.items places.old.items) list }
-    ensures listed { IfOk result (λ made. (count now limit : ℕ)
-        → IsListed (pattern_store words.old.items places.old.items count limit)
-        (pattern_store words.new.items places.new.items now limit) list made
-        (list_at (pattern_lists words.old.items places.old.items) list ++ pattern ∷ [])) }
+    ensures listed { IfOk result (λ made. IsListedIn words.old.items places.old.items
+        words.new.items places.new.items list made
+        (listed_in words.old.items places.old.items list ++ pattern ∷ [])) }
     ensures number { IfOk result
         (IsOwnNumber (pattern_lists words.old.items places.old.items) list) }
     ensures stored { OnOk result ((count limit : ℕ)
@@ -105,23 +104,19 @@ pub(crate) fn join_listed(
     other: u32,
 ) -> Result<u32, AllocError>
     requires stored { MayList words.old.items places.old.items
-        (length (list_at (pattern_lists words.old.items places.old.items) other)) }
+        (length (listed_in words.old.items places.old.items other)) }
     requires known { IsList (pattern_lists words.old.items places.old.items) list }
     requires other { IsList (pattern_lists words.old.items places.old.items) other }
-    requires some { 0 < length (list_at (pattern_lists words.old.items places.old.items) other) }
-    ensures listed { IfOk result (λ made. (count now limit : ℕ)
-        → IsListed (pattern_store words.old.items places.old.items count limit)
-        (pattern_store words.new.items places.new.items now limit) list made
-        (list_at (pattern_lists words.old.items places.old.items) list
-        ++ list_at (pattern_lists words.old.items places.old.items) other)) }
+    requires some { 0 < length (listed_in words.old.items places.old.items other) }
+    ensures listed { IfOk result (λ made. IsListedIn words.old.items places.old.items
+        words.new.items places.new.items list made
+        (listed_in words.old.items places.old.items list
+        ++ listed_in words.old.items places.old.items other)) }
     ensures number { IfOk result (λ made.
         IsOwnNumber (pattern_lists words.old.items places.old.items) list made
         ⊎ ((made ≡ other) × (closed_at (closed_lists words.new.items places.new.items) made ≡ true))) }
-    ensures stored { OnOk result ((count limit : ℕ)
-        → AreStored words.old.items places.old.items count limit
-        → count + length (list_at (pattern_lists words.old.items places.old.items) other) ≤ limit + 1
-        → AreStored words.new.items places.new.items
-        (count + length (list_at (pattern_lists words.old.items places.old.items) other)) limit) }
+    ensures stored { OnOk result (StoresMore words.old.items places.old.items
+        words.new.items places.new.items (length (listed_in words.old.items places.old.items other))) }
     ensures unchanged { OnErr result (words.new.items ≡ words.old.items) }
     ensures same_places { OnErr result (places.new.items ≡ places.old.items) }
 {

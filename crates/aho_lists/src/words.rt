@@ -6,7 +6,7 @@
 
 ghost use Rattle.std.specs.Prelude.{◌≡◌, ◌≢◌, ◌⊎◌, ◌+◌, ◌-◌, ◌<◌, ◌≤◌, ◌∷◌, ◌++◌, [], ℕ, true, length, replicate, take, drop, IfOk, OnOk, OnErr};
 ghost use Rattle.aho_core.specs.Numbers.{greatest_index};
-ghost use Rattle.aho_lists.specs.Words.{word_at as the_word, room, length_at, patterns_at, is_closed, laid, IsHeld, HasPatterns, AreLaid, IsPut, IsLengthened, IsClosed};
+ghost use Rattle.aho_lists.specs.Words.{word_at as the_word, room, length_at, patterns_at, is_closed, laid, IsPlaceOfList, HasPatterns, AreLaid, IsPut, IsLengthened, IsClosed};
 
 use aho_core::search::PatternID;
 use std::alloc::AllocError;
@@ -28,7 +28,7 @@ fn word_at(words: &[u32], place: usize) -> u32
 
 /// How many patterns the list at this place has.
 pub(crate) fn len_at(words: &[u32], list: usize) -> usize
-    requires held { IsHeld words.now list }
+    requires held { IsPlaceOfList words.now list }
     ensures len { result ≡ length_at words.now list }
 {
     if list == 0 {
@@ -153,7 +153,7 @@ pub(crate) fn push_pattern(
     pattern: PatternID,
 ) -> Result<usize, AllocError>
     requires laid { (count : ℕ) × AreLaid words.old.items count × (count ≤ greatest_index) }
-    requires held { IsHeld words.old.items list }
+    requires held { IsPlaceOfList words.old.items list }
     ensures listed { IfOk result (λ made. HasPatterns words.old.items words.new.items list made
         (patterns_at words.old.items list ++ pattern ∷ [])) }
     ensures place { IfOk result (λ made. (made ≡ list) ⊎ (length words.old.items < made)) }
@@ -198,7 +198,7 @@ fn close(words: &mut Vec<u32>, list: usize, end: usize) -> Result<(), AllocError
 /// Answers the place.
 fn share_patterns(words: &mut Vec<u32>, list: usize) -> Result<usize, AllocError>
     requires laid { (count : ℕ) × AreLaid words.old.items count × (count ≤ greatest_index + 1) }
-    requires held { IsHeld words.old.items list }
+    requires held { IsPlaceOfList words.old.items list }
     requires some { list ≢ 0 }
     ensures listed { IfOk result (λ made.
         HasPatterns words.old.items words.new.items 0 made (patterns_at words.old.items list)) }
@@ -226,8 +226,8 @@ pub(crate) fn join_patterns(
 ) -> Result<usize, AllocError>
     requires laid { (count : ℕ) × AreLaid words.old.items count
         × (count + length_at words.old.items other ≤ greatest_index + 1) }
-    requires held { IsHeld words.old.items list }
-    requires other { IsHeld words.old.items other }
+    requires held { IsPlaceOfList words.old.items list }
+    requires other { IsPlaceOfList words.old.items other }
     requires some { other ≢ 0 }
     ensures listed { IfOk result (λ made. HasPatterns words.old.items words.new.items list made
         (patterns_at words.old.items list ++ patterns_at words.old.items other)) }

@@ -18,3 +18,17 @@ mod Lanes
 pub mod PackedSound
 -- what the packed search for the patterns finds
 pub mod PackedFinds
+-- hashes of the same bytes are the same
+pub mod Hashes
+-- the first place of a part, and of a longer one
+pub mod Firsts
+-- where the marks of a strided search stand
+pub mod Strides
+-- how the tables of a strided search grow by a pattern
+pub mod Tables
+-- words that were added to a strided search have their bits set
+pub mod StridedSound
+-- what the strided search for the patterns finds
+pub mod StridedFinds
+-- that a strided search that is held is a prefilter of the patterns
+pub mod HeldStrided

@@ -21,7 +21,7 @@ same_at p xs ys k below same =
 module _ (p : Patterns) (some : (k : ℕ) → k < length p.words → 0 < length (pattern_at p k)) where
   module _ (haystack : List ℕ) (start end : ℕ) (ordered : start ≤ end) (within : end ≤ length haystack) where
     -- a pattern that occurs stands in the part
-    stands : (m : Occurrence) → Occurs p No haystack start end m → StandsAt p.ignore_case (pattern_at p m.pattern) (slice_range haystack start end) (m.start - start)
+    pub stands : (m : Occurrence) → Occurs p No haystack start end m → StandsAt p.ignore_case (pattern_at p m.pattern) (slice_range haystack start end) (m.start - start)
     stands m o k below =
         let low : start ≤ m.start = o.after_start in
         let long : m.start + length (pattern_at p m.pattern) ≡ m.end = o.sized in
@@ -32,7 +32,7 @@ module _ (p : Patterns) (some : (k : ℕ) → k < length p.words → 0 < length 
         ∙ ap (λ n. get_or haystack n 0) (omega arith)
         ∙ sym (part-reads haystack start end ((m.start - start) + k) (omega arith)))
 
-    inside : (m : Occurrence) → Occurs p No haystack start end m → m.start - start < length (slice_range haystack start end)
+    pub inside : (m : Occurrence) → Occurs p No haystack start end m → m.start - start < length (slice_range haystack start end)
     inside m o =
         let low : start ≤ m.start = o.after_start in
         let long : m.start + length (pattern_at p m.pattern) ≡ m.end = o.sized in

@@ -43,14 +43,14 @@ within_table table k i is =
     ]
 
 -- a table that keeps the bits of another one, and its length
-record Keeps (old new : List ℕ) : Type 0 where
-  long : length new ≡ length old
-  bits : (k i : ℕ) → HasBit (get_or old k 0) i → HasBit (get_or new k 0) i
+pub record Keeps (old new : List ℕ) : Type 0 where
+  pub long : length new ≡ length old
+  pub bits : (k i : ℕ) → HasBit (get_or old k 0) i → HasBit (get_or new k 0) i
 
-Keeps-then : (a b c : List ℕ) → Keeps a b → Keeps b c → Keeps a c
+pub Keeps-then : (a b c : List ℕ) → Keeps a b → Keeps b c → Keeps a c
 Keeps-then a b c first then = record { long = then.long ∙ first.long; bits = λ k i is. then.bits k i (first.bits k i is) }
 
-Keeps-set : (table : List ℕ) (j groups : ℕ) → Keeps table (set table j (bit_or (get_or table j 0) groups))
+pub Keeps-set : (table : List ℕ) (j groups : ℕ) → Keeps table (set table j (bit_or (get_or table j 0) groups))
 Keeps-set table j groups = record {
   long = length-set table j _;
   bits = λ k i is.
@@ -116,7 +116,7 @@ record IsLong (masks : Masks) : Type 0 where
 IsLong-grows : (old new : Masks) → Grows old new → IsLong old → IsLong new
 IsLong-grows old new grows long = record { low = grows.low.long ∙ long.low; high = grows.high.long ∙ long.high }
 
-set-has : (table : List ℕ) (j groups i : ℕ) → j < length table → HasBit groups i → HasBit (get_or (set table j (bit_or (get_or table j 0) groups)) j 0) i
+pub set-has : (table : List ℕ) (j groups i : ℕ) → j < length table → HasBit groups i → HasBit (get_or (set table j (bit_or (get_or table j 0) groups)) j 0) i
 set-has table j groups i below is =
     subst (λ x. HasBit x i) (sym (get_or-set_at table j j (bit_or (get_or table j 0) groups) 0 refl below))
     (HasBit-or_right (get_or table j 0) groups i is)

@@ -12,3 +12,7 @@ pub mod Inside
 pub mod Taken
 -- what a packed search looks for, and where it stops
 pub mod Packed
+-- what a strided search looks for, and where it stops
+pub mod Strided
+-- for which patterns one is held
+pub mod Sizes

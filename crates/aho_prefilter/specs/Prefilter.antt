@@ -1,15 +1,17 @@
 -- What a prefilter is of, and which one is held for which patterns.
-use Rattle.std.specs.Prelude.{◌≡◌, ℕ, ◌<◌, Bool, true, false, not, ◌&&◌, ◌||◌, List, [], ◌∷◌, ◌++◌, length, slice_index, nat_eq, nat_lt, if◌then◌else◌, Option, Some, None}
+use Rattle.std.specs.Prelude.{◌≡◌, ℕ, ◌+◌, ◌*◌, ◌<◌, Bool, true, false, not, ◌&&◌, ◌||◌, List, [], ◌∷◌, ◌++◌, length, slice_index, nat_eq, nat_lt, if◌then◌else◌, Option, Some, None}
 use Rattle.std.specs.Char.{is_ascii, is_ascii_alphanumeric}
 use Rattle.std.specs.List.{Contains, list_any}
-use Rattle.std.specs.Option.{option_or}
+use Rattle.std.specs.Option.{option_map, option_or}
 use Rattle.aho_core.specs.Bytes.{IsSameByte}
 use Rattle.aho_core.specs.Patterns.{Patterns, pattern_at}
 use Rattle.aho_core.specs.declared.search.MatchKind.{MatchKind}
 use Rattle.aho_prefilter.specs.FirstBytes.{first_bytes}
 use Rattle.aho_prefilter.specs.declared.prefilter.Searcher.{Searcher}
-use Rattle.aho_prefilter.specs.declared.prefilter.Searcher.TheVariants.{Memmem, Memchr, Memchr2, Memchr3, Packed}
+use Rattle.aho_prefilter.specs.declared.prefilter.Searcher.TheVariants.{Memmem, Memchr, Memchr2, Memchr3, Packed, Strided}
 use Rattle.aho_prefilter.specs.Packed.{packed_of}
+use Rattle.aho_prefilter.specs.Sizes.{shape_of, sizes_for}
+use Rattle.aho_prefilter.specs.Strided.{HasMarksOf, AreStrideSizes, Marks, marks_of}
 use Rattle.aho_prefilter.specs.declared.packed.Packed.{Packed as Fingerprints}
 
 -- the needle is the only pattern, which is not empty, and its bytes are compared as they are
@@ -32,6 +34,12 @@ pub record AreFingerprintsOf (p : Patterns) (packed : Fingerprints) : Type 0 whe
   pub some : (k : ℕ) → k < length p.words → 0 < length (pattern_at p k)
   pub made : packed ≡ packed_of p.ignore_case p.words
 
+-- bytes are compared as they are, and the bits of each pattern are set
+pub record AreMarksOf (p : Patterns) (marks : Marks) : Type 0 where
+  pub exact : p.ignore_case ≡ false
+  pub sizes : AreStrideSizes marks.sizes
+  pub each : (k : ℕ) → k < length p.words → HasMarksOf marks (pattern_at p k)
+
 -- a search is one for these patterns, by their case rule and whatever their kind is
 abbrev pub IsPrefilterOf : Searcher → Patterns → Type 0
 IsPrefilterOf (Memmem needle) p = IsOnlyPattern p needle
@@ -39,6 +47,7 @@ IsPrefilterOf (Memchr x) p = AllBeginWithin p (x ∷ [])
 IsPrefilterOf (Memchr2 x y) p = AllBeginWithin p (x ∷ y ∷ [])
 IsPrefilterOf (Memchr3 x y z) p = AllBeginWithin p (x ∷ y ∷ z ∷ [])
 IsPrefilterOf (Packed packed) p = AreFingerprintsOf p packed
+IsPrefilterOf (Strided marks) p = AreMarksOf p marks
 
 -- the bytes of memory that it holds
 abbrev pub bytes_held : Searcher → ℕ
@@ -47,19 +56,21 @@ bytes_held (Memchr x) = 0
 bytes_held (Memchr2 x y) = 0
 bytes_held (Memchr3 x y z) = 0
 bytes_held (Packed packed) = 0
+bytes_held (Strided marks) = 8 * (length marks.grams + length marks.heads)
 
 -- the same where it may be that none is held
 abbrev pub prefilter_bytes : Option Searcher → ℕ
 prefilter_bytes None = 0
 prefilter_bytes (Some searcher) = bytes_held searcher
 
--- whether it is a search for a whole pattern, which it holds a copy of
-abbrev pub is_whole : Searcher → Bool
-is_whole (Memmem needle) = true
-is_whole (Memchr x) = false
-is_whole (Memchr2 x y) = false
-is_whole (Memchr3 x y z) = false
-is_whole (Packed packed) = false
+-- whether it holds memory: a copy of the pattern that it searches for, or tables
+abbrev pub holds_memory : Searcher → Bool
+holds_memory (Memmem needle) = true
+holds_memory (Memchr x) = false
+holds_memory (Memchr2 x y) = false
+holds_memory (Memchr3 x y z) = false
+holds_memory (Packed packed) = false
+holds_memory (Strided marks) = true
 
 -- the search for one to three bytes
 abbrev pub search_for : List ℕ → Option Searcher
@@ -114,6 +125,7 @@ stops_in_words (Memchr x) = is_word_byte x
 stops_in_words (Memchr2 x y) = is_word_byte x || is_word_byte y
 stops_in_words (Memchr3 x y z) = is_word_byte x || is_word_byte y || is_word_byte z
 stops_in_words (Packed packed) = false
+stops_in_words (Strided marks) = false
 
 -- whether a packed search is better than what is held else
 abbrev pub gives_way : Option Searcher → Bool
@@ -124,9 +136,38 @@ gives_way (Some searcher) = stops_in_words searcher
 abbrev pub held_or_packed : Patterns → Option Searcher
 held_or_packed p = if gives_way (held_for p) then option_or (packed_for p) (held_for p) else held_for p
 
+-- the strided search, if there is one for patterns of their shape; under the case rule there is none
+abbrev pub strided_for : Patterns → Option Searcher
+strided_for p =
+    if p.ignore_case then None
+    else option_map (λ sizes. Strided (marks_of sizes p.words)) (sizes_for (shape_of p.words))
+
+-- whether a strided search is better than a search
+abbrev pub is_passed_by : Searcher → Bool
+is_passed_by (Memmem needle) = false
+is_passed_by (Memchr x) = stops_in_words (Memchr x)
+is_passed_by (Memchr2 x y) = stops_in_words (Memchr2 x y)
+is_passed_by (Memchr3 x y z) = stops_in_words (Memchr3 x y z)
+is_passed_by (Packed packed) = true
+is_passed_by (Strided marks) = false
+
+-- the same where it may be that none is held
+abbrev pub yields : Option Searcher → Bool
+yields None = true
+yields (Some searcher) = is_passed_by searcher
+
+-- which search is held where each of them may be
+abbrev pub quickest_for : Patterns → Option Searcher
+quickest_for p =
+    if yields (held_or_packed p) then option_or (strided_for p) (held_or_packed p) else held_or_packed p
+
 -- the patterns with one more behind them
 abbrev pub with_word : Patterns → List ℕ → Patterns
 with_word p word = record p { words = p.words ++ word ∷ [] }
+
+-- these words, as patterns
+abbrev pub patterns_from : MatchKind → Bool → List (List ℕ) → Patterns
+patterns_from kind ignore_case words = record { words = words; kind = kind; ignore_case = ignore_case }
 
 -- the patterns under another kind
 abbrev pub under : MatchKind → Patterns → Patterns

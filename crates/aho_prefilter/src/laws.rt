@@ -11,7 +11,7 @@ ghost use Rattle.aho_core.specs.declared.search.Anchored.TheVariants.{No};
 ghost use Rattle.aho_core.specs.declared.search.MatchKind.{MatchKind};
 ghost use Rattle.aho_prefilter.specs.Candidate.{AllStartFrom, IsCandidate, IsWholeMatch, NoneStarts, NoneStartsBefore, NothingOccurs, place_of};
 ghost use Rattle.aho_prefilter.specs.FirstBytes.{IsEachOnce, IsFirstOf, first_bytes};
-ghost use Rattle.aho_prefilter.specs.Prefilter.{IsPrefilterOf, held_for, held_or_packed, under};
+ghost use Rattle.aho_prefilter.specs.Prefilter.{IsPrefilterOf, held_for, held_or_packed, quickest_for, under};
 ghost use Rattle.aho_prefilter.specs.declared.prefilter.Candidate.{Candidate};
 ghost use Rattle.aho_prefilter.specs.declared.prefilter.Searcher.{Searcher};
 
@@ -58,6 +58,10 @@ pub fn held_serves_each_kind()
         → held_or_packed p ≡ Some search → IsPrefilterOf search p }
     ensures held_packed { (p : Patterns) (kind : MatchKind)
         → held_or_packed (under kind p) ≡ held_or_packed p }
+    ensures of_quickest { (p : Patterns) (search : Searcher)
+        → quickest_for p ≡ Some search → IsPrefilterOf search p }
+    ensures held_quickest { (p : Patterns) (kind : MatchKind)
+        → quickest_for (under kind p) ≡ quickest_for p }
     ensures served { (p : Patterns) (kind : MatchKind) (search : Searcher)
         → IsPrefilterOf search p → IsPrefilterOf search (under kind p) }
 {}

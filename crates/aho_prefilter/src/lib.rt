@@ -5,4 +5,5 @@ pub mod impls;
 pub mod laws;
 pub mod packed;
 pub mod prefilter;
+mod strided;
 pub mod text;

@@ -224,9 +224,9 @@ impl Packed {
 }
 
 /// The bytes from a place on, with zeros behind them.
-fn padded(bytes: &[u8], from: usize) -> [u8; 48]
+pub(crate) fn padded(bytes: &[u8], from: usize) -> [u8; 48]
     requires within { from ≤ length bytes.now }
-    requires few { length bytes.now < from + 18 }
+    requires few { length bytes.now ≤ from + 48 }
     ensures same { (k : ℕ) → slice_index result k ≡ slice_index bytes.now (from + k) }
 {
     let rest = &bytes[from..];

@@ -4,14 +4,16 @@ ghost use Rattle.std.specs.Prelude.{◌≡◌, ◌<◌, ◌≤◌, ◌^◌, leng
 ghost use Rattle.aho_core.specs.Patterns.{Patterns};
 ghost use Rattle.aho_prefilter.specs.Candidate.{IsCandidate, place_of};
 ghost use Rattle.aho_prefilter.specs.Finding.{FindsFirst, StopsFirst};
-ghost use Rattle.aho_prefilter.specs.Prefilter.{IsPrefilterOf, is_whole, bytes_held};
+ghost use Rattle.aho_prefilter.specs.Prefilter.{IsPrefilterOf, holds_memory, bytes_held};
 
 mod builder;
 mod first_bytes;
 mod needle;
 mod packed_builder;
+mod quickest;
 
 use crate::packed::Packed;
+use crate::strided::Strided;
 use aho_core::search::{Match, PatternID, Span};
 pub use builder::PrefilterBuilder;
 use memchr::{memchr, memchr2, memchr3};
@@ -58,6 +60,8 @@ enum Searcher {
     Memchr3(u8, u8, u8),
     /// For the fingerprints of the patterns.
     Packed(Packed),
+    /// For grams of the patterns, each of which is looked up for several places.
+    Strided(Strided),
 }
 
 impl Searcher {
@@ -72,6 +76,7 @@ impl Searcher {
             Searcher::Memchr2(x, y) => memchr2(*x, *y, part),
             Searcher::Memchr3(x, y, z) => memchr3(*x, *y, *z, part),
             Searcher::Packed(packed) => packed.find(part),
+            Searcher::Strided(strided) => strided.find(part),
         }
     }
 }
@@ -118,7 +123,8 @@ impl Prefilter {
         Candidate::Match(Match::new(pattern, Span { start, end }))
     }
 
-    /// How many bytes of memory it holds: those of the pattern that is searched for as a whole.
+    /// How many bytes of memory it holds: those of the pattern that is searched for as a whole, or of the tables of a strided
+    /// search.
     pub fn memory_usage(&self) -> usize
         ensures memory_usage { result ≡ bytes_held self.now }
         ensures bound { result < 2 ^ 63 }
@@ -127,6 +133,7 @@ impl Prefilter {
             Searcher::Memmem(needle) => needle.len(),
             Searcher::Memchr(_) | Searcher::Memchr2(_, _) | Searcher::Memchr3(_, _, _) => 0,
             Searcher::Packed(_) => 0,
+            Searcher::Strided(strided) => strided.memory_usage(),
         }
     }
 
@@ -134,10 +141,10 @@ impl Prefilter {
     ///
     /// # Errors
     ///
-    /// Out of memory, for the copy of a pattern that is searched for as a whole.
+    /// Out of memory, for the copy of a pattern that is searched for as a whole, or of tables.
     pub fn try_clone(&self) -> Result<Prefilter, AllocError>
         ensures same { IfOk result (λ copy. copy ≡ self.now) }
-        ensures wanted { IfErr result (λ _. is_whole self.now ≡ true) }
+        ensures wanted { IfErr result (λ _. holds_memory self.now ≡ true) }
     {
         let searcher = match &self.searcher {
             Searcher::Memmem(needle) => Searcher::Memmem(needle.try_clone()?),
@@ -145,6 +152,7 @@ impl Prefilter {
             Searcher::Memchr2(x, y) => Searcher::Memchr2(*x, *y),
             Searcher::Memchr3(x, y, z) => Searcher::Memchr3(*x, *y, *z),
             Searcher::Packed(packed) => Searcher::Packed(*packed),
+            Searcher::Strided(strided) => Searcher::Strided(strided.try_clone()?),
         };
         Ok(Prefilter { searcher })
     }

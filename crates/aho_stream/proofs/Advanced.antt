@@ -18,7 +18,7 @@ use Rattle.aho_devices.specs.Refusals.{IsFillRefusal}
 use Rattle.aho_automaton.proofs.Places.{moved_option}
 use Rattle.aho_automaton.specs.declared.automaton.Automaton.{Ghosts}
 use Rattle.aho_stream.specs.After.{IsAfter, is_settled, search_from, word_of}
-use Rattle.aho_stream.specs.Chunks.{Advances, AllTold, DiesAt, Fills, FillsNothing, NoneSettled, ReadsOn, Tells, TellsEnd, TellsError, TellsFault, TellsNone, ends_between, tells_error}
+use Rattle.aho_stream.specs.Chunks.{Advances, AllTold, DiesAt, FillsOnceTold, FillsNothing, NoneSettled, ReadsOn, AnswerTells, TellsEnd, TellsError, TellsFault, TellsNone, ends_between, tells_error}
 use Rattle.aho_stream.specs.Refills.{Refills, is_limit}
 use Rattle.aho_stream.specs.declared.progress.StreamProgress.{StreamProgress}
 use Rattle.aho_stream.specs.declared.progress.StreamPiece.{StreamPiece}
@@ -46,12 +46,12 @@ module _ {S : Type 0} (A : Ghosts S) (automaton : S) where
   -- what was read so far, and that all that was settled was told before it was asked for
   pub record ReadsPromptly (lookups lookups' : ℕ) (s s' : StreamProgress) (before after : Option (List ℕ)) : Type 0 where
     pub reads : ReadsOn A automaton lookups lookups' s s' before after
-    pub prompt : FillsNothing s s' reads.bytes false ⊎ Fills A automaton lookups s s' reads.bytes false
+    pub prompt : FillsNothing s s' reads.bytes false ⊎ FillsOnceTold A automaton lookups s s' reads.bytes false
 
   -- the same, where the source was asked
   pub record ReadsFilling (lookups lookups' : ℕ) (s s' : StreamProgress) (before after : Option (List ℕ)) (failed : Bool) : Type 0 where
     pub reads : ReadsOn A automaton lookups lookups' s s' before after
-    pub fills : Fills A automaton lookups s s' reads.bytes failed
+    pub fills : FillsOnceTold A automaton lookups s s' reads.bytes failed
 
   -- nothing was read
   pub read_none : (lookups lookups' : ℕ) (s s' : StreamProgress) (before : Option (List ℕ)) → s'.buffer ≡ s.buffer → s'.ended ≡ s.ended
@@ -67,7 +67,7 @@ module _ {S : Type 0} (A : Ghosts S) (automaton : S) where
   }
 
   -- a fill stays the last one where the buffer stays
-  fills_same : (lookups : ℕ) (s t s' : StreamProgress) (bytes : List ℕ) → s'.buffer ≡ t.buffer → s'.ended ≡ t.ended → Fills A automaton lookups s t bytes false → Fills A automaton lookups s s' bytes false
+  fills_same : (lookups : ℕ) (s t s' : StreamProgress) (bytes : List ℕ) → s'.buffer ≡ t.buffer → s'.ended ≡ t.ended → FillsOnceTold A automaton lookups s t bytes false → FillsOnceTold A automaton lookups s s' bytes false
   fills_same lookups s t s' bytes buffer ended f = record {
     early = f.early;
     late = f.late;
@@ -141,16 +141,16 @@ module _ {S : Type 0} (A : Ghosts S) (automaton : S) where
 
   -- with what the answer tells of it
   pub advances : (lookups lookups' : ℕ) (s s' : StreamProgress) (before after : Option (List ℕ)) (answer : Option (Result StreamPiece StreamError)) → tells_error answer ≡ false → (r : ReadsPromptly lookups lookups' s s' before after)
-      → ((p : Patterns) (given : List ℕ) → IsOf p → After p lookups' s' given → Tells p s s' given answer)
+      → ((p : Patterns) (given : List ℕ) → IsOf p → After p lookups' s' given → AnswerTells p s s' given answer)
       → Advances A automaton lookups lookups' s s' before after answer
   advances lookups lookups' s s' before after answer no_error r tells = record {
     reads = r.reads;
     tells = λ p given of a. tells p (given ++ r.reads.bytes) of (r.reads.is_after p given of a);
-    prompt = subst (λ (failed : Bool). FillsNothing s s' r.reads.bytes failed ⊎ Fills A automaton lookups s s' r.reads.bytes failed) (sym no_error) r.prompt;
+    prompt = subst (λ (failed : Bool). FillsNothing s s' r.reads.bytes failed ⊎ FillsOnceTold A automaton lookups s s' r.reads.bytes failed) (sym no_error) r.prompt;
   }
 
   pub advances_filling : (lookups lookups' : ℕ) (s s' : StreamProgress) (before after : Option (List ℕ)) (answer : Option (Result StreamPiece StreamError)) → (r : ReadsFilling lookups lookups' s s' before after (tells_error answer))
-      → ((p : Patterns) (given : List ℕ) → IsOf p → After p lookups' s' given → Tells p s s' given answer)
+      → ((p : Patterns) (given : List ℕ) → IsOf p → After p lookups' s' given → AnswerTells p s s' given answer)
       → Advances A automaton lookups lookups' s s' before after answer
   advances_filling lookups lookups' s s' before after answer r tells = record {
     reads = r.reads;
@@ -162,7 +162,7 @@ module _ {S : Type 0} (A : Ghosts S) (automaton : S) where
   pub advances_from : (lookups mid lookups' : ℕ) (s t s' : StreamProgress) (before after : Option (List ℕ)) (answer : Option (Result StreamPiece StreamError)) → tells_error answer ≡ false → s'.buffer ≡ t.buffer → s'.ended ≡ t.ended
       → (r : ReadsPromptly lookups mid s t before after)
       → ((p : Patterns) (given : List ℕ) → IsOf p → After p mid t given → After p lookups' s' given)
-      → ((p : Patterns) (given : List ℕ) → IsOf p → After p mid t given → Tells p s s' given answer)
+      → ((p : Patterns) (given : List ℕ) → IsOf p → After p mid t given → AnswerTells p s s' given answer)
       → Advances A automaton lookups lookups' s s' before after answer
   unfolding read_same
   advances_from lookups mid lookups' s t s' before after answer no_error buffer ended r keeps tells =
@@ -170,7 +170,7 @@ module _ {S : Type 0} (A : Ghosts S) (automaton : S) where
       record {
         reads = same.reads;
         tells = λ p given of a. tells p (given ++ r.reads.bytes) of (r.reads.is_after p given of a);
-        prompt = subst (λ (failed : Bool). FillsNothing s s' same.reads.bytes failed ⊎ Fills A automaton lookups s s' same.reads.bytes failed) (sym no_error) same.prompt;
+        prompt = subst (λ (failed : Bool). FillsNothing s s' same.reads.bytes failed ⊎ FillsOnceTold A automaton lookups s s' same.reads.bytes failed) (sym no_error) same.prompt;
       }
 
 -- where all was walked, the best of it is the answer from the end of the last match on

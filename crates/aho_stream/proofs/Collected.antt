@@ -13,7 +13,7 @@ use Rattle.aho_devices.specs.declared.device.Source.{Ghosts as SourceGhosts}
 use Rattle.aho_automaton.specs.declared.automaton.Automaton.{Ghosts}
 use Rattle.aho_stream.specs.After.{IsAfter}
 use Rattle.aho_stream.specs.FindRuns.{FindsAll, is_limit_among, matches_among}
-use Rattle.aho_stream.specs.Finds.{FindsNext}
+use Rattle.aho_stream.specs.Finds.{FindsNextInStream}
 use Rattle.aho_stream.specs.Iterators.{CanGoOn, lookups_of}
 use Rattle.aho_stream.specs.Replacing.{SourceGave}
 use Rattle.aho_stream.specs.declared.chunks.StreamChunkIter.{StreamChunkIter}
@@ -41,25 +41,25 @@ all_found S p source source' ms all = (all.given, all.gives, subst (AreFinds p (
 
 module _ {A R : Type 0} (G : Ghosts A) (S : SourceGhosts R) (are : (automaton : A) (p : Patterns) → G.is_of automaton p → G.lengths automaton ≡ map length p.words) where
   -- an iterator may be called after a call
-  pub goes_on : (it rest : StreamChunkIter A R) (answer : Option (Result Occurrence StreamError)) → CanGoOn G it → FindsNext G S it rest answer → CanGoOn G rest
+  pub goes_on : (it rest : StreamChunkIter A R) (answer : Option (Result Occurrence StreamError)) → CanGoOn G it → FindsNextInStream G S it rest answer → CanGoOn G rest
   goes_on it rest answer (p, given, of, a) step = (
     p,
     given ++ step.reads.bytes,
-    subst (λ (x : A). G.is_of x p) (sym step.same) of,
-    subst (λ (x : A). IsAfter G x p (lookups_of rest) rest.progress (given ++ step.reads.bytes)) (sym step.same) (step.reads.is_after p given of a),
+    subst (λ (x : A). G.is_of x p) (sym step.call.same) of,
+    subst (λ (x : A). IsAfter G x p (lookups_of rest) rest.progress (given ++ step.reads.bytes)) (sym step.call.same) (step.reads.is_after p given of a),
   )
 
   -- each match leaves less room under the limit
-  pub less_to_find : (it rest : StreamChunkIter A R) (m : Occurrence) → CanGoOn G it → FindsNext G S it rest (Some (Ok m)) → rest.progress.limit - rest.progress.from < it.progress.limit - it.progress.from
+  pub less_to_find : (it rest : StreamChunkIter A R) (m : Occurrence) → CanGoOn G it → FindsNextInStream G S it rest (Some (Ok m)) → rest.progress.limit - rest.progress.from < it.progress.limit - it.progress.from
   less_to_find it rest m (p, given, of, a) step =
       let now = step.reads.is_after p given of a in
       let says = step.finds p given of a in
       let occurs = (says.answer [] (MayFollow-nothing rest.progress.ended)).0 in
       let some = occurs_some p (G.lengths it.walk.automaton.now) (are it.walk.automaton.now p of) m occurs a.no_empty in
-      omega (arith, some, occurs.after_start, says.from, step.limit, now.from_reported, now.reported_walked, now.walked_read, now.limited)
+      omega (arith, some, occurs.after_start, says.from, step.call.limit, now.from_reported, now.reported_walked, now.walked_read, now.limited)
 
   -- one match more
-  pub yields_more : (it mid rest : StreamFindIter A R) (ms : List Occurrence) (m : Occurrence) → Yields (find_steps G S) it (map found ms) mid → FindsNext G S mid.chunks rest.chunks (Some (Ok m))
+  pub yields_more : (it mid rest : StreamFindIter A R) (ms : List Occurrence) (m : Occurrence) → Yields (find_steps G S) it (map found ms) mid → FindsNextInStream G S mid.chunks rest.chunks (Some (Ok m))
       → Yields (find_steps G S) it (map found (ms ++ m ∷ [])) rest
   yields_more it mid rest ms m yields step =
       subst (λ (items : List (Result Occurrence StreamError)). Yields (find_steps G S) it items rest) (sym (map-append found ms (m ∷ [])))

@@ -12,7 +12,7 @@ use Rattle.aho_automaton.proofs.NextFinds.{finds-next, finds-none}
 use Rattle.aho_automaton.specs.declared.automaton.Automaton.{Ghosts}
 use Rattle.aho_stream.specs.After.{IsAfter, MayFollow, search_from}
 use Rattle.aho_devices.specs.declared.device.Source.{Ghosts as SourceGhosts}
-use Rattle.aho_stream.specs.Chunks.{Advances, ReadsOn, Tells, TellsEnd, TellsMatch, TellsPlain, tells_limit}
+use Rattle.aho_stream.specs.Chunks.{Advances, ReadsOn, AnswerTells, TellsEnd, TellsMatch, TellsPlain, tells_limit}
 use Rattle.aho_stream.specs.Counting.{CountsAll}
 use Rattle.aho_stream.specs.Iterators.{CanGoOn, HasGiven, IsFresh, Lends, automaton_of, lookups_of, told_lent}
 use Rattle.aho_stream.specs.declared.chunks.StreamChunkIter.{StreamChunkIter}
@@ -103,7 +103,7 @@ module _ {A R : Type 0} (G : Ghosts A) (S : SourceGhosts R) (are : (automaton : 
   Begins p = HasGiven G first p []
 
   abbrev TellsThis : Patterns → Option (Result StreamPiece StreamError) → Type 0
-  TellsThis p told = Tells p it.progress it'.progress bytes told
+  TellsThis p told = AnswerTells p it.progress it'.progress bytes told
 
   -- what both calls read
   pub read_then : ReadsOn G (automaton_of first) (lookups_of first) (lookups_of it') first.progress it'.progress (S.remaining first.source.now) (S.remaining it'.source.now)
@@ -125,12 +125,12 @@ module _ {A R : Type 0} (G : Ghosts A) (S : SourceGhosts R) (are : (automaton : 
   still p of a more follows ms finds =
       let same = append_assoc going.read.bytes advances.reads.bytes more in
       subst (λ (bytes : List ℕ). Uncounted p bytes ms it.progress.from count) (sym same)
-      (going.counted p of a (advances.reads.bytes ++ more) (may_join it.progress.ended it'.progress.ended advances.reads.bytes more advances.reads.closed h.stays_ended follows) ms
+      (going.counted p of a (advances.reads.bytes ++ more) (may_join it.progress.ended it'.progress.ended advances.reads.bytes more advances.reads.closed h.call.stays_ended follows) ms
       (subst (λ (bytes : List ℕ). AreFinds p (plain_search bytes) None ms) same finds))
 
   -- less is left to report
   below_limit : (p : Patterns) → IsOf p → Begins p → it'.progress.reported ≤ first.progress.limit
-  below_limit p of a = let now = advances.reads.is_after p going.read.bytes of (going.read.is_after p [] of a) in omega (arith, now.reported_walked, now.walked_read, now.limited, h.limit, going.limit)
+  below_limit p of a = let now = advances.reads.is_after p going.read.bytes of (going.read.is_after p [] of a) in omega (arith, now.reported_walked, now.walked_read, now.limited, h.call.limit, going.limit)
 
   pub smaller : IsFresh G first → it.progress.reported + 1 ≤ it'.progress.reported → first.progress.limit - it'.progress.reported < first.progress.limit - it.progress.reported
   smaller (p, of, a) more = omega (arith, more, below_limit p of a)
@@ -140,7 +140,7 @@ module _ {A R : Type 0} (G : Ghosts A) (S : SourceGhosts R) (are : (automaton : 
   small (p, of, a) more = omega (arith, more, below_limit p of a, going.few, a.bounded)
 
   unrefused : tells_limit (told_lent answer) ≡ false → it'.progress.refused ≡ false
-  unrefused is = h.refused ∙ ap (λ (b : Bool). it.progress.refused || b) is ∙ ap (λ (b : Bool). b || false) going.refused
+  unrefused is = h.call.refused ∙ ap (λ (b : Bool). it.progress.refused || b) is ∙ ap (λ (b : Bool). b || false) going.refused
 
   module _ (lent : Bor (List ℕ)) (is : answer ≡ Some (Ok (NonMatch lent))) where
     plain : (p : Patterns) → IsOf p → Begins p → TellsPlain p it.progress it'.progress bytes
@@ -152,10 +152,10 @@ module _ {A R : Type 0} (G : Ghosts A) (S : SourceGhosts R) (are : (automaton : 
     pub go_plain : IsFresh G first → Going G S first it' count
     unfolding read_then
     go_plain fresh = record {
-      same = h.same ∙ going.same;
-      limit = h.limit ∙ going.limit;
+      same = h.call.same ∙ going.same;
+      limit = h.call.limit ∙ going.limit;
       refused = unrefused (ap (λ (r : Option (Result StreamChunk (Bor StreamError))). tells_limit (told_lent r)) is);
-      stays = λ e. h.stays_ended (going.stays e);
+      stays = λ e. h.call.stays_ended (going.stays e);
       few = omega (arith, going.few, plain_more fresh);
       read = read_then;
       counted = λ p of a more follows ms finds. subst (λ (from : ℕ). Uncounted p (bytes ++ more) ms from count) (sym (plain p of a).from) (still p of a more follows ms finds);
@@ -174,10 +174,10 @@ module _ {A R : Type 0} (G : Ghosts A) (S : SourceGhosts R) (are : (automaton : 
     pub go_match : IsFresh G first → Going G S first it' (count + 1)
     unfolding read_then
     go_match fresh = record {
-      same = h.same ∙ going.same;
-      limit = h.limit ∙ going.limit;
+      same = h.call.same ∙ going.same;
+      limit = h.call.limit ∙ going.limit;
       refused = unrefused (ap (λ (r : Option (Result StreamChunk (Bor StreamError))). tells_limit (told_lent r)) is);
-      stays = λ e. h.stays_ended (going.stays e);
+      stays = λ e. h.call.stays_ended (going.stays e);
       few = omega (arith, going.few, match_more fresh);
       read = read_then;
       counted = λ p of a more follows ms finds.

@@ -21,7 +21,7 @@ use Rattle.aho_automaton.specs.declared.automaton.Automaton.{Ghosts}
 use Rattle.aho_stream.specs.After.{IsAfter, MayFollow, search_from}
 use Rattle.aho_stream.specs.Chunks.{ends_between}
 use Rattle.aho_stream.specs.FindRuns.{FindsAll, FindsAlong, FindsSoFar, is_limit_among, matches_among}
-use Rattle.aho_stream.specs.Finds.{Finds, FindsError, FindsNext}
+use Rattle.aho_stream.specs.Finds.{Finds, FindsError, FindsNextInStream}
 use Rattle.aho_stream.specs.Iterators.{HasGiven, automaton_of, lookups_of}
 use Rattle.aho_stream.specs.Refills.{is_limit}
 use Rattle.aho_stream.specs.declared.chunks.StreamChunkIter.{StreamChunkIter}
@@ -67,7 +67,7 @@ module _ (p : Patterns) (lengths : List ℕ) (are : lengths ≡ map length p.wor
 
 -- a call of `next`
 abbrev pub find_steps : {A R : Type 0} → Ghosts A → SourceGhosts R → StreamFindIter A R → Option (Result Occurrence StreamError) → StreamFindIter A R → Type 0
-find_steps G S it found rest = FindsNext G S it.chunks rest.chunks found
+find_steps G S it found rest = FindsNextInStream G S it.chunks rest.chunks found
 
 module _ {A R : Type 0} (G : Ghosts A) (S : SourceGhosts R) (are : (automaton : A) (p : Patterns) → G.is_of automaton p → G.lengths automaton ≡ map length p.words) (p : Patterns) where
   -- calls led from one iterator, once these bytes were given, to another, and answered so
@@ -102,7 +102,7 @@ module _ {A R : Type 0} (G : Ghosts A) (S : SourceGhosts R) (are : (automaton : 
   }
 
   module _ (it mid rest : StreamChunkIter A R) (given : List ℕ) (item : Result Occurrence StreamError) (items : List (Result Occurrence StreamError))
-      (of : G.is_of (automaton_of it) p) (a : HasGiven G it p given) (step : FindsNext G S it mid (Some item)) (then : Led mid rest (given ++ step.reads.bytes) items) where
+      (of : G.is_of (automaton_of it) p) (a : HasGiven G it p given) (step : FindsNextInStream G S it mid (Some item)) (then : Led mid rest (given ++ step.reads.bytes) items) where
     abbrev bytes : List ℕ
     bytes = step.reads.bytes ++ then.bytes
 
@@ -124,12 +124,12 @@ module _ {A R : Type 0} (G : Ghosts A) (S : SourceGhosts R) (are : (automaton : 
     led_on = record {
       bytes = bytes;
       read = Consumes-trans (S.remaining it.source.now) (S.remaining mid.source.now) (S.remaining rest.source.now) step.reads.bytes then.bytes step.reads.read then.read;
-      closed = λ e. ap (λ (xs : List ℕ). xs ++ then.bytes) (step.reads.closed e) ∙ then.closed (step.stays_ended e);
-      stays = λ e. then.stays (step.stays_ended e);
-      ends = counted_then it.progress.ended mid.progress.ended rest.progress.ended _ _ _ step.stays_ended then.stays step.ended then.ends;
+      closed = λ e. ap (λ (xs : List ℕ). xs ++ then.bytes) (step.reads.closed e) ∙ then.closed (step.call.stays_ended e);
+      stays = λ e. then.stays (step.call.stays_ended e);
+      ends = counted_then it.progress.ended mid.progress.ended rest.progress.ended _ _ _ step.call.stays_ended then.stays step.call.ended then.ends;
       of = then.of;
       after = subst (HasGiven G rest p) (append_assoc given step.reads.bytes then.bytes) then.after;
-      refused = then.refused ∙ ap (λ (b : Bool). b || is_limit_among items) step.refused ∙ or_assoc it.progress.refused (is_limit item) (is_limit_among items);
+      refused = then.refused ∙ ap (λ (b : Bool). b || is_limit_among items) step.call.refused ∙ or_assoc it.progress.refused (is_limit item) (is_limit_among items);
       first = λ more follows last.
           answer_on p (G.lengths (automaton_of it)) (are (automaton_of it) p of) a.no_empty (AreFirstFinds p) (λ search last m ms next ok. (next, ok))
           it.progress mid.progress (given ++ step.reads.bytes) ((given ++ bytes) ++ more) (then.bytes ++ more) item items (follows_on more follows) (same_bytes more) (step.finds p given of a)
@@ -146,9 +146,9 @@ module _ {A R : Type 0} (G : Ghosts A) (S : SourceGhosts R) (are : (automaton : 
   led [] it rest given of a same = subst (λ (x : StreamFindIter A R). Led it.chunks x.chunks given []) same (led_nowhere it.chunks given of a)
   led (item ∷ items) it rest given of a yields =
       let step = yields.1 in
-      let of' = subst (λ (x : A). G.is_of x p) (sym step.same) of in
+      let of' = subst (λ (x : A). G.is_of x p) (sym step.call.same) of in
       let after : HasGiven G yields.0.chunks p (given ++ step.reads.bytes) =
-      subst (λ (x : A). IsAfter G x p (lookups_of yields.0.chunks) yields.0.chunks.progress (given ++ step.reads.bytes)) (sym step.same) (step.reads.is_after p given of a) in
+      subst (λ (x : A). IsAfter G x p (lookups_of yields.0.chunks) yields.0.chunks.progress (given ++ step.reads.bytes)) (sym step.call.same) (step.reads.is_after p given of a) in
       led_on it.chunks yields.0.chunks rest.chunks given item items of a step (led items yields.0 rest (given ++ step.reads.bytes) of' after yields.2)
 
   -- since a search began
@@ -174,7 +174,7 @@ module _ {A R : Type 0} (G : Ghosts A) (S : SourceGhosts R) (are : (automaton : 
         let ended : rest.chunks.progress.ended ≡ true =
         elim says.over [ inl over ↦ over.0 | inr refused ↦ (let never : false ≡ true = sym (l.refused ∙ ap (λ (b : Bool). b || is_limit_among items) below ∙ unlimited) ∙ refused in cc) ] in
         let goes : it.chunks.progress.ended ≡ true → mid.chunks.progress.ended ≡ true = l.stays in
-        let count = counted_then it.chunks.progress.ended mid.chunks.progress.ended rest.chunks.progress.ended _ _ _ goes step.stays_ended l.ends step.ended in
+        let count = counted_then it.chunks.progress.ended mid.chunks.progress.ended rest.chunks.progress.ended _ _ _ goes step.call.stays_ended l.ends step.call.ended in
         let follows : MayFollow mid.chunks.progress.ended step.reads.bytes = may_follow_closed mid.chunks.progress.ended step.reads.bytes step.reads.closed in
         record {
           given = l.bytes ++ step.reads.bytes;

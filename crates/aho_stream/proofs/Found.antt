@@ -12,7 +12,7 @@ use Rattle.aho_devices.specs.Counts.{counted}
 use Rattle.aho_devices.specs.Refusals.{is_read_fault}
 use Rattle.aho_automaton.specs.declared.automaton.Automaton.{Ghosts}
 use Rattle.aho_stream.specs.After.{IsAfter, search_from}
-use Rattle.aho_stream.specs.Chunks.{Advances, DiesAt, Fills, FillsNothing, NoneSettled, ReadsOn, Tells, TellsError, TellsEnd, TellsMatch, TellsPlain, ends_between, match_told, tells_error, tells_limit}
+use Rattle.aho_stream.specs.Chunks.{Advances, DiesAt, FillsOnceTold, FillsNothing, NoneSettled, ReadsOn, AnswerTells, TellsError, TellsEnd, TellsMatch, TellsPlain, ends_between, match_told, tells_error, tells_limit}
 use Rattle.aho_stream.specs.Finds.{FillsForMatch, Finds, FindsEnd, FindsError, FindsMatch}
 use Rattle.aho_stream.specs.declared.progress.StreamProgress.{StreamProgress}
 use Rattle.aho_stream.specs.declared.progress.StreamPiece.{StreamPiece}
@@ -56,7 +56,7 @@ module _ {S : Type 0} (A : Ghosts S) (automaton : S) where
   -- its fill is the last one
   fill_now : (lookups mid lookups' : ℕ) (s t s' : StreamProgress) (before between : Option (List ℕ)) (late : List ℕ) (failed : Bool)
       → (r : ReadsOn A automaton lookups mid s t before between) → t.from ≡ s.from → ((p : Patterns) × (given : List ℕ) × IsOf p × After p lookups s given)
-      → Fills A automaton mid t s' late failed → FillsForMatch A automaton lookups s s' (r.bytes ++ late) failed
+      → FillsOnceTold A automaton mid t s' late failed → FillsForMatch A automaton lookups s s' (r.bytes ++ late) failed
   fill_now lookups mid lookups' s t s' before between late failed r from some f = record {
     early = r.bytes ++ f.early;
     late = f.late;
@@ -107,13 +107,13 @@ module _ {S : Type 0} (A : Ghosts S) (automaton : S) where
   pub says_then : (lookups mid lookups' : ℕ) (s t s' : StreamProgress) (before between after : Option (List ℕ)) (answer : Option (Result StreamPiece StreamError)) (found : Option (Result Occurrence StreamError))
       (stays : s.ended ≡ true → t.ended ≡ true) (from : t.from ≡ s.from) (some : (p : Patterns) × (given : List ℕ) × IsOf p × After p lookups s given)
       (r : FindsReading lookups mid s t before between false) (a : Advances A automaton mid lookups' t s' between after answer)
-      → ((p : Patterns) (given : List ℕ) → Tells p t s' given answer → Finds p s s' given found)
+      → ((p : Patterns) (given : List ℕ) → AnswerTells p t s' given answer → Finds p s s' given found)
       → (p : Patterns) (given : List ℕ) → IsOf p → After p lookups s given
       → Finds p s s' (given ++ (reading_then lookups mid lookups' s t s' before between after answer stays from some r a).reads.bytes) found
   unfolding read_then reading_then
   says_then lookups mid lookups' s t s' before between after answer found stays from some r a says p given of is =
       let bytes = r.reads.bytes in
-      says p (given ++ (bytes ++ a.reads.bytes)) (subst (λ (xs : List ℕ). Tells p t s' xs answer) (append_assoc given bytes a.reads.bytes) (a.tells p (given ++ bytes) of (r.reads.is_after p given of is)))
+      says p (given ++ (bytes ++ a.reads.bytes)) (subst (λ (xs : List ℕ). AnswerTells p t s' xs answer) (append_assoc given bytes a.reads.bytes) (a.tells p (given ++ bytes) of (r.reads.is_after p given of is)))
 
 -- an answer's word on the match, by the end of the last match alone
 pub match_found : (p : Patterns) (s t s' : StreamProgress) (given : List ℕ) (m : Occurrence) → t.from ≡ s.from → TellsMatch p t s' given m → FindsMatch p s s' given m
@@ -124,12 +124,12 @@ match_found p s t s' given m from tells = record {
   from = tells.from;
 }
 
-pub piece_found : (p : Patterns) (s t s' : StreamProgress) (given : List ℕ) (piece : StreamPiece) (m : Occurrence) → match_told piece ≡ Some m → t.from ≡ s.from → Tells p t s' given (Some (Ok piece)) → Finds p s s' given (Some (Ok m))
+pub piece_found : (p : Patterns) (s t s' : StreamProgress) (given : List ℕ) (piece : StreamPiece) (m : Occurrence) → match_told piece ≡ Some m → t.from ≡ s.from → AnswerTells p t s' given (Some (Ok piece)) → Finds p s s' given (Some (Ok m))
 piece_found p s t s' given NonMatch m e from tells = cc
 piece_found p s t s' given (Match n) m e from tells = let same : n ≡ m = cc in subst (FindsMatch p s s' given) same (match_found p s t s' given n from tells)
 
 -- a piece that tells no match tells bytes outside of every match
-pub plain_told : (p : Patterns) (t s' : StreamProgress) (given : List ℕ) (piece : StreamPiece) → match_told piece ≡ None → Tells p t s' given (Some (Ok piece)) → TellsPlain p t s' given
+pub plain_told : (p : Patterns) (t s' : StreamProgress) (given : List ℕ) (piece : StreamPiece) → match_told piece ≡ None → AnswerTells p t s' given (Some (Ok piece)) → TellsPlain p t s' given
 plain_told p t s' given NonMatch e tells = tells
 plain_told p t s' given (Match m) e tells = cc
 

@@ -3,18 +3,18 @@ use Rattle.std.proofs.Common.{◌≡◌, ℕ, ◌+◌, ◌-◌, ◌≤◌, List,
 use Rattle.std.specs.Prelude.{slice_range}
 use Rattle.std.proofs.lemmas.List.{take-append-drop, take-append-le, take_all, drop-append-le, drop_at, length-drop}
 use Rattle.aho_automaton.proofs.Places.{part_join}
-use Rattle.aho_stream.specs.After.{EndsIn}
+use Rattle.aho_stream.specs.After.{EndsWith}
 
 -- bytes end in what is left of their last ones
-pub EndsIn-drop : (given last : List ℕ) (n : ℕ) → EndsIn given last → EndsIn given (drop n last)
-EndsIn-drop given last n (gone, e) = (
+pub EndsWith-drop : (given last : List ℕ) (n : ℕ) → EndsWith given last → EndsWith given (drop n last)
+EndsWith-drop given last n (gone, e) = (
   gone ++ take n last,
   e ∙ ap (λ (xs : List ℕ). gone ++ xs) (sym (take-append-drop n last)) ∙ sym (append_assoc gone (take n last) (drop n last)),
 )
 
 -- and where more is given, in these with what is more
-pub EndsIn-append : (given last more : List ℕ) → EndsIn given last → EndsIn (given ++ more) (last ++ more)
-EndsIn-append given last more (gone, e) = (gone, ap (λ (xs : List ℕ). xs ++ more) e ∙ append_assoc gone last more)
+pub EndsWith-append : (given last more : List ℕ) → EndsWith given last → EndsWith (given ++ more) (last ++ more)
+EndsWith-append given last more (gone, e) = (gone, ap (λ (xs : List ℕ). xs ++ more) e ∙ append_assoc gone last more)
 
 -- a part of what was given stays, whatever follows
 pub part_stays : (given more : List ℕ) (start end : ℕ) → start ≤ end → end ≤ length given → slice_range (given ++ more) start end ≡ slice_range given start end

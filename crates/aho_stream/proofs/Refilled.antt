@@ -1,14 +1,14 @@
 -- What a refill changes, from what its parts promise.
 use Rattle.std.proofs.Common.{◌≡◌, ℕ, ◌+◌, ◌-◌, ◌≤◌, min, Bool, List, ◌++◌, Option, length, sym, refl, ◌∙◌, ap, subst, arith, length-append}
 use Rattle.aho_devices.specs.Buffer.{Buffered, Gains}
-use Rattle.aho_stream.specs.After.{EndsIn}
+use Rattle.aho_stream.specs.After.{EndsWith}
 use Rattle.aho_stream.specs.Refills.{Refills}
 use Rattle.aho_stream.specs.declared.progress.StreamProgress.{StreamProgress}
-use Rattle.aho_stream.proofs.GivenBytes.{EndsIn-append}
+use Rattle.aho_stream.proofs.GivenBytes.{EndsWith-append}
 
 -- room was made in the buffer, and then it gained what was read
 pub refilled : (s : StreamProgress) (roomy filled : Buffered) (read patience : ℕ) (ended refused : Bool) (before after : Option (List ℕ))
-    → ((given : List ℕ) → EndsIn given s.buffer.bytes → EndsIn given roomy.bytes)
+    → ((given : List ℕ) → EndsWith given s.buffer.bytes → EndsWith given roomy.bytes)
     → length roomy.bytes ≡ min s.buffer.least (length s.buffer.bytes)
     → roomy.least ≡ s.buffer.least → roomy.size ≡ s.buffer.size
     → Gains roomy filled before after
@@ -25,6 +25,6 @@ refilled s roomy filled read patience ended refused before after last kept least
       limited = omega (arith, count);
       least = gained.least ∙ least;
       size = gained.size ∙ size;
-      last = λ given e. subst (EndsIn (given ++ gained.bytes)) (sym gained.held) (EndsIn-append given roomy.bytes gained.bytes (last given e));
+      last = λ given e. subst (EndsWith (given ++ gained.bytes)) (sym gained.held) (EndsWith-append given roomy.bytes gained.bytes (last given e));
       kept = omega (arith, long, kept);
     }

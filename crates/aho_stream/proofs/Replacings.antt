@@ -12,13 +12,15 @@ use Rattle.aho_core.specs.Occurrence.{Occurrence}
 use Rattle.aho_core.specs.Patterns.{Patterns}
 use Rattle.aho_core.specs.Search.{plain_search}
 use Rattle.aho_devices.specs.Counts.{AppendsBeginning, counted}
+use Rattle.aho_devices.specs.Errors.{CountsErrors}
+use Rattle.aho_devices.specs.Refusals.{IsFillRefusal, IsWriteRefusal, is_read_fault, is_write_fault, is_write_of_nothing}
 use Rattle.aho_devices.specs.declared.device.Sink.{Ghosts as SinkGhosts}
 use Rattle.aho_devices.specs.declared.device.Source.{Ghosts as SourceGhosts}
 use Rattle.aho_automaton.specs.declared.automaton.Automaton.{Ghosts}
-use Rattle.aho_stream.specs.After.{IsAfter, MayFollow, search_from}
-use Rattle.aho_stream.specs.Chunks.{Advances, ReadsOn, Tells, TellsEnd, TellsError, TellsFault, ends_between}
+use Rattle.aho_stream.specs.After.{IsAfter, MayFollow, kept_for, search_from}
+use Rattle.aho_stream.specs.Chunks.{Advances, ReadsOn, AnswerTells, TellsEnd, TellsError, TellsFault, ends_between}
 use Rattle.aho_stream.specs.Refills.{is_limit}
-use Rattle.aho_stream.specs.Replacing.{GaveAsMany, MayBe, SourceGave, BeginsStream, ReplacesStream, ReplacesStreamUpTo, chunk_bytes, piece_for}
+use Rattle.aho_stream.specs.Replacing.{BeginsReplacing, GaveAsMany, IsMakingRefusal, LeavesReplaced, MayBe, ReplacesStream, ReplacesStreamUpTo, SourceGave, chunk_bytes, piece_for}
 use Rattle.aho_stream.specs.declared.progress.StreamProgress.{StreamProgress}
 use Rattle.aho_stream.specs.declared.progress.StreamPiece.{StreamPiece}
 use Rattle.aho_stream.specs.declared.progress.StreamPiece.TheVariants.{NonMatch, Match}
@@ -41,6 +43,15 @@ fault_told p s s' given WriteZero tells = absurd tells
 fault_told p s s' given Memory tells = absurd tells
 fault_told p s s' given PositionLimit tells = tells.fault
 
+-- an error that is told is one that a fill can give
+pub fills_told : (p : Patterns) (s s' : StreamProgress) (given : List ℕ) (error : StreamError) → TellsError p s s' given error → IsFillRefusal error
+fills_told p s s' given (Refused cause) tells = absurd tells
+fills_told p s s' given (Read fault) tells = tt
+fills_told p s s' given (Write fault) tells = absurd tells
+fills_told p s s' given WriteZero tells = absurd tells
+fills_told p s s' given Memory tells = absurd tells
+fills_told p s s' given PositionLimit tells = tt
+
 -- the limit is answered where as many bytes were given
 pub limit_told : (p : Patterns) (s s' : StreamProgress) (given : List ℕ) (error : StreamError) → TellsError p s s' given error → is_limit {A = Unit {0}} (Err error) ≡ true → length given ≡ s.limit
 limit_told p s s' given (Refused cause) tells met = absurd tells
@@ -49,6 +60,15 @@ limit_told p s s' given (Write fault) tells met = absurd tells
 limit_told p s s' given WriteZero tells met = absurd tells
 limit_told p s s' given Memory tells met = absurd tells
 limit_told p s s' given PositionLimit tells met = tells.reached
+
+-- it is remembered
+pub refused_told : (p : Patterns) (s s' : StreamProgress) (given : List ℕ) (error : StreamError) → TellsError p s s' given error → is_limit {A = Unit {0}} (Err error) ≡ true → s'.refused ≡ true
+refused_told p s s' given (Refused cause) tells met = absurd tells
+refused_told p s s' given (Read fault) tells met = cc
+refused_told p s s' given (Write fault) tells met = absurd tells
+refused_told p s s' given WriteZero tells met = absurd tells
+refused_told p s s' given Memory tells met = absurd tells
+refused_told p s s' given PositionLimit tells met = tells.refused
 
 -- the end of a stream that was not refused
 pub all_told : (p : Patterns) (s s' : StreamProgress) (given : List ℕ) → s.refused ≡ false → TellsEnd p s s' given → (s'.ended ≡ true) × (s'.reported ≡ length given)
@@ -90,19 +110,19 @@ might_be given bytes all before after closed stays may = (
 
 -- each chunk leaves less room under the limit
 module _ {A : Type 0} (G : Ghosts A) (automaton : A) (p : Patterns) (lookups : ℕ) (s s' : StreamProgress) (given : List ℕ) where
-  some_told : (piece : StreamPiece) → G.lengths automaton ≡ map length p.words → IsAfter G automaton p lookups s' given → Tells p s s' given (Some (Ok piece)) → s.reported + 1 ≤ s'.reported
+  some_told : (piece : StreamPiece) → G.lengths automaton ≡ map length p.words → IsAfter G automaton p lookups s' given → AnswerTells p s s' given (Some (Ok piece)) → s.reported + 1 ≤ s'.reported
   some_told NonMatch are after tells = tells.some
   some_told (Match m) are after tells =
       omega (arith, occurs_some p (G.lengths automaton) are m ((tells.answer [] (MayFollow-nothing s'.ended)).0) after.no_empty, tells.starts, tells.reported)
 
-  pub less_left : (piece : StreamPiece) → G.lengths automaton ≡ map length p.words → IsAfter G automaton p lookups s' given → Tells p s s' given (Some (Ok piece))
+  pub less_left : (piece : StreamPiece) → G.lengths automaton ≡ map length p.words → IsAfter G automaton p lookups s' given → AnswerTells p s s' given (Some (Ok piece))
       → s'.limit ≡ s.limit → s'.limit - s'.reported < s.limit - s.reported
   less_left piece are after tells same = omega (arith, some_told piece are after tells, after.reported_walked, after.walked_read, after.limited, same)
 
 -- nothing was given and nothing was written
-pub begins_nothing : {A R W : Type 0} (G : Ghosts A) (S : SourceGhosts R) (K : SinkGhosts W) (automaton : A) (pieces : List (List ℕ)) (source : R) (sink : W)
-    → BeginsStream G S K automaton pieces source source sink sink
-begins_nothing G S K automaton pieces source sink = record {
+pub begins_nothing : {R W : Type 0} (S : SourceGhosts R) (K : SinkGhosts W) (AreSearched : Patterns → Type 0) (pieces : List (List ℕ)) (source : R) (sink : W)
+    → BeginsReplacing S K AreSearched pieces source source sink sink
+begins_nothing S K AreSearched pieces source sink = record {
   given = [];
   ended = false;
   gives = gives_nothing S source false refl;
@@ -110,6 +130,69 @@ begins_nothing G S K automaton pieces source sink = record {
   writes = Appends-nil (K.taken sink);
   beginning = λ p bytes ms of may finds. refl;
 }
+
+-- what is left, by how it ended
+module _ {R W : Type 0} (S : SourceGhosts R) (K : SinkGhosts W) (AreSearched : Patterns → Type 0) (pieces : List (List ℕ)) (source source' : R) (sink sink' : W) (most : ℕ) where
+  abbrev Leaves : Result (Unit {0}) StreamError → Type 0
+  Leaves = LeavesReplaced S K AreSearched pieces source source' sink sink' most
+
+  -- at the end
+  pub leaves_whole : ReplacesStream S K AreSearched pieces source source' sink sink' → Leaves (Ok tt)
+  leaves_whole whole = record { replaced = whole; begun = tt; near = tt; limit = λ met. cc }
+
+  -- where the reading stopped
+  pub leaves_most : (error : StreamError) → BeginsReplacing S K AreSearched pieces source source' sink sink' → ReplacesStreamUpTo S K AreSearched pieces source source' sink sink'
+      → (is_limit {A = Unit {0}} (Err error) ≡ true → GaveAsMany S source source' most) → Leaves (Err error)
+  leaves_most error some near limit = record { replaced = tt; begun = some; near = λ fills. near; limit = limit }
+
+  -- where a write was refused
+  pub leaves_some : (error : StreamError) → IsWriteRefusal error → BeginsReplacing S K AreSearched pieces source source' sink sink' → Leaves (Err error)
+  leaves_some (Refused cause) only some = absurd only
+  leaves_some (Read fault) only some = absurd only
+  leaves_some (Write fault) only some = record { replaced = tt; begun = some; near = λ fills. absurd fills; limit = λ met. cc }
+  leaves_some WriteZero only some = record { replaced = tt; begun = some; near = λ fills. absurd fills; limit = λ met. cc }
+  leaves_some Memory only some = absurd only
+  leaves_some PositionLimit only some = absurd only
+
+-- nothing is left where it was refused before it was begun
+module _ {R W : Type 0} (S : SourceGhosts R) (K : SinkGhosts W) (source : R) (sink : W) where
+  pub leaves_none : (AreSearched : Patterns → Type 0) (pieces : List (List ℕ)) (most : ℕ) (error : StreamError) → IsMakingRefusal error → LeavesReplaced S K AreSearched pieces source source sink sink most (Err error)
+  leaves_none AreSearched pieces most (Refused cause) only = record { replaced = tt; begun = begins_nothing S K AreSearched pieces source sink; near = λ fills. absurd fills; limit = λ met. cc }
+  leaves_none AreSearched pieces most (Read fault) only = absurd only
+  leaves_none AreSearched pieces most (Write fault) only = absurd only
+  leaves_none AreSearched pieces most WriteZero only = absurd only
+  leaves_none AreSearched pieces most Memory only = record { replaced = tt; begun = begins_nothing S K AreSearched pieces source sink; near = λ fills. absurd fills; limit = λ met. cc }
+  leaves_none AreSearched pieces most PositionLimit only = absurd only
+
+  pub counts_none : (error : StreamError) → IsMakingRefusal error → CountsErrors {A = Unit {0}} S K source source sink sink (Err error)
+  counts_none (Refused cause) only = record { read_failed = refl; write_failed = refl; took_nothing = refl }
+  counts_none (Read fault) only = absurd only
+  counts_none (Write fault) only = absurd only
+  counts_none WriteZero only = absurd only
+  counts_none Memory only = record { read_failed = refl; write_failed = refl; took_nothing = refl }
+  counts_none PositionLimit only = absurd only
+
+-- which calls an error tells of
+module _ {R W : Type 0} (S : SourceGhosts R) (K : SinkGhosts W) (source source' : R) (sink sink' : W) where
+  -- one of a write
+  pub counts_write : (error : StreamError) → IsWriteRefusal error → S.failures source' ≡ S.failures source → K.failures sink' ≡ counted (is_write_fault {A = Unit {0}} (Err error)) (K.failures sink)
+      → K.empty_writes sink' ≡ counted (is_write_of_nothing {A = Unit {0}} (Err error)) (K.empty_writes sink) → CountsErrors {A = Unit {0}} S K source source' sink sink' (Err error)
+  counts_write (Refused cause) only reads writes nothing = absurd only
+  counts_write (Read fault) only reads writes nothing = absurd only
+  counts_write (Write fault) only reads writes nothing = record { read_failed = reads; write_failed = writes; took_nothing = nothing }
+  counts_write WriteZero only reads writes nothing = record { read_failed = reads; write_failed = writes; took_nothing = nothing }
+  counts_write Memory only reads writes nothing = absurd only
+  counts_write PositionLimit only reads writes nothing = absurd only
+
+  -- one of a read
+  pub counts_read : (error : StreamError) → IsFillRefusal error → S.failures source' ≡ counted (is_read_fault {A = Unit {0}} (Err error)) (S.failures source) → K.failures sink' ≡ K.failures sink
+      → K.empty_writes sink' ≡ K.empty_writes sink → CountsErrors {A = Unit {0}} S K source source' sink sink' (Err error)
+  counts_read (Refused cause) only reads writes nothing = absurd only
+  counts_read (Read fault) only reads writes nothing = record { read_failed = reads; write_failed = writes; took_nothing = nothing }
+  counts_read (Write fault) only reads writes nothing = absurd only
+  counts_read WriteZero only reads writes nothing = absurd only
+  counts_read Memory only reads writes nothing = absurd only
+  counts_read PositionLimit only reads writes nothing = record { read_failed = reads; write_failed = writes; took_nothing = nothing }
 
 module _ {A R W : Type 0} (G : Ghosts A) (S : SourceGhosts R) (K : SinkGhosts W) (automaton : A) (pieces : List (List ℕ)) (first : R) (begun : W) where
   abbrev IsOf : Patterns → Type 0
@@ -160,7 +243,7 @@ module _ {A R W : Type 0} (G : Ghosts A) (S : SourceGhosts R) (K : SinkGhosts W)
   pub begins_ahead : ((p : Patterns) → IsOf p → lengths ≡ map length p.words) → (lookups lookups' : ℕ) (s s' : StreamProgress) (source source' : R) (sink : W)
       → Going lookups s source sink → ReadsOn G automaton lookups lookups' s s' (S.remaining source) (S.remaining source')
       → S.empty_reads source' ≡ counted (ends_between s.ended s'.ended) (S.empty_reads source) → (s.ended ≡ true → s'.ended ≡ true)
-      → BeginsStream G S K automaton pieces first source' begun sink
+      → BeginsReplacing S K IsOf pieces first source' begun sink
   begins_ahead are lookups lookups' s s' source source' sink going reads counts stays = record {
     given = going.given ++ reads.bytes;
     ended = s'.ended;
@@ -192,7 +275,7 @@ module _ {A R W : Type 0} (G : Ghosts A) (S : SourceGhosts R) (K : SinkGhosts W)
       was_left : IsLeft s.from s.reported going.written
       was_left = going.rest p bytes ms of (might_be going.given advance.reads.bytes bytes s.ended s'.ended advance.reads.closed stays may) finds
 
-      left_chunk : (piece : StreamPiece) → Tells p s s' given (Some (Ok piece)) → IsLeft s'.from s'.reported (going.written ++ chunk_bytes piece (slice_range given s'.told s'.reported) pieces)
+      left_chunk : (piece : StreamPiece) → AnswerTells p s s' given (Some (Ok piece)) → IsLeft s'.from s'.reported (going.written ++ chunk_bytes piece (slice_range given s'.told s'.reported) pieces)
       left_chunk NonMatch tells =
           let clear = λ (m : Occurrence) (answer : IsAnswer p (search_from s.from bytes) (Some m)).
           tells.clear may.0 m may.2 (subst (λ (xs : List ℕ). IsAnswer p (search_from s.from xs) (Some m)) may.1 answer) in
@@ -213,8 +296,8 @@ module _ {A R W : Type 0} (G : Ghosts A) (S : SourceGhosts R) (K : SinkGhosts W)
       abbrev pub chunk : List ℕ
       chunk = chunk_bytes piece (slice_range given s'.told s'.reported) pieces
 
-      tells_piece : (p : Patterns) → IsOf p → Tells p s s' given (Some (Ok piece))
-      tells_piece p of = subst (Tells p s s' given) is (advance.tells p going.given of (going.after p of))
+      tells_piece : (p : Patterns) → IsOf p → AnswerTells p s s' given (Some (Ok piece))
+      tells_piece p of = subst (AnswerTells p s s' given) is (advance.tells p going.given of (going.after p of))
 
       -- a chunk was written
       pub going_on : (sink' : W) → Appends (K.taken sink) (K.taken sink') chunk → Going lookups' s' source' sink'
@@ -228,7 +311,7 @@ module _ {A R W : Type 0} (G : Ghosts A) (S : SourceGhosts R) (K : SinkGhosts W)
       }
 
       -- or a beginning of it
-      pub begins_chunk : (sink' : W) → AppendsBeginning (K.taken sink) (K.taken sink') chunk → BeginsStream G S K automaton pieces first source' begun sink'
+      pub begins_chunk : (sink' : W) → AppendsBeginning (K.taken sink) (K.taken sink') chunk → BeginsReplacing S K IsOf pieces first source' begun sink'
       begins_chunk sink' (count, within, wrote) = record {
         given = given;
         ended = s'.ended;
@@ -256,17 +339,20 @@ module _ {A R W : Type 0} (G : Ghosts A) (S : SourceGhosts R) (K : SinkGhosts W)
     -- an error was answered
     module _ (error : StreamError) (is : answer ≡ Some (Err error)) (p₀ : Patterns) (of₀ : IsOf p₀) where
       tells_error : TellsError p₀ s s' given error
-      tells_error = subst (Tells p₀ s s' given) is (advance.tells p₀ going.given of₀ (going.after p₀ of₀))
+      tells_error = subst (AnswerTells p₀ s s' given) is (advance.tells p₀ going.given of₀ (going.after p₀ of₀))
 
       fault : TellsFault s s' given
       fault = fault_told p₀ s s' given error tells_error
+
+      pub error_fills : IsFillRefusal error
+      error_fills = fills_told p₀ s s' given error tells_error
 
       error_left : (p : Patterns) (of : IsOf p) (bytes : List ℕ) (ms : List Occurrence) (may : MayBe given s'.ended bytes) (finds : AreFinds p (plain_search bytes) None ms)
           → IsLeft p of bytes ms may finds s'.from s'.reported going.written
       error_left = still_left fault.still.from fault.still.reported
 
       -- a beginning was written
-      pub begins_still : BeginsStream G S K automaton pieces first source' begun sink
+      pub begins_still : BeginsReplacing S K IsOf pieces first source' begun sink
       begins_still = record {
         given = given;
         ended = s'.ended;
@@ -279,7 +365,7 @@ module _ {A R W : Type 0} (G : Ghosts A) (S : SourceGhosts R) (K : SinkGhosts W)
       }
 
       -- up to what was reported
-      pub up_to_still : ReplacesStreamUpTo G S K automaton pieces first source' begun sink
+      pub up_to_still : ReplacesStreamUpTo S K IsOf pieces first source' begun sink
       up_to_still =
           let now = now_after p₀ of₀ in
           record {
@@ -288,7 +374,7 @@ module _ {A R W : Type 0} (G : Ghosts A) (S : SourceGhosts R) (K : SinkGhosts W)
             gives = now_gives;
             place = s'.reported;
             within = omega (arith, now.reported_walked, now.walked_read, now.count);
-            near = omega (arith, fault.near, now.least);
+            near = λ p of. subst (λ (ns : List ℕ). length given ≤ s'.reported + kept_for ns) (are p of) (omega (arith, fault.near, now.least));
             writes = λ p bytes ms of may finds.
                 let clear = λ (m : Occurrence) (answer : IsAnswer p (search_from s'.from bytes) (Some m)).
                 (now_after p of).clear may.0 m may.2 (subst (λ (xs : List ℕ). IsAnswer p (search_from s'.from xs) (Some m)) may.1 answer) in
@@ -297,17 +383,21 @@ module _ {A R W : Type 0} (G : Ghosts A) (S : SourceGhosts R) (K : SinkGhosts W)
                 going.writes;
           }
 
-      -- at the limit as many bytes were given
+      -- at the limit the end was not seen
+      not_ended : is_limit {A = Unit {0}} (Err error) ≡ true → s'.ended ≡ false
+      not_ended met = ((now_after p₀ of₀).stopped (refused_told p₀ s s' given error tells_error met)).1
+
+      -- and as many bytes were given
       pub limit_met : is_limit {A = Unit {0}} (Err error) ≡ true → GaveAsMany S first source' s.limit
-      limit_met met = (given, now_gives.bytes, limit_told p₀ s s' given error tells_error met)
+      limit_met met = (given, subst (λ (b : Bool). SourceGave S first source' given b) (not_ended met) now_gives, limit_told p₀ s s' given error tells_error met)
 
     -- no more was answered
     module _ (is : answer ≡ None) (below : s.refused ≡ false) (p₀ : Patterns) (of₀ : IsOf p₀) where
       tells_end : (p : Patterns) → IsOf p → TellsEnd p s s' given
-      tells_end p of = subst (Tells p s s' given) is (advance.tells p going.given of (going.after p of))
+      tells_end p of = subst (AnswerTells p s s' given) is (advance.tells p going.given of (going.after p of))
 
       -- the whole was written
-      pub replaces_all : ReplacesStream G S K automaton pieces first source' begun sink
+      pub replaces_all : ReplacesStream S K IsOf pieces first source' begun sink
       replaces_all =
           let tells = tells_end p₀ of₀ in
           let over = all_told p₀ s s' given below tells in

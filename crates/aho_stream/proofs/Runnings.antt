@@ -21,8 +21,8 @@ use Rattle.aho_devices.specs.declared.device.Sink.{Ghosts as SinkGhosts}
 use Rattle.aho_devices.specs.declared.device.Source.{Ghosts as SourceGhosts}
 use Rattle.aho_automaton.proofs.Places.{length_part}
 use Rattle.aho_automaton.specs.declared.automaton.Automaton.{Ghosts}
-use Rattle.aho_stream.specs.After.{IsAfter, MayFollow, greatest_position, search_from}
-use Rattle.aho_stream.specs.Chunks.{Advances, Tells, TellsError, TellsFault, TellsMatch, TellsPlain, ends_between, tells_read_fault}
+use Rattle.aho_stream.specs.After.{IsAfter, MayFollow, greatest_position, kept_for, search_from}
+use Rattle.aho_stream.specs.Chunks.{Advances, AnswerTells, TellsError, TellsFault, TellsMatch, TellsPlain, ends_between, tells_read_fault}
 use Rattle.aho_stream.specs.Replacing.{MayBe, SourceGave}
 use Rattle.aho_stream.specs.StreamRun.{RunsOver}
 use Rattle.aho_stream.specs.declared.progress.StreamProgress.{StreamProgress}
@@ -31,19 +31,10 @@ use Rattle.aho_stream.specs.declared.progress.StreamPiece.TheVariants.{NonMatch,
 use Rattle.aho_stream.proofs.Found.{same_fault}
 use Rattle.aho_stream.proofs.GivenBytes.{part_stays}
 use Rattle.aho_stream.proofs.PatternLengths.{occurs_some}
-use Rattle.aho_stream.proofs.Replacings.{all_told, fault_told, gives_nothing, gives_on, less_left, limit_told, might_be}
+use Rattle.aho_stream.proofs.Replacings.{all_told, fault_told, fills_told, gives_nothing, gives_on, less_left, limit_told, might_be, refused_told}
 use Rattle.aho_stream.proofs.StreamRuns.{LeftRun, Took, left_run_first, left_run_match, left_run_plain, runs_to_end, runs_to_refusal, runs_to_stop, runs_up_to}
 
--- an error that is told is one that a fill can give
-fills_told : (p : Patterns) (s s' : StreamProgress) (given : List ℕ) (error : StreamError) → TellsError p s s' given error → IsFillRefusal error
-fills_told p s s' given (Refused cause) tells = absurd tells
-fills_told p s s' given (Read fault) tells = tt
-fills_told p s s' given (Write fault) tells = absurd tells
-fills_told p s s' given WriteZero tells = absurd tells
-fills_told p s s' given Memory tells = absurd tells
-fills_told p s s' given PositionLimit tells = tt
-
--- such an error is none of a write
+-- an error that a fill can give is none of a write
 no_write : (error : StreamError) → IsFillRefusal error → (is_write_fault {A = Unit {0}} (Err error) ≡ false) × (is_write_of_nothing {A = Unit {0}} (Err error) ≡ false)
 no_write (Refused cause) fills = absurd fills
 no_write (Read fault) fills = (refl, refl)
@@ -104,12 +95,12 @@ module _ {A R F W : Type 0} (G : Ghosts A) (S : SourceGhosts R) (K : SinkGhosts 
     now_gives : SourceGave S first source' given s'.ended
     now_gives = gives_on S first source source' running.given advance.reads.bytes s.ended s'.ended running.gives advance.reads.read counts stays
 
-    tells_of : (p : Patterns) → IsOf p → (told : Option (Result StreamPiece StreamError)) → answer ≡ told → Tells p s s' given told
-    tells_of p of told is = subst (Tells p s s' given) is (advance.tells p running.given of (running.after p of))
+    tells_of : (p : Patterns) → IsOf p → (told : Option (Result StreamPiece StreamError)) → answer ≡ told → AnswerTells p s s' given told
+    tells_of p of told is = subst (AnswerTells p s s' given) is (advance.tells p running.given of (running.after p of))
 
     -- the whole run ends so
     abbrev pub Over : Result (Unit {0}) StreamError → W → Type 0
-    Over result new = RunsOver G S K automaton calls first source' closure begun result new
+    Over result new = RunsOver S K IsOf calls first source' closure begun result new
 
     module _ (p : Patterns) (of : IsOf p) (bytes : List ℕ) (ms : List Occurrence) (may : MayBe given s'.ended bytes) (finds : AreFinds p (plain_search bytes) None ms) where
       abbrev WasLeft : Type 0
@@ -222,12 +213,12 @@ module _ {A R F W : Type 0} (G : Ghosts A) (S : SourceGhosts R) (K : SinkGhosts 
           gives = now_gives;
           whole = tt;
           read_failed = read_failed_of (Some (Err error)) is ∙ ap (λ (b : Bool). counted b (S.failures first)) (same_fault StreamPiece (Unit {0}) error);
-          limit = λ stopped met. limit_told p₀ s s' given error tells_error met ∙ greatest;
+          limit = λ stopped met. (limit_told p₀ s s' given error tells_error met ∙ greatest, ((now_after p₀ of₀).stopped (refused_told p₀ s s' given error tells_error met)).1);
           near = λ stopped.
               let a' = now_after p₀ of₀ in (
                 s.reported,
                 omega (arith, fault.still.reported, a'.reported_walked, a'.walked_read, a'.count),
-                omega (arith, fault.still.reported, fault.near, a'.least),
+                λ p of. subst (λ (ns : List ℕ). length given ≤ s.reported + kept_for ns) (are p of) (omega (arith, fault.still.reported, fault.near, a'.least)),
                 λ p bytes ms of may finds. (
                   now,
                   runs_up_to K calls closure begun p bytes ms lengths (are p of) (now_after p of).no_empty s.from s.reported ((running.after p of).from_reported) now sink

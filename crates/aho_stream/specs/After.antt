@@ -31,12 +31,12 @@ abbrev pub kept_for : List ℕ → ℕ
 kept_for lengths = max 1 (longest lengths)
 
 -- bytes end in these
-abbrev pub EndsIn : List ℕ → List ℕ → Type 0
-EndsIn bytes last = (gone : List ℕ) × (bytes ≡ gone ++ last)
+abbrev pub EndsWith : List ℕ → List ℕ → Type 0
+EndsWith bytes last = (gone : List ℕ) × (bytes ≡ gone ++ last)
 
 -- what is said of all that was given, by how much it was and by what the buffer holds
 abbrev pub ForGiven : StreamProgress → (List ℕ → Type 0) → Type 0
-ForGiven s says = (given : List ℕ) → length given ≡ s.read → EndsIn given s.buffer.bytes → says given
+ForGiven s says = (given : List ℕ) → length given ≡ s.read → EndsWith given s.buffer.bytes → says given
 
 -- what was walked since the search under way began
 abbrev pub word_of : StreamProgress → List ℕ → List ℕ
@@ -72,8 +72,8 @@ abbrev pub IsOutside : {S : Type 0} → Ghosts S → S → StreamProgress → �
 IsOutside A automaton s end = MatchBool (starts_over A automaton s) (end ≡ s.walked) (end ≡ s.walked - s.buffer.least)
 
 -- before the first byte
-abbrev pub fresh : Buffered → ℕ → ℕ → StreamProgress
-fresh buffer start limit = record {
+abbrev pub unbegun : Buffered → ℕ → ℕ → StreamProgress
+unbegun buffer start limit = record {
   buffer = buffer;
   read = 0;
   limit = limit;
@@ -146,7 +146,7 @@ pub record IsAfter {S : Type 0} (A : Ghosts S) (automaton : S) (p : Patterns) (l
   pub least : s.buffer.least ≡ kept_for (A.lengths automaton)
   pub size : s.buffer.size ≡ capacity_for (kept_for (A.lengths automaton))
   pub enough : min s.buffer.least s.read ≤ length s.buffer.bytes
-  pub last : EndsIn given s.buffer.bytes
+  pub last : EndsWith given s.buffer.bytes
   pub kept : s.read ≤ s.told + length s.buffer.bytes
   -- the order of the places
   pub told_reported : s.told ≤ s.reported
@@ -185,5 +185,5 @@ StaysAfter A automaton lookups s lookups' s' = (p : Patterns) (given : List ℕ)
     → IsAfter A automaton p lookups s given → IsAfter A automaton p lookups' s' given
 
 -- before the first byte, whatever patterns the automaton is of
-abbrev pub IsBegun : {S : Type 0} → Ghosts S → S → StreamProgress → Type 0
-IsBegun A automaton s = (p : Patterns) → A.is_of automaton p → IsAfter A automaton p 0 s []
+abbrev pub IsUnbegun : {S : Type 0} → Ghosts S → S → StreamProgress → Type 0
+IsUnbegun A automaton s = (p : Patterns) → A.is_of automaton p → IsAfter A automaton p 0 s []

@@ -92,10 +92,10 @@ TellsError p s s' given Memory = ⊥
 TellsError p s s' given PositionLimit = TellsLimit p s s' given
 
 -- what an answer tells of the bytes given, those of this call among them, by what was kept before and after the call
-abbrev pub Tells : Patterns → StreamProgress → StreamProgress → List ℕ → Option (Result StreamPiece StreamError) → Type 0
-Tells p s s' given None = TellsEnd p s s' given
-Tells p s s' given (Some (Ok piece)) = TellsChunk p s s' given piece
-Tells p s s' given (Some (Err error)) = TellsError p s s' given error
+abbrev pub AnswerTells : Patterns → StreamProgress → StreamProgress → List ℕ → Option (Result StreamPiece StreamError) → Type 0
+AnswerTells p s s' given None = TellsEnd p s s' given
+AnswerTells p s s' given (Some (Ok piece)) = TellsChunk p s s' given piece
+AnswerTells p s s' given (Some (Err error)) = TellsError p s s' given error
 
 -- whether the answer is a failed read
 abbrev pub tells_read_fault : {A : Type 0} → Option (Result A StreamError) → Bool
@@ -142,8 +142,8 @@ pub record EndsInFill (IsTold : List ℕ → Type 0) (s s' : StreamProgress) (by
   pub one_read : (s'.ended || failed) ≡ true → late ≡ []
 
 -- all that was settled had been told by then
-abbrev pub Fills : {S : Type 0} → Ghosts S → S → ℕ → StreamProgress → StreamProgress → List ℕ → Bool → Type 0
-Fills A automaton lookups s s' bytes failed =
+abbrev pub FillsOnceTold : {S : Type 0} → Ghosts S → S → ℕ → StreamProgress → StreamProgress → List ℕ → Bool → Type 0
+FillsOnceTold A automaton lookups s s' bytes failed =
     EndsInFill (λ early. (p : Patterns) (given : List ℕ) → A.is_of automaton p → IsAfter A automaton p lookups s given
     → AllTold A automaton p s (given ++ early)) s s' bytes failed
 
@@ -164,8 +164,8 @@ module _ {S : Type 0} (A : Ghosts S) (automaton : S) (lookups lookups' : ℕ) (s
   -- and the answer of the call tells what it should, as soon as it is settled
   pub record Advances (answer : Option (Result StreamPiece StreamError)) : Type 0 where
     pub reads : ReadsOn
-    pub tells : (p : Patterns) (given : List ℕ) → A.is_of automaton p → IsAfter A automaton p lookups s given → Tells p s s' (given ++ reads.bytes) answer
-    pub prompt : FillsNothing s s' reads.bytes (tells_error answer) ⊎ Fills A automaton lookups s s' reads.bytes (tells_error answer)
+    pub tells : (p : Patterns) (given : List ℕ) → A.is_of automaton p → IsAfter A automaton p lookups s given → AnswerTells p s s' (given ++ reads.bytes) answer
+    pub prompt : FillsNothing s s' reads.bytes (tells_error answer) ⊎ FillsOnceTold A automaton lookups s s' reads.bytes (tells_error answer)
 
 -- the next chunk of what was given, where there is one, is what it should be
 abbrev pub TellsNext : {S : Type 0} → Ghosts S → S → ℕ → StreamProgress → StreamProgress → Option StreamPiece → Type 0

@@ -1,5 +1,5 @@
 -- What each call of an iterator over the matches of a stream answers.
-use Rattle.std.specs.Prelude.{◌≡◌, ◌≢◌, ℕ, ◌+◌, ◌≤◌, ◌⊎◌, ◌||◌, Bool, true, false, List, ◌++◌, Option, Some, None, Result, Ok, Err, length}
+use Rattle.std.specs.Prelude.{◌≡◌, ◌≢◌, ℕ, ◌+◌, ◌≤◌, ◌⊎◌, Bool, true, false, List, ◌++◌, Option, Some, None, Result, Ok, Err, length}
 use Rattle.aho_core.specs.declared.error.stream.StreamError.{StreamError}
 use Rattle.aho_core.specs.declared.error.stream.StreamError.TheVariants.{Match as Refused, Read, Write, WriteZero, Memory, PositionLimit}
 use Rattle.aho_core.specs.Answer.{IsAnswer}
@@ -7,11 +7,10 @@ use Rattle.aho_core.specs.Occurrence.{Occurrence}
 use Rattle.aho_core.specs.Patterns.{Patterns}
 use Rattle.aho_core.specs.declared.search.MatchKind.TheVariants.{Standard}
 use Rattle.aho_stream.specs.After.{IsAfter, MayFollow, search_from}
-use Rattle.aho_devices.specs.Counts.{counted}
 use Rattle.aho_devices.specs.declared.device.Source.{Ghosts as SourceGhosts}
 use Rattle.aho_automaton.specs.declared.automaton.Automaton.{Ghosts}
-use Rattle.aho_stream.specs.Chunks.{DiesAt, EndsInFill, FillsNothing, NoneSettled, ReadsOn, ends_between, tells_error, tells_limit, tells_read_fault}
-use Rattle.aho_stream.specs.Iterators.{HasGiven, automaton_of, lookups_of}
+use Rattle.aho_stream.specs.Chunks.{DiesAt, EndsInFill, FillsNothing, NoneSettled, ReadsOn, tells_error}
+use Rattle.aho_stream.specs.Iterators.{HasGiven, StreamCall, automaton_of, lookups_of}
 use Rattle.aho_stream.specs.declared.chunks.StreamChunkIter.{StreamChunkIter}
 use Rattle.aho_stream.specs.declared.progress.StreamProgress.{StreamProgress}
 
@@ -64,19 +63,9 @@ FillsForMatch A automaton lookups s s' bytes failed =
     → NoneSettled p (given ++ early) s.from) s s' bytes failed
 
 -- a call of `next` reads some bytes, and its answer says what it should, as soon as it is settled
-pub record FindsNext {A R : Type 0} (G : Ghosts A) (S : SourceGhosts R) (it it' : StreamChunkIter A R) (found : Option (Result Occurrence StreamError)) : Type 0 where
+pub record FindsNextInStream {A R : Type 0} (G : Ghosts A) (S : SourceGhosts R) (it it' : StreamChunkIter A R) (found : Option (Result Occurrence StreamError)) : Type 0 where
   pub reads : ReadsOn G (automaton_of it) (lookups_of it) (lookups_of it') it.progress it'.progress (S.remaining it.source.now) (S.remaining it'.source.now)
   pub finds : (p : Patterns) (given : List ℕ) → G.is_of (automaton_of it) p → HasGiven G it p given → Finds p it.progress it'.progress (given ++ reads.bytes) found
   pub prompt : FillsNothing it.progress it'.progress reads.bytes (tells_error found)
       ⊎ FillsForMatch G (automaton_of it) (lookups_of it) it.progress it'.progress reads.bytes (tells_error found)
-  pub same : automaton_of it' ≡ automaton_of it
-  pub same_source : it'.source.ghost_name ≡ it.source.ghost_name
-  pub limit : it'.progress.limit ≡ it.progress.limit
-  -- the end is seen where a read is empty, and stays
-  pub ended : S.empty_reads it'.source.now ≡ counted (ends_between it.progress.ended it'.progress.ended) (S.empty_reads it.source.now)
-  pub stays_ended : it.progress.ended ≡ true → it'.progress.ended ≡ true
-  -- after the end, and after the limit was answered, there is none for good
-  pub after_end : it.progress.ended ≡ true → it.progress.read ≤ it.progress.reported → found ≡ None
-  pub after_limit : it.progress.refused ≡ true → found ≡ None
-  pub refused : it'.progress.refused ≡ (it.progress.refused || tells_limit found)
-  pub read_failed : S.failures it'.source.now ≡ counted (tells_read_fault found) (S.failures it.source.now)
+  pub call : StreamCall S it it' found

@@ -59,9 +59,20 @@ ForLastChunk G it says = (p : Patterns) (given : List ℕ) → G.is_of (automato
 abbrev pub most_walked : {A R : Type 0} → Ghosts A → StreamChunkIter A R → List ℕ → ℕ
 most_walked G it given = (1 + longest (G.lengths (automaton_of it))) * length given
 
--- the end was seen where a read was empty
-abbrev pub SeesEnd : {A R : Type 0} → SourceGhosts R → StreamChunkIter A R → StreamChunkIter A R → Type 0
-SeesEnd S it it' = S.empty_reads it'.source.now ≡ counted (ends_between it.progress.ended it'.progress.ended) (S.empty_reads it.source.now)
+-- a call of an iterator over a stream, whatever it tells: what stays, when the end is seen, and what comes after the end and after
+-- the limit
+pub record StreamCall {A R X : Type 0} (S : SourceGhosts R) (it it' : StreamChunkIter A R) (answer : Option (Result X StreamError)) : Type 0 where
+  pub same : automaton_of it' ≡ automaton_of it
+  pub same_source : it'.source.ghost_name ≡ it.source.ghost_name
+  pub limit : it'.progress.limit ≡ it.progress.limit
+  -- the end is seen where a read is empty, and stays
+  pub ended : S.empty_reads it'.source.now ≡ counted (ends_between it.progress.ended it'.progress.ended) (S.empty_reads it.source.now)
+  pub stays_ended : it.progress.ended ≡ true → it'.progress.ended ≡ true
+  -- after the end, and after the limit was answered, there is none for good
+  pub after_end : it.progress.ended ≡ true → it.progress.read ≤ it.progress.reported → answer ≡ None
+  pub after_limit : it.progress.refused ≡ true → answer ≡ None
+  pub refused : it'.progress.refused ≡ (it.progress.refused || tells_limit answer)
+  pub read_failed : S.failures it'.source.now ≡ counted (tells_read_fault answer) (S.failures it.source.now)
 
 -- the match that a chunk lends, where it has one, and its bytes
 abbrev pub chunk_lent : StreamChunk → Option Occurrence × List ℕ
@@ -86,14 +97,4 @@ pub record Lends {A R : Type 0} (G : Ghosts A) (S : SourceGhosts R) (it it' : St
   pub advances : Advanced G S it it' (told_lent answer)
   pub lent : (p : Patterns) (given : List ℕ) → G.is_of (automaton_of it) p → HasGiven G it p given
       → LendsThese answer (slice_range (given ++ advances.reads.bytes) it'.progress.told it'.progress.reported)
-  pub same : automaton_of it' ≡ automaton_of it
-  pub same_source : it'.source.ghost_name ≡ it.source.ghost_name
-  pub limit : it'.progress.limit ≡ it.progress.limit
-  -- the end is seen where a read is empty, and stays
-  pub ended : SeesEnd S it it'
-  pub stays_ended : it.progress.ended ≡ true → it'.progress.ended ≡ true
-  -- after the end, and after the limit was answered, there is none for good
-  pub after_end : it.progress.ended ≡ true → it.progress.read ≤ it.progress.reported → answer ≡ None
-  pub after_limit : it.progress.refused ≡ true → answer ≡ None
-  pub refused : it'.progress.refused ≡ (it.progress.refused || tells_limit (told_lent answer))
-  pub read_failed : S.failures it'.source.now ≡ counted (tells_read_fault (told_lent answer)) (S.failures it.source.now)
+  pub call : StreamCall S it it' (told_lent answer)

@@ -3,7 +3,7 @@ use Rattle.std.specs.Prelude.{◌≡◌, ℕ, ◌+◌, ◌≤◌, min, Bool, tru
 use Rattle.std.specs.Io.KnownBytes.{Consumes}
 use Rattle.aho_core.specs.declared.error.stream.StreamError.{StreamError}
 use Rattle.aho_core.specs.declared.error.stream.StreamError.TheVariants.{Match, Read, Write, WriteZero, Memory, PositionLimit}
-use Rattle.aho_stream.specs.After.{EndsIn}
+use Rattle.aho_stream.specs.After.{EndsWith}
 use Rattle.aho_stream.specs.declared.progress.StreamProgress.{StreamProgress}
 
 -- whether the answer is that the position limit was met
@@ -25,6 +25,6 @@ pub record Refills (s s' : StreamProgress) (before after : Option (List ℕ)) : 
   pub limited : s'.read ≤ s.limit
   pub least : s'.buffer.least ≡ s.buffer.least
   pub size : s'.buffer.size ≡ s.buffer.size
-  pub last : (given : List ℕ) → EndsIn given s.buffer.bytes → EndsIn (given ++ bytes) s'.buffer.bytes
+  pub last : (given : List ℕ) → EndsWith given s.buffer.bytes → EndsWith (given ++ bytes) s'.buffer.bytes
   -- the bytes stand behind the last ones that were held, all of them or as many as a roll keeps
   pub kept : length s'.buffer.bytes ≡ min s.buffer.least (length s.buffer.bytes) + length bytes

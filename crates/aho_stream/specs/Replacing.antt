@@ -1,5 +1,5 @@
 -- What the replacement of a stream writes.
-use Rattle.std.specs.Prelude.{◌≡◌, ℕ, ◌+◌, ◌≤◌, Bool, true, List, [], ◌∷◌, ◌++◌, None, Result, Ok, Err, IfErr, length, nat_lt, if◌then◌else◌, slice_index_or, slice_range}
+use Rattle.std.specs.Prelude.{◌≡◌, ℕ, ◌+◌, ◌≤◌, Bool, true, false, List, [], ◌∷◌, ◌++◌, None, Result, Ok, Err, IfErr, OnErr, OnOk, length, map, nat_lt, if◌then◌else◌, slice_index_or, slice_range}
 use Rattle.std.specs.Io.{StartsWith}
 use Rattle.std.specs.Io.KnownBytes.{Appends, Consumes}
 use Rattle.aho_core.specs.Laws.{shortest}
@@ -13,10 +13,11 @@ use Rattle.aho_core.specs.Patterns.{Patterns}
 use Rattle.aho_core.specs.Replacement.{replaced}
 use Rattle.aho_core.specs.Search.{plain_search}
 use Rattle.aho_devices.specs.Counts.{counted}
+use Rattle.aho_devices.specs.Refusals.{IsFillRefusal}
 use Rattle.aho_devices.specs.declared.device.Sink.{Ghosts as SinkGhosts}
 use Rattle.aho_devices.specs.declared.device.Source.{Ghosts as SourceGhosts}
-use Rattle.aho_automaton.specs.declared.automaton.Automaton.{Ghosts}
 use Rattle.aho_stream.specs.After.{MayFollow, kept_for}
+use Rattle.aho_stream.specs.Refills.{is_limit}
 use Rattle.aho_stream.specs.declared.progress.StreamPiece.{StreamPiece}
 use Rattle.aho_stream.specs.declared.progress.StreamPiece.TheVariants.{NonMatch, Match}
 
@@ -42,9 +43,9 @@ pub record SourceGave {R : Type 0} (S : SourceGhosts R) (source source' : R) (gi
   pub bytes : Consumes (S.remaining source) (S.remaining source') given
   pub end : S.empty_reads source' ≡ counted ended (S.empty_reads source)
 
--- it gave as many bytes
+-- it gave as many bytes, and its end was not seen
 abbrev pub GaveAsMany : {R : Type 0} → SourceGhosts R → R → R → ℕ → Type 0
-GaveAsMany S source source' count = (given : List ℕ) × Consumes (S.remaining source) (S.remaining source') given × (length given ≡ count)
+GaveAsMany S source source' count = (given : List ℕ) × SourceGave S source source' given false × (length given ≡ count)
 
 -- all bytes of a stream that has given some: any others may follow, and none once its end was seen
 abbrev pub MayBe : List ℕ → Bool → List ℕ → Type 0
@@ -75,23 +76,23 @@ IsStreamFault WriteZero = Unit {0}
 IsStreamFault Memory = ⊥
 IsStreamFault PositionLimit = Unit {0}
 
--- by this automaton, and with one piece for each of its patterns: from a source and a sink before a call to those after it
-module _ {A R W : Type 0} (G : Ghosts A) (S : SourceGhosts R) (K : SinkGhosts W) (automaton : A) (pieces : List (List ℕ)) (source source' : R) (sink sink' : W) where
+-- of the patterns that are searched for, with one piece for each of them: from a source and a sink before a call to those after it
+module _ {R W : Type 0} (S : SourceGhosts R) (K : SinkGhosts W) (AreSearched : Patterns → Type 0) (pieces : List (List ℕ)) (source source' : R) (sink sink' : W) where
   -- the stream has ended, and its replacement was written
   pub record ReplacesStream : Type 0 where
     pub given : List ℕ
     pub gives : SourceGave S source source' given true
-    pub writes : (p : Patterns) (ms : List Occurrence) → G.is_of automaton p → AreFinds p (plain_search given) None ms
+    pub writes : (p : Patterns) (ms : List Occurrence) → AreSearched p → AreFinds p (plain_search given) None ms
         → Appends (K.taken sink) (K.taken sink') (replaced given ms pieces)
 
   -- a beginning of the replacement was written, whatever bytes may follow
-  pub record BeginsStream : Type 0 where
+  pub record BeginsReplacing : Type 0 where
     pub given : List ℕ
     pub ended : Bool
     pub gives : SourceGave S source source' given ended
     pub written : List ℕ
     pub writes : Appends (K.taken sink) (K.taken sink') written
-    pub beginning : (p : Patterns) (bytes : List ℕ) (ms : List Occurrence) → G.is_of automaton p → MayBe given ended bytes → AreFinds p (plain_search bytes) None ms
+    pub beginning : (p : Patterns) (bytes : List ℕ) (ms : List Occurrence) → AreSearched p → MayBe given ended bytes → AreFinds p (plain_search bytes) None ms
         → StartsWith (replaced bytes ms pieces) written
 
   -- the replacement was written up to a place, whatever bytes may follow: at most as many bytes were left out as the longest
@@ -102,6 +103,14 @@ module _ {A R W : Type 0} (G : Ghosts A) (S : SourceGhosts R) (K : SinkGhosts W)
     pub gives : SourceGave S source source' given ended
     pub place : ℕ
     pub within : place ≤ length given
-    pub near : length given ≤ place + kept_for (G.lengths automaton)
-    pub writes : (p : Patterns) (bytes : List ℕ) (ms : List Occurrence) → G.is_of automaton p → MayBe given ended bytes → AreFinds p (plain_search bytes) None ms
+    pub near : (p : Patterns) → AreSearched p → length given ≤ place + kept_for (map length p.words)
+    pub writes : (p : Patterns) (bytes : List ℕ) (ms : List Occurrence) → AreSearched p → MayBe given ended bytes → AreFinds p (plain_search bytes) None ms
         → Appends (K.taken sink) (K.taken sink') (replaced_up_to bytes place 0 ms (piece_for pieces))
+
+  -- what a replacement leaves that answers so, of a source that may give so many bytes: all of it was written, or a beginning,
+  -- and all but the last bytes where a read failed or the limit was met
+  pub record LeavesReplaced (most : ℕ) (result : Result (Unit {0}) StreamError) : Type 0 where
+    pub replaced : OnOk result ReplacesStream
+    pub begun : OnErr result BeginsReplacing
+    pub near : IfErr result (λ error. IsFillRefusal error → ReplacesStreamUpTo)
+    pub limit : is_limit result ≡ true → GaveAsMany S source source' most

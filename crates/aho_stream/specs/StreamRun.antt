@@ -1,5 +1,5 @@
 -- What the replacement of a stream by a closure does.
-use Rattle.std.specs.Prelude.{◌≡◌, ℕ, ◌+◌, ◌≤◌, ◌&&◌, Bool, true, List, [], ◌∷◌, take, nat_lt, if◌then◌else◌, None, Result, Ok, Err, IfErr, MatchBool, OnErr, OnOk, length}
+use Rattle.std.specs.Prelude.{◌≡◌, ℕ, ◌+◌, ◌≤◌, ◌&&◌, Bool, true, false, List, [], ◌∷◌, take, nat_lt, if◌then◌else◌, None, Result, Ok, Err, IfErr, MatchBool, OnErr, OnOk, length, map}
 use Rattle.std.specs.Borrow.{Bor, MutBor}
 use Rattle.std.specs.Fn.{Mut}
 use Rattle.std.specs.Io.KnownBytes.{Appends}
@@ -40,10 +40,10 @@ pub record SinkTakes {W : Type 0} (K : SinkGhosts W) (stopped : Bool) (old : W) 
   pub took_nothing : K.empty_writes new ≡ counted (is_write_of_nothing result) (K.empty_writes old)
   pub only : IfErr result (λ reason. MatchBool stopped (IsFillRefusal reason) (IsWriteRefusal reason))
 
--- a replacement of a stream by this automaton, with this closure and to this sink, may end so: it is a run over the bytes given
--- and any that may follow, where a refusal ends the run. At most as many of the given bytes are left out where the reading
--- stopped as the longest pattern has
-pub record RunsOver {A R W F : Type 0} (G : Ghosts A) (S : SourceGhosts R) (K : SinkGhosts W) (automaton : A)
+-- a replacement of a stream of the patterns that are searched for, with this closure and to this sink, may end so: it is a run over
+-- the bytes given and any that may follow, where a refusal ends the run. At most as many of the given bytes are left out where the
+-- reading stopped as the longest pattern has
+pub record RunsOver {R W F : Type 0} (S : SourceGhosts R) (K : SinkGhosts W) (AreSearched : Patterns → Type 0)
     (calls : Mut F (Bor Occurrence × (Bor (List ℕ) × (MutBor W × Unit {0}))) (Result (Unit {0}) StreamError × (MutBor W × Unit {0})))
     (source source' : R) (closure : F) (sink : W) (result : Result (Unit {0}) StreamError) (sink' : W) : Type 0 where
   pub given : List ℕ
@@ -53,12 +53,13 @@ pub record RunsOver {A R W F : Type 0} (G : Ghosts A) (S : SourceGhosts R) (K : 
   pub gives : SourceGave S source source' given ended
   pub whole : OnOk result (ended ≡ true)
   pub read_failed : S.failures source' ≡ counted (stopped && is_read_fault result) (S.failures source)
-  pub limit : stopped ≡ true → is_limit result ≡ true → length given ≡ greatest_position
-  pub run : (p : Patterns) (bytes : List ℕ) (ms : List Occurrence) → G.is_of automaton p → MayBe given ended bytes → AreFinds p (plain_search bytes) None ms
+  pub limit : stopped ≡ true → is_limit result ≡ true → (length given ≡ greatest_position) × (ended ≡ false)
+  pub run : (p : Patterns) (bytes : List ℕ) (ms : List Occurrence) → AreSearched p → MayBe given ended bytes → AreFinds p (plain_search bytes) None ms
       → (last : F) × ClosureRun (SinkTakes K stopped) (CallsOn calls) bytes 0 ms closure sink result last sink'
   -- where the reading stopped, the run over the bytes up to a place has come to its good end
-  pub near : stopped ≡ true → (place : ℕ) × (place ≤ length given) × (length given ≤ place + kept_for (G.lengths automaton))
-      × ((p : Patterns) (bytes : List ℕ) (ms : List Occurrence) → G.is_of automaton p → MayBe given ended bytes → AreFinds p (plain_search bytes) None ms
+  pub near : stopped ≡ true → (place : ℕ) × (place ≤ length given)
+      × ((p : Patterns) → AreSearched p → length given ≤ place + kept_for (map length p.words))
+      × ((p : Patterns) (bytes : List ℕ) (ms : List Occurrence) → AreSearched p → MayBe given ended bytes → AreFinds p (plain_search bytes) None ms
       → (last : F) × ClosureRun (SinkTakes K stopped) (CallsOn calls) (take place bytes) 0 (starting_before place ms) closure sink (Ok tt) last sink')
 
 -- a stream can be searched by this automaton: it has no empty pattern, and searches that are not anchored

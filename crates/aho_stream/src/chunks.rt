@@ -1,6 +1,6 @@
 //! The chunks of a stream, one after another: matches, and the bytes between them.
 
-ghost use Rattle.std.specs.Prelude.{◌≡◌, ◌+◌, ◌*◌, ◌≤◌, ◌||◌, min, ℕ, List, [], Option, Some, None, Ok, IfOk, IfErr, OnErr, MatchResult, length, slice_range, true, false};
+ghost use Rattle.std.specs.Prelude.{◌≡◌, ◌+◌, ◌*◌, ◌≤◌, min, ℕ, List, [], Option, Some, None, Ok, IfOk, IfErr, OnErr, length, slice_range, true, false};
 ghost use Rattle.std.specs.Borrow.{sem};
 ghost use Rattle.std.specs.Io.BufRead.{Rests};
 ghost use Rattle.std.specs.Io.KnownBytes.{Keeps};
@@ -10,8 +10,7 @@ ghost use Rattle.aho_core.specs.declared.search.MatchKind.TheVariants.{Standard}
 ghost use Rattle.aho_devices.specs.Counts.{counted};
 ghost use Rattle.aho_devices.specs.Refusals.{is_write_fault, is_write_of_nothing, IsWriteRefusal};
 ghost use Rattle.aho_stream.specs.After.{greatest_position};
-ghost use Rattle.aho_stream.specs.Chunks.{tells_limit, tells_read_fault};
-ghost use Rattle.aho_stream.specs.Iterators.{Advanced, CanGoOn, ReadsAhead, ForLastChunk, HasGiven, HasNotBegun, Lends, SeesEnd, automaton_of, chunk_lent, lookups_of, most_walked};
+ghost use Rattle.aho_stream.specs.Iterators.{Advanced, CanGoOn, ForLastChunk, HasGiven, HasNotBegun, Lends, ReadsAhead, StreamCall, automaton_of, chunk_lent, lookups_of, most_walked};
 ghost use Rattle.aho_stream.specs.Replacing.{Refuses};
 ghost use Rattle.aho_stream.specs.contracts.chunks.StreamChunkIter.{the_row};
 ghost use mir.Syntax.{named};
@@ -91,7 +90,7 @@ impl<'a, 'r, A: Automaton, R: Source> StreamChunkIter<'a, 'r, A, R> {
     }
 
     /// The chunks of what the source gives, of which it may give `limit` bytes; a greater limit than 2^63 - 1 counts as
-    /// that. It is `StreamStart::with_limit` and `over` in one call, so it takes all its memory here and reads nothing.
+    /// that: `StreamStart::with_limit` and `over` in one call.
     ///
     /// # Errors
     ///
@@ -158,20 +157,7 @@ impl<'a, 'r, A: Automaton, R: Source> StreamChunkIter<'a, 'r, A, R> {
     pub fn advance(&mut self) -> Option<Result<StreamPiece, StreamError>>
         requires after { CanGoOn A.Automaton self.old }
         ensures advances { Advanced A.Automaton R.Source self.old self.new result }
-        ensures same { automaton_of self.new ≡ automaton_of self.old }
-        ensures limit { self.new.progress.limit ≡ self.old.progress.limit }
-        ensures ended { SeesEnd R.Source self.old self.new }
-        ensures same_source { self.new.source.ghost_name ≡ self.old.source.ghost_name }
-        ensures stays_ended { self.old.progress.ended ≡ true → self.new.progress.ended ≡ true }
-
-        // After the end, and after the limit was answered, there is none for good.
-        ensures after_end { self.old.progress.ended ≡ true
-            → self.old.progress.read ≤ self.old.progress.reported → result ≡ None }
-        ensures after_limit { self.old.progress.refused ≡ true → result ≡ None }
-        ensures refused { self.new.progress.refused
-            ≡ (self.old.progress.refused || tells_limit result) }
-        ensures read_failed { R.failures self.new.source.now
-            ≡ counted (tells_read_fault result) (R.failures self.old.source.now) }
+        ensures call { StreamCall R.Source self.old self.new result }
     {
         match self.advance_flushing(&mut Nowhere) {
             Ok(answer) => answer,
@@ -192,20 +178,13 @@ impl<'a, 'r, A: Automaton, R: Source> StreamChunkIter<'a, 'r, A, R> {
         requires after { CanGoOn A.Automaton self.old }
         ensures advances { IfOk result (Advanced A.Automaton R.Source self.old self.new) }
         ensures reads { OnErr result (ReadsAhead A.Automaton R.Source self.old self.new) }
-        ensures same { automaton_of self.new ≡ automaton_of self.old }
-        ensures limit { self.new.progress.limit ≡ self.old.progress.limit }
-        ensures ended { SeesEnd R.Source self.old self.new }
-        ensures same_source { self.new.source.ghost_name ≡ self.old.source.ghost_name }
-        ensures stays_ended { self.old.progress.ended ≡ true → self.new.progress.ended ≡ true }
+        ensures call { IfOk result (StreamCall R.Source self.old self.new) }
+
+        // A flush that fails ends the call, which told nothing.
+        ensures fails { OnErr result (StreamCall {X = StreamPiece} R.Source self.old self.new None) }
         ensures after_end { self.old.progress.ended ≡ true
             → self.old.progress.read ≤ self.old.progress.reported → result ≡ Ok None }
         ensures after_limit { self.old.progress.refused ≡ true → result ≡ Ok None }
-        ensures refused { IfOk result (λ answer. self.new.progress.refused
-            ≡ (self.old.progress.refused || tells_limit answer)) }
-        ensures read_failed { MatchResult result
-            (λ answer. R.failures self.new.source.now
-            ≡ counted (tells_read_fault answer) (R.failures self.old.source.now))
-            (λ _. R.failures self.new.source.now ≡ R.failures self.old.source.now) }
 
         // The sink is flushed, and nothing else.
         ensures kept { Keeps (W.taken sink.old) (W.taken sink.new) }

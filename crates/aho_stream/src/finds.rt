@@ -6,11 +6,12 @@ ghost use Rattle.aho_core.specs.Patterns.{Patterns};
 ghost use Rattle.aho_core.specs.declared.search.Anchored.TheVariants.{No};
 ghost use Rattle.aho_stream.specs.After.{greatest_position};
 ghost use Rattle.aho_stream.specs.FindRuns.{FindsAlong, RunFindsAll, RunFindsFirst};
-ghost use Rattle.aho_stream.specs.Finds.{FindsNext};
+ghost use Rattle.aho_stream.specs.Finds.{FindsNextInStream};
 ghost use Rattle.aho_stream.specs.Iterators.{CanGoOn, HasNotBegun, automaton_of};
 ghost use Rattle.aho_stream.specs.Replacing.{Refuses};
 
 use crate::chunks::StreamChunkIter;
+use crate::start::StreamStart;
 use aho_automaton::automaton::Automaton;
 use aho_core::error::StreamError;
 use aho_core::search::Match;
@@ -26,9 +27,7 @@ pub struct StreamFindIter<'a, 'r, A, R> {
     chunks: StreamChunkIter<'a, 'r, A, R>,
 }
 
-/// The matches of what the source gives, of which it may give 2^63 - 1 bytes.
-///
-/// It takes all its memory here, and reads nothing.
+/// The matches of what the source gives, of which it may give 2^63 - 1 bytes: `StreamStart::new` and `finds` in one call.
 ///
 /// # Errors
 ///
@@ -61,12 +60,17 @@ pub fn try_stream_find_iter<'a, 'r, A: Automaton, R: Source>(
     ensures along { (p : Patterns) → A.is_of automaton.entry.now p → IfOk result (λ it.
         FindsAlong R.Source ⟦<StreamFindIter<'a, 'r, A, R> as Iterator>⟧.next_gives p it) }
 {
-    Ok(StreamFindIter {
-        chunks: StreamChunkIter::new(alloc, automaton, source)?,
-    })
+    Ok(StreamStart::new(alloc, automaton)?.finds(source))
 }
 
 impl<'a, 'r, A: Automaton, R: Source> StreamFindIter<'a, 'r, A, R> {
+    /// The matches among these chunks.
+    pub(crate) fn over(chunks: StreamChunkIter<'a, 'r, A, R>) -> StreamFindIter<'a, 'r, A, R>
+        ensures chunks { result.chunks ≡ chunks.entry }
+    {
+        StreamFindIter { chunks }
+    }
+
     /// Ends the search, and gives back the source. Bytes that were read and not searched through are lost.
     pub fn into_source(self) -> &'r mut R
         ensures same { result ≡ self.entry.chunks.source }
@@ -81,7 +85,7 @@ impl<'a, 'r, A: Automaton, R: Source> Iterator for StreamFindIter<'a, 'r, A, R> 
     ghost can_next = { λ it. CanGoOn A.Automaton it.chunks };
 
     ghost next_gives = { λ it found rest.
-        FindsNext A.Automaton R.Source it.chunks rest.chunks found };
+        FindsNextInStream A.Automaton R.Source it.chunks rest.chunks found };
 
     fn next(&mut self) -> Option<Result<Match, StreamError>> {
         loop {

@@ -4,7 +4,7 @@ ghost use Rattle.std.specs.Prelude.{◌≡◌, ◌+◌, ◌<◌, ◌≤◌, ◌^
 ghost use Rattle.aho_devices.specs.Counts.{counted};
 ghost use Rattle.aho_devices.specs.Buffer.{saw_end};
 ghost use Rattle.aho_devices.specs.Refusals.{is_read_fault, IsFillRefusal};
-ghost use Rattle.aho_stream.specs.After.{EndsIn, ForGiven, fresh, given_on, passed_on, reported_to};
+ghost use Rattle.aho_stream.specs.After.{EndsWith, ForGiven, unbegun, given_on, passed_on, reported_to};
 ghost use Rattle.aho_stream.specs.Chunks.{match_told};
 ghost use Rattle.aho_stream.specs.Refills.{Refills, is_limit};
 ghost use Rattle.aho_stream.specs.declared.progress.StreamPiece.TheVariants.{NonMatch};
@@ -77,7 +77,7 @@ pub struct StreamProgress {
 impl StreamProgress {
     /// Nothing was given yet.
     pub(crate) fn new(buffer: Buffer, start: StateID, limit: u64) -> StreamProgress
-        ensures made { result ≡ fresh buffer start limit }
+        ensures made { result ≡ unbegun buffer start limit }
     {
         StreamProgress {
             buffer,
@@ -214,7 +214,7 @@ fn is_position_limit(error: &StreamError) -> bool
 /// Lets go of all but the last bytes of a buffer, where it holds more than it has to keep.
 fn make_room(buffer: &mut Buffer)
     ensures free { length buffer.new.bytes < buffer.new.size }
-    ensures last { (given : List ℕ) → EndsIn given buffer.old.bytes → EndsIn given buffer.new.bytes }
+    ensures last { (given : List ℕ) → EndsWith given buffer.old.bytes → EndsWith given buffer.new.bytes }
     ensures kept { length buffer.new.bytes ≡ min buffer.old.least (length buffer.old.bytes) }
     ensures least { buffer.new.least ≡ buffer.old.least }
     ensures size { buffer.new.size ≡ buffer.old.size }

@@ -1,6 +1,6 @@
 //! Replacement in streams.
 
-ghost use Rattle.std.specs.Prelude.{◌⊎◌, ◌≡◌, ◌≢◌, ◌≤◌, ℕ, Ok, Err, IfErr, OnErr, OnOk, false, length, true};
+ghost use Rattle.std.specs.Prelude.{◌⊎◌, ◌≡◌, ◌≢◌, ◌≤◌, ℕ, Ok, Err, IfErr, false, length};
 ghost use Rattle.aho_core.specs.Laws.{shortest};
 ghost use Rattle.aho_core.specs.Patterns.{Patterns};
 ghost use Rattle.aho_core.specs.Replacement.{pieces_of};
@@ -8,14 +8,12 @@ ghost use Rattle.aho_core.specs.declared.error.MatchErrorKind.{MatchErrorKind};
 ghost use Rattle.aho_core.specs.declared.error.MatchErrorKind.TheVariants.{UnsupportedEmpty};
 ghost use Rattle.aho_core.specs.declared.search.Anchored.TheVariants.{No};
 ghost use Rattle.aho_devices.specs.Buffer.{capacity_for};
-ghost use Rattle.aho_devices.specs.Counts.{counted};
-ghost use Rattle.aho_devices.specs.Refusals.{IsFillRefusal, is_read_fault, is_write_fault, is_write_of_nothing};
+ghost use Rattle.aho_devices.specs.Errors.{CountsErrors};
 ghost use Rattle.aho_stream.specs.After.{greatest_position, kept_for};
 ghost use Rattle.aho_stream.specs.Iterators.{HasNotBegun, automaton_of};
-ghost use Rattle.aho_stream.specs.Refills.{is_limit};
 ghost use Rattle.aho_stream.specs.Starts.{IsFreshStart};
 ghost use Rattle.aho_stream.specs.StreamRun.{CanBegin, RefusesUntouched, RunsOver};
-ghost use Rattle.aho_stream.specs.Replacing.{GaveAsMany, IsMakingRefusal, IsStreamFault, BeginsStream, ReplacesStream, ReplacesStreamUpTo, chunk_bytes};
+ghost use Rattle.aho_stream.specs.Replacing.{IsMakingRefusal, IsStreamFault, LeavesReplaced, chunk_bytes};
 
 use crate::chunks::StreamChunkIter;
 use crate::progress::StreamPiece;
@@ -51,25 +49,12 @@ fn replace_chunks<'a, 'r, A: Automaton, R: Source, W: Sink>(
     requires open { chunks.old.progress.ended ≡ false }
     requires below { chunks.old.progress.refused ≡ false }
     ensures same_source { chunks.new.source.ghost_name ≡ chunks.old.source.ghost_name }
-    ensures replaced { OnOk result (ReplacesStream A.Automaton R.Source W.Sink
-        (automaton_of chunks.old) (pieces_of replace_with.now)
-        chunks.old.source.now chunks.new.source.now sink.old sink.new) }
-    ensures begun { OnErr result (BeginsStream A.Automaton R.Source W.Sink
-        (automaton_of chunks.old) (pieces_of replace_with.now)
-        chunks.old.source.now chunks.new.source.now sink.old sink.new) }
-    ensures near { IfErr result (λ error. IsFillRefusal error →
-        ReplacesStreamUpTo A.Automaton R.Source W.Sink
-        (automaton_of chunks.old) (pieces_of replace_with.now)
-        chunks.old.source.now chunks.new.source.now sink.old sink.new) }
-    ensures limit { is_limit result ≡ true →
-        GaveAsMany R.Source chunks.old.source.now chunks.new.source.now
-        chunks.old.progress.limit }
-    ensures read_failed { R.failures chunks.new.source.now
-        ≡ counted (is_read_fault result) (R.failures chunks.old.source.now) }
-    ensures write_failed { W.failures sink.new
-        ≡ counted (is_write_fault result) (W.failures sink.old) }
-    ensures took_nothing { W.empty_writes sink.new
-        ≡ counted (is_write_of_nothing result) (W.empty_writes sink.old) }
+    ensures leaves { LeavesReplaced R.Source W.Sink
+        (A.is_of (automaton_of chunks.old)) (pieces_of replace_with.now)
+        chunks.old.source.now chunks.new.source.now sink.old sink.new
+        chunks.old.progress.limit result }
+    ensures errors { CountsErrors R.Source W.Sink
+        chunks.old.source.now chunks.new.source.now sink.old sink.new result }
     ensures only { IfErr result IsStreamFault }
 {
     while let Some(answer) = chunks.advance_flushing(sink)? {
@@ -83,8 +68,8 @@ fn replace_chunks<'a, 'r, A: Automaton, R: Source, W: Sink>(
 /// Writes what the source gives to the sink, with the bytes for its pattern in the place of each match.
 ///
 /// There is one replacement for each pattern. It ends where the source's end is seen. The matches are those that
-/// replacement in memory of the same bytes finds, whatever the pieces in which they are read. It takes no memory: all
-/// that it has is the buffer of the start, which it fills again and again.
+/// replacement in memory of the same bytes finds, whatever the pieces in which they are read. It keeps no memory but
+/// the buffer of the start, which it fills again and again.
 ///
 /// # Errors
 ///
@@ -103,24 +88,11 @@ pub fn replace_stream<'a, A: Automaton, R: Source, W: Sink>(
     requires open { start.progress.ended ≡ false }
     requires below { start.progress.refused ≡ false }
     requires one_each { length replace_with.now ≡ length (A.lengths start.automaton.now) }
-    ensures replaced { OnOk result (ReplacesStream A.Automaton R.Source W.Sink
-        start.entry.automaton.now (pieces_of replace_with.now)
-        source.old source.new sink.old sink.new) }
-    ensures begun { OnErr result (BeginsStream A.Automaton R.Source W.Sink
-        start.entry.automaton.now (pieces_of replace_with.now)
-        source.old source.new sink.old sink.new) }
-    ensures near { IfErr result (λ error. IsFillRefusal error →
-        ReplacesStreamUpTo A.Automaton R.Source W.Sink
-        start.entry.automaton.now (pieces_of replace_with.now)
-        source.old source.new sink.old sink.new) }
-    ensures limit { is_limit result ≡ true →
-        GaveAsMany R.Source source.old source.new start.entry.progress.limit }
-    ensures read_failed { R.failures source.new
-        ≡ counted (is_read_fault result) (R.failures source.old) }
-    ensures write_failed { W.failures sink.new
-        ≡ counted (is_write_fault result) (W.failures sink.old) }
-    ensures took_nothing { W.empty_writes sink.new
-        ≡ counted (is_write_of_nothing result) (W.empty_writes sink.old) }
+    ensures leaves { LeavesReplaced R.Source W.Sink
+        (A.is_of start.entry.automaton.now) (pieces_of replace_with.now)
+        source.old source.new sink.old sink.new start.entry.progress.limit result }
+    ensures errors { CountsErrors R.Source W.Sink
+        source.old source.new sink.old sink.new result }
     ensures only { IfErr result IsStreamFault }
     ensures fixed { start.entry.progress.buffer.size
         ≡ capacity_for (kept_for (A.lengths start.entry.automaton.now)) }
@@ -131,8 +103,8 @@ pub fn replace_stream<'a, A: Automaton, R: Source, W: Sink>(
     replaced
 }
 
-/// Writes what the source gives to the sink, with the bytes for its pattern in the place of each match: it takes all its
-/// memory, and then it is `replace_stream`. The source may give 2^63 - 1 bytes.
+/// Writes what the source gives to the sink, with the bytes for its pattern in the place of each match: `StreamStart::new`
+/// and `replace_stream` in one call. The source may give 2^63 - 1 bytes.
 ///
 /// # Errors
 ///
@@ -146,21 +118,11 @@ pub fn try_stream_replace_all<A: Automaton, R: Source, W: Sink>(
 ) -> Result<(), StreamError>
     requires of { (p : Patterns) × A.is_of automaton.now p }
     requires one_each { length replace_with.now ≡ length (A.lengths automaton.now) }
-    ensures replaced { OnOk result (ReplacesStream A.Automaton R.Source W.Sink
-        automaton.now (pieces_of replace_with.now) source.old source.new sink.old sink.new) }
-    ensures begun { OnErr result (BeginsStream A.Automaton R.Source W.Sink
-        automaton.now (pieces_of replace_with.now) source.old source.new sink.old sink.new) }
-    ensures near { IfErr result (λ error. IsFillRefusal error →
-        ReplacesStreamUpTo A.Automaton R.Source W.Sink
-        automaton.now (pieces_of replace_with.now) source.old source.new sink.old sink.new) }
-    ensures limit { is_limit result ≡ true →
-        GaveAsMany R.Source source.old source.new greatest_position }
-    ensures read_failed { R.failures source.new
-        ≡ counted (is_read_fault result) (R.failures source.old) }
-    ensures write_failed { W.failures sink.new
-        ≡ counted (is_write_fault result) (W.failures sink.old) }
-    ensures took_nothing { W.empty_writes sink.new
-        ≡ counted (is_write_of_nothing result) (W.empty_writes sink.old) }
+    ensures leaves { LeavesReplaced R.Source W.Sink
+        (A.is_of automaton.now) (pieces_of replace_with.now)
+        source.old source.new sink.old sink.new greatest_position result }
+    ensures errors { CountsErrors R.Source W.Sink
+        source.old source.new sink.old sink.new result }
     ensures untouched { IfErr result (λ error. IsMakingRefusal error →
         (source.new ≡ source.old) × (sink.new ≡ sink.old)) }
     ensures empty { shortest (A.lengths automaton.now) ≡ 0
@@ -190,7 +152,7 @@ where
     requires limit { chunks.old.progress.limit ≡ greatest_position }
     requires callable { F.IsAlwaysCallable replace_with }
     ensures same_source { chunks.new.source.ghost_name ≡ chunks.old.source.ghost_name }
-    ensures runs { RunsOver A.Automaton R.Source W.Sink (automaton_of chunks.old) F.FnMut
+    ensures runs { RunsOver R.Source W.Sink (A.is_of (automaton_of chunks.old)) F.FnMut
         chunks.old.source.now chunks.new.source.now replace_with sink.old result sink.new }
 {
     while let Some(answer) = chunks.advance() {
@@ -206,7 +168,7 @@ where
 /// the sink.
 ///
 /// It ends where the source's end is seen. The matches are those that replacement in memory of the same bytes finds,
-/// whatever the pieces in which they are read. It takes all its memory before it reads.
+/// whatever the pieces in which they are read.
 ///
 /// # Errors
 ///
@@ -229,7 +191,7 @@ where
     requires callable { F.IsAlwaysCallable replace_with }
     ensures runs { CanBegin A.Automaton automaton.now
         → RefusesUntouched result StreamError.Memory source.old source.new sink.old sink.new
-        ⊎ RunsOver A.Automaton R.Source W.Sink automaton.now F.FnMut
+        ⊎ RunsOver R.Source W.Sink (A.is_of automaton.now) F.FnMut
         source.old source.new replace_with sink.old result sink.new }
     ensures empty { shortest (A.lengths automaton.now) ≡ 0
         → RefusesUntouched result (StreamError.Match UnsupportedEmpty)

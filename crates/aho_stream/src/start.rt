@@ -1,15 +1,19 @@
-//! How a search of a stream begins: all its memory is taken, and nothing is read.
+//! How a search of a stream begins: with the memory that it keeps, and then over a source.
 
+ghost use Rattle.std.specs.Iterator.Runs.{EachRunFrom};
 ghost use Rattle.std.specs.Prelude.{◌≡◌, ◌≤◌, min, ℕ, List, [], Ok, Err, IfOk, IfErr, false};
 ghost use Rattle.aho_core.specs.Laws.{shortest};
 ghost use Rattle.aho_core.specs.Patterns.{Patterns};
 ghost use Rattle.aho_core.specs.declared.error.MatchErrorKind.TheVariants.{UnsupportedEmpty};
 ghost use Rattle.aho_core.specs.declared.search.Anchored.TheVariants.{No};
-ghost use Rattle.aho_stream.specs.After.{IsBegun, greatest_position};
-ghost use Rattle.aho_stream.specs.Iterators.{automaton_of, lookups_of};
+ghost use Rattle.aho_stream.specs.After.{IsUnbegun, greatest_position};
+ghost use Rattle.aho_stream.specs.FindRuns.{FindsAlong, RunFindsAll, RunFindsFirst};
+ghost use Rattle.aho_stream.specs.Iterators.{HasNotBegun, automaton_of, lookups_of};
 ghost use Rattle.aho_stream.specs.Replacing.{IsMakingRefusal, Refuses};
+ghost use Rattle.aho_stream.specs.Starts.{IsFreshStart};
 
 use crate::chunks::StreamChunkIter;
+use crate::finds::StreamFindIter;
 use crate::progress::StreamProgress;
 use aho_automaton::automaton::Automaton;
 use aho_core::error::{MatchError, StreamError};
@@ -21,7 +25,7 @@ use std::alloc::Global;
 /// The most bytes that a stream may give: 2^63 - 1.
 pub(crate) const MAX_POSITION: u64 = 9_223_372_036_854_775_807;
 
-/// A search of a stream that has not begun. It has all the memory that it will take, and no source yet.
+/// A search of a stream that has not begun. It has all the memory that it will keep, and no source yet.
 #[derive(Drop)]
 pub struct StreamStart<'a, A> {
     automaton: &'a A,
@@ -41,7 +45,7 @@ impl<'a, A: Automaton> StreamStart<'a, A> {
             × (start.progress.refused ≡ false)) }
         ensures of { IfOk result (λ start. start.automaton.now ≡ automaton.entry.now) }
         ensures after { IfOk result (λ start.
-            IsBegun A.Automaton automaton.entry.now start.progress) }
+            IsUnbegun A.Automaton automaton.entry.now start.progress) }
         ensures refuses { Refuses (A.lengths automaton.entry.now)
             (A.start automaton.entry.now No) result }
         ensures only { IfErr result IsMakingRefusal }
@@ -51,8 +55,8 @@ impl<'a, A: Automaton> StreamStart<'a, A> {
 
     /// A search of a stream that may give `limit` bytes; a greater limit than 2^63 - 1 counts as that.
     ///
-    /// It takes all its memory here: a buffer of 8 times as many bytes as the longest pattern has, and of 65536 at least.
-    /// Nothing is read, since there is no source yet.
+    /// What it keeps of memory is taken here: a buffer of 8 times as many bytes as the longest pattern has, and of 65536 at
+    /// least. Nothing is read, since there is no source yet.
     ///
     /// # Errors
     ///
@@ -69,7 +73,7 @@ impl<'a, A: Automaton> StreamStart<'a, A> {
             × (start.progress.refused ≡ false)) }
         ensures of { IfOk result (λ start. start.automaton.now ≡ automaton.entry.now) }
         ensures after { IfOk result (λ start.
-            IsBegun A.Automaton automaton.entry.now start.progress) }
+            IsUnbegun A.Automaton automaton.entry.now start.progress) }
         ensures refuses { Refuses (A.lengths automaton.entry.now)
             (A.start automaton.entry.now No) result }
         ensures only { IfErr result IsMakingRefusal }
@@ -81,7 +85,8 @@ impl<'a, A: Automaton> StreamStart<'a, A> {
         })
     }
 
-    /// The chunks of what this source gives. It takes no memory, reads nothing, and cannot fail.
+    /// The chunks of what this source gives. It reads nothing and cannot fail: all that could be refused was refused before
+    /// there was a source.
     pub fn over<'r, R: Source>(self, source: &'r mut R) -> StreamChunkIter<'a, 'r, A, R>
         ensures progress { result.progress ≡ self.entry.progress }
         ensures of { (result.source ≡ source.entry)
@@ -89,6 +94,30 @@ impl<'a, A: Automaton> StreamStart<'a, A> {
         ensures none { lookups_of result ≡ 0 }
     {
         StreamChunkIter::over(self.automaton, source, self.progress)
+    }
+
+    /// The matches of what this source gives. It reads nothing and cannot fail: all that could be refused was refused before
+    /// there was a source.
+    pub fn finds<'r, R: Source>(self, source: &'r mut R) -> StreamFindIter<'a, 'r, A, R>
+        requires some { (p : Patterns) × A.is_of self.automaton.now p }
+        requires fresh { IsFreshStart A.Automaton self }
+        requires open { self.progress.ended ≡ false }
+        requires below { self.progress.refused ≡ false }
+        ensures progress { result.chunks.progress ≡ self.entry.progress }
+        ensures of { (result.chunks.source ≡ source.entry)
+            × (automaton_of result.chunks ≡ self.entry.automaton.now) }
+        ensures after { HasNotBegun A.Automaton result.chunks }
+        ensures ready { ⟦<StreamFindIter<'a, 'r, A, R> as Iterator>⟧.can_next result }
+        ensures first { (p : Patterns) → A.is_of self.entry.automaton.now p →
+            EachRunFrom ⟦<StreamFindIter<'a, 'r, A, R> as Iterator>⟧.next_gives result
+            (RunFindsFirst R.Source p source.entry.now) }
+        ensures finds { (p : Patterns) → A.is_of self.entry.automaton.now p →
+            EachRunFrom ⟦<StreamFindIter<'a, 'r, A, R> as Iterator>⟧.next_gives result
+            (RunFindsAll R.Source p source.entry.now) }
+        ensures along { (p : Patterns) → A.is_of self.entry.automaton.now p →
+            FindsAlong R.Source ⟦<StreamFindIter<'a, 'r, A, R> as Iterator>⟧.next_gives p result }
+    {
+        StreamFindIter::over(self.over(source))
     }
 }
 
@@ -110,7 +139,7 @@ fn check<A: Automaton>(automaton: &A) -> Result<StateID, MatchError>
     automaton.start_state(Anchored::No)
 }
 
-/// How far a search of a stream has come before it begins. It takes all memory of the search.
+/// How far a search of a stream has come before it begins, with the memory that the search keeps.
 ///
 /// # Errors
 ///
@@ -123,7 +152,7 @@ pub(crate) fn begin<A: Automaton>(
     requires of { (p : Patterns) × A.is_of automaton.now p }
     ensures made { IfOk result (λ s. s.limit ≡ min limit greatest_position) }
     ensures begun { IfOk result (λ s. (s.ended ≡ false) × (s.refused ≡ false)) }
-    ensures after { IfOk result (IsBegun A.Automaton automaton.now) }
+    ensures after { IfOk result (IsUnbegun A.Automaton automaton.now) }
     ensures refuses { Refuses (A.lengths automaton.now) (A.start automaton.now No) result }
     ensures only { IfErr result IsMakingRefusal }
 {

@@ -17,7 +17,7 @@ ghost use Rattle.aho_build.specs.Items.{patterns_of};
 ghost use Rattle.aho_build.specs.Settings.{default_settings};
 ghost use Rattle.aho_prefilter.specs.Candidate.{NoneStartsBefore, NothingOccurs};
 ghost use Rattle.aho_prefilter.specs.Prefilter.{IsPrefilterOf};
-ghost use Rattle.aho_automaton.specs.Finding.{AreFirstFinds, places};
+ghost use Rattle.aho_automaton.specs.Finding.{AreFirstFinds, span_places};
 ghost use Rattle.bench.specs.Callers.{both_cases, without_help};
 
 use aho_automaton::automaton::{Automaton, Counted, WithPrefilter, find_in};
@@ -117,7 +117,7 @@ pub fn find_before(nfa: &NFA, input: Input<'_>, end: usize) -> Option<Match>
 
 /// At how many places of an input's span a match may end: at none where the input is done.
 pub fn places_in(input: &Input) -> usize
-    ensures places { result ≡ places input.now }
+    ensures places { result ≡ span_places input.now }
 {
     if input.is_done() {
         return 0;

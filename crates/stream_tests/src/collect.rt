@@ -5,7 +5,7 @@ ghost use Rattle.aho_core.specs.Iteration.{AreFinds};
 ghost use Rattle.aho_core.specs.Patterns.{Patterns};
 ghost use Rattle.aho_core.specs.Search.{plain_search};
 ghost use Rattle.aho_stream.specs.FindRuns.{FindsAlong};
-ghost use Rattle.aho_stream.specs.Finds.{FindsNext};
+ghost use Rattle.aho_stream.specs.Finds.{FindsNextInStream};
 ghost use Rattle.aho_stream.specs.Iterators.{automaton_of};
 ghost use Rattle.aho_stream.specs.Replacing.{SourceGave};
 
@@ -71,7 +71,7 @@ fn next_of<'a, 'r, A: Automaton, R: Source>(
     found: &mut StreamFindIter<'a, 'r, A, R>,
 ) -> Option<Result<Match, StreamError>>
     requires ready { ⟦<StreamFindIter<'a, 'r, A, R> as Iterator>⟧.can_next found.old }
-    ensures gives { FindsNext A.Automaton R.Source found.old.chunks found.new.chunks result }
+    ensures gives { FindsNextInStream A.Automaton R.Source found.old.chunks found.new.chunks result }
 {
     found.next()
 }

@@ -95,11 +95,11 @@ fn gives_way(other: &Option<Prefilter>) -> bool
 }
 
 /// Whether a search stops at a byte that words are made of.
-fn stops_in_words(searcher: &Searcher) -> bool
+pub(crate) fn stops_in_words(searcher: &Searcher) -> bool
     ensures stops { result ≡ stops_in_words searcher.now }
 {
     match searcher {
-        Searcher::Memmem(_) | Searcher::Packed(_) => false,
+        Searcher::Memmem(_) | Searcher::Packed(_) | Searcher::Strided(_) => false,
         Searcher::Memchr(x) => is_word_byte(*x),
         Searcher::Memchr2(x, y) => is_word_byte(*x) || is_word_byte(*y),
         Searcher::Memchr3(x, y, z) => is_word_byte(*x) || is_word_byte(*y) || is_word_byte(*z),

@@ -15,12 +15,12 @@ pub returns-then-is_some-clause-found : goal.returns-then-is_some-clause-found
 returns-then-is_some-clause-found g c p of =
     let laws = g.met.W.Of.Automaton.laws (g.W.Walk.of c.args.walk.now) p of in
     answer_found laws _ _ _ _ c.args.span.start _ _ _ (cc (c.stops_at_first-stops.ensures.first, c.if-stops.true)) (search rules) (omega arith) (omega arith) (omega arith) (not_before p _ _ _)
-    (stands_at_start laws _ _ _ _ _ (c.requires.begins p of) c.told_at-best.ensures.told)
+    (stands_at_start laws _ _ _ _ _ (c.requires.begins.held p of) c.told_at-best.ensures.told)
 
 -- before the first byte
 begun : (g : Over) (c : Joined-else-stops g) (p : Patterns) → g.W.Of.Automaton.is_of (g.W.Walk.of c.args.walk.now) p
     → Standing p (g.W.Of.Automaton.held (g.W.Walk.of c.args.walk.now) p) c.args.anchored (g.T.Text.bytes c.args.text.now) c.args.span.start c.args.span.start c.args.sid c.told_at-best.result
-begun g c p of = stands_at_start (g.met.W.Of.Automaton.laws _ p of) _ _ _ _ _ (c.requires.begins p of) c.told_at-best.ensures.told
+begun g c p of = stands_at_start (g.met.W.Of.Automaton.laws _ p of) _ _ _ _ _ (c.requires.begins.held p of) c.told_at-best.ensures.told
 
 pub loop-at-init : goal.loop-at-init
 loop-at-init g c = record {
@@ -28,11 +28,11 @@ loop-at-init g c = record {
   same_text = refl;
   unread = c.requires.unread;
   forward = omega arith;
-  paid = omega (arith, c.requires.shallow);
+  paid = omega (arith, c.requires.begins.shallow);
   once = omega arith;
   reads_grow = omega arith;
   grows = omega arith;
-  valid = c.requires.valid;
+  valid = c.requires.begins.valid;
   quiet = λ stops. elim c.else-stops.branch [ else-stops-via-then-stops+else-is_some w ↦ is_none _ w.if-is_some.ensures | else-stops-via-else-stops w ↦ cc (c.stops_at_first-stops.ensures.first, w.if-stops.false, stops) ];
   near = λ unanchored leftmost m e. near_at_start (g.met.W.Of.Automaton.laws _ _ c.requires.of.1) _ _ _ _ _ m (omega arith) (begun g c _ c.requires.of.1) e;
   anchored_near = λ is_anchored. omega arith;

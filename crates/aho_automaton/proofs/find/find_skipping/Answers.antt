@@ -38,16 +38,16 @@ skips-preserved g c =
     let waits = c.in-Waits.ensures.waits_within in
     let goes = rw (c.skips.invariant.same_walk, c.skips.invariant.same_text) at c.in-Waits.ensures.waits_for in
     record {
-      same_walk = c.find_from.ensures.same_walk ∙ c.skips.invariant.same_walk;
-      same_text = c.find_from.ensures.same_text ∙ c.skips.invariant.same_text;
+      same_walk = c.find_from.ensures.untouched.same_walk ∙ c.skips.invariant.same_walk;
+      same_text = c.find_from.ensures.untouched.same_text ∙ c.skips.invariant.same_text;
       after_start = omega (arith, waits.0, c.skips.invariant.after_start);
       before_end = omega (arith, waits.1);
       unread = omega (arith, waits.2);
-      forward = omega (arith, c.find_from.ensures.forward, c.skips.invariant.forward);
-      paid = omega (arith, c.find_from.ensures.two_a_byte, c.skips.invariant.paid, c.skips.invariant.reads_grow, c.find_from.ensures.reads_grow);
-      once = omega (arith, c.find_from.ensures.once, c.skips.invariant.once, c.skips.invariant.unread, c.skips.invariant.after_start, c.find_from.ensures.forward, waits.2, waits.0);
-      reads_grow = omega (arith, c.skips.invariant.reads_grow, c.find_from.ensures.reads_grow);
-      grows = omega (arith, c.find_from.ensures.grows, c.skips.invariant.grows);
+      forward = omega (arith, c.find_from.ensures.reads.forward, c.skips.invariant.forward);
+      paid = omega (arith, c.find_from.ensures.costs.two_a_byte, c.skips.invariant.paid, c.skips.invariant.reads_grow, c.find_from.ensures.costs.reads_grow);
+      once = omega (arith, c.find_from.ensures.costs.once, c.skips.invariant.once, c.skips.invariant.unread, c.skips.invariant.after_start, c.find_from.ensures.reads.forward, waits.2, waits.0);
+      reads_grow = omega (arith, c.skips.invariant.reads_grow, c.find_from.ensures.costs.reads_grow);
+      grows = omega (arith, c.find_from.ensures.costs.grows, c.skips.invariant.grows);
       carries = λ p of. carried_on p bytes c.args.span.start c.in-Some.origin c.args.span.end c.in-Waits.place (omega (arith, c.skips.invariant.after_start)) (told p of).2 (goes p of);
     }
 

@@ -1,4 +1,4 @@
-use Rattle.std.proofs.Common.{◌≡◌, ◌+◌, ◌∙◌, ℕ, List, [], ◌∷◌, ◌++◌, length, arith, ap, subst, sym}
+use Rattle.std.proofs.Common.{◌≡◌, ◌+◌, ◌∙◌, ℕ, List, [], ◌∷◌, ◌++◌, inl, inr, length, arith, ap, subst, sym}
 use Rattle.std.proofs.lemmas.List.{length_push, nil_from_length}
 use Rattle.aho_build.specs.declared.special.Special.{Special}
 use Rattle.aho_table.specs.Alphabet.{class_count}
@@ -6,14 +6,15 @@ use Rattle.aho_table.specs.Table.{matches_in, state_at}
 use Rattle.std.proofs.lemmas.Bool.{cond-false}
 use Rattle.std.specs.List.{sum_by}
 use Rattle.aho_hybrid.proofs.Sizes.{lists-grow, lists-more, moves-more}
-use Rattle.aho_hybrid.specs.Filled.{HasEntries, IsPlaced, Parts, is_deep, list_words, moves_words, parts_of, row_in, source_in, source_of, transition_words}
+use Rattle.aho_hybrid.specs.Filled.{HasEntries, IsPlaced, Parts, first_low, is_deep, list_words, moves_words, parts_of, row_in, source_in, source_of, transition_words}
 use Rattle.aho_hybrid.proofs.Filling.{records-passed, row-added}
+use Rattle.aho_hybrid.proofs.Lows.{low-more, records-low-kept, rows-low-more}
 use Rattle.aho_hybrid.proofs.fill.add_row.Goals as goal
 
 pub push_list-requires-clause-room : goal.push_list-requires-clause-room
 push_list-requires-clause-room c =
     let nfa = c.args.nfa.now in
-    let plan : Parts = parts_of nfa c.args.plan.now.firsts c.args.plan.now.numbers.items c.args.plan.now.row_depth in
+    let plan : Parts = parts_of nfa c.args.plan.now.firsts c.args.plan.now.numbers.items c.args.plan.now.row_depth c.args.plan.now.skips in
     let index = c.args.index in
     let source : c.source_of-sid.result ≡ source_of plan index = c.source_of-sid.ensures.source ∙ ap (λ (s : Special). source_in s index) c.special.ensures.special in
     omega
@@ -22,7 +23,7 @@ push_list-requires-clause-room c =
 pub returns-clause-filled : goal.returns-clause-filled
 returns-clause-filled c =
     let nfa = c.args.nfa.now in
-    let plan : Parts = parts_of nfa c.args.plan.now.firsts c.args.plan.now.numbers.items c.args.plan.now.row_depth in
+    let plan : Parts = parts_of nfa c.args.plan.now.firsts c.args.plan.now.numbers.items c.args.plan.now.row_depth c.args.plan.now.skips in
     let index = c.args.index in
     let old = c.args.filled.now in
     let mid = c.push_entries.new.entries.items in
@@ -49,6 +50,19 @@ returns-clause-filled c =
       records = records-passed plan index old.deep.items old.moves.items old.lists.items old.deep_low c.requires.filled.records c.push_list.new.lists.items placed.more
           c.requires.within c.requires.shallow placed.grown;
       special = omega (arith, c.max-filled.ensures);
+      lows = record {
+        first = omega (arith, c.max-filled.ensures, c.requires.filled.lows.first);
+        low = low-more (first_low plan) old.low old.list_low c.max-filled.result c.low_with-filled.result c.max-filled.ensures c.low_with-filled.ensures.higher c.requires.filled.lows.low;
+        list_low = rows-low-more plan index old.list_low c.low_with-filled.result c.requires.shallow c.requires.filled.lows.list_low
+            (elim c.low_with-filled.ensures.no_higher [
+              | inl same ↦ inl same
+              | inr more ↦ inr (
+                omega (arith, more.0, c.match_len.ensures.len, ap (λ (n : ℕ). length (matches_in plan.states n)) source),
+                omega (arith, more.1, end, c.len.ensures, c.push.new.list.ok.0),
+              )
+            ]);
+        deep_low = records-low-kept plan index old.deep_low c.requires.filled.lows.deep_low;
+      };
       lists_sized = omega (arith, grown, c.requires.filled.lists_sized, lists-more plan.special plan.states index);
       moves_sized = omega (arith, c.requires.filled.moves_sized, moves-more plan.special plan.states plan.row_depth index, words);
     }

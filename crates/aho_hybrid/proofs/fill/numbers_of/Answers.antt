@@ -3,7 +3,7 @@ use Rattle.std.specs.Prelude.{if◌then◌else◌}
 use Rattle.std.proofs.lemmas.Bool.{cases_Bool}
 use Rattle.aho_corasick.specs.ReadOut.{classes_of, states_of}
 use Rattle.aho_table.specs.Table.{state_at}
-use Rattle.aho_hybrid.specs.Filled.{AreNumbers, is_deep, number_of, record_at, row_at, rows_size}
+use Rattle.aho_hybrid.specs.Filled.{AreStateNumbers, is_deep, number_of, record_place, row_at, row_entries}
 use Rattle.aho_hybrid.specs.Layout.{record_size, stride_of}
 use Rattle.aho_hybrid.proofs.Counting.{deep-first, deep-more, row-more, rows-first}
 use Rattle.aho_hybrid.proofs.Numbering.{number-added, number-small, numbers-none, places-small}
@@ -15,7 +15,7 @@ loop-index-init c =
     let classes = classes_of c.args.nfa.now in
     let nothing : 0 * stride_of classes ≡ 0 = omega arith in
     record {
-      numbers = subst (AreNumbers c.args.row_depth states classes 0) (sym c.new-numbers.ensures.items) (numbers-none c.args.row_depth states classes);
+      numbers = subst (AreStateNumbers c.args.row_depth states classes 0) (sym c.new-numbers.ensures.items) (numbers-none c.args.row_depth states classes);
       row = sym (ap (λ (n : ℕ). n * stride_of classes) (rows-first c.args.row_depth states) ∙ nothing);
       deep = omega (arith, ap (λ (n : ℕ). n * record_size) (deep-first c.args.row_depth states));
     }
@@ -41,8 +41,8 @@ new_unchecked-number-requires c =
     let is : c.either.result ≡ number_of c.args.row_depth states classes index =
     c.either.ensures.either
     ∙ ap (λ (b : Bool). if b then c.loop-index.record else c.loop-index.row) c.is_deep-deep.ensures.deep
-    ∙ ap (λ (n : ℕ). if is_deep c.args.row_depth (state_at states index) then n else c.loop-index.row) (c.loop-index.invariant.deep ∙ ap (λ (n : ℕ). n + record_at c.args.row_depth states index) c.requires.dense)
-    ∙ ap (λ (n : ℕ). if is_deep c.args.row_depth (state_at states index) then rows_size c.args.row_depth states classes + record_at c.args.row_depth states index else n) c.loop-index.invariant.row in
+    ∙ ap (λ (n : ℕ). if is_deep c.args.row_depth (state_at states index) then n else c.loop-index.row) (c.loop-index.invariant.deep ∙ ap (λ (n : ℕ). n + record_place c.args.row_depth states index) c.requires.dense)
+    ∙ ap (λ (n : ℕ). if is_deep c.args.row_depth (state_at states index) then row_entries c.args.row_depth states classes + record_place c.args.row_depth states index else n) c.loop-index.invariant.row in
     record { within = omega (arith, is, number-small c.args.row_depth states classes index below c.requires.small) }
 
 pub loop-index-preserved : goal.loop-index-preserved
@@ -56,8 +56,8 @@ loop-index-preserved c =
     c.new_unchecked-number.ensures.value
     ∙ c.either.ensures.either
     ∙ ap (λ (b : Bool). if b then c.loop-index.record else c.loop-index.row) c.is_deep-deep.ensures.deep
-    ∙ ap (λ (n : ℕ). if is_deep depth (state_at states index) then n else c.loop-index.row) (c.loop-index.invariant.deep ∙ ap (λ (n : ℕ). n + record_at depth states index) c.requires.dense)
-    ∙ ap (λ (n : ℕ). if is_deep depth (state_at states index) then rows_size depth states classes + record_at depth states index else n) c.loop-index.invariant.row in
+    ∙ ap (λ (n : ℕ). if is_deep depth (state_at states index) then n else c.loop-index.row) (c.loop-index.invariant.deep ∙ ap (λ (n : ℕ). n + record_place depth states index) c.requires.dense)
+    ∙ ap (λ (n : ℕ). if is_deep depth (state_at states index) then row_entries depth states classes + record_place depth states index else n) c.loop-index.invariant.row in
     let numbers = number-added depth states classes index c.new_unchecked-number.result c.loop-index.numbers.items c.push.new.list.items c.loop-index.invariant.numbers is c.in_ok-push.ensures.pushed in
     elim (cases_Bool (is_deep depth (state_at states index))) [
       | inl deep ↦

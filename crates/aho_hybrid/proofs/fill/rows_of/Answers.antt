@@ -3,11 +3,12 @@ use Rattle.aho_build.proofs.StoppedBuilds.{IfErr-given}
 use Rattle.aho_build.specs.declared.special.Special.{Special}
 use Rattle.aho_corasick.specs.ReadOut.{classes_of, special_of}
 use Rattle.aho_table.specs.Alphabet.{class_count}
-use Rattle.aho_hybrid.specs.Filled.{AreFirst, IsPlan, IsRefused, Parts, number_at, number_in, parts_of}
+use Rattle.aho_hybrid.specs.Filled.{AreFirstBytes, IsPlan, IsRowsRefusal, Parts, number_or_zero, number_in, parts_of}
 use Rattle.aho_hybrid.specs.Layout.{IsSoundLayout, Layout, stride_of}
 use Rattle.aho_hybrid.specs.Reading.{IsLayoutOf}
 use Rattle.aho_hybrid.proofs.Made.{deep-size, dense, same-layout, sound-layout}
-use Rattle.aho_hybrid.proofs.Meant.{layout-of}
+use Rattle.aho_hybrid.proofs.Meant.{layout-of, marked-in, rows-down_to}
+use Rattle.aho_hybrid.specs.Made.{AreMarkedIn, HasRowsDownTo}
 use Rattle.aho_hybrid.proofs.Sizes.{memory-wanted}
 use Rattle.aho_hybrid.proofs.fill.rows_of.Goals as goal
 
@@ -16,7 +17,7 @@ returns-clause-sound c =
     let nfa = c.args.nfa.now in
     let filled = c.in_ok-filled.filled in
     let stride : c.alphabet_len-stride.result + 1 ≡ stride_of (classes_of nfa) = ap (λ (n : ℕ). n + 1) (c.alphabet_len-stride.ensures.len ∙ ap class_count c.byte_classes.ensures.classes) in
-    let plan : Parts = parts_of nfa c.first_bytes.result c.in_ok-numbers_of.field-0.items c.row_depth-row_depth.result in
+    let plan : Parts = parts_of nfa c.first_bytes.result c.in_ok-numbers_of.field-0.items c.row_depth-row_depth.result c.args.skips in
     let planned : IsPlan plan (c.alphabet_len-stride.result + 1) = record {
       stride_is = stride;
       bounded = omega (arith, c.alphabet_len-stride.ensures.bound);
@@ -24,8 +25,8 @@ returns-clause-sound c =
       numbered = c.in_ok-numbers_of.ensures.numbers;
     } in
     let start : c.new_unchecked.result ≡ number_in plan (special_of nfa).start_unanchored_id =
-    c.new_unchecked.ensures.value ∙ c.as_usize.ensures.value ∙ c.number_at-start.ensures.number
-    ∙ ap (λ (l : List ℕ). number_at l c.special.result.now.start_unanchored_id) c.deref.ensures.value
+    c.new_unchecked.ensures.value ∙ c.as_usize.ensures.value ∙ c.number_or_zero-start.ensures.number
+    ∙ ap (λ (l : List ℕ). number_or_zero l c.special.result.now.start_unanchored_id) c.deref.ensures.value
     ∙ ap (λ (s : Special). number_in plan s.start_unanchored_id) c.special.ensures.special in
     let done = c.in_ok-filled.ensures.filled in
     let fits = c.in_ok-dense.ensures.fits in
@@ -45,7 +46,7 @@ returns-clause-of c p is =
     let nfa = c.args.nfa.now in
     let filled = c.in_ok-filled.filled in
     let stride : c.alphabet_len-stride.result + 1 ≡ stride_of (classes_of nfa) = ap (λ (n : ℕ). n + 1) (c.alphabet_len-stride.ensures.len ∙ ap class_count c.byte_classes.ensures.classes) in
-    let plan : Parts = parts_of nfa c.first_bytes.result c.in_ok-numbers_of.field-0.items c.row_depth-row_depth.result in
+    let plan : Parts = parts_of nfa c.first_bytes.result c.in_ok-numbers_of.field-0.items c.row_depth-row_depth.result c.args.skips in
     let planned : IsPlan plan (c.alphabet_len-stride.result + 1) = record {
       stride_is = stride;
       bounded = omega (arith, c.alphabet_len-stride.ensures.bound);
@@ -53,14 +54,14 @@ returns-clause-of c p is =
       numbered = c.in_ok-numbers_of.ensures.numbers;
     } in
     let start : c.new_unchecked.result ≡ number_in plan (special_of nfa).start_unanchored_id =
-    c.new_unchecked.ensures.value ∙ c.as_usize.ensures.value ∙ c.number_at-start.ensures.number
-    ∙ ap (λ (l : List ℕ). number_at l c.special.result.now.start_unanchored_id) c.deref.ensures.value
+    c.new_unchecked.ensures.value ∙ c.as_usize.ensures.value ∙ c.number_or_zero-start.ensures.number
+    ∙ ap (λ (l : List ℕ). number_or_zero l c.special.result.now.start_unanchored_id) c.deref.ensures.value
     ∙ ap (λ (s : Special). number_in plan s.start_unanchored_id) c.special.ensures.special in
     let done = c.in_ok-filled.ensures.filled in
     let fits = c.in_ok-dense.ensures.fits in
     let are = c.special.ensures.starts in
     let sound = nfa.sound in
-    let first : AreFirst (classes_of nfa) c.first_bytes.result = subst (λ (cs : List Bool). AreFirst cs c.first_bytes.result) c.byte_classes-2.ensures.classes c.first_bytes.ensures.first in
+    let first : AreFirstBytes (classes_of nfa) c.first_bytes.result = subst (λ (cs : List Bool). AreFirstBytes cs c.first_bytes.result) c.byte_classes-2.ensures.classes c.first_bytes.ensures.first in
     let soundly =
     sound-layout plan (c.alphabet_len-stride.result + 1) planned filled done are sound
     (omega
@@ -73,33 +74,85 @@ returns-clause-of c p is =
     (layout-of plan (c.alphabet_len-stride.result + 1) planned filled done are sound soundly first p is.0.names is.0.automaton is.2
     nfa.match_kind nfa.pattern_lens.items is.0.kind_is is.0.lengths_are)
 
-pub returns-clause-sized : goal.returns-clause-sized
-returns-clause-sized c =
+pub returns-clause-laid_out : goal.returns-clause-laid_out
+returns-clause-laid_out c =
     let nfa = c.args.nfa.now in
     let filled = c.in_ok-filled.filled in
     let stride : c.alphabet_len-stride.result + 1 ≡ stride_of (classes_of nfa) = ap (λ (n : ℕ). n + 1) (c.alphabet_len-stride.ensures.len ∙ ap class_count c.byte_classes.ensures.classes) in
-    let plan : Parts = parts_of nfa c.first_bytes.result c.in_ok-numbers_of.field-0.items c.row_depth-row_depth.result in
+    let plan : Parts = parts_of nfa c.first_bytes.result c.in_ok-numbers_of.field-0.items c.row_depth-row_depth.result c.args.skips in
     let planned : IsPlan plan (c.alphabet_len-stride.result + 1) = record {
       stride_is = stride;
       bounded = omega (arith, c.alphabet_len-stride.ensures.bound);
       sized = c.first_bytes.ensures.first.sized;
       numbered = c.in_ok-numbers_of.ensures.numbers;
     } in
-    let done = c.in_ok-filled.ensures.filled in (
-      c.row_depth-row_depth.result,
-      c.row_depth-row_depth.ensures.depth,
-      c.in_ok-dense.ensures.fits,
-      record {
-        rows = dense plan (c.alphabet_len-stride.result + 1) planned filled done c.special.ensures.starts nfa.sound;
-        deep = deep-size plan (c.alphabet_len-stride.result + 1) planned filled done c.special.ensures.starts nfa.sound;
+    let done = c.in_ok-filled.ensures.filled in
+    let are = c.special.ensures.starts in
+    let sound = nfa.sound in
+    let start : c.new_unchecked.result ≡ number_in plan (special_of nfa).start_unanchored_id =
+    c.new_unchecked.ensures.value ∙ c.as_usize.ensures.value ∙ c.number_or_zero-start.ensures.number
+    ∙ ap (λ (l : List ℕ). number_or_zero l c.special.result.now.start_unanchored_id) c.deref.ensures.value
+    ∙ ap (λ (s : Special). number_in plan s.start_unanchored_id) c.special.ensures.special in
+    let fits = c.in_ok-dense.ensures.fits in
+    let first : AreFirstBytes (classes_of nfa) c.first_bytes.result = subst (λ (cs : List Bool). AreFirstBytes cs c.first_bytes.result) c.byte_classes-2.ensures.classes c.first_bytes.ensures.first in
+    let soundly =
+    sound-layout plan (c.alphabet_len-stride.result + 1) planned filled done are sound
+    (omega
+    (arith, dense plan (c.alphabet_len-stride.result + 1) planned filled done are sound, deep-size plan (c.alphabet_len-stride.result + 1) planned filled done are sound, fits.states))
+    (omega (arith, done.lists_sized, fits.lists))
+    (omega (arith, done.moves_sized, fits.moves)) in
+    record {
+      row_depth = c.row_depth-row_depth.result;
+      greatest = c.row_depth-row_depth.ensures.depth;
+      fits = fits;
+      sized = record {
+        rows = dense plan (c.alphabet_len-stride.result + 1) planned filled done are sound;
+        deep = deep-size plan (c.alphabet_len-stride.result + 1) planned filled done are sound;
         moves = done.moves_sized;
         lists = done.lists_sized;
-      },
-    )
+      };
+      rows = λ p is.
+          subst (HasRowsDownTo p c.row_depth-row_depth.result)
+          (same-layout filled.entries.items filled.deep.items filled.moves.items filled.lists.items (classes_of nfa) c.copy.result _ c.new_unchecked.result filled.low filled.list_low filled.deep_low
+          (sym (c.copy.ensures.same ∙ c.byte_classes-3.ensures.classes)) (sym start))
+          (rows-down_to plan (c.alphabet_len-stride.result + 1) planned filled done are sound soundly first p is.0.names is.0.automaton is.2);
+    }
+
+pub returns-clause-marked : goal.returns-clause-marked
+returns-clause-marked c p is =
+    let nfa = c.args.nfa.now in
+    let filled = c.in_ok-filled.filled in
+    let stride : c.alphabet_len-stride.result + 1 ≡ stride_of (classes_of nfa) = ap (λ (n : ℕ). n + 1) (c.alphabet_len-stride.ensures.len ∙ ap class_count c.byte_classes.ensures.classes) in
+    let plan : Parts = parts_of nfa c.first_bytes.result c.in_ok-numbers_of.field-0.items c.row_depth-row_depth.result c.args.skips in
+    let planned : IsPlan plan (c.alphabet_len-stride.result + 1) = record {
+      stride_is = stride;
+      bounded = omega (arith, c.alphabet_len-stride.ensures.bound);
+      sized = c.first_bytes.ensures.first.sized;
+      numbered = c.in_ok-numbers_of.ensures.numbers;
+    } in
+    let start : c.new_unchecked.result ≡ number_in plan (special_of nfa).start_unanchored_id =
+    c.new_unchecked.ensures.value ∙ c.as_usize.ensures.value ∙ c.number_or_zero-start.ensures.number
+    ∙ ap (λ (l : List ℕ). number_or_zero l c.special.result.now.start_unanchored_id) c.deref.ensures.value
+    ∙ ap (λ (s : Special). number_in plan s.start_unanchored_id) c.special.ensures.special in
+    let done = c.in_ok-filled.ensures.filled in
+    let fits = c.in_ok-dense.ensures.fits in
+    let are = c.special.ensures.starts in
+    let sound = nfa.sound in
+    let first : AreFirstBytes (classes_of nfa) c.first_bytes.result = subst (λ (cs : List Bool). AreFirstBytes cs c.first_bytes.result) c.byte_classes-2.ensures.classes c.first_bytes.ensures.first in
+    let soundly =
+    sound-layout plan (c.alphabet_len-stride.result + 1) planned filled done are sound
+    (omega
+    (arith, dense plan (c.alphabet_len-stride.result + 1) planned filled done are sound, deep-size plan (c.alphabet_len-stride.result + 1) planned filled done are sound, fits.states))
+    (omega (arith, done.lists_sized, fits.lists))
+    (omega (arith, done.moves_sized, fits.moves)) in
+    subst (AreMarkedIn c.args.skips p)
+    (same-layout filled.entries.items filled.deep.items filled.moves.items filled.lists.items (classes_of nfa) c.copy.result _ c.new_unchecked.result filled.low filled.list_low filled.deep_low
+    (sym (c.copy.ensures.same ∙ c.byte_classes-3.ensures.classes)) (sym start))
+    (marked-in plan (c.alphabet_len-stride.result + 1) planned filled done are sound soundly first p is.0.names is.0.automaton is.2 _ _ nfa.numbered.order nfa.numbered.dead)
 
 pub returns-in_err-numbers_of-clause-refused : goal.returns-in_err-numbers_of-clause-refused
 returns-in_err-numbers_of-clause-refused c =
-    IfErr-given (IsRefused c.args.nfa.now c.args.budget) c.from_residual-in_err-numbers_of.result c.in_err-numbers_of.field-0.0 c.from_residual-in_err-numbers_of.ensures.1 (
+    IfErr-given (IsRowsRefusal c.args.nfa.now c.args.budget) c.from_residual-in_err-numbers_of.result c.in_err-numbers_of.field-0.0 c.from_residual-in_err-numbers_of.ensures.1 (
       c.row_depth-row_depth.result,
       c.row_depth-row_depth.ensures.depth,
       c.in_err-numbers_of.ensures.refused ∙ sym (memory-wanted c.args.nfa.now c.row_depth-row_depth.result c.in_ok-dense.ensures.fits),
@@ -107,7 +160,7 @@ returns-in_err-numbers_of-clause-refused c =
 
 pub returns-in_err-filled-clause-refused : goal.returns-in_err-filled-clause-refused
 returns-in_err-filled-clause-refused c =
-    IfErr-given (IsRefused c.args.nfa.now c.args.budget) c.from_residual-in_err-filled.result c.in_err-filled.field-0.0 c.from_residual-in_err-filled.ensures.1 (
+    IfErr-given (IsRowsRefusal c.args.nfa.now c.args.budget) c.from_residual-in_err-filled.result c.in_err-filled.field-0.0 c.from_residual-in_err-filled.ensures.1 (
       c.row_depth-row_depth.result,
       c.row_depth-row_depth.ensures.depth,
       c.in_err-filled.ensures.refused ∙ sym (memory-wanted c.args.nfa.now c.row_depth-row_depth.result c.in_ok-dense.ensures.fits),

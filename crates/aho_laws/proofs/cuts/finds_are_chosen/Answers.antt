@@ -8,10 +8,10 @@ use Rattle.aho_laws.proofs.Listings.{all_occurrences-has, all_occurrences-only, 
 use Rattle.aho_laws.proofs.cuts.finds_are_chosen.Goals as goal
 
 pub returns-clause-each_kind : goal.returns-clause-each_kind
-returns-clause-each_kind c = λ p haystack start end list full within listed same.
-    finds-chosen p full list haystack start start end None (omega arith) listed
-    (λ m in_list. all_occurrences-only p haystack start end m within ((same m).0 in_list))
-    (λ m occurs. (same m).1 (all_occurrences-has p haystack start end m occurs))
+returns-clause-each_kind c = λ p haystack start end list full within lists.
+    finds-chosen p full list haystack start start end None (omega arith) lists.in_order
+    (λ m in_list. all_occurrences-only p haystack start end m within ((lists.members m).0 in_list))
+    (λ m occurs. (lists.members m).1 (all_occurrences-has p haystack start end m occurs))
 
 pub returns-clause-standard : goal.returns-clause-standard
 returns-clause-standard c = λ p haystack start end full within standard.

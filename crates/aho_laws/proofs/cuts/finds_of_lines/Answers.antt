@@ -5,4 +5,4 @@ pub returns-clause-clear : goal.returns-clause-clear
 returns-clause-clear c = clear_behind
 
 pub returns-clause-finds : goal.returns-clause-finds
-returns-clause-finds c = λ p byte pieces full none cut each. finds-pieces p pieces byte full none cut each
+returns-clause-finds c = λ p byte pieces lines. finds-pieces p pieces byte lines.full lines.none lines.cut lines.each

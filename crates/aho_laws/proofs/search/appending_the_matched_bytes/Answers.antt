@@ -6,10 +6,10 @@ use Rattle.aho_laws.proofs.Iterations.{finds-apart, finds-ordered}
 use Rattle.aho_laws.proofs.search.appending_the_matched_bytes.Goals as goal
 
 pub returns-clause-ranges : goal.returns-clause-ranges
-returns-clause-ranges g c = λ bytes_of haystack ms closure old new appends listed ordered run.
-    ClosureRun-own bytes_of (CalledOn g.F.FnMut) haystack appends ms 0 closure old run.0 new listed (λ m in_ms. omega arith) ordered run.1
+returns-clause-ranges g c = λ bytes_of haystack ms appends ranges closure old new run.
+    ClosureRun-own bytes_of (CalledOn g.F.FnMut) haystack appends ms 0 closure old run.0 new ranges.apart (λ m in_ms. omega arith) ranges.ordered run.1
 
 pub returns-clause-finds : goal.returns-clause-finds
-returns-clause-finds g c = λ bytes_of p haystack ms closure old new appends finds run.
+returns-clause-finds g c = λ bytes_of p haystack ms appends finds closure old new run.
     ClosureRun-own bytes_of (CalledOn g.F.FnMut) haystack appends ms 0 closure old run.0 new
     (finds-apart p ms (plain_search haystack) None finds) (λ m in_ms. omega arith) (finds-ordered p ms (plain_search haystack) None finds) run.1

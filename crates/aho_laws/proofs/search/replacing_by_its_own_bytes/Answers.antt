@@ -24,7 +24,7 @@ match-bytes : (p : Patterns) (search : Search) (ms : List Occurrence) → p.igno
 match-bytes p search ms plain finds m in_ms = bytes_of_match p search.haystack search.start search.end m plain (finds-occur p ms search None m finds in_ms)
 
 pub returns-clause-ranges : goal.returns-clause-ranges
-returns-clause-ranges c = λ haystack ms listed ordered. replaced_by-own haystack ms listed ordered
+returns-clause-ranges c = λ haystack ms ranges. replaced_by-own haystack ms ranges.apart ranges.ordered
 
 pub returns-clause-finds : goal.returns-clause-finds
 returns-clause-finds c = finds-own

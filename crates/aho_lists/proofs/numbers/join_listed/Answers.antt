@@ -1,7 +1,7 @@
 -- The list has the patterns of both under a new number, or under that of the other list, which it shares.
 use Rattle.std.proofs.Common.{◌+◌, ℕ, List, ◌++◌, length, inl, inr, refl, sym, ap, subst, ◌∙◌, arith}
 use Rattle.aho_lists.specs.Lists.{list_at, IsListed}
-use Rattle.aho_lists.specs.Words.{place_at, length_at, patterns_at, is_closed, pattern_lists, pattern_store, IsHeld, AreLaid}
+use Rattle.aho_lists.specs.Words.{place_at, length_at, patterns_at, is_closed, pattern_lists, pattern_store, IsPlaceOfList, AreLaid}
 use Rattle.aho_lists.proofs.Patterns.{length_at-zero}
 use Rattle.aho_lists.proofs.Listed.{length-pattern_lists, list_at-pattern_lists, length-list_at, known_within, held_of, closed_at-within, made_inside, listed_still, listed_anew, past_joined, shared_so, stored_still, stored_anew}
 use Rattle.aho_lists.proofs.Results.{IfOk-more, IfOk-both, OnOk-both}
@@ -36,12 +36,12 @@ join_patterns-requires-clause-laid c =
 pub join_patterns-requires-clause-held : goal.join_patterns-requires-clause-held
 join_patterns-requires-clause-held c =
     let from = c.place_of-from.ensures.place ∙ ap (λ (ps : List ℕ). place_at ps c.args.list) c.deref.ensures.value in
-    subst (λ (p : ℕ). IsHeld c.args.words.now.items p) (sym from) (held_of c.args.words.now.items c.args.places.now.items c.args.list c.requires.known)
+    subst (λ (p : ℕ). IsPlaceOfList c.args.words.now.items p) (sym from) (held_of c.args.words.now.items c.args.places.now.items c.args.list c.requires.known)
 
 pub join_patterns-requires-clause-other : goal.join_patterns-requires-clause-other
 join_patterns-requires-clause-other c =
     let shared = c.place_of-shared.ensures.place ∙ ap (λ (ps : List ℕ). place_at ps c.args.other) c.deref-2.ensures.value in
-    subst (λ (p : ℕ). IsHeld c.args.words.now.items p) (sym shared) (held_of c.args.words.now.items c.args.places.now.items c.args.other c.requires.other)
+    subst (λ (p : ℕ). IsPlaceOfList c.args.words.now.items p) (sym shared) (held_of c.args.words.now.items c.args.places.now.items c.args.other c.requires.other)
 
 pub join_patterns-requires-clause-some : goal.join_patterns-requires-clause-some
 join_patterns-requires-clause-some c none =

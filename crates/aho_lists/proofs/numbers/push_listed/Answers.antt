@@ -1,6 +1,6 @@
 -- The list has the pattern under its number, or under a new one.
 use Rattle.std.proofs.Common.{◌+◌, ℕ, List, [], ◌∷◌, length, inr, sym, ap, subst, ◌∙◌, arith}
-use Rattle.aho_lists.specs.Words.{place_at, IsHeld}
+use Rattle.aho_lists.specs.Words.{place_at, IsPlaceOfList}
 use Rattle.aho_lists.proofs.Listed.{length-pattern_lists, known_within, held_of, made_inside, listed_still, listed_anew, past_moved, stored_still, stored_anew}
 use Rattle.aho_lists.proofs.Results.{IfOk-more, IfOk-both, OnOk-both}
 use Rattle.aho_lists.proofs.numbers.push_listed.Goals as goal
@@ -17,7 +17,7 @@ place_of-from-requires c = record {
 pub push_pattern-requires-clause-held : goal.push_pattern-requires-clause-held
 push_pattern-requires-clause-held c =
     let from = c.place_of-from.ensures.place ∙ ap (λ (ps : List ℕ). place_at ps c.args.list) c.deref.ensures.value in
-    subst (λ (p : ℕ). IsHeld c.args.words.now.items p) (sym from) (held_of c.args.words.now.items c.args.places.now.items c.args.list c.requires.known)
+    subst (λ (p : ℕ). IsPlaceOfList c.args.words.now.items p) (sym from) (held_of c.args.words.now.items c.args.places.now.items c.args.list c.requires.known)
 
 pub push_pattern-requires-clause-laid : goal.push_pattern-requires-clause-laid
 push_pattern-requires-clause-laid c =

@@ -3,8 +3,8 @@ use Rattle.std.proofs.Common.{◌≡◌, ◌≢◌, ℕ, ◌+◌, ◌-◌, ◌<�
 use Rattle.std.proofs.lemmas.Bool.{cases_lt}
 use Rattle.std.proofs.lemmas.List.{get_or_past}
 use Rattle.std.proofs.lemmas.Grind.{get_or_default_zero}
-use Rattle.aho_lists.specs.Words.{room, length_mark, word_at, told, length_at}
-use Rattle.aho_lists.proofs.Patterns.{told-some, told-room, length_at-zero, length_at-some}
+use Rattle.aho_lists.specs.Words.{room, length_mark, word_at, told_length, length_at}
+use Rattle.aho_lists.proofs.Patterns.{told_length-some, told_length-room, length_at-zero, length_at-some}
 use Rattle.aho_lists.proofs.words.len_at.Goals as goal
 
 -- the place before a list is inside, and what stands there
@@ -12,13 +12,13 @@ inside : (words : List ℕ) (list : ℕ) → list ≢ 0 → 0 < length_at words 
 inside words list ne some =
     elim (cases_lt (list - 1) (length words)) [
       | inl below ↦ below
-      | inr above ↦ absurd (omega (arith, some, length_at-some words list ne, ap told (get_or_past words (list - 1) room above), told-room))
+      | inr above ↦ absurd (omega (arith, some, length_at-some words list ne, ap told_length (get_or_past words (list - 1) room above), told_length-room))
     ]
 
 mark : (words : List ℕ) (list : ℕ) → list ≢ 0 → 0 < length_at words list → get_or words (list - 1) 0 ≡ length_mark + length_at words list
 mark words list ne some =
     let is = length_at-some words list ne in
-    let tells = told-some (word_at words (list - 1)) (omega (arith, some, is)) in
+    let tells = told_length-some (word_at words (list - 1)) (omega (arith, some, is)) in
     omega (arith, is, tells.1, get_or_default_zero words (list - 1) room (inside words list ne some))
 
 pub returns-then-list-eq0 : goal.returns-then-list-eq0

@@ -33,7 +33,7 @@ loop-answer-preserved-in-Continue-branch-3 g c =
     let are = λ (p : Patterns) (of : g.A.Automaton.is_of automaton p). (g.met.A.Automaton.laws automaton p of).lengths_are in
     let (p, of) = c.requires.some in
     let advance = rw inv.same at c.in-Some.ensures.advances in
-    let same = c.in-Some.ensures.same ∙ inv.same in
+    let same = c.in-Some.ensures.call.same ∙ inv.same in
     let given = inv.running.given ++ advance.reads.bytes in
     let bytes = (rw same at c.bytes.ensures.bytes) p given of (advance.reads.is_after p inv.running.given of (inv.running.after p of)) in
     let wrote = c.in_ok-write_whole-in-NonMatch.ensures in
@@ -41,12 +41,12 @@ loop-answer-preserved-in-Continue-branch-3 g c =
     record { bytes_are = wrote.whole; no_failure = wrote.write_failed; no_empty_write = wrote.took_nothing } in
     record {
       callable = inv.callable;
-      running = running_plain _ _ _ _ _ _ _ _ are _ _ _ _ _ _ _ _ _ inv.running advance c.in-Some.ensures.ended c.in-Some.ensures.stays_ended _ (ap Some (c.in_ok-answer.was ∙ ap Ok c.in-NonMatch.is)) (rw bytes at took);
-      source = c.in-Some.ensures.same_source ∙ inv.source;
+      running = running_plain _ _ _ _ _ _ _ _ are _ _ _ _ _ _ _ _ _ inv.running advance c.in-Some.ensures.call.ended c.in-Some.ensures.call.stays_ended _ (ap Some (c.in_ok-answer.was ∙ ap Ok c.in-NonMatch.is)) (rw bytes at took);
+      source = c.in-Some.ensures.call.same_source ∙ inv.source;
       same = same;
-      limit = c.in-Some.ensures.limit ∙ inv.limit;
-      below = rw (c.in_ok-answer.was, inv.below) at c.in-Some.ensures.refused;
-      reads = (rw c.in_ok-answer.was at c.in-Some.ensures.read_failed) ∙ inv.reads;
+      limit = c.in-Some.ensures.call.limit ∙ inv.limit;
+      below = rw (c.in_ok-answer.was, inv.below) at c.in-Some.ensures.call.refused;
+      reads = (rw c.in_ok-answer.was at c.in-Some.ensures.call.read_failed) ∙ inv.reads;
     }
 
 pub loop-answer-preserved : goal.loop-answer-preserved
@@ -56,7 +56,7 @@ loop-answer-preserved g c =
     let are = λ (p : Patterns) (of : g.A.Automaton.is_of automaton p). (g.met.A.Automaton.laws automaton p of).lengths_are in
     let (p, of) = c.requires.some in
     let advance = rw inv.same at c.in-Some.ensures.advances in
-    let same = c.in-Some.ensures.same ∙ inv.same in
+    let same = c.in-Some.ensures.call.same ∙ inv.same in
     let given = inv.running.given ++ advance.reads.bytes in
     let bytes = (rw same at c.bytes-in-Match.ensures.bytes) p given of (advance.reads.is_after p inv.running.given of (inv.running.after p of)) in
     let called : CalledOn g.F.FnMut c.loop-answer.replace_with c.in-Match.mat c.bytes-in-Match.result.now c.loop-answer.sink c.replace_with.result c.replace_with.new.self c.replace_with.new.arg4 =
@@ -64,12 +64,12 @@ loop-answer-preserved g c =
     let called_on = subst (λ r. CalledOn g.F.FnMut c.loop-answer.replace_with c.in-Match.mat c.bytes-in-Match.result.now c.loop-answer.sink r c.replace_with.new.self c.replace_with.new.arg4) c.in_ok-replace_with-in-Match.was called in
     record {
       callable = search (rules, of_calls);
-      running = running_match _ _ _ _ _ _ _ _ are _ _ _ _ _ _ _ _ _ inv.running advance c.in-Some.ensures.ended c.in-Some.ensures.stays_ended _ _ _ (ap Some (c.in_ok-answer.was ∙ ap Ok c.in-Match.is)) (rw bytes at called_on);
-      source = c.in-Some.ensures.same_source ∙ inv.source;
+      running = running_match _ _ _ _ _ _ _ _ are _ _ _ _ _ _ _ _ _ inv.running advance c.in-Some.ensures.call.ended c.in-Some.ensures.call.stays_ended _ _ _ (ap Some (c.in_ok-answer.was ∙ ap Ok c.in-Match.is)) (rw bytes at called_on);
+      source = c.in-Some.ensures.call.same_source ∙ inv.source;
       same = same;
-      limit = c.in-Some.ensures.limit ∙ inv.limit;
-      below = rw (c.in_ok-answer.was, inv.below) at c.in-Some.ensures.refused;
-      reads = (rw c.in_ok-answer.was at c.in-Some.ensures.read_failed) ∙ inv.reads;
+      limit = c.in-Some.ensures.call.limit ∙ inv.limit;
+      below = rw (c.in_ok-answer.was, inv.below) at c.in-Some.ensures.call.refused;
+      reads = (rw c.in_ok-answer.was at c.in-Some.ensures.call.read_failed) ∙ inv.reads;
     }
 
 pub loop-answer-smaller : goal.loop-answer-smaller
@@ -79,7 +79,7 @@ loop-answer-smaller g c =
     let are = λ (p : Patterns) (of : g.A.Automaton.is_of automaton p). (g.met.A.Automaton.laws automaton p of).lengths_are in
     let (p, of) = c.requires.some in
     let advance = rw inv.same at c.in-Some.ensures.advances in
-    less_run _ _ _ _ _ _ _ _ are _ _ _ _ _ _ _ _ _ inv.running advance c.in-Some.ensures.ended c.in-Some.ensures.stays_ended p of _ (ap Some (c.in_ok-answer.was ∙ ap Ok c.in-Match.is)) c.in-Some.ensures.limit
+    less_run _ _ _ _ _ _ _ _ are _ _ _ _ _ _ _ _ _ inv.running advance c.in-Some.ensures.call.ended c.in-Some.ensures.call.stays_ended p of _ (ap Some (c.in_ok-answer.was ∙ ap Ok c.in-Match.is)) c.in-Some.ensures.call.limit
 
 pub returns-in_err-answer-clause-runs : goal.returns-in_err-answer-clause-runs
 returns-in_err-answer-clause-runs g c =
@@ -88,9 +88,9 @@ returns-in_err-answer-clause-runs g c =
     let are = λ (p : Patterns) (of : g.A.Automaton.is_of automaton p). (g.met.A.Automaton.laws automaton p of).lengths_are in
     let (p, of) = c.requires.some in
     let advance = rw inv.same at c.in-Some.ensures.advances in
-    let fails = c.in-Some.ensures.read_failed ∙ ap (counted (tells_read_fault (Some c.in-Some.answer))) inv.reads in
+    let fails = c.in-Some.ensures.call.read_failed ∙ ap (counted (tells_read_fault (Some c.in-Some.answer))) inv.reads in
     rw (err_given c.from_residual.result c.in_err-answer.field-0.0 c.from_residual.ensures.1)
-    (over_error _ _ _ _ _ _ _ _ are _ _ _ _ _ _ _ _ _ inv.running advance c.in-Some.ensures.ended c.in-Some.ensures.stays_ended fails c.in_err-answer.field-0.0 (ap Some c.in_err-answer.was) p of (inv.limit ∙ c.requires.limit))
+    (over_error _ _ _ _ _ _ _ _ are _ _ _ _ _ _ _ _ _ inv.running advance c.in-Some.ensures.call.ended c.in-Some.ensures.call.stays_ended fails c.in_err-answer.field-0.0 (ap Some c.in_err-answer.was) p of (inv.limit ∙ c.requires.limit))
 
 pub returns-in_err-write_whole-in-NonMatch-clause-runs : goal.returns-in_err-write_whole-in-NonMatch-clause-runs
 returns-in_err-write_whole-in-NonMatch-clause-runs g c =
@@ -99,13 +99,13 @@ returns-in_err-write_whole-in-NonMatch-clause-runs g c =
     let are = λ (p : Patterns) (of : g.A.Automaton.is_of automaton p). (g.met.A.Automaton.laws automaton p of).lengths_are in
     let (p, of) = c.requires.some in
     let advance = rw inv.same at c.in-Some.ensures.advances in
-    let same = c.in-Some.ensures.same ∙ inv.same in
+    let same = c.in-Some.ensures.call.same ∙ inv.same in
     let given = inv.running.given ++ advance.reads.bytes in
     let bytes = (rw same at c.bytes.ensures.bytes) p given of (advance.reads.is_after p inv.running.given of (inv.running.after p of)) in
-    let fails = c.in-Some.ensures.read_failed ∙ ap (counted (tells_read_fault (Some c.in-Some.answer))) inv.reads in
+    let fails = c.in-Some.ensures.call.read_failed ∙ ap (counted (tells_read_fault (Some c.in-Some.answer))) inv.reads in
     let wrote = c.in_err-write_whole-in-NonMatch.ensures in
     rw (err_given c.from_residual-in_err-write_whole-in-NonMatch.result c.in_err-write_whole-in-NonMatch.field-0.0 c.from_residual-in_err-write_whole-in-NonMatch.ensures.1)
-    (over_write _ _ _ _ _ _ _ _ are _ _ _ _ _ _ _ _ _ inv.running advance c.in-Some.ensures.ended c.in-Some.ensures.stays_ended fails (ap Some (c.in_ok-answer.was ∙ ap Ok c.in-NonMatch.is)) _ _ (rw bytes at wrote.beginning) wrote.write_failed wrote.took_nothing wrote.only)
+    (over_write _ _ _ _ _ _ _ _ are _ _ _ _ _ _ _ _ _ inv.running advance c.in-Some.ensures.call.ended c.in-Some.ensures.call.stays_ended fails (ap Some (c.in_ok-answer.was ∙ ap Ok c.in-NonMatch.is)) _ _ (rw bytes at wrote.beginning) wrote.write_failed wrote.took_nothing wrote.only)
 
 pub returns-in_err-replace_with-in-Match-clause-runs : goal.returns-in_err-replace_with-in-Match-clause-runs
 returns-in_err-replace_with-in-Match-clause-runs g c =
@@ -114,15 +114,15 @@ returns-in_err-replace_with-in-Match-clause-runs g c =
     let are = λ (p : Patterns) (of : g.A.Automaton.is_of automaton p). (g.met.A.Automaton.laws automaton p of).lengths_are in
     let (p, of) = c.requires.some in
     let advance = rw inv.same at c.in-Some.ensures.advances in
-    let same = c.in-Some.ensures.same ∙ inv.same in
+    let same = c.in-Some.ensures.call.same ∙ inv.same in
     let given = inv.running.given ++ advance.reads.bytes in
     let bytes = (rw same at c.bytes-in-Match.ensures.bytes) p given of (advance.reads.is_after p inv.running.given of (inv.running.after p of)) in
-    let fails = c.in-Some.ensures.read_failed ∙ ap (counted (tells_read_fault (Some c.in-Some.answer))) inv.reads in
+    let fails = c.in-Some.ensures.call.read_failed ∙ ap (counted (tells_read_fault (Some c.in-Some.answer))) inv.reads in
     let called : CalledOn g.F.FnMut c.loop-answer.replace_with c.in-Match.mat c.bytes-in-Match.result.now c.loop-answer.sink c.replace_with.result c.replace_with.new.self c.replace_with.new.arg4 =
     record { found = _; bytes = _; lent = _; left = _; shows = (refl, refl, refl, refl); called = c.replace_with.ensures } in
     let called_on = subst (λ r. CalledOn g.F.FnMut c.loop-answer.replace_with c.in-Match.mat c.bytes-in-Match.result.now c.loop-answer.sink r c.replace_with.new.self c.replace_with.new.arg4) c.in_err-replace_with-in-Match.was called in
     rw (err_given c.from_residual-in_err-replace_with-in-Match.result c.in_err-replace_with-in-Match.field-0.0 c.from_residual-in_err-replace_with-in-Match.ensures.1)
-    (over_refusal _ _ _ _ _ _ _ _ are _ _ _ _ _ _ _ _ _ inv.running advance c.in-Some.ensures.ended c.in-Some.ensures.stays_ended fails _ (ap Some (c.in_ok-answer.was ∙ ap Ok c.in-Match.is)) _ _ _ (rw bytes at called_on))
+    (over_refusal _ _ _ _ _ _ _ _ are _ _ _ _ _ _ _ _ _ inv.running advance c.in-Some.ensures.call.ended c.in-Some.ensures.call.stays_ended fails _ (ap Some (c.in_ok-answer.was ∙ ap Ok c.in-Match.is)) _ _ _ (rw bytes at called_on))
 
 pub returns-clause-runs : goal.returns-clause-runs
 returns-clause-runs g c =
@@ -131,5 +131,5 @@ returns-clause-runs g c =
     let are = λ (p : Patterns) (of : g.A.Automaton.is_of automaton p). (g.met.A.Automaton.laws automaton p of).lengths_are in
     let (p, of) = c.requires.some in
     let advance = rw inv.same at c.in_default.ensures.advances in
-    let fails = c.in_default.ensures.read_failed ∙ ap (counted (tells_read_fault {A = StreamPiece} None)) inv.reads in
-    over_end _ _ _ _ _ _ _ _ are _ _ _ _ _ _ _ _ _ inv.running advance c.in_default.ensures.ended c.in_default.ensures.stays_ended fails refl inv.below p of
+    let fails = c.in_default.ensures.call.read_failed ∙ ap (counted (tells_read_fault {A = StreamPiece} None)) inv.reads in
+    over_end _ _ _ _ _ _ _ _ are _ _ _ _ _ _ _ _ _ inv.running advance c.in_default.ensures.call.ended c.in_default.ensures.call.stays_ended fails refl inv.below p of

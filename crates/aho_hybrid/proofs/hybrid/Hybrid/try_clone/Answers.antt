@@ -6,7 +6,7 @@ use Rattle.aho_core.specs.Patterns.{Patterns}
 use Rattle.aho_core.specs.declared.search.Anchored.{Anchored}
 use Rattle.aho_prefilter.specs.Prefilter.{IsPrefilterOf}
 use Rattle.aho_prefilter.specs.declared.prefilter.Searcher.{Searcher}
-use Rattle.aho_hybrid.specs.Layout.{IsHeldIn, IsStateIn, Layout, depth_in, is_marked_in, is_special_in, list_in, lookups_in, memory_in, next_in, start_in}
+use Rattle.aho_hybrid.specs.Layout.{IsHeldIn, IsStateIn, Layout, depth_below_rows, is_marked_number, is_special_number, list_in, lookups_in, memory_in, next_state_in, start_for}
 use Rattle.aho_hybrid.specs.Reading.{IsLayoutOf}
 use Rattle.aho_hybrid.proofs.hybrid.Hybrid.try_clone.Goals as goal
 
@@ -18,7 +18,7 @@ returns c =
     let held : c.in_ok-copy_of.field-0 ≡ own.prefilter = c.in_ok-copy_of.ensures.same in
     let looks : Layout → Patterns → Anchored → List ℕ → ℕ → ℕ = λ t p anchored. lookups_in t p in
     let starts : Layout → ℕ → Bool = λ t sid. nat_eq sid t.start in
-    let next : Layout → Anchored → ℕ → ℕ → ℕ = λ t anchored. next_in t in
+    let next : Layout → Anchored → ℕ → ℕ → ℕ = λ t anchored. next_state_in t in
     record {
       same = record {
         same_patterns = λ p. (
@@ -37,17 +37,18 @@ returns c =
         same_lengths = lens;
         same_list = ap list_in rows;
         same_dead = search rules;
-        same_special = ap is_special_in rows;
-        same_marked = ap is_marked_in rows;
+        same_special = ap is_special_number rows;
+        same_marked = ap is_marked_number rows;
         same_starts = ap starts rows;
-        same_depth = ap depth_in rows;
+        same_depth = ap depth_below_rows rows;
         same_next = ap next rows;
         same_lookups = ap looks rows;
-        same_start = ap start_in rows;
+        same_start = ap start_for rows;
         same_memory =
             ap (λ (t : Layout). memory_in t c.in_ok-clone.field-0.items c.in_ok-copy_of.field-0) rows
             ∙ ap (λ (ls : List ℕ). memory_in own.rows ls c.in_ok-copy_of.field-0) lens
             ∙ ap (memory_in own.rows own.pattern_lens.items) held;
         same_prefilter = held;
       };
+      same_rows = rows;
     }

@@ -1,4 +1,4 @@
-use Rattle.aho_hybrid.specs.Layout.{IsStateIn, depth_in}
+use Rattle.aho_hybrid.specs.Layout.{IsStateIn, depth_below_rows}
 use Rattle.aho_hybrid.specs.Reading.{dead-next, held-next, next-paid, next-state}
 use Rattle.std.proofs.Common.{◌<◌, ◌∙◌, ℕ, ap, arith, nat_eq, subst, sym}
 use Rattle.aho_hybrid.proofs.hybrid.HybridAutomaton.step.Goals as goal
@@ -20,4 +20,4 @@ pub returns-clause-cost : goal.returns-clause-cost
 returns-clause-cost c =
     let rows = c.args.self.now.rows in
     let small : c.args.byte < 256 = omega (arith, c.ranges.byte) in
-    omega (arith, c.step.ensures.counted, next-paid rows c.args.self.now.sound c.args.sid c.args.byte small c.requires.valid, ap (depth_in rows) c.step.ensures.next)
+    omega (arith, c.step.ensures.counted, next-paid rows c.args.self.now.sound c.args.sid c.args.byte small c.requires.valid, ap (depth_below_rows rows) c.step.ensures.next)

@@ -1,5 +1,5 @@
 use Rattle.std.proofs.Common.{◌≡◌, ◌∙◌, ◌+◌, ◌-◌, ℕ, List, take, drop, ap, arith}
-use Rattle.aho_hybrid.specs.Layout.{Layout, child_of, word_in}
+use Rattle.aho_hybrid.specs.Layout.{Layout, child_of, record_word}
 use Rattle.aho_hybrid.proofs.rows.Rows.child.Goals as goal
 
 pub returns : goal.returns
@@ -10,6 +10,6 @@ returns c =
       child =
           c.child_of.ensures.child
           ∙ ap (λ (n : ℕ). child_of (take n (drop c.word-place.result c.deref.result.now)) c.args.byte) (count ∙ c.word-count.ensures.word)
-          ∙ ap (λ (n : ℕ). child_of (take (word_in c.args.self.now c.args.sid 4) (drop n c.deref.result.now)) c.args.byte) c.word-place.ensures.word
-          ∙ ap (λ (l : List ℕ). child_of (take (word_in c.args.self.now c.args.sid 4) (drop (word_in c.args.self.now c.args.sid 3) l)) c.args.byte) moves;
+          ∙ ap (λ (n : ℕ). child_of (take (record_word c.args.self.now c.args.sid 4) (drop n c.deref.result.now)) c.args.byte) c.word-place.ensures.word
+          ∙ ap (λ (l : List ℕ). child_of (take (record_word c.args.self.now c.args.sid 4) (drop (record_word c.args.self.now c.args.sid 3) l)) c.args.byte) moves;
     }

@@ -3,7 +3,7 @@ use Rattle.std.proofs.Common.{◌≡◌, ◌≤◌, ℕ, List, length, take, dro
 use Rattle.std.specs.List.{All}
 use Rattle.aho_core.specs.Numbers.{greatest_index}
 use Rattle.aho_lists.specs.Lists.{IsList}
-use Rattle.aho_lists.specs.Words.{length_at, patterns_at, place_at, pattern_lists, IsHeld}
+use Rattle.aho_lists.specs.Words.{length_at, patterns_at, place_at, pattern_lists, IsPlaceOfList}
 use Rattle.aho_lists.proofs.Patterns.{own_within, patterns_at-small}
 use Rattle.aho_lists.proofs.Listed.{known_within, held_of, list_at-pattern_lists}
 use Rattle.aho_lists.proofs.Laying.{patterns_at-taken}
@@ -26,8 +26,8 @@ len_at-count-requires c =
     let known : IsList (pattern_lists words c.self.inside.places.items) c.args.list = rw (← c.self.view_is) at c.requires.known in
     let place = c.place_of-place.ensures.place ∙ ap (λ (ps : List ℕ). place_at ps c.args.list) c.deref.ensures.value in
     record {
-      held = subst (λ (ws : List ℕ). IsHeld ws c.place_of-place.result) (sym c.deref-2.ensures.value)
-          (subst (λ (p : ℕ). IsHeld words p) (sym place) (held_of words c.self.inside.places.items c.args.list known));
+      held = subst (λ (ws : List ℕ). IsPlaceOfList ws c.place_of-place.result) (sym c.deref-2.ensures.value)
+          (subst (λ (p : ℕ). IsPlaceOfList words p) (sym place) (held_of words c.self.inside.places.items c.args.list known));
     }
 
 pub words_from-requires : goal.words_from-requires

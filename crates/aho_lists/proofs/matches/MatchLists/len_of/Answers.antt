@@ -1,7 +1,7 @@
 -- The length that is told is that of the list.
 use Rattle.std.proofs.Common.{ℕ, List, length, sym, ap, subst, ◌∙◌, arith}
 use Rattle.aho_lists.specs.Lists.{IsList}
-use Rattle.aho_lists.specs.Words.{length_at, place_at, pattern_lists, IsHeld}
+use Rattle.aho_lists.specs.Words.{length_at, place_at, pattern_lists, IsPlaceOfList}
 use Rattle.aho_lists.proofs.Listed.{known_within, held_of, length-list_at}
 use Rattle.aho_lists.proofs.matches.MatchLists.len_of.Goals as goal
 
@@ -22,8 +22,8 @@ len_at-requires c =
     let known : IsList (pattern_lists words c.self.inside.places.items) c.args.list = rw (← c.self.view_is) at c.requires.known in
     let place = c.place_of.ensures.place ∙ ap (λ (ps : List ℕ). place_at ps c.args.list) c.deref-2.ensures.value in
     record {
-      held = subst (λ (ws : List ℕ). IsHeld ws c.place_of.result) (sym c.deref.ensures.value)
-          (subst (λ (p : ℕ). IsHeld words p) (sym place) (held_of words c.self.inside.places.items c.args.list known));
+      held = subst (λ (ws : List ℕ). IsPlaceOfList ws c.place_of.result) (sym c.deref.ensures.value)
+          (subst (λ (p : ℕ). IsPlaceOfList words p) (sym place) (held_of words c.self.inside.places.items c.args.list known));
     }
 
 pub returns : goal.returns

@@ -1,5 +1,5 @@
 -- What each way out tells, and each turn of the loop.
-use Rattle.std.proofs.Common.{◌≡◌, ◌≢◌, ◌++◌, ◌∙◌, inl, inr, Bool, true, false, ap, refl, sym, subst, arith, append-nil, List, ℕ, length}
+use Rattle.std.proofs.Common.{◌≡◌, ◌≢◌, ◌++◌, ◌∙◌, ◌||◌, inl, inr, Bool, true, false, ap, refl, sym, subst, arith, append-nil, List, ℕ, length}
 use Rattle.std.specs.Prelude.{Option, Some, None, Result, Ok, Err, IfSome, is_err}
 use Rattle.std.proofs.KnownBytes.{Keeps-refl, Keeps-trans}
 use Rattle.std.proofs.Math.Bool.{or-true}
@@ -81,6 +81,23 @@ returns-in-Some-clause-after_end g c ended all =
     let tells = told_from p s c.loop-piece.self.progress c.next_piece.new.progress bytes c.in-Some.piece inv.untold.reported inv.untold.from
     (subst (λ (r : Option StreamPiece). IfSome r (TellsChunk p c.loop-piece.self.progress c.next_piece.new.progress bytes)) c.in-Some.is ((rw inv.same at c.next_piece.ensures.tells) p bytes of (inv.read.reads.is_after p given of a))) in
     absurd (no_chunk_left p (g.A.Automaton.lengths c.args.self.now.walk.automaton.now) laws.lengths_are a.no_empty s c.next_piece.new.progress bytes c.in-Some.piece tells (omega (arith, ap length same, a.count, all)))
+
+pub returns-in-Some-clause-call : goal.returns-in-Some-clause-call
+returns-in-Some-clause-call g c =
+    let s = c.args.self.now.progress in
+    let inv = c.loop-piece.invariant in
+    let next = c.next_piece.ensures in
+    record {
+      same = next.same ∙ inv.same;
+      same_source = inv.source;
+      limit = next.limit ∙ inv.untold.limit;
+      ended = inv.ended ∙ ap (λ (b : Bool). counted (ends_between s.ended b) (g.R.Source.empty_reads c.args.self.now.source.now)) (sym next.ended);
+      stays_ended = λ e. next.ended ∙ inv.stays e;
+      after_end = λ e all. let none = returns-in-Some-clause-after_end g c e all in cc;
+      after_limit = λ r. let going = inv.untold.unrefused in cc;
+      refused = next.refused ∙ inv.untold.going ∙ ap (λ (b : Bool). b || false) (sym inv.untold.unrefused);
+      read_failed = inv.unfailed;
+    }
 
 -- where there is no chunk all was walked, and no match in hand is settled
 all_walked : (g : Over) (c : After-next_piece g) → c.next_piece.result ≡ None

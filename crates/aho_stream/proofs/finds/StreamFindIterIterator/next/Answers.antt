@@ -6,7 +6,7 @@ use Rattle.aho_core.specs.Patterns.{Patterns}
 use Rattle.aho_core.specs.Occurrence.{Occurrence}
 use Rattle.aho_core.specs.declared.error.stream.StreamError.{StreamError}
 use Rattle.aho_devices.specs.Counts.{counted}
-use Rattle.aho_stream.specs.Chunks.{Advances, FillsNothing, Tells, ends_between, tells_error, tells_limit, tells_read_fault}
+use Rattle.aho_stream.specs.Chunks.{Advances, FillsNothing, AnswerTells, ends_between, tells_error, tells_limit, tells_read_fault}
 use Rattle.aho_stream.specs.Finds.{FillsForMatch, Finds}
 use Rattle.aho_stream.specs.Iterators.{HasGiven}
 use Rattle.aho_stream.specs.declared.progress.StreamPiece.{StreamPiece}
@@ -24,7 +24,7 @@ advanced g c = rw c.loop-error.invariant.same at c.advance.ensures.advances
 
 -- what was read so far ends the stream where it was ended
 ended : (g : Over) (c : After-advance g) → g.R.Source.empty_reads c.advance.new.self.source.now ≡ counted (ends_between c.args.self.now.chunks.progress.ended c.advance.new.self.progress.ended) (g.R.Source.empty_reads c.args.self.now.chunks.source.now)
-ended g c = counted_then c.args.self.now.chunks.progress.ended c.loop-error.self.chunks.progress.ended c.advance.new.self.progress.ended _ _ _ c.loop-error.invariant.stays c.advance.ensures.stays_ended c.loop-error.invariant.ended c.advance.ensures.ended
+ended g c = counted_then c.args.self.now.chunks.progress.ended c.loop-error.self.chunks.progress.ended c.advance.new.self.progress.ended _ _ _ c.loop-error.invariant.stays c.advance.ensures.call.stays_ended c.loop-error.invariant.ended c.advance.ensures.call.ended
 
 -- what the whole call has read, where this is its last answer
 abbrev ReadingUpTo : (g : Over) (c : After-advance g) → Option (Result StreamPiece StreamError) → Type 0
@@ -46,7 +46,7 @@ prompt g c answer is = subst (λ (r : Option (Result StreamPiece StreamError)). 
 
 -- and says, where the last answer says it
 finds : (g : Over) (c : After-advance g) (found : Option (Result Occurrence StreamError))
-    → ((p : Patterns) (given : List ℕ) → Tells p c.loop-error.self.chunks.progress c.advance.new.self.progress given c.advance.result → Finds p c.args.self.now.chunks.progress c.advance.new.self.progress given found)
+    → ((p : Patterns) (given : List ℕ) → AnswerTells p c.loop-error.self.chunks.progress c.advance.new.self.progress given c.advance.result → Finds p c.args.self.now.chunks.progress c.advance.new.self.progress given found)
     → (p : Patterns) (given : List ℕ) → g.A.Automaton.is_of c.args.self.now.chunks.walk.automaton.now p → HasGiven g.A.Automaton c.args.self.now.chunks p given
     → Finds p c.args.self.now.chunks.progress c.advance.new.self.progress (given ++ (reading g c).reads.bytes) found
 unfolding reading
@@ -56,15 +56,15 @@ finds g c found says =
 
 -- after the end, and after the limit was answered, `advance` tells none
 ended_none : (g : Over) (c : After-advance g) → c.args.self.now.chunks.progress.ended ≡ true → c.args.self.now.chunks.progress.read ≤ c.args.self.now.chunks.progress.reported → c.advance.result ≡ None
-ended_none g c e told = let over = c.loop-error.invariant.over e told in c.advance.ensures.after_end over.0 over.1
+ended_none g c e told = let over = c.loop-error.invariant.over e told in c.advance.ensures.call.after_end over.0 over.1
 
 refused_none : (g : Over) (c : After-advance g) → c.args.self.now.chunks.progress.refused ≡ true → c.advance.result ≡ None
-refused_none g c r = c.advance.ensures.after_limit (c.loop-error.invariant.refused ∙ r)
+refused_none g c r = c.advance.ensures.call.after_limit (c.loop-error.invariant.refused ∙ r)
 
 -- whether the limit was answered, by what the last answer is
 refused : (g : Over) (c : After-advance g) (answer : Option (Result StreamPiece StreamError)) → c.advance.result ≡ answer → c.advance.new.self.progress.refused ≡ (c.args.self.now.chunks.progress.refused || tells_limit answer)
 refused g c answer is =
-    c.advance.ensures.refused ∙ ap (λ (r : Option (Result StreamPiece StreamError)). c.loop-error.self.chunks.progress.refused || tells_limit r) is
+    c.advance.ensures.call.refused ∙ ap (λ (r : Option (Result StreamPiece StreamError)). c.loop-error.self.chunks.progress.refused || tells_limit r) is
     ∙ ap (λ (b : Bool). b || tells_limit answer) c.loop-error.invariant.refused
 
 pub loop-error-init : goal.loop-error-init
@@ -92,16 +92,18 @@ returns-in-None-clause-steps g c =
       reads = (reading g d).reads;
       prompt = prompt g d None c.in-None.is;
       finds = finds g d None (λ p given tells. end_found p s c.loop-error.self.chunks.progress c.advance.new.self.progress given inv.from inv.refused
-          (subst (λ (r : Option (Result StreamPiece StreamError)). Tells p c.loop-error.self.chunks.progress c.advance.new.self.progress given r) c.in-None.is tells));
-      same = c.advance.ensures.same ∙ inv.same;
-      same_source = c.advance.ensures.same_source ∙ inv.source;
-      limit = c.advance.ensures.limit ∙ inv.limit;
-      ended = ended g d;
-      stays_ended = λ e. c.advance.ensures.stays_ended (inv.stays e);
-      after_end = λ e told. refl;
-      after_limit = λ r. refl;
-      refused = refused g d None c.in-None.is;
-      read_failed = c.in-None.ensures.read_failed ∙ inv.unfailed;
+          (subst (λ (r : Option (Result StreamPiece StreamError)). AnswerTells p c.loop-error.self.chunks.progress c.advance.new.self.progress given r) c.in-None.is tells));
+      call = record {
+        same = c.advance.ensures.call.same ∙ inv.same;
+        same_source = c.advance.ensures.call.same_source ∙ inv.source;
+        limit = c.advance.ensures.call.limit ∙ inv.limit;
+        ended = ended g d;
+        stays_ended = λ e. c.advance.ensures.call.stays_ended (inv.stays e);
+        after_end = λ e told. refl;
+        after_limit = λ r. refl;
+        refused = refused g d None c.in-None.is;
+        read_failed = c.in-None.ensures.call.read_failed ∙ inv.unfailed;
+      };
     }
 
 pub returns-in-Some-Err-clause-steps : goal.returns-in-Some-Err-clause-steps
@@ -115,19 +117,21 @@ returns-in-Some-Err-clause-steps g c =
       reads = (reading g d).reads;
       prompt = prompt g d (Some (Err error)) is;
       finds = finds g d (Some (Err error)) (λ p given tells. error_found p s c.loop-error.self.chunks.progress c.advance.new.self.progress given error inv.from inv.refused inv.limit
-          (subst (λ (r : Option (Result StreamPiece StreamError)). Tells p c.loop-error.self.chunks.progress c.advance.new.self.progress given r) is tells));
-      same = c.advance.ensures.same ∙ inv.same;
-      same_source = c.advance.ensures.same_source ∙ inv.source;
-      limit = c.advance.ensures.limit ∙ inv.limit;
-      ended = ended g d;
-      stays_ended = λ e. c.advance.ensures.stays_ended (inv.stays e);
-      after_end = λ e told. let none = ended_none g d e told in cc;
-      after_limit = λ r. let none = refused_none g d r in cc;
-      refused = refused g d (Some (Err error)) is ∙ ap (λ (b : Bool). s.refused || b) (same_limit StreamPiece Occurrence error);
-      read_failed = c.advance.ensures.read_failed
-          ∙ ap (λ (r : Option (Result StreamPiece StreamError)). counted (tells_read_fault r) (g.R.Source.failures c.loop-error.self.chunks.source.now)) is
-          ∙ ap (λ (b : Bool). counted b (g.R.Source.failures c.loop-error.self.chunks.source.now)) (same_fault StreamPiece Occurrence error)
-          ∙ ap (counted (tells_read_fault {A = Occurrence} (Some (Err error)))) inv.unfailed;
+          (subst (λ (r : Option (Result StreamPiece StreamError)). AnswerTells p c.loop-error.self.chunks.progress c.advance.new.self.progress given r) is tells));
+      call = record {
+        same = c.advance.ensures.call.same ∙ inv.same;
+        same_source = c.advance.ensures.call.same_source ∙ inv.source;
+        limit = c.advance.ensures.call.limit ∙ inv.limit;
+        ended = ended g d;
+        stays_ended = λ e. c.advance.ensures.call.stays_ended (inv.stays e);
+        after_end = λ e told. let none = ended_none g d e told in cc;
+        after_limit = λ r. let none = refused_none g d r in cc;
+        refused = refused g d (Some (Err error)) is ∙ ap (λ (b : Bool). s.refused || b) (same_limit StreamPiece Occurrence error);
+        read_failed = c.advance.ensures.call.read_failed
+            ∙ ap (λ (r : Option (Result StreamPiece StreamError)). counted (tells_read_fault r) (g.R.Source.failures c.loop-error.self.chunks.source.now)) is
+            ∙ ap (λ (b : Bool). counted b (g.R.Source.failures c.loop-error.self.chunks.source.now)) (same_fault StreamPiece Occurrence error)
+            ∙ ap (counted (tells_read_fault {A = Occurrence} (Some (Err error)))) inv.unfailed;
+      };
     }
 
 pub returns-in-Some-clause-steps : goal.returns-in-Some-clause-steps
@@ -141,18 +145,20 @@ returns-in-Some-clause-steps g c =
       reads = (reading g d).reads;
       prompt = prompt g d (Some (Ok piece)) is;
       finds = finds g d (Some (Ok c.in-Some.m)) (λ p given tells. piece_found p s c.loop-error.self.chunks.progress c.advance.new.self.progress given piece c.in-Some.m (sym c.found.ensures.found ∙ c.in-Some.is) inv.from
-          (subst (λ (r : Option (Result StreamPiece StreamError)). Tells p c.loop-error.self.chunks.progress c.advance.new.self.progress given r) is tells));
-      same = c.advance.ensures.same ∙ inv.same;
-      same_source = c.advance.ensures.same_source ∙ inv.source;
-      limit = c.advance.ensures.limit ∙ inv.limit;
-      ended = ended g d;
-      stays_ended = λ e. c.advance.ensures.stays_ended (inv.stays e);
-      after_end = λ e told. let none = ended_none g d e told in cc;
-      after_limit = λ r. let none = refused_none g d r in cc;
-      refused = refused g d (Some (Ok piece)) is;
-      read_failed = c.advance.ensures.read_failed
-          ∙ ap (λ (r : Option (Result StreamPiece StreamError)). counted (tells_read_fault r) (g.R.Source.failures c.loop-error.self.chunks.source.now)) is
-          ∙ inv.unfailed;
+          (subst (λ (r : Option (Result StreamPiece StreamError)). AnswerTells p c.loop-error.self.chunks.progress c.advance.new.self.progress given r) is tells));
+      call = record {
+        same = c.advance.ensures.call.same ∙ inv.same;
+        same_source = c.advance.ensures.call.same_source ∙ inv.source;
+        limit = c.advance.ensures.call.limit ∙ inv.limit;
+        ended = ended g d;
+        stays_ended = λ e. c.advance.ensures.call.stays_ended (inv.stays e);
+        after_end = λ e told. let none = ended_none g d e told in cc;
+        after_limit = λ r. let none = refused_none g d r in cc;
+        refused = refused g d (Some (Ok piece)) is;
+        read_failed = c.advance.ensures.call.read_failed
+            ∙ ap (λ (r : Option (Result StreamPiece StreamError)). counted (tells_read_fault r) (g.R.Source.failures c.loop-error.self.chunks.source.now)) is
+            ∙ inv.unfailed;
+      };
     }
 
 pub loop-error-preserved : goal.loop-error-preserved
@@ -166,16 +172,16 @@ loop-error-preserved g c =
     let (p, given, of, a) = c.requires in
     let now = inv.read.reads.is_after p given of a in
     let plain = plain_told p t c.advance.new.self.progress _ piece (sym c.found.ensures.found ∙ c.in_default.is)
-    (subst (λ (r : Option (Result StreamPiece StreamError)). Tells p t c.advance.new.self.progress ((given ++ inv.read.reads.bytes) ++ (advanced g d).reads.bytes) r) is ((advanced g d).tells p (given ++ inv.read.reads.bytes) of now)) in
+    (subst (λ (r : Option (Result StreamPiece StreamError)). AnswerTells p t c.advance.new.self.progress ((given ++ inv.read.reads.bytes) ++ (advanced g d).reads.bytes) r) is ((advanced g d).tells p (given ++ inv.read.reads.bytes) of now)) in
     record {
-      same = c.advance.ensures.same ∙ inv.same;
-      limit = c.advance.ensures.limit ∙ inv.limit;
+      same = c.advance.ensures.call.same ∙ inv.same;
+      limit = c.advance.ensures.call.limit ∙ inv.limit;
       from = plain.from ∙ inv.from;
       refused = refused g d (Some (Ok piece)) is ∙ or-false s.refused;
-      source = c.advance.ensures.same_source ∙ inv.source;
+      source = c.advance.ensures.call.same_source ∙ inv.source;
       read = subst (ReadingUpTo g d) is (reading g d);
       ended = ended g d;
-      stays = λ e. c.advance.ensures.stays_ended (inv.stays e);
+      stays = λ e. c.advance.ensures.call.stays_ended (inv.stays e);
       over = λ e told. let none = ended_none g d e told in cc;
-      unfailed = c.advance.ensures.read_failed ∙ ap (λ (r : Option (Result StreamPiece StreamError)). counted (tells_read_fault r) (g.R.Source.failures c.loop-error.self.chunks.source.now)) is ∙ inv.unfailed;
+      unfailed = c.advance.ensures.call.read_failed ∙ ap (λ (r : Option (Result StreamPiece StreamError)). counted (tells_read_fault r) (g.R.Source.failures c.loop-error.self.chunks.source.now)) is ∙ inv.unfailed;
     }

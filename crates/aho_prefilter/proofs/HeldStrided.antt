@@ -1,0 +1,109 @@
+-- A strided search that is held has its sizes, and is a prefilter of the patterns.
+use Rattle.std.proofs.Common.{◌≡◌, ℕ, ◌<◌, ◌≤◌, zero, suc, Bool, true, false, List, [], ◌∷◌, get_or, length, refl, sym, ap, subst, ◌∙◌, arith, min}
+use Rattle.std.specs.Prelude.{Option, Some, None as Nothing, IfSome, if◌then◌else◌}
+use Rattle.std.specs.List.{fold}
+use Rattle.std.specs.Option.{option_map, option_or}
+use Rattle.std.proofs.lemmas.Bool.Decides.{nat_tests}
+use Rattle.aho_core.specs.declared.search.MatchKind.{MatchKind}
+use Rattle.aho_core.specs.Patterns.{Patterns}
+use Rattle.aho_prefilter.specs.Prefilter.{AreMarksOf, IsPrefilterOf, held_or_packed, quickest_for, strided_for, yields}
+use Rattle.aho_prefilter.specs.Sizes.{gram_for, least_head, is_crowded, is_small, shape_of, sizes_for, stride_for}
+use Rattle.aho_prefilter.specs.Strided.{AreStrideSizes, marks_of, no_marks}
+use Rattle.aho_prefilter.specs.declared.prefilter.Searcher.{Searcher}
+use Rattle.aho_prefilter.specs.declared.prefilter.Searcher.TheVariants.{Strided}
+use Rattle.aho_prefilter.specs.declared.strided.sizes.Shape.{Shape}
+use Rattle.aho_prefilter.specs.declared.strided.sizes.Sizes.{Sizes}
+use Rattle.aho_prefilter.proofs.HeldPacked.{held_or_packed-kind, held_or_packed-of}
+use Rattle.aho_prefilter.proofs.StridedSound.{HasMarksOf-all}
+use Rattle.aho_prefilter.proofs.Tables.{fold-sizes}
+
+-- the least length is no more than any
+least-below : (words : List (List ℕ)) (most : ℕ) → fold (λ head word. min head (length word)) most words ≤ most
+least-below [] most = omega arith
+least-below (word ∷ words) most = omega (arith, least-below words (min most (length word)))
+
+least-each : (words : List (List ℕ)) (most k : ℕ) → k < length words → fold (λ head word. min head (length word)) most words ≤ length (get_or words k [])
+least-each [] most k below = absurd (omega arith)
+least-each (word ∷ words) most zero below = omega (arith, least-below words (min most (length word)))
+least-each (word ∷ words) most (suc k) below = least-each words (min most (length word)) k (omega arith)
+
+pub least_head-few : (words : List (List ℕ)) → least_head words ≤ 16
+least_head-few words = least-below words 16
+
+pub least_head-each : (words : List (List ℕ)) (k : ℕ) → k < length words → least_head words ≤ length (get_or words k [])
+least_head-each words k below = least-each words 16 k below
+
+-- the sizes fit
+pub sizes_for-sized : (s : Shape) (sizes : Sizes) → s.head ≤ 16 → sizes_for s ≡ Some sizes → AreStrideSizes sizes × (sizes.head ≡ s.head)
+sizes_for-sized s sizes few held = by_tests (is_small s) (is_crowded s) refl held
+  where
+    made : 5 ≤ s.head → AreStrideSizes (record { gram = gram_for s; stride = stride_for s; head = s.head })
+    made long = record {
+      some = omega arith;
+      gram = omega arith;
+      steps = omega arith;
+      stride = omega arith;
+      within = omega arith;
+      head = few;
+    }
+
+    by_tests : (small crowded : Bool) → is_small s ≡ small
+        → (if small then Nothing else if crowded then Nothing else Some (record { gram = gram_for s; stride = stride_for s; head = s.head })) ≡ Some sizes
+        → AreStrideSizes sizes × (sizes.head ≡ s.head)
+    by_tests true crowded is other = cc
+    by_tests false true is other = cc
+    by_tests false false is other =
+        let e : sizes ≡ record { gram = gram_for s; stride = stride_for s; head = s.head } = cc in
+        let long : 5 ≤ s.head = grind (arith, nat_tests, is) in
+        (subst AreStrideSizes (sym e) (made long), ap (λ (t : Sizes). t.head) e)
+
+pub strided_for-of : (p : Patterns) (searcher : Searcher) → strided_for p ≡ Some searcher → IsPrefilterOf searcher p
+strided_for-of p searcher held = by_rule p.ignore_case (sizes_for (shape_of p.words)) refl refl held
+  where
+    by_rule : (ignore_case : Bool) (found : Option Sizes) → p.ignore_case ≡ ignore_case → sizes_for (shape_of p.words) ≡ found
+        → (if ignore_case then Nothing else option_map (λ (sizes : Sizes). Strided (marks_of sizes p.words)) found) ≡ Some searcher → IsPrefilterOf searcher p
+    by_rule true found rule are is = cc
+    by_rule false Nothing rule are is = cc
+    by_rule false (Some sizes) rule are is =
+        let e : searcher ≡ Strided (marks_of sizes p.words) = cc in
+        let sized = sizes_for-sized (shape_of p.words) sizes (least_head-few p.words) are in
+        let same : (marks_of sizes p.words).sizes ≡ sizes = fold-sizes p.words (no_marks sizes (length p.words)) in
+        let made : AreMarksOf p (marks_of sizes p.words) = record {
+          exact = rule;
+          sizes = subst AreStrideSizes (sym same) sized.0;
+          each = λ k below. HasMarksOf-all sizes p.words k sized.0 below (omega (arith, sized.1, least_head-each p.words k below));
+        } in
+        rw e made
+
+-- whatever is held is a prefilter of the patterns
+pub quickest_for-of : (p : Patterns) (searcher : Searcher) → quickest_for p ≡ Some searcher → IsPrefilterOf searcher p
+quickest_for-of p searcher held = by_way (yields (held_or_packed p)) held
+  where
+    by_strided : (strided : Option Searcher) → strided_for p ≡ strided → option_or strided (held_or_packed p) ≡ Some searcher → IsPrefilterOf searcher p
+    by_strided Nothing none is = held_or_packed-of p searcher is
+    by_strided (Some other) there is = strided_for-of p searcher (there ∙ is)
+
+    by_way : (way : Bool) → (if way then option_or (strided_for p) (held_or_packed p) else held_or_packed p) ≡ Some searcher → IsPrefilterOf searcher p
+    by_way true is = by_strided (strided_for p) refl is
+    by_way false is = held_or_packed-of p searcher is
+
+-- and it does not depend on the kind
+pub quickest_for-kind : (p : Patterns) (kind : MatchKind) → quickest_for (record p { kind = kind }) ≡ quickest_for p
+quickest_for-kind p kind = ap (λ (other : Option Searcher). if yields other then option_or (strided_for p) other else other) (held_or_packed-kind p kind)
+
+-- the same of what may be held
+pub held_or_packed-held : (p : Patterns) (held : Option Searcher) → held ≡ held_or_packed p → IfSome held (λ searcher. IsPrefilterOf searcher p)
+held_or_packed-held p Nothing is = tt
+held_or_packed-held p (Some searcher) is = held_or_packed-of p searcher (sym is)
+
+-- where a strided search is better and has its sizes, it is held
+pub quickest_for-strided : (p : Patterns) (other : Option Searcher) (sizes : Sizes) → p.ignore_case ≡ false → other ≡ held_or_packed p → yields other ≡ true
+    → sizes_for (shape_of p.words) ≡ Some sizes → Some (Strided (marks_of sizes p.words)) ≡ quickest_for p
+quickest_for-strided p other sizes rule is better found =
+    let there : strided_for p ≡ Some (Strided (marks_of sizes p.words)) =
+    ap (λ (b : Bool). if b then Nothing else option_map (λ (t : Sizes). Strided (marks_of t p.words)) (sizes_for (shape_of p.words))) rule
+    ∙ ap (λ (o : Option Sizes). option_map (λ (t : Sizes). Strided (marks_of t p.words)) o) found in
+    let way : yields (held_or_packed p) ≡ true = ap yields (sym is) ∙ better in
+    sym
+    (ap (λ (b : Bool). if b then option_or (strided_for p) (held_or_packed p) else held_or_packed p) way
+    ∙ ap (λ (o : Option Searcher). option_or o (held_or_packed p)) there)

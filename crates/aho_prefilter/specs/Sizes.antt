@@ -1,0 +1,55 @@
+-- For which patterns a strided search is held, and with what sizes.
+use Rattle.std.specs.Prelude.{ℕ, zero, suc, ◌+◌, ◌-◌, ◌*◌, ◌/◌, ◌^◌, min, max, Bool, ◌&&◌, ◌||◌, List, length, nat_le, nat_lt, if◌then◌else◌, Option, Some, None}
+use Rattle.std.specs.List.{fold, list_any}
+use Rattle.aho_prefilter.specs.FirstBytes.{has_byte}
+use Rattle.aho_prefilter.specs.declared.strided.sizes.Shape.{Shape}
+use Rattle.aho_prefilter.specs.declared.strided.sizes.Sizes.{Sizes}
+
+-- the least length of a word, but sixteen at most
+abbrev pub least_head : List (List ℕ) → ℕ
+least_head words = fold (λ head word. min head (length word)) 16 words
+
+-- whether a byte stands in some word
+abbrev pub is_used : List (List ℕ) → ℕ → Bool
+is_used words byte = list_any (λ word. has_byte word byte) words
+
+-- how many of the numbers below this one stand in some word
+unfoldable pub used_below : List (List ℕ) → ℕ → ℕ
+used_below words zero = 0
+used_below words (suc byte) = used_below words byte + (if is_used words byte then 1 else 0)
+
+-- how many words there are, the least length, and of how many bytes they are made
+abbrev pub shape_of : List (List ℕ) → Shape
+shape_of words = record { count = length words; head = least_head words; letters = used_below words 256 }
+
+-- whether there are too few patterns, or they are too short
+abbrev pub is_small : Shape → Bool
+is_small s =
+    nat_lt s.head 5 || (nat_le s.count 32 || (nat_lt s.head 6 && (nat_le s.count 100 || nat_lt 8192 s.count)))
+
+-- how many bytes a gram has: more for few letters and for many patterns, so that few places of a text have one by chance
+abbrev pub wanted_gram : Shape → ℕ
+wanted_gram s =
+    if nat_le s.letters 8 then 8
+    else if nat_le s.count 200 then 4
+    else if nat_le s.count 8192 then (s.head + 2) / 2
+    else (s.head + 4) / 2
+
+-- but four at least, and eight at most, and fewer than a head has
+abbrev pub gram_for : Shape → ℕ
+gram_for s = min (min (max (wanted_gram s) 4) 8) (s.head - 1)
+
+-- for how many places one gram is looked up: for as many as have all of it within the head, but eight at most
+abbrev pub stride_for : Shape → ℕ
+stride_for s = min (s.head + 1 - gram_for s) 8
+
+-- whether half of all grams of these few letters, or more, would have their bits set
+abbrev pub is_crowded : Shape → Bool
+is_crowded s = nat_le s.letters 8 && (nat_lt s.head 12 && nat_lt (s.letters ^ gram_for s / (2 * stride_for s)) s.count)
+
+-- the sizes for patterns of this shape, if a strided search is held for them
+abbrev pub sizes_for : Shape → Option Sizes
+sizes_for s =
+    if is_small s then None
+    else if is_crowded s then None
+    else Some (record { gram = gram_for s; stride = stride_for s; head = s.head })

@@ -1,0 +1,87 @@
+//! Which prefilter there is for some patterns where each kind may be held.
+
+ghost use Rattle.std.specs.Prelude.{◌≡◌, ◌<◌, false, length, IfOk, IfErr, IfSome};
+ghost use Rattle.aho_core.specs.Replacement.{pieces_of};
+ghost use Rattle.aho_core.specs.declared.search.MatchKind.{MatchKind};
+ghost use Rattle.aho_prefilter.specs.Prefilter.{IsPrefilterOf, held_or_packed, is_passed_by, patterns_from, quickest_for, yields};
+
+use crate::prefilter::packed_builder::stops_in_words;
+use crate::prefilter::{PackedBuilder, Prefilter, Searcher};
+use crate::strided::Strided;
+use crate::strided::sizes::Shape;
+use std::alloc::{AllocError, Global};
+
+impl Prefilter {
+    /// The prefilter for these patterns where it may be of each kind, or none. `ignore_case` makes an ASCII letter the same in
+    /// both cases.
+    ///
+    /// It is a strided search, if bytes are compared as they are, there are more than thirty-two patterns, and each has five
+    /// bytes or more (six, for up to a hundred and for more than 8,192 patterns). But it is the one of a `PackedBuilder` where
+    /// that one searches for first bytes of which words are not made, or where too many grams of a few letters would be marked.
+    ///
+    /// # Errors
+    ///
+    /// Out of memory, for the copy of the first pattern, or for the tables of a strided search.
+    pub fn quickest(
+        alloc: Global,
+        ignore_case: bool,
+        patterns: &[&[u8]],
+    ) -> Result<Option<Prefilter>, AllocError>
+        ensures held { (kind : MatchKind) → IfOk result (λ held.
+            held ≡ quickest_for (patterns_from kind ignore_case (pieces_of patterns.now))) }
+        ensures of { (kind : MatchKind) → IfOk result (λ held. IfSome held (λ prefilter.
+            IsPrefilterOf prefilter (patterns_from kind ignore_case (pieces_of patterns.now)))) }
+        ensures exact { IfErr result (λ _. ignore_case ≡ false) }
+        ensures some { IfErr result (λ _. 0 < length patterns.now) }
+    {
+        let other = packed_or_other(alloc, ignore_case, patterns)?;
+        if ignore_case || !yields(&other) {
+            return Ok(other);
+        }
+        let Some(sizes) = Shape::of(patterns).sizes() else {
+            return Ok(other);
+        };
+        let strided = Strided::new(alloc, sizes, patterns)?;
+        Ok(Some(Prefilter {
+            searcher: Searcher::Strided(strided),
+        }))
+    }
+}
+
+/// The prefilter that a `PackedBuilder` makes of these patterns.
+fn packed_or_other(
+    alloc: Global,
+    ignore_case: bool,
+    patterns: &[&[u8]],
+) -> Result<Option<Prefilter>, AllocError>
+    ensures held { (kind : MatchKind) → IfOk result (λ held.
+        held ≡ held_or_packed (patterns_from kind ignore_case (pieces_of patterns.now))) }
+    ensures exact { IfErr result (λ _. ignore_case ≡ false) }
+    ensures some { IfErr result (λ _. 0 < length patterns.now) }
+{
+    let mut builder = PackedBuilder::new(alloc, ignore_case);
+    for pattern in patterns {
+        builder.add(pattern)?;
+    }
+    builder.build()
+}
+
+/// Whether a strided search is better than this prefilter.
+fn yields(other: &Option<Prefilter>) -> bool
+    ensures yields { result ≡ yields other.now }
+{
+    match other {
+        Some(prefilter) => is_passed_by(&prefilter.searcher),
+        None => true,
+    }
+}
+
+/// Whether a strided search is better than this one.
+fn is_passed_by(searcher: &Searcher) -> bool
+    ensures passed { result ≡ is_passed_by searcher.now }
+{
+    match searcher {
+        Searcher::Packed(_) => true,
+        _ => stops_in_words(searcher),
+    }
+}

@@ -1,0 +1,144 @@
+//! For which patterns a strided search is held, and with what sizes.
+
+ghost use Rattle.std.specs.Prelude.{◌≡◌, ℕ, ◌<◌, ◌≤◌, false, slice_index, if◌then◌else◌};
+ghost use Rattle.aho_core.specs.Replacement.{pieces_of};
+ghost use Rattle.aho_prefilter.specs.FirstBytes.{has_byte};
+ghost use Rattle.aho_prefilter.specs.Sizes.{gram_for, least_head, is_crowded, is_small, shape_of, sizes_for, stride_for, used_below, wanted_gram};
+
+/// The sizes of a strided search.
+#[derive(Clone, Copy)]
+pub(crate) struct Sizes {
+    /// How many bytes a gram has.
+    pub(super) gram: usize,
+    /// How many places one gram is looked up for.
+    pub(super) stride: usize,
+    /// How many of the first bytes of each pattern are looked at.
+    pub(super) head: usize,
+}
+
+/// What the sizes for some patterns depend on.
+#[derive(Clone, Copy)]
+pub(crate) struct Shape {
+    /// How many patterns there are.
+    count: usize,
+    /// How many bytes the shortest has, but sixteen at most.
+    head: usize,
+    /// How many different bytes they are made of.
+    letters: usize,
+}
+
+impl Shape {
+    /// The shape of these patterns.
+    pub(crate) fn of(patterns: &[&[u8]]) -> Shape
+        ensures of { result ≡ shape_of (pieces_of patterns.now) }
+    {
+        Shape {
+            count: patterns.len(),
+            head: least_head(patterns),
+            letters: letters_of(patterns),
+        }
+    }
+
+    /// The sizes for patterns of this shape, if a strided search is held for them.
+    pub(crate) fn sizes(self) -> Option<Sizes>
+        requires short { self.head ≤ 16 }
+        ensures sizes { result ≡ sizes_for self }
+    {
+        if self.is_small() {
+            return None;
+        }
+        let gram = self.gram();
+        let stride = (self.head + 1 - gram).min(8);
+        if self.is_crowded(gram, stride) {
+            return None;
+        }
+        Some(Sizes {
+            gram,
+            stride,
+            head: self.head,
+        })
+    }
+
+    /// Whether there are too few patterns, or they are too short.
+    fn is_small(self) -> bool
+        ensures small { result ≡ is_small self }
+    {
+        self.head < 5
+            || self.count <= 32
+            || self.head < 6 && (self.count <= 100 || self.count > 8192)
+    }
+
+    /// How many bytes a gram has.
+    fn gram(self) -> usize
+        requires large { is_small self ≡ false }
+        requires short { self.head ≤ 16 }
+        ensures gram { result ≡ gram_for self }
+    {
+        self.wanted_gram().max(4).min(8).min(self.head - 1)
+    }
+
+    /// How many bytes a gram is to have, so that few places of a text have one by chance.
+    fn wanted_gram(self) -> usize
+        requires short { self.head ≤ 16 }
+        ensures wanted { result ≡ wanted_gram self }
+    {
+        if self.letters <= 8 {
+            8
+        } else if self.count <= 200 {
+            4
+        } else if self.count <= 8192 {
+            (self.head + 2) / 2
+        } else {
+            (self.head + 4) / 2
+        }
+    }
+
+    /// Whether half of all grams of a few letters, or more, would have their bits set.
+    fn is_crowded(self, gram: usize, stride: usize) -> bool
+        requires gram { gram ≡ gram_for self }
+        requires stride { stride ≡ stride_for self }
+        requires steps { 0 < stride }
+        ensures crowded { result ≡ is_crowded self }
+    {
+        if self.letters > 8 || self.head >= 12 {
+            return false;
+        }
+        self.count > self.letters.pow(gram as u32) / (2 * stride)
+    }
+}
+
+/// How many bytes the shortest of these patterns has, but sixteen at most.
+fn least_head(patterns: &[&[u8]]) -> usize
+    ensures head { result ≡ least_head (pieces_of patterns.now) }
+{
+    let mut head = 16;
+    for pattern in patterns {
+        head = head.min(pattern.len());
+    }
+    head
+}
+
+/// How many different bytes these patterns are made of.
+fn letters_of(patterns: &[&[u8]]) -> usize
+    ensures letters { result ≡ used_below (pieces_of patterns.now) 256 }
+{
+    let mut seen = [0u8; 256];
+    for pattern in patterns {
+        see(&mut seen, pattern);
+    }
+    let mut letters = 0;
+    for one in seen {
+        letters += one as usize;
+    }
+    letters
+}
+
+/// Notes the bytes of a pattern.
+fn see(seen: &mut [u8; 256], pattern: &[u8])
+    ensures seen { (byte : ℕ) → byte < 256 → slice_index seen.new byte
+        ≡ (if has_byte pattern.now byte then 1 else slice_index seen.old byte) }
+{
+    for byte in pattern {
+        seen[*byte as usize] = 1;
+    }
+}
