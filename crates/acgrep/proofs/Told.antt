@@ -1,6 +1,11 @@
 -- What a message tells is one that may be told.
-use Rattle.std.proofs.Common.{◌≡◌, inl, inr, ℕ, ◌<◌, Bool, true, false, List, [], ◌∷◌, ◌++◌, Option, Some, None, refl, sym, ap, subst, ◌∙◌, arith, codes}
-use Rattle.std.specs.Prelude.{IfSome, map}
+use Rattle.std.proofs.Common.{◌≡◌, inl, inr, ◌⊎◌, ℕ, ◌-◌, ◌<◌, ◌≤◌, take, drop, Bool, true, false, List, [], ◌∷◌, ◌++◌, Option, Some, None, refl, sym, ap, subst, ◌∙◌, arith, codes}
+use Prim.Native.Nat.{zero, suc}
+use Rattle.std.specs.Prelude.{IfSome, map, length, nat_lt, slice_index_or, if◌then◌else◌}
+use Rattle.std.specs.Borrow.{Bor}
+use Rattle.std.proofs.Math.ListN.{get_or}
+use Rattle.std.proofs.lemmas.List.{take_all}
+use Rattle.std.proofs.lemmas.Bool.{cases_Bool, cases_lt, lt-ltb}
 use Rattle.aho_core.specs.Texts.{build_error_text, match_error_text}
 use Rattle.aho_core.specs.declared.error.BuildError.{BuildError}
 use Rattle.aho_core.specs.declared.error.MatchErrorKind.{MatchErrorKind}
@@ -11,7 +16,16 @@ use Rattle.programs.specs.Telling.{Tells, TellsBytes, TellsSome}
 use Rattle.programs.specs.declared.errors.Errors.{Errors}
 use Rattle.programs.specs.declared.reason.Reason.{Reason}
 use Rattle.programs.proofs.Lines.{some-one, some-tells, some-then, some-weaker, tells-none, tells-then, tells-weaker, then-some}
-use Rattle.acgrep.specs.Told.{IsMessage, MayName, TellsIf, TellsOutcome, TellsStatus}
+use Rattle.acgrep.specs.Arguments.{origin_of}
+use Rattle.acgrep.specs.Files.{IfSearched, is_enough, seen_after, status_by}
+use Rattle.acgrep.specs.Runs.{origins_of}
+use Rattle.acgrep.specs.Told.{IsMessage, MayName, MayTell, TellsIf, TellsOutcome, TellsStatus, source_names}
+use Rattle.acgrep.specs.declared.arguments.Source.{Source}
+use Rattle.acgrep.specs.declared.arguments.Source.TheVariants.{File}
+use Rattle.acgrep.specs.declared.files.Seen.{Seen}
+use Rattle.acgrep.specs.declared.options.Shown.{Shown}
+use Rattle.acgrep.specs.declared.options.Shown.TheVariants.{Lines, Matches, Objects, Count, Names, Nothing}
+use Rattle.acgrep.proofs.NamesSearched.{enough_only}
 use Rattle.acgrep.specs.declared.files.Outcome.{Outcome}
 use Rattle.acgrep.specs.declared.files.Outcome.TheVariants.{Searched, Unread, Stopped}
 
@@ -62,3 +76,151 @@ module _ {E : Type 0} (K : SinkGhosts E) (names : List (List ℕ)) where
       → TellsBytes K old new (message_by (codes "acgrep") (record { name = Some (codes "search"); line = None; cause = match_error_text error })) → TellsSome K (IsMessage names) old new
   tells-search old new error told =
       some-one K (IsMessage names) old new _ (record { message = _; name = inl (inr (inl refl)); cause = inr (inr (error, refl)); is = refl }) told
+
+-- an element of a list is among the names of all
+pub among-at : {X : Type 0} (f : X → List ℕ) (xs : List X) (i : ℕ) (d : X) → i < length xs → IsAmong (f (get_or xs i d)) (map f xs)
+among-at f [] i d lt = absurd (omega (arith, lt))
+among-at f (x ∷ xs) zero d lt = inl refl
+among-at f (x ∷ xs) (suc i) d lt = inr (among-at f xs i d (omega (arith, lt)))
+
+-- a source that was found names a file among those of all
+pub source-found : (sources : List Source) (number : ℕ) (source : Source) (name : Bor (List ℕ)) (d : Source) → true ≡ nat_lt number (length sources) → source ≡ slice_index_or sources number d
+    → source ≡ File name → MayName (source_names (origins_of sources)) name.now
+source-found sources number source name d within found is =
+    let lt : number < length sources = lt-ltb number (length sources) (sym within) in
+    let among : IsAmong (origin_of (get_or sources number d)).bytes (map (λ source. (origin_of source).bytes) sources) = among-at (λ source. (origin_of source).bytes) sources number d lt in
+    let same : (origin_of (get_or sources number d)).bytes ≡ name.now = ap (λ (s : Source). (origin_of s).bytes) (sym found ∙ is) in
+    inr (subst (IsAmong name.now) (map-then sources) (subst (λ (n : List ℕ). IsAmong n (map (λ source. (origin_of source).bytes) sources)) same among))
+  where
+    map-then : (xs : List Source) → map (λ source. (origin_of source).bytes) xs ≡ source_names (origins_of xs)
+    map-then [] = refl
+    map-then (x ∷ xs) = ap (λ l. (origin_of x).bytes ∷ l) (map-then xs)
+
+module _ {E : Type 0} (K : SinkGhosts E) (P : List ℕ → Type 0) where
+  -- what is told of one file, and then of others
+  pub if-more : (old mid new : Errors E) (failed : Bool) (outcome : Outcome) (shown : Shown) (seen : Seen) → TellsIf K P seen.failed old mid → TellsOutcome K P outcome mid new
+      → TellsIf K P (seen_after shown seen outcome).failed old new
+  if-more old mid new failed (Searched any) shown seen before now = subst (λ (e : Errors E). TellsIf K P seen.failed old e) (sym now) before
+  if-more old mid new failed Unread shown seen before now = more seen.failed before
+    where
+      more : (b : Bool) → TellsIf K P b old mid → TellsSome K P old new
+      more true some = some-then K P old mid new some (some-tells K P mid new now)
+      more false same = subst (λ (e : Errors E). TellsSome K P e new) same now
+  if-more old mid new failed Stopped shown seen before now = more seen.failed before
+    where
+      more : (b : Bool) → TellsIf K P b old mid → TellsSome K P old new
+      more true some = some-then K P old mid new some (some-tells K P mid new now)
+      more false same = subst (λ (e : Errors E). TellsSome K P e new) same now
+
+  -- nothing is told, and the status tells of no error
+  pub status-none : (shown : Shown) (status : ℕ) (e : Errors E) → status < 2 → TellsStatus K P shown status e e
+  status-none shown status e low = record {
+    tells = tells-none K P e;
+    silent = λ is loud. refl;
+    some = λ two. absurd (omega (arith, low, two));
+  }
+
+  -- a line is told, and the status tells it
+  pub status-some : (shown : Shown) (old new : Errors E) → TellsSome K P old new → TellsStatus K P shown 2 old new
+  status-some shown old new some = record {
+    tells = some-tells K P old new some;
+    silent = λ low loud. absurd (omega (arith, low));
+    some = λ two. some;
+  }
+
+  -- the status tells what was seen
+  pub status-seen : (shown : Shown) (seen : Seen) (old new : Errors E) → TellsIf K P seen.failed old new → TellsStatus K P shown (status_by shown seen) old new
+  status-seen shown seen old new told = by seen.failed refl
+    where
+      tells-if : (b : Bool) → TellsIf K P b old new → Tells K P old new
+      tells-if true some = some-tells K P old new some
+      tells-if false same = subst (Tells K P old) (sym same) (tells-none K P old)
+
+      by : (b : Bool) → seen.failed ≡ b → TellsStatus K P shown (status_by shown seen) old new
+      by false clean = record {
+        tells = tells-if seen.failed told;
+        silent = λ low loud. subst (λ (b : Bool). TellsIf K P b old new) clean told;
+        some = λ two. let none : status_by shown seen < 2 = below shown seen.selected seen.failed clean in absurd (omega (arith, two, none));
+      }
+      by true failed = record {
+        tells = tells-if seen.failed told;
+        silent = λ low loud. absurd (quiet shown seen.selected seen.failed failed low loud);
+        some = λ two. subst (λ (b : Bool). TellsIf K P b old new) failed told;
+      }
+
+      below : (shown : Shown) (selected failed : Bool) → failed ≡ false → (if is_enough shown selected then 0 else (if failed then 2 else (if selected then 0 else 1))) < 2
+      below shown selected true clean = absurd (cc)
+      below shown true false clean = elim (cases_Bool (is_enough shown true)) [ inl enough ↦ rw enough (omega arith) | inr not ↦ rw not (omega arith) ]
+      below shown false false clean = elim (cases_Bool (is_enough shown false)) [ inl enough ↦ rw enough (omega arith) | inr not ↦ rw not (omega arith) ]
+
+      quiet : (shown : Shown) (selected failed : Bool) → failed ≡ true → (if is_enough shown selected then 0 else (if failed then 2 else (if selected then 0 else 1))) < 2 → (shown ≡ Nothing → ⊥) → ⊥
+      quiet shown selected false is low loud = absurd (cc)
+      quiet shown selected true is low loud = elim (cases_Bool (is_enough shown selected)) [
+        | inl enough ↦ loud (enough_only shown selected enough).0
+        | inr not ↦ absurd (omega (arith, rw not at low))
+      ]
+
+  -- a file that was not searched
+  pub outcome-some : (outcome : Outcome) (old new : Errors E) → IfSearched outcome (λ any. ⊥) → TellsSome K P old new → TellsOutcome K P outcome old new
+  outcome-some (Searched any) old new not some = absurd not
+  outcome-some Unread old new not some = some
+  outcome-some Stopped old new not some = some
+
+  -- what may be told in one case may be in another
+  pub status-weaker : (Q : List ℕ → Type 0) (shown : Shown) (status : ℕ) (old new : Errors E) → ((line : List ℕ) → P line → Q line) → TellsStatus K P shown status old new
+      → TellsStatus K Q shown status old new
+  status-weaker Q shown status old new may told = record {
+    tells = tells-weaker K P Q old new may told.tells;
+    silent = told.silent;
+    some = λ two. some-weaker K P Q old new may (told.some two);
+  }
+
+-- each of these names is among others
+abbrev pub AreWithin : List (List ℕ) → List (List ℕ) → Type 0
+AreWithin names all = (name : List ℕ) → IsAmong name names → IsAmong name all
+
+-- the first of some names is, and those behind it are
+pub within-cut : (first : List ℕ) (rest names all : List (List ℕ)) → names ≡ first ∷ rest → AreWithin names all → IsAmong first all × AreWithin rest all
+within-cut first rest names all cut within =
+    let both : AreWithin (first ∷ rest) all = subst (λ (l : List (List ℕ)). AreWithin l all) cut within in
+    (both first (inl refl), λ name is. both name (inr is))
+
+-- the same is told of a status that is that one
+pub not-quiet : (quiet names count json only : Bool) → (if quiet then Nothing else if names then Names else if count then Count else if json then Objects else if only then Matches else Lines) ≡ Nothing
+    → quiet ≡ false → ⊥
+not-quiet true names count json only is loud = absurd (cc)
+not-quiet false true count json only is loud = absurd (cc)
+not-quiet false false true json only is loud = absurd (cc)
+not-quiet false false false true only is loud = absurd (cc)
+not-quiet false false false false true is loud = absurd (cc)
+not-quiet false false false false false is loud = absurd (cc)
+
+module _ {E : Type 0} (K : SinkGhosts E) (names : List (List ℕ)) where
+  -- what was told before a last flush, and of it
+  pub finished : (shown : Shown) (status status' : ℕ) (old mid new : Errors E) → status ≤ 2 → status' ≤ 2 → (status' ≡ status) ⊎ (status' ≡ 2) → TellsStatus K (MayTell names) shown status old mid
+      → (status' < 2 → new ≡ mid) → (2 ≤ status → new ≡ mid) → (status < 2 → status' ≡ 2 → TellsSome K (IsMessage names) mid new) → TellsStatus K (MayTell names) shown status' old new
+  finished shown status status' old mid new bound bound' which before same kept told = record {
+    tells = elim (cases_lt status' 2) [
+      | inl low ↦ subst (Tells K (MayTell names) old) (sym (same low)) before.tells
+      | inr two ↦ some-tells K (MayTell names) old new (late (omega (arith, two, bound')))
+    ];
+    silent = λ low loud.
+        let is : status' ≡ status = elim which [ inl is ↦ is | inr two ↦ absurd (omega (arith, low, two)) ] in
+        same low ∙ before.silent (subst (λ (n : ℕ). n < 2) is low) loud;
+    some = late;
+  }
+    where
+      late : status' ≡ 2 → TellsSome K (MayTell names) old new
+      late two = elim (cases_lt status 2) [
+        | inl low ↦ then-some K (MayTell names) old mid new before.tells (some-weaker K (IsMessage names) (MayTell names) mid new (λ line is. inl is) (told low two))
+        | inr high ↦ subst (λ (e : Errors E). TellsSome K (MayTell names) old e) (sym (kept high)) (before.some (omega (arith, high, bound)))
+      ]
+
+-- the first source, and those behind it, where there is one
+pub sources-cut : (sources : List Source) (other : Source) (all : List (List ℕ)) → 0 < length sources → AreWithin (source_names (origins_of sources)) all
+    → IsAmong (origin_of (get_or sources 0 other)).bytes all × AreWithin (source_names (origins_of (take (length sources - 1) (drop 1 sources)))) all
+sources-cut [] other all some within = absurd (omega (arith, some))
+sources-cut (source ∷ sources) other all some within =
+    let rest : take (length (source ∷ sources) - 1) sources ≡ sources = take_all (length (source ∷ sources) - 1) sources (omega arith) in
+    within-cut (origin_of source).bytes (source_names (origins_of (take (length (source ∷ sources) - 1) sources))) (source_names (origins_of (source ∷ sources))) all
+    (ap (λ (l : List Source). (origin_of source).bytes ∷ source_names (origins_of l)) (sym rest)) within

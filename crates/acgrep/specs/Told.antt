@@ -75,9 +75,9 @@ abbrev pub names_said : Option Said → List (List ℕ)
 names_said None = []
 names_said (Some said) = names_told (sources_by said.sources said.operands) (names_by said.sources said.operands)
 
--- a line that a call may write to standard error whose arguments say this
-abbrev pub MayTell : Option Said → List ℕ → Type 0
-MayTell given line = IsMessage (names_said given) line ⊎ IsUsage line
+-- a line that a call may write to standard error whose arguments name these files
+abbrev pub MayTell : List (List ℕ) → List ℕ → Type 0
+MayTell names line = IsMessage names line ⊎ IsUsage line
 
 module _ {E : Type 0} (K : SinkGhosts E) (IsLine : List ℕ → Type 0) where
   -- one line or more is told where that is so, and else nothing

@@ -1,14 +1,15 @@
 //! A call over its arguments, files and streams.
 
-ghost use Rattle.std.specs.Prelude.{◌≡◌, ◌≤◌, ◌<◌, ◌⊎◌, ℕ, List, None, Option, Some, false, nat_lt, true, unwrap_or};
+ghost use Rattle.std.specs.Prelude.{◌≡◌, ◌≤◌, ◌<◌, ◌⊎◌, ℕ, List, [], None, Some, false, nat_lt, true, unwrap_or};
 ghost use Rattle.std.specs.Io.KnownBytes.{Keeps};
 ghost use Rattle.aho_core.specs.Patterns.{Patterns};
 ghost use Rattle.aho_core.specs.Replacement.{pieces_of};
 ghost use Rattle.programs.specs.Arguments.{texts};
-ghost use Rattle.acgrep.specs.Arguments.{Said, said, said_by, shown_by};
+ghost use Rattle.acgrep.specs.Arguments.{said, said_by, shown_by};
 ghost use Rattle.programs.specs.Names.{name_bytes, or_input};
 ghost use Rattle.programs.specs.Telling.{Tells, TellsSome};
-ghost use Rattle.acgrep.specs.Told.{IsMessage, MayTell, TellsStatus, names_told, shown_names};
+ghost use Rattle.acgrep.specs.declared.options.Shown.{Shown};
+ghost use Rattle.acgrep.specs.Told.{IsMessage, MayTell, TellsStatus, names_said, names_told, shown_names};
 ghost use Rattle.acgrep.specs.Files.{AreFilesBegun, AreSearchedOr};
 ghost use Rattle.acgrep.specs.Runs.{AsksToSearch, BeginsSearch, BeginsFor, GivesNone, IfSaid, IsJob, Searches, SearchesFor, are_empty, is_colored, origins_of, selects_none};
 ghost use Rattle.acgrep.specs.Searchers.{IsSearcherOf};
@@ -68,11 +69,11 @@ pub fn run<F: Open, R: Read, W: Sink, E: Sink>(
 
     // Where the status tells of no error nothing is told, but under `-q` of files that cannot be read. Where it tells of one, a line
     // says why: whole, unless writing it failed.
-    ensures tells { Tells E.Sink (MayTell (said_by (texts arguments.now))) errors.old errors.new }
+    ensures tells { Tells E.Sink (MayTell (names_said (said_by (texts arguments.now)))) errors.old errors.new }
     ensures silent { IfSaid arguments.now (λ said. said.flags.quiet ≡ false
         → result < 2 → errors.new ≡ errors.old) }
     ensures says_why { result ≡ 2 → TellsSome E.Sink
-        (MayTell (said_by (texts arguments.now))) errors.old errors.new }
+        (MayTell (names_said (said_by (texts arguments.now)))) errors.old errors.new }
 
     // All output was flushed where the status tells of no error.
     ensures flushed { result < 2 → W.flushed output.new ≡ true }
@@ -91,7 +92,7 @@ pub fn run<F: Open, R: Read, W: Sink, E: Sink>(
 
 /// Tells why the arguments are refused.
 fn tell_refused<E: Sink>(refusal: Refusal<'_>, errors: &mut Errors<'_, E>)
-    ensures told { (given : Option Said) → TellsSome E.Sink (MayTell given) errors.old errors.new }
+    ensures told { (names : List (List ℕ)) → TellsSome E.Sink (MayTell names) errors.old errors.new }
 {
     match refusal {
         Refusal::Wrong(wrong) => tell_wrong(errors, wrong),
@@ -102,7 +103,7 @@ fn tell_refused<E: Sink>(refusal: Refusal<'_>, errors: &mut Errors<'_, E>)
 /// Tells why there are no arguments, or no memory to begin with, and answers the exit status.
 pub fn refuse<E: Sink>(failure: &Failure, errors: &mut Errors<'_, E>) -> u8
     ensures failed { result ≡ 2 }
-    ensures told { TellsSome E.Sink (MayTell None) errors.old errors.new }
+    ensures told { TellsSome E.Sink (MayTell []) errors.old errors.new }
 {
     match failure {
         Failure::OutOfMemory => tell_refused(Refusal::OutOfMemory, errors),
@@ -152,7 +153,7 @@ fn answer<F: Open, R: Read, W: Sink, E: Sink>(
     ensures begins { AsksToSearch given.now.flags
         → BeginsSearch (F.holds files.now) terminal (said given.now)
         (R.remaining input.old) (W.taken output.old) (W.taken output.new) }
-    ensures told { TellsStatus E.Sink (MayTell (Some (said given.now)))
+    ensures told { TellsStatus E.Sink (MayTell (names_said (Some (said given.now))))
         (shown_by given.now.flags) result errors.old errors.new }
 {
     if given.flags.version {
@@ -181,7 +182,7 @@ fn search_asked<F: Open, R: Read, W: Sink, E: Sink>(
         (W.taken output.old) (W.taken output.new) result }
     ensures begins { BeginsSearch (F.holds files.now) terminal (said given.now)
         (R.remaining input.old) (W.taken output.old) (W.taken output.new) }
-    ensures told { TellsStatus E.Sink (MayTell (Some (said given.now)))
+    ensures told { TellsStatus E.Sink (MayTell (names_said (Some (said given.now))))
         (shown_by given.now.flags) result errors.old errors.new }
 {
     let flags = &given.flags;
@@ -210,7 +211,7 @@ fn search_asked<F: Open, R: Read, W: Sink, E: Sink>(
 fn write_text<W: Sink, E: Sink>(text: &[u8], output: &mut W, errors: &mut Errors<'_, E>) -> u8
     ensures bound { result ≤ 2 }
     ensures told { (shown : Shown) → (names : List (List ℕ)) →
-        TellsStatus E.Sink (IsMessage names) shown result errors.old errors.new }
+        TellsStatus E.Sink (MayTell names) shown result errors.old errors.new }
 {
     match write_whole(output, text) {
         Ok(()) => 0,
@@ -242,7 +243,7 @@ fn search<F: Open, R: Read, W: Sink, E: Sink>(
         (origins_of sources.now) (name_bytes names.now)
         (R.remaining input.old) (W.taken output.old) (W.taken output.new) }
     ensures told { TellsStatus E.Sink
-        (IsMessage (names_told (origins_of sources.now) (name_bytes names.now)))
+        (MayTell (names_told (origins_of sources.now) (name_bytes names.now)))
         (shown_by flags.now) result errors.old errors.new }
 {
     let Some(keys) = read_keys(alloc, sources, files, input, errors) else {

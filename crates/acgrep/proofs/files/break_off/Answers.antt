@@ -1,4 +1,6 @@
 -- A flush keeps what was written, and behind it a beginning of the total stands.
+use Rattle.programs.proofs.Lines.{some-tells, some-then}
+use Rattle.acgrep.specs.Told.{IsMessage}
 use Rattle.acgrep.proofs.FilesBegun.{total_kept, total_none}
 use Rattle.acgrep.proofs.files.break_off.Goals as goal
 
@@ -15,3 +17,8 @@ pub returns-in-Err-clause-begun : goal.returns-in-Err-clause-begun
 returns-in-Err-clause-begun g c =
     total_kept c.args.job.now c.args.state.now.selected (g.W.Sink.taken c.args.output.now) (g.W.Sink.taken c.flush.new.self) (g.W.Sink.taken c.put_total.new.output)
     c.flush.ensures.kept c.put_total.ensures.begun
+
+pub returns-in-Err-clause-told : goal.returns-in-Err-clause-told
+returns-in-Err-clause-told g c = λ names is.
+    some-then g.E.Sink (IsMessage names) c.args.errors.now c.tell_stop.new.errors c.tell_total.new.errors (c.tell_stop.ensures.told names is)
+    (some-tells g.E.Sink (IsMessage names) c.tell_stop.new.errors c.tell_total.new.errors (c.tell_total.ensures.told names))
