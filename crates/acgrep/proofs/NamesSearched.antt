@@ -30,7 +30,7 @@ or_both true b c = refl
 or_both false b c = refl
 
 -- a selected line is enough only under `-q`
-enough_only : (shown : Shown) (any : Bool) → is_enough shown any ≡ true → (shown ≡ Nothing) × (any ≡ true)
+pub enough_only : (shown : Shown) (any : Bool) → is_enough shown any ≡ true → (shown ≡ Nothing) × (any ≡ true)
 enough_only Lines any is = absurd (cc)
 enough_only Matches any is = absurd (cc)
 enough_only Objects any is = absurd (cc)

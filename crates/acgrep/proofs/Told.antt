@@ -4,8 +4,9 @@ use Prim.Native.Nat.{zero, suc}
 use Rattle.std.specs.Prelude.{IfSome, map, length, nat_lt, slice_index_or, if◌then◌else◌}
 use Rattle.std.specs.Borrow.{Bor}
 use Rattle.std.proofs.Math.ListN.{get_or}
+use Rattle.std.proofs.lemmas.Grind.{common_steps}
 use Rattle.std.proofs.lemmas.List.{take_all}
-use Rattle.std.proofs.lemmas.Bool.{cases_Bool, cases_lt, lt-ltb}
+use Rattle.std.proofs.lemmas.Bool.{cases_Bool, cases_lt}
 use Rattle.aho_core.specs.Texts.{build_error_text, match_error_text}
 use Rattle.aho_core.specs.declared.error.BuildError.{BuildError}
 use Rattle.aho_core.specs.declared.error.MatchErrorKind.{MatchErrorKind}
@@ -19,7 +20,7 @@ use Rattle.programs.proofs.Lines.{some-one, some-tells, some-then, some-weaker, 
 use Rattle.acgrep.specs.Arguments.{origin_of}
 use Rattle.acgrep.specs.Files.{IfSearched, is_enough, seen_after, status_by}
 use Rattle.acgrep.specs.Runs.{origins_of}
-use Rattle.acgrep.specs.Told.{IsMessage, MayName, MayTell, TellsIf, TellsOutcome, TellsStatus, source_names}
+use Rattle.acgrep.specs.Told.{IsMessage, IsToldCause, MayName, MayTell, TellsIf, TellsOutcome, TellsStatus, source_names}
 use Rattle.acgrep.specs.declared.arguments.Source.{Source}
 use Rattle.acgrep.specs.declared.arguments.Source.TheVariants.{File}
 use Rattle.acgrep.specs.declared.files.Seen.{Seen}
@@ -57,25 +58,37 @@ message-more names all more line m = record {
     named (Some name) is = may name is
 
 module _ {E : Type 0} (K : SinkGhosts E) (names : List (List ℕ)) where
-  -- a message without a name, or of a name, whose cause is why the system failed
+  -- a message that may be told is one line
+  tells-message : (old new : Errors E) (m : Message) → IfSome m.name (MayName names) → IsToldCause m.cause → TellsBytes K old new (message_by (codes "acgrep") m) → TellsSome K (IsMessage names) old new
+  tells-message old new m named caused told =
+      some-one K (IsMessage names) old new (message_by (codes "acgrep") m) (record { message = m; name = named; cause = caused; is = refl }) told
+
+  -- one without a name, or of a name, whose cause is why the system failed
   pub tells-memory : (old new : Errors E) (reason : Reason) → TellsBytes K old new (message_by (codes "acgrep") (record { name = None; line = None; cause = reason_text reason }))
       → TellsSome K (IsMessage names) old new
-  tells-memory old new reason told = some-one K (IsMessage names) old new _ (record { message = _; name = tt; cause = inl (reason, refl); is = refl }) told
+  tells-memory old new reason told =
+      let m : Message = record { name = None; line = None; cause = reason_text reason } in
+      tells-message old new m tt (inl (reason, refl)) told
 
   pub tells-fault : (old new : Errors E) (name : List ℕ) (reason : Reason) → MayName names name
       → TellsBytes K old new (message_by (codes "acgrep") (record { name = Some name; line = None; cause = reason_text reason })) → TellsSome K (IsMessage names) old new
-  tells-fault old new name reason may told = some-one K (IsMessage names) old new _ (record { message = _; name = may; cause = inl (reason, refl); is = refl }) told
+  tells-fault old new name reason may told =
+      let m : Message = record { name = Some name; line = None; cause = reason_text reason } in
+      tells-message old new m may (inl (reason, refl)) told
 
   -- why the patterns are refused
   pub tells-build : (old new : Errors E) (name : List ℕ) (line : Option ℕ) (error : BuildError) → MayName names name
       → TellsBytes K old new (message_by (codes "acgrep") (record { name = Some name; line = line; cause = build_error_text error })) → TellsSome K (IsMessage names) old new
-  tells-build old new name line error may told = some-one K (IsMessage names) old new _ (record { message = _; name = may; cause = inr (inl (error, refl)); is = refl }) told
+  tells-build old new name line error may told =
+      let m : Message = record { name = Some name; line = line; cause = build_error_text error } in
+      tells-message old new m may (inr (inl (error, refl))) told
 
   -- why the search is
   pub tells-search : (old new : Errors E) (error : MatchErrorKind)
       → TellsBytes K old new (message_by (codes "acgrep") (record { name = Some (codes "search"); line = None; cause = match_error_text error })) → TellsSome K (IsMessage names) old new
   tells-search old new error told =
-      some-one K (IsMessage names) old new _ (record { message = _; name = inl (inr (inl refl)); cause = inr (inr (error, refl)); is = refl }) told
+      let m : Message = record { name = Some (codes "search"); line = None; cause = match_error_text error } in
+      tells-message old new m (inl (inr (inl refl))) (inr (inr (error, refl))) told
 
 -- an element of a list is among the names of all
 pub among-at : {X : Type 0} (f : X → List ℕ) (xs : List X) (i : ℕ) (d : X) → i < length xs → IsAmong (f (get_or xs i d)) (map f xs)
@@ -87,7 +100,7 @@ among-at f (x ∷ xs) (suc i) d lt = inr (among-at f xs i d (omega (arith, lt)))
 pub source-found : (sources : List Source) (number : ℕ) (source : Source) (name : Bor (List ℕ)) (d : Source) → true ≡ nat_lt number (length sources) → source ≡ slice_index_or sources number d
     → source ≡ File name → MayName (source_names (origins_of sources)) name.now
 source-found sources number source name d within found is =
-    let lt : number < length sources = lt-ltb number (length sources) (sym within) in
+    let lt : number < length sources = grind (arith, common_steps, within) in
     let among : IsAmong (origin_of (get_or sources number d)).bytes (map (λ source. (origin_of source).bytes) sources) = among-at (λ source. (origin_of source).bytes) sources number d lt in
     let same : (origin_of (get_or sources number d)).bytes ≡ name.now = ap (λ (s : Source). (origin_of s).bytes) (sym found ∙ is) in
     inr (subst (IsAmong name.now) (map-then sources) (subst (λ (n : List ℕ). IsAmong n (map (λ source. (origin_of source).bytes) sources)) same among))
@@ -136,18 +149,6 @@ module _ {E : Type 0} (K : SinkGhosts E) (P : List ℕ → Type 0) where
       tells-if true some = some-tells K P old new some
       tells-if false same = subst (Tells K P old) (sym same) (tells-none K P old)
 
-      by : (b : Bool) → seen.failed ≡ b → TellsStatus K P shown (status_by shown seen) old new
-      by false clean = record {
-        tells = tells-if seen.failed told;
-        silent = λ low loud. subst (λ (b : Bool). TellsIf K P b old new) clean told;
-        some = λ two. let none : status_by shown seen < 2 = below shown seen.selected seen.failed clean in absurd (omega (arith, two, none));
-      }
-      by true failed = record {
-        tells = tells-if seen.failed told;
-        silent = λ low loud. absurd (quiet shown seen.selected seen.failed failed low loud);
-        some = λ two. subst (λ (b : Bool). TellsIf K P b old new) failed told;
-      }
-
       below : (shown : Shown) (selected failed : Bool) → failed ≡ false → (if is_enough shown selected then 0 else (if failed then 2 else (if selected then 0 else 1))) < 2
       below shown selected true clean = absurd (cc)
       below shown true false clean = elim (cases_Bool (is_enough shown true)) [ inl enough ↦ rw enough (omega arith) | inr not ↦ rw not (omega arith) ]
@@ -159,6 +160,18 @@ module _ {E : Type 0} (K : SinkGhosts E) (P : List ℕ → Type 0) where
         | inl enough ↦ loud (enough_only shown selected enough).0
         | inr not ↦ absurd (omega (arith, rw not at low))
       ]
+
+      by : (b : Bool) → seen.failed ≡ b → TellsStatus K P shown (status_by shown seen) old new
+      by false clean = record {
+        tells = tells-if seen.failed told;
+        silent = λ low loud. subst (λ (b : Bool). TellsIf K P b old new) clean told;
+        some = λ two. let none : status_by shown seen < 2 = below shown seen.selected seen.failed clean in absurd (omega (arith, two, none));
+      }
+      by true failed = record {
+        tells = tells-if seen.failed told;
+        silent = λ low loud. absurd (quiet shown seen.selected seen.failed failed low loud);
+        some = λ two. subst (λ (b : Bool). TellsIf K P b old new) failed told;
+      }
 
   -- a file that was not searched
   pub outcome-some : (outcome : Outcome) (old new : Errors E) → IfSearched outcome (λ any. ⊥) → TellsSome K P old new → TellsOutcome K P outcome old new

@@ -1,5 +1,5 @@
 -- The patterns of the sources so far were read.
-use Rattle.std.proofs.Common.{length}
+use Rattle.std.proofs.Common.{◌≡◌, length}
 use Rattle.acgrep.specs.Lines.{lines}
 use Rattle.acgrep.specs.Runs.{origins_of}
 use Rattle.acgrep.specs.Told.{source_names}
@@ -12,6 +12,7 @@ abbrev pub invariant-loop-rest : goal.invariant-loop-rest
 invariant-loop-rest g l = record {
   ends : EndsLine l.keys.text.items;
   words : AreWordsWith (g.F.Open.holds l.fn.files) (origins_of l.fn.sources) (g.R.Read.remaining l.initial.input) (origins_of l.rest) (g.R.Read.remaining l.input) (lines l.keys.text.items);
+  told : l.errors ≡ l.initial.errors;
   within : AreWithin (source_names (origins_of l.rest)) (source_names (origins_of l.fn.sources));
 }
 

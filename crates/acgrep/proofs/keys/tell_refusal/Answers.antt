@@ -7,5 +7,5 @@ use Rattle.acgrep.proofs.keys.tell_refusal.Goals as goal
 pub returns-in-PatternTooLong : goal.returns-in-PatternTooLong
 returns-in-PatternTooLong g c = record { told = c.tell_build.ensures.told (source_names (origins_of c.args.sources.now)) c.source_name.ensures.named }
 
-pub returns : goal.returns
-returns g c = record { told = c.tell_build.ensures.told (source_names (origins_of c.args.sources.now)) (inl (inr (inr (inl refl)))) }
+pub returns-in_default : goal.returns-in_default
+returns-in_default g c = record { told = c.tell_build-in_default.ensures.told (source_names (origins_of c.args.sources.now)) (inl (inr (inr (inl refl)))) }

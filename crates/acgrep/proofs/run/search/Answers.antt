@@ -90,36 +90,36 @@ pub returns-in_default-clause-told : goal.returns-in_default-clause-told
 returns-in_default-clause-told g c =
     let sources = source_names (origins_of c.args.sources.now) in
     let files = shown_names (or_input (name_bytes c.args.names.now)) in
-    let may = λ line is. inl (message-more sources (sources ++ files) (λ name is. among-first name sources files is) line is) in
+    let may : (line : List ℕ) → IsMessage sources line → MayTell (sources ++ files) line = λ line is. inl (message-more sources (sources ++ files) (λ name is. among-first name sources files is) line is) in
     status-some g.E.Sink (MayTell (sources ++ files)) (shown_by c.args.flags.now) c.args.errors.now c.read_keys.new.errors
-    (some-weaker g.E.Sink (IsMessage sources) (MayTell (sources ++ files)) c.args.errors.now c.read_keys.new.errors may c.in_default.ensures.told)
+    (some-weaker g.E.Sink (IsMessage sources) (MayTell (sources ++ files)) c.args.errors.now c.read_keys.new.errors may (c.in_default.ensures.told refl))
 
 pub returns-in_default-lines_of-clause-told : goal.returns-in_default-lines_of-clause-told
 returns-in_default-lines_of-clause-told g c =
     let names = names_told (origins_of c.args.sources.now) (name_bytes c.args.names.now) in
-    subst (λ (e : Errors g.E.Denot). TellsStatus g.E.Sink (MayTell names) (shown_by c.args.flags.now) 2 e c.tell_memory.new.errors) c.in-Some.ensures.silent
+    subst (λ (e : Errors g.row.E.Denot). TellsStatus g.E.Sink (MayTell names) (shown_by c.args.flags.now) 2 e c.tell_memory.new.errors) (c.in-Some.ensures.silent refl)
     (status-some g.E.Sink (MayTell names) (shown_by c.args.flags.now) c.read_keys.new.errors c.tell_memory.new.errors (some-weaker g.E.Sink (IsMessage names) (MayTell names) c.read_keys.new.errors c.tell_memory.new.errors (λ line is. inl is) (c.tell_memory.ensures.told names)))
 
 pub returns-then-selects_none-clause-told : goal.returns-then-selects_none-clause-told
 returns-then-selects_none-clause-told g c =
     let names = names_told (origins_of c.args.sources.now) (name_bytes c.args.names.now) in
-    subst (λ (e : Errors g.E.Denot). TellsStatus g.E.Sink (MayTell names) (shown_by c.args.flags.now) 1 c.args.errors.now e) (sym c.in-Some.ensures.silent)
+    subst (λ (e : Errors g.row.E.Denot). TellsStatus g.E.Sink (MayTell names) (shown_by c.args.flags.now) 1 c.args.errors.now e) (sym (c.in-Some.ensures.silent refl))
     (status-none g.E.Sink (MayTell names) (shown_by c.args.flags.now) 1 c.args.errors.now (omega arith))
 
 pub returns-in-Ok-build-clause-told : goal.returns-in-Ok-build-clause-told
 returns-in-Ok-build-clause-told g c =
     let sources = source_names (origins_of c.args.sources.now) in
     let files = shown_names (or_input (name_bytes c.args.names.now)) in
-    let may = λ line is. inl (message-more files (sources ++ files) (λ name is. among-later name sources files is) line is) in
+    let may : (line : List ℕ) → IsMessage files line → MayTell (sources ++ files) line = λ line is. inl (message-more files (sources ++ files) (λ name is. among-later name sources files is) line is) in
     let told = subst (λ (shown : Shown). TellsStatus g.E.Sink (IsMessage files) shown c.search_by.result c.read_keys.new.errors c.search_by.new.errors) c.job_of-job.ensures.job.shown c.search_by.ensures.told in
-    subst (λ (e : Errors g.E.Denot). TellsStatus g.E.Sink (MayTell (sources ++ files)) (shown_by c.args.flags.now) c.search_by.result e c.search_by.new.errors) c.in-Some.ensures.silent
+    subst (λ (e : Errors g.row.E.Denot). TellsStatus g.E.Sink (MayTell (sources ++ files)) (shown_by c.args.flags.now) c.search_by.result e c.search_by.new.errors) (c.in-Some.ensures.silent refl)
     (status-weaker g.E.Sink (IsMessage files) (MayTell (sources ++ files)) (shown_by c.args.flags.now) c.search_by.result c.read_keys.new.errors c.search_by.new.errors may told)
 
 pub returns-clause-told : goal.returns-clause-told
 returns-clause-told g c =
     let sources = source_names (origins_of c.args.sources.now) in
     let files = shown_names (or_input (name_bytes c.args.names.now)) in
-    let may = λ line is. inl (message-more sources (sources ++ files) (λ name is. among-first name sources files is) line is) in
-    subst (λ (e : Errors g.E.Denot). TellsStatus g.E.Sink (MayTell (sources ++ files)) (shown_by c.args.flags.now) 2 e c.tell_refusal.new.errors) c.in-Some.ensures.silent
+    let may : (line : List ℕ) → IsMessage sources line → MayTell (sources ++ files) line = λ line is. inl (message-more sources (sources ++ files) (λ name is. among-first name sources files is) line is) in
+    subst (λ (e : Errors g.row.E.Denot). TellsStatus g.E.Sink (MayTell (sources ++ files)) (shown_by c.args.flags.now) 2 e c.tell_refusal.new.errors) (c.in-Some.ensures.silent refl)
     (status-some g.E.Sink (MayTell (sources ++ files)) (shown_by c.args.flags.now) c.read_keys.new.errors c.tell_refusal.new.errors
     (some-weaker g.E.Sink (IsMessage sources) (MayTell (sources ++ files)) c.read_keys.new.errors c.tell_refusal.new.errors may c.tell_refusal.ensures.told))
