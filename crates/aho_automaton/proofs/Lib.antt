@@ -18,3 +18,6 @@ pub mod RunsLeft
 -- Searches that skip to a prefilter's candidates: plain ones, then overlapping ones.
 pub mod Skipping
 pub mod Passed
+-- The runs of a cover.
+pub mod CoverSteps
+pub mod CoverCopies

@@ -5,3 +5,6 @@ pub mod Fused
 pub mod Overlaps
 pub mod Standing
 pub mod WalkEnds
+pub mod Covering
+pub mod CoverIters
+pub mod CoverStanding

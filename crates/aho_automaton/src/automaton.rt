@@ -10,6 +10,7 @@ ghost use Rattle.std.specs.Iterator.{UpTo};
 ghost use Rattle.std.specs.Option.{option_map};
 ghost use Rattle.aho_core.specs.Answer.{IsAnswer};
 ghost use Rattle.aho_core.specs.ClosureRun.{RunsInMemory};
+ghost use Rattle.aho_core.specs.Cover.{IsCover};
 ghost use Rattle.aho_core.specs.Held.{held_after};
 ghost use Rattle.aho_core.specs.Laws.{Reads, longest, shortest};
 ghost use Rattle.aho_core.specs.Numbers.{greatest_index};
@@ -28,6 +29,7 @@ ghost use Rattle.aho_core.specs.declared.search.MatchKind.TheVariants.{Standard}
 ghost use Rattle.aho_core.specs.Steps.{GoesOn, IsPaid};
 ghost use Rattle.aho_prefilter.specs.Prefilter.{IsPrefilterOf};
 ghost use Rattle.aho_prefilter.specs.declared.prefilter.Searcher.{Searcher};
+ghost use Rattle.aho_automaton.specs.Covering.{GivesFirstRuns, GivesRuns, RefusesCover, cover_refusal};
 ghost use Rattle.aho_automaton.specs.Finding.{GivesFinds, GivesFirstFinds, HoldsOfFinds, span_places};
 ghost use Rattle.aho_automaton.specs.Fused.{IsFused};
 ghost use Rattle.aho_automaton.specs.Overlaps.{FindsNext, FindsNothing, FitsNext, FitsSome, ListsAll, ListsFirst, RefusesFirst};
@@ -35,6 +37,8 @@ ghost use Rattle.aho_automaton.specs.Overlaps.{FindsNext, FindsNothing, FitsNext
 mod reference;
 mod with_prefilter;
 
+pub use crate::cover::CoverIter;
+use crate::cover::cover_bytes;
 pub use crate::find::find_in;
 pub use crate::iter::FindIter;
 use crate::overlapping::find_overlapping;
@@ -544,5 +548,67 @@ pub trait Automaton {
         let finds = FindIter::new(self, Input::new(haystack))?;
         replace_bytes(finds, haystack, dst, replace_with)?;
         Ok(())
+    }
+
+    /// The runs of a cover of the haystack, one after another: the stretches that its matches hold, whichever overlap or
+    /// touch. Each is told as a match: its range, and the pattern of the longest match that begins where the run does, of
+    /// equal ones the first.
+    ///
+    /// It takes all its memory here, with `alloc`: room for the runs that may be open at once, half as many as the longest
+    /// pattern has bytes, and one. Each byte is read once, with at most two look-ups. After `None` it gives `None` again.
+    ///
+    /// # Errors
+    ///
+    /// In this order: `Match` where the automaton is not of the standard kind (`UnsupportedOverlapping`), has an empty
+    /// pattern (`UnsupportedEmpty`), or refuses unanchored searches; then `Memory`, where the allocation fails.
+    final fn try_cover_iter<'a, 'h>(
+        &'a self,
+        alloc: Global,
+        haystack: &'h [u8],
+    ) -> Result<CoverIter<'a, 'h, Self>, ReplaceError>
+    where
+        Self: Sized,
+        requires of { (p : Patterns) × is_of self.now p }
+        ensures ready { IfOk result ⟦<CoverIter<'a, 'h, Self> as Iterator>⟧.can_next }
+        ensures runs { (p : Patterns) → is_of self.now p → IfOk result
+            (GivesRuns ⟦<CoverIter<'a, 'h, Self> as Iterator>⟧.next_gives p haystack.entry.now) }
+        ensures first { (p : Patterns) → is_of self.now p → IfOk result
+            (GivesFirstRuns ⟦<CoverIter<'a, 'h, Self> as Iterator>⟧.next_gives p haystack.entry.now) }
+        ensures bound { IfOk result (λ it.
+            UpTo (⟦<CoverIter<'a, 'h, Self> as Iterator>⟧.remaining it) (length haystack.entry.now)) }
+        ensures fused { IfOk result (IsFused ⟦<CoverIter<'a, 'h, Self> as Iterator>⟧.next_gives) }
+        ensures refuses { RefusesCover
+            (cover_refusal (kind self.now) (lengths self.now) (start self.now No)) result }
+    {
+        CoverIter::new(alloc, self, haystack)
+    }
+
+    /// The haystack with each run of its cover replaced by the bytes for the run's pattern. So nothing that a match holds is
+    /// left: not a byte of it, whichever other match overlaps it.
+    ///
+    /// There is one replacement for each pattern. Beside the bytes that are given it takes what `try_cover_iter` takes.
+    ///
+    /// # Errors
+    ///
+    /// As those of `try_cover_iter`; and `Memory` where an allocation of the bytes fails.
+    final fn try_cover_all_bytes(
+        &self,
+        alloc: Global,
+        haystack: &[u8],
+        replace_with: &[&[u8]],
+    ) -> Result<Vec<u8>, ReplaceError>
+    where
+        Self: Sized,
+        requires of { (p : Patterns) × is_of self.now p }
+        requires one_each { length replace_with.now ≡ length (lengths self.now) }
+        ensures covered { (p : Patterns) → is_of self.now p → IfOk result (λ bytes.
+            IsCover p haystack.now (pieces_of replace_with.now) (vec_items bytes)) }
+        ensures refuses { RefusesCover
+            (cover_refusal (kind self.now) (lengths self.now) (start self.now No)) result }
+    {
+        let runs = CoverIter::new(alloc, self, haystack)?;
+        let mut dst = Vec::new(alloc);
+        cover_bytes(runs, haystack, &mut dst, replace_with)?;
+        Ok(dst)
     }
 }

@@ -2,8 +2,10 @@
 #![tactic(auto)]
 
 pub mod automaton;
+pub mod cover;
 pub mod find;
 pub mod iter;
+pub mod open_runs;
 pub mod overlapping;
 pub mod patience;
 pub mod replace;

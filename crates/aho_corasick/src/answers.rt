@@ -88,7 +88,7 @@ pub fn settings_do_not_change_answers(
 /// # Errors
 ///
 /// The error says that memory ran out.
-fn finds_of<A: Automaton>(
+pub fn finds_of<A: Automaton>(
     alloc: Global,
     automaton: &A,
     input: Input<'_>,
@@ -126,7 +126,7 @@ pub fn settings_do_not_change_finds(
 /// # Errors
 ///
 /// The error says that memory ran out.
-fn overlapping_finds_of<A: Automaton>(
+pub fn overlapping_finds_of<A: Automaton>(
     alloc: Global,
     automaton: &A,
     haystack: &[u8],

@@ -2,3 +2,4 @@ pub mod Layout
 pub mod Reading
 pub mod Filled
 pub mod Made
+pub mod Alike

@@ -1,15 +1,25 @@
 //! What users of a `Hybrid` may rest on besides its calls: it answers each unanchored search as its `NFA` does.
 
-ghost use Rattle.std.specs.Prelude.{◌≡◌};
+ghost use Rattle.std.specs.Prelude.{◌≡◌, IfOk, None, OnOk, false, length};
 ghost use Rattle.aho_core.specs.Answer.{IsAnswer};
+ghost use Rattle.aho_core.specs.Iteration.{AreFinds};
+ghost use Rattle.aho_core.specs.Overlapping.{all_occurrences};
 ghost use Rattle.aho_core.specs.Patterns.{Patterns};
 ghost use Rattle.aho_core.specs.declared.search.Anchored.TheVariants.{No};
+ghost use Rattle.aho_core.specs.declared.search.MatchKind.TheVariants.{Standard};
+ghost use Rattle.aho_stream.specs.Starts.{IsFreshStart};
+ghost use Rattle.aho_hybrid.specs.Alike.{ReplacesAlike};
 
 use crate::hybrid::Hybrid;
 use aho_automaton::automaton::Automaton;
-use aho_corasick::answers::answer_of as answer_of_nfa;
+use aho_corasick::answers::{answer_of as answer_of_nfa, finds_of, overlapping_finds_of};
 use aho_corasick::noncontiguous::NFA;
+use aho_core::error::StreamError;
 use aho_core::search::{Input, Match};
+use aho_devices::device::{Sink, Source};
+use aho_stream::replace::replace_stream;
+use aho_stream::start::StreamStart;
+use std::alloc::{AllocError, Global};
 
 /// What `try_find` answers to an unanchored input: no such search is refused.
 ///
@@ -41,4 +51,80 @@ pub fn rows_do_not_change_answers(
         IsAnswer p input.now result.1 }
 {
     (answer_of_nfa(nfa, input), answer_of(hybrid, input))
+}
+
+/// The matches that iteration over an `NFA` and a `Hybrid` of the same patterns gives: the same, in each unanchored search.
+///
+/// # Errors
+///
+/// The error says that memory ran out.
+pub fn rows_do_not_change_finds(
+    alloc: Global,
+    nfa: &NFA,
+    hybrid: &Hybrid,
+    input: &Input,
+) -> Result<(Vec<Match>, Vec<Match>), AllocError>
+    requires of { (p : Patterns) × ⟦<NFA as Automaton>⟧.is_of nfa.now p
+        × ⟦<Hybrid as Automaton>⟧.is_of hybrid.now p }
+    requires unanchored { input.now.anchored ≡ No }
+    ensures alike { IfOk result (λ both. both.0.items ≡ both.1.items) }
+    ensures finds { (p : Patterns) → ⟦<Hybrid as Automaton>⟧.is_of hybrid.now p →
+        IfOk result (λ both. AreFinds p input.now None both.1.items) }
+{
+    let by_nfa = finds_of(alloc, nfa, input.clone()?)?;
+    let by_rows = finds_of(alloc, hybrid, input.clone()?)?;
+    Ok((by_nfa, by_rows))
+}
+
+/// The matches of an overlapping search over an `NFA` and a `Hybrid` of the same patterns: the same.
+///
+/// # Errors
+///
+/// The error says that memory ran out.
+pub fn rows_do_not_change_overlapping_finds(
+    alloc: Global,
+    nfa: &NFA,
+    hybrid: &Hybrid,
+    haystack: &[u8],
+) -> Result<(Vec<Match>, Vec<Match>), AllocError>
+    requires of { (p : Patterns) × ⟦<NFA as Automaton>⟧.is_of nfa.now p
+        × ⟦<Hybrid as Automaton>⟧.is_of hybrid.now p }
+    requires standard { ⟦<NFA as Automaton>⟧.kind nfa.now ≡ Standard }
+    ensures alike { IfOk result (λ both. both.0.items ≡ both.1.items) }
+    ensures all { (p : Patterns) → ⟦<Hybrid as Automaton>⟧.is_of hybrid.now p → IfOk result (λ both.
+        both.1.items ≡ all_occurrences p haystack.now 0 (length haystack.now)) }
+{
+    let by_nfa = overlapping_finds_of(alloc, nfa, haystack)?;
+    let by_rows = overlapping_finds_of(alloc, hybrid, haystack)?;
+    Ok((by_nfa, by_rows))
+}
+
+/// Replacement of two streams, over an `NFA` and over a `Hybrid` of the same patterns: where both sources give the same bytes, both
+/// sinks take the same.
+///
+/// # Errors
+///
+/// As those of `replace_stream`, for the first stream that fails.
+pub fn rows_do_not_change_replaced_streams<R: Source, W: Sink>(
+    by_nfa: StreamStart<'_, NFA>,
+    by_rows: StreamStart<'_, Hybrid>,
+    source: &mut R,
+    sink: &mut W,
+    other: &mut R,
+    second: &mut W,
+    replace_with: &[&[u8]],
+) -> Result<(), StreamError>
+    requires of { (p : Patterns) × ⟦<NFA as Automaton>⟧.is_of by_nfa.automaton.now p
+        × ⟦<Hybrid as Automaton>⟧.is_of by_rows.automaton.now p }
+    requires fresh { IsFreshStart ⟦<NFA as Automaton>⟧ by_nfa
+        × IsFreshStart ⟦<Hybrid as Automaton>⟧ by_rows }
+    requires open { (by_nfa.progress.ended ≡ false) × (by_rows.progress.ended ≡ false) }
+    requires below { (by_nfa.progress.refused ≡ false) × (by_rows.progress.refused ≡ false) }
+    requires one_each { length replace_with.now
+        ≡ length (⟦<NFA as Automaton>⟧.lengths by_nfa.automaton.now) }
+    ensures alike { OnOk result (ReplacesAlike R.Source W.Sink
+        source.old source.new other.old other.new sink.old sink.new second.old second.new) }
+{
+    replace_stream(by_nfa, source, sink, &*replace_with)?;
+    replace_stream(by_rows, other, second, replace_with)
 }

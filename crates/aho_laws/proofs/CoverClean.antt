@@ -9,11 +9,11 @@ use Rattle.aho_core.specs.Listing.{IsMember}
 use Rattle.aho_core.specs.Occurrence.{Occurrence}
 use Rattle.aho_core.specs.Patterns.{Patterns, pattern_at}
 use Rattle.aho_core.specs.Replacement.{replaced, replaced_from}
-use Rattle.aho_laws.specs.CoverLaws.{AreClean}
+use Rattle.aho_laws.specs.CoverLaws.{AreClean, AreInOrder}
 use Rattle.aho_laws.specs.CutLaws.{IsClear, NoneHolds, NoneIsEmpty, moved}
 use Rattle.aho_laws.proofs.ClearCuts.{Occurs-full}
 use Rattle.aho_laws.proofs.CoverKept.{OccursHere, runs-cover}
-use Rattle.aho_laws.proofs.CoverRuns.{AreInOrder, in_order-rest, runs-unique}
+use Rattle.aho_laws.proofs.CoverRuns.{in_order-rest, runs-unique}
 use Rattle.aho_laws.proofs.JoinedPieces.{clear_joined, part-has}
 use Rattle.aho_laws.proofs.Members.{member-map, member-of_map}
 use Rattle.aho_laws.proofs.SpanTexts.{Occurs-left, Occurs-moved, Occurs-right, length_part, moved_back}

@@ -18,8 +18,8 @@ use Rattle.aho_core.specs.Overlapping.{all_occurrences}
 use Rattle.aho_core.specs.Patterns.{Patterns}
 use Rattle.aho_core.specs.Replacement.{replaced_from}
 use Rattle.aho_core.specs.Search.{Search, plain_search}
-use Rattle.aho_laws.specs.CoverLaws.{BeginsWithFind, LiesInOneRun, by_longest, is_covered, kept, uncovered}
-use Rattle.aho_laws.proofs.CoverRuns.{AreInOrder, Covers, IsApart, in_order-rest, listed-cases, run-stretch}
+use Rattle.aho_laws.specs.CoverLaws.{AreInOrder, BeginsWithFind, StandApart, LiesInOneRun, by_longest, is_covered, kept, uncovered}
+use Rattle.aho_laws.proofs.CoverRuns.{Covers, in_order-rest, listed-cases, run-stretch}
 use Rattle.aho_laws.proofs.Listings.{all_occurrences-has, all_occurrences-only}
 use Rattle.aho_laws.proofs.Orders.{IsBefore-irreflexive, IsBefore-trans}
 use Rattle.aho_laws.proofs.Ranges.{range_with_len-add}
@@ -162,7 +162,7 @@ module _ (p : Patterns) (haystack : List ℕ) where
         after_start = c.after_start;
         before_end = high;
         only = λ other there starts ends.
-            elim (listed-cases IsApart runs other c.found covers.ordered.in_order there c.member) [
+            elim (listed-cases StandApart runs other c.found covers.ordered.in_order there c.member) [
               | inl same ↦ same
               | inr apart ↦ elim apart [ inl before ↦ absurd (omega (arith, c.after_start)) | inr behind ↦ absurd (omega arith) ]
             ];

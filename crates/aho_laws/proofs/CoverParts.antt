@@ -9,12 +9,12 @@ use Rattle.aho_core.specs.Occurrence.{Occurrence}
 use Rattle.aho_core.specs.Order.{IsBefore}
 use Rattle.aho_core.specs.Patterns.{Patterns}
 use Rattle.aho_core.specs.Replacement.{replaced}
-use Rattle.aho_laws.specs.CoverLaws.{AreCovered, IsBare}
+use Rattle.aho_laws.specs.CoverLaws.{AreCovered, StandApart, IsBare}
 use Rattle.aho_laws.specs.CutLaws.{AreCutBehind, EndsIn, NoneHolds, Piece, joined, moved, placed, replaced_apart}
 use Rattle.aho_laws.specs.SearchLaws.{EndsBefore}
 use Rattle.aho_laws.proofs.CoverClean.{bare_byte}
 use Rattle.aho_laws.proofs.CoverKept.{OccursHere, runs-cover}
-use Rattle.aho_laws.proofs.CoverRuns.{Covers, IsApart, runs-covering}
+use Rattle.aho_laws.proofs.CoverRuns.{Covers, runs-covering}
 use Rattle.aho_laws.proofs.JoinedPieces.{FitPiece, placed-first, replaced-fitting, replaced-left}
 use Rattle.aho_laws.proofs.Listed.{listed-append, listed-weaker, member-left, member-of_append, member-right}
 use Rattle.aho_laws.proofs.Members.{listed-map, member-map, member-of_map}
@@ -129,8 +129,8 @@ module _ (p : Patterns) (left right : List ℕ) (bare : IsBare p (left ++ right)
     covers-both = record {
       ordered = record {
         in_order =
-            listed-append IsApart xs (map (moved (length left)) ys) one.ordered.in_order
-            (listed-map IsApart (moved (length left)) ys (listed-weaker IsApart (λ (x y : Occurrence). IsApart (moved (length left) x) (moved (length left) y)) ys (λ x y in_x in_y apart. omega (arith, apart)) other.ordered.in_order))
+            listed-append StandApart xs (map (moved (length left)) ys) one.ordered.in_order
+            (listed-map StandApart (moved (length left)) ys (listed-weaker StandApart (λ (x y : Occurrence). StandApart (moved (length left) x) (moved (length left) y)) ys (λ x y in_x in_y apart. omega (arith, apart)) other.ordered.in_order))
             (λ x z in_xs in_map.
             let found = member-of_map (moved (length left)) ys z in_map in
             omega (arith, apart-across x found.0 in_xs found.1, ap (λ (o : Occurrence). o.start) found.2));
@@ -167,7 +167,7 @@ pub runs-fit : (p : Patterns) (piece : Piece) → AreRuns p piece.bytes piece.fo
 runs-fit p piece h =
     let covers = runs-cover p piece.bytes piece.found h in
     record {
-      apart = listed-weaker IsApart EndsBefore piece.found (λ x y in_x in_y apart. omega (arith, apart)) covers.ordered.in_order;
+      apart = listed-weaker StandApart EndsBefore piece.found (λ x y in_x in_y apart. omega (arith, apart)) covers.ordered.in_order;
       ordered = λ m there. omega (arith, covers.ordered.full m there);
       within = covers.ordered.within;
     }

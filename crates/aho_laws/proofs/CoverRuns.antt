@@ -7,14 +7,10 @@ use Rattle.aho_core.specs.Cover.{AreRunsOf, IsCovered, IsLongestFrom, IsStretch}
 use Rattle.aho_core.specs.Listing.{IsListedBy, IsMember}
 use Rattle.aho_core.specs.Occurrence.{Occurrence}
 use Rattle.aho_core.specs.Order.{IsBefore}
-use Rattle.aho_laws.specs.CoverLaws.{extended, joined_runs}
+use Rattle.aho_laws.specs.CoverLaws.{AreInOrder, StandApart, extended, joined_runs}
 use Rattle.aho_laws.proofs.Listed.{listed-weaker}
 use Rattle.aho_laws.proofs.Orders.{IsBest-unique, same_occurrence}
 use Rattle.aho_laws.proofs.OverlappingParts.{listed-same}
-
--- some byte lies between the first and the second
-abbrev pub IsApart : Occurrence → Occurrence → Type 0
-IsApart one other = one.end < other.start
 
 -- of two that stand in a list in order, one is before the other
 pub listed-cases : {X : Type 0} (Before : X → X → Type 0) (xs : List X) (x y : X) → IsListedBy Before xs → IsMember xs x → IsMember xs y → (x ≡ y) ⊎ (Before x y ⊎ Before y x)
@@ -97,12 +93,6 @@ member-of_joined (run ∷ runs) m x h =
 -- what is covered by the runs or by the occurrence is covered by the joined ones
 abbrev pub Lies : ℕ → Occurrence → Type 0
 Lies at m = (m.start ≤ at) × (at < m.end)
-
--- they stand apart and in order, each of them with a byte, and none ends behind the place
-pub record AreInOrder (runs : List Occurrence) (upto : ℕ) : Type 0 where
-  pub in_order : IsListedBy IsApart runs
-  pub full : (x : Occurrence) → IsMember runs x → x.start < x.end
-  pub within : (x : Occurrence) → IsMember runs x → x.end ≤ upto
 
 pub in_order-rest : (run : Occurrence) (runs : List Occurrence) (upto : ℕ) → AreInOrder (run ∷ runs) upto → AreInOrder runs upto
 in_order-rest run runs upto h = record { in_order = h.in_order.1; full = λ x there. h.full x (inr there); within = λ x there. h.within x (inr there) }
@@ -190,14 +180,14 @@ joined-in_order runs m upto ordered some = record {
     | inr last ↦ omega (arith, last.0)
   ];
 } where
-  listed : (rest : List Occurrence) (end : ℕ) → AreInOrder rest end → IsListedBy IsApart (joined_runs rest m)
+  listed : (rest : List Occurrence) (end : ℕ) → AreInOrder rest end → IsListedBy StandApart (joined_runs rest m)
   listed [] end h = ((λ later none. absurd none), tt)
   listed (run ∷ rest) end h =
       let apart = run ∷ joined_runs rest m in
       let touching = extended run m ∷ [] in
       elim (cases_lt run.end m.start) [
         | inl before ↦
-            subst (IsListedBy IsApart) (sym (cond-true (nat_lt run.end m.start) apart touching (lt-ltb run.end m.start before))) (
+            subst (IsListedBy StandApart) (sym (cond-true (nat_lt run.end m.start) apart touching (lt-ltb run.end m.start before))) (
               (λ later there. elim (member-of_joined rest m later there) [
                 | inl kept ↦ h.in_order.0 later kept.0
                 | inr last ↦ elim last.1 [
@@ -208,7 +198,7 @@ joined-in_order runs m upto ordered some = record {
               listed rest end (in_order-rest run rest end h),
             )
         | inr touches ↦
-            subst (IsListedBy IsApart) (sym (cond-false (nat_lt run.end m.start) apart touching (le-ltb run.end m.start touches)))
+            subst (IsListedBy StandApart) (sym (cond-false (nat_lt run.end m.start) apart touching (le-ltb run.end m.start touches)))
             ((λ later none. absurd none), tt)
       ]
 
@@ -222,7 +212,7 @@ pub record Covers (Member : Occurrence → Type 0) (runs : List Occurrence) (upt
 module _ (Member : Occurrence → Type 0) (runs : List Occurrence) (upto : ℕ) (covers : Covers Member runs upto) where
   lies-apart : (x y : Occurrence) (at : ℕ) → IsMember runs x → IsMember runs y → Lies at y → (x ≡ y) ⊎ ((x.end < at) ⊎ (at + 1 < x.start))
   lies-apart x y at in_x in_y lies =
-      elim (listed-cases IsApart runs x y covers.ordered.in_order in_x in_y) [
+      elim (listed-cases StandApart runs x y covers.ordered.in_order in_x in_y) [
         | inl e ↦ inl e
         | inr apart ↦ elim apart [ inl before ↦ inr (inl (omega arith)) | inr behind ↦ inr (inr (omega arith)) ]
       ]
@@ -304,7 +294,7 @@ runs-unique Member xs ys one other =
     (λ x there. (other.members x).1 ((one.members x).0 there)) (λ x there. (one.members x).1 ((other.members x).0 there))
   where
     by_start : (runs : List Occurrence) → AreRunsOf Member runs → IsListedBy (λ (x y : Occurrence). x.start < y.start) runs
-    by_start runs h = listed-weaker IsApart (λ (x y : Occurrence). x.start < y.start) runs (λ x y in_x in_y apart. omega (arith, ((h.members x).0 in_x).stretch.some)) h.in_order
+    by_start runs h = listed-weaker StandApart (λ (x y : Occurrence). x.start < y.start) runs (λ x y in_x in_y apart. omega (arith, ((h.members x).0 in_x).stretch.some)) h.in_order
 
 -- what ends where m does, and of it m is the best: it begins later, or at the same place and has a greater number
 abbrev pub IsAdded : Occurrence → Occurrence → Type 0

@@ -28,6 +28,7 @@ pub mod Replacements
 -- the runs of a cover
 pub mod CoverRuns
 pub mod TextRuns
+pub mod SettledRuns
 pub mod CoverKept
 pub mod CoverClean
 pub mod CoverParts

@@ -3,7 +3,7 @@ use Rattle.std.specs.Prelude.{◌≡◌, ◌⊎◌, ℕ, zero, suc, ◌+◌, ◌
 use Rattle.std.specs.List.{list_any, range_with_len}
 use Rattle.aho_core.specs.declared.search.MatchKind.TheVariants.{LeftmostLongest}
 use Rattle.aho_core.specs.Cover.{AreRuns, IsCovered}
-use Rattle.aho_core.specs.Listing.{IsMember}
+use Rattle.aho_core.specs.Listing.{IsListedBy, IsMember}
 use Rattle.aho_core.specs.Occurrence.{Occurrence}
 use Rattle.aho_core.specs.Occurs.{OccursIn}
 use Rattle.aho_core.specs.Overlapping.{all_occurrences, occurrences_ending}
@@ -11,6 +11,20 @@ use Rattle.aho_core.specs.Patterns.{Patterns}
 use Rattle.aho_core.specs.Replacement.{replaced_by}
 use Rattle.aho_core.specs.Search.{plain_search}
 use Rattle.aho_laws.specs.CutLaws.{NoneHolds, Piece}
+
+-- some byte lies between the first and the second
+abbrev pub StandApart : Occurrence → Occurrence → Type 0
+StandApart one other = one.end < other.start
+
+-- runs that stand apart and in order, each with a byte at least, and end at a place or before
+pub record AreInOrder (runs : List Occurrence) (upto : ℕ) : Type 0 where
+  pub in_order : IsListedBy StandApart runs
+  pub full : (x : Occurrence) → IsMember runs x → x.start < x.end
+  pub within : (x : Occurrence) → IsMember runs x → x.end ≤ upto
+
+-- each of them ends before a place
+abbrev pub EndBefore : List Occurrence → ℕ → Type 0
+EndBefore runs place = (x : Occurrence) → IsMember runs x → x.end < place
 
 -- a run and an occurrence that touches it and ends behind it, as one run
 abbrev pub extended : Occurrence → Occurrence → Occurrence

@@ -28,6 +28,11 @@ first_of_given steps (x ∷ given) (y ∷ all) from upto yields always =
     let rest = first_of_given steps given all yields.0 upto yields.2 next.1 in
     (rest.0, ap (λ z. z ∷ all) (sym next.0) ∙ ap (λ zs. x ∷ zs) rest.1)
 
+-- what is true of a value, and what else is true of it
+pub both_ok : {B E : Type 0} (r : Result B E) (P Q : B → Type 0) → IfOk r P → IfOk r Q → IfOk r (λ b. P b × Q b)
+both_ok (Ok b) P Q p q = (p, q)
+both_ok (Err e) P Q p q = tt
+
 module _ {S : Type 0} (gives : S → Option (Bor (List ℕ)) → S → Type 0) (state : S) (settings : Settings) where
   -- an iterator gave these items until it ended
   drains_of : (items : List (Bor (List ℕ))) → DrainsIf gives ⊤ state items → Drains gives state items

@@ -5,11 +5,14 @@ use Rattle.std.proofs.lemmas.Bool.{both_ways}
 use Rattle.std.proofs.lemmas.List.{length-map}
 use Rattle.std.proofs.lemmas.Simd.{map-map}
 use denote.Ref.{Bor}
-use Rattle.aho_core.specs.Laws.{longest, shortest}
+use Rattle.aho_core.specs.Laws.{furthest, longest, shortest}
+use Rattle.aho_core.specs.Occurrence.{Occurrence}
 use Rattle.aho_core.specs.Patterns.{Patterns}
 use Rattle.aho_core.specs.declared.error.MatchErrorKind.TheVariants.{InvalidInputUnanchored}
 use Rattle.aho_core.specs.declared.search.Anchored.{Anchored}
 use Rattle.aho_core.specs.declared.search.Anchored.TheVariants.{No, Yes}
+use Rattle.aho_core.specs.declared.search.MatchKind.{MatchKind}
+use Rattle.aho_core.specs.declared.search.MatchKind.TheVariants.{LeftmostFirst, LeftmostLongest, Standard}
 use Rattle.aho_build.specs.Items.{patterns_of}
 use Rattle.aho_build.specs.declared.settings.Settings.{Settings}
 use Rattle.aho_corasick.specs.Clones.{IsCloneOf}
@@ -18,7 +21,7 @@ use Rattle.aho_corasick.specs.contracts.noncontiguous.NFAAutomaton.TheImpl.{ghos
 use Rattle.aho_hybrid.specs.contracts.hybrid.HybridAutomaton.TheImpl.{ghosts as of_rows}
 use Rattle.aho_hybrid.specs.declared.hybrid.Hybrid.{Hybrid as HybridOf}
 use Rattle.chromesquid.specs.Engine.{HasKind, kind_in, laws_by}
-use Rattle.chromesquid.specs.Searcher.{Answers, IsBuiltFrom, Refuses, Searcher, allows, kind_for, lengths_of, match_kind_of, patterns_len_of, refusal_of, start_by}
+use Rattle.chromesquid.specs.Searcher.{Answers, IsBuiltFrom, RefusesSearch, Searcher, allows, kind_for, lengths_of, match_kind_of, patterns_len_of, why_refused, start_by}
 use Rattle.chromesquid.specs.contracts.engine.EngineAutomaton.TheImpl.{ghosts}
 use Rattle.chromesquid.specs.declared.engine.Engine.{Engine}
 use Rattle.chromesquid.specs.declared.engine.Engine.TheVariants.{Noncontiguous, Rows}
@@ -141,8 +144,8 @@ pub finds_by : (p : Patterns) (searcher : Searcher) → IsBuiltFrom searcher p �
 finds_by p searcher built = kind-of p searcher.automaton built.reads
 
 -- a search has no start where it is refused
-pub start_refused : (searcher : Searcher) → Refuses searcher No → start_by searcher No ≡ Err InvalidInputUnanchored
-start_refused searcher refuses = ap (λ (b : Bool). if b then ghosts.start searcher.automaton No else Err (refusal_of No)) refuses
+pub start_refused : (searcher : Searcher) → RefusesSearch searcher No → start_by searcher No ≡ Err InvalidInputUnanchored
+start_refused searcher refuses = ap (λ (b : Bool). if b then ghosts.start searcher.automaton No else Err (why_refused No)) refuses
 
 -- what is told is some value
 ok_value : {A E : Type 0} (r : Result A E) → IsOk r → (x : A) × (r ≡ Ok x)
@@ -153,7 +156,7 @@ ok_value (Err e) ok = absurd (both_ways false refl ok)
 pub start_of : (anchored : Anchored) (searcher : Searcher) → (p : Patterns) × IsBuiltFrom searcher p → Answers searcher anchored → (sid : ℕ) × (start_by searcher anchored ≡ Ok sid)
 start_of anchored searcher built answers =
     let start = ok_value (ghosts.start searcher.automaton anchored) (built.1.starts anchored answers) in
-    (start.0, ap (λ (b : Bool). if b then ghosts.start searcher.automaton anchored else Err (refusal_of anchored)) answers ∙ start.1)
+    (start.0, ap (λ (b : Bool). if b then ghosts.start searcher.automaton anchored else Err (why_refused anchored)) answers ∙ start.1)
 
 -- a searcher that was built from a list of byte strings has as many patterns
 pub count-of_items : (settings : Settings) (items : List (Bor (List ℕ))) (searcher : Searcher) → IsBuiltFrom searcher (patterns_of settings items)
@@ -169,3 +172,9 @@ copy_is_of engine copy searcher is clone p built =
       starts = λ anchored allowed.
           subst IsOk (sym (ap (λ f. f anchored) clone.same_start)) (subst (λ (e : Engine). IsOk (ghosts.start e anchored)) (sym is) (built.starts anchored allowed));
     }
+
+-- an earliest search need not read behind its match
+pub furthest_earliest : (kind : MatchKind) (lengths : List ℕ) (m : Occurrence) → furthest kind true lengths m ≡ m.end
+furthest_earliest Standard lengths m = refl
+furthest_earliest LeftmostFirst lengths m = refl
+furthest_earliest LeftmostLongest lengths m = refl

@@ -1,6 +1,10 @@
+-- what a search of a stream has, before it begins and once it has a source
+pub mod Begun
 -- what an automaton's laws tell of its kind and its lengths
 pub mod Built
 -- what the searcher of a slice is of, and why its build fails
 pub mod Builds
+-- where the position limit of a stream was answered
+pub mod PastLimit
 -- what a replacement of a stream is of
 pub mod Replaced

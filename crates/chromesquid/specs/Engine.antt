@@ -1,8 +1,10 @@
 -- The automaton that searches is one of several kinds: each member of it is that of the automaton that is held.
-use Rattle.std.specs.Prelude.{◌≡◌, ◌⊎◌, ℕ, List, [], Bool, true, false, Option, None, IfSome, Result, if◌then◌else◌}
+use Rattle.std.specs.Prelude.{◌≡◌, ◌⊎◌, ◌≤◌, ℕ, List, [], Bool, true, false, Option, None, IfSome, Result, Err, if◌then◌else◌}
 use Rattle.aho_core.specs.Held.{held_after}
 use Rattle.aho_core.specs.Laws.{Reads}
+use Rattle.aho_core.specs.Occurrence.{Occurrence}
 use Rattle.aho_core.specs.Patterns.{Patterns}
+use Rattle.aho_core.specs.Search.{Search}
 use Rattle.aho_core.specs.declared.error.BuildError.TheVariants.{StateIDOverflow}
 use Rattle.aho_core.specs.declared.error.MatchErrorKind.{MatchErrorKind}
 use Rattle.aho_core.specs.declared.search.Anchored.{Anchored}
@@ -12,10 +14,10 @@ use Rattle.aho_build.specs.declared.settings.Settings.{Settings}
 use Rattle.aho_corasick.specs.contracts.noncontiguous.NFAAutomaton.TheImpl.{ghosts as of_nfa}
 use Rattle.aho_corasick.specs.contracts.noncontiguous.NFAAutomaton.TheImpl.Laws.{alike-law as nfa-alike, dead_shallow-law as nfa-dead_shallow, laws-law as nfa-laws, plain-law as nfa-plain, prefilters-law as nfa-prefilters, starts_shallow-law as nfa-starts_shallow, unmarked-law as nfa-unmarked}
 use Rattle.aho_corasick.specs.declared.noncontiguous.NFA.{NFA}
-use Rattle.aho_hybrid.specs.Filled.{IsRefused, default_budget}
+use Rattle.aho_hybrid.specs.Filled.{IsRowsRefusal, default_budget}
 use Rattle.aho_hybrid.specs.contracts.hybrid.HybridAutomaton.TheImpl.{ghosts as of_hybrid}
 use Rattle.aho_hybrid.specs.contracts.hybrid.HybridAutomaton.TheImpl.Laws.{alike-law as rows-alike, dead_shallow-law as rows-dead_shallow, laws-law as rows-laws, plain-law as rows-plain, prefilters-law as rows-prefilters, starts_shallow-law as rows-starts_shallow, unmarked-law as rows-unmarked}
-use Rattle.aho_prefilter.specs.Prefilter.{IsPrefilterOf, held_or_packed}
+use Rattle.aho_prefilter.specs.Prefilter.{IsPrefilterOf, quickest_for}
 use Rattle.aho_prefilter.specs.declared.prefilter.Searcher.{Searcher}
 use Rattle.chromesquid.specs.declared.engine.Engine.{Engine}
 use Rattle.chromesquid.specs.declared.engine.Engine.TheVariants.{Noncontiguous, Rows}
@@ -33,7 +35,7 @@ kind_in (Rows hybrid) = OfRows
 pub record HasNoRows (nfa : NFA) : Type 0 where
   pub max : ℕ
   pub requested : ℕ
-  pub refused : IsRefused nfa default_budget (StateIDOverflow max requested)
+  pub refused : IsRowsRefusal nfa default_budget (StateIDOverflow max requested)
 
 -- it has this kind, or is an `NFA` for which the rows do not fit
 abbrev pub HasKind : AhoCorasickKind → Engine → Type 0
@@ -42,6 +44,12 @@ HasKind kind engine = (kind_in engine ≡ kind) ⊎ ((nfa : NFA) × (engine ≡ 
 -- without rows it is this `NFA`
 abbrev pub IsElse : NFA → Engine → Type 0
 IsElse nfa engine = kind_in engine ≡ NoncontiguousNFA → engine ≡ Noncontiguous nfa
+
+-- ---- its search
+
+-- what an automaton's start refuses is refused, but where the span starts above its end
+abbrev pub RefusesAs : Result ℕ MatchErrorKind → Search → Result (Option Occurrence) MatchErrorKind → Type 0
+RefusesAs start search result = (reason : MatchErrorKind) → search.start ≤ search.end → start ≡ Err reason → result ≡ Err reason
 
 -- ---- the members of `Automaton`
 
@@ -53,13 +61,13 @@ abbrev pub IsHeldBy : Engine → Patterns → Anchored → List ℕ → ℕ → 
 IsHeldBy (Noncontiguous nfa) p anchored word sid = of_nfa.held nfa p anchored word sid
 IsHeldBy (Rows hybrid) p anchored word sid = of_hybrid.held hybrid p anchored word sid
 
-abbrev pub IsStateOf : Engine → ℕ → Type 0
-IsStateOf (Noncontiguous nfa) sid = of_nfa.valid nfa sid
-IsStateOf (Rows hybrid) sid = of_hybrid.valid hybrid sid
+abbrev pub IsStateBy : Engine → ℕ → Type 0
+IsStateBy (Noncontiguous nfa) sid = of_nfa.valid nfa sid
+IsStateBy (Rows hybrid) sid = of_hybrid.valid hybrid sid
 
-abbrev pub kind_by : Engine → MatchKind
-kind_by (Noncontiguous nfa) = of_nfa.kind nfa
-kind_by (Rows hybrid) = of_hybrid.kind hybrid
+abbrev pub match_kind_by : Engine → MatchKind
+match_kind_by (Noncontiguous nfa) = of_nfa.kind nfa
+match_kind_by (Rows hybrid) = of_hybrid.kind hybrid
 
 abbrev pub lengths_by : Engine → List ℕ
 lengths_by (Noncontiguous nfa) = of_nfa.lengths nfa
@@ -113,13 +121,13 @@ prefilter_by (Rows hybrid) = of_hybrid.prefilter hybrid
 abbrev pub HoldsInRows : Option Searcher → Engine → Type 0
 HoldsInRows held engine = kind_in engine ≡ OfRows → prefilter_by engine ≡ held
 
--- the prefilter that rows for these patterns hold: where the settings want one it may be a packed search
+-- the prefilter that rows for these patterns hold, where the settings want one
 abbrev pub held_in_rows : Settings → Patterns → Option Searcher
-held_in_rows settings p = if settings.prefilter then held_or_packed p else None
+held_in_rows settings p = if settings.prefilter then quickest_for p else None
 
 -- ---- its laws
 
-pub laws_by : (e : Engine) (p : Patterns) → IsEngineOf e p → Reads p (kind_by e) (lengths_by e) (IsHeldBy e p) (list_by e) (dead_by e) (starts_by e)
+pub laws_by : (e : Engine) (p : Patterns) → IsEngineOf e p → Reads p (match_kind_by e) (lengths_by e) (IsHeldBy e p) (list_by e) (dead_by e) (starts_by e)
 laws_by (Noncontiguous nfa) p of = nfa-laws nfa p of
 laws_by (Rows hybrid) p of = rows-laws hybrid p of
 
@@ -127,19 +135,19 @@ pub alike_by : (e : Engine) (p : Patterns) (word other : List ℕ) (sid : ℕ) �
 alike_by (Noncontiguous nfa) p word other sid of = nfa-alike nfa p word other sid of
 alike_by (Rows hybrid) p word other sid of = rows-alike hybrid p word other sid of
 
-pub plain_by : (e : Engine) (sid : ℕ) → IsStateOf e sid → special_by e sid ≡ false → (dead_by e sid ≡ false) × (list_by e sid ≡ [])
-plain_by (Noncontiguous nfa) sid valid = nfa-plain nfa sid valid
-plain_by (Rows hybrid) sid valid = rows-plain hybrid sid valid
+pub plain_state_by : (e : Engine) (sid : ℕ) → IsStateBy e sid → special_by e sid ≡ false → (dead_by e sid ≡ false) × (list_by e sid ≡ [])
+plain_state_by (Noncontiguous nfa) sid valid = nfa-plain nfa sid valid
+plain_state_by (Rows hybrid) sid valid = rows-plain hybrid sid valid
 
-pub unmarked_by : (e : Engine) (sid : ℕ) → IsStateOf e sid → marked_by e sid ≡ false → (dead_by e sid ≡ false) × (list_by e sid ≡ [])
+pub unmarked_by : (e : Engine) (sid : ℕ) → IsStateBy e sid → marked_by e sid ≡ false → (dead_by e sid ≡ false) × (list_by e sid ≡ [])
 unmarked_by (Noncontiguous nfa) sid valid = nfa-unmarked nfa sid valid
 unmarked_by (Rows hybrid) sid valid = rows-unmarked hybrid sid valid
 
-pub dead_shallow_by : (e : Engine) (sid : ℕ) → IsStateOf e sid → dead_by e sid ≡ true → depth_by e sid ≡ 0
+pub dead_shallow_by : (e : Engine) (sid : ℕ) → IsStateBy e sid → dead_by e sid ≡ true → depth_by e sid ≡ 0
 dead_shallow_by (Noncontiguous nfa) sid valid = nfa-dead_shallow nfa sid valid
 dead_shallow_by (Rows hybrid) sid valid = rows-dead_shallow hybrid sid valid
 
-pub starts_shallow_by : (e : Engine) (sid : ℕ) → IsStateOf e sid → starts_by e sid ≡ true → depth_by e sid ≡ 0
+pub starts_shallow_by : (e : Engine) (sid : ℕ) → IsStateBy e sid → starts_by e sid ≡ true → depth_by e sid ≡ 0
 starts_shallow_by (Noncontiguous nfa) sid valid = nfa-starts_shallow nfa sid valid
 starts_shallow_by (Rows hybrid) sid valid = rows-starts_shallow hybrid sid valid
 

@@ -1,10 +1,14 @@
--- why a build fails
+-- what a build makes, and why it fails
 pub mod Building
 -- the automaton that searches, of one of several kinds
 pub mod Engine
+-- what a search answers that may be refused
+pub mod Found
+-- what a replacement in memory gives and writes
+pub mod InMemory
 -- the definitions that a caller's contract names, from one place
 pub mod Rules
 -- what a searcher is seen as, and which patterns it was built from
 pub mod Searcher
--- what the replacement of a stream writes
+-- what is found in a stream, and what its replacement writes
 pub mod Streams

@@ -17,7 +17,8 @@ pub use Rattle.aho_build.specs.Settings.{default_settings}
 pub use Rattle.aho_automaton.specs.Finding.{AreFirstFinds, HoldsOfFinds}
 pub use Rattle.aho_stream.specs.FindRuns.{is_limit_among}
 pub use Rattle.aho_stream.specs.StreamRun.{RefusesUntouched}
-pub use Rattle.chromesquid.specs.Building.{IsFailureOf}
+pub use Rattle.chromesquid.specs.Building.{Accepts, FailsFor, HasCount, HasLengths, HasMatchKind, HasMemory, HasStartKind, HasTrie, IsBuiltWithMemory, IsFailureOf, SearchesBy, kind_to_make}
 pub use Rattle.chromesquid.specs.Engine.{HasKind}
-pub use Rattle.chromesquid.specs.Searcher.{Answers, HasEmpty, HasNoEmpty, IsBuiltFrom, Refuses, TellsMatch, kind_for, kind_of, match_kind_of, memory_of, patterns_len_of}
-pub use Rattle.chromesquid.specs.Streams.{FindsFirst, FindsWhole, IsBegun, IsReplaced, IsReplacedUpTo, IsStreamRun}
+pub use Rattle.chromesquid.specs.InMemory.{EndsOverBytes, EndsOverText, ReplacesBytes, ReplacesText, RunsOverBytes, RunsOverText, StopsOverBytes, StopsOverText}
+pub use Rattle.chromesquid.specs.Searcher.{Answers, ForItsPatterns, HasEmpty, HasNoEmpty, IsBuiltFrom, IsBuiltFromSome, RefusesSearch, TellsIfFound, automaton_kind_of, kind_for, match_kind_of, memory_usage_of, patterns_len_of}
+pub use Rattle.chromesquid.specs.Streams.{CallsFindAlong, FindsBeginning, FindsToLimit, FindsWhole, HasBufferFor, IsReplaced, IsReplacementBegun, IsReplacedUpTo, IsStreamRun, ReplacesBeginning, ReplacesNearly, ReplacesWhole, RunsFindBeginning, RunsFindToLimit, RunsFindWhole, RunsStream}

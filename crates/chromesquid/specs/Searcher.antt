@@ -12,6 +12,7 @@ use Rattle.aho_core.specs.declared.error.MatchErrorKind.TheVariants.{InvalidInpu
 use Rattle.aho_core.specs.declared.search.Anchored.{Anchored}
 use Rattle.aho_core.specs.declared.search.Anchored.TheVariants.{No, Yes}
 use Rattle.aho_core.specs.declared.search.MatchKind.{MatchKind}
+use Rattle.aho_prefilter.specs.declared.prefilter.Searcher.{Searcher as Prefilter}
 use Rattle.chromesquid.specs.Engine.{kind_in}
 use Rattle.chromesquid.specs.contracts.engine.EngineAutomaton.TheImpl.{ghosts}
 use Rattle.chromesquid.specs.declared.engine.Engine.{Engine}
@@ -26,8 +27,8 @@ pub record Searcher : Type 0 where
   pub start_kind : StartKind
 
 -- which kind of automaton it searches by
-abbrev pub kind_of : Searcher → AhoCorasickKind
-kind_of searcher = kind_in searcher.automaton
+abbrev pub automaton_kind_of : Searcher → AhoCorasickKind
+automaton_kind_of searcher = kind_in searcher.automaton
 
 -- which of several matches it finds
 abbrev pub match_kind_of : Searcher → MatchKind
@@ -42,8 +43,12 @@ abbrev pub patterns_len_of : Searcher → ℕ
 patterns_len_of searcher = length (lengths_of searcher)
 
 -- how many bytes of memory it holds, by the stated sizes of its parts
-abbrev pub memory_of : Searcher → ℕ
-memory_of searcher = ghosts.memory searcher.automaton
+abbrev pub memory_usage_of : Searcher → ℕ
+memory_usage_of searcher = ghosts.memory searcher.automaton
+
+-- the prefilter that it holds, if it holds one
+abbrev pub prefilter_held_by : Searcher → Option Prefilter
+prefilter_held_by searcher = ghosts.prefilter searcher.automaton
 
 -- none of its patterns is empty
 abbrev pub HasNoEmpty : Searcher → Type 0
@@ -74,25 +79,33 @@ pub record IsBuiltFrom (searcher : Searcher) (p : Patterns) : Type 0 where
   pub reads : ghosts.is_of searcher.automaton p
   pub starts : (anchored : Anchored) → allows searcher.start_kind anchored ≡ true → IsOk (ghosts.start searcher.automaton anchored)
 
+-- it was built from some patterns
+abbrev pub IsBuiltFromSome : Searcher → Type 0
+IsBuiltFromSome searcher = (p : Patterns) × IsBuiltFrom searcher p
+
+-- so it is of all patterns that the searcher was built from
+abbrev pub ForItsPatterns : Searcher → (Patterns → Type 0) → Type 0
+ForItsPatterns searcher Holds = (p : Patterns) → IsBuiltFrom searcher p → Holds p
+
 -- why a search of this anchoring is refused
-abbrev pub refusal_of : Anchored → MatchErrorKind
-refusal_of No = InvalidInputUnanchored
-refusal_of Yes = InvalidInputAnchored
+abbrev pub why_refused : Anchored → MatchErrorKind
+why_refused No = InvalidInputUnanchored
+why_refused Yes = InvalidInputAnchored
 
 -- the searcher answers searches of this anchoring
 abbrev pub Answers : Searcher → Anchored → Type 0
 Answers searcher anchored = allows searcher.start_kind anchored ≡ true
 
 -- and refuses them
-abbrev pub Refuses : Searcher → Anchored → Type 0
-Refuses searcher anchored = allows searcher.start_kind anchored ≡ false
+abbrev pub RefusesSearch : Searcher → Anchored → Type 0
+RefusesSearch searcher anchored = allows searcher.start_kind anchored ≡ false
 
 -- a search of this anchoring begins in the automaton's start, or is refused
 abbrev pub start_by : Searcher → Anchored → Result ℕ MatchErrorKind
-start_by searcher anchored = if allows searcher.start_kind anchored then ghosts.start searcher.automaton anchored else Err (refusal_of anchored)
+start_by searcher anchored = if allows searcher.start_kind anchored then ghosts.start searcher.automaton anchored else Err (why_refused anchored)
 
 -- whether a search finds a match is told so
-pub record TellsMatch (p : Patterns) (search : Search) (told : Bool) : Type 0 where
+pub record TellsIfFound (p : Patterns) (search : Search) (told : Bool) : Type 0 where
   pub answer : Option Occurrence
   pub answers : IsAnswer p search answer
   pub is : told ≡ is_some answer

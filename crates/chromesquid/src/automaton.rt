@@ -1,7 +1,7 @@
 //! A searcher is an automaton as well: every search that is written for any automaton takes one.
 
 use crate::engine::Engine;
-use crate::kinds::{is_allowed, refusal_of};
+use crate::kinds::{is_allowed, why_refused};
 use crate::searcher::AhoCorasick;
 use aho_automaton::automaton::Automaton;
 use aho_core::error::MatchError;
@@ -10,7 +10,7 @@ use aho_prefilter::prefilter::Prefilter;
 
 impl Automaton for AhoCorasick {
     ghost use Rattle.std.specs.Prelude.{true};
-    ghost use Rattle.chromesquid.specs.Engine.{alike_by, dead_shallow_by, laws_by, plain_by, prefilters_by, starts_shallow_by, unmarked_by};
+    ghost use Rattle.chromesquid.specs.Engine.{alike_by, dead_shallow_by, laws_by, plain_state_by, prefilters_by, starts_shallow_by, unmarked_by};
     ghost use Rattle.chromesquid.specs.Searcher.{IsBuiltFrom, start_by};
 
     ghost is_of = { λ s p. IsBuiltFrom s p };
@@ -52,7 +52,7 @@ impl Automaton for AhoCorasick {
         if is_allowed(self.start_kind(), anchored) {
             self.automaton().start_state(anchored)
         } else {
-            Err(refusal_of(anchored))
+            Err(why_refused(anchored))
         }
     }
 
@@ -128,7 +128,7 @@ impl Automaton for AhoCorasick {
 
     ghost alike = { λ s p word other sid built. alike_by s.automaton p word other sid built.reads };
 
-    ghost plain = { λ s sid valid. plain_by s.automaton sid valid };
+    ghost plain = { λ s sid valid. plain_state_by s.automaton sid valid };
 
     ghost unmarked = { λ s sid valid. unmarked_by s.automaton sid valid };
 

@@ -1,14 +1,11 @@
 //! The settings of a searcher, and its build.
 
-ghost use Rattle.std.specs.Prelude.{◌≡◌, IfErr, IfOk, None, length, map};
+ghost use Rattle.std.specs.Prelude.{◌≡◌, IfErr, IfOk, OnOk};
 ghost use Rattle.std.specs.Iterator.{IsFinite};
 ghost use Rattle.std.specs.Iterator.Runs.{WholeRun};
-ghost use Rattle.aho_core.specs.Patterns.{Patterns};
 ghost use Rattle.aho_build.specs.Automaton.{memory_for};
 ghost use Rattle.aho_build.specs.Items.{IsFailure, OfAccepted, patterns_of};
-ghost use Rattle.aho_build.specs.Refusals.{cause};
-ghost use Rattle.chromesquid.specs.Building.{IsFailureOf};
-ghost use Rattle.chromesquid.specs.Engine.{HasKind};
+ghost use Rattle.chromesquid.specs.Building.{Accepts, FailsFor};
 ghost use Rattle.chromesquid.specs.declared.kinds.AhoCorasickKind.TheVariants.{NoncontiguousNFA};
 
 use crate::engine::Engine;
@@ -70,16 +67,15 @@ fn automaton_of(settings: &Settings, alloc: Global, patterns: &[&[u8]]) -> Resul
         ⟦<NFA as Automaton>⟧.is_of nfa (patterns_of settings.now patterns.now)) }
     ensures memory { IfOk result (λ nfa. ⟦<NFA as Automaton>⟧.memory nfa
         ≡ memory_for settings.now (patterns_of settings.now patterns.now)) }
-    ensures accepted { IfOk result (λ nfa.
-        cause settings.now (patterns_of settings.now patterns.now) ≡ None) }
-    ensures refused { IfErr result
-        (IsFailureOf settings.now (patterns_of settings.now patterns.now)) }
+    ensures accepted { OnOk result (Accepts settings.now patterns.now) }
+    ensures refused { IfErr result (FailsFor settings.now patterns.now) }
 {
     builder_of(settings).build(alloc, patterns.iter().copied())
 }
 
 impl AhoCorasickBuilder {
-    ghost use Rattle.chromesquid.specs.Searcher.{IsBuiltFrom, default_building, kind_for, kind_of, lengths_of, match_kind_of, memory_of, patterns_len_of};
+    ghost use Rattle.chromesquid.specs.Building.{HasCount, HasLengths, HasMatchKind, HasMemory, HasStartKind, HasTrie, IsBuiltWithMemory, SearchesBy, kind_to_make};
+    ghost use Rattle.chromesquid.specs.Searcher.{IsBuiltFrom, default_building};
 
     /// Standard, with regard to case, for searches that are not anchored, with a prefilter where one can be held, dense rows
     /// up to depth 3, and the greatest limits. No kind of automaton is asked for.
@@ -102,21 +98,15 @@ impl AhoCorasickBuilder {
     pub fn build(&self, alloc: Global, patterns: &[&[u8]]) -> Result<AhoCorasick, BuildError>
         ensures of { IfOk result (λ built.
             IsBuiltFrom built (patterns_of self.now.settings patterns.now)) }
-        ensures match_kind { IfOk result (λ built. match_kind_of built ≡ self.now.settings.kind) }
-        ensures start_kind { IfOk result (λ built. built.start_kind ≡ self.now.start_kind) }
-        ensures kind { IfOk result (λ built.
-            HasKind (kind_for self.now.start_kind self.now.kind) built.automaton) }
-        ensures trie { kind_for self.now.start_kind self.now.kind ≡ NoncontiguousNFA
-            → IfOk result (λ built. kind_of built ≡ NoncontiguousNFA) }
-        ensures lengths { IfOk result (λ built.
-            lengths_of built ≡ map (λ pattern. length pattern.now) patterns.now) }
-        ensures count { IfOk result (λ built. patterns_len_of built ≡ length patterns.now) }
-        ensures memory { IfOk result (λ built. kind_of built ≡ NoncontiguousNFA → memory_of built
-            ≡ memory_for self.now.settings (patterns_of self.now.settings patterns.now)) }
-        ensures accepted { IfOk result (λ built.
-            cause self.now.settings (patterns_of self.now.settings patterns.now) ≡ None) }
-        ensures refused { IfErr result
-            (IsFailureOf self.now.settings (patterns_of self.now.settings patterns.now)) }
+        ensures match_kind { IfOk result (HasMatchKind self.now.settings.kind) }
+        ensures start_kind { IfOk result (HasStartKind self.now.start_kind) }
+        ensures kind { IfOk result (SearchesBy (kind_to_make self.now)) }
+        ensures trie { kind_to_make self.now ≡ NoncontiguousNFA → IfOk result HasTrie }
+        ensures lengths { IfOk result (HasLengths patterns.now) }
+        ensures count { IfOk result (HasCount patterns.now) }
+        ensures memory { IfOk result (HasMemory self.now.settings patterns.now) }
+        ensures accepted { OnOk result (Accepts self.now.settings patterns.now) }
+        ensures refused { IfErr result (FailsFor self.now.settings patterns.now) }
     {
         let nfa = automaton_of(&self.settings, alloc, patterns)?;
         let kind = kind_for(self.start_kind, self.kind);
@@ -141,12 +131,12 @@ impl AhoCorasickBuilder {
             OfAccepted I.next_gives patterns self.now.settings (IsBuiltFrom built)) }
         ensures runs { IfOk result (λ built. WholeRun I.next_gives patterns (λ run.
             IsBuiltFrom built (patterns_of self.now.settings run.items))) }
-        ensures match_kind { IfOk result (λ built. match_kind_of built ≡ self.now.settings.kind) }
-        ensures start_kind { IfOk result (λ built. built.start_kind ≡ self.now.start_kind) }
-        ensures kind { IfOk result (λ built.
-            HasKind (kind_for self.now.start_kind self.now.kind) built.automaton) }
-        ensures trie { kind_for self.now.start_kind self.now.kind ≡ NoncontiguousNFA
-            → IfOk result (λ built. kind_of built ≡ NoncontiguousNFA) }
+        ensures memory { IfOk result (λ built. WholeRun I.next_gives patterns (λ run.
+            IsBuiltWithMemory self.now.settings run.items built)) }
+        ensures match_kind { IfOk result (HasMatchKind self.now.settings.kind) }
+        ensures start_kind { IfOk result (HasStartKind self.now.start_kind) }
+        ensures kind { IfOk result (SearchesBy (kind_to_make self.now)) }
+        ensures trie { kind_to_make self.now ≡ NoncontiguousNFA → IfOk result HasTrie }
         ensures refused { IfErr result (IsFailure I.next_gives patterns self.now.settings) }
     {
         let Ok(patterns) = patterns.collect::<Vec<&[u8]>>(alloc) else {
@@ -190,8 +180,8 @@ impl AhoCorasickBuilder {
         self
     }
 
-    /// Whether a prefilter is held where there is one for the patterns; with rows it may be a packed search. No answer depends
-    /// on it.
+    /// Whether a prefilter is held where there is one for the patterns; with rows it may be a packed or a strided search. Which one is free:
+    /// no contract of a searcher says it, and no answer depends on it.
     pub fn prefilter(mut self, yes: bool) -> AhoCorasickBuilder
         ensures set { result ≡ record self { settings = record self.settings { prefilter = yes } } }
     {
@@ -200,8 +190,8 @@ impl AhoCorasickBuilder {
     }
 
     /// Up to which distance from the start states of the noncontiguous automaton have dense rows, by which a step is one look;
-    /// none at 0. A row takes four bytes for each class of bytes. A `Hybrid` is made of that automaton, and has rows of its own.
-    /// No answer depends on it.
+    /// none at 0. A row takes four bytes for each class of bytes. A `Hybrid` is made of that automaton, and has rows of its own:
+    /// how much memory they take is free. No answer depends on it.
     pub fn dense_depth(mut self, depth: usize) -> AhoCorasickBuilder
         ensures set { result ≡ record self { settings = record self.settings { dense_depth = depth } } }
     {

@@ -1,25 +1,29 @@
 //! The automaton that searches: one of several kinds. Each of its calls is that of the automaton that is held.
 
-ghost use Rattle.std.specs.Prelude.{◌≡◌, ◌<◌, ◌≤◌, ℕ, Err, IfErr, IfOk, IfSome, IsOk, None, Ok};
+ghost use Rattle.std.specs.Prelude.{◌≡◌, ◌+◌, ◌<◌, ◌≤◌, ℕ, IfOk, IfSome, IsOk, IsOkUnless, None, Ok, Some, length, true};
 ghost use Rattle.aho_core.specs.Answer.{IsAnswer};
+ghost use Rattle.aho_core.specs.Occurrence.{Occurrence};
 ghost use Rattle.aho_core.specs.Patterns.{Patterns};
+ghost use Rattle.aho_core.specs.Search.{search_of};
 ghost use Rattle.aho_core.specs.declared.error.BuildError.TheVariants.{OutOfMemory};
-ghost use Rattle.aho_core.specs.declared.error.MatchErrorKind.{MatchErrorKind};
+ghost use Rattle.aho_core.specs.declared.search.Anchored.TheVariants.{No};
+ghost use Rattle.aho_automaton.specs.Reading.{ReadsEachOnce, ReadsUpTo};
 ghost use Rattle.aho_build.specs.Items.{patterns_of};
 ghost use Rattle.aho_corasick.specs.Clones.{IsCloneOf};
 ghost use Rattle.aho_prefilter.specs.Prefilter.{IsPrefilterOf};
-ghost use Rattle.chromesquid.specs.Engine.{HasKind, HoldsInRows, IsElse, held_in_rows, kind_in};
+ghost use Rattle.chromesquid.specs.Engine.{HasKind, HoldsInRows, IsElse, RefusesAs, held_in_rows, kind_in};
 ghost use Rattle.chromesquid.specs.declared.kinds.AhoCorasickKind.TheVariants.{Hybrid as OfRows};
 
 use crate::kinds::AhoCorasickKind;
 use crate::prefilters::prefilter_of;
-use aho_automaton::automaton::Automaton;
+use aho_automaton::automaton::{Automaton, Counted, find_in};
 use aho_build::settings::Settings;
 use aho_corasick::noncontiguous::NFA;
 use aho_core::error::{BuildError, MatchError};
-use aho_core::search::{Anchored, Input, Match, MatchKind, PatternID, StateID, Work};
+use aho_core::search::{Anchored, Input, Match, MatchKind, PatternID, Span, StateID, Work};
 use aho_hybrid::hybrid::{DEFAULT_BUDGET, Hybrid};
 use aho_prefilter::prefilter::Prefilter;
+use aho_prefilter::text::Text;
 use std::alloc::{AllocError, Global};
 
 /// An automaton of one of the kinds.
@@ -51,7 +55,7 @@ impl Engine {
         ensures same { IfOk result (IsElse nfa) }
         ensures prefilter { IfOk result (HoldsInRows
             (held_in_rows settings.now (patterns_of settings.now patterns.now))) }
-        ensures refused { IfErr result (λ error. error ≡ OutOfMemory) }
+        ensures refused { IsOkUnless result OutOfMemory }
     {
         match kind {
             AhoCorasickKind::NoncontiguousNFA => Ok(Engine::Noncontiguous(nfa)),
@@ -79,12 +83,12 @@ impl Engine {
         ensures kind { IfOk result (HasKind OfRows) }
         ensures same { IfOk result (IsElse nfa) }
         ensures prefilter { IfOk result (HoldsInRows prefilter) }
-        ensures refused { IfErr result (λ error. error ≡ OutOfMemory) }
+        ensures refused { IsOkUnless result OutOfMemory }
     {
         match Hybrid::with_prefilter(alloc, &nfa, DEFAULT_BUDGET, prefilter) {
             Ok(hybrid) => Ok(Engine::Rows(hybrid)),
             Err(BuildError::StateIDOverflow { .. }) => Ok(Engine::Noncontiguous(nfa)),
-            Err(_) => Err(BuildError::OutOfMemory),
+            Err(error) => Err(error),
         }
     }
 
@@ -109,14 +113,42 @@ impl Engine {
             → IfOk result (IsAnswer p input.now) }
         ensures ok { (sid : ℕ) → ⟦<Engine as Automaton>⟧.start self.now input.now.anchored ≡ Ok sid
             → IsOk result }
-        ensures refused { (reason : MatchErrorKind) → input.now.start ≤ input.now.end
-            → ⟦<Engine as Automaton>⟧.start self.now input.now.anchored ≡ Err reason
-            → result ≡ Err reason }
+        ensures refused { RefusesAs
+            (⟦<Engine as Automaton>⟧.start self.now input.now.anchored) input.now result }
         ensures done { input.now.end < input.now.start → result ≡ Ok None }
     {
         match self {
             Engine::Noncontiguous(nfa) => found_by(nfa, input),
             Engine::Rows(hybrid) => found_by(hybrid, input),
+        }
+    }
+
+    /// The match that ends first in a span of a text, by the automaton that is held.
+    ///
+    /// # Errors
+    ///
+    /// As those of `find_in`.
+    pub(crate) fn earliest_in<T: Text>(
+        &self,
+        text: &mut T,
+        span: Span,
+        anchored: Anchored,
+    ) -> Result<Option<Match>, MatchError>
+        requires of { (p : Patterns) × ⟦<Engine as Automaton>⟧.is_of self.now p }
+        requires within { span.end ≤ length (T.bytes text.old) }
+        requires ordered { span.start ≤ span.end + 1 }
+        requires unread { T.next text.old ≤ span.start }
+        ensures found { (p : Patterns) → ⟦<Engine as Automaton>⟧.is_of self.now p
+            → IfOk result (IsAnswer p (search_of (T.bytes text.old) span anchored true)) }
+        ensures ok { (sid : ℕ) → ⟦<Engine as Automaton>⟧.start self.now anchored ≡ Ok sid
+            → IsOk result }
+        ensures once { ReadsEachOnce T.Text text.old text.new span.start span.end }
+        ensures no_further { anchored ≡ No → (m : Occurrence) → result ≡ Ok (Some m)
+            → ReadsUpTo (T.next text.old) (T.next text.new) m.end }
+    {
+        match self {
+            Engine::Noncontiguous(nfa) => earliest_by(nfa, text, span, anchored),
+            Engine::Rows(hybrid) => earliest_by(hybrid, text, span, anchored),
         }
     }
 
@@ -141,24 +173,44 @@ fn found_by<A: Automaton>(automaton: &A, input: &Input) -> Result<Option<Match>,
     requires of { (p : Patterns) × A.is_of automaton.now p }
     ensures found { (p : Patterns) → A.is_of automaton.now p → IfOk result (IsAnswer p input.now) }
     ensures ok { (sid : ℕ) → A.start automaton.now input.now.anchored ≡ Ok sid → IsOk result }
-    ensures refused { (reason : MatchErrorKind) → input.now.start ≤ input.now.end
-        → A.start automaton.now input.now.anchored ≡ Err reason → result ≡ Err reason }
+    ensures refused { RefusesAs (A.start automaton.now input.now.anchored) input.now result }
     ensures done { input.now.end < input.now.start → result ≡ Ok None }
 {
     automaton.try_find(input)
 }
 
+/// The match that ends first in a span of a text, by an automaton.
+fn earliest_by<A: Automaton, T: Text>(
+    automaton: &A,
+    text: &mut T,
+    span: Span,
+    anchored: Anchored,
+) -> Result<Option<Match>, MatchError>
+    requires of { (p : Patterns) × A.is_of automaton.now p }
+    requires within { span.end ≤ length (T.bytes text.old) }
+    requires ordered { span.start ≤ span.end + 1 }
+    requires unread { T.next text.old ≤ span.start }
+    ensures found { (p : Patterns) → A.is_of automaton.now p
+        → IfOk result (IsAnswer p (search_of (T.bytes text.old) span anchored true)) }
+    ensures ok { (sid : ℕ) → A.start automaton.now anchored ≡ Ok sid → IsOk result }
+    ensures once { ReadsEachOnce T.Text text.old text.new span.start span.end }
+    ensures no_further { anchored ≡ No → (m : Occurrence) → result ≡ Ok (Some m)
+        → ReadsUpTo (T.next text.old) (T.next text.new) m.end }
+{
+    find_in(&mut Counted::new(automaton), text, span, anchored, true)
+}
+
 impl Automaton for Engine {
     ghost use Rattle.std.specs.Prelude.{true};
-    ghost use Rattle.chromesquid.specs.Engine.{IsEngineOf, IsHeldBy, IsStateOf, alike_by, dead_by, dead_shallow_by, depth_by, kind_by, laws_by, lengths_by, list_by, lookups_by, marked_by, memory_by, next_by, plain_by, prefilter_by, prefilters_by, special_by, start_by, starts_by, starts_shallow_by, unmarked_by};
+    ghost use Rattle.chromesquid.specs.Engine.{IsEngineOf, IsHeldBy, IsStateBy, alike_by, dead_by, dead_shallow_by, depth_by, match_kind_by, laws_by, lengths_by, list_by, lookups_by, marked_by, memory_by, next_by, plain_state_by, prefilter_by, prefilters_by, special_by, start_by, starts_by, starts_shallow_by, unmarked_by};
 
     ghost is_of = { λ e p. IsEngineOf e p };
 
     ghost held = { λ e p anchored word sid. IsHeldBy e p anchored word sid };
 
-    ghost valid = { λ e sid. IsStateOf e sid };
+    ghost valid = { λ e sid. IsStateBy e sid };
 
-    ghost kind = { λ e. kind_by e };
+    ghost kind = { λ e. match_kind_by e };
 
     ghost lengths = { λ e. lengths_by e };
 
@@ -316,7 +368,7 @@ impl Automaton for Engine {
 
     ghost alike = { λ e p word other sid of. alike_by e p word other sid of };
 
-    ghost plain = { λ e sid valid. plain_by e sid valid };
+    ghost plain = { λ e sid valid. plain_state_by e sid valid };
 
     ghost unmarked = { λ e sid valid. unmarked_by e sid valid };
 

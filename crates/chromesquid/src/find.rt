@@ -1,22 +1,24 @@
 //! Searches in memory.
 
-ghost use Rattle.std.specs.Prelude.{◌≡◌, ◌≢◌, ◌*◌, ◌<◌, ◌≤◌, IfErr, IfOk, IsOk, Ok, Err, None, true, false, length};
+ghost use Rattle.std.specs.Prelude.{◌≡◌, ◌≢◌, ◌+◌, ◌<◌, ◌≤◌, IfOk, IfSome, IsOk, Ok, Err, None, true, length};
 ghost use Rattle.std.specs.Iterator.{UpTo};
 ghost use Rattle.aho_core.specs.Answer.{IsAnswer};
-ghost use Rattle.aho_core.specs.Patterns.{Patterns};
+ghost use Rattle.aho_core.specs.Search.{search_of};
 ghost use Rattle.aho_core.specs.declared.error.MatchErrorKind.TheVariants.{InvalidInputAnchored, InvalidInputUnanchored, UnsupportedOverlapping};
 ghost use Rattle.aho_core.specs.declared.search.Anchored.TheVariants.{No, Yes};
 ghost use Rattle.aho_core.specs.declared.search.MatchKind.TheVariants.{Standard};
-ghost use Rattle.aho_automaton.specs.Finding.{GivesFinds, GivesFirstFinds, places};
+ghost use Rattle.aho_automaton.specs.Finding.{GivesFinds, GivesFirstFinds, span_places};
 ghost use Rattle.aho_automaton.specs.Fused.{IsFused};
 ghost use Rattle.aho_automaton.specs.Overlaps.{ListsAll, ListsFirst};
+ghost use Rattle.aho_automaton.specs.Reading.{ReadsEachOnce, ReadsUpTo};
 
 use crate::input::Searchable;
-use crate::kinds::{is_allowed, refusal_of};
+use crate::kinds::{is_allowed, why_refused};
 use crate::searcher::AhoCorasick;
 use aho_automaton::automaton::Automaton;
 use aho_core::error::MatchError;
-use aho_core::search::{Input, Match};
+use aho_core::search::{Anchored, Input, Match, Span};
+use aho_prefilter::text::{Bytes, Text};
 
 /// The matches of a search, one after another.
 pub type FindIter<'a, 'h> = aho_automaton::automaton::FindIter<'a, 'h, AhoCorasick>;
@@ -29,7 +31,8 @@ pub type FindOverlappingIter<'a, 'h> = aho_automaton::automaton::FindOverlapping
 >;
 
 impl AhoCorasick {
-    ghost use Rattle.chromesquid.specs.Searcher.{Answers, IsBuiltFrom, Refuses, TellsMatch, match_kind_of, patterns_len_of, refusal_of};
+    ghost use Rattle.chromesquid.specs.Found.{RefusesUnlessDone, most_listed};
+    ghost use Rattle.chromesquid.specs.Searcher.{Answers, ForItsPatterns, RefusesSearch, TellsIfFound, match_kind_of, why_refused};
 
     /// What the search finds, by the automaton that is held; it is asked once which one that is.
     ///
@@ -37,10 +40,9 @@ impl AhoCorasick {
     ///
     /// As those of `try_find`.
     fn search(&self, input: &Input) -> Result<Option<Match>, MatchError>
-        ensures found { (p : Patterns) → IsBuiltFrom self.now p → IfOk result (IsAnswer p input.now) }
+        ensures found { ForItsPatterns self.now (λ p. IfOk result (IsAnswer p input.now)) }
         ensures ok { Answers self.now input.now.anchored → IsOk result }
-        ensures refused { Refuses self.now input.now.anchored → input.now.start ≤ input.now.end
-            → result ≡ Err (refusal_of input.now.anchored) }
+        ensures refused { RefusesUnlessDone self.now input.now result }
         ensures done { input.now.end < input.now.start → result ≡ Ok None }
     {
         if is_allowed(self.start_kind(), input.get_anchored()) {
@@ -55,8 +57,7 @@ impl AhoCorasick {
     /// The search must be one that the searcher answers; `try_find` tests it.
     pub fn find<'h, I: Searchable<'h>>(&self, input: I) -> Option<Match>
         requires starts { Answers self.now (I.search input).anchored }
-        ensures found { (p : Patterns) → IsBuiltFrom self.now p
-            → IsAnswer p (I.search input) result }
+        ensures found { ForItsPatterns self.now (λ p. IsAnswer p (I.search input) result) }
     {
         match self.search(&input.into_input()) {
             Ok(found) => found,
@@ -70,29 +71,53 @@ impl AhoCorasick {
     ///
     /// A search whose anchoring was not built for is refused, if its span does not start above its end.
     pub fn try_find<'h, I: Searchable<'h>>(&self, input: I) -> Result<Option<Match>, MatchError>
-        ensures found { (p : Patterns) → IsBuiltFrom self.now p
-            → IfOk result (IsAnswer p (I.search input)) }
+        ensures found { ForItsPatterns self.now (λ p. IfOk result (IsAnswer p (I.search input))) }
         ensures ok { Answers self.now (I.search input).anchored → IsOk result }
-        ensures refused { Refuses self.now (I.search input).anchored
-            → (I.search input).start ≤ (I.search input).end
-            → result ≡ Err (refusal_of (I.search input).anchored) }
+        ensures refused { RefusesUnlessDone self.now (I.search input) result }
         ensures done { (I.search input).end < (I.search input).start → result ≡ Ok None }
     {
         self.search(&input.into_input())
     }
 
-    /// Whether a pattern occurs. It reads no further than the first place where one ends.
+    /// The match that ends first in a span of a text, none where nothing occurs in it. It reads each byte at most once, and
+    /// an unanchored search none behind that match. What a prefilter reads ahead is not counted. It takes no memory.
+    ///
+    /// The search must be one that the searcher answers.
+    pub fn earliest_in<T: Text>(
+        &self,
+        text: &mut T,
+        span: Span,
+        anchored: Anchored,
+    ) -> Option<Match>
+        requires starts { Answers self.now anchored }
+        requires within { span.end ≤ length (T.bytes text.old) }
+        requires ordered { span.start ≤ span.end + 1 }
+        requires unread { T.next text.old ≤ span.start }
+        ensures found { ForItsPatterns self.now (λ p.
+            IsAnswer p (search_of (T.bytes text.old) span anchored true) result) }
+        ensures each_byte_once { ReadsEachOnce T.Text text.old text.new span.start span.end }
+        ensures no_further { anchored ≡ No → IfSome result (λ m.
+            ReadsUpTo (T.next text.old) (T.next text.new) m.end) }
+    {
+        match self.built().automaton().earliest_in(text, span, anchored) {
+            Ok(found) => found,
+            Err(_) => unreachable!(),
+        }
+    }
+
+    /// Whether a pattern occurs. It is one call of `earliest_in`, over the text of the haystack: so it reads no further than
+    /// that says.
     ///
     /// The search must be one that the searcher answers; `try_find` tests it.
     pub fn is_match<'h, I: Searchable<'h>>(&self, input: I) -> bool
         requires starts { Answers self.now (I.search input).anchored }
-        ensures found { (p : Patterns) → IsBuiltFrom self.now p
-            → TellsMatch p (record (I.search input) { earliest = true }) result }
+        ensures found { ForItsPatterns self.now (λ p.
+            TellsIfFound p (record (I.search input) { earliest = true }) result) }
     {
-        match self.search(&input.into_input().earliest(true)) {
-            Ok(found) => found.is_some(),
-            Err(_) => unreachable!(),
-        }
+        let input = input.into_input();
+        let mut text = Bytes::new(input.haystack());
+        let found = self.earliest_in(&mut text, input.get_span(), input.get_anchored());
+        found.is_some()
     }
 
     /// The matches, one after another. It takes no memory, and searches only as matches are asked for.
@@ -101,12 +126,12 @@ impl AhoCorasick {
     pub fn find_iter<'a, 'h, I: Searchable<'h>>(&'a self, input: I) -> FindIter<'a, 'h>
         requires starts { Answers self.now (I.search input).anchored }
         ensures ready { ⟦<FindIter<'a, 'h> as Iterator>⟧.can_next result }
-        ensures finds { (p : Patterns) → IsBuiltFrom self.entry.now p
-            → GivesFinds ⟦<FindIter<'a, 'h> as Iterator>⟧.next_gives p (I.search input) result }
-        ensures first { (p : Patterns) → IsBuiltFrom self.entry.now p
-            → GivesFirstFinds ⟦<FindIter<'a, 'h> as Iterator>⟧.next_gives p (I.search input) result }
+        ensures finds { ForItsPatterns self.entry.now (λ p.
+            GivesFinds ⟦<FindIter<'a, 'h> as Iterator>⟧.next_gives p (I.search input) result) }
+        ensures first { ForItsPatterns self.entry.now (λ p.
+            GivesFirstFinds ⟦<FindIter<'a, 'h> as Iterator>⟧.next_gives p (I.search input) result) }
         ensures bound { UpTo (⟦<FindIter<'a, 'h> as Iterator>⟧.remaining result)
-            (places (I.search input)) }
+            (span_places (I.search input)) }
         ensures fused { IsFused ⟦<FindIter<'a, 'h> as Iterator>⟧.next_gives result }
     {
         match Automaton::try_find_iter(self.built(), input.into_input()) {
@@ -124,24 +149,24 @@ impl AhoCorasick {
         &'a self,
         input: I,
     ) -> Result<FindIter<'a, 'h>, MatchError>
-        ensures ready { IfOk result (λ it. ⟦<FindIter<'a, 'h> as Iterator>⟧.can_next it) }
-        ensures finds { (p : Patterns) → IsBuiltFrom self.entry.now p → IfOk result
-            (GivesFinds ⟦<FindIter<'a, 'h> as Iterator>⟧.next_gives p (I.search input)) }
-        ensures first { (p : Patterns) → IsBuiltFrom self.entry.now p → IfOk result
-            (GivesFirstFinds ⟦<FindIter<'a, 'h> as Iterator>⟧.next_gives p (I.search input)) }
+        ensures ready { IfOk result ⟦<FindIter<'a, 'h> as Iterator>⟧.can_next }
+        ensures finds { ForItsPatterns self.entry.now (λ p. IfOk result
+            (GivesFinds ⟦<FindIter<'a, 'h> as Iterator>⟧.next_gives p (I.search input))) }
+        ensures first { ForItsPatterns self.entry.now (λ p. IfOk result
+            (GivesFirstFinds ⟦<FindIter<'a, 'h> as Iterator>⟧.next_gives p (I.search input))) }
         ensures bound { IfOk result (λ it. UpTo
-            (⟦<FindIter<'a, 'h> as Iterator>⟧.remaining it) (places (I.search input))) }
+            (⟦<FindIter<'a, 'h> as Iterator>⟧.remaining it) (span_places (I.search input))) }
         ensures fused { IfOk result (IsFused ⟦<FindIter<'a, 'h> as Iterator>⟧.next_gives) }
         ensures ok { Answers self.entry.now (I.search input).anchored → IsOk result }
-        ensures refused { Refuses self.entry.now (I.search input).anchored
-            → result ≡ Err (refusal_of (I.search input).anchored) }
+        ensures refused { RefusesSearch self.entry.now (I.search input).anchored
+            → result ≡ Err (why_refused (I.search input).anchored) }
     {
         let input = input.into_input();
         let anchored = input.get_anchored();
         if is_allowed(self.start_kind(), anchored) {
             Automaton::try_find_iter(self.built(), input)
         } else {
-            Err(refusal_of(anchored))
+            Err(why_refused(anchored))
         }
     }
 
@@ -157,12 +182,12 @@ impl AhoCorasick {
         requires unanchored { (I.search input).anchored ≡ No }
         requires starts { Answers self.now No }
         ensures ready { ⟦<FindOverlappingIter<'a, 'h> as Iterator>⟧.can_next result }
-        ensures lists { (p : Patterns) → IsBuiltFrom self.entry.now p → ListsAll
-            ⟦<FindOverlappingIter<'a, 'h> as Iterator>⟧.next_gives p (I.search input) result }
-        ensures first { (p : Patterns) → IsBuiltFrom self.entry.now p → ListsFirst
-            ⟦<FindOverlappingIter<'a, 'h> as Iterator>⟧.next_gives p (I.search input) result }
+        ensures lists { ForItsPatterns self.entry.now (λ p. ListsAll
+            ⟦<FindOverlappingIter<'a, 'h> as Iterator>⟧.next_gives p (I.search input) result) }
+        ensures first { ForItsPatterns self.entry.now (λ p. ListsFirst
+            ⟦<FindOverlappingIter<'a, 'h> as Iterator>⟧.next_gives p (I.search input) result) }
         ensures bound { UpTo (⟦<FindOverlappingIter<'a, 'h> as Iterator>⟧.remaining result)
-            (patterns_len_of self.entry.now * places (I.search input)) }
+            (most_listed self.entry.now (I.search input)) }
         ensures fused { IsFused ⟦<FindOverlappingIter<'a, 'h> as Iterator>⟧.next_gives result }
     {
         match self.try_find_overlapping_iter(input) {
@@ -185,17 +210,17 @@ impl AhoCorasick {
         ensures anchored { match_kind_of self.entry.now ≡ Standard → (I.search input).anchored ≡ Yes
             → result ≡ Err InvalidInputAnchored }
         ensures refused { match_kind_of self.entry.now ≡ Standard → (I.search input).anchored ≡ No
-            → Refuses self.entry.now No → result ≡ Err InvalidInputUnanchored }
+            → RefusesSearch self.entry.now No → result ≡ Err InvalidInputUnanchored }
         ensures ok { match_kind_of self.entry.now ≡ Standard → (I.search input).anchored ≡ No
             → Answers self.entry.now No → IsOk result }
         ensures ready { IfOk result ⟦<FindOverlappingIter<'a, 'h> as Iterator>⟧.can_next }
-        ensures lists { (p : Patterns) → IsBuiltFrom self.entry.now p → IfOk result (ListsAll
-            ⟦<FindOverlappingIter<'a, 'h> as Iterator>⟧.next_gives p (I.search input)) }
-        ensures first { (p : Patterns) → IsBuiltFrom self.entry.now p → IfOk result (ListsFirst
-            ⟦<FindOverlappingIter<'a, 'h> as Iterator>⟧.next_gives p (I.search input)) }
+        ensures lists { ForItsPatterns self.entry.now (λ p. IfOk result (ListsAll
+            ⟦<FindOverlappingIter<'a, 'h> as Iterator>⟧.next_gives p (I.search input))) }
+        ensures first { ForItsPatterns self.entry.now (λ p. IfOk result (ListsFirst
+            ⟦<FindOverlappingIter<'a, 'h> as Iterator>⟧.next_gives p (I.search input))) }
         ensures bound { IfOk result (λ it.
             UpTo (⟦<FindOverlappingIter<'a, 'h> as Iterator>⟧.remaining it)
-            (patterns_len_of self.entry.now * places (I.search input))) }
+            (most_listed self.entry.now (I.search input))) }
         ensures fused { IfOk result
             (IsFused ⟦<FindOverlappingIter<'a, 'h> as Iterator>⟧.next_gives) }
     {

@@ -1,7 +1,7 @@
 //! Which automaton searches, and which searches are answered.
 
 ghost use Rattle.std.specs.Prelude.{◌≡◌, IfErr, Err, IsOk, true, false};
-ghost use Rattle.chromesquid.specs.Searcher.{allows, kind_for, refusal_of};
+ghost use Rattle.chromesquid.specs.Searcher.{allows, kind_for, why_refused};
 
 use aho_core::error::MatchError;
 use aho_core::search::Anchored;
@@ -54,8 +54,8 @@ pub(crate) fn is_allowed(start_kind: StartKind, anchored: Anchored) -> bool
 }
 
 /// Why searches of this anchoring are refused.
-pub(crate) fn refusal_of(anchored: Anchored) -> MatchError
-    ensures refusal { result ≡ refusal_of anchored }
+pub(crate) fn why_refused(anchored: Anchored) -> MatchError
+    ensures refusal { result ≡ why_refused anchored }
 {
     match anchored {
         Anchored::No => MatchError::invalid_input_unanchored(),

@@ -1,37 +1,15 @@
-//! The prefilter that rows hold, which may be a packed search.
+//! The prefilter that rows hold, which may be a packed or a strided search.
 
-ghost use Rattle.std.specs.Prelude.{◌≡◌, IfErr, IfOk, IfSome};
+ghost use Rattle.std.specs.Prelude.{◌≡◌, IfOk, IfSome, IsOkUnless};
 ghost use Rattle.aho_core.specs.declared.error.BuildError.TheVariants.{OutOfMemory};
 ghost use Rattle.aho_build.specs.Items.{patterns_of};
-ghost use Rattle.aho_prefilter.specs.Prefilter.{IsPrefilterOf, held_or_packed};
+ghost use Rattle.aho_prefilter.specs.Prefilter.{IsPrefilterOf};
 ghost use Rattle.chromesquid.specs.Engine.{held_in_rows};
 
 use aho_build::settings::Settings;
 use aho_core::error::BuildError;
-use aho_prefilter::prefilter::{PackedBuilder, Prefilter};
-use std::alloc::{AllocError, Global};
-
-/// The prefilter that there is for these patterns.
-///
-/// # Errors
-///
-/// Out of memory.
-fn held_or_packed(
-    alloc: Global,
-    settings: &Settings,
-    patterns: &[&[u8]],
-) -> Result<Option<Prefilter>, AllocError>
-    ensures held { IfOk result (λ held.
-        held ≡ held_or_packed (patterns_of settings.now patterns.now)) }
-    ensures of { IfOk result (λ held. IfSome held (λ prefilter.
-        IsPrefilterOf prefilter (patterns_of settings.now patterns.now))) }
-{
-    let mut builder = PackedBuilder::new(alloc, settings.ignore_case);
-    for pattern in patterns {
-        builder.add(pattern)?;
-    }
-    builder.build()
-}
+use aho_prefilter::prefilter::Prefilter;
+use std::alloc::Global;
 
 /// The prefilter that rows for these patterns hold; none where the settings want none.
 ///
@@ -47,12 +25,12 @@ pub(crate) fn prefilter_of(
         held ≡ held_in_rows settings.now (patterns_of settings.now patterns.now)) }
     ensures of { IfOk result (λ held. IfSome held (λ prefilter.
         IsPrefilterOf prefilter (patterns_of settings.now patterns.now))) }
-    ensures refused { IfErr result (λ error. error ≡ OutOfMemory) }
+    ensures refused { IsOkUnless result OutOfMemory }
 {
     if !settings.prefilter {
         return Ok(None);
     }
-    match held_or_packed(alloc, settings, patterns) {
+    match Prefilter::quickest(alloc, settings.ignore_case, patterns) {
         Ok(held) => Ok(held),
         Err(_) => Err(BuildError::OutOfMemory),
     }

@@ -1,13 +1,10 @@
 //! Replacement in memory.
 
-ghost use Rattle.std.specs.Prelude.{◌≡◌, Err, IfOk, Ok, OnOk, alloc_error, false, length, string_bytes, vec_items};
-ghost use Rattle.aho_core.specs.ClosureRun.{RunsInMemory};
-ghost use Rattle.aho_core.specs.Replacement.{on_boundaries, pieces_of, replaced};
-ghost use Rattle.aho_core.specs.declared.error.MatchErrorKind.{MatchErrorKind};
+ghost use Rattle.std.specs.Prelude.{◌≡◌, Err, length};
 ghost use Rattle.aho_core.specs.declared.error.MatchErrorKind.TheVariants.{InvalidInputUnanchored};
 ghost use Rattle.aho_core.specs.declared.error.replace.ReplaceError.{ReplaceError};
 ghost use Rattle.aho_core.specs.declared.search.Anchored.TheVariants.{No};
-ghost use Rattle.aho_automaton.specs.Finding.{HoldsOfFinds};
+ghost use Rattle.chromesquid.specs.InMemory.{EndsOverBytes, EndsOverText, ReplacesBytes, ReplacesText, RunsOverBytes, RunsOverText, StopsOverBytes, StopsOverText, WhereRefused};
 
 use crate::searcher::AhoCorasick;
 use aho_automaton::automaton::Automaton;
@@ -16,7 +13,7 @@ use aho_core::search::Match;
 use std::alloc::{AllocError, Global};
 
 impl AhoCorasick {
-    ghost use Rattle.chromesquid.specs.Searcher.{Answers, IsBuiltFrom, Refuses, patterns_len_of};
+    ghost use Rattle.chromesquid.specs.Searcher.{Answers, RefusesSearch, patterns_len_of};
 
     /// The text with each match replaced by the text of its pattern. A match that starts or ends inside a character is
     /// skipped: its bytes stay.
@@ -35,9 +32,7 @@ impl AhoCorasick {
     ) -> Result<String, AllocError>
         requires starts { Answers self.now No }
         requires one_each { length replace_with.now ≡ patterns_len_of self.now }
-        ensures replaced { HoldsOfFinds (IsBuiltFrom self.now) haystack.now (λ ms.
-            IfOk result (λ text. string_bytes text ≡
-            replaced haystack.now (on_boundaries haystack.now ms) (pieces_of replace_with.now))) }
+        ensures replaced { ReplacesText self.now haystack.now replace_with.now result }
     {
         match Automaton::try_replace_all(self.built(), alloc, haystack, replace_with) {
             Ok(text) => Ok(text),
@@ -58,13 +53,10 @@ impl AhoCorasick {
         replace_with: &[&str],
     ) -> Result<String, ReplaceError>
         requires one_each { length replace_with.now ≡ patterns_len_of self.now }
-        ensures replaced { HoldsOfFinds (IsBuiltFrom self.now) haystack.now (λ ms.
-            IfOk result (λ text. string_bytes text ≡
-            replaced haystack.now (on_boundaries haystack.now ms) (pieces_of replace_with.now))) }
-        ensures refused { Refuses self.now No
+        ensures replaced { ReplacesText self.now haystack.now replace_with.now result }
+        ensures refused { RefusesSearch self.now No
             → result ≡ Err (ReplaceError.Match InvalidInputUnanchored) }
-        ensures error { (reason : MatchErrorKind) → result ≡ Err (ReplaceError.Match reason) →
-            Refuses self.now No }
+        ensures error { WhereRefused result (RefusesSearch self.now No) }
     {
         Automaton::try_replace_all(self.built(), alloc, haystack, replace_with)
     }
@@ -85,8 +77,7 @@ impl AhoCorasick {
     ) -> Result<Vec<u8>, AllocError>
         requires starts { Answers self.now No }
         requires one_each { length replace_with.now ≡ patterns_len_of self.now }
-        ensures replaced { HoldsOfFinds (IsBuiltFrom self.now) haystack.now (λ ms. IfOk result
-            (λ bytes. vec_items bytes ≡ replaced haystack.now ms (pieces_of replace_with.now))) }
+        ensures replaced { ReplacesBytes self.now haystack.now replace_with.now result }
     {
         match Automaton::try_replace_all_bytes(self.built(), alloc, haystack, replace_with) {
             Ok(bytes) => Ok(bytes),
@@ -107,12 +98,10 @@ impl AhoCorasick {
         replace_with: &[&[u8]],
     ) -> Result<Vec<u8>, ReplaceError>
         requires one_each { length replace_with.now ≡ patterns_len_of self.now }
-        ensures replaced { HoldsOfFinds (IsBuiltFrom self.now) haystack.now (λ ms. IfOk result
-            (λ bytes. vec_items bytes ≡ replaced haystack.now ms (pieces_of replace_with.now))) }
-        ensures refused { Refuses self.now No
+        ensures replaced { ReplacesBytes self.now haystack.now replace_with.now result }
+        ensures refused { RefusesSearch self.now No
             → result ≡ Err (ReplaceError.Match InvalidInputUnanchored) }
-        ensures error { (reason : MatchErrorKind) → result ≡ Err (ReplaceError.Match reason) →
-            Refuses self.now No }
+        ensures error { WhereRefused result (RefusesSearch self.now No) }
     {
         Automaton::try_replace_all_bytes(self.built(), alloc, haystack, replace_with)
     }
@@ -135,9 +124,7 @@ impl AhoCorasick {
         F: FnMut(&Match, &str, &mut String) -> Result<bool, AllocError>,
         requires starts { Answers self.now No }
         requires callable { F.IsAlwaysCallable replace_with }
-        ensures run { HoldsOfFinds (IsBuiltFrom self.now) haystack.now (λ ms.
-            RunsInMemory F.FnMut string_bytes haystack.now
-            (on_boundaries haystack.now ms) replace_with dst.old result dst.new) }
+        ensures run { RunsOverText self.now F.FnMut haystack.now replace_with dst.old result dst.new }
     {
         match Automaton::try_replace_all_with(self.built(), haystack, dst, replace_with) {
             Ok(()) => Ok(()),
@@ -164,8 +151,7 @@ impl AhoCorasick {
         F: FnMut(&Match, &[u8], &mut Vec<u8>) -> Result<bool, AllocError>,
         requires starts { Answers self.now No }
         requires callable { F.IsAlwaysCallable replace_with }
-        ensures run { HoldsOfFinds (IsBuiltFrom self.now) haystack.now (λ ms.
-            RunsInMemory F.FnMut vec_items haystack.now ms replace_with dst.old result dst.new) }
+        ensures run { RunsOverBytes self.now F.FnMut haystack.now replace_with dst.old result dst.new }
     {
         match Automaton::try_replace_all_with_bytes(self.built(), haystack, dst, replace_with) {
             Ok(()) => Ok(()),
@@ -189,19 +175,12 @@ impl AhoCorasick {
     where
         F: FnMut(&Match, &str, &mut String) -> Result<bool, AllocError>,
         requires callable { F.IsAlwaysCallable replace_with }
-        ensures run { HoldsOfFinds (IsBuiltFrom self.now) haystack.now (λ ms.
-            OnOk result (RunsInMemory F.FnMut string_bytes haystack.now
-            (on_boundaries haystack.now ms) replace_with dst.old (Ok tt) dst.new)) }
-        ensures stopped { HoldsOfFinds (IsBuiltFrom self.now) haystack.now (λ ms.
-            result ≡ Err ReplaceError.Memory →
-            RunsInMemory F.FnMut string_bytes haystack.now
-            (on_boundaries haystack.now ms) replace_with dst.old (Err alloc_error) dst.new) }
-        ensures refused { Refuses self.now No
+        ensures run { EndsOverText self.now F.FnMut haystack.now replace_with dst.old result dst.new }
+        ensures stopped { StopsOverText self.now F.FnMut haystack.now replace_with dst.old result dst.new }
+        ensures refused { RefusesSearch self.now No
             → result ≡ Err (ReplaceError.Match InvalidInputUnanchored) }
-        ensures error { (reason : MatchErrorKind) → result ≡ Err (ReplaceError.Match reason) →
-            Refuses self.now No }
-        ensures unchanged { (reason : MatchErrorKind) → result ≡ Err (ReplaceError.Match reason) →
-            dst.new ≡ dst.old }
+        ensures error { WhereRefused result (RefusesSearch self.now No) }
+        ensures unchanged { WhereRefused result (dst.new ≡ dst.old) }
     {
         Automaton::try_replace_all_with(self.built(), haystack, dst, replace_with)
     }
@@ -220,19 +199,12 @@ impl AhoCorasick {
     where
         F: FnMut(&Match, &[u8], &mut Vec<u8>) -> Result<bool, AllocError>,
         requires callable { F.IsAlwaysCallable replace_with }
-        ensures run { HoldsOfFinds (IsBuiltFrom self.now) haystack.now (λ ms.
-            OnOk result (RunsInMemory F.FnMut vec_items haystack.now
-            ms replace_with dst.old (Ok tt) dst.new)) }
-        ensures stopped { HoldsOfFinds (IsBuiltFrom self.now) haystack.now (λ ms.
-            result ≡ Err ReplaceError.Memory →
-            RunsInMemory F.FnMut vec_items haystack.now
-            ms replace_with dst.old (Err alloc_error) dst.new) }
-        ensures refused { Refuses self.now No
+        ensures run { EndsOverBytes self.now F.FnMut haystack.now replace_with dst.old result dst.new }
+        ensures stopped { StopsOverBytes self.now F.FnMut haystack.now replace_with dst.old result dst.new }
+        ensures refused { RefusesSearch self.now No
             → result ≡ Err (ReplaceError.Match InvalidInputUnanchored) }
-        ensures error { (reason : MatchErrorKind) → result ≡ Err (ReplaceError.Match reason) →
-            Refuses self.now No }
-        ensures unchanged { (reason : MatchErrorKind) → result ≡ Err (ReplaceError.Match reason) →
-            dst.new ≡ dst.old }
+        ensures error { WhereRefused result (RefusesSearch self.now No) }
+        ensures unchanged { WhereRefused result (dst.new ≡ dst.old) }
     {
         Automaton::try_replace_all_with_bytes(self.built(), haystack, dst, replace_with)
     }

@@ -1,19 +1,15 @@
 //! A searcher for some patterns.
 
-ghost use Rattle.std.specs.Prelude.{◌≡◌, ◌≤◌, IfErr, IfOk, None, length, map};
+ghost use Rattle.std.specs.Prelude.{◌≡◌, ◌≤◌, IfErr, IfOk, OnOk, length, map};
 ghost use Rattle.std.specs.Iterator.{IsFinite};
 ghost use Rattle.std.specs.Iterator.Runs.{WholeRun};
 ghost use Rattle.aho_core.specs.Laws.{longest, shortest};
 ghost use Rattle.aho_core.specs.Numbers.{greatest_index};
 ghost use Rattle.aho_core.specs.Patterns.{Patterns};
 ghost use Rattle.aho_core.specs.declared.search.MatchKind.TheVariants.{Standard};
-ghost use Rattle.aho_build.specs.Automaton.{memory_for};
 ghost use Rattle.aho_build.specs.Items.{IsFailure, OfAccepted, patterns_of};
-ghost use Rattle.aho_build.specs.Refusals.{cause};
 ghost use Rattle.aho_build.specs.Settings.{default_settings};
-ghost use Rattle.chromesquid.specs.Building.{IsFailureOf};
-ghost use Rattle.chromesquid.specs.Engine.{HasKind};
-ghost use Rattle.chromesquid.specs.declared.kinds.AhoCorasickKind.TheVariants.{Hybrid, NoncontiguousNFA};
+ghost use Rattle.chromesquid.specs.declared.kinds.AhoCorasickKind.TheVariants.{Hybrid};
 ghost use Rattle.chromesquid.specs.declared.kinds.StartKind.TheVariants.{Unanchored};
 
 use crate::builder::AhoCorasickBuilder;
@@ -45,7 +41,8 @@ impl Model for AhoCorasick {
 }
 
 impl AhoCorasick {
-    ghost use Rattle.chromesquid.specs.Searcher.{IsBuiltFrom, default_building, kind_of, lengths_of, match_kind_of, memory_of, patterns_len_of};
+    ghost use Rattle.chromesquid.specs.Building.{Accepts, FailsFor, HasCount, HasLengths, HasMatchKind, HasMemory, HasStartKind, IsBuiltWithMemory, SearchesBy};
+    ghost use Rattle.chromesquid.specs.Searcher.{ForItsPatterns, IsBuiltFrom, default_building, automaton_kind_of, lengths_of, match_kind_of, memory_usage_of, patterns_len_of, prefilter_held_by};
 
     /// The searcher of these patterns, as a new builder builds it: of kind Standard, for searches that are not anchored.
     ///
@@ -55,18 +52,14 @@ impl AhoCorasick {
     pub fn new(alloc: Global, patterns: &[&[u8]]) -> Result<AhoCorasick, BuildError>
         ensures of { IfOk result (λ built.
             IsBuiltFrom built (patterns_of default_settings patterns.now)) }
-        ensures match_kind { IfOk result (λ built. match_kind_of built ≡ Standard) }
-        ensures start_kind { IfOk result (λ built. built.start_kind ≡ Unanchored) }
-        ensures kind { IfOk result (λ built. HasKind Hybrid built.automaton) }
-        ensures lengths { IfOk result (λ built.
-            lengths_of built ≡ map (λ pattern. length pattern.now) patterns.now) }
-        ensures count { IfOk result (λ built. patterns_len_of built ≡ length patterns.now) }
-        ensures memory { IfOk result (λ built. kind_of built ≡ NoncontiguousNFA → memory_of built
-            ≡ memory_for default_settings (patterns_of default_settings patterns.now)) }
-        ensures accepted { IfOk result (λ built.
-            cause default_settings (patterns_of default_settings patterns.now) ≡ None) }
-        ensures refused { IfErr result
-            (IsFailureOf default_settings (patterns_of default_settings patterns.now)) }
+        ensures match_kind { IfOk result (HasMatchKind Standard) }
+        ensures start_kind { IfOk result (HasStartKind Unanchored) }
+        ensures kind { IfOk result (SearchesBy Hybrid) }
+        ensures lengths { IfOk result (HasLengths patterns.now) }
+        ensures count { IfOk result (HasCount patterns.now) }
+        ensures memory { IfOk result (HasMemory default_settings patterns.now) }
+        ensures accepted { OnOk result (Accepts default_settings patterns.now) }
+        ensures refused { IfErr result (FailsFor default_settings patterns.now) }
     {
         AhoCorasickBuilder::new().build(alloc, patterns)
     }
@@ -86,9 +79,11 @@ impl AhoCorasick {
             OfAccepted I.next_gives patterns default_settings (IsBuiltFrom built)) }
         ensures runs { IfOk result (λ built. WholeRun I.next_gives patterns (λ run.
             IsBuiltFrom built (patterns_of default_settings run.items))) }
-        ensures match_kind { IfOk result (λ built. match_kind_of built ≡ Standard) }
-        ensures start_kind { IfOk result (λ built. built.start_kind ≡ Unanchored) }
-        ensures kind { IfOk result (λ built. HasKind Hybrid built.automaton) }
+        ensures memory { IfOk result (λ built. WholeRun I.next_gives patterns (λ run.
+            IsBuiltWithMemory default_settings run.items built)) }
+        ensures match_kind { IfOk result (HasMatchKind Standard) }
+        ensures start_kind { IfOk result (HasStartKind Unanchored) }
+        ensures kind { IfOk result (SearchesBy Hybrid) }
         ensures refused { IfErr result (IsFailure I.next_gives patterns default_settings) }
     {
         AhoCorasickBuilder::new().build_from_iter(alloc, patterns)
@@ -113,19 +108,20 @@ impl AhoCorasick {
         }
     }
 
-    /// A copy of the searcher.
+    /// A copy of the searcher, with the same automaton, prefilter and size.
     ///
     /// # Errors
     ///
     /// Out of memory.
     pub fn try_clone(&self) -> Result<AhoCorasick, AllocError>
-        ensures of { (p : Patterns) → IsBuiltFrom self.now p
-            → IfOk result (λ copy. IsBuiltFrom copy p) }
-        ensures match_kind { IfOk result (λ copy. match_kind_of copy ≡ match_kind_of self.now) }
-        ensures start_kind { IfOk result (λ copy. copy.start_kind ≡ self.now.start_kind) }
-        ensures kind { IfOk result (λ copy. kind_of copy ≡ kind_of self.now) }
+        ensures of { ForItsPatterns self.now (λ p. IfOk result (λ copy. IsBuiltFrom copy p)) }
+        ensures match_kind { IfOk result (HasMatchKind (match_kind_of self.now)) }
+        ensures start_kind { IfOk result (HasStartKind self.now.start_kind) }
+        ensures kind { IfOk result (λ copy. automaton_kind_of copy ≡ automaton_kind_of self.now) }
         ensures lengths { IfOk result (λ copy. lengths_of copy ≡ lengths_of self.now) }
-        ensures memory { IfOk result (λ copy. memory_of copy ≡ memory_of self.now) }
+        ensures memory { IfOk result (λ copy. memory_usage_of copy ≡ memory_usage_of self.now) }
+        ensures prefilter { IfOk result (λ copy.
+            prefilter_held_by copy ≡ prefilter_held_by self.now) }
     {
         let automaton = self.built().automaton().try_clone()?;
         Ok(AhoCorasick::of_automaton(automaton, self.start_kind))
@@ -151,7 +147,7 @@ impl AhoCorasick {
     #[tactic(auto, using(crate::proofs::Built::count_of))]
     pub fn patterns_len(&self) -> usize
         ensures len { result ≡ patterns_len_of self.now }
-        ensures patterns { (p : Patterns) → IsBuiltFrom self.now p → result ≡ length p.words }
+        ensures patterns { ForItsPatterns self.now (λ p. result ≡ length p.words) }
     {
         Automaton::patterns_len(self)
     }
@@ -160,8 +156,7 @@ impl AhoCorasick {
     #[tactic(auto, using(crate::proofs::Built::shortest_of))]
     pub fn min_pattern_len(&self) -> usize
         ensures shortest { result ≡ shortest (lengths_of self.now) }
-        ensures patterns { (p : Patterns) → IsBuiltFrom self.now p
-            → result ≡ shortest (map length p.words) }
+        ensures patterns { ForItsPatterns self.now (λ p. result ≡ shortest (map length p.words)) }
     {
         Automaton::min_pattern_len(self)
     }
@@ -170,8 +165,7 @@ impl AhoCorasick {
     #[tactic(auto, using(crate::proofs::Built::longest_of))]
     pub fn max_pattern_len(&self) -> usize
         ensures longest { result ≡ longest (lengths_of self.now) }
-        ensures patterns { (p : Patterns) → IsBuiltFrom self.now p
-            → result ≡ longest (map length p.words) }
+        ensures patterns { ForItsPatterns self.now (λ p. result ≡ longest (map length p.words)) }
         ensures bound { result ≤ greatest_index }
     {
         Automaton::max_pattern_len(self)
@@ -181,14 +175,15 @@ impl AhoCorasick {
     #[tactic(auto, using(crate::proofs::Built::finds_by))]
     pub fn match_kind(&self) -> MatchKind
         ensures kind { result ≡ match_kind_of self.now }
-        ensures patterns { (p : Patterns) → IsBuiltFrom self.now p → result ≡ p.kind }
+        ensures patterns { ForItsPatterns self.now (λ p. result ≡ p.kind) }
     {
         Automaton::match_kind(self)
     }
 
-    /// How many bytes of memory it holds, by the stated sizes of its parts.
+    /// How many bytes of memory it holds, by the stated sizes of its parts. A build tells them in advance where there are no
+    /// rows; how much rows take is free.
     pub fn memory_usage(&self) -> usize
-        ensures memory { result ≡ memory_of self.now }
+        ensures memory { result ≡ memory_usage_of self.now }
     {
         Automaton::memory_usage(self)
     }
@@ -202,7 +197,7 @@ impl AhoCorasick {
 
     /// Which automaton searches.
     pub fn kind(&self) -> AhoCorasickKind
-        ensures kind { result ≡ kind_of self.now }
+        ensures kind { result ≡ automaton_kind_of self.now }
     {
         self.automaton.kind()
     }

@@ -1,45 +1,131 @@
 //! Searches and replacement in streams.
 
-ghost use Rattle.std.specs.Iterator.Runs.{EachRunFrom};
-ghost use Rattle.std.specs.Prelude.{◌⊎◌, ◌≡◌, ◌≢◌, Err, IfErr, IfOk, OnErr, OnOk, false, length, true};
-ghost use Rattle.aho_core.specs.Patterns.{Patterns};
-ghost use Rattle.aho_core.specs.Replacement.{pieces_of};
+ghost use Rattle.std.specs.Prelude.{◌≡◌, ◌≢◌, Err, IfErr, IfOk, IsOkUnless, false, length, true};
 ghost use Rattle.aho_core.specs.declared.error.MatchErrorKind.{MatchErrorKind};
 ghost use Rattle.aho_core.specs.declared.error.stream.StreamError.{StreamError};
 ghost use Rattle.aho_core.specs.declared.error.MatchErrorKind.TheVariants.{InvalidInputUnanchored, UnsupportedEmpty};
 ghost use Rattle.aho_core.specs.declared.search.Anchored.TheVariants.{No};
-ghost use Rattle.aho_devices.specs.Counts.{counted};
-ghost use Rattle.aho_devices.specs.Refusals.{IsFillRefusal, is_read_fault, is_write_fault, is_write_of_nothing};
+ghost use Rattle.aho_devices.specs.Errors.{CountsErrors};
 ghost use Rattle.aho_stream.specs.After.{greatest_position};
-ghost use Rattle.aho_stream.specs.FindRuns.{FindsAlong, is_limit_among};
 ghost use Rattle.aho_stream.specs.Refills.{is_limit};
 ghost use Rattle.aho_stream.specs.Replacing.{GaveAsMany, IsMakingRefusal};
+ghost use Rattle.aho_stream.specs.Starts.{IsFreshStart};
 ghost use Rattle.aho_stream.specs.StreamRun.{RefusesUntouched};
-ghost use Rattle.chromesquid.specs.Streams.{FindsFirst, FindsWhole, IsBegun, IsReplaced, IsReplacedUpTo, IsStreamRun};
+ghost use Rattle.chromesquid.specs.Searcher.{IsBuiltFromSome};
+ghost use Rattle.chromesquid.specs.Streams.{CallsFindAlong, HasBufferFor, ReplacesBeginning, ReplacesNearly, ReplacesWhole, RunsFindBeginning, RunsFindToLimit, RunsFindWhole, RunsStream};
 
 use crate::searcher::AhoCorasick;
 use aho_automaton::automaton::Automaton;
 use aho_core::error::StreamError;
 use aho_core::search::Match;
 use aho_devices::device::{Sink, Source};
-use aho_stream::finds::try_stream_find_iter;
 use aho_stream::replace::{try_stream_replace_all, try_stream_replace_all_with};
+use aho_stream::start::StreamStart;
 use std::alloc::{AllocError, Global};
 
 /// The matches of a stream, one after another.
 pub type StreamFindIter<'a, 'r, R> = aho_stream::finds::StreamFindIter<'a, 'r, AhoCorasick, R>;
 
-impl AhoCorasick {
-    ghost use Rattle.chromesquid.specs.Searcher.{Answers, HasEmpty, HasNoEmpty, IsBuiltFrom, Refuses, patterns_len_of};
+/// The matches of what this source gives. It takes no memory, reads nothing, and cannot fail: all that could be refused was refused
+/// before there was a source.
+pub fn stream_finds<'a, 'r, R: Source>(
+    start: StreamStart<'a, AhoCorasick>,
+    source: &'r mut R,
+) -> StreamFindIter<'a, 'r, R>
+    requires some { IsBuiltFromSome start.automaton.now }
+    requires fresh { IsFreshStart ⟦<AhoCorasick as Automaton>⟧ start }
+    requires open { start.progress.ended ≡ false }
+    requires below { start.progress.refused ≡ false }
+    requires made { start.progress.limit ≡ greatest_position }
+    ensures source { result.chunks.source ≡ source.entry }
+    ensures progress { result.chunks.progress ≡ start.entry.progress }
+    ensures ready { ⟦<StreamFindIter<'a, 'r, R> as Iterator>⟧.can_next result }
+    ensures first { RunsFindBeginning R.Source ⟦<StreamFindIter<'a, 'r, R> as Iterator>⟧.next_gives
+        start.entry.automaton.now source.entry.now result }
+    ensures finds { RunsFindWhole R.Source ⟦<StreamFindIter<'a, 'r, R> as Iterator>⟧.next_gives
+        start.entry.automaton.now source.entry.now result }
+    ensures limit { RunsFindToLimit R.Source ⟦<StreamFindIter<'a, 'r, R> as Iterator>⟧.next_gives
+        start.entry.automaton.now source.entry.now result }
+    ensures along { CallsFindAlong R.Source ⟦<StreamFindIter<'a, 'r, R> as Iterator>⟧.next_gives
+        start.entry.automaton.now result }
+{
+    start.finds(source)
+}
 
-    /// The matches of what the source gives, of which it may give 2^63 - 1 bytes. It takes all its memory here, and reads
-    /// nothing.
+impl AhoCorasick {
+    ghost use Rattle.chromesquid.specs.Searcher.{Answers, HasEmpty, HasNoEmpty, RefusesSearch, patterns_len_of};
+
+    /// A search in a stream that has not begun, of a source that may give 2^63 - 1 bytes. It takes all memory of the search here:
+    /// a buffer of 8 times as many bytes as the longest pattern has, and of 65536 at least. It has no source yet, so nothing
+    /// is read, whatever it answers. `stream_finds` gives it one, and cannot fail.
+    ///
+    /// No pattern is empty, and the searcher answers searches that are not anchored; `try_stream_start` tests that.
+    ///
+    /// # Errors
+    ///
+    /// The error says that memory ran out.
+    pub fn stream_start<'a>(
+        &'a self,
+        alloc: Global,
+    ) -> Result<StreamStart<'a, AhoCorasick>, AllocError>
+        requires no_empty { HasNoEmpty self.now }
+        requires starts { Answers self.now No }
+        ensures of { IfOk result (λ start. start.automaton.now ≡ self.entry.now) }
+        ensures made { IfOk result (λ start. start.progress.limit ≡ greatest_position) }
+        ensures buffer { IfOk result (λ start. HasBufferFor self.entry.now start.progress) }
+
+        // What `stream_finds` asks for.
+        ensures some { IfOk result (λ start. IsBuiltFromSome start.automaton.now) }
+        ensures fresh { IfOk result (IsFreshStart ⟦<AhoCorasick as Automaton>⟧) }
+        ensures open { IfOk result (λ start. start.progress.ended ≡ false) }
+        ensures below { IfOk result (λ start. start.progress.refused ≡ false) }
+    {
+        match self.try_stream_start(alloc) {
+            Ok(start) => Ok(start),
+            Err(StreamError::Memory) => Err(AllocError),
+            Err(_) => unreachable!(),
+        }
+    }
+
+    /// A search in a stream that has not begun, as `stream_start` gives it.
+    ///
+    /// # Errors
+    ///
+    /// `Match` where a pattern is empty, and else where the searcher answers anchored searches alone. `Memory` where an
+    /// allocation fails.
+    pub fn try_stream_start<'a>(
+        &'a self,
+        alloc: Global,
+    ) -> Result<StreamStart<'a, AhoCorasick>, StreamError>
+        ensures of { IfOk result (λ start. start.automaton.now ≡ self.entry.now) }
+        ensures made { IfOk result (λ start. start.progress.limit ≡ greatest_position) }
+        ensures buffer { IfOk result (λ start. HasBufferFor self.entry.now start.progress) }
+
+        // What `stream_finds` asks for.
+        ensures some { IfOk result (λ start. IsBuiltFromSome start.automaton.now) }
+        ensures fresh { IfOk result (IsFreshStart ⟦<AhoCorasick as Automaton>⟧) }
+        ensures open { IfOk result (λ start. start.progress.ended ≡ false) }
+        ensures below { IfOk result (λ start. start.progress.refused ≡ false) }
+        ensures empty { HasEmpty self.entry.now → result ≡ Err (StreamError.Match UnsupportedEmpty) }
+        ensures refused { HasNoEmpty self.entry.now → RefusesSearch self.entry.now No
+            → result ≡ Err (StreamError.Match InvalidInputUnanchored) }
+        ensures memory { HasNoEmpty self.entry.now → Answers self.entry.now No
+            → IsOkUnless result StreamError.Memory }
+    {
+        StreamStart::new(alloc, self.built())
+    }
+
+    /// The matches of what the source gives, of which it may give 2^63 - 1 bytes: `stream_start` and `stream_finds` in one call. It
+    /// takes all its memory here, and reads nothing.
+    ///
+    /// An item is `PositionLimit` once the source has given as many bytes as may be and its end was not seen. All matches that
+    /// were settled by then stand before it, and none comes after it.
     ///
     /// No pattern is empty, and the searcher answers searches that are not anchored; `try_stream_find_iter` tests that.
     ///
     /// # Errors
     ///
-    /// The error says that memory ran out.
+    /// The error says that memory ran out. To know that nothing was read then, call `stream_start` before there is a source.
     pub fn stream_find_iter<'a, 'r, R: Source>(
         &'a self,
         alloc: Global,
@@ -48,16 +134,17 @@ impl AhoCorasick {
         requires no_empty { HasNoEmpty self.now }
         requires starts { Answers self.now No }
         ensures source { IfOk result (λ it. it.chunks.source ≡ source.entry) }
+        ensures made { IfOk result (λ it. it.chunks.progress.limit ≡ greatest_position) }
+        ensures buffer { IfOk result (λ it. HasBufferFor self.entry.now it.chunks.progress) }
         ensures ready { IfOk result ⟦<StreamFindIter<'a, 'r, R> as Iterator>⟧.can_next }
-        ensures first { (p : Patterns) → IsBuiltFrom self.entry.now p → IfOk result (λ it.
-            EachRunFrom ⟦<StreamFindIter<'a, 'r, R> as Iterator>⟧.next_gives it
-            (λ run. FindsFirst R.Source p source.entry.now run.items)) }
-        ensures finds { (p : Patterns) → IsBuiltFrom self.entry.now p → IfOk result (λ it.
-            EachRunFrom ⟦<StreamFindIter<'a, 'r, R> as Iterator>⟧.next_gives it (λ run.
-            run.whole ≡ true → is_limit_among run.items ≡ false
-            → FindsWhole R.Source p source.entry.now run.items)) }
-        ensures along { (p : Patterns) → IsBuiltFrom self.entry.now p → IfOk result (λ it.
-            FindsAlong R.Source ⟦<StreamFindIter<'a, 'r, R> as Iterator>⟧.next_gives p it) }
+        ensures first { IfOk result (RunsFindBeginning R.Source
+            ⟦<StreamFindIter<'a, 'r, R> as Iterator>⟧.next_gives self.entry.now source.entry.now) }
+        ensures finds { IfOk result (RunsFindWhole R.Source
+            ⟦<StreamFindIter<'a, 'r, R> as Iterator>⟧.next_gives self.entry.now source.entry.now) }
+        ensures limit { IfOk result (RunsFindToLimit R.Source
+            ⟦<StreamFindIter<'a, 'r, R> as Iterator>⟧.next_gives self.entry.now source.entry.now) }
+        ensures along { IfOk result (CallsFindAlong R.Source
+            ⟦<StreamFindIter<'a, 'r, R> as Iterator>⟧.next_gives self.entry.now) }
     {
         match self.try_stream_find_iter(alloc, source) {
             Ok(matches) => Ok(matches),
@@ -66,36 +153,36 @@ impl AhoCorasick {
         }
     }
 
-    /// The matches of what the source gives, of which it may give 2^63 - 1 bytes. It takes all its memory here, and reads
-    /// nothing.
+    /// The matches of what the source gives, as `stream_find_iter` gives them.
     ///
     /// # Errors
     ///
-    /// `Match` where a pattern is empty, and else where the searcher answers anchored searches alone. `Memory` where an
-    /// allocation fails.
+    /// As those of `try_stream_start`.
     pub fn try_stream_find_iter<'a, 'r, R: Source>(
         &'a self,
         alloc: Global,
         source: &'r mut R,
     ) -> Result<StreamFindIter<'a, 'r, R>, StreamError>
         ensures source { IfOk result (λ it. it.chunks.source ≡ source.entry) }
+        ensures made { IfOk result (λ it. it.chunks.progress.limit ≡ greatest_position) }
+        ensures buffer { IfOk result (λ it. HasBufferFor self.entry.now it.chunks.progress) }
         ensures ready { IfOk result ⟦<StreamFindIter<'a, 'r, R> as Iterator>⟧.can_next }
         ensures empty { HasEmpty self.entry.now → result ≡ Err (StreamError.Match UnsupportedEmpty) }
-        ensures refused { HasNoEmpty self.entry.now → Refuses self.entry.now No
+        ensures refused { HasNoEmpty self.entry.now → RefusesSearch self.entry.now No
             → result ≡ Err (StreamError.Match InvalidInputUnanchored) }
         ensures memory { HasNoEmpty self.entry.now → Answers self.entry.now No
-            → IfErr result (λ error. error ≡ StreamError.Memory) }
-        ensures first { (p : Patterns) → IsBuiltFrom self.entry.now p → IfOk result (λ it.
-            EachRunFrom ⟦<StreamFindIter<'a, 'r, R> as Iterator>⟧.next_gives it
-            (λ run. FindsFirst R.Source p source.entry.now run.items)) }
-        ensures finds { (p : Patterns) → IsBuiltFrom self.entry.now p → IfOk result (λ it.
-            EachRunFrom ⟦<StreamFindIter<'a, 'r, R> as Iterator>⟧.next_gives it (λ run.
-            run.whole ≡ true → is_limit_among run.items ≡ false
-            → FindsWhole R.Source p source.entry.now run.items)) }
-        ensures along { (p : Patterns) → IsBuiltFrom self.entry.now p → IfOk result (λ it.
-            FindsAlong R.Source ⟦<StreamFindIter<'a, 'r, R> as Iterator>⟧.next_gives p it) }
+            → IsOkUnless result StreamError.Memory }
+        ensures first { IfOk result (RunsFindBeginning R.Source
+            ⟦<StreamFindIter<'a, 'r, R> as Iterator>⟧.next_gives self.entry.now source.entry.now) }
+        ensures finds { IfOk result (RunsFindWhole R.Source
+            ⟦<StreamFindIter<'a, 'r, R> as Iterator>⟧.next_gives self.entry.now source.entry.now) }
+        ensures limit { IfOk result (RunsFindToLimit R.Source
+            ⟦<StreamFindIter<'a, 'r, R> as Iterator>⟧.next_gives self.entry.now source.entry.now) }
+        ensures along { IfOk result (CallsFindAlong R.Source
+            ⟦<StreamFindIter<'a, 'r, R> as Iterator>⟧.next_gives self.entry.now) }
     {
-        try_stream_find_iter(alloc, self.built(), source)
+        let start = self.try_stream_start(alloc)?;
+        Ok(stream_finds(start, source))
     }
 
     /// Writes what the source gives to the sink, with the bytes for its pattern in the place of each match. It takes all its
@@ -119,21 +206,16 @@ impl AhoCorasick {
         requires one_each { length replace_with.now ≡ patterns_len_of self.now }
         requires no_empty { HasNoEmpty self.now }
         requires starts { Answers self.now No }
-        ensures replaced { (p : Patterns) → IsBuiltFrom self.now p → OnOk result (IsReplaced R.Source
-            W.Sink p (pieces_of replace_with.now) source.old source.new sink.old sink.new) }
-        ensures begun { (p : Patterns) → IsBuiltFrom self.now p → OnErr result (IsBegun R.Source
-            W.Sink p (pieces_of replace_with.now) source.old source.new sink.old sink.new) }
-        ensures near { (p : Patterns) → IsBuiltFrom self.now p → IfErr result (λ error.
-            IsFillRefusal error → IsReplacedUpTo R.Source W.Sink
-            p (pieces_of replace_with.now) source.old source.new sink.old sink.new) }
+        ensures replaced { ReplacesWhole R.Source W.Sink self.now replace_with.now
+            source.old source.new sink.old sink.new result }
+        ensures begun { ReplacesBeginning R.Source W.Sink self.now replace_with.now
+            source.old source.new sink.old sink.new result }
+        ensures near { ReplacesNearly R.Source W.Sink self.now replace_with.now
+            source.old source.new sink.old sink.new result }
         ensures limit { is_limit result ≡ true →
             GaveAsMany R.Source source.old source.new greatest_position }
-        ensures read_failed { R.failures source.new
-            ≡ counted (is_read_fault result) (R.failures source.old) }
-        ensures write_failed { W.failures sink.new
-            ≡ counted (is_write_fault result) (W.failures sink.old) }
-        ensures took_nothing { W.empty_writes sink.new
-            ≡ counted (is_write_of_nothing result) (W.empty_writes sink.old) }
+        ensures errors { CountsErrors R.Source W.Sink
+            source.old source.new sink.old sink.new result }
         ensures untouched { IfErr result (λ error. IsMakingRefusal error →
             (source.new ≡ source.old) × (sink.new ≡ sink.old)) }
         ensures answered { (reason : MatchErrorKind) → result ≢ Err (StreamError.Match reason) }
@@ -156,25 +238,20 @@ impl AhoCorasick {
         replace_with: &[&[u8]],
     ) -> Result<(), StreamError>
         requires one_each { length replace_with.now ≡ patterns_len_of self.now }
-        ensures replaced { (p : Patterns) → IsBuiltFrom self.now p → OnOk result (IsReplaced R.Source
-            W.Sink p (pieces_of replace_with.now) source.old source.new sink.old sink.new) }
-        ensures begun { (p : Patterns) → IsBuiltFrom self.now p → OnErr result (IsBegun R.Source
-            W.Sink p (pieces_of replace_with.now) source.old source.new sink.old sink.new) }
-        ensures near { (p : Patterns) → IsBuiltFrom self.now p → IfErr result (λ error.
-            IsFillRefusal error → IsReplacedUpTo R.Source W.Sink
-            p (pieces_of replace_with.now) source.old source.new sink.old sink.new) }
+        ensures replaced { ReplacesWhole R.Source W.Sink self.now replace_with.now
+            source.old source.new sink.old sink.new result }
+        ensures begun { ReplacesBeginning R.Source W.Sink self.now replace_with.now
+            source.old source.new sink.old sink.new result }
+        ensures near { ReplacesNearly R.Source W.Sink self.now replace_with.now
+            source.old source.new sink.old sink.new result }
         ensures limit { is_limit result ≡ true →
             GaveAsMany R.Source source.old source.new greatest_position }
-        ensures read_failed { R.failures source.new
-            ≡ counted (is_read_fault result) (R.failures source.old) }
-        ensures write_failed { W.failures sink.new
-            ≡ counted (is_write_fault result) (W.failures sink.old) }
-        ensures took_nothing { W.empty_writes sink.new
-            ≡ counted (is_write_of_nothing result) (W.empty_writes sink.old) }
+        ensures errors { CountsErrors R.Source W.Sink
+            source.old source.new sink.old sink.new result }
         ensures untouched { IfErr result (λ error. IsMakingRefusal error →
             (source.new ≡ source.old) × (sink.new ≡ sink.old)) }
         ensures empty { HasEmpty self.now → result ≡ Err (StreamError.Match UnsupportedEmpty) }
-        ensures refused { HasNoEmpty self.now → Refuses self.now No
+        ensures refused { HasNoEmpty self.now → RefusesSearch self.now No
             → result ≡ Err (StreamError.Match InvalidInputUnanchored) }
         ensures answered { (reason : MatchErrorKind) → HasNoEmpty self.now → Answers self.now No
             → result ≢ Err (StreamError.Match reason) }
@@ -203,9 +280,7 @@ impl AhoCorasick {
         requires no_empty { HasNoEmpty self.now }
         requires starts { Answers self.now No }
         requires callable { F.IsAlwaysCallable replace_with }
-        ensures runs { (p : Patterns) → IsBuiltFrom self.now p
-            → RefusesUntouched result StreamError.Memory source.old source.new sink.old sink.new
-            ⊎ IsStreamRun R.Source W.Sink p F.FnMut
+        ensures runs { RunsStream R.Source W.Sink self.now F.FnMut
             source.old source.new replace_with sink.old result sink.new }
     {
         self.try_stream_replace_all_with(alloc, source, sink, replace_with)
@@ -228,14 +303,13 @@ impl AhoCorasick {
     where
         F: FnMut(&Match, &[u8], &mut W) -> Result<(), StreamError>,
         requires callable { F.IsAlwaysCallable replace_with }
-        ensures runs { (p : Patterns) → IsBuiltFrom self.now p → HasNoEmpty self.now → Answers self.now No
-            → RefusesUntouched result StreamError.Memory source.old source.new sink.old sink.new
-            ⊎ IsStreamRun R.Source W.Sink p F.FnMut
+        ensures runs { HasNoEmpty self.now → Answers self.now No
+            → RunsStream R.Source W.Sink self.now F.FnMut
             source.old source.new replace_with sink.old result sink.new }
         ensures empty { HasEmpty self.now
             → RefusesUntouched result (StreamError.Match UnsupportedEmpty)
             source.old source.new sink.old sink.new }
-        ensures refused { HasNoEmpty self.now → Refuses self.now No
+        ensures refused { HasNoEmpty self.now → RefusesSearch self.now No
             → RefusesUntouched result (StreamError.Match InvalidInputUnanchored)
             source.old source.new sink.old sink.new }
     {

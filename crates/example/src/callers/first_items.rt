@@ -2,7 +2,7 @@
 
 ghost use Rattle.std.specs.Iterator.Runs.{EachRunFrom};
 ghost use Rattle.std.specs.Prelude.{IfOk};
-ghost use Rattle.chromesquid.specs.Rules.{FindsFirst, Patterns};
+ghost use Rattle.chromesquid.specs.Rules.{FindsBeginning, Patterns};
 
 use chromesquid::{Match, Source, StreamError};
 use std::alloc::{AllocError, Global};
@@ -15,8 +15,8 @@ pub fn first_items<R: Source, I: Iterator<Item = Result<Match, StreamError>> + D
 ) -> Result<Vec<Result<Match, StreamError>>, AllocError>
     requires can { I.can_next items }
     ensures first { (p : Patterns) (source : R)
-        → EachRunFrom I.next_gives items (λ run. FindsFirst R.Source p source run.items)
-        → IfOk result (λ found. FindsFirst R.Source p source found.items) }
+        → EachRunFrom I.next_gives items (λ run. FindsBeginning R.Source p source run.items)
+        → IfOk result (λ found. FindsBeginning R.Source p source found.items) }
 {
     items.take(count).collect(alloc)
 }

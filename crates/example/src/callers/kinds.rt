@@ -1,14 +1,14 @@
 //! Which automaton searches, and which searches are answered.
 
 ghost use Rattle.std.specs.Prelude.{◌≡◌, ◌↔◌, IsTrue, true};
-ghost use Rattle.chromesquid.specs.Rules.{Answers, Yes, kind_of};
+ghost use Rattle.chromesquid.specs.Rules.{Answers, Yes, automaton_kind_of};
 ghost use Rattle.chromesquid.specs.declared.kinds.AhoCorasickKind.TheVariants.{NoncontiguousNFA};
 
 use chromesquid::{AhoCorasick, AhoCorasickKind, StartKind};
 
 /// Whether it is a trie with failure links.
 pub fn is_trie(searcher: &AhoCorasick) -> bool
-    ensures trie { IsTrue result ↔ (kind_of searcher.now ≡ NoncontiguousNFA) }
+    ensures trie { IsTrue result ↔ (automaton_kind_of searcher.now ≡ NoncontiguousNFA) }
 {
     searcher.kind() == AhoCorasickKind::NoncontiguousNFA
 }

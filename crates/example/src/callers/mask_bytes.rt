@@ -1,7 +1,7 @@
 //! Replacement of bytes.
 
-ghost use Rattle.std.specs.Prelude.{◌≡◌, IfOk, length, vec_items};
-ghost use Rattle.chromesquid.specs.Rules.{Answers, HoldsOfFinds, IsBuiltFrom, No, patterns_len_of, pieces_of, replaced};
+ghost use Rattle.std.specs.Prelude.{◌≡◌, length};
+ghost use Rattle.chromesquid.specs.Rules.{Answers, No, ReplacesBytes, patterns_len_of};
 
 use chromesquid::AhoCorasick;
 use std::alloc::{AllocError, Global};
@@ -15,8 +15,7 @@ pub fn masked_bytes(
 ) -> Result<Vec<u8>, AllocError>
     requires starts { Answers searcher.now No }
     requires one_each { length masks.now ≡ patterns_len_of searcher.now }
-    ensures masked { HoldsOfFinds (IsBuiltFrom searcher.now) bytes.now (λ ms. IfOk result
-        (λ masked. vec_items masked ≡ replaced bytes.now ms (pieces_of masks.now))) }
+    ensures masked { ReplacesBytes searcher.now bytes.now masks.now result }
 {
     searcher.replace_all_bytes(alloc, bytes, masks)
 }

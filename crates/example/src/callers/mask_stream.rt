@@ -1,7 +1,7 @@
 //! Replacement in a stream.
 
-ghost use Rattle.std.specs.Prelude.{◌≡◌, OnOk, length};
-ghost use Rattle.chromesquid.specs.Rules.{Answers, HasNoEmpty, IsBuiltFrom, IsReplaced, No, Patterns, patterns_len_of, pieces_of};
+ghost use Rattle.std.specs.Prelude.{◌≡◌, length};
+ghost use Rattle.chromesquid.specs.Rules.{Answers, HasNoEmpty, No, ReplacesWhole, patterns_len_of};
 
 use chromesquid::{AhoCorasick, Sink, Source, StreamError};
 use std::alloc::Global;
@@ -17,8 +17,8 @@ pub fn mask_stream<R: Source, W: Sink>(
     requires one_each { length masks.now ≡ patterns_len_of searcher.now }
     requires no_empty { HasNoEmpty searcher.now }
     requires starts { Answers searcher.now No }
-    ensures masked { (p : Patterns) → IsBuiltFrom searcher.now p → OnOk result (IsReplaced R.Source W.Sink
-        p (pieces_of masks.now) source.old source.new sink.old sink.new) }
+    ensures masked { ReplacesWhole R.Source W.Sink searcher.now masks.now
+        source.old source.new sink.old sink.new result }
 {
     searcher.stream_replace_all(alloc, source, sink, masks)
 }

@@ -1,7 +1,6 @@
 //! Replacement by a closure.
 
-ghost use Rattle.std.specs.Prelude.{string_bytes};
-ghost use Rattle.chromesquid.specs.Rules.{Answers, HoldsOfFinds, IsBuiltFrom, No, RunsInMemory, on_boundaries};
+ghost use Rattle.chromesquid.specs.Rules.{Answers, No, RunsOverText};
 
 use chromesquid::{AhoCorasick, Match};
 use std::alloc::AllocError;
@@ -17,8 +16,7 @@ where
     F: FnMut(&Match, &str, &mut String) -> Result<bool, AllocError>,
     requires starts { Answers searcher.now No }
     requires callable { F.IsAlwaysCallable rewrite }
-    ensures run { HoldsOfFinds (IsBuiltFrom searcher.now) text.now (λ ms.
-        RunsInMemory F.FnMut string_bytes text.now (on_boundaries text.now ms) rewrite out.old result out.new) }
+    ensures run { RunsOverText searcher.now F.FnMut text.now rewrite out.old result out.new }
 {
     searcher.replace_all_with(text, out, rewrite)
 }

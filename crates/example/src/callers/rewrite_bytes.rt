@@ -1,7 +1,6 @@
 //! Replacement of bytes by a closure.
 
-ghost use Rattle.std.specs.Prelude.{vec_items};
-ghost use Rattle.chromesquid.specs.Rules.{Answers, HoldsOfFinds, IsBuiltFrom, No, RunsInMemory};
+ghost use Rattle.chromesquid.specs.Rules.{Answers, No, RunsOverBytes};
 
 use chromesquid::{AhoCorasick, Match};
 use std::alloc::AllocError;
@@ -17,8 +16,7 @@ where
     F: FnMut(&Match, &[u8], &mut Vec<u8>) -> Result<bool, AllocError>,
     requires starts { Answers searcher.now No }
     requires callable { F.IsAlwaysCallable rewrite }
-    ensures run { HoldsOfFinds (IsBuiltFrom searcher.now) bytes.now (λ ms.
-        RunsInMemory F.FnMut vec_items bytes.now ms rewrite out.old result out.new) }
+    ensures run { RunsOverBytes searcher.now F.FnMut bytes.now rewrite out.old result out.new }
 {
     searcher.replace_all_with_bytes(bytes, out, rewrite)
 }

@@ -1,8 +1,7 @@
 //! The matches of a stream.
 
-ghost use Rattle.std.specs.Iterator.Runs.{EachRunFrom};
 ghost use Rattle.std.specs.Prelude.{IfOk};
-ghost use Rattle.chromesquid.specs.Rules.{Answers, FindsFirst, HasNoEmpty, IsBuiltFrom, No, Patterns};
+ghost use Rattle.chromesquid.specs.Rules.{Answers, HasNoEmpty, No, RunsFindBeginning};
 
 use chromesquid::{AhoCorasick, Source, StreamFindIter};
 use std::alloc::{AllocError, Global};
@@ -15,9 +14,8 @@ pub fn matches_in<'a, 'r, R: Source>(
 ) -> Result<StreamFindIter<'a, 'r, R>, AllocError>
     requires no_empty { HasNoEmpty searcher.now }
     requires starts { Answers searcher.now No }
-    ensures first { (p : Patterns) → IsBuiltFrom searcher.entry.now p → IfOk result (λ it.
-        EachRunFrom ⟦<StreamFindIter<'a, 'r, R> as Iterator>⟧.next_gives it
-        (λ run. FindsFirst R.Source p source.entry.now run.items)) }
+    ensures first { IfOk result (RunsFindBeginning R.Source
+        ⟦<StreamFindIter<'a, 'r, R> as Iterator>⟧.next_gives searcher.entry.now source.entry.now) }
 {
     searcher.stream_find_iter(alloc, source)
 }

@@ -1,7 +1,7 @@
 //! The first answers of a search in a stream.
 
 ghost use Rattle.std.specs.Prelude.{IfOk};
-ghost use Rattle.chromesquid.specs.Rules.{Answers, FindsFirst, HasNoEmpty, IsBuiltFrom, No, Patterns};
+ghost use Rattle.chromesquid.specs.Rules.{Answers, FindsBeginning, HasNoEmpty, IsBuiltFrom, No, Patterns};
 
 use crate::callers::first_items::first_items;
 use chromesquid::{AhoCorasick, Match, Source, StreamError};
@@ -17,7 +17,7 @@ pub fn first_of<R: Source>(
     requires no_empty { HasNoEmpty searcher.now }
     requires starts { Answers searcher.now No }
     ensures first { (p : Patterns) → IsBuiltFrom searcher.now p → IfOk result (λ found.
-        FindsFirst R.Source p source.old found.items) }
+        FindsBeginning R.Source p source.old found.items) }
 {
     let matches = searcher.stream_find_iter(alloc, source)?;
     first_items::<R, _>(alloc, matches, count)

@@ -1,7 +1,7 @@
 //! Replacement of text that may be refused.
 
-ghost use Rattle.std.specs.Prelude.{◌≡◌, IfOk, length, string_bytes};
-ghost use Rattle.chromesquid.specs.Rules.{HoldsOfFinds, IsBuiltFrom, on_boundaries, patterns_len_of, pieces_of, replaced};
+ghost use Rattle.std.specs.Prelude.{◌≡◌, length};
+ghost use Rattle.chromesquid.specs.Rules.{ReplacesText, patterns_len_of};
 
 use chromesquid::{AhoCorasick, ReplaceError};
 use std::alloc::Global;
@@ -14,8 +14,7 @@ pub fn text_masked_by(
     text: &str,
 ) -> Result<String, ReplaceError>
     requires one_each { length masks.now ≡ patterns_len_of searcher.now }
-    ensures masked { HoldsOfFinds (IsBuiltFrom searcher.now) text.now (λ ms. IfOk result (λ masked.
-        string_bytes masked ≡ replaced text.now (on_boundaries text.now ms) (pieces_of masks.now))) }
+    ensures masked { ReplacesText searcher.now text.now masks.now result }
 {
     searcher.try_replace_all(alloc, text, masks)
 }

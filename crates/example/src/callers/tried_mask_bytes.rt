@@ -1,7 +1,7 @@
 //! Replacement of bytes that may be refused.
 
-ghost use Rattle.std.specs.Prelude.{◌≡◌, IfOk, length, vec_items};
-ghost use Rattle.chromesquid.specs.Rules.{HoldsOfFinds, IsBuiltFrom, patterns_len_of, pieces_of, replaced};
+ghost use Rattle.std.specs.Prelude.{◌≡◌, length};
+ghost use Rattle.chromesquid.specs.Rules.{ReplacesBytes, patterns_len_of};
 
 use chromesquid::{AhoCorasick, ReplaceError};
 use std::alloc::Global;
@@ -14,8 +14,7 @@ pub fn bytes_masked_by(
     bytes: &[u8],
 ) -> Result<Vec<u8>, ReplaceError>
     requires one_each { length masks.now ≡ patterns_len_of searcher.now }
-    ensures masked { HoldsOfFinds (IsBuiltFrom searcher.now) bytes.now (λ ms. IfOk result
-        (λ masked. vec_items masked ≡ replaced bytes.now ms (pieces_of masks.now))) }
+    ensures masked { ReplacesBytes searcher.now bytes.now masks.now result }
 {
     searcher.try_replace_all_bytes(alloc, bytes, masks)
 }

@@ -1,7 +1,6 @@
 //! Replacement of text by a closure that may be refused.
 
-ghost use Rattle.std.specs.Prelude.{Ok, OnOk, string_bytes};
-ghost use Rattle.chromesquid.specs.Rules.{HoldsOfFinds, IsBuiltFrom, RunsInMemory, on_boundaries};
+ghost use Rattle.chromesquid.specs.Rules.{EndsOverText};
 
 use chromesquid::{AhoCorasick, Match, ReplaceError};
 use std::alloc::AllocError;
@@ -16,8 +15,7 @@ pub fn try_append_rewritten<F>(
 where
     F: FnMut(&Match, &str, &mut String) -> Result<bool, AllocError>,
     requires callable { F.IsAlwaysCallable rewrite }
-    ensures run { HoldsOfFinds (IsBuiltFrom searcher.now) text.now (λ ms. OnOk result
-        (RunsInMemory F.FnMut string_bytes text.now (on_boundaries text.now ms) rewrite out.old (Ok tt) out.new)) }
+    ensures run { EndsOverText searcher.now F.FnMut text.now rewrite out.old result out.new }
 {
     searcher.try_replace_all_with(text, out, rewrite)
 }

@@ -1,7 +1,6 @@
 //! Replacement of bytes by a closure that may be refused.
 
-ghost use Rattle.std.specs.Prelude.{Ok, OnOk, vec_items};
-ghost use Rattle.chromesquid.specs.Rules.{HoldsOfFinds, IsBuiltFrom, RunsInMemory};
+ghost use Rattle.chromesquid.specs.Rules.{EndsOverBytes};
 
 use chromesquid::{AhoCorasick, Match, ReplaceError};
 use std::alloc::AllocError;
@@ -16,8 +15,7 @@ pub fn try_append_rewritten_bytes<F>(
 where
     F: FnMut(&Match, &[u8], &mut Vec<u8>) -> Result<bool, AllocError>,
     requires callable { F.IsAlwaysCallable rewrite }
-    ensures run { HoldsOfFinds (IsBuiltFrom searcher.now) bytes.now (λ ms. OnOk result
-        (RunsInMemory F.FnMut vec_items bytes.now ms rewrite out.old (Ok tt) out.new)) }
+    ensures run { EndsOverBytes searcher.now F.FnMut bytes.now rewrite out.old result out.new }
 {
     searcher.try_replace_all_with_bytes(bytes, out, rewrite)
 }

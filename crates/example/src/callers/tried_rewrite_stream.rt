@@ -1,7 +1,6 @@
 //! Replacement in a stream by a closure that may be refused.
 
-ghost use Rattle.std.specs.Prelude.{◌⊎◌};
-ghost use Rattle.chromesquid.specs.Rules.{Answers, HasNoEmpty, IsBuiltFrom, IsStreamRun, No, Patterns, RefusesUntouched};
+ghost use Rattle.chromesquid.specs.Rules.{Answers, HasNoEmpty, No, RunsStream};
 
 use chromesquid::{AhoCorasick, Match, Sink, Source, StreamError};
 use std::alloc::Global;
@@ -19,9 +18,8 @@ where
     requires no_empty { HasNoEmpty searcher.now }
     requires starts { Answers searcher.now No }
     requires callable { F.IsAlwaysCallable rewrite }
-    ensures runs { (p : Patterns) → IsBuiltFrom searcher.now p
-        → RefusesUntouched result StreamError.Memory source.old source.new sink.old sink.new
-        ⊎ IsStreamRun R.Source W.Sink p F.FnMut source.old source.new rewrite sink.old result sink.new }
+    ensures runs { RunsStream R.Source W.Sink searcher.now F.FnMut
+        source.old source.new rewrite sink.old result sink.new }
 {
     searcher.try_stream_replace_all_with(alloc, source, sink, rewrite)
 }

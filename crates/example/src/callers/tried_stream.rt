@@ -1,8 +1,7 @@
 //! A search in a stream that may be refused.
 
-ghost use Rattle.std.specs.Iterator.Runs.{EachRunFrom};
-ghost use Rattle.std.specs.Prelude.{◌≡◌, IfErr, IfOk};
-ghost use Rattle.chromesquid.specs.Rules.{Answers, FindsFirst, HasNoEmpty, IsBuiltFrom, No, Patterns};
+ghost use Rattle.std.specs.Prelude.{IfOk, IsOkUnless};
+ghost use Rattle.chromesquid.specs.Rules.{Answers, HasNoEmpty, No, RunsFindBeginning};
 
 use chromesquid::{AhoCorasick, Source, StreamError, StreamFindIter};
 use std::alloc::Global;
@@ -14,10 +13,9 @@ pub fn matches_of<'a, 'r, R: Source>(
     source: &'r mut R,
 ) -> Result<StreamFindIter<'a, 'r, R>, StreamError>
     ensures memory { HasNoEmpty searcher.entry.now → Answers searcher.entry.now No
-        → IfErr result (λ error. error ≡ StreamError.Memory) }
-    ensures first { (p : Patterns) → IsBuiltFrom searcher.entry.now p → IfOk result (λ it.
-        EachRunFrom ⟦<StreamFindIter<'a, 'r, R> as Iterator>⟧.next_gives it
-        (λ run. FindsFirst R.Source p source.entry.now run.items)) }
+        → IsOkUnless result StreamError.Memory }
+    ensures first { IfOk result (RunsFindBeginning R.Source
+        ⟦<StreamFindIter<'a, 'r, R> as Iterator>⟧.next_gives searcher.entry.now source.entry.now) }
 {
     searcher.try_stream_find_iter(alloc, source)
 }

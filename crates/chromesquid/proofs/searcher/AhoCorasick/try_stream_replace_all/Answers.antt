@@ -13,14 +13,17 @@ returns-clause-answered g c =
 pub returns-clause-replaced : goal.returns-clause-replaced
 returns-clause-replaced g c =
     rw (← c.built.ensures.same)
-    (λ p built. replaced_of _ _ c.built.result.now _ _ _ _ _ _ p built c.try_stream_replace_all.ensures.replaced)
+    (λ p built. replaced_of _ _ c.built.result.now p built _ _ _ _ _ _ c.try_stream_replace_all.ensures.leaves.replaced)
 
 pub returns-clause-begun : goal.returns-clause-begun
 returns-clause-begun g c =
     rw (← c.built.ensures.same)
-    (λ p built. begun_of _ _ c.built.result.now _ _ _ _ _ _ p built c.try_stream_replace_all.ensures.begun)
+    (λ p built. begun_of _ _ c.built.result.now p built _ _ _ _ _ _ c.try_stream_replace_all.ensures.leaves.begun)
 
 pub returns-clause-near : goal.returns-clause-near
 returns-clause-near g c =
     rw (← c.built.ensures.same)
-    (λ p built. near_of _ _ c.built.result.now _ _ _ _ _ _ p built c.try_stream_replace_all.ensures.near)
+    (λ p built. near_of _ _ c.built.result.now p built _ _ _ _ _ _ c.try_stream_replace_all.ensures.leaves.near)
+
+pub returns-clause-limit : goal.returns-clause-limit
+returns-clause-limit g c = c.try_stream_replace_all.ensures.leaves.limit

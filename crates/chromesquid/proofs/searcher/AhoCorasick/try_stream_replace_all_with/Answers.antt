@@ -7,11 +7,11 @@ use Rattle.chromesquid.proofs.searcher.AhoCorasick.try_stream_replace_all_with.G
 pub returns-clause-runs : goal.returns-clause-runs
 returns-clause-runs g c =
     rw (← c.built.ensures.same)
-    (λ p built none answers.
+    (λ none answers p built.
     let start = start_of No c.built.result.now (rw c.built.ensures.same c.built.ensures.some) answers in
     elim (c.try_stream_replace_all_with.ensures.runs (start.0, none, start.1)) [
       | inl refused ↦ inl refused
-      | inr over ↦ inr (run_of _ _ c.built.result.now _ _ _ _ _ _ _ p built over)
+      | inr over ↦ inr (run_of _ _ c.built.result.now p built _ _ _ _ _ _ _ over)
     ])
 
 pub returns-clause-refused : goal.returns-clause-refused
