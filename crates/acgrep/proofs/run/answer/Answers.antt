@@ -8,4 +8,4 @@ pub returns-then-given-clause-told : goal.returns-then-given-clause-told
 returns-then-given-clause-told g c = c.write_text.ensures.told (shown_by c.args.given.now.flags) (names_said (Some (said c.args.given.now)))
 
 pub returns-then-given-2-clause-told : goal.returns-then-given-2-clause-told
-returns-then-given-2-clause-told g c = c.write_text-2.ensures.told (shown_by c.args.given.now.flags) (names_said (Some (said c.args.given.now)))
+returns-then-given-2-clause-told g c = c.write_text-then-given-2.ensures.told (shown_by c.args.given.now.flags) (names_said (Some (said c.args.given.now)))
