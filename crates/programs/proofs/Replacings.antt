@@ -8,11 +8,10 @@ use Rattle.std.proofs.Math.Seq.{take-length}
 use Rattle.aho_core.specs.Iteration.{AreFinds}
 use Rattle.aho_core.specs.Patterns.{Patterns}
 use Rattle.aho_core.specs.Replacement.{replaced}
-use Rattle.aho_stream.specs.Replacing.{BeginsStream, ReplacesStream, ReplacesStreamUpTo}
+use Rattle.aho_stream.specs.Replacing.{BeginsReplacing, ReplacesStream, ReplacesStreamUpTo}
 use Rattle.aho_devices.specs.Counts.{counted}
 use Rattle.aho_devices.specs.declared.device.Sink.{Ghosts as SinkGhosts}
 use Rattle.aho_devices.specs.declared.device.Source.{Ghosts as SourceGhosts}
-use Rattle.aho_automaton.specs.declared.automaton.Automaton.{Ghosts}
 use Rattle.programs.specs.Answers.{BeginsReplacement, WritesMost, WritesReplacement}
 use Rattle.programs.specs.Streams.{Contents}
 use Rattle.aho_core.specs.declared.error.stream.StreamError.{StreamError}
@@ -20,7 +19,6 @@ use Rattle.aho_core.specs.declared.error.stream.StreamError.TheVariants.{Match, 
 use Rattle.aho_core.specs.Search.{plain_search}
 use Rattle.aho_laws.proofs.Iterations.{finds-exist, finds-unique}
 use Rattle.aho_devices.specs.Refusals.{IsFillRefusal, IsWriteRefusal}
-use Rattle.aho_stream.specs.After.{kept_for}
 use Rattle.aho_stream.specs.Replacing.{IsMakingRefusal}
 use Rattle.programs.specs.Asked.{Replacing, patterns_to_replace}
 use Rattle.programs.specs.Failures.{IsOfWrite, LeavesReplacing, failure_of_stream}
@@ -41,8 +39,8 @@ one_end : (reads reads' : ℕ) → reads ≡ 0 → reads' ≡ counted true reads
 one_end reads reads' none rises zero = let one : reads' ≡ 1 = rises ∙ ap (counted true) none in omega (arith, one, zero)
 
 -- the replacement of a stream, from a source that has so much left and has seen no end, is what was asked for
-pub replaces_asked : {A R W : Type 0} {G : Ghosts A} {S : SourceGhosts R} {K : SinkGhosts W} {automaton : A} {source source' : R} {sink sink' : W} (asked : Replacing)
-    → ReplacesStream G S K automaton asked.pieces source source' sink sink' → G.is_of automaton (patterns_to_replace asked)
+pub replaces_asked : {R W : Type 0} {S : SourceGhosts R} {K : SinkGhosts W} {AreSearched : Patterns → Type 0} {source source' : R} {sink sink' : W} (asked : Replacing)
+    → ReplacesStream S K AreSearched asked.pieces source source' sink sink' → AreSearched (patterns_to_replace asked)
     → {before : Option (List ℕ)} → S.remaining source ≡ before → S.empty_reads source ≡ 0 → (S.empty_reads source' ≢ 0 → IsAtEnd (S.remaining source'))
     → WritesReplacement (record { left_before = before; left_after = S.remaining source'; held_before = K.taken sink; held_after = K.taken sink' }) asked
 replaces_asked {S = S} {source = source} {source' = source'} asked whole of left none ends =
@@ -56,8 +54,8 @@ replaces_asked {S = S} {source = source} {source' = source'} asked whole of left
       written = whole.writes (patterns_to_replace asked) exist.0 of exist.1;
     }
 
-pub begins_asked : {A R W : Type 0} {G : Ghosts A} {S : SourceGhosts R} {K : SinkGhosts W} {automaton : A} {source source' : R} {sink sink' : W} (asked : Replacing)
-    → BeginsStream G S K automaton asked.pieces source source' sink sink' → G.is_of automaton (patterns_to_replace asked)
+pub begins_asked : {R W : Type 0} {S : SourceGhosts R} {K : SinkGhosts W} {AreSearched : Patterns → Type 0} {source source' : R} {sink sink' : W} (asked : Replacing)
+    → BeginsReplacing S K AreSearched asked.pieces source source' sink sink' → AreSearched (patterns_to_replace asked)
     → {before : Option (List ℕ)} → S.remaining source ≡ before → S.empty_reads source ≡ 0 → (S.empty_reads source' ≢ 0 → IsAtEnd (S.remaining source'))
     → BeginsReplacement (record { left_before = before; left_after = S.remaining source'; held_before = K.taken sink; held_after = K.taken sink' }) asked
 begins_asked {S = S} {source = source} {source' = source'} asked begun of left none ends = record {
@@ -70,18 +68,18 @@ begins_asked {S = S} {source = source} {source' = source'} asked begun of left n
   beginning = λ bytes ms may finds. begun.beginning (patterns_to_replace asked) bytes ms of may finds;
 }
 
-pub most_asked : {A R W : Type 0} {G : Ghosts A} {S : SourceGhosts R} {K : SinkGhosts W} {automaton : A} {source source' : R} {sink sink' : W} (asked : Replacing)
-    → ReplacesStreamUpTo G S K automaton asked.pieces source source' sink sink' → G.lengths automaton ≡ map length asked.patterns → G.is_of automaton (patterns_to_replace asked)
+pub most_asked : {R W : Type 0} {S : SourceGhosts R} {K : SinkGhosts W} {AreSearched : Patterns → Type 0} {source source' : R} {sink sink' : W} (asked : Replacing)
+    → ReplacesStreamUpTo S K AreSearched asked.pieces source source' sink sink' → AreSearched (patterns_to_replace asked)
     → {before : Option (List ℕ)} → S.remaining source ≡ before → S.empty_reads source ≡ 0 → (S.empty_reads source' ≢ 0 → IsAtEnd (S.remaining source'))
     → WritesMost (record { left_before = before; left_after = S.remaining source'; held_before = K.taken sink; held_after = K.taken sink' }) asked
-most_asked {S = S} {source = source} {source' = source'} asked up same of left none ends = record {
+most_asked {S = S} {source = source} {source' = source'} asked up of left none ends = record {
   text = up.given;
   read = subst (λ bytes. Consumes bytes (S.remaining source') up.given) left up.gives.bytes;
   ended = up.ended;
   at_end = λ is. ends (one_end (S.empty_reads source) (S.empty_reads source') none (up.gives.end ∙ ap (λ ended. counted ended (S.empty_reads source)) is));
   place = up.place;
   within = up.within;
-  near = subst (λ l. length up.given ≤ up.place + kept_for l) same up.near;
+  near = up.near (patterns_to_replace asked) of;
   written = λ bytes ms may finds. up.writes (patterns_to_replace asked) bytes ms of may finds;
 }
 

@@ -13,11 +13,11 @@ returns-in_err-try_stream_replace_all-clause-leaves g c asked same of =
     IfErr-given _ _ _ c.from_residual.ensures.1
     (leaves_stream c.in_err-try_stream_replace_all.field-0.0
     (λ made. (ap (λ s. s.device) (promised.untouched made).0 ∙ c.restart.ensures.device, ap (λ s. s.device) (promised.untouched made).1))
-    (begins_asked asked (rw (sym same) at promised.begun) of left c.restart.ensures.empty_reads ends)
-    (λ fill. most_asked asked (rw (sym same) at (promised.near fill)) (g.met.A.Automaton.laws _ _ of).lengths_are of left c.restart.ensures.empty_reads ends))
+    (begins_asked asked (rw (sym same) at promised.leaves.begun) of left c.restart.ensures.empty_reads ends)
+    (λ fill. most_asked asked (rw (sym same) at (promised.leaves.near fill)) of left c.restart.ensures.empty_reads ends))
 
 pub returns-clause-replaces : goal.returns-clause-replaces
 returns-clause-replaces g c asked same of =
     let left = ap (λ device. g.R.Read.remaining device.reader) c.restart.ensures.device in
-    replaces_asked asked (rw (sym same) at c.in_ok-try_stream_replace_all.ensures.replaced) of left c.restart.ensures.empty_reads
+    replaces_asked asked (rw (sym same) at c.in_ok-try_stream_replace_all.ensures.leaves.replaced) of left c.restart.ensures.empty_reads
     (λ some. at_end _ (λ bytes is. c.try_stream_replace_all.new.source.ended bytes some is))
