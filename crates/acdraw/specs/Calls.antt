@@ -8,7 +8,7 @@ use Rattle.aho_devices.specs.declared.adapters.FromWrite.{FromWrite}
 use Rattle.programs.specs.Arguments.{find_by}
 use Rattle.programs.specs.Asked.{Asked}
 use Rattle.programs.specs.Failures.{LeavesPrinting}
-use Rattle.programs.specs.Streams.{bytes_held}
+use Rattle.programs.specs.Streams.{output_bytes}
 use Rattle.programs.specs.declared.failure.Failure.{Failure}
 
 -- [-u] KIND [-i] PATTERN..: the automaton that is drawn
@@ -39,4 +39,4 @@ BeginsDrawing old new = (text : List ℕ) × IsWhole text × AppendsBeginning ol
 
 -- what each failure leaves of an output: nothing is written, but for a beginning where a write failed
 abbrev pub LeavesDrawing : {W : Type 0} → Writers W → FromWrite W → FromWrite W → Failure → Type 0
-LeavesDrawing Writes old new = LeavesPrinting ⊤ (new ≡ old) (BeginsDrawing (bytes_held Writes old) (bytes_held Writes new))
+LeavesDrawing Writes old new = LeavesPrinting ⊤ (new ≡ old) (BeginsDrawing (output_bytes Writes old) (output_bytes Writes new))

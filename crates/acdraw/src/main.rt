@@ -14,7 +14,7 @@ ghost use Rattle.std.specs.Prelude.{◌≡◌, ◌≤◌, None, IfOk, IfErr, OnE
 ghost use Rattle.std.specs.Process.{exit_status};
 ghost use Rattle.programs.specs.Arguments.{texts};
 ghost use Rattle.programs.specs.Failures.{status_of_failure};
-ghost use Rattle.programs.specs.Streams.{bytes_held};
+ghost use Rattle.programs.specs.Streams.{output_bytes};
 ghost use Rattle.acdraw.specs.Calls.{Draws, drawing_by};
 
 use aho_devices::adapters::FromWrite;
@@ -46,7 +46,7 @@ fn exit_code<W: Write, E: Write>(
     ensures usage { IfOk given (λ arguments.
         drawing_by (texts arguments.items) ≡ None → exit_status result ≡ 2) }
     ensures draws { IfOk given (λ arguments.
-        exit_status result ≡ 0 → Draws (bytes_held W.Write output.old) (bytes_held W.Write output.new)) }
+        exit_status result ≡ 0 → Draws (output_bytes W.Write output.old) (output_bytes W.Write output.new)) }
     ensures bound { exit_status result ≤ 3 }
 {
     let status = match given {

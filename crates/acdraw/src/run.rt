@@ -5,7 +5,7 @@ ghost use Rattle.programs.specs.Answers.{TellsFailure, TellsLine};
 ghost use Rattle.programs.specs.Arguments.{texts};
 ghost use Rattle.programs.specs.Asked.{Asked, Builds, asked_for};
 ghost use Rattle.programs.specs.Failures.{status_of_failure};
-ghost use Rattle.programs.specs.Streams.{WritesBeginning, bytes_held};
+ghost use Rattle.programs.specs.Streams.{WritesBeginning, output_bytes};
 ghost use Rattle.programs.specs.declared.failure.Failure.TheVariants.{Usage};
 ghost use Rattle.acdraw.specs.Calls.{Draws, LeavesDrawing, drawing_by, draws_anchored, usage_line};
 
@@ -41,7 +41,7 @@ pub fn run<W: Write, E: Write>(
     // Of right arguments that a build accepts a whole text is written.
     ensures asked { result ≡ 0 → (asked : Asked)
         × (drawing_by (texts arguments.now) ≡ Some asked) × Builds asked }
-    ensures draws { result ≡ 0 → Draws (bytes_held W.Write output.old) (bytes_held W.Write output.new) }
+    ensures draws { result ≡ 0 → Draws (output_bytes W.Write output.old) (output_bytes W.Write output.new) }
     ensures quiet { result ≡ 0 → errors.new ≡ errors.old }
 
     // Any other status is that of a failure, which is told.
@@ -85,7 +85,7 @@ fn answer<W: Write>(
     ensures unwritten { drawing_by (texts arguments.now) ≡ None → output.new ≡ output.old }
     ensures asked { OnOk result ((asked : Asked)
         × (drawing_by (texts arguments.now) ≡ Some asked) × Builds asked) }
-    ensures draws { OnOk result (Draws (bytes_held W.Write output.old) (bytes_held W.Write output.new)) }
+    ensures draws { OnOk result (Draws (output_bytes W.Write output.old) (output_bytes W.Write output.new)) }
     ensures leaves { (asked : Asked) → drawing_by (texts arguments.now) ≡ Some asked
         → IfErr result (LeavesDrawing W.Write output.old output.new) }
 {
@@ -127,7 +127,7 @@ fn draw<W: Write>(
     output: &mut FromWrite<W>,
 ) -> Result<(), Failure>
     ensures builds { OnOk result (Builds (asked_for drawing.now.request)) }
-    ensures draws { OnOk result (Draws (bytes_held W.Write output.old) (bytes_held W.Write output.new)) }
+    ensures draws { OnOk result (Draws (output_bytes W.Write output.old) (output_bytes W.Write output.new)) }
     ensures leaves { IfErr result (LeavesDrawing W.Write output.old output.new) }
 {
     let nfa = build(alloc, &drawing.request)?;

@@ -12,7 +12,7 @@ use Rattle.aho_devices.specs.declared.adapters.FromRead.{FromRead}
 use Rattle.aho_devices.specs.declared.device.Sink.{Ghosts as SinkGhosts}
 use Rattle.programs.specs.Failures.{failure_of_stream}
 use Rattle.programs.specs.Names.{IsAmong}
-use Rattle.programs.specs.Streams.{bytes_held, bytes_left}
+use Rattle.programs.specs.Streams.{output_bytes, bytes_left}
 use Rattle.programs.specs.Telling.{Tells, TellsBytes, TellsSome}
 use Rattle.programs.specs.declared.errors.Errors.{Errors}
 use Rattle.programs.specs.declared.failure.Failure.TheVariants.{OutOfMemory}
@@ -114,7 +114,7 @@ module _ {R : Type 0} {Reads : Readers R} {W E : Type 0} (Writes : Writers W) (K
     lines_cut : (fails : Type 0) (lines : List (List ℕ)) (left' held held' : Option (List ℕ)) → AreCut (work_by call secrets) (work_by call secrets).names lines (bytes_left old.input) left' held held' → All (IsLineOf call fails) lines
     lines_cut fails lines left' held held' cut = All-weaker (IsUnreadLine (names_asked call.given)) (IsLineOf call fails) (λ line is. inl is) lines (unread_of (work_by call secrets) (work_by call secrets).names lines (bytes_left old.input) left' held held' cut)
 
-    begun_by : (lines : List (List ℕ)) → AreCut (work_by call secrets) (work_by call secrets).names lines (bytes_left old.input) (bytes_left mid.input) (bytes_held Writes old.output) (bytes_held Writes mid.output)
+    begun_by : (lines : List (List ℕ)) → AreCut (work_by call secrets) (work_by call secrets).names lines (bytes_left old.input) (bytes_left mid.input) (output_bytes Writes old.output) (output_bytes Writes mid.output)
         → (errors : Errors E) → BeginsCall Writes call left old (record mid { errors = errors })
     begun_by lines cut errors = inr (record { secrets = secrets; between = bytes_left old.input; loaded = loaded; lines = lines; cut = cut })
 

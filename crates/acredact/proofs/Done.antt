@@ -15,7 +15,7 @@ use Rattle.aho_devices.specs.Refusals.{IsWriteRefusal, is_write_fault, is_write_
 use Rattle.aho_devices.specs.declared.adapters.FromWrite.{FromWrite}
 use Rattle.aho_devices.specs.declared.device.Sink.{Ghosts as SinkGhosts}
 use Rattle.programs.specs.Names.{name_bytes}
-use Rattle.programs.specs.Streams.{bytes_held, bytes_left}
+use Rattle.programs.specs.Streams.{output_bytes, bytes_left}
 use Rattle.programs.specs.Telling.{TellsBytes}
 use Rattle.programs.specs.declared.errors.Errors.{Errors}
 use Rattle.programs.specs.declared.reason.Reason.{Reason}
@@ -96,10 +96,10 @@ module _ {R W E : Type 0} {Reads : Readers R} (Writes : Writers W) (K : SinkGhos
     pub is_all : all ≡ are_none lines
     pub told : TellsBytes K old.errors new.errors (concat lines)
     pub quiet : all ≡ true → new.errors ≡ old.errors
-    pub done : (more : List (List ℕ)) (left held : Option (List ℕ)) → AreDone work rest more (bytes_left new.input) left (bytes_held Writes new.output) held
-        → AreDone work names (lines ++ more) (bytes_left old.input) left (bytes_held Writes old.output) held
-    pub cut : (more : List (List ℕ)) (left held : Option (List ℕ)) → AreCut work rest more (bytes_left new.input) left (bytes_held Writes new.output) held
-        → AreCut work names (lines ++ more) (bytes_left old.input) left (bytes_held Writes old.output) held
+    pub done : (more : List (List ℕ)) (left held : Option (List ℕ)) → AreDone work rest more (bytes_left new.input) left (output_bytes Writes new.output) held
+        → AreDone work names (lines ++ more) (bytes_left old.input) left (output_bytes Writes old.output) held
+    pub cut : (more : List (List ℕ)) (left held : Option (List ℕ)) → AreCut work rest more (bytes_left new.input) left (output_bytes Writes new.output) held
+        → AreCut work names (lines ++ more) (bytes_left old.input) left (output_bytes Writes old.output) held
     pub failures : new.output.failures ≡ old.output.failures
     pub empty_writes : new.output.empty_writes ≡ old.output.empty_writes
 
@@ -126,9 +126,9 @@ module _ {R W E : Type 0} {Reads : Readers R} (Writes : Writers W) (K : SinkGhos
         is_all = none_both so.lines first all whole both so.is_all is_whole is;
         told = subst (TellsBytes K old.errors new.errors) (sym (concat_both so.lines first)) (tells-later K so.told tells);
         quiet = λ ends. let parts = both_so all whole both is ends in told.quiet (ap Ok parts.1) ∙ so.quiet parts.0;
-        done = λ more left held rests. subst (λ (l : List (List ℕ)). AreDone work names l (bytes_left old.input) left (bytes_held Writes old.output) held) (sym (append_assoc so.lines first more))
+        done = λ more left held rests. subst (λ (l : List (List ℕ)). AreDone work names l (bytes_left old.input) left (output_bytes Writes old.output) held) (sym (append_assoc so.lines first more))
             (so.done (first ++ more) left held (done_more work name rest first more _ _ left _ _ held done rests));
-        cut = λ more left held rests. subst (λ (l : List (List ℕ)). AreCut work names l (bytes_left old.input) left (bytes_held Writes old.output) held) (sym (append_assoc so.lines first more))
+        cut = λ more left held rests. subst (λ (l : List (List ℕ)). AreCut work names l (bytes_left old.input) left (output_bytes Writes old.output) held) (sym (append_assoc so.lines first more))
             (so.cut (first ++ more) left held (cut_more work name rest first more _ _ left _ _ held done rests));
         failures = told.fails.write_failed ∙ so.failures;
         empty_writes = told.fails.took_nothing ∙ so.empty_writes;
@@ -137,9 +137,9 @@ module _ {R W E : Type 0} {Reads : Readers R} (Writes : Writers W) (K : SinkGhos
   -- behind all
   pub far_all : (all : Bool) (old new : Streams R W E Reads) → SoFar work.names [] all old new → FilesOutcome Writes K work (Ok all) old new
   far_all all old new so =
-      let done : AreDone work work.names so.lines (bytes_left old.input) (bytes_left new.input) (bytes_held Writes old.output) (bytes_held Writes new.output) =
-      subst (λ (l : List (List ℕ)). AreDone work work.names l (bytes_left old.input) (bytes_left new.input) (bytes_held Writes old.output) (bytes_held Writes new.output)) (append-nil so.lines)
-      (so.done [] _ _ (refl, refl, Keeps-refl (bytes_held Writes new.output))) in
+      let done : AreDone work work.names so.lines (bytes_left old.input) (bytes_left new.input) (output_bytes Writes old.output) (output_bytes Writes new.output) =
+      subst (λ (l : List (List ℕ)). AreDone work work.names l (bytes_left old.input) (bytes_left new.input) (output_bytes Writes old.output) (output_bytes Writes new.output)) (append-nil so.lines)
+      (so.done [] _ _ (refl, refl, Keeps-refl (output_bytes Writes new.output))) in
       record {
         done = (so.lines, so.is_all, (done, so.told));
         cut = tt;
@@ -151,8 +151,8 @@ module _ {R W E : Type 0} {Reads : Readers R} (Writes : Writers W) (K : SinkGhos
   pub far_fails : (rest : List (List ℕ)) (name : List ℕ) (all : Bool) (error : StreamError) (old mid new : Streams R W E Reads) → SoFar work.names (name ∷ rest) all old mid
       → ToldOutcome Writes K work name (Err error) mid new → FilesOutcome Writes K work (Err error) old new
   far_fails rest name all error old mid new so told =
-      let cut : AreCut work work.names so.lines (bytes_left old.input) (bytes_left new.input) (bytes_held Writes old.output) (bytes_held Writes new.output) =
-      subst (λ (l : List (List ℕ)). AreCut work work.names l (bytes_left old.input) (bytes_left new.input) (bytes_held Writes old.output) (bytes_held Writes new.output)) (append-nil so.lines)
+      let cut : AreCut work work.names so.lines (bytes_left old.input) (bytes_left new.input) (output_bytes Writes old.output) (output_bytes Writes new.output) =
+      subst (λ (l : List (List ℕ)). AreCut work work.names l (bytes_left old.input) (bytes_left new.input) (output_bytes Writes old.output) (output_bytes Writes new.output)) (append-nil so.lines)
       (so.cut [] _ _ (inl (refl, told.cut.0))) in
       record {
         done = tt;
@@ -166,7 +166,7 @@ module _ {R W E : Type 0} {Reads : Readers R} (Writes : Writers W) (K : SinkGhos
       }
 
   -- all were done, and then the output is flushed
-  pub flush_done : (all : Bool) (old mid : Streams R W E Reads) (output : FromWrite W) → FilesOutcome Writes K work (Ok all) old mid → Keeps (bytes_held Writes mid.output) (bytes_held Writes output)
+  pub flush_done : (all : Bool) (old mid : Streams R W E Reads) (output : FromWrite W) → FilesOutcome Writes K work (Ok all) old mid → Keeps (output_bytes Writes mid.output) (output_bytes Writes output)
       → output.failures ≡ mid.output.failures → output.empty_writes ≡ mid.output.empty_writes → FilesOutcome Writes K work (Ok all) old (record mid { output = output })
   flush_done all old mid output files kept failures empty_writes =
       let (lines, is_all, (done, told)) = files.done in
@@ -177,7 +177,7 @@ module _ {R W E : Type 0} {Reads : Readers R} (Writes : Writers W) (K : SinkGhos
         fails = record { write_failed = failures ∙ files.fails.write_failed; took_nothing = empty_writes ∙ files.fails.took_nothing; only = tt };
       }
 
-  pub flush_fails : (all : Bool) (error : StreamError) (old mid : Streams R W E Reads) (output : FromWrite W) → FilesOutcome Writes K work (Ok all) old mid → Keeps (bytes_held Writes mid.output) (bytes_held Writes output)
+  pub flush_fails : (all : Bool) (error : StreamError) (old mid : Streams R W E Reads) (output : FromWrite W) → FilesOutcome Writes K work (Ok all) old mid → Keeps (output_bytes Writes mid.output) (output_bytes Writes output)
       → output.failures ≡ counted (is_write_fault {A = Bool} (Err error)) mid.output.failures → output.empty_writes ≡ counted (is_write_of_nothing {A = Bool} (Err error)) mid.output.empty_writes → IsWriteRefusal error
       → FilesOutcome Writes K work (Err error) old (record mid { output = output })
   flush_fails all error old mid output files kept failures empty_writes only =

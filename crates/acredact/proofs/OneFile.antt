@@ -15,7 +15,7 @@ use Rattle.aho_devices.specs.declared.adapters.FromWrite.{FromWrite}
 use Rattle.aho_devices.specs.declared.device.Sink.{Ghosts as SinkGhosts}
 use Rattle.aho_devices.specs.declared.device.Source.{Ghosts as SourceGhosts}
 use Rattle.programs.specs.Names.{is_input}
-use Rattle.programs.specs.Streams.{bytes_held, bytes_left}
+use Rattle.programs.specs.Streams.{output_bytes, bytes_left}
 use Rattle.programs.specs.declared.reason.Reason.{Reason}
 use Rattle.acredact.specs.Faults.{IsOutputEnd, IsReadReason, IsStreamEnd, is_unread, reading_of}
 use Rattle.acredact.specs.Files.{BeginsNamed, BeginsText, FailsByOutput, FileOutcome, MayBeUnread, RedactsName, RedactsText, TextOutcome, Work}
@@ -116,8 +116,8 @@ at_ok {P} done is so = subst (λ (d : Result (Unit {0}) StreamError). OnOk d P) 
 
 -- what comes of a text, by what comes of a stream over it
 module _ {W : Type 0} (Writes : Writers W) (r : Redactor) (done : Result (Unit {0}) StreamError) (left left' : Option (List ℕ)) (output output' : FromWrite W) where
-  pub outcome_by : OnOk done (RedactsText r left left' (bytes_held Writes output) (bytes_held Writes output'))
-      → BeginsText r left left' (bytes_held Writes output) (bytes_held Writes output')
+  pub outcome_by : OnOk done (RedactsText r left left' (output_bytes Writes output) (output_bytes Writes output'))
+      → BeginsText r left left' (output_bytes Writes output) (output_bytes Writes output')
       → output'.failures ≡ counted (is_write_fault done) output.failures
       → output'.empty_writes ≡ counted (is_write_of_nothing done) output.empty_writes
       → IfErr done IsStreamEnd → TextOutcome Writes r (reading_of done) left left' output output'
@@ -193,8 +193,8 @@ module _ {W R : Type 0} (Writes : Writers W) {Reads : Readers R} (work : Work) (
   pub file_input : is_input name ≡ true → TextOutcome Writes work.redactor result (bytes_left input) (bytes_left input') output output'
       → FileOutcome Writes work name result input input' output output'
   file_input is text = record {
-    redacted = λ done. of_input work.holds name (λ l l'. RedactsText work.redactor l l' (bytes_held Writes output) (bytes_held Writes output')) (bytes_left input) (bytes_left input') is (text.redacted done);
-    begun = of_input work.holds name (λ l l'. BeginsText work.redactor l l' (bytes_held Writes output) (bytes_held Writes output')) (bytes_left input) (bytes_left input') is text.begun;
+    redacted = λ done. of_input work.holds name (λ l l'. RedactsText work.redactor l l' (output_bytes Writes output) (output_bytes Writes output')) (bytes_left input) (bytes_left input') is (text.redacted done);
+    begun = of_input work.holds name (λ l l'. BeginsText work.redactor l l' (output_bytes Writes output) (output_bytes Writes output')) (bytes_left input) (bytes_left input') is text.begun;
     reason = may_be work name result text.reason;
     fails = text.fails;
   }
@@ -204,9 +204,9 @@ module _ {W R : Type 0} (Writes : Writers W) {Reads : Readers R} (work : Work) (
   file_opened is same left rest kept text =
       let alike : bytes_left input' ≡ bytes_left input = ap (λ (i : FromRead R Reads). bytes_left i) same in
       record {
-        redacted = λ done. of_folder work.holds name (λ l l'. RedactsText work.redactor l l' (bytes_held Writes output) (bytes_held Writes output')) (bytes_left input) (bytes_left input') is alike rest
+        redacted = λ done. of_folder work.holds name (λ l l'. RedactsText work.redactor l l' (output_bytes Writes output) (output_bytes Writes output')) (bytes_left input) (bytes_left input') is alike rest
             (known_text (work.holds name) left rest _ _ kept (text.redacted done));
-        begun = of_folder work.holds name (λ l l'. BeginsText work.redactor l l' (bytes_held Writes output) (bytes_held Writes output')) (bytes_left input) (bytes_left input') is alike rest
+        begun = of_folder work.holds name (λ l l'. BeginsText work.redactor l l' (output_bytes Writes output) (output_bytes Writes output')) (bytes_left input) (bytes_left input') is alike rest
             (known_begun (work.holds name) left rest _ _ kept text.begun);
         reason = may_be work name result text.reason;
         fails = text.fails;
@@ -216,7 +216,7 @@ module _ {W R : Type 0} (Writes : Writers W) {Reads : Readers R} (work : Work) (
   pub file_refused : is_input name ≡ false → work.refuses name reason → FileOutcome Writes work name (Ok (Some reason)) input input output output
   file_refused is refused = record {
     redacted = λ (done : Ok (Some reason) ≡ Ok None). absurd (cc);
-    begun = of_folder work.holds name (λ l l'. BeginsText work.redactor l l' (bytes_held Writes output) (bytes_held Writes output)) (bytes_left input) (bytes_left input) is refl (work.holds name) (begun_none work.redactor some (work.holds name) (bytes_held Writes output));
+    begun = of_folder work.holds name (λ l l'. BeginsText work.redactor l l' (output_bytes Writes output) (output_bytes Writes output)) (bytes_left input) (bytes_left input) is refl (work.holds name) (begun_none work.redactor some (work.holds name) (output_bytes Writes output));
     reason = inr refused;
     fails = record { write_failed = refl; took_nothing = refl; only = tt };
   }

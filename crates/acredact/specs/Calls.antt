@@ -7,7 +7,7 @@ use Rattle.aho_devices.specs.Counts.{counted}
 use Rattle.aho_devices.specs.declared.adapters.FromWrite.{FromWrite}
 use Rattle.aho_devices.specs.declared.device.Sink.{Ghosts as SinkGhosts}
 use Rattle.programs.specs.Names.{IsAmong, or_input}
-use Rattle.programs.specs.Streams.{bytes_held, bytes_left}
+use Rattle.programs.specs.Streams.{output_bytes, bytes_left}
 use Rattle.programs.specs.Telling.{Tells, TellsBytes, TellsSome}
 use Rattle.programs.specs.declared.errors.Errors.{Errors}
 use Rattle.programs.specs.declared.failure.Failure.{Failure as OtherFailure}
@@ -150,7 +150,7 @@ module _ {R : Type 0} {Reads : Readers R} {W : Type 0} (Writes : Writers W) wher
       pub between : Option (List ℕ)
       pub loaded : AreGiven (reading_by call) call.given secrets left between
       pub redacted : AreRedacted (work_by call secrets) (names_asked call.given) between (bytes_left streams'.input)
-          (bytes_held Writes streams.output) (bytes_held Writes streams'.output)
+          (output_bytes Writes streams.output) (output_bytes Writes streams'.output)
 
     -- all patterns were loaded, and of some first files the redaction or a beginning of it was written
     pub record BeginsFiles : Type 0 where
@@ -159,7 +159,7 @@ module _ {R : Type 0} {Reads : Readers R} {W : Type 0} (Writes : Writers W) wher
       pub loaded : AreGiven (reading_by call) call.given secrets left between
       pub lines : List (List ℕ)
       pub cut : AreCut (work_by call secrets) (names_asked call.given) lines between (bytes_left streams'.input)
-          (bytes_held Writes streams.output) (bytes_held Writes streams'.output)
+          (output_bytes Writes streams.output) (output_bytes Writes streams'.output)
 
     -- or nothing was written
     abbrev pub BeginsCall : Type 0

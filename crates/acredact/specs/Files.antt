@@ -13,7 +13,7 @@ use Rattle.aho_devices.specs.declared.adapters.FromWrite.{FromWrite}
 use Rattle.aho_devices.specs.declared.device.Sink.{Ghosts as SinkGhosts}
 use Rattle.programs.specs.Messages.{reason_text}
 use Rattle.programs.specs.Names.{name_bytes}
-use Rattle.programs.specs.Streams.{bytes_held, bytes_left}
+use Rattle.programs.specs.Streams.{output_bytes, bytes_left}
 use Rattle.programs.specs.Telling.{TellsBytes}
 use Rattle.programs.specs.declared.reason.Reason.{Reason}
 use Rattle.acredact.specs.Faults.{IsOutputEnd, IsReadReason}
@@ -119,8 +119,8 @@ pub record FailsByOutput {X W : Type 0} (result : Result X StreamError) (output 
 module _ {W : Type 0} (Writes : Writers W) where
   -- what comes of a text, by what a reader of it has left before and after: where no reason is answered it was read to its end
   pub record TextOutcome (r : Redactor) (result : Result (Option Reason) StreamError) (left left' : Option (List ℕ)) (output output' : FromWrite W) : Type 0 where
-    pub redacted : result ≡ Ok None → RedactsText r left left' (bytes_held Writes output) (bytes_held Writes output')
-    pub begun : BeginsText r left left' (bytes_held Writes output) (bytes_held Writes output')
+    pub redacted : result ≡ Ok None → RedactsText r left left' (output_bytes Writes output) (output_bytes Writes output')
+    pub begun : BeginsText r left left' (output_bytes Writes output) (output_bytes Writes output')
     pub reason : IfOk result (λ unread. IfSome unread IsReadReason)
     pub fails : FailsByOutput result output output'
 
@@ -128,8 +128,8 @@ module _ {W : Type 0} (Writes : Writers W) where
     -- what comes of the file of a name
     pub record FileOutcome (work : Work) (name : List ℕ) (result : Result (Option Reason) StreamError) (input input' : FromRead R Reads) (output output' : FromWrite W) : Type 0 where
       pub redacted : result ≡ Ok None
-          → RedactsName work name (bytes_left input) (bytes_left input') (bytes_held Writes output) (bytes_held Writes output')
-      pub begun : BeginsNamed work name (bytes_left input) (bytes_left input') (bytes_held Writes output) (bytes_held Writes output')
+          → RedactsName work name (bytes_left input) (bytes_left input') (output_bytes Writes output) (output_bytes Writes output')
+      pub begun : BeginsNamed work name (bytes_left input) (bytes_left input') (output_bytes Writes output) (output_bytes Writes output')
       pub reason : IfOk result (λ unread. IfSome unread (MayBeUnread work name))
       pub fails : FailsByOutput result output output'
 
@@ -137,7 +137,7 @@ module _ {W : Type 0} (Writes : Writers W) where
       -- this is written, and these lines are told
       abbrev pub Does : Streams R W E Reads → Streams R W E Reads → ((left left' held held' : Option (List ℕ)) → Type 0) → List (List ℕ) → Type 0
       Does streams streams' Written lines =
-          Written (bytes_left streams.input) (bytes_left streams'.input) (bytes_held Writes streams.output) (bytes_held Writes streams'.output)
+          Written (bytes_left streams.input) (bytes_left streams'.input) (output_bytes Writes streams.output) (output_bytes Writes streams'.output)
           × TellsBytes K streams.errors streams'.errors (concat lines)
 
       -- what comes of a file, where it is told if it was not read to its end; else nothing is told

@@ -5,7 +5,7 @@ use Rattle.aho_core.specs.Occurrence.{Occurrence}
 use Rattle.std.specs.declared.io.traits.Write.{Ghosts as Writers}
 use Rattle.aho_devices.specs.declared.adapters.FromWrite.{FromWrite}
 use Rattle.programs.specs.Answers.{BeginsMatches, Begun, PrintsMatches, line_of, lines_of}
-use Rattle.programs.specs.Streams.{Contents, WritesBeginning, bytes_held}
+use Rattle.programs.specs.Streams.{Contents, WritesBeginning, output_bytes}
 use Rattle.programs.specs.Asked.{Asked}
 use Rattle.programs.proofs.Beginnings.{beginning-more, beginning-whole}
 
@@ -15,7 +15,7 @@ module _ {W : Type 0} (Writes : Writers W) where
   begun-first AreMeant old new ms more meant begun = record {
     matches = ms ++ more;
     meant = meant;
-    begun = rw (flat_map-append line_of) (beginning-more (bytes_held Writes old) (bytes_held Writes new) (lines_of ms) (lines_of more) begun);
+    begun = rw (flat_map-append line_of) (beginning-more (output_bytes Writes old) (output_bytes Writes new) (lines_of ms) (lines_of more) begun);
   }
 
 pub begins-told : {asked : Asked} {bytes : Contents} {status : ℕ} → PrintsMatches bytes status asked → BeginsMatches bytes asked

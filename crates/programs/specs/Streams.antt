@@ -19,8 +19,8 @@ abbrev pub bytes_left : {R : Type 0} {Reads : Readers R} → FromRead R Reads �
 bytes_left {Reads = Reads} input = Reads.remaining input.device.reader
 
 -- the bytes that a writer holds, where it tells them
-abbrev pub bytes_held : {W : Type 0} → Writers W → FromWrite W → Option (List ℕ)
-bytes_held Writes output = Writes.contents output.device.writer
+abbrev pub output_bytes : {W : Type 0} → Writers W → FromWrite W → Option (List ℕ)
+output_bytes Writes output = Writes.contents output.device.writer
 
 -- those of an input and an output, each before and after
 abbrev pub contents : {R : Type 0} {Reads : Readers R} {W : Type 0}
@@ -28,18 +28,18 @@ abbrev pub contents : {R : Type 0} {Reads : Readers R} {W : Type 0}
 contents Writes input_old input_new output_old output_new = record {
   left_before = bytes_left input_old;
   left_after = bytes_left input_new;
-  held_before = bytes_held Writes output_old;
-  held_after = bytes_held Writes output_new;
+  held_before = output_bytes Writes output_old;
+  held_after = output_bytes Writes output_new;
 }
 
 module _ {W : Type 0} (Writes : Writers W) where
   -- these bytes are written and nothing else
   abbrev pub WritesBytes : FromWrite W → FromWrite W → List ℕ → Type 0
-  WritesBytes old new bytes = Appends (bytes_held Writes old) (bytes_held Writes new) bytes
+  WritesBytes old new bytes = Appends (output_bytes Writes old) (output_bytes Writes new) bytes
 
   -- a beginning of them is
   abbrev pub WritesBeginning : FromWrite W → FromWrite W → List ℕ → Type 0
-  WritesBeginning old new bytes = AppendsBeginning (bytes_held Writes old) (bytes_held Writes new) bytes
+  WritesBeginning old new bytes = AppendsBeginning (output_bytes Writes old) (output_bytes Writes new) bytes
 
 -- the reader was not called
 abbrev pub Unread : {R : Type 0} {Reads : Readers R} → FromRead R Reads → FromRead R Reads → Type 0

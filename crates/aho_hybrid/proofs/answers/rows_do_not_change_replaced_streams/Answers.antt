@@ -18,8 +18,8 @@ both : {R W : Type 0} (S : SourceGhosts R) (K : SinkGhosts W) (Of Other : Patter
     → ReplacesStream S K Of pieces source source' sink sink' → (result : Result (Unit {0}) StreamError) → OnOk result (ReplacesStream S K Other pieces other other' second second')
     → OnOk result (ReplacesAlike S K source source' other other' sink sink' second second')
 both S K Of Other pieces source source' other other' sink sink' second second' p of too one (Ok done) two = record {
-  one = record { given = one.given; gives = one.gives; };
-  two = record { given = two.given; gives = two.gives; };
+  one = record { given = one.given; gives = one.gives };
+  two = record { given = two.given; gives = two.gives };
   alike = λ same.
       let found = finds-exist p (plain_search one.given) None (omega arith) in (
         replaced one.given found.0 pieces,
@@ -33,4 +33,4 @@ both S K Of Other pieces source source' other other' sink sink' second second' p
 pub returns : goal.returns
 returns g c =
     let of = c.requires.of in
-    record { alike = both g.R.Source g.W.Sink _ _ (pieces_of c.args.replace_with.now) _ _ _ _ _ _ _ _ of.0 of.1 of.2 c.in_ok-replace_stream.ensures.leaves.replaced c.replace_stream-2.result c.replace_stream-2.ensures.leaves.replaced; }
+    record { alike = both g.R.Source g.W.Sink _ _ (pieces_of c.args.replace_with.now) _ _ _ _ _ _ _ _ of.0 of.1 of.2 c.in_ok-replace_stream.ensures.leaves.replaced c.replace_stream-2.result c.replace_stream-2.ensures.leaves.replaced }

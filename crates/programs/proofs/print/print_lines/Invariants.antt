@@ -2,13 +2,13 @@
 use Rattle.std.proofs.Common.{◌≡◌}
 use Rattle.std.specs.Io.KnownBytes.{Appends}
 use Rattle.programs.specs.Answers.{is_any, lines_of}
-use Rattle.programs.specs.Streams.{bytes_held}
+use Rattle.programs.specs.Streams.{output_bytes}
 use Rattle.programs.proofs.print.print_lines.Given as goal
 
 abbrev pub invariant-loop-found : goal.invariant-loop-found
 invariant-loop-found g l = record {
   can_next : (goal.iterator-loop-found g).can_next l.found-iterator;
   is_finite : (goal.iterator-loop-found g).is_finite l.found-iterator;
-  written : Appends (bytes_held g.W.Write l.initial.output) (bytes_held g.W.Write l.output) (lines_of l.yielded);
+  written : Appends (output_bytes g.W.Write l.initial.output) (output_bytes g.W.Write l.output) (lines_of l.yielded);
   told : l.any ≡ is_any l.yielded;
 }
