@@ -13,6 +13,8 @@ mod calls;
 #[cfg(test)]
 mod compiling;
 #[cfg(test)]
+mod covering;
+#[cfg(test)]
 mod errors;
 #[cfg(test)]
 mod hybrid;

@@ -185,6 +185,47 @@ fn a_packed_search_comes_before_the_first_bytes_of_words(rt: HostRuntime) -> Res
     Ok(())
 }
 
+/// The quickest prefilter of so many patterns of six bytes.
+fn quickest_of(
+    alloc: Global,
+    count: u8,
+    ignore_case: bool,
+) -> Result<Option<Prefilter>, AllocError> {
+    let mut words = Vec::new(alloc);
+    for number in 0..count {
+        words.push([number, b'a', b'b', b'c', b'd', b'e'])?;
+    }
+    let mut patterns: Vec<&[u8]> = Vec::new(alloc);
+    for word in &words {
+        patterns.push(word.as_slice())?;
+    }
+    Prefilter::quickest(alloc, ignore_case, patterns.as_slice())
+}
+
+#[test]
+fn a_strided_search_is_held_for_more_than_thirty_two(rt: HostRuntime) -> Result<(), Fail> {
+    let few = quickest_of(rt.alloc(), 32, false)?.expect(&rt, "a prefilter");
+    assert_same(&rt, few.memory_usage(), 0);
+    let both_cases = quickest_of(rt.alloc(), 33, true)?.expect(&rt, "a prefilter");
+    assert_same(&rt, both_cases.memory_usage(), 0);
+    let many = quickest_of(rt.alloc(), 33, false)?.expect(&rt, "a prefilter");
+    assert_same(&rt, many.memory_usage(), 8 * (99 + 64));
+    Ok(())
+}
+
+#[test]
+fn a_strided_search_stops_where_a_pattern_stands(rt: HostRuntime) -> Result<(), Fail> {
+    let held = quickest_of(rt.alloc(), 40, false)?.expect(&rt, "a prefilter");
+    let short = held.find_in(b"..\x07abcde", Span { start: 0, end: 8 });
+    assert_same(&rt, short.into_option(), Some(2));
+    let cut = held.find_in(b"..\x07abcde", Span { start: 0, end: 7 });
+    assert_same(&rt, cut.into_option(), None);
+    let long = b"......................................\x07abcde";
+    let found = held.find_in(long, Span { start: 1, end: 44 });
+    assert_same(&rt, found.into_option(), Some(38));
+    Ok(())
+}
+
 /// That the search of both cases answers alike with a packed search and by the plain program.
 fn look_at_answer(
     rt: &impl Abort,
