@@ -7,9 +7,8 @@ ghost use Rattle.aho_core.specs.Replacement.{pieces_of};
 ghost use Rattle.aho_core.specs.declared.error.MatchErrorKind.{MatchErrorKind};
 ghost use Rattle.aho_core.specs.declared.error.MatchErrorKind.TheVariants.{UnsupportedEmpty};
 ghost use Rattle.aho_core.specs.declared.search.Anchored.TheVariants.{No};
-ghost use Rattle.aho_devices.specs.Buffer.{capacity_for};
 ghost use Rattle.aho_devices.specs.Errors.{CountsErrors};
-ghost use Rattle.aho_stream.specs.After.{greatest_position, kept_for};
+ghost use Rattle.aho_stream.specs.After.{greatest_position};
 ghost use Rattle.aho_stream.specs.Iterators.{HasNotBegun, automaton_of};
 ghost use Rattle.aho_stream.specs.Starts.{IsFreshStart};
 ghost use Rattle.aho_stream.specs.StreamRun.{CanBegin, RefusesUntouched, RunsOver};
@@ -94,8 +93,6 @@ pub fn replace_stream<'a, A: Automaton, R: Source, W: Sink>(
     ensures errors { CountsErrors R.Source W.Sink
         source.old source.new sink.old sink.new result }
     ensures only { IfErr result IsStreamFault }
-    ensures fixed { start.entry.progress.buffer.size
-        ≡ capacity_for (kept_for (A.lengths start.entry.automaton.now)) }
 {
     let mut chunks = start.over(source);
     let replaced = replace_chunks(&mut chunks, sink, replace_with);
