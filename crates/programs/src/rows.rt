@@ -12,11 +12,10 @@ use aho_automaton::automaton::Automaton;
 use aho_corasick::noncontiguous::NFA;
 use aho_core::error::BuildError;
 use aho_hybrid::hybrid::{DEFAULT_BUDGET, Hybrid};
-use aho_prefilter::laws::held_serves_each_kind;
-use aho_prefilter::prefilter::{PackedBuilder, Prefilter};
+use aho_prefilter::prefilter::Prefilter;
 use std::alloc::{AllocError, Global};
 
-/// The prefilter of these patterns, which may be a packed search, if there is one.
+/// The prefilter of these patterns, which may be a packed or a strided search, if there is one.
 ///
 /// # Errors
 ///
@@ -29,12 +28,7 @@ pub fn prefilter_of(
     ensures of { (p : Patterns) → ArePatterns p ignore_case (pieces_of patterns.now)
         → IfOk result (λ held. IfSome held (λ prefilter. IsPrefilterOf prefilter p)) }
 {
-    held_serves_each_kind();
-    let mut builder = PackedBuilder::new(alloc, ignore_case);
-    for pattern in patterns {
-        builder.add(pattern)?;
-    }
-    builder.build()
+    Prefilter::quickest(alloc, ignore_case, patterns)
 }
 
 /// The automaton with rows of what an `NFA` of these patterns is of; none where it would have too many states.
