@@ -15,7 +15,7 @@ ghost use Rattle.std.specs.Process.{exit_status};
 ghost use Rattle.programs.specs.Answers.{PrintsIfDone, TellsLine, WritesIfDone};
 ghost use Rattle.programs.specs.Arguments.{IfGivenAsked, IfGivenReplacing, IfGivenWrong};
 ghost use Rattle.programs.specs.Failures.{HasStatus};
-ghost use Rattle.programs.specs.Streams.{contents, Unread, Unwritten};
+ghost use Rattle.programs.specs.Streams.{Unread, Unwritten};
 
 use aho_devices::adapters::{FromRead, FromWrite};
 use programs::arguments::arguments;
@@ -59,10 +59,10 @@ fn exit_code<R: Read, W: Write, E: Write>(
 
     // Where there are arguments, the status is that of the run.
     ensures usage { IfGivenWrong given (exit_status result ≡ 2) }
-    ensures prints { IfGivenAsked given (PrintsIfDone
-        (contents W.Write input.old input.new output.old output.new) (exit_status result)) }
-    ensures replaces { IfGivenReplacing given (WritesIfDone
-        (contents W.Write input.old input.new output.old output.new) (exit_status result)) }
+    ensures prints { IfGivenAsked given (PrintsIfDone W.Write
+        input.old input.new output.old output.new (exit_status result)) }
+    ensures replaces { IfGivenReplacing given (WritesIfDone W.Write
+        input.old input.new output.old output.new (exit_status result)) }
     ensures no_status_1 { IfGivenReplacing given (λ _.
         exit_status result < 2 → exit_status result ≡ 0) }
     ensures flushed { exit_status result < 2 → output.new.device.flushed ≡ true }

@@ -15,7 +15,7 @@ use Rattle.aho_core.specs.declared.error.stream.StreamError.TheVariants.{Match, 
 use Rattle.aho_devices.specs.Counts.{AppendsBeginning, counted}
 use Rattle.aho_devices.specs.Refusals.{IsWriteRefusal, is_write_fault, is_write_of_nothing}
 use Rattle.aho_devices.specs.declared.device.Sink.{Ghosts as SinkGhosts}
-use Rattle.programs.specs.Telling.{NoneFailed, OneFailed, Tells, TellsBytes, TellsSome, WritesParts}
+use Rattle.programs.specs.Telling.{NoneFailed, OneFailed, Tells, TellsBytes, TellsSome, TakesBytes}
 use Rattle.programs.specs.declared.errors.Errors.{Errors}
 use Rattle.programs.proofs.Beginnings.{beginning-later, beginning-more, beginning-whole}
 
@@ -70,7 +70,7 @@ module _ {E : Type 0} (K : SinkGhosts E) where
   }
 
   -- all are
-  pub first-all : (old new : E) (parts : List (List ℕ)) → WritesFirst old new parts [] → WritesParts K old new (concat parts) (Ok tt)
+  pub first-all : (old new : E) (parts : List (List ℕ)) → WritesFirst old new parts [] → TakesBytes K old new (concat parts) (Ok tt)
   first-all old new parts so_far =
       let all : Appends (K.taken old) (K.taken new) (concat parts) =
       subst (λ l. Appends (K.taken old) (K.taken new) (concat l)) (sym (so_far.cut ∙ append-nil so_far.first)) so_far.written in
@@ -86,7 +86,7 @@ module _ {E : Type 0} (K : SinkGhosts E) where
   pub first-fails : (old mid new : E) (parts : List (List ℕ)) (part : List ℕ) (rest : List (List ℕ)) (error : StreamError) → WritesFirst old mid parts (part ∷ rest)
       → AppendsBeginning (K.taken mid) (K.taken new) part → IsWriteRefusal error
       → K.failures new ≡ counted (is_write_fault {A = Unit {0}} (Err error)) (K.failures mid) → K.empty_writes new ≡ counted (is_write_of_nothing {A = Unit {0}} (Err error)) (K.empty_writes mid)
-      → WritesParts K old new (concat parts) (Err error)
+      → TakesBytes K old new (concat parts) (Err error)
   first-fails old mid new parts part rest error so_far begun of failures empty_writes =
       let same : concat parts ≡ concat so_far.first ++ (part ++ concat rest) = ap concat so_far.cut ∙ concat-append so_far.first (part ∷ rest) in
       record {
@@ -120,7 +120,7 @@ module _ {E : Type 0} (K : SinkGhosts E) where
   }
 
   -- all is written
-  pub tells-whole : (old : Errors E) (sink : E) (bytes : List ℕ) → old.failed ≡ false → WritesParts K old.sink sink bytes (Ok tt) → TellsBytes K old (record old { sink = sink }) bytes
+  pub tells-whole : (old : Errors E) (sink : E) (bytes : List ℕ) → old.failed ≡ false → TakesBytes K old.sink sink bytes (Ok tt) → TellsBytes K old (record old { sink = sink }) bytes
   tells-whole old sink bytes going written = record {
     begun = written.begun;
     whole = λ is. written.whole;
@@ -130,7 +130,7 @@ module _ {E : Type 0} (K : SinkGhosts E) where
   }
 
   -- or a beginning
-  pub tells-begun : (old : Errors E) (sink : E) (bytes : List ℕ) (error : StreamError) → old.failed ≡ false → WritesParts K old.sink sink bytes (Err error)
+  pub tells-begun : (old : Errors E) (sink : E) (bytes : List ℕ) (error : StreamError) → old.failed ≡ false → TakesBytes K old.sink sink bytes (Err error)
       → TellsBytes K old (record old { sink = sink; failed = true }) bytes
   tells-begun old sink bytes error going written = record {
     begun = written.begun;
@@ -199,6 +199,6 @@ head-parts program name line = append_assoc program (codes ": ") (name ++ line)
 
 -- an error that is handed on is that of the write
 pub handed-on : {E : Type 0} (K : SinkGhosts E) (old new : E) (bytes : List ℕ) (result : Result Unit StreamError) (error : StreamError) → IsErrAnd result (λ e. e ≡ error)
-    → WritesParts K old new bytes (Err error) → WritesParts K old new bytes result
+    → TakesBytes K old new bytes (Err error) → TakesBytes K old new bytes result
 handed-on K old new bytes (Ok x) error is written = absurd is
-handed-on K old new bytes (Err e) error is written = subst (λ (e : StreamError). WritesParts K old new bytes (Err e)) (sym is) written
+handed-on K old new bytes (Err e) error is written = subst (λ (e : StreamError). TakesBytes K old new bytes (Err e)) (sym is) written

@@ -1,5 +1,5 @@
 -- What a run answers.
-use Rattle.std.specs.Prelude.{◌≡◌, ℕ, Bool, true, false, ◌+◌, ◌<◌, ◌≤◌, List, [], ◌∷◌, ◌++◌, Option, None, length, map, decimal, codes, if◌then◌else◌}
+use Rattle.std.specs.Prelude.{◌≡◌, ◌⊎◌, ℕ, Bool, true, false, ◌+◌, ◌<◌, ◌≤◌, List, [], ◌∷◌, ◌++◌, Option, None, Result, IfErr, IfOk, IfSome, OnOk, length, map, decimal, codes, if◌then◌else◌}
 use Rattle.std.specs.Io.{StartsWith}
 use Rattle.std.specs.Io.KnownBytes.{Appends, Consumes, IsAtEnd}
 use Rattle.std.specs.List.{flat_map}
@@ -16,7 +16,7 @@ use Rattle.aho_stream.specs.Replacing.{MayBe, piece_for, replaced_up_to}
 use Rattle.aho_devices.specs.Counts.{AppendsBeginning}
 use Rattle.aho_devices.specs.declared.adapters.FromRead.{FromRead}
 use Rattle.aho_devices.specs.declared.adapters.FromWrite.{FromWrite}
-use Rattle.programs.specs.Asked.{Asked, Replacing, asked_patterns, patterns_to_replace}
+use Rattle.programs.specs.Asked.{Asked, Builds, BuildsReplacing, Replacing, asked_patterns, patterns_to_replace}
 use Rattle.programs.specs.Failures.{HasStatus, line_of_failure, LeavesPrinting, LeavesReplacing}
 use Rattle.programs.specs.Streams.{Contents, contents, Unread, Unwritten, WritesBeginning, WritesBytes}
 use Rattle.programs.specs.declared.command.Task.{Task}
@@ -70,6 +70,13 @@ module _ {W : Type 0} (Writes : Writers W) where
     pub matches : List Occurrence
     pub meant : AreMeant matches
     pub begun : WritesBeginning Writes old new (lines_of matches)
+
+  -- so is it of whatever patterns an automaton is of
+  abbrev pub PrintsFor : (IsOf : Patterns → Type 0) → (AreMeant : Patterns → List Occurrence → Type 0) → FromWrite W → FromWrite W → Result Bool Failure → Type 0
+  PrintsFor IsOf AreMeant old new result = (p : Patterns) → IsOf p → IfOk result (Prints (AreMeant p) old new)
+
+  abbrev pub BegunFor : (IsOf : Patterns → Type 0) → (AreMeant : Patterns → List Occurrence → Type 0) → FromWrite W → FromWrite W → Type 0
+  BegunFor IsOf AreMeant old new = (p : Patterns) → IsOf p → Begun (AreMeant p) old new
 
   -- the line of a failure is written: all of it where no write failed or took nothing, and else a beginning of it
   pub record TellsLine (old new : FromWrite W) (failure : Failure) : Type 0 where
@@ -136,25 +143,54 @@ pub record WritesMost (bytes : Contents) (asked : Replacing) : Type 0 where
       → AreFinds (patterns_to_replace asked) (plain_search given) None ms
       → Appends bytes.held_before bytes.held_after (replaced_up_to given place 0 ms (piece_for asked.pieces))
 
--- the matches are printed where the status tells of no failure
-abbrev pub PrintsIfDone : Contents → ℕ → Asked → Type 0
-PrintsIfDone bytes status asked = status < 2 → PrintsMatches bytes status asked
+-- nothing was read, or nothing that is asked for is refused by the build
+abbrev pub BuildsFirst : {R : Type 0} {Reads : Readers R} → FromRead R Reads → FromRead R Reads → Asked → Type 0
+BuildsFirst old new asked = Unread old new ⊎ Builds asked
 
--- the replacement is written where the status tells of no failure
-abbrev pub WritesIfDone : Contents → ℕ → Replacing → Type 0
-WritesIfDone bytes status asked = status ≡ 0 → WritesReplacement bytes asked
+-- nothing was read, or no pattern is refused by the build
+abbrev pub BuildsFirstToReplace : {R : Type 0} {Reads : Readers R} → FromRead R Reads → FromRead R Reads → Replacing → Type 0
+BuildsFirstToReplace old new asked = Unread old new ⊎ BuildsReplacing asked
 
-module _ {R : Type 0} {Reads : Readers R} {W : Type 0} (Writes : Writers W) where
+-- of an input and an output, each before a call and after it
+module _ {R : Type 0} {Reads : Readers R} {W : Type 0} (Writes : Writers W) (input_old input_new : FromRead R Reads) (output_old output_new : FromWrite W) where
+  -- the matches are printed, and this says whether there is one
+  abbrev pub PrintsAnswer : Bool → Asked → Type 0
+  PrintsAnswer any = PrintsMatches (contents Writes input_old input_new output_old output_new) (status_of any)
+
+  -- the matches are printed where the status tells of no failure
+  abbrev pub PrintsIfDone : ℕ → Asked → Type 0
+  PrintsIfDone status asked = status < 2 → PrintsMatches (contents Writes input_old input_new output_old output_new) status asked
+
+  -- nothing is written, or a beginning of the lines of the matches
+  abbrev pub BeginsIfWritten : Asked → Type 0
+  BeginsIfWritten asked = Unwritten output_old output_new ⊎ BeginsMatches (contents Writes input_old input_new output_old output_new) asked
+
   -- what a failure leaves where matches are asked for
-  abbrev pub LeavesMatches : Asked → FromRead R Reads → FromRead R Reads → FromWrite W → FromWrite W → Failure → Type 0
-  LeavesMatches asked input_old input_new output_old output_new = LeavesPrinting
+  abbrev pub LeavesMatches : Asked → Failure → Type 0
+  LeavesMatches asked = LeavesPrinting
       (Unread input_old input_new)
       (Unwritten output_old output_new)
       (BeginsMatches (contents Writes input_old input_new output_old output_new) asked)
 
+  -- a failure leaves that, where there is one
+  abbrev pub LeavesIfNotPrinted : {A : Type 0} → Result A Failure → Asked → Type 0
+  LeavesIfNotPrinted result asked = IfErr result (LeavesMatches asked)
+
+  -- the replacement is written where the status tells of no failure
+  abbrev pub WritesIfDone : ℕ → Replacing → Type 0
+  WritesIfDone status asked = status ≡ 0 → WritesReplacement (contents Writes input_old input_new output_old output_new) asked
+
+  -- the replacement is written where there is no failure
+  abbrev pub WritesIfOk : {A : Type 0} → Result A Failure → Replacing → Type 0
+  WritesIfOk result asked = OnOk result (WritesReplacement (contents Writes input_old input_new output_old output_new) asked)
+
   -- what a failure leaves where a replacement is asked for
-  abbrev pub LeavesReplacement : Replacing → FromRead R Reads → FromRead R Reads → FromWrite W → FromWrite W → Failure → Type 0
-  LeavesReplacement asked input_old input_new output_old output_new = LeavesReplacing
+  abbrev pub LeavesReplacement : Replacing → Failure → Type 0
+  LeavesReplacement asked = LeavesReplacing
       (Unread input_old input_new × Unwritten output_old output_new)
       (BeginsReplacement (contents Writes input_old input_new output_old output_new) asked)
       (WritesMost (contents Writes input_old input_new output_old output_new) asked)
+
+  -- a failure leaves that, where there is one
+  abbrev pub LeavesIfNotReplaced : {A : Type 0} → Result A Failure → Replacing → Type 0
+  LeavesIfNotReplaced result asked = IfErr result (LeavesReplacement asked)

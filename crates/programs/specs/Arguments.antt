@@ -1,5 +1,6 @@
 -- What the arguments, those after the program's name, ask for.
-use Rattle.std.specs.Prelude.{◌≡◌, ℕ, ◌%◌, ◌==◌, ◌||◌, not, true, false, List, [], ◌∷◌, Option, Some, None, codes, length, map, String, string_bytes, Vec, Result, IfOk, option_and_then, if◌then◌else◌}
+use Rattle.std.specs.Prelude.{◌≡◌, ℕ, ◌%◌, ◌==◌, ◌||◌, not, true, false, List, [], ◌∷◌, Option, Some, None, codes, length, map, String, string_bytes, Vec, Result, IfOk, option_and_then, option_map, if◌then◌else◌}
+use Rattle.std.specs.Borrow.{Bor}
 use Rattle.std.specs.Str.{bytes_eq}
 use Rattle.aho_core.specs.declared.search.MatchKind.{MatchKind}
 use Rattle.aho_core.specs.declared.search.MatchKind.TheVariants.{Standard, LeftmostFirst, LeftmostLongest}
@@ -54,6 +55,10 @@ module _ {Z : Type 0} where
   -- the bytes of each argument
   abbrev pub texts : List (String Z) → List (List ℕ)
   texts arguments = map string_bytes arguments
+
+  -- some pairs of arguments ask to replace this: none where there are none
+  abbrev pub PairsAskFor : Option (Bor (List (String Z))) → Option Replacing → Type 0
+  PairsAskFor pairs asked = option_map (λ pairs. replacing_for (texts pairs.now)) pairs ≡ asked
 
   -- what holds of the matches that the arguments ask for, where they ask for some
   abbrev pub IfAsked : List (String Z) → (Asked → Type 0) → Type 0

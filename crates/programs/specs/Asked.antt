@@ -1,5 +1,5 @@
 -- What is asked for: which matches of which patterns, and the settings of the automaton's build.
-use Rattle.std.specs.Prelude.{◌≡◌, ℕ, Bool, false, List, [], ◌∷◌, None, map, string_bytes}
+use Rattle.std.specs.Prelude.{◌≡◌, ℕ, Bool, false, List, [], ◌∷◌, Option, None, map, option_map, string_bytes}
 use Rattle.aho_core.specs.Patterns.{Patterns}
 use Rattle.aho_core.specs.declared.search.MatchKind.{MatchKind}
 use Rattle.aho_core.specs.declared.search.MatchKind.TheVariants.{Standard}
@@ -19,6 +19,10 @@ pub record Asked : Type 0 where
 abbrev pub asked_for : Request → Asked
 asked_for request = record { task = request.task; patterns = map string_bytes request.patterns.now }
 
+-- a request asks for this: none where nothing is asked for
+abbrev pub AsksFor : Option Request → Option Asked → Type 0
+AsksFor request asked = option_map asked_for request ≡ asked
+
 -- overlapping search is that of the kind `Standard`, and of letters as they are
 abbrev pub kind_of : Task → MatchKind
 kind_of (Find kind ignore_case) = kind
@@ -30,6 +34,10 @@ ignores_case Overlap = false
 
 abbrev pub asked_patterns : Asked → Patterns
 asked_patterns asked = record { words = asked.patterns; kind = kind_of asked.task; ignore_case = ignores_case asked.task }
+
+-- the patterns of a request
+abbrev pub request_patterns : Request → Patterns
+request_patterns request = asked_patterns (asked_for request)
 
 -- their kind and case rule; all else is as a new builder has it
 abbrev pub settings_for : Task → Settings
@@ -71,6 +79,10 @@ replacing_for arguments = record { patterns = at_even arguments; pieces = at_odd
 -- replacement is that of the kind `Standard`, and of letters as they are
 abbrev pub patterns_to_replace : Replacing → Patterns
 patterns_to_replace asked = standard_patterns false asked.patterns
+
+-- what holds of each replacement by these pieces of the patterns that are searched for
+abbrev pub OfReplacing : (AreSearched : Patterns → Type 0) → List (List ℕ) → (Replacing → Type 0) → Type 0
+OfReplacing AreSearched pieces Holds = (asked : Replacing) → asked.pieces ≡ pieces → AreSearched (patterns_to_replace asked) → Holds asked
 
 -- no pattern is refused by the build
 abbrev pub BuildsReplacing : Replacing → Type 0

@@ -25,6 +25,10 @@ head_by program name line = program ++ (codes ": " ++ (name_before name ++ line_
 abbrev pub message_by : List ℕ → Message → List ℕ
 message_by program m = head_by program m.name m.line ++ (m.cause ++ codes "\n")
 
+-- the line of such a message, from its parts
+abbrev pub message_of : List ℕ → Option (List ℕ) → Option ℕ → List ℕ → List ℕ
+message_of program name line cause = message_by program (record { name = name; line = line; cause = cause })
+
 -- why a call of the system failed, as it is told
 abbrev pub reason_text : Reason → List ℕ
 reason_text NotFound = codes "No such file or directory"

@@ -2,7 +2,7 @@
 use Rattle.std.specs.Prelude.{◌≡◌, ℕ, List, Option}
 use Rattle.std.specs.declared.io.traits.Read.{Ghosts as Readers}
 use Rattle.std.specs.declared.io.traits.Write.{Ghosts as Writers}
-use Rattle.std.specs.Io.KnownBytes.{Appends}
+use Rattle.std.specs.Io.KnownBytes.{Appends, Consumes, Keeps}
 use Rattle.aho_devices.specs.Counts.{AppendsBeginning}
 use Rattle.aho_devices.specs.declared.adapters.FromRead.{FromRead}
 use Rattle.aho_devices.specs.declared.adapters.FromWrite.{FromWrite}
@@ -37,9 +37,17 @@ module _ {W : Type 0} (Writes : Writers W) where
   abbrev pub WritesBytes : FromWrite W → FromWrite W → List ℕ → Type 0
   WritesBytes old new bytes = Appends (output_bytes Writes old) (output_bytes Writes new) bytes
 
+  -- nothing is
+  abbrev pub WritesNothing : FromWrite W → FromWrite W → Type 0
+  WritesNothing old new = Keeps (output_bytes Writes old) (output_bytes Writes new)
+
   -- a beginning of them is
   abbrev pub WritesBeginning : FromWrite W → FromWrite W → List ℕ → Type 0
   WritesBeginning old new bytes = AppendsBeginning (output_bytes Writes old) (output_bytes Writes new) bytes
+
+-- the reader gave these bytes
+abbrev pub GivesBytes : {R : Type 0} {Reads : Readers R} → FromRead R Reads → FromRead R Reads → List ℕ → Type 0
+GivesBytes old new bytes = Consumes (bytes_left old) (bytes_left new) bytes
 
 -- the reader was not called
 abbrev pub Unread : {R : Type 0} {Reads : Readers R} → FromRead R Reads → FromRead R Reads → Type 0

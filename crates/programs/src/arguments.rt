@@ -2,6 +2,8 @@
 
 ghost use Rattle.std.specs.IoError.{error_kind};
 ghost use Rattle.std.specs.Prelude.{◌≢◌, ◌≡◌};
+ghost use Rattle.std.specs.declared.io.ErrorKind.TheVariants.{OutOfMemory as NoMemory};
+ghost use Rattle.programs.specs.declared.failure.Failure.TheVariants.{OutOfMemory, Usage};
 
 use crate::failure::Failure;
 use std::alloc::{Alloc, Global};
@@ -28,8 +30,8 @@ pub fn arguments<R: Env + Alloc<A = Global>>(rt: &R) -> Result<Vec<String>, Fail
 
 /// Why there are no arguments: memory runs out, or one of them is not UTF-8, and such arguments are wrong.
 fn failure_of_arguments(error: &io::Error) -> Failure
-    ensures memory { error_kind error.now ≡ ErrorKind.OutOfMemory → result ≡ Failure.OutOfMemory }
-    ensures other { error_kind error.now ≢ ErrorKind.OutOfMemory → result ≡ Failure.Usage }
+    ensures memory { error_kind error.now ≡ NoMemory → result ≡ OutOfMemory }
+    ensures other { error_kind error.now ≢ NoMemory → result ≡ Usage }
 {
     match error.kind() {
         ErrorKind::OutOfMemory => Failure::OutOfMemory,

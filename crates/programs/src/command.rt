@@ -1,8 +1,8 @@
 //! What the arguments of a call of `acfind` ask for. Those of `acdraw` are read as those behind `find`.
 
-ghost use Rattle.std.specs.Prelude.{◌≡◌, ◌%◌, IfSome, length, option_map};
-ghost use Rattle.programs.specs.Asked.{asked_for, ignores_case, kind_of, replacing_for};
-ghost use Rattle.programs.specs.Arguments.{kind_by, patterns_by, cased_by, find_by, asked_by, replacing_by, texts};
+ghost use Rattle.std.specs.Prelude.{◌≡◌, ◌%◌, IfSome, length};
+ghost use Rattle.programs.specs.Asked.{ignores_case, kind_of, AsksFor};
+ghost use Rattle.programs.specs.Arguments.{kind_by, patterns_by, cased_by, find_by, asked_by, replacing_by, texts, PairsAskFor};
 
 use aho_core::search::MatchKind;
 
@@ -53,7 +53,7 @@ pub struct Request<'a> {
 
 /// Which matches the arguments after the program's name ask to print: none where they ask for something else, or are wrong.
 pub fn parse(arguments: &[String]) -> Option<Request<'_>>
-    ensures asked { option_map asked_for result ≡ asked_by (texts arguments.now) }
+    ensures asked { AsksFor result (asked_by (texts arguments.now)) }
 {
     let (command, rest) = arguments.split_first()?;
     match command.as_str() {
@@ -65,7 +65,7 @@ pub fn parse(arguments: &[String]) -> Option<Request<'_>>
 
 /// KIND [-i] PATTERN..: what is behind `find`, and all the arguments of `acdraw`.
 pub fn parse_find(arguments: &[String]) -> Option<Request<'_>>
-    ensures asked { option_map asked_for result ≡ find_by (texts arguments.now) }
+    ensures asked { AsksFor result (find_by (texts arguments.now)) }
 {
     let (argument, rest) = arguments.split_first()?;
     let kind = parse_kind(argument.as_str())?;
@@ -86,7 +86,7 @@ pub fn parse_kind(argument: &str) -> Option<MatchKind>
 
 /// [-i] PATTERN..
 fn parse_cased(kind: MatchKind, arguments: &[String]) -> Option<Request<'_>>
-    ensures asked { option_map asked_for result ≡ cased_by kind (texts arguments.now) }
+    ensures asked { AsksFor result (cased_by kind (texts arguments.now)) }
 {
     let (first, rest) = arguments.split_first()?;
     let ignore_case = first.as_str() == "-i";
@@ -96,8 +96,7 @@ fn parse_cased(kind: MatchKind, arguments: &[String]) -> Option<Request<'_>>
 
 /// PATTERN..
 fn parse_patterns(task: Task, arguments: &[String]) -> Option<Request<'_>>
-    ensures asked { option_map asked_for result
-        ≡ patterns_by task (texts arguments.now) }
+    ensures asked { AsksFor result (patterns_by task (texts arguments.now)) }
 {
     if arguments.is_empty() {
         return None;
@@ -111,8 +110,7 @@ fn parse_patterns(task: Task, arguments: &[String]) -> Option<Request<'_>>
 /// The patterns that the arguments after the program's name ask to replace, each followed by what is written in its place: none
 /// where they ask for something else, or are wrong.
 pub fn parse_replace(arguments: &[String]) -> Option<&[String]>
-    ensures asked { option_map (λ pairs. replacing_for (texts pairs.now)) result
-        ≡ replacing_by (texts arguments.now) }
+    ensures asked { PairsAskFor result (replacing_by (texts arguments.now)) }
     ensures even { IfSome result (λ pairs. length pairs.now % 2 ≡ 0) }
 {
     let (command, pairs) = arguments.split_first()?;

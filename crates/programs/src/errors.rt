@@ -1,12 +1,11 @@
 //! Standard error of a program, and the messages that are written to it.
 
-ghost use Rattle.std.specs.List.{concat};
-ghost use Rattle.std.specs.Prelude.{◌≡◌, ◌++◌, None, Some, codes, false, option_map};
-ghost use Rattle.aho_core.specs.Replacement.{pieces_of};
+ghost use Rattle.std.specs.Prelude.{◌≡◌, None, Some, codes, false};
 ghost use Rattle.aho_core.specs.Texts.{build_error_text, match_error_text};
 ghost use Rattle.programs.specs.Failures.{failure_text, line_of_failure};
-ghost use Rattle.programs.specs.Messages.{head_by, line_before, message_by, name_before, reason_text};
-ghost use Rattle.programs.specs.Telling.{TellsBytes};
+ghost use Rattle.programs.specs.Messages.{head_by, line_before, message_of, name_before, reason_text};
+ghost use Rattle.programs.specs.Names.{given_name};
+ghost use Rattle.programs.specs.Telling.{build_error_line, all_bytes, search_error_line, TellsBytes};
 
 use crate::failure::Failure;
 use crate::parts::{MAX_DIGITS, digits_of, write_build_line, write_parts, write_search_line};
@@ -46,7 +45,7 @@ impl<'c, E: Sink> Errors<'c, E> {
 
     /// Writes these parts, one after another.
     pub fn write(&mut self, parts: &[&[u8]])
-        ensures told { TellsBytes E.Sink self.old self.new (concat (pieces_of parts.now)) }
+        ensures told { TellsBytes E.Sink self.old self.new (all_bytes parts.now) }
     {
         if self.failed {
             return;
@@ -60,11 +59,8 @@ impl<'c, E: Sink> Errors<'c, E> {
     /// Writes a message as a line: the name of the program, what is told of, its line there, and the cause. The name and the line
     /// are left out where there is none.
     pub fn tell(&mut self, program: &[u8], name: Option<&[u8]>, line: Option<u64>, cause: &[u8])
-        ensures told { TellsBytes E.Sink self.old self.new (message_by program.now (record {
-          name = option_map (λ name. name.now) name.entry;
-          line = line;
-          cause = cause.now;
-        })) }
+        ensures told { TellsBytes E.Sink self.old self.new
+            (message_of program.now (given_name name.entry) line cause.now) }
     {
         self.begin(program, name, line);
         self.write(&[cause, b"\n"]);
@@ -78,11 +74,8 @@ impl<'c, E: Sink> Errors<'c, E> {
         line: Option<u64>,
         error: &BuildError,
     )
-        ensures told { TellsBytes E.Sink self.old self.new (message_by program.now (record {
-          name = option_map (λ name. name.now) name.entry;
-          line = line;
-          cause = build_error_text error.now;
-        })) }
+        ensures told { TellsBytes E.Sink self.old self.new
+            (message_of program.now (given_name name.entry) line (build_error_text error.now)) }
     {
         self.begin(program, name, line);
         self.write_build(error);
@@ -90,11 +83,8 @@ impl<'c, E: Sink> Errors<'c, E> {
 
     /// Writes as such a message why a search is refused.
     pub fn tell_search(&mut self, program: &[u8], name: Option<&[u8]>, error: &MatchError)
-        ensures told { TellsBytes E.Sink self.old self.new (message_by program.now (record {
-          name = option_map (λ name. name.now) name.entry;
-          line = None;
-          cause = match_error_text error.now;
-        })) }
+        ensures told { TellsBytes E.Sink self.old self.new
+            (message_of program.now (given_name name.entry) None (match_error_text error.now)) }
     {
         self.begin(program, name, None);
         self.write_search(error);
@@ -103,11 +93,7 @@ impl<'c, E: Sink> Errors<'c, E> {
     /// Writes as such a message why the output cannot be written, as it is noted.
     pub fn tell_unwritten(&mut self, program: &[u8])
         ensures told { (reason : Reason) × TellsBytes E.Sink self.old self.new
-            (message_by program.now (record {
-              name = Some (codes "write error");
-              line = None;
-              cause = reason_text reason;
-            })) }
+            (message_of program.now (Some (codes "write error")) None (reason_text reason)) }
     {
         let reason = match self.noted.get() {
             Some(reason) => reason,
@@ -123,11 +109,8 @@ impl<'c, E: Sink> Errors<'c, E> {
 
     /// Writes as such a message why a call answers nothing.
     pub fn tell_failure(&mut self, program: &[u8], failure: &Failure)
-        ensures told { TellsBytes E.Sink self.old self.new (message_by program.now (record {
-          name = None;
-          line = None;
-          cause = failure_text failure.now;
-        })) }
+        ensures told { TellsBytes E.Sink self.old self.new
+            (message_of program.now None None (failure_text failure.now)) }
     {
         self.begin(program, None, None);
         self.write_failure(failure);
@@ -136,7 +119,7 @@ impl<'c, E: Sink> Errors<'c, E> {
     /// Writes what stands before the cause of a message.
     fn begin(&mut self, program: &[u8], name: Option<&[u8]>, line: Option<u64>)
         ensures told { TellsBytes E.Sink self.old self.new
-            (head_by program.now (option_map (λ name. name.now) name.entry) line) }
+            (head_by program.now (given_name name.entry) line) }
     {
         self.write(&[program, b": "]);
         self.write_name(name);
@@ -146,7 +129,7 @@ impl<'c, E: Sink> Errors<'c, E> {
     /// Writes what a message tells of, if it does.
     fn write_name(&mut self, name: Option<&[u8]>)
         ensures told { TellsBytes E.Sink self.old self.new
-            (name_before (option_map (λ name. name.now) name.entry)) }
+            (name_before (given_name name.entry)) }
     {
         match name {
             Some(name) => self.write(&[name, b": "]),
@@ -168,7 +151,7 @@ impl<'c, E: Sink> Errors<'c, E> {
     /// Writes why an automaton is refused, and a line end.
     fn write_build(&mut self, error: &BuildError)
         ensures told { TellsBytes E.Sink self.old self.new
-            (build_error_text error.now ++ codes "\n") }
+            (build_error_line error.now) }
     {
         if self.failed {
             return;
@@ -182,7 +165,7 @@ impl<'c, E: Sink> Errors<'c, E> {
     /// Writes why a search is refused, and a line end.
     fn write_search(&mut self, error: &MatchError)
         ensures told { TellsBytes E.Sink self.old self.new
-            (match_error_text error.now ++ codes "\n") }
+            (search_error_line error.now) }
     {
         if self.failed {
             return;

@@ -39,7 +39,7 @@ pub enum Failure {
 impl Failure {
     ghost use Rattle.std.specs.Fmt.InlineText.{inline_text};
     ghost use Rattle.programs.specs.Failures.{status_of_failure, line_of_failure};
-    ghost use Rattle.programs.specs.Telling.{WritesParts};
+    ghost use Rattle.programs.specs.Telling.{TakesBytes};
 
     /// The exit status: 3 where a device fails, and else 2.
     pub fn status(&self) -> u8
@@ -61,7 +61,7 @@ impl Failure {
     ///
     /// A write failed or took no byte. A beginning of the line was written then.
     pub fn write_line<S: Sink>(&self, sink: &mut S) -> Result<(), StreamError>
-        ensures written { WritesParts S.Sink sink.old sink.new (line_of_failure self.now) result }
+        ensures written { TakesBytes S.Sink sink.old sink.new (line_of_failure self.now) result }
     {
         match self {
             Failure::Usage => write_parts(sink, &[USAGE, b"\n"]),

@@ -1,10 +1,8 @@
 //! Writing a line that is made of parts, and the lines of refused builds and searches.
 
-ghost use Rattle.std.specs.List.{concat};
-ghost use Rattle.std.specs.Prelude.{◌≡◌, ◌++◌, codes, decimal};
-ghost use Rattle.aho_core.specs.Replacement.{pieces_of};
-ghost use Rattle.aho_core.specs.Texts.{build_error_text, kind_name, match_error_text};
-ghost use Rattle.programs.specs.Telling.{WritesParts};
+ghost use Rattle.std.specs.Prelude.{◌≡◌, decimal};
+ghost use Rattle.aho_core.specs.Texts.{kind_name};
+ghost use Rattle.programs.specs.Telling.{build_error_line, all_bytes, search_error_line, TakesBytes};
 
 use aho_core::error::{BuildError, MatchError, MatchErrorKind, StreamError};
 use aho_core::search::MatchKind;
@@ -18,7 +16,7 @@ pub(crate) const MAX_DIGITS: usize = 20;
 /// Writes these parts, one after another. The first write that fails or takes no byte is the error, and a beginning was
 /// written then.
 pub fn write_parts<S: Sink>(sink: &mut S, parts: &[&[u8]]) -> Result<(), StreamError>
-    ensures written { WritesParts S.Sink sink.old sink.new (concat (pieces_of parts.now)) result }
+    ensures written { TakesBytes S.Sink sink.old sink.new (all_bytes parts.now) result }
 {
     let mut rest = parts;
     while !rest.is_empty() {
@@ -38,8 +36,8 @@ pub(crate) fn digits_of(number: u64, room: &mut [u8; MAX_DIGITS]) -> &[u8]
 
 /// Writes why an automaton is refused, and a line end.
 pub fn write_build_line<S: Sink>(sink: &mut S, error: &BuildError) -> Result<(), StreamError>
-    ensures written { WritesParts S.Sink sink.old sink.new
-        (build_error_text error.now ++ codes "\n") result }
+    ensures written { TakesBytes S.Sink sink.old sink.new
+        (build_error_line error.now) result }
 {
     match error {
         BuildError::StateIDOverflow { max, requested } => {
@@ -98,8 +96,8 @@ fn name_of(kind: MatchKind) -> &'static [u8]
 
 /// Writes why a search is refused, and a line end.
 pub fn write_search_line<S: Sink>(sink: &mut S, error: &MatchError) -> Result<(), StreamError>
-    ensures written { WritesParts S.Sink sink.old sink.new
-        (match_error_text error.now ++ codes "\n") result }
+    ensures written { TakesBytes S.Sink sink.old sink.new
+        (search_error_line error.now) result }
 {
     match error.kind() {
         MatchErrorKind::InvalidInputAnchored => {

@@ -3,10 +3,9 @@
 ghost use Rattle.std.specs.Iterator.{IsFinite};
 ghost use Rattle.std.specs.Iterator.Runs.{SomeRun, WholeRun};
 ghost use Rattle.std.specs.Prelude.{◌≡◌, ◌+◌, ◌≤◌, ◌++◌, ◌∷◌, true, IfOk, IfErr, OnOk, decimal, drop, length};
-ghost use Rattle.std.specs.Io.KnownBytes.{Keeps};
 ghost use Rattle.programs.specs.Answers.{line_of, lines_of, PrintsLines};
 ghost use Rattle.programs.specs.Failures.{IsOfWrite};
-ghost use Rattle.programs.specs.Streams.{output_bytes, WritesBeginning, WritesBytes};
+ghost use Rattle.programs.specs.Streams.{WritesBeginning, WritesBytes, WritesNothing};
 
 use crate::failure::Failure;
 use aho_core::search::Match;
@@ -109,7 +108,7 @@ fn write_bytes<W: Write>(output: &mut FromWrite<W>, bytes: &[u8]) -> Result<(), 
 
 /// Hands on what a buffer keeps. A failed flush is not tried again.
 pub fn flush<W: Write>(output: &mut FromWrite<W>) -> Result<(), Failure>
-    ensures kept { Keeps (output_bytes W.Write output.old) (output_bytes W.Write output.new) }
+    ensures kept { WritesNothing W.Write output.old output.new }
     ensures flushed { OnOk result (output.new.device.flushed ≡ true) }
     ensures of_write { IfErr result IsOfWrite }
 {

@@ -1,13 +1,13 @@
 //! What `acfind replace` does: replacement from a reader to a writer, through a buffer of fixed length.
 
-ghost use Rattle.std.specs.Prelude.{◌≡◌, ◌%◌, ◌⊎◌, ⊤, true, IfErr, IfOk, IfSome, OnOk, length};
+ghost use Rattle.std.specs.Prelude.{◌≡◌, ◌%◌, ⊤, true, IfErr, IfOk, IfSome, OnOk, length};
 ghost use Rattle.aho_core.specs.Patterns.{Patterns};
 ghost use Rattle.aho_core.specs.Replacement.{pieces_of};
-ghost use Rattle.programs.specs.Answers.{LeavesReplacement, WritesReplacement};
+ghost use Rattle.programs.specs.Answers.{BuildsFirstToReplace, LeavesIfNotReplaced, WritesIfOk};
 ghost use Rattle.programs.specs.Arguments.{texts};
-ghost use Rattle.programs.specs.Asked.{BuildsReplacing, Replacing, at_even, at_odd, patterns_to_replace, replacing_for};
+ghost use Rattle.programs.specs.Asked.{BuildsReplacing, OfReplacing, Replacing, at_even, at_odd, patterns_to_replace, replacing_for};
+ghost use Rattle.programs.specs.Automata.{IsNFAFor};
 ghost use Rattle.programs.specs.Failures.{LeavesReplacing};
-ghost use Rattle.programs.specs.Streams.{contents, Unread};
 
 use crate::failure::Failure;
 use crate::print::flush;
@@ -37,14 +37,13 @@ pub fn replace<R: Read, W: Write>(
     requires even { length arguments.now % 2 ≡ 0 }
 
     // The automaton is built before anything is read.
-    ensures built_first { Unread input.old input.new
-        ⊎ BuildsReplacing (replacing_for (texts arguments.now)) }
-    ensures replaces { OnOk result (WritesReplacement
-        (contents W.Write input.old input.new output.old output.new)
-        (replacing_for (texts arguments.now))) }
+    ensures built_first { BuildsFirstToReplace
+        input.old input.new (replacing_for (texts arguments.now)) }
+    ensures replaces { WritesIfOk W.Write input.old input.new
+        output.old output.new result (replacing_for (texts arguments.now)) }
     ensures flushed { OnOk result (output.new.device.flushed ≡ true) }
-    ensures leaves { IfErr result (LeavesReplacement W.Write
-        (replacing_for (texts arguments.now)) input.old input.new output.old output.new) }
+    ensures leaves { LeavesIfNotReplaced W.Write input.old input.new
+        output.old output.new result (replacing_for (texts arguments.now)) }
 {
     let pairs = split(alloc, arguments)?;
     let patterns = pairs.patterns.as_slice();
@@ -77,7 +76,7 @@ fn split<'a>(alloc: Global, arguments: &'a [String]) -> Result<Pairs<'a>, AllocE
 /// The automaton of the patterns.
 fn build(alloc: Global, patterns: &[&[u8]]) -> Result<NFA, Failure>
     ensures of { (asked : Replacing) → asked.patterns ≡ pieces_of patterns.now → IfOk result
-        (λ automaton. ⟦<NFA as Automaton>⟧.is_of automaton (patterns_to_replace asked)) }
+        (IsNFAFor (patterns_to_replace asked)) }
     ensures leaves { IfErr result (LeavesReplacing ⊤ ⊥ ⊥) }
     ensures accepted { (asked : Replacing) → asked.patterns ≡ pieces_of patterns.now
         → OnOk result (BuildsReplacing asked) }
@@ -96,14 +95,12 @@ fn replace_by<A: Automaton, B: Automaton, R: Read, W: Write>(
 ) -> Result<(), Failure>
     requires of { (p : Patterns) × A.is_of automaton.now p × (length p.words ≡ length pieces.now)
         × IfSome rows (λ rows. B.is_of rows.now p) }
-    ensures replaces { (asked : Replacing) → asked.pieces ≡ pieces_of pieces.now
-        → A.is_of automaton.now (patterns_to_replace asked)
-        → IfSome rows.entry (λ rows. B.is_of rows.now (patterns_to_replace asked)) → OnOk result
-        (WritesReplacement (contents W.Write input.old input.new output.old output.new) asked) }
-    ensures leaves { (asked : Replacing) → asked.pieces ≡ pieces_of pieces.now
-        → A.is_of automaton.now (patterns_to_replace asked)
-        → IfSome rows.entry (λ rows. B.is_of rows.now (patterns_to_replace asked))
-        → IfErr result (LeavesReplacement W.Write asked input.old input.new output.old output.new) }
+    ensures replaces { OfReplacing (A.is_of automaton.now) (pieces_of pieces.now) (λ asked.
+        IfSome rows.entry (λ rows. B.is_of rows.now (patterns_to_replace asked))
+        → WritesIfOk W.Write input.old input.new output.old output.new result asked) }
+    ensures leaves { OfReplacing (A.is_of automaton.now) (pieces_of pieces.now) (λ asked.
+        IfSome rows.entry (λ rows. B.is_of rows.now (patterns_to_replace asked))
+        → LeavesIfNotReplaced W.Write input.old input.new output.old output.new result asked) }
 {
     match rows {
         Some(rows) => replace_all(alloc, rows, pieces, input, output),
@@ -120,12 +117,10 @@ fn replace_all<A: Automaton, R: Read, W: Write>(
     output: &mut FromWrite<W>,
 ) -> Result<(), Failure>
     requires of { (p : Patterns) × A.is_of automaton.now p × (length p.words ≡ length pieces.now) }
-    ensures replaces { (asked : Replacing) → asked.pieces ≡ pieces_of pieces.now
-        → A.is_of automaton.now (patterns_to_replace asked) → OnOk result
-        (WritesReplacement (contents W.Write input.old input.new output.old output.new) asked) }
-    ensures leaves { (asked : Replacing) → asked.pieces ≡ pieces_of pieces.now
-        → A.is_of automaton.now (patterns_to_replace asked)
-        → IfErr result (LeavesReplacement W.Write asked input.old input.new output.old output.new) }
+    ensures replaces { OfReplacing (A.is_of automaton.now) (pieces_of pieces.now)
+        (WritesIfOk W.Write input.old input.new output.old output.new result) }
+    ensures leaves { OfReplacing (A.is_of automaton.now) (pieces_of pieces.now)
+        (LeavesIfNotReplaced W.Write input.old input.new output.old output.new result) }
 {
     input.restart();
     Ok(try_stream_replace_all(alloc, automaton, input, output, pieces)?)

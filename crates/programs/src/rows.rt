@@ -1,11 +1,10 @@
 //! The automaton with rows by which `acfind` searches, and its prefilter. Both are made for speed: no answer depends on them.
 
-ghost use Rattle.std.specs.Prelude.{◌≡◌, ◌≤◌, IfOk, IfSome, IsOk, map, string_bytes};
+ghost use Rattle.std.specs.Prelude.{◌≡◌, IfOk, map, string_bytes};
 ghost use Rattle.aho_core.specs.Patterns.{Patterns};
 ghost use Rattle.aho_core.specs.Replacement.{pieces_of};
-ghost use Rattle.aho_core.specs.declared.search.Anchored.TheVariants.{No};
-ghost use Rattle.aho_prefilter.specs.Prefilter.{IsPrefilterOf};
-ghost use Rattle.programs.specs.Asked.{asked_for, asked_patterns, ArePatterns, patterns_to_replace};
+ghost use Rattle.programs.specs.Asked.{request_patterns, ArePatterns};
+ghost use Rattle.programs.specs.Automata.{AreRowsFor, HaveKindOf, IsNFAFor, IsPrefilterFor, TakeUnanchored};
 
 use crate::command::Request;
 use aho_automaton::automaton::Automaton;
@@ -26,7 +25,7 @@ pub fn prefilter_of(
     patterns: &[&[u8]],
 ) -> Result<Option<Prefilter>, AllocError>
     ensures of { (p : Patterns) → ArePatterns p ignore_case (pieces_of patterns.now)
-        → IfOk result (λ held. IfSome held (λ prefilter. IsPrefilterOf prefilter p)) }
+        → IfOk result (IsPrefilterFor p) }
 {
     Prefilter::quickest(alloc, ignore_case, patterns)
 }
@@ -43,12 +42,9 @@ pub fn rows_of(
     patterns: &[&[u8]],
 ) -> Result<Option<Hybrid>, AllocError>
     ensures of { (p : Patterns) → ArePatterns p ignore_case (pieces_of patterns.now)
-        → ⟦<NFA as Automaton>⟧.is_of nfa.now p
-        → IfOk result (λ made. IfSome made (λ rows. ⟦<Hybrid as Automaton>⟧.is_of rows p)) }
-    ensures kind { IfOk result (λ made. IfSome made (λ rows.
-        ⟦<Hybrid as Automaton>⟧.kind rows ≡ ⟦<NFA as Automaton>⟧.kind nfa.now)) }
-    ensures starts { IfOk result (λ made. IfSome made (λ rows.
-        IsOk (⟦<Hybrid as Automaton>⟧.start rows No))) }
+        → IsNFAFor p nfa.now → IfOk result (AreRowsFor p) }
+    ensures kind { IfOk result (HaveKindOf nfa.now) }
+    ensures starts { IfOk result TakeUnanchored }
 {
     let prefilter = prefilter_of(alloc, ignore_case, patterns)?;
     match Hybrid::with_prefilter(alloc, nfa, DEFAULT_BUDGET, prefilter) {
@@ -78,12 +74,10 @@ pub(crate) fn rows_for(
     request: &Request<'_>,
     text_len: usize,
 ) -> Option<Hybrid>
-    ensures of { ⟦<NFA as Automaton>⟧.is_of nfa.now (asked_patterns (asked_for request.now))
-        → IfSome result (λ rows.
-        ⟦<Hybrid as Automaton>⟧.is_of rows (asked_patterns (asked_for request.now))) }
-    ensures kind { IfSome result (λ rows.
-        ⟦<Hybrid as Automaton>⟧.kind rows ≡ ⟦<NFA as Automaton>⟧.kind nfa.now) }
-    ensures starts { IfSome result (λ rows. IsOk (⟦<Hybrid as Automaton>⟧.start rows No)) }
+    ensures of { IsNFAFor (request_patterns request.now) nfa.now
+        → AreRowsFor (request_patterns request.now) result }
+    ensures kind { HaveKindOf nfa.now result }
+    ensures starts { TakeUnanchored result }
 {
     if text_len < nfa.memory_usage() {
         return None;

@@ -1,16 +1,17 @@
 //! A call of `acfind` over its arguments and streams. Both programs take the build and the report of a failure from here.
 
-ghost use Rattle.std.specs.Prelude.{IfErr, IfOk, IfSome, IsOk, OnOk, true, ◌≡◌, ◌<◌, ◌≤◌, ◌⊎◌, ⊤};
-ghost use Rattle.std.specs.Io.KnownBytes.{Consumes, IsAtEnd};
+ghost use Rattle.std.specs.Prelude.{IfErr, IfOk, IfSome, IsOk, OnOk, true, ◌≡◌, ◌<◌, ◌≤◌, ⊤};
+ghost use Rattle.std.specs.Io.KnownBytes.{IsAtEnd};
 ghost use Rattle.aho_core.specs.Patterns.{Patterns};
 ghost use Rattle.aho_core.specs.declared.search.Anchored.TheVariants.{No};
 ghost use Rattle.aho_core.specs.declared.search.MatchKind.TheVariants.{Standard};
-ghost use Rattle.programs.specs.Answers.{AreFindsIn, AreMatches, BeginsMatches, Begun, LeavesMatches, LeavesReplacement, Prints, PrintsAll, PrintsIfDone, PrintsMatches, TellsFailure, TellsLine, WritesIfDone, WritesReplacement, status_of};
+ghost use Rattle.programs.specs.Answers.{AreFindsIn, AreMatches, BeginsIfWritten, Begun, BegunFor, BuildsFirst, BuildsFirstToReplace, LeavesIfNotPrinted, LeavesIfNotReplaced, LeavesMatches, LeavesReplacement, PrintsAll, PrintsAnswer, PrintsFor, PrintsIfDone, TellsFailure, TellsLine, WritesIfDone, WritesReplacement};
 ghost use Rattle.programs.specs.Arguments.{AreWrong, AskForNone, IfAsked, IfReplacing};
-ghost use Rattle.programs.specs.Asked.{Builds, BuildsReplacing, asked_for, asked_patterns, kind_of, settings_for};
+ghost use Rattle.programs.specs.Asked.{Builds, asked_for, kind_of, request_patterns, settings_for};
+ghost use Rattle.programs.specs.Automata.{IsNFAFor};
 ghost use Rattle.aho_devices.specs.Counts.{counted};
 ghost use Rattle.programs.specs.Failures.{is_failed_read, status_of_failure, IsOfWrite, LeavesPrinting};
-ghost use Rattle.programs.specs.Streams.{bytes_left, contents, Unread, Unwritten};
+ghost use Rattle.programs.specs.Streams.{bytes_left, contents, GivesBytes, Unread, Unwritten};
 ghost use Rattle.programs.specs.declared.command.Task.TheVariants.{Overlap};
 ghost use Rattle.programs.specs.declared.failure.Failure.TheVariants.{Usage};
 
@@ -51,17 +52,16 @@ pub fn run<R: Read, W: Write, E: Write>(
     ensures tells_usage { AreWrong arguments.now → TellsLine E.Write errors.old errors.new Usage }
 
     // For right arguments the automaton is built before anything is read.
-    ensures built_first { IfAsked arguments.now (λ asked.
-        Unread input.old input.new ⊎ Builds asked) }
-    ensures built_to_replace { IfReplacing arguments.now (λ asked.
-        Unread input.old input.new ⊎ BuildsReplacing asked) }
+    ensures built_first { IfAsked arguments.now (BuildsFirst input.old input.new) }
+    ensures built_to_replace { IfReplacing arguments.now
+        (BuildsFirstToReplace input.old input.new) }
 
     // All matches are printed, and told by the status.
     ensures prints { IfAsked arguments.now
-        (PrintsIfDone (contents W.Write input.old input.new output.old output.new) result) }
+        (PrintsIfDone W.Write input.old input.new output.old output.new result) }
     // Or the input is written with its matches replaced, all of it.
     ensures replaces { IfReplacing arguments.now
-        (WritesIfDone (contents W.Write input.old input.new output.old output.new) result) }
+        (WritesIfDone W.Write input.old input.new output.old output.new result) }
     ensures no_status_1 { IfReplacing arguments.now (λ _. result < 2 → result ≡ 0) }
     ensures flushed { result < 2 → output.new.device.flushed ≡ true }
     ensures quiet { result < 2 → errors.new ≡ errors.old }
@@ -72,12 +72,12 @@ pub fn run<R: Read, W: Write, E: Write>(
         result ≡ 2 → Unwritten output.old output.new) }
     ensures tells_failure { 2 ≤ result → IfAsked arguments.now (λ asked.
         TellsFailure E.Write errors.old errors.new result
-        (LeavesMatches W.Write asked input.old input.new output.old output.new)) }
-    ensures begins { IfAsked arguments.now (λ asked. Unwritten output.old output.new
-        ⊎ BeginsMatches (contents W.Write input.old input.new output.old output.new) asked) }
+        (LeavesMatches W.Write input.old input.new output.old output.new asked)) }
+    ensures begins { IfAsked arguments.now
+        (BeginsIfWritten W.Write input.old input.new output.old output.new) }
     ensures tells_replace_failure { 2 ≤ result → IfReplacing arguments.now (λ asked.
         TellsFailure E.Write errors.old errors.new result
-        (LeavesReplacement W.Write asked input.old input.new output.old output.new)) }
+        (LeavesReplacement W.Write input.old input.new output.old output.new asked)) }
 {
     match answer(alloc, arguments, input, output) {
         Ok(true) => 0,
@@ -110,20 +110,19 @@ fn answer<R: Read, W: Write>(
     ensures usage { AreWrong arguments.now → result ≡ Err Usage }
     ensures unread { AreWrong arguments.now → Unread input.old input.new }
     ensures unwritten { AreWrong arguments.now → Unwritten output.old output.new }
-    ensures built_first { IfAsked arguments.now (λ asked.
-        Unread input.old input.new ⊎ Builds asked) }
-    ensures built_to_replace { IfReplacing arguments.now (λ asked.
-        Unread input.old input.new ⊎ BuildsReplacing asked) }
+    ensures built_first { IfAsked arguments.now (BuildsFirst input.old input.new) }
+    ensures built_to_replace { IfReplacing arguments.now
+        (BuildsFirstToReplace input.old input.new) }
     ensures prints { IfOk result (λ any. IfAsked arguments.now
-        (PrintsMatches (contents W.Write input.old input.new output.old output.new) (status_of any))) }
+        (PrintsAnswer W.Write input.old input.new output.old output.new any)) }
     ensures replaces { OnOk result (IfReplacing arguments.now
         (WritesReplacement (contents W.Write input.old input.new output.old output.new))) }
     ensures replaced { IfReplacing arguments.now (λ _. IfOk result (λ any. any ≡ true)) }
     ensures flushed { OnOk result (output.new.device.flushed ≡ true) }
-    ensures leaves { IfAsked arguments.now (λ asked. IfErr result
-        (LeavesMatches W.Write asked input.old input.new output.old output.new)) }
-    ensures leaves_replacing { IfReplacing arguments.now (λ asked. IfErr result
-        (LeavesReplacement W.Write asked input.old input.new output.old output.new)) }
+    ensures leaves { IfAsked arguments.now
+        (LeavesIfNotPrinted W.Write input.old input.new output.old output.new result) }
+    ensures leaves_replacing { IfReplacing arguments.now
+        (LeavesIfNotReplaced W.Write input.old input.new output.old output.new result) }
 {
     match parse_replace(arguments) {
         Some(pairs) => {
@@ -146,13 +145,12 @@ fn answer_matches<R: Read, W: Write>(
         → Unread input.old input.new }
     ensures unwritten { AskForNone arguments.now
         → Unwritten output.old output.new }
-    ensures built_first { IfAsked arguments.now (λ asked.
-        Unread input.old input.new ⊎ Builds asked) }
+    ensures built_first { IfAsked arguments.now (BuildsFirst input.old input.new) }
     ensures prints { IfOk result (λ any. IfAsked arguments.now
-        (PrintsMatches (contents W.Write input.old input.new output.old output.new) (status_of any))) }
+        (PrintsAnswer W.Write input.old input.new output.old output.new any)) }
     ensures flushed { OnOk result (output.new.device.flushed ≡ true) }
-    ensures leaves { IfAsked arguments.now (λ asked. IfErr result
-        (LeavesMatches W.Write asked input.old input.new output.old output.new)) }
+    ensures leaves { IfAsked arguments.now
+        (LeavesIfNotPrinted W.Write input.old input.new output.old output.new result) }
 {
     match parse(arguments) {
         Some(request) => search_input(alloc, &request, input, output),
@@ -167,12 +165,12 @@ fn search_input<R: Read, W: Write>(
     input: &mut FromRead<R>,
     output: &mut FromWrite<W>,
 ) -> Result<bool, Failure>
-    ensures built_first { Unread input.old input.new ⊎ Builds (asked_for request.now) }
-    ensures prints { IfOk result (λ any. PrintsMatches
-        (contents W.Write input.old input.new output.old output.new) (status_of any) (asked_for request.now)) }
+    ensures built_first { BuildsFirst input.old input.new (asked_for request.now) }
+    ensures prints { IfOk result (λ any. PrintsAnswer W.Write
+        input.old input.new output.old output.new any (asked_for request.now)) }
     ensures flushed { OnOk result (output.new.device.flushed ≡ true) }
-    ensures leaves { IfErr result
-        (LeavesMatches W.Write (asked_for request.now) input.old input.new output.old output.new) }
+    ensures leaves { LeavesIfNotPrinted W.Write
+        input.old input.new output.old output.new result (asked_for request.now) }
 {
     let automaton = build(alloc, request)?;
     let text = read(alloc, input)?;
@@ -187,13 +185,13 @@ fn print_request<W: Write>(
     text: &[u8],
     output: &mut FromWrite<W>,
 ) -> Result<bool, Failure>
-    requires of { ⟦<NFA as Automaton>⟧.is_of automaton.now (asked_patterns (asked_for request.now)) }
+    requires of { IsNFAFor (request_patterns request.now) automaton.now }
     requires starts { IsOk (⟦<NFA as Automaton>⟧.start automaton.now No) }
     requires kind { ⟦<NFA as Automaton>⟧.kind automaton.now ≡ kind_of request.now.task }
     ensures printed { IfOk result (PrintsAll W.Write request.now.task
-        (asked_patterns (asked_for request.now)) text.now output.old output.new) }
+        (request_patterns request.now) text.now output.old output.new) }
     ensures begun { Begun W.Write (AreMatches request.now.task
-        (asked_patterns (asked_for request.now)) text.now) output.old output.new }
+        (request_patterns request.now) text.now) output.old output.new }
     ensures flushed { OnOk result (output.new.device.flushed ≡ true) }
     ensures of_write { IfErr result IsOfWrite }
 {
@@ -230,8 +228,7 @@ fn print_by<A: Automaton, B: Automaton, W: Write>(
 
 /// The automaton of the patterns that a request asks for, or why it is refused.
 pub fn build(alloc: Global, request: &Request<'_>) -> Result<NFA, Failure>
-    ensures of { IfOk result (λ automaton.
-        ⟦<NFA as Automaton>⟧.is_of automaton (asked_patterns (asked_for request.now))) }
+    ensures of { IfOk result (IsNFAFor (request_patterns request.now)) }
     ensures leaves { IfErr result (LeavesPrinting ⊤ ⊤ ⊥) }
     ensures accepted { OnOk result (Builds (asked_for request.now)) }
 {
@@ -252,8 +249,7 @@ fn builder(task: Task) -> Builder
 
 /// All of the input. A failed read is not tried again.
 fn read<R: Read>(alloc: Global, input: &mut FromRead<R>) -> Result<Vec<u8>, Failure>
-    ensures read { IfOk result (λ text.
-        Consumes (bytes_left input.old) (bytes_left input.new) text.items) }
+    ensures read { IfOk result (λ text. GivesBytes input.old input.new text.items) }
     ensures ended { OnOk result (IsAtEnd (bytes_left input.new)) }
     ensures leaves { IfErr result (LeavesPrinting ⊥ ⊤ ⊥) }
     // A read fault is answered exactly where a read failed.
@@ -283,10 +279,10 @@ fn print_matches<A: Automaton, W: Write>(
     requires of { (p : Patterns) × A.is_of automaton.now p }
     requires starts { IsOk (A.start automaton.now No) }
     requires kind { A.kind automaton.now ≡ kind_of task }
-    ensures printed { (p : Patterns) → A.is_of automaton.now p → IfOk result
-        (PrintsAll W.Write task p text.now output.old output.new) }
-    ensures begun { (p : Patterns) → A.is_of automaton.now p →
-        Begun W.Write (AreMatches task p text.now) output.old output.new }
+    ensures printed { PrintsFor W.Write (A.is_of automaton.now)
+        (λ p. AreMatches task p text.now) output.old output.new result }
+    ensures begun { BegunFor W.Write (A.is_of automaton.now)
+        (λ p. AreMatches task p text.now) output.old output.new }
     ensures flushed { OnOk result (output.new.device.flushed ≡ true) }
     ensures of_write { IfErr result IsOfWrite }
 {
@@ -304,9 +300,10 @@ fn print_finds<A: Automaton, W: Write>(
 ) -> Result<bool, Failure>
     requires of { (p : Patterns) × A.is_of automaton.now p }
     requires starts { IsOk (A.start automaton.now No) }
-    ensures printed { (p : Patterns) → A.is_of automaton.now p → IfOk result (Prints W.Write (AreFindsIn p text.now) output.old output.new) }
-    ensures begun { (p : Patterns) → A.is_of automaton.now p → Begun W.Write
-        (AreFindsIn p text.now) output.old output.new }
+    ensures printed { PrintsFor W.Write (A.is_of automaton.now)
+        (λ p. AreFindsIn p text.now) output.old output.new result }
+    ensures begun { BegunFor W.Write (A.is_of automaton.now)
+        (λ p. AreFindsIn p text.now) output.old output.new }
     ensures flushed { OnOk result (output.new.device.flushed ≡ true) }
     ensures of_write { IfErr result IsOfWrite }
 {
@@ -322,10 +319,10 @@ fn print_occurrences<A: Automaton, W: Write>(
     requires of { (p : Patterns) × A.is_of automaton.now p }
     requires starts { IsOk (A.start automaton.now No) }
     requires standard { A.kind automaton.now ≡ Standard }
-    ensures printed { (p : Patterns) → A.is_of automaton.now p → IfOk result
-        (PrintsAll W.Write Overlap p text.now output.old output.new) }
-    ensures begun { (p : Patterns) → A.is_of automaton.now p →
-        Begun W.Write (AreMatches Overlap p text.now) output.old output.new }
+    ensures printed { PrintsFor W.Write (A.is_of automaton.now)
+        (λ p. AreMatches Overlap p text.now) output.old output.new result }
+    ensures begun { BegunFor W.Write (A.is_of automaton.now)
+        (λ p. AreMatches Overlap p text.now) output.old output.new }
     ensures flushed { OnOk result (output.new.device.flushed ≡ true) }
     ensures of_write { IfErr result IsOfWrite }
 {
