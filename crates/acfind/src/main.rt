@@ -10,12 +10,12 @@
 //! or writing fails, and then a line on standard error says why.
 #![tactic(auto)]
 
-ghost use Rattle.std.specs.Prelude.{◌≡◌, ◌<◌, ◌≤◌, IfErr, OnErr, true};
+ghost use Rattle.std.specs.Prelude.{◌≡◌, ◌<◌, ◌≤◌, IfErr, OnErr, OnOk, true};
 ghost use Rattle.std.specs.Process.{exit_status};
-ghost use Rattle.programs.specs.Answers.{PrintsIfDone, TellsLine, WritesIfDone};
+ghost use Rattle.programs.specs.Answers.{PrintsIfDone, TellsIfFailed, TellsLine, WritesIfDone};
 ghost use Rattle.programs.specs.Arguments.{IfGivenAsked, IfGivenReplacing, IfGivenWrong};
 ghost use Rattle.programs.specs.Failures.{HasStatus};
-ghost use Rattle.programs.specs.Streams.{Unread, Unwritten};
+ghost use Rattle.programs.specs.Streams.{NoFaults, Unread, Unwritten};
 
 use aho_devices::adapters::{FromRead, FromWrite};
 use programs::arguments::arguments;
@@ -66,6 +66,12 @@ fn exit_code<R: Read, W: Write, E: Write>(
     ensures no_status_1 { IfGivenReplacing given (λ _.
         exit_status result < 2 → exit_status result ≡ 0) }
     ensures flushed { exit_status result < 2 → output.new.device.flushed ≡ true }
+
+    // Any other status tells of a device exactly where this device failed.
+    ensures no_fault { exit_status result < 2
+        → NoFaults input.old input.new output.old output.new }
+    ensures fails { OnOk given (TellsIfFailed E.Write errors.old errors.new
+        input.old input.new output.old output.new (exit_status result)) }
     ensures bound { exit_status result ≤ 3 }
 {
     let status = match given {

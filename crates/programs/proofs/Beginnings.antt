@@ -1,5 +1,5 @@
 -- Known bytes that grow by a beginning of others.
-use Rattle.std.proofs.Common.{arith, le_refl, ◌≡◌, ℕ, ◌+◌, ◌≤◌, List, ◌++◌, Option, length, take, drop, sym, ap, subst, ◌∙◌, append_assoc}
+use Rattle.std.proofs.Common.{arith, le_refl, ◌≡◌, ℕ, ◌+◌, List, ◌++◌, Option, length, take, drop, sym, ap, subst, ◌∙◌, append_assoc}
 use Rattle.std.proofs.KnownBytes.{Appends-kept, Appends-trans}
 use Rattle.std.proofs.Math.Seq.{take-append_seam, take-append-add, take-length}
 use Rattle.std.proofs.lemmas.List.{take-append-drop, length-append}

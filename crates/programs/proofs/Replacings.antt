@@ -1,6 +1,6 @@
 -- What the replacement of a stream writes is what is asked for.
-use Rattle.std.proofs.Common.{◌≡◌, ◌≢◌, ℕ, ◌+◌, ◌≤◌, List, [], ◌++◌, Option, true, length, map, refl, sym, ap, subst, ◌∙◌, append-nil, le_refl, arith}
-use Rattle.std.specs.Prelude.{None, Some, Result, Ok, Err, OnOk}
+use Rattle.std.proofs.Common.{◌≡◌, ◌≢◌, ℕ, List, ◌++◌, Option, true, length, refl, sym, ap, subst, ◌∙◌, append-nil, le_refl, arith}
+use Rattle.std.specs.Prelude.{None, Result, Ok, Err, OnOk}
 use Rattle.std.specs.Io.{StartsWith}
 use Rattle.std.specs.Io.KnownBytes.{Consumes, IsAtEnd, Keeps}
 use Rattle.std.proofs.KnownBytes.{Appends-kept}
@@ -8,6 +8,7 @@ use Rattle.std.proofs.Math.Seq.{take-length}
 use Rattle.aho_core.specs.Iteration.{AreFinds}
 use Rattle.aho_core.specs.Patterns.{Patterns}
 use Rattle.aho_core.specs.Replacement.{replaced}
+use Rattle.aho_stream.specs.Refills.{is_limit}
 use Rattle.aho_stream.specs.Replacing.{BeginsReplacing, ReplacesStream, ReplacesStreamUpTo}
 use Rattle.aho_devices.specs.Counts.{counted}
 use Rattle.aho_devices.specs.declared.device.Sink.{Ghosts as SinkGhosts}
@@ -18,7 +19,7 @@ use Rattle.aho_core.specs.declared.error.stream.StreamError.{StreamError}
 use Rattle.aho_core.specs.declared.error.stream.StreamError.TheVariants.{Match, Read, Write, WriteZero, Memory, PositionLimit}
 use Rattle.aho_core.specs.Search.{plain_search}
 use Rattle.aho_laws.proofs.Iterations.{finds-exist, finds-unique}
-use Rattle.aho_devices.specs.Refusals.{IsFillRefusal, IsWriteRefusal}
+use Rattle.aho_devices.specs.Refusals.{IsFillRefusal}
 use Rattle.aho_stream.specs.Replacing.{IsMakingRefusal}
 use Rattle.programs.specs.Asked.{Replacing, patterns_to_replace}
 use Rattle.programs.specs.Failures.{IsOfWrite, LeavesReplacing, failure_of_stream}
@@ -26,13 +27,14 @@ use Rattle.programs.specs.declared.failure.Failure.{Failure}
 use Rattle.programs.specs.declared.failure.Failure.TheVariants.{Usage, Build, Search, OutOfMemory, PositionLimit as LimitMet, Read as ReadFailed, Write as WriteFailed, WriteZero as TookNothing}
 
 -- what was refused before the stream was begun leaves all untouched
-pub leaves_stream : {untouched begun most : Type 0} (error : StreamError) → (IsMakingRefusal error → untouched) → begun → (IsFillRefusal error → most) → LeavesReplacing untouched begun most (failure_of_stream error)
-leaves_stream (Match cause) same some near = same tt
-leaves_stream (Read fault) same some near = (some, near tt)
-leaves_stream (Write fault) same some near = some
-leaves_stream WriteZero same some near = some
-leaves_stream Memory same some near = same tt
-leaves_stream PositionLimit same some near = (some, near tt)
+pub leaves_stream : {untouched begun most given : Type 0} (error : StreamError) → (IsMakingRefusal error → untouched) → begun → (IsFillRefusal error → most) → (is_limit {A = Unit {0}} (Err error) ≡ true → given)
+    → LeavesReplacing untouched begun most given (failure_of_stream error)
+leaves_stream (Match cause) same some near full = same tt
+leaves_stream (Read fault) same some near full = (some, near tt)
+leaves_stream (Write fault) same some near full = some
+leaves_stream WriteZero same some near full = some
+leaves_stream Memory same some near full = same tt
+leaves_stream PositionLimit same some near full = (some, near tt, full refl)
 
 -- once the end was seen, what counted none before counts one
 one_end : (reads reads' : ℕ) → reads ≡ 0 → reads' ≡ counted true reads → reads' ≢ 0
@@ -117,12 +119,12 @@ begins_whole {asked} whole = record {
 }
 
 -- a write's failure leaves what was begun
-pub leaves_write : (untouched most : Type 0) {begun : Type 0} (failure : Failure) → IsOfWrite failure → begun → LeavesReplacing untouched begun most failure
-leaves_write untouched most Usage of some = absurd of
-leaves_write untouched most (Build error) of some = absurd of.0
-leaves_write untouched most (Search error) of some = absurd of
-leaves_write untouched most OutOfMemory of some = absurd of
-leaves_write untouched most LimitMet of some = absurd of
-leaves_write untouched most ReadFailed of some = absurd of
-leaves_write untouched most WriteFailed of some = some
-leaves_write untouched most TookNothing of some = some
+pub leaves_write : (untouched most given : Type 0) {begun : Type 0} (failure : Failure) → IsOfWrite failure → begun → LeavesReplacing untouched begun most given failure
+leaves_write untouched most given Usage of some = absurd of
+leaves_write untouched most given (Build error) of some = absurd of.0
+leaves_write untouched most given (Search error) of some = absurd of
+leaves_write untouched most given OutOfMemory of some = absurd of
+leaves_write untouched most given LimitMet of some = absurd of
+leaves_write untouched most given ReadFailed of some = absurd of
+leaves_write untouched most given WriteFailed of some = some
+leaves_write untouched most given TookNothing of some = some

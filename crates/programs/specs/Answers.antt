@@ -1,5 +1,5 @@
 -- What a run answers.
-use Rattle.std.specs.Prelude.{◌≡◌, ◌⊎◌, ℕ, Bool, true, false, ◌+◌, ◌<◌, ◌≤◌, List, [], ◌∷◌, ◌++◌, Option, None, Result, IfErr, IfOk, IfSome, OnOk, length, map, decimal, codes, if◌then◌else◌}
+use Rattle.std.specs.Prelude.{◌≡◌, ◌⊎◌, ℕ, Bool, true, false, ◌+◌, ◌<◌, ◌≤◌, List, [], ◌∷◌, ◌++◌, None, Result, Err, IfErr, IfOk, OnOk, length, map, decimal, codes, if◌then◌else◌}
 use Rattle.std.specs.Io.{StartsWith}
 use Rattle.std.specs.Io.KnownBytes.{Appends, Consumes, IsAtEnd}
 use Rattle.std.specs.List.{flat_map}
@@ -18,7 +18,7 @@ use Rattle.aho_devices.specs.declared.adapters.FromRead.{FromRead}
 use Rattle.aho_devices.specs.declared.adapters.FromWrite.{FromWrite}
 use Rattle.programs.specs.Asked.{Asked, Builds, BuildsReplacing, Replacing, asked_patterns, patterns_to_replace}
 use Rattle.programs.specs.Failures.{HasStatus, line_of_failure, LeavesPrinting, LeavesReplacing}
-use Rattle.programs.specs.Streams.{Contents, contents, Unread, Unwritten, WritesBeginning, WritesBytes}
+use Rattle.programs.specs.Streams.{Contents, contents, CountsFaults, ReadsToLimit, Unread, Unwritten, WritesBeginning, WritesBytes}
 use Rattle.programs.specs.declared.command.Task.{Task}
 use Rattle.programs.specs.declared.command.Task.TheVariants.{Find, Overlap}
 use Rattle.programs.specs.declared.failure.Failure.{Failure}
@@ -89,6 +89,11 @@ module _ {W : Type 0} (Writes : Writers W) where
     pub told : HasStatus status failure
     pub line : TellsLine old new failure
     pub left : Left failure
+
+  -- the failure of such a status is told, and it is that of a device exactly where this device failed
+  abbrev pub TellsIfFailed : {R : Type 0} {Reads : Readers R} {V : Type 0} → FromWrite W → FromWrite W → FromRead R Reads → FromRead R Reads → FromWrite V → FromWrite V → ℕ → Type 0
+  TellsIfFailed old new input_old input_new output_old output_new status =
+      2 ≤ status → TellsFailure old new status (λ failure. CountsFaults {A = Unit {0}} input_old input_new output_old output_new (Err failure))
 
 -- all of the input was read, and these are the matches that are asked for
 pub record ReadsMatches (bytes : Contents) (ms : List Occurrence) (asked : Asked) : Type 0 where
@@ -172,6 +177,10 @@ module _ {R : Type 0} {Reads : Readers R} {W : Type 0} (Writes : Writers W) (inp
       (Unwritten output_old output_new)
       (BeginsMatches (contents Writes input_old input_new output_old output_new) asked)
 
+  -- it leaves that, and is told of a device exactly where that device failed
+  abbrev pub FailsMatches : Asked → Failure → Type 0
+  FailsMatches asked failure = LeavesMatches asked failure × CountsFaults {A = Unit {0}} input_old input_new output_old output_new (Err failure)
+
   -- a failure leaves that, where there is one
   abbrev pub LeavesIfNotPrinted : {A : Type 0} → Result A Failure → Asked → Type 0
   LeavesIfNotPrinted result asked = IfErr result (LeavesMatches asked)
@@ -190,6 +199,11 @@ module _ {R : Type 0} {Reads : Readers R} {W : Type 0} (Writes : Writers W) (inp
       (Unread input_old input_new × Unwritten output_old output_new)
       (BeginsReplacement (contents Writes input_old input_new output_old output_new) asked)
       (WritesMost (contents Writes input_old input_new output_old output_new) asked)
+      (ReadsToLimit (contents Writes input_old input_new output_old output_new))
+
+  -- it leaves that, and is told of a device exactly where that device failed
+  abbrev pub FailsReplacement : Replacing → Failure → Type 0
+  FailsReplacement asked failure = LeavesReplacement asked failure × CountsFaults {A = Unit {0}} input_old input_new output_old output_new (Err failure)
 
   -- a failure leaves that, where there is one
   abbrev pub LeavesIfNotReplaced : {A : Type 0} → Result A Failure → Replacing → Type 0

@@ -17,17 +17,43 @@ status_of_failure Read = 3
 status_of_failure Write = 3
 status_of_failure WriteZero = 3
 
--- whether the failure is that of a read
-abbrev pub is_failed_read : {A : Type 0} → Result A Failure → Bool
-is_failed_read (Ok x) = false
-is_failed_read (Err Usage) = false
-is_failed_read (Err (Build error)) = false
-is_failed_read (Err (Search error)) = false
-is_failed_read (Err OutOfMemory) = false
-is_failed_read (Err PositionLimit) = false
-is_failed_read (Err Read) = true
-is_failed_read (Err Write) = false
-is_failed_read (Err WriteZero) = false
+-- whether it is that of a read
+abbrev pub is_of_read : Failure → Bool
+is_of_read Usage = false
+is_of_read (Build error) = false
+is_of_read (Search error) = false
+is_of_read OutOfMemory = false
+is_of_read PositionLimit = false
+is_of_read Read = true
+is_of_read Write = false
+is_of_read WriteZero = false
+
+-- whether it is that of a write or a flush that failed
+abbrev pub is_of_write : Failure → Bool
+is_of_write Usage = false
+is_of_write (Build error) = false
+is_of_write (Search error) = false
+is_of_write OutOfMemory = false
+is_of_write PositionLimit = false
+is_of_write Read = false
+is_of_write Write = true
+is_of_write WriteZero = false
+
+-- whether it is that of a write that took no bytes
+abbrev pub is_of_empty_write : Failure → Bool
+is_of_empty_write Usage = false
+is_of_empty_write (Build error) = false
+is_of_empty_write (Search error) = false
+is_of_empty_write OutOfMemory = false
+is_of_empty_write PositionLimit = false
+is_of_empty_write Read = false
+is_of_empty_write Write = false
+is_of_empty_write WriteZero = true
+
+-- whether a call fails with such a failure
+abbrev pub fails_by : {A : Type 0} → (Failure → Bool) → Result A Failure → Bool
+fails_by of (Ok x) = false
+fails_by of (Err failure) = of failure
 
 -- this is its status
 abbrev pub HasStatus : ℕ → Failure → Type 0
@@ -82,13 +108,14 @@ LeavesPrinting unread unwritten begun = Leaves (record {
 abbrev pub IsOfWrite : Failure → Type 0
 IsOfWrite = LeavesPrinting ⊥ ⊥ ⊤
 
--- where a replacement is written what is refused leaves all untouched, any other failure something written, and one of reading most
-abbrev pub LeavesReplacing : (untouched begun most : Type 0) → Failure → Type 0
-LeavesReplacing untouched begun most = Leaves (record {
+-- where a replacement is written what is refused leaves all untouched, any other failure something written, and one of reading most,
+-- and the input has given so much where its limit was met
+abbrev pub LeavesReplacing : (untouched begun most given : Type 0) → Failure → Type 0
+LeavesReplacing untouched begun most given = Leaves (record {
   build = untouched;
   search = untouched;
   memory = untouched;
-  limit = begun × most;
+  limit = begun × most × given;
   read = begun × most;
   write = begun;
 })

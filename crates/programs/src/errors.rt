@@ -1,6 +1,7 @@
 //! Standard error of a program, and the messages that are written to it.
 
-ghost use Rattle.std.specs.Prelude.{◌≡◌, None, Some, codes, false};
+ghost use Rattle.std.specs.Prelude.{◌≡◌, IfOk, IfSome, None, Some, codes, false};
+ghost use Rattle.std.specs.Fmt.InlineText.{inline_text};
 ghost use Rattle.aho_core.specs.Texts.{build_error_text, match_error_text};
 ghost use Rattle.programs.specs.Failures.{failure_text, line_of_failure};
 ghost use Rattle.programs.specs.Messages.{head_by, line_before, message_of, name_before, reason_text};
@@ -13,6 +14,20 @@ use crate::reason::Reason;
 use aho_core::error::{BuildError, MatchError};
 use aho_devices::device::Sink;
 use std::cell::Cell;
+use std::fmt;
+use std::fmt::{InlineText, Write};
+
+/// The room for the text of a cause. The longest is that of a pattern's number, with two numbers of twenty digits.
+const CAUSE_CAPACITY: usize = 160;
+
+/// The text that `{}` writes of a value; an error where the room is too small.
+fn text_of<T: fmt::Display>(value: &T) -> Result<InlineText<{ CAUSE_CAPACITY }>, fmt::Error>
+    ensures text { IfOk result (λ text. IfSome (T.output value.now) (λ said. inline_text text ≡ said)) }
+{
+    let mut text = InlineText::new();
+    write!(text, "{value}")?;
+    Ok(text)
+}
 
 /// Standard error of a program. After the first write that fails nothing more is written, so a line that was cut off stays the
 /// last one.
@@ -57,13 +72,45 @@ impl<'c, E: Sink> Errors<'c, E> {
     }
 
     /// Writes a message as a line: the name of the program, what is told of, its line there, and the cause. The name and the line
-    /// are left out where there is none.
+    /// are left out where there is none. It is one write where it has up to 4,096 bytes, as each message is that is told below.
     pub fn tell(&mut self, program: &[u8], name: Option<&[u8]>, line: Option<u64>, cause: &[u8])
         ensures told { TellsBytes E.Sink self.old self.new
             (message_of program.now (given_name name.entry) line cause.now) }
     {
-        self.begin(program, name, line);
-        self.write(&[cause, b"\n"]);
+        match name {
+            Some(name) => self.tell_of(program, name, line, cause),
+            None => self.tell_alone(program, line, cause),
+        }
+    }
+
+    /// Writes such a message that tells of something.
+    fn tell_of<'m>(&mut self, program: &'m [u8], name: &'m [u8], line: Option<u64>, cause: &'m [u8])
+        ensures told { TellsBytes E.Sink self.old self.new
+            (message_of program.now (Some name.now) line cause.now) }
+    {
+        let mut room = [0; MAX_DIGITS];
+        match line {
+            Some(line) => {
+                let line = digits_of(line, &mut room);
+                self.write(&[program, b": ", name, b": line ", line, b": ", cause, b"\n"])
+            }
+            None => self.write(&[program, b": ", name, b": ", cause, b"\n"]),
+        }
+    }
+
+    /// Writes such a message that does not say what it tells of.
+    fn tell_alone(&mut self, program: &[u8], line: Option<u64>, cause: &[u8])
+        ensures told { TellsBytes E.Sink self.old self.new
+            (message_of program.now None line cause.now) }
+    {
+        let mut room = [0; MAX_DIGITS];
+        match line {
+            Some(line) => {
+                let line = digits_of(line, &mut room);
+                self.write(&[program, b": line ", line, b": ", cause, b"\n"])
+            }
+            None => self.write(&[program, b": ", cause, b"\n"]),
+        }
     }
 
     /// Writes as such a message why an automaton is refused.
@@ -77,8 +124,13 @@ impl<'c, E: Sink> Errors<'c, E> {
         ensures told { TellsBytes E.Sink self.old self.new
             (message_of program.now (given_name name.entry) line (build_error_text error.now)) }
     {
-        self.begin(program, name, line);
-        self.write_build(error);
+        match text_of(error) {
+            Ok(cause) => self.tell(program, name, line, cause.as_str().as_bytes()),
+            Err(_) => {
+                self.begin(program, name, line);
+                self.write_build(error);
+            }
+        }
     }
 
     /// Writes as such a message why a search is refused.
@@ -86,8 +138,13 @@ impl<'c, E: Sink> Errors<'c, E> {
         ensures told { TellsBytes E.Sink self.old self.new
             (message_of program.now (given_name name.entry) None (match_error_text error.now)) }
     {
-        self.begin(program, name, None);
-        self.write_search(error);
+        match text_of(error) {
+            Ok(cause) => self.tell(program, name, None, cause.as_str().as_bytes()),
+            Err(_) => {
+                self.begin(program, name, None);
+                self.write_search(error);
+            }
+        }
     }
 
     /// Writes as such a message why the output cannot be written, as it is noted.
@@ -112,8 +169,13 @@ impl<'c, E: Sink> Errors<'c, E> {
         ensures told { TellsBytes E.Sink self.old self.new
             (message_of program.now None None (failure_text failure.now)) }
     {
-        self.begin(program, None, None);
-        self.write_failure(failure);
+        match text_of(failure) {
+            Ok(cause) => self.tell(program, None, None, cause.as_str().as_bytes()),
+            Err(_) => {
+                self.begin(program, None, None);
+                self.write_failure(failure);
+            }
+        }
     }
 
     /// Writes what stands before the cause of a message.

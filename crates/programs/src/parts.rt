@@ -1,6 +1,6 @@
 //! Writing a line that is made of parts, and the lines of refused builds and searches.
 
-ghost use Rattle.std.specs.Prelude.{◌≡◌, decimal};
+ghost use Rattle.std.specs.Prelude.{◌≡◌, ◌≤◌, ◌++◌, IfSome, decimal, take};
 ghost use Rattle.aho_core.specs.Texts.{kind_name};
 ghost use Rattle.programs.specs.Telling.{build_error_line, all_bytes, search_error_line, TakesBytes};
 
@@ -10,12 +10,54 @@ use aho_devices::device::Sink;
 use aho_devices::write::write_whole;
 use itoa::write_digits;
 
+/// The room in which a line is put together.
+const ROOM: usize = 4096;
+
 /// The most digits that a number has.
 pub(crate) const MAX_DIGITS: usize = 20;
 
-/// Writes these parts, one after another. The first write that fails or takes no byte is the error, and a beginning was
-/// written then.
+/// Writes these parts, one after another: by one write where they have up to 4,096 bytes together, so that nothing of another
+/// writer stands between them. The first write that fails or takes no byte is the error, and a beginning was written then.
 pub fn write_parts<S: Sink>(sink: &mut S, parts: &[&[u8]]) -> Result<(), StreamError>
+    ensures written { TakesBytes S.Sink sink.old sink.new (all_bytes parts.now) result }
+{
+    let mut room = [0; ROOM];
+    match gather(parts, &mut room) {
+        Some(count) => write_whole(sink, &room[..count]),
+        None => write_each(sink, parts),
+    }
+}
+
+/// Puts these parts at the front of the room, and says how many bytes they have; none where the room is too small.
+fn gather(parts: &[&[u8]], room: &mut [u8; ROOM]) -> Option<usize>
+    ensures within { IfSome result (λ count. count ≤ 4096) }
+    ensures gathered { IfSome result (λ count. take count room.new ≡ all_bytes parts.now) }
+{
+    let mut count = 0;
+    let mut rest = parts;
+    while !rest.is_empty() {
+        count = put(rest[0], room, count)?;
+        rest = &rest[1..];
+    }
+    Some(count)
+}
+
+/// Puts a part into the room behind the bytes that it holds, and says how many it holds then; none where the room is too small.
+fn put(part: &[u8], room: &mut [u8; ROOM], held: usize) -> Option<usize>
+    requires held { held ≤ 4096 }
+    ensures within { IfSome result (λ count. count ≤ 4096) }
+    ensures put { IfSome result (λ count. take count room.new ≡ take held room.old ++ part.now) }
+{
+    if part.len() > ROOM - held {
+        return None;
+    }
+    let end = held + part.len();
+    room[held..end].copy_from_slice(part);
+    Some(end)
+}
+
+/// Writes these parts, each by a write of its own or more.
+fn write_each<S: Sink>(sink: &mut S, parts: &[&[u8]]) -> Result<(), StreamError>
     ensures written { TakesBytes S.Sink sink.old sink.new (all_bytes parts.now) result }
 {
     let mut rest = parts;

@@ -5,7 +5,7 @@ ghost use Rattle.std.specs.Iterator.Runs.{SomeRun, WholeRun};
 ghost use Rattle.std.specs.Prelude.{◌≡◌, ◌+◌, ◌≤◌, ◌++◌, ◌∷◌, true, IfOk, IfErr, OnOk, decimal, drop, length};
 ghost use Rattle.programs.specs.Answers.{line_of, lines_of, PrintsLines};
 ghost use Rattle.programs.specs.Failures.{IsOfWrite};
-ghost use Rattle.programs.specs.Streams.{WritesBeginning, WritesBytes, WritesNothing};
+ghost use Rattle.programs.specs.Streams.{CountsWrites, WritesBeginning, WritesBytes, WritesNothing};
 
 use crate::failure::Failure;
 use aho_core::search::Match;
@@ -32,6 +32,7 @@ pub fn print<W: Write, I: Iterator<Item = Match> + Drop>(
     ensures begun { SomeRun I.next_gives matches (λ run.
         WritesBeginning W.Write output.old output.new (lines_of run.items)) }
     ensures of_write { IfErr result IsOfWrite }
+    ensures faults { CountsWrites output.old output.new result }
 {
     let any = print_lines(output, matches)?;
     flush(output)?;
@@ -50,6 +51,7 @@ fn print_lines<W: Write, I: Iterator<Item = Match> + Drop>(
     ensures begun { SomeRun I.next_gives matches (λ run.
         WritesBeginning W.Write output.old output.new (lines_of run.items)) }
     ensures of_write { IfErr result IsOfWrite }
+    ensures faults { CountsWrites output.old output.new result }
 {
     let mut line = [0; LINE_CAPACITY];
     let mut any = false;
@@ -91,6 +93,7 @@ pub fn write_whole<W: Write>(output: &mut FromWrite<W>, bytes: &[u8]) -> Result<
     ensures flushed { OnOk result (output.new.device.flushed ≡ true) }
     ensures beginning { WritesBeginning W.Write output.old output.new bytes.now }
     ensures of_write { IfErr result IsOfWrite }
+    ensures faults { CountsWrites output.old output.new result }
 {
     write_bytes(output, bytes)?;
     flush(output)
@@ -102,6 +105,7 @@ fn write_bytes<W: Write>(output: &mut FromWrite<W>, bytes: &[u8]) -> Result<(), 
     ensures whole { OnOk result (WritesBytes W.Write output.old output.new bytes.now) }
     ensures beginning { WritesBeginning W.Write output.old output.new bytes.now }
     ensures of_write { IfErr result IsOfWrite }
+    ensures faults { CountsWrites output.old output.new result }
 {
     Ok(write::write_whole(output, bytes)?)
 }
@@ -111,6 +115,7 @@ pub fn flush<W: Write>(output: &mut FromWrite<W>) -> Result<(), Failure>
     ensures kept { WritesNothing W.Write output.old output.new }
     ensures flushed { OnOk result (output.new.device.flushed ≡ true) }
     ensures of_write { IfErr result IsOfWrite }
+    ensures faults { CountsWrites output.old output.new result }
 {
     Ok(output.flush()?)
 }

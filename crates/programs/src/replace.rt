@@ -8,6 +8,7 @@ ghost use Rattle.programs.specs.Arguments.{texts};
 ghost use Rattle.programs.specs.Asked.{BuildsReplacing, OfReplacing, Replacing, at_even, at_odd, patterns_to_replace, replacing_for};
 ghost use Rattle.programs.specs.Automata.{IsNFAFor};
 ghost use Rattle.programs.specs.Failures.{LeavesReplacing};
+ghost use Rattle.programs.specs.Streams.{CountsFaults};
 
 use crate::failure::Failure;
 use crate::print::flush;
@@ -44,6 +45,7 @@ pub fn replace<R: Read, W: Write>(
     ensures flushed { OnOk result (output.new.device.flushed ≡ true) }
     ensures leaves { LeavesIfNotReplaced W.Write input.old input.new
         output.old output.new result (replacing_for (texts arguments.now)) }
+    ensures faults { CountsFaults input.old input.new output.old output.new result }
 {
     let pairs = split(alloc, arguments)?;
     let patterns = pairs.patterns.as_slice();
@@ -77,7 +79,7 @@ fn split<'a>(alloc: Global, arguments: &'a [String]) -> Result<Pairs<'a>, AllocE
 fn build(alloc: Global, patterns: &[&[u8]]) -> Result<NFA, Failure>
     ensures of { (asked : Replacing) → asked.patterns ≡ pieces_of patterns.now → IfOk result
         (IsNFAFor (patterns_to_replace asked)) }
-    ensures leaves { IfErr result (LeavesReplacing ⊤ ⊥ ⊥) }
+    ensures leaves { IfErr result (LeavesReplacing ⊤ ⊥ ⊥ ⊥) }
     ensures accepted { (asked : Replacing) → asked.patterns ≡ pieces_of patterns.now
         → OnOk result (BuildsReplacing asked) }
 {
@@ -101,6 +103,7 @@ fn replace_by<A: Automaton, B: Automaton, R: Read, W: Write>(
     ensures leaves { OfReplacing (A.is_of automaton.now) (pieces_of pieces.now) (λ asked.
         IfSome rows.entry (λ rows. B.is_of rows.now (patterns_to_replace asked))
         → LeavesIfNotReplaced W.Write input.old input.new output.old output.new result asked) }
+    ensures faults { CountsFaults input.old input.new output.old output.new result }
 {
     match rows {
         Some(rows) => replace_all(alloc, rows, pieces, input, output),
@@ -121,6 +124,7 @@ fn replace_all<A: Automaton, R: Read, W: Write>(
         (WritesIfOk W.Write input.old input.new output.old output.new result) }
     ensures leaves { OfReplacing (A.is_of automaton.now) (pieces_of pieces.now)
         (LeavesIfNotReplaced W.Write input.old input.new output.old output.new result) }
+    ensures faults { CountsFaults input.old input.new output.old output.new result }
 {
     input.restart();
     Ok(try_stream_replace_all(alloc, automaton, input, output, pieces)?)

@@ -5,13 +5,12 @@ ghost use Rattle.std.specs.Io.KnownBytes.{IsAtEnd};
 ghost use Rattle.aho_core.specs.Patterns.{Patterns};
 ghost use Rattle.aho_core.specs.declared.search.Anchored.TheVariants.{No};
 ghost use Rattle.aho_core.specs.declared.search.MatchKind.TheVariants.{Standard};
-ghost use Rattle.programs.specs.Answers.{AreFindsIn, AreMatches, BeginsIfWritten, Begun, BegunFor, BuildsFirst, BuildsFirstToReplace, LeavesIfNotPrinted, LeavesIfNotReplaced, LeavesMatches, LeavesReplacement, PrintsAll, PrintsAnswer, PrintsFor, PrintsIfDone, TellsFailure, TellsLine, WritesIfDone, WritesReplacement};
+ghost use Rattle.programs.specs.Answers.{AreFindsIn, AreMatches, BeginsIfWritten, Begun, BegunFor, BuildsFirst, BuildsFirstToReplace, FailsMatches, FailsReplacement, LeavesIfNotPrinted, LeavesIfNotReplaced, PrintsAll, PrintsAnswer, PrintsFor, PrintsIfDone, TellsFailure, TellsIfFailed, TellsLine, WritesIfDone, WritesReplacement};
 ghost use Rattle.programs.specs.Arguments.{AreWrong, AskForNone, IfAsked, IfReplacing};
 ghost use Rattle.programs.specs.Asked.{Builds, asked_for, kind_of, request_patterns, settings_for};
 ghost use Rattle.programs.specs.Automata.{IsNFAFor};
-ghost use Rattle.aho_devices.specs.Counts.{counted};
-ghost use Rattle.programs.specs.Failures.{is_failed_read, status_of_failure, IsOfWrite, LeavesPrinting};
-ghost use Rattle.programs.specs.Streams.{bytes_left, contents, GivesBytes, Unread, Unwritten};
+ghost use Rattle.programs.specs.Failures.{status_of_failure, HasStatus, IsOfWrite, LeavesPrinting};
+ghost use Rattle.programs.specs.Streams.{bytes_left, contents, CountsFaults, CountsReads, CountsWrites, GivesBytes, NoFaults, Unread, Unwritten};
 ghost use Rattle.programs.specs.declared.command.Task.TheVariants.{Overlap};
 ghost use Rattle.programs.specs.declared.failure.Failure.TheVariants.{Usage};
 
@@ -66,18 +65,21 @@ pub fn run<R: Read, W: Write, E: Write>(
     ensures flushed { result < 2 → output.new.device.flushed ≡ true }
     ensures quiet { result < 2 → errors.new ≡ errors.old }
 
-    // Any other status is that of a failure, which is told.
+    // Any other status is that of a failure, which is told. It is that of a device exactly where this device failed.
+    ensures no_fault { result < 2 → NoFaults input.old input.new output.old output.new }
+    ensures fails { TellsIfFailed E.Write errors.old errors.new
+        input.old input.new output.old output.new result }
     ensures bound { result ≤ 3 }
     ensures refused { IfAsked arguments.now (λ _.
         result ≡ 2 → Unwritten output.old output.new) }
     ensures tells_failure { 2 ≤ result → IfAsked arguments.now (λ asked.
         TellsFailure E.Write errors.old errors.new result
-        (LeavesMatches W.Write input.old input.new output.old output.new asked)) }
+        (FailsMatches W.Write input.old input.new output.old output.new asked)) }
     ensures begins { IfAsked arguments.now
         (BeginsIfWritten W.Write input.old input.new output.old output.new) }
     ensures tells_replace_failure { 2 ≤ result → IfReplacing arguments.now (λ asked.
         TellsFailure E.Write errors.old errors.new result
-        (LeavesReplacement W.Write input.old input.new output.old output.new asked)) }
+        (FailsReplacement W.Write input.old input.new output.old output.new asked)) }
 {
     match answer(alloc, arguments, input, output) {
         Ok(true) => 0,
@@ -123,6 +125,7 @@ fn answer<R: Read, W: Write>(
         (LeavesIfNotPrinted W.Write input.old input.new output.old output.new result) }
     ensures leaves_replacing { IfReplacing arguments.now
         (LeavesIfNotReplaced W.Write input.old input.new output.old output.new result) }
+    ensures faults { CountsFaults input.old input.new output.old output.new result }
 {
     match parse_replace(arguments) {
         Some(pairs) => {
@@ -151,6 +154,7 @@ fn answer_matches<R: Read, W: Write>(
     ensures flushed { OnOk result (output.new.device.flushed ≡ true) }
     ensures leaves { IfAsked arguments.now
         (LeavesIfNotPrinted W.Write input.old input.new output.old output.new result) }
+    ensures faults { CountsFaults input.old input.new output.old output.new result }
 {
     match parse(arguments) {
         Some(request) => search_input(alloc, &request, input, output),
@@ -171,6 +175,7 @@ fn search_input<R: Read, W: Write>(
     ensures flushed { OnOk result (output.new.device.flushed ≡ true) }
     ensures leaves { LeavesIfNotPrinted W.Write
         input.old input.new output.old output.new result (asked_for request.now) }
+    ensures faults { CountsFaults input.old input.new output.old output.new result }
 {
     let automaton = build(alloc, request)?;
     let text = read(alloc, input)?;
@@ -194,6 +199,7 @@ fn print_request<W: Write>(
         (request_patterns request.now) text.now) output.old output.new }
     ensures flushed { OnOk result (output.new.device.flushed ≡ true) }
     ensures of_write { IfErr result IsOfWrite }
+    ensures faults { CountsWrites output.old output.new result }
 {
     let rows = rows_for(alloc, automaton, request, text.len());
     print_by(automaton, rows.as_ref(), request.task, text, output)
@@ -219,6 +225,7 @@ fn print_by<A: Automaton, B: Automaton, W: Write>(
         Begun W.Write (AreMatches task p text.now) output.old output.new }
     ensures flushed { OnOk result (output.new.device.flushed ≡ true) }
     ensures of_write { IfErr result IsOfWrite }
+    ensures faults { CountsWrites output.old output.new result }
 {
     match rows {
         Some(rows) => print_matches(rows, task, text, output),
@@ -231,6 +238,7 @@ pub fn build(alloc: Global, request: &Request<'_>) -> Result<NFA, Failure>
     ensures of { IfOk result (IsNFAFor (request_patterns request.now)) }
     ensures leaves { IfErr result (LeavesPrinting ⊤ ⊤ ⊥) }
     ensures accepted { OnOk result (Builds (asked_for request.now)) }
+    ensures status { IfErr result (HasStatus 2) }
 {
     let patterns = request.patterns.iter().map(|pattern| pattern.as_bytes());
     Ok(builder(request.task).build(alloc, patterns)?)
@@ -252,8 +260,7 @@ fn read<R: Read>(alloc: Global, input: &mut FromRead<R>) -> Result<Vec<u8>, Fail
     ensures read { IfOk result (λ text. GivesBytes input.old input.new text.items) }
     ensures ended { OnOk result (IsAtEnd (bytes_left input.new)) }
     ensures leaves { IfErr result (LeavesPrinting ⊥ ⊤ ⊥) }
-    // A read fault is answered exactly where a read failed.
-    ensures failed { input.new.failures ≡ counted (is_failed_read result) input.old.failures }
+    ensures faults { CountsReads input.old input.new result }
 {
     input.restart();
     let mut text = Vec::new(alloc);
@@ -285,6 +292,7 @@ fn print_matches<A: Automaton, W: Write>(
         (λ p. AreMatches task p text.now) output.old output.new }
     ensures flushed { OnOk result (output.new.device.flushed ≡ true) }
     ensures of_write { IfErr result IsOfWrite }
+    ensures faults { CountsWrites output.old output.new result }
 {
     match task {
         Task::Find { .. } => print_finds(automaton, text, output),
@@ -306,6 +314,7 @@ fn print_finds<A: Automaton, W: Write>(
         (λ p. AreFindsIn p text.now) output.old output.new }
     ensures flushed { OnOk result (output.new.device.flushed ≡ true) }
     ensures of_write { IfErr result IsOfWrite }
+    ensures faults { CountsWrites output.old output.new result }
 {
     print(output, automaton.try_find_iter(Input::new(text))?)
 }
@@ -325,6 +334,7 @@ fn print_occurrences<A: Automaton, W: Write>(
         (λ p. AreMatches Overlap p text.now) output.old output.new }
     ensures flushed { OnOk result (output.new.device.flushed ≡ true) }
     ensures of_write { IfErr result IsOfWrite }
+    ensures faults { CountsWrites output.old output.new result }
 {
     print(
         output,

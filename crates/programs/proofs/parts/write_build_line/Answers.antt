@@ -1,7 +1,6 @@
 -- The parts make the line.
 use Rattle.std.proofs.Common.{◌≡◌, ◌++◌, ℕ, List, codes, decimal, subst, sym, ap, ◌∙◌}
 use Rattle.aho_core.specs.Texts.{build_error_text}
-use Rattle.aho_core.specs.declared.error.BuildError.{BuildError}
 use Rattle.aho_core.specs.declared.error.BuildError.TheVariants.{StateIDOverflow, PatternIDOverflow, PatternTooLong}
 use Rattle.programs.specs.Telling.{TakesBytes}
 use Rattle.programs.proofs.Tellings.{line-of_four, line-of_six}

@@ -1,5 +1,5 @@
 -- The arguments are pairs, and the automata are those of the patterns.
-use Rattle.std.proofs.Common.{◌≡◌, ◌∙◌, ap, length, map, string_bytes, refl, inr}
+use Rattle.std.proofs.Common.{◌∙◌, ap, length, map, string_bytes, refl, inr}
 use Rattle.std.specs.Prelude.{IfSome}
 use Rattle.std.proofs.lemmas.List.{length-map}
 use Rattle.std.proofs.lemmas.Result.{IfErr-weaker}
@@ -62,4 +62,4 @@ returns-clause-leaves g c =
     let whole = c.in_ok-replace_by.ensures.replaces asked (shown c.as_slice-pieces.ensures.value c.in_ok-pairs.ensures.pieces)
     (c.in_ok-automaton.ensures.of asked (shown c.as_slice-patterns.ensures.value c.in_ok-pairs.ensures.patterns))
     (rows_are g (goal.at.returns-clause-leaves g c).After-as_ref) in
-    IfErr-weaker c.flush.result _ _ (λ failure of. leaves_write _ _ failure of (begins_whole (replaces_kept _ whole c.flush.ensures.kept))) c.flush.ensures.of_write
+    IfErr-weaker c.flush.result _ _ (λ failure of. leaves_write _ _ _ failure of (begins_whole (replaces_kept _ whole c.flush.ensures.kept))) c.flush.ensures.of_write

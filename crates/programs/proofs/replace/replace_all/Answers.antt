@@ -1,5 +1,6 @@
 -- What the library promises of the devices holds of the reader and the writer.
-use Rattle.std.proofs.Common.{◌≢◌, ◌∙◌, sym, ap}
+use Rattle.std.proofs.Common.{◌≢◌, ◌∙◌, sym, ap, subst}
+use Rattle.std.specs.Io.KnownBytes.{Consumes}
 use Rattle.aho_build.proofs.StoppedBuilds.{IfErr-given}
 use Rattle.programs.proofs.Ends.{at_end}
 use Rattle.programs.proofs.Replacings.{begins_asked, leaves_stream, most_asked, replaces_asked}
@@ -14,7 +15,9 @@ returns-in_err-try_stream_replace_all-clause-leaves g c asked same of =
     (leaves_stream c.in_err-try_stream_replace_all.field-0.0
     (λ made. (ap (λ s. s.device) (promised.untouched made).0 ∙ c.restart.ensures.device, ap (λ s. s.device) (promised.untouched made).1))
     (begins_asked asked (rw (sym same) at promised.leaves.begun) of left c.restart.ensures.empty_reads ends)
-    (λ fill. most_asked asked (rw (sym same) at (promised.leaves.near fill)) of left c.restart.ensures.empty_reads ends))
+    (λ fill. most_asked asked (rw (sym same) at (promised.leaves.near fill)) of left c.restart.ensures.empty_reads ends)
+    (λ limit. let gave = promised.leaves.limit limit in
+    (gave.0, subst (λ bytes. Consumes bytes (g.R.Read.remaining c.try_stream_replace_all.new.source.device.reader) gave.0) left gave.1.bytes, gave.2)))
 
 pub returns-clause-replaces : goal.returns-clause-replaces
 returns-clause-replaces g c asked same of =

@@ -23,6 +23,7 @@ returns c =
       of = subst (λ (ws : List (List ℕ)). ghosts.is_of nfa (made (settings_for c.args.request.now.task) ws)) patterns
           (subst (λ (s : Settings). ghosts.is_of nfa (made s (map (λ (item : Bor (List ℕ)). item.now) built.0))) c.builder.ensures.settings built.2);
       leaves = tt;
+      status = tt;
       accepted = subst (λ (ws : List (List ℕ)). cause (settings_for c.args.request.now.task) (made (settings_for c.args.request.now.task) ws) ≡ None) patterns
           (subst (λ (s : Settings). cause s (made s (map (λ (item : Bor (List ℕ)). item.now) built.0)) ≡ None) c.builder.ensures.settings built.1.1);
     }

@@ -1,5 +1,5 @@
 -- The parts stand one after another.
-use Rattle.std.proofs.Common.{◌++◌, ℕ, List, codes, option_map, subst}
+use Rattle.std.proofs.Common.{◌++◌, codes, option_map, subst}
 use Rattle.programs.specs.Messages.{line_before, name_before}
 use Rattle.programs.specs.Telling.{TellsBytes}
 use Rattle.programs.proofs.Tellings.{head-parts, tells-later}

@@ -1,11 +1,11 @@
 -- A further part is written, or a beginning of it.
-use Rattle.std.proofs.Common.{◌≡◌, [], ◌∷◌, ◌-◌, ◌<◌, ℕ, List, Bor, length, take, drop, subst, arith}
+use Rattle.std.proofs.Common.{[], ◌-◌, ◌<◌, ℕ, List, Bor, length, take, drop, subst, arith}
 use Rattle.std.proofs.Math.ListN.{get_or}
 use Rattle.std.proofs.lemmas.Grind.{common_steps}
 use Rattle.std.specs.List.{concat}
 use Rattle.aho_core.specs.Replacement.{pieces_of}
 use Rattle.programs.proofs.Tellings.{WritesFirst, first-fails, first-more, handed-on, parts-cut}
-use Rattle.programs.proofs.parts.write_parts.Goals as goal
+use Rattle.programs.proofs.parts.write_each.Goals as goal
 
 pub loop-rest-preserved : goal.loop-rest-preserved
 loop-rest-preserved g c =

@@ -2,7 +2,7 @@
 use Rattle.std.proofs.Common.{length}
 use Rattle.aho_core.specs.Replacement.{pieces_of}
 use Rattle.programs.proofs.Tellings.{WritesFirst}
-use Rattle.programs.proofs.parts.write_parts.Given as goal
+use Rattle.programs.proofs.parts.write_each.Given as goal
 
 abbrev pub invariant-loop-rest : goal.invariant-loop-rest
 invariant-loop-rest g l = WritesFirst g.S.Sink l.initial.sink l.sink (pieces_of l.fn.parts) (pieces_of l.rest)
