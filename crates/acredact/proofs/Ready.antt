@@ -15,7 +15,7 @@ use Rattle.acredact.specs.Arguments.{Given, GivesNoPattern, has}
 use Rattle.acredact.specs.Calls.{gives_pattern}
 use Rattle.acredact.specs.Loading.{AreGiven, OptionGives, Reading, Rules}
 use Rattle.acredact.specs.Secrets.{CanRedact}
-use Rattle.acredact.specs.Tables.{HoldsBy, Secret, patterns_in}
+use Rattle.acredact.specs.Tables.{HaveNoEmpty, HoldsBy, Secret, patterns_in}
 use Rattle.acredact.specs.declared.arguments.Word.{Word}
 use Rattle.acredact.specs.declared.arguments.Word.TheVariants.{IgnoreCase, Kind, Pattern, Patterns as PatternFile, Table, With, Count, Crlf, AllowEmpty, Help, Version, File}
 use Rattle.acredact.specs.declared.patterns.Form.{Form}
@@ -23,25 +23,22 @@ use Rattle.acredact.specs.declared.patterns.Form.{Form}
 abbrev pub IsSomeSecret : Secret → Type 0
 IsSomeSecret secret = 1 ≤ length secret.pattern
 
-abbrev pub AreSome : List Secret → Type 0
-AreSome secrets = All IsSomeSecret secrets
-
 -- no pattern is empty
-pub some_shortest : (secrets : List Secret) → AreSome secrets → 1 ≤ shortest (map length (patterns_in secrets))
+pub some_shortest : (secrets : List Secret) → HaveNoEmpty secrets → 1 ≤ shortest (map length (patterns_in secrets))
 some_shortest [] are = omega arith
 some_shortest (secret ∷ secrets) are = omega (arith, All-head IsSomeSecret secret secrets are, some_shortest secrets (All-tail IsSomeSecret secret secrets are))
 
-lines_some : (form : Form) (lines : List (List ℕ)) (secrets : List Secret) → AllZip (HoldsBy form) lines secrets → AreSome secrets
+lines_some : (form : Form) (lines : List (List ℕ)) (secrets : List Secret) → AllZip (HoldsBy form) lines secrets → HaveNoEmpty secrets
 lines_some form [] [] held = All-nil IsSomeSecret
 lines_some form [] (secret ∷ secrets) held = absurd held
 lines_some form (line ∷ lines) [] held = absurd held
 lines_some form (line ∷ lines) (secret ∷ secrets) held = All-cons IsSomeSecret secret secrets held.0.holds.some (lines_some form lines secrets held.1)
 
-none_some : (secrets : List Secret) → secrets ≡ [] → AreSome secrets
-none_some secrets none = subst AreSome (sym none) (All-nil IsSomeSecret)
+none_some : (secrets : List Secret) → secrets ≡ [] → HaveNoEmpty secrets
+none_some secrets none = subst HaveNoEmpty (sym none) (All-nil IsSomeSecret)
 
-option_some : (reading : Reading) (word : Word) (value : List ℕ) (secrets : List Secret) (left left' : Option (List ℕ)) → OptionGives reading word value secrets left left' → AreSome secrets
-option_some reading Pattern value secrets left left' ((secret, are, holds), same) = subst AreSome (sym are) (All-cons IsSomeSecret secret [] holds.some (All-nil IsSomeSecret))
+option_some : (reading : Reading) (word : Word) (value : List ℕ) (secrets : List Secret) (left left' : Option (List ℕ)) → OptionGives reading word value secrets left left' → HaveNoEmpty secrets
+option_some reading Pattern value secrets left left' ((secret, are, holds), same) = subst HaveNoEmpty (sym are) (All-cons IsSomeSecret secret [] holds.some (All-nil IsSomeSecret))
 option_some reading PatternFile value secrets left left' gives = lines_some _ _ secrets gives.held.held
 option_some reading Table value secrets left left' gives = lines_some _ _ secrets gives.held.held
 option_some reading IgnoreCase value secrets left left' gives = none_some secrets gives.0
@@ -54,19 +51,19 @@ option_some reading Help value secrets left left' gives = none_some secrets give
 option_some reading Version value secrets left left' gives = none_some secrets gives.0
 option_some reading File value secrets left left' gives = none_some secrets gives.0
 
-pub given_some : (reading : Reading) (items : List Given) (secrets : List Secret) (left left' : Option (List ℕ)) → AreGiven reading items secrets left left' → AreSome secrets
+pub given_some : (reading : Reading) (items : List Given) (secrets : List Secret) (left left' : Option (List ℕ)) → AreGiven reading items secrets left left' → HaveNoEmpty secrets
 given_some reading [] secrets left left' given = none_some secrets given.0
 given_some reading (item ∷ items) secrets left left' (first, rest, are, between, gives, given) =
-    subst AreSome (sym are) (All-append IsSomeSecret first rest (option_some reading item.word item.value first left between gives) (given_some reading items rest between left' given))
+    subst HaveNoEmpty (sym are) (All-append IsSomeSecret first rest (option_some reading item.word item.value first left between gives) (given_some reading items rest between left' given))
 
 started : (start : Result ℕ MatchErrorKind) → IsOk start → (sid : ℕ) × (start ≡ Ok sid)
 started (Ok sid) is = (sid, refl)
 started (Err error) is = absurd (cc)
 
 -- an automaton is ready
-pub ready_of : {A : Type 0} (G : Ghosts A) (automaton : A) (p : Patterns) (count : ℕ) → G.is_of automaton p → G.lengths automaton ≡ map length p.words → IsOk (G.start automaton No)
-    → 1 ≤ shortest (map length p.words) → count ≡ length p.words → CanRedact G automaton count
-ready_of G automaton p count of are starts some one =
+pub ready_of : {A : Type 0} (G : Ghosts A) (automaton : A) (p : Patterns) (replacements : List (Bor (List ℕ))) → G.is_of automaton p → G.lengths automaton ≡ map length p.words → IsOk (G.start automaton No)
+    → 1 ≤ shortest (map length p.words) → length replacements ≡ length p.words → CanRedact G automaton replacements
+ready_of G automaton p replacements of are starts some one =
     let start = started (G.start automaton No) starts in
     record {
       patterns = p;

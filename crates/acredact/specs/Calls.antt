@@ -21,7 +21,7 @@ use Rattle.acredact.specs.Files.{AreCut, AreDone, AreRedacted, Does, Work, are_n
 use Rattle.acredact.specs.Loading.{AreGiven, CannotLoadOne, Reading, Rules}
 use Rattle.acredact.specs.Mistakes.{IsMistake}
 use Rattle.acredact.specs.Secrets.{Redactor}
-use Rattle.acredact.specs.Tables.{Secret, patterns_in, piece_by}
+use Rattle.acredact.specs.Tables.{Secret, patterns_in, piece_by, secrets_of}
 use Rattle.acredact.specs.declared.arguments.Expects.TheVariants.{Any}
 use Rattle.acredact.specs.declared.arguments.Mistake.TheVariants.{NoPattern, OutOfMemory as NoRoom}
 use Rattle.acredact.specs.declared.arguments.Word.{Word}
@@ -29,6 +29,7 @@ use Rattle.acredact.specs.declared.arguments.Word.TheVariants.{Count, Crlf, Allo
 use Rattle.acredact.specs.declared.failure.Failure.{Failure}
 use Rattle.acredact.specs.declared.failure.Failure.TheVariants.{NotText, Arguments, Pattern, Unread, Empty, Line, Counts, Other}
 use Rattle.acredact.specs.declared.folder.Folder.{Ghosts as Folders}
+use Rattle.acredact.specs.declared.patterns.Rule.{Rule}
 use Rattle.acredact.specs.declared.streams.Streams.{Streams}
 
 -- the options and files that are given, and what the folder holds under a name and why it may refuse to open it
@@ -184,6 +185,25 @@ module _ {R : Type 0} {Reads : Readers R} {W : Type 0} (Writes : Writers W) wher
       pub quiet : result ≡ Ok true → streams'.errors ≡ streams.errors
       pub fails : IfErr result (IsRunFailure (OutputFails streams.output streams'.output))
 
--- what comes of a call whose patterns are loaded: these secrets, and so many bytes are left of the input
-abbrev pub IfLoaded : Call → List Secret → Option (List ℕ) → (Option (List ℕ) → Type 0) → Type 0
-IfLoaded call secrets between Holds = (left : Option (List ℕ)) → AreGiven (reading_by call) call.given secrets left between → Holds left
+    -- the same of a call whose patterns were loaded as these rules, with the bytes that the input has left since
+    abbrev pub LoadedOutcome : {F X : Type 0} → Folders F X → F → List Given → List Rule → Result Bool Failure → (streams streams' : Streams R W E Reads) → Type 0
+    LoadedOutcome D folder given rules result streams streams' = (left : Option (List ℕ))
+        → AreGiven (reading_by (call_of D folder given)) given (secrets_of rules) left (bytes_left streams.input)
+        → CallOutcome (call_of D folder given) left result streams streams'
+
+    -- and of a call whose patterns are to be loaded
+    abbrev pub AskedOutcome : {F X : Type 0} → Folders F X → F → List Given → Result Bool Failure → (streams streams' : Streams R W E Reads) → Type 0
+    AskedOutcome D folder given result streams streams' = CallOutcome (call_of D folder given) (bytes_left streams.input) result streams streams'
+
+  -- what these options and files ask for is redacted
+  abbrev pub RedactsAsked : {E F X : Type 0} → Folders F X → F → List Given → (streams streams' : Streams R W E Reads) → Type 0
+  RedactsAsked D folder given streams streams' = RedactsCall (call_of D folder given) (bytes_left streams.input) streams streams'
+
+  -- or some of it, and nothing else is written
+  abbrev pub BeginsAsked : {E F X : Type 0} → Folders F X → F → List Given → (streams streams' : Streams R W E Reads) → Type 0
+  BeginsAsked D folder given streams streams' = BeginsCall (call_of D folder given) (bytes_left streams.input) streams streams'
+
+-- one line or more of a call that asks for this is told
+abbrev pub TellsAsked : {R W E F X : Type 0} {Reads : Readers R} → SinkGhosts E → Folders F X → F → List Given → (streams streams' : Streams R W E Reads) → Type 0
+TellsAsked K D folder given streams streams' =
+    TellsSome K (IsLineOf (call_of D folder given) (OutputFails streams.output streams'.output)) streams.errors streams'.errors

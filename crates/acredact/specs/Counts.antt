@@ -26,3 +26,7 @@ counts_text number (line ∷ lines) (count ∷ counts) = count_line count number
 
 abbrev pub lines_of_rules : List Rule → List ℕ
 lines_of_rules rules = map (λ rule. rule.line) rules
+
+-- what is told of these rules
+abbrev pub counts_told : List Rule → (counts : List ℕ) → List ℕ
+counts_told rules counts = counts_text 1 (lines_of_rules rules) counts

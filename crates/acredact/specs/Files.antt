@@ -6,6 +6,7 @@ use Rattle.std.specs.declared.io.traits.Read.{Ghosts as Readers}
 use Rattle.std.specs.declared.io.traits.Write.{Ghosts as Writers}
 use Rattle.aho_core.specs.Patterns.{Patterns}
 use Rattle.aho_core.specs.declared.error.stream.StreamError.{StreamError}
+use Rattle.aho_automaton.specs.declared.automaton.Automaton.{Ghosts}
 use Rattle.aho_devices.specs.Counts.{counted}
 use Rattle.aho_devices.specs.Refusals.{is_write_fault, is_write_of_nothing}
 use Rattle.aho_devices.specs.declared.adapters.FromRead.{FromRead}
@@ -19,7 +20,7 @@ use Rattle.programs.specs.declared.reason.Reason.{Reason}
 use Rattle.acredact.specs.Faults.{IsOutputEnd, IsReadReason}
 use Rattle.acredact.specs.Messages.{line_about}
 use Rattle.acredact.specs.Reads.{OfName, ReadsText}
-use Rattle.acredact.specs.Secrets.{BeginsRedaction, IsRedaction, Redactor, redactor_by}
+use Rattle.acredact.specs.Secrets.{BeginsRedaction, IfOf, IsRedaction, Redactor, redactor_by}
 use Rattle.acredact.specs.declared.files.Job.{Job}
 use Rattle.acredact.specs.declared.folder.Folder.{Ghosts as Folders}
 use Rattle.acredact.specs.declared.streams.Streams.{Streams}
@@ -154,3 +155,7 @@ module _ {W : Type 0} (Writes : Writers W) where
         pub cut : OnErr result ((lines : List (List ℕ)) × Does streams streams' (AreCut work work.names lines) lines)
         pub quiet : result ≡ Ok true → streams'.errors ≡ streams.errors
         pub fails : FailsByOutput result streams.output streams'.output
+
+      -- the same of a job, where files are redacted by an automaton
+      abbrev pub JobOutcome : {A F X : Type 0} → Ghosts A → Folders F X → A → Job F → Result Bool StreamError → (streams streams' : Streams R W E Reads) → Type 0
+      JobOutcome G D automaton job result streams streams' = IfOf G automaton (λ p. FilesOutcome (work_of D job p) result streams streams')

@@ -1,15 +1,17 @@
 -- What the options give, one after another, and why they do not.
-use Rattle.std.specs.Prelude.{◌≡◌, ◌⊎◌, ℕ, Bool, true, false, List, [], ◌∷◌, ◌++◌, Option, Some, None, IfSome, Result, Ok, Err}
+use Rattle.std.specs.Prelude.{◌≡◌, ◌⊎◌, ℕ, Bool, true, false, List, [], ◌∷◌, ◌++◌, Option, Some, None, IfSome, Result, Ok, Err, Vec}
 use Rattle.std.specs.List.{AllZip}
-use Rattle.std.specs.declared.vec.Vec.{Vec}
+use Rattle.std.specs.declared.io.traits.Read.{Ghosts as Readers}
+use Rattle.aho_devices.specs.declared.adapters.FromRead.{FromRead}
 use Rattle.programs.specs.Names.{is_input}
+use Rattle.programs.specs.Streams.{bytes_left}
 use Rattle.programs.specs.declared.failure.Failure.TheVariants.{OutOfMemory as NoMemory}
 use Rattle.programs.specs.declared.reason.Reason.{Reason}
 use Rattle.programs.specs.declared.reason.Reason.TheVariants.{NotFound, Denied, Directory, NoDirectory, Links, LongName, Invalid, Full, TooLarge, Quota, Interrupted, Unavailable, Closed, OutOfMemory, PositionLimit, ReadFault, Fault}
 use Rattle.acredact.specs.Arguments.{Given}
 use Rattle.acredact.specs.LineFaults.{IsLineFault, IsListFault}
 use Rattle.acredact.specs.Reads.{OfName, ReadsText}
-use Rattle.acredact.specs.Tables.{Holds, HoldsBy, IsAdded, Secret, lines_in}
+use Rattle.acredact.specs.Tables.{Holds, HoldsBy, Secret, lines_in, secrets_of}
 use Rattle.acredact.specs.declared.arguments.Word.{Word}
 use Rattle.acredact.specs.declared.arguments.Word.TheVariants.{IgnoreCase, Kind, Pattern, Patterns, Table, With, Count, Crlf, AllowEmpty, Help, Version, File}
 use Rattle.acredact.specs.declared.failure.Failure.{Failure}
@@ -17,6 +19,7 @@ use Rattle.acredact.specs.declared.failure.Failure.TheVariants.{NotText, Argumen
 use Rattle.acredact.specs.declared.folder.Folder.{Ghosts as Folders}
 use Rattle.acredact.specs.declared.load.Lists.{Lists}
 use Rattle.acredact.specs.declared.patterns.Form.{Form}
+use Rattle.acredact.specs.declared.patterns.Rule.{Rule}
 
 -- how lists, the files of patterns and tables, are read
 pub record Rules : Type 0 where
@@ -90,6 +93,27 @@ pub record IsAddedItem (reading : Reading) (item : Given) (old new : List Secret
   pub more : List Secret
   pub grown : new ≡ old ++ more
   pub of : OptionGives reading item.word item.value more left left'
+
+-- the same, of the rules and of the input before and after
+abbrev pub AddsList : {F Z : Type 0} → Lists F → Bool → List ℕ → (rules rules' : Vec Rule Z) → Type 0
+AddsList lists table text rules rules' = IsAddedText (rules_for lists) table text (secrets_of rules.items) (secrets_of rules'.items)
+
+module _ {F X R Z : Type 0} {Reads : Readers R} (D : Folders F X) (lists : Lists F) where
+  abbrev pub AddsFile : Bool → List ℕ → (rules rules' : Vec Rule Z) → (input input' : FromRead R Reads) → Type 0
+  AddsFile table name rules rules' input input' =
+      IsAddedFile (reading_of_lists D lists) table name (secrets_of rules.items) (secrets_of rules'.items) (bytes_left input) (bytes_left input')
+
+  abbrev pub AddsItem : Given → (rules rules' : Vec Rule Z) → (input input' : FromRead R Reads) → Type 0
+  AddsItem item rules rules' input input' =
+      IsAddedItem (reading_of_lists D lists) item (secrets_of rules.items) (secrets_of rules'.items) (bytes_left input) (bytes_left input')
+
+  -- the rules hold what all options give
+  abbrev pub GivesRules : List Given → (rules : Vec Rule Z) → (input input' : FromRead R Reads) → Type 0
+  GivesRules given rules input input' = AreGiven (reading_of_lists D lists) given (secrets_of rules.items) (bytes_left input) (bytes_left input')
+
+  -- the list of this name was read to its end
+  abbrev pub ReadsList : List ℕ → (text : Vec ℕ Z) → (input input' : FromRead R Reads) → Type 0
+  ReadsList name text input input' = OfName (D.holds lists.folder.now) name (ReadsText text.items) (bytes_left input) (bytes_left input')
 
 -- a text is not read to its end: a read fails, or memory runs out
 abbrev pub IsTextReason : Reason → Type 0

@@ -51,8 +51,8 @@ BeginsRedaction r given ended part =
     (text : List ℕ) → MayBe given ended text → (redaction : List ℕ) × IsRedaction r text redaction × StartsWith redaction part
 
 -- an automaton of some patterns can search streams, and there are as many replacements
-pub record CanRedact {A : Type 0} (G : Ghosts A) (automaton : A) (count : ℕ) : Type 0 where
+pub record CanRedact {A : Type 0} (G : Ghosts A) (automaton : A) (replacements : List (Bor (List ℕ))) : Type 0 where
   pub patterns : Patterns
   pub of : G.is_of automaton patterns
   pub begins : CanBegin G automaton
-  pub one_each : count ≡ length (G.lengths automaton)
+  pub one_each : length replacements ≡ length (G.lengths automaton)

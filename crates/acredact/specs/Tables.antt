@@ -1,5 +1,5 @@
 -- What the lines of a file of patterns and of a table hold.
-use Rattle.std.specs.Prelude.{◌≡◌, ℕ, ◌≤◌, Bool, true, false, List, [], ◌∷◌, ◌++◌, Option, Some, None, codes, length, map, nat_eq, option_map, unwrap_or, if◌then◌else◌}
+use Rattle.std.specs.Prelude.{◌≡◌, ℕ, ◌≤◌, Bool, true, false, List, [], ◌∷◌, ◌++◌, Option, Some, None, Vec, codes, length, map, nat_eq, option_map, unwrap_or, if◌then◌else◌}
 use Rattle.std.specs.Io.BufRead.{ends_with_byte, strip_last}
 use Rattle.std.specs.List.{All, AllZip, flat_map, slice_split}
 use Rattle.acredact.specs.declared.patterns.Form.{Form}
@@ -27,6 +27,10 @@ secret_of rule = record { pattern = rule.pattern.items; replacement = option_map
 
 abbrev pub secrets_of : List Rule → List Secret
 secrets_of rules = map secret_of rules
+
+-- none of their patterns is empty
+abbrev pub HaveNoEmpty : List Secret → Type 0
+HaveNoEmpty secrets = All (λ secret. 1 ≤ length secret.pattern) secrets
 
 -- a line of a file of patterns is a pattern
 abbrev pub IsPlain : List ℕ → Secret → Type 0
@@ -75,6 +79,13 @@ pub record IsAddedList (form : Form) (old new : List Secret) (lines : List (List
   pub more : List Secret
   pub grown : new ≡ old ++ more
   pub held : AllZip (HoldsBy form) lines more
+
+-- the same, of the rules before and after
+abbrev pub AddsLine : {Z : Type 0} → Bool → List ℕ → (rules rules' : Vec Rule Z) → Type 0
+AddsLine table line rules rules' = IsAdded table (secrets_of rules.items) (secrets_of rules'.items) line
+
+abbrev pub AddsLines : {Z : Type 0} → Form → List (List ℕ) → (rules rules' : Vec Rule Z) → Type 0
+AddsLines form lines rules rules' = IsAddedList form (secrets_of rules.items) (secrets_of rules'.items) lines
 
 -- the bytes of the patterns
 abbrev pub patterns_in : List Secret → List (List ℕ)

@@ -1,7 +1,7 @@
 //! How many matches of each pattern were replaced.
 
 ghost use Rattle.std.specs.Prelude.{◌≡◌, ◌++◌, IfOk, OnErr, OnOk, decimal};
-ghost use Rattle.acredact.specs.Counts.{count_line, counts_text, lines_of_rules, place_told, zeros};
+ghost use Rattle.acredact.specs.Counts.{count_line, counts_told, place_told, zeros};
 ghost use Rattle.programs.specs.Telling.{TellsBytes};
 
 use crate::patterns::Rule;
@@ -41,7 +41,7 @@ pub fn tell_counts<E: Sink>(
     counts: &[u64],
 ) -> Result<(), AllocError>
     ensures told { OnOk result (TellsBytes E.Sink errors.old errors.new
-        (counts_text 1 (lines_of_rules rules.now) counts.now)) }
+        (counts_told rules.now counts.now)) }
     ensures untold { OnErr result (errors.new ≡ errors.old) }
 {
     let text = text_of(alloc, rules, counts)?;
@@ -51,8 +51,7 @@ pub fn tell_counts<E: Sink>(
 
 /// The lines of all patterns.
 fn text_of(alloc: Global, rules: &[Rule], counts: &[u64]) -> Result<Vec<u8>, AllocError>
-    ensures text { IfOk result (λ text.
-        text.items ≡ counts_text 1 (lines_of_rules rules.now) counts.now) }
+    ensures text { IfOk result (λ text. text.items ≡ counts_told rules.now counts.now) }
 {
     let mut text = Vec::new(alloc);
     let mut rest = rules;

@@ -1,12 +1,12 @@
 //! The redaction of files, one after another.
 
-ghost use Rattle.std.specs.Prelude.{◌≡◌, ◌&&◌, ℕ, List, Option, OnOk, length, true};
+ghost use Rattle.std.specs.Prelude.{◌≡◌, ◌&&◌, ℕ, List, Option, OnOk, true};
 ghost use Rattle.aho_core.specs.Patterns.{Patterns};
 ghost use Rattle.aho_devices.specs.Counts.{counted};
 ghost use Rattle.programs.specs.Names.{is_input};
 ghost use Rattle.programs.specs.Streams.{bytes_left};
 ghost use Rattle.acredact.specs.Faults.{is_unread, reading_of};
-ghost use Rattle.acredact.specs.Files.{FileOutcome, FilesOutcome, TextOutcome, ToldOutcome, redactor_of, work_of};
+ghost use Rattle.acredact.specs.Files.{FileOutcome, JobOutcome, TextOutcome, ToldOutcome, redactor_of, work_of};
 ghost use Rattle.acredact.specs.Secrets.{IfOf, CanRedact};
 ghost use Rattle.acredact.specs.Streams.{StreamOutcome};
 
@@ -49,9 +49,9 @@ pub fn redact_files<A: Automaton, F: Folder, I: Read, W: Write, E: Sink>(
     counts: &mut [u64],
     streams: &mut Streams<'_, I, W, E>,
 ) -> Result<bool, StreamError>
-    requires ready { CanRedact A.Automaton automaton.now (length job.now.replacements.now) }
-    ensures outcome { IfOf A.Automaton automaton.now (λ p.
-        FilesOutcome W.Write E.Sink (work_of F.Folder job.now p) result streams.old streams.new) }
+    requires ready { CanRedact A.Automaton automaton.now job.now.replacements.now }
+    ensures outcome { JobOutcome W.Write E.Sink A.Automaton F.Folder
+        automaton.now job.now result streams.old streams.new }
     ensures flushed { OnOk result (streams.new.output.device.flushed ≡ true) }
 {
     let all = redact_each(automaton, job, counts, streams)?;
@@ -66,9 +66,9 @@ fn redact_each<A: Automaton, F: Folder, I: Read, W: Write, E: Sink>(
     counts: &mut [u64],
     streams: &mut Streams<'_, I, W, E>,
 ) -> Result<bool, StreamError>
-    requires ready { CanRedact A.Automaton automaton.now (length job.now.replacements.now) }
-    ensures outcome { IfOf A.Automaton automaton.now (λ p.
-        FilesOutcome W.Write E.Sink (work_of F.Folder job.now p) result streams.old streams.new) }
+    requires ready { CanRedact A.Automaton automaton.now job.now.replacements.now }
+    ensures outcome { JobOutcome W.Write E.Sink A.Automaton F.Folder
+        automaton.now job.now result streams.old streams.new }
 {
     let mut all = true;
     let mut rest = job.names;
@@ -95,7 +95,7 @@ fn redact_told<A: Automaton, F: Folder, I: Read, W: Write, E: Sink>(
     counts: &mut [u64],
     streams: &mut Streams<'_, I, W, E>,
 ) -> Result<bool, StreamError>
-    requires ready { CanRedact A.Automaton automaton.now (length job.now.replacements.now) }
+    requires ready { CanRedact A.Automaton automaton.now job.now.replacements.now }
     ensures outcome { IfOf A.Automaton automaton.now (λ p. ToldOutcome W.Write E.Sink
         (work_of F.Folder job.now p) name.now result streams.old streams.new) }
 {
@@ -124,7 +124,7 @@ fn redact_file<A: Automaton, F: Folder, I: Read, W: Write>(
     input: &mut FromRead<I>,
     output: &mut FromWrite<W>,
 ) -> Result<Option<Reason>, StreamError>
-    requires ready { CanRedact A.Automaton automaton.now (length job.now.replacements.now) }
+    requires ready { CanRedact A.Automaton automaton.now job.now.replacements.now }
     ensures outcome { IfOf A.Automaton automaton.now (λ p. FileOutcome W.Write
         (work_of F.Folder job.now p) name.now result input.old input.new output.old output.new) }
 {
@@ -152,7 +152,7 @@ fn redact_opened<A: Automaton, F, I: Read + Drop, W: Write>(
     reader: I,
     output: &mut FromWrite<W>,
 ) -> Result<Option<Reason>, StreamError>
-    requires ready { CanRedact A.Automaton automaton.now (length job.now.replacements.now) }
+    requires ready { CanRedact A.Automaton automaton.now job.now.replacements.now }
     ensures outcome { IfOf A.Automaton automaton.now (λ p. (rest : Option (List ℕ)) × TextOutcome
         W.Write (redactor_of job.now p) result (I.remaining reader) rest output.old output.new) }
 {
@@ -168,7 +168,7 @@ fn redact_input<A: Automaton, F, I: Read, W: Write>(
     input: &mut FromRead<I>,
     output: &mut FromWrite<W>,
 ) -> Result<Option<Reason>, StreamError>
-    requires ready { CanRedact A.Automaton automaton.now (length job.now.replacements.now) }
+    requires ready { CanRedact A.Automaton automaton.now job.now.replacements.now }
     ensures outcome { IfOf A.Automaton automaton.now (λ p. TextOutcome W.Write (redactor_of job.now p)
         result (bytes_left input.old) (bytes_left input.new) output.old output.new) }
     ensures failed { input.new.failures ≡ counted (is_unread result) input.old.failures }
@@ -185,7 +185,7 @@ fn redact_stream<A: Automaton, F, R: Source, W: Sink>(
     source: &mut R,
     sink: &mut W,
 ) -> Result<(), StreamError>
-    requires ready { CanRedact A.Automaton automaton.now (length job.now.replacements.now) }
+    requires ready { CanRedact A.Automaton automaton.now job.now.replacements.now }
     ensures outcome { IfOf A.Automaton automaton.now (λ p. StreamOutcome R.Source W.Sink
         (redactor_of job.now p) result source.old source.new sink.old sink.new) }
 {

@@ -4,9 +4,9 @@ ghost use Rattle.std.specs.Prelude.{◌≡◌, ℕ, List, Option, IfErr, IfOk, O
 ghost use Rattle.aho_devices.specs.Counts.{counted};
 ghost use Rattle.programs.specs.Streams.{bytes_left};
 ghost use Rattle.acredact.specs.Arguments.{all_given, given_of};
-ghost use Rattle.acredact.specs.Loading.{AreGiven, CannotLoad, CannotLoadOne, CannotRead, IsAddedFile, IsAddedItem, IsAddedText, IsFileFailure, IsPatternFailure, IsTextFailure, IsTextReason, is_failed_text, reading_of_lists, rules_for};
-ghost use Rattle.acredact.specs.Reads.{OfName, ReadsText};
-ghost use Rattle.acredact.specs.Tables.{IsAdded, secrets_of};
+ghost use Rattle.acredact.specs.Loading.{AddsFile, AddsItem, AddsList, CannotLoad, CannotLoadOne, CannotRead, GivesRules, IsFileFailure, IsPatternFailure, IsTextFailure, IsTextReason, ReadsList, is_failed_text, reading_of_lists, rules_for};
+ghost use Rattle.acredact.specs.Reads.{ReadsText};
+ghost use Rattle.acredact.specs.Tables.{AddsLine};
 
 use crate::arguments::{Item, Word};
 use crate::failure::Failure;
@@ -45,8 +45,8 @@ pub fn rules<'a, F: Folder, I: Read>(
     items: &[Item<'a>],
     input: &mut FromRead<I>,
 ) -> Result<Vec<Rule>, Failure<'a>>
-    ensures given { IfOk result (λ rules. AreGiven (reading_of_lists F.Folder lists.now) (all_given items.now)
-        (secrets_of rules.items) (bytes_left input.old) (bytes_left input.new)) }
+    ensures given { IfOk result (λ rules.
+        GivesRules F.Folder lists.now (all_given items.now) rules input.old input.new) }
     ensures fails { IfErr result (CannotLoadOne (reading_of_lists F.Folder lists.now) (all_given items.now)) }
 {
     let mut rules = Vec::new(lists.alloc);
@@ -69,9 +69,8 @@ fn add_item<'a, F: Folder, I: Read>(
     item: Item<'a>,
     input: &mut FromRead<I>,
 ) -> Result<(), Failure<'a>>
-    ensures added { OnOk result (IsAddedItem (reading_of_lists F.Folder lists.now) (given_of item.entry)
-        (secrets_of rules.old.items) (secrets_of rules.new.items)
-        (bytes_left input.old) (bytes_left input.new)) }
+    ensures added { OnOk result (AddsItem F.Folder lists.now (given_of item.entry)
+        rules.old rules.new input.old input.new) }
     ensures fails { IfErr result (CannotLoad (reading_of_lists F.Folder lists.now) (given_of item.entry)) }
 {
     match item.word {
@@ -88,8 +87,7 @@ fn add_pattern<'a>(
     rules: &mut Vec<Rule>,
     pattern: &'a str,
 ) -> Result<(), Failure<'a>>
-    ensures added { OnOk result (IsAdded false
-        (secrets_of rules.old.items) (secrets_of rules.new.items) pattern.now) }
+    ensures added { OnOk result (AddsLine false pattern.now rules.old rules.new) }
     ensures fails { IfErr result (IsPatternFailure pattern.now) }
 {
     match add_line(alloc, rules, pattern.as_bytes(), false, 0) {
@@ -106,9 +104,8 @@ fn add_file<'a, F: Folder, I: Read>(
     table: bool,
     input: &mut FromRead<I>,
 ) -> Result<(), Failure<'a>>
-    ensures added { OnOk result (IsAddedFile (reading_of_lists F.Folder lists.now) table name.now
-        (secrets_of rules.old.items) (secrets_of rules.new.items)
-        (bytes_left input.old) (bytes_left input.new)) }
+    ensures added { OnOk result (AddsFile F.Folder lists.now table name.now
+        rules.old rules.new input.old input.new) }
     ensures fails { IfErr result (IsFileFailure (reading_of_lists F.Folder lists.now) table name.now) }
 {
     match read_list(lists, name, input) {
@@ -125,8 +122,7 @@ fn add_text<'a, F>(
     table: bool,
     text: &[u8],
 ) -> Result<(), Failure<'a>>
-    ensures added { OnOk result (IsAddedText (rules_for lists.now) table text.now
-        (secrets_of rules.old.items) (secrets_of rules.new.items)) }
+    ensures added { OnOk result (AddsList lists.now table text.now rules.old rules.new) }
     ensures fails { IfErr result (IsTextFailure (rules_for lists.now) table name.now text.now) }
 {
     if text.is_empty() && !lists.allow_empty {
@@ -148,8 +144,8 @@ fn read_list<F: Folder, I: Read>(
     name: &str,
     input: &mut FromRead<I>,
 ) -> Result<Vec<u8>, Reason>
-    ensures text { IfOk result (λ text. OfName (F.holds lists.now.folder.now) name.now
-        (ReadsText text.items) (bytes_left input.old) (bytes_left input.new)) }
+    ensures text { IfOk result (λ text.
+        ReadsList F.Folder lists.now name.now text input.old input.new) }
     ensures fails { IfErr result (CannotRead (reading_of_lists F.Folder lists.now) name.now) }
 {
     if is_input(name) {

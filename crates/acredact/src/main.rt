@@ -19,10 +19,9 @@ mod streams;
 
 ghost use Rattle.std.specs.Prelude.{◌≡◌, ◌⊎◌, IfErr, IfOk, true};
 ghost use Rattle.std.specs.Process.{exit_status};
-ghost use Rattle.programs.specs.Streams.{bytes_left};
 ghost use Rattle.programs.specs.Telling.{TellsSome};
 ghost use Rattle.acredact.specs.Arguments.{AreMistaken, IfAsked};
-ghost use Rattle.acredact.specs.Calls.{BeginsCall, IsRefusedLine, RedactsCall, call_of};
+ghost use Rattle.acredact.specs.Calls.{BeginsAsked, IsRefusedLine, RedactsAsked};
 
 use aho_devices::adapters::{FromRead, FromWrite};
 use aho_devices::device::Sink;
@@ -72,11 +71,9 @@ fn exit_code<F: Folder, I: Read, W: Write, E: Sink>(
     ensures wrong { IfOk given (λ arguments.
         AreMistaken arguments.items → exit_status result ≡ 2) }
     ensures redacts { IfOk given (λ arguments. IfAsked arguments.items (λ given.
-        exit_status result ≡ 0 → RedactsCall W.Write (call_of F.Folder folder.now given)
-        (bytes_left streams.old.input) streams.old streams.new)) }
+        exit_status result ≡ 0 → RedactsAsked W.Write F.Folder folder.now given streams.old streams.new)) }
     ensures begins { IfOk given (λ arguments. IfAsked arguments.items (λ given.
-        BeginsCall W.Write (call_of F.Folder folder.now given)
-        (bytes_left streams.old.input) streams.old streams.new)) }
+        BeginsAsked W.Write F.Folder folder.now given streams.old streams.new)) }
     ensures flushed { exit_status result ≡ 0 → streams.new.output.device.flushed ≡ true }
     ensures bound { (exit_status result ≡ 0) ⊎ (exit_status result ≡ 2) }
 {

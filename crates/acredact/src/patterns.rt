@@ -4,7 +4,7 @@ ghost use Rattle.std.specs.Prelude.{◌≡◌, [], ◌<◌, ◌≤◌, ◌∷◌
 ghost use Rattle.std.specs.Io.BufRead.{ends_with_byte, strip_last};
 ghost use Rattle.aho_core.specs.Replacement.{pieces_of};
 ghost use Rattle.acredact.specs.LineFaults.{IsBadStart, IsLineFault, IsLineFaultBy, IsListFault, IsTextFault};
-ghost use Rattle.acredact.specs.Tables.{Holds, IsAdded, IsAddedList, IsWithout, escape_of, in_table, stripped_by, lines_in, patterns_in, piece_by, secret_of, secrets_of};
+ghost use Rattle.acredact.specs.Tables.{AddsLine, AddsLines, Holds, IsWithout, escape_of, in_table, stripped_by, lines_in, patterns_in, piece_by, secret_of, secrets_of};
 
 use std::alloc::{AllocError, AllocFailed, Global};
 use std::slice;
@@ -217,8 +217,7 @@ pub fn add_lines(
     text: &[u8],
     form: Form,
 ) -> Result<(), BadLine>
-    ensures added { OnOk result (IsAddedList form
-        (secrets_of rules.old.items) (secrets_of rules.new.items) (lines_in text.now)) }
+    ensures added { OnOk result (AddsLines form (lines_in text.now) rules.old rules.new) }
     ensures fault { IfErr result (IsListFault form (lines_in text.now)) }
 {
     if text.is_empty() {
@@ -242,8 +241,7 @@ fn add_numbered(
     form: Form,
     number: usize,
 ) -> Result<(), BadLine>
-    ensures added { OnOk result (IsAddedList form
-        (secrets_of rules.old.items) (secrets_of rules.new.items) (line.now ∷ [])) }
+    ensures added { OnOk result (AddsLines form (line.now ∷ []) rules.old rules.new) }
     ensures number { IfErr result (λ bad. bad.number ≡ number) }
     ensures fault { IfErr result (λ bad. IsLineFaultBy form line.now bad.fault) }
 {
@@ -261,8 +259,7 @@ fn add_listed(
     form: Form,
     number: usize,
 ) -> Result<(), LineFault>
-    ensures added { OnOk result (IsAddedList form
-        (secrets_of rules.old.items) (secrets_of rules.new.items) (line.now ∷ [])) }
+    ensures added { OnOk result (AddsLines form (line.now ∷ []) rules.old rules.new) }
     ensures fault { IfErr result (IsLineFaultBy form line.now) }
 {
     let line = stripped_by(form, line);
@@ -297,8 +294,7 @@ pub fn add_line(
     table: bool,
     number: usize,
 ) -> Result<(), LineFault>
-    ensures added { OnOk result (IsAdded table
-        (secrets_of rules.old.items) (secrets_of rules.new.items) line.now) }
+    ensures added { OnOk result (AddsLine table line.now rules.old rules.new) }
     ensures fault { IfErr result (IsLineFault table line.now) }
 {
     let rule = if table {

@@ -27,7 +27,7 @@ pub fn redact<A: Automaton, R: Source, W: Sink>(
     source: &mut R,
     sink: &mut W,
 ) -> Result<(), StreamError>
-    requires ready { CanRedact A.Automaton automaton.now (length replacements.now) }
+    requires ready { CanRedact A.Automaton automaton.now replacements.now }
     ensures outcome { IfOf A.Automaton automaton.now (λ p. StreamOutcome R.Source W.Sink
         (redactor_by p replacements.now) result source.old source.new sink.old sink.new) }
 {
@@ -43,7 +43,7 @@ pub fn redact_counting<A: Automaton, R: Source, W: Sink>(
     source: &mut R,
     sink: &mut W,
 ) -> Result<(), StreamError>
-    requires ready { CanRedact A.Automaton automaton.now (length replacements.now) }
+    requires ready { CanRedact A.Automaton automaton.now replacements.now }
     ensures outcome { IfOf A.Automaton automaton.now (λ p. StreamOutcome R.Source W.Sink
         (redactor_by p replacements.now) result source.old source.new sink.old sink.new) }
 {

@@ -1,17 +1,16 @@
 //! A call of the program over its arguments, files and streams.
 
-ghost use Rattle.std.specs.Prelude.{◌≡◌, ◌≤◌, ◌⊎◌, ℕ, List, MatchBool, IfErr, IfOk, IfSome, OnOk, false, length, true};
-ghost use Rattle.std.specs.List.{All};
+ghost use Rattle.std.specs.Prelude.{◌≡◌, ◌⊎◌, ℕ, List, MatchBool, IfErr, IfOk, IfSome, OnOk, false, true};
 ghost use Rattle.programs.specs.Arguments.{texts};
 ghost use Rattle.programs.specs.Names.{name_bytes};
-ghost use Rattle.programs.specs.Streams.{WritesBytes, bytes_left};
+ghost use Rattle.programs.specs.Streams.{WritesBytes};
 ghost use Rattle.programs.specs.Telling.{Tells, TellsBytes, TellsSome};
 ghost use Rattle.acredact.specs.Arguments.{AreMistaken, AsksToRedact, GivesNoPattern, IfAsked, all_given, has};
-ghost use Rattle.acredact.specs.Calls.{BeginsCall, CallOutcome, IfLoaded, IsCountsFailure, IsCountsLine, IsLineOf, IsPrintFailure, IsRefusedLine, IsWrongFailure, IsWrongLine, OutputFails, RedactsCall, RunOutcome, TellsCounts, call_of, gives_pattern, names_asked, text_asked, work_by};
+ghost use Rattle.acredact.specs.Calls.{AskedOutcome, BeginsAsked, IsCountsFailure, IsCountsLine, IsPrintFailure, IsRefusedLine, IsWrongFailure, IsWrongLine, LoadedOutcome, OutputFails, RedactsAsked, RunOutcome, TellsAsked, TellsCounts, call_of, gives_pattern, names_asked, text_asked, work_by};
 ghost use Rattle.acredact.specs.Failures.{IsFailureLine};
 ghost use Rattle.acredact.specs.Files.{FilesOutcome, work_of};
 ghost use Rattle.acredact.specs.Secrets.{IfOf, CanRedact};
-ghost use Rattle.acredact.specs.Tables.{secrets_of};
+ghost use Rattle.acredact.specs.Tables.{HaveNoEmpty, secrets_of};
 ghost use Rattle.acredact.specs.declared.arguments.Word.TheVariants.{Count};
 
 use crate::arguments::{Item, Mistake, Word, has, is_same, items, last_value};
@@ -83,13 +82,11 @@ pub fn run<F: Folder, I: Read, W: Write, E: Sink>(
 
     // Where the status is 0, the files were redacted, one after another, and no secret is left.
     ensures redacts { IfAsked arguments.now (λ given. result ≡ 0
-        → RedactsCall W.Write (call_of F.Folder folder.now given)
-        (bytes_left streams.old.input) streams.old streams.new) }
+        → RedactsAsked W.Write F.Folder folder.now given streams.old streams.new) }
 
     // Whatever the status is, each file's redaction was written or a beginning of it, one after another, and nothing else.
     ensures begins { IfAsked arguments.now (λ given.
-        BeginsCall W.Write (call_of F.Folder folder.now given)
-        (bytes_left streams.old.input) streams.old streams.new) }
+        BeginsAsked W.Write F.Folder folder.now given streams.old streams.new) }
 
     // Where all was redacted nothing is told but the counts that are asked for.
     ensures quiet { IfAsked arguments.now (λ given. has Count given ≡ false → result ≡ 0
@@ -98,9 +95,8 @@ pub fn run<F: Folder, I: Read, W: Write, E: Sink>(
         → TellsCounts E.Sink streams.old.errors streams.new.errors) }
 
     // Else lines say why, and hold nothing of a file's content or of a pattern.
-    ensures tells { IfAsked arguments.now (λ given. result ≡ 2 → TellsSome E.Sink
-        (IsLineOf (call_of F.Folder folder.now given) (OutputFails streams.old.output streams.new.output))
-        streams.old.errors streams.new.errors) }
+    ensures tells { IfAsked arguments.now (λ given. result ≡ 2
+        → TellsAsked E.Sink F.Folder folder.now given streams.old streams.new) }
 
     // All output was flushed where the status tells of no failure.
     ensures flushed { result ≡ 0 → streams.new.output.device.flushed ≡ true }
@@ -146,9 +142,8 @@ fn answer<'a, F: Folder, I: Read, W: Write, E: Sink>(
     ensures mistake { AreMistaken arguments.entry.now
         → IfErr result (IsWrongFailure (texts arguments.entry.now)) }
     ensures patternless { IfAsked arguments.entry.now (λ given. GivesNoPattern given → OnOk result ⊥) }
-    ensures outcome { IfAsked arguments.entry.now (λ given. CallOutcome W.Write E.Sink
-        (call_of F.Folder folder.now given) (bytes_left streams.old.input)
-        result streams.old streams.new) }
+    ensures outcome { IfAsked arguments.entry.now (λ given.
+        AskedOutcome W.Write E.Sink F.Folder folder.now given result streams.old streams.new) }
     ensures flushed { OnOk result (streams.new.output.device.flushed ≡ true) }
 {
     let given = items(alloc, arguments)?;
@@ -164,9 +159,8 @@ fn answer_items<'a, F: Folder, I: Read, W: Write, E: Sink>(
 ) -> Result<bool, Failure<'a>>
     ensures patternless { AsksToRedact (all_given given.now)
         → GivesNoPattern (all_given given.now) → OnOk result ⊥ }
-    ensures outcome { AsksToRedact (all_given given.now) → CallOutcome W.Write E.Sink
-        (call_of F.Folder folder.now (all_given given.now)) (bytes_left streams.old.input)
-        result streams.old streams.new }
+    ensures outcome { AsksToRedact (all_given given.now) → AskedOutcome W.Write E.Sink
+        F.Folder folder.now (all_given given.now) result streams.old streams.new }
     ensures flushed { OnOk result (streams.new.output.device.flushed ≡ true) }
 {
     if has(given, Word::Help) {
@@ -207,9 +201,8 @@ fn load<'a, F: Folder, I: Read, W: Write, E: Sink>(
     folder: &F,
     streams: &mut Streams<'_, I, W, E>,
 ) -> Result<bool, Failure<'a>>
-    ensures outcome { CallOutcome W.Write E.Sink
-        (call_of F.Folder folder.now (all_given given.now)) (bytes_left streams.old.input)
-        result streams.old streams.new }
+    ensures outcome { AskedOutcome W.Write E.Sink
+        F.Folder folder.now (all_given given.now) result streams.old streams.new }
     ensures flushed { OnOk result (streams.new.output.device.flushed ≡ true) }
 {
     let lists = Lists {
@@ -232,10 +225,9 @@ fn redact_counted<'a, F: Folder, I: Read, W: Write, E: Sink>(
     folder: &F,
     streams: &mut Streams<'_, I, W, E>,
 ) -> Result<bool, Failure<'a>>
-    requires some { All (λ secret. 1 ≤ length secret.pattern) (secrets_of rules.now) }
-    ensures outcome { IfLoaded (call_of F.Folder folder.now (all_given given.now))
-        (secrets_of rules.now) (bytes_left streams.old.input) (λ left. CallOutcome W.Write E.Sink
-        (call_of F.Folder folder.now (all_given given.now)) left result streams.old streams.new) }
+    requires some { HaveNoEmpty (secrets_of rules.now) }
+    ensures outcome { LoadedOutcome W.Write E.Sink F.Folder
+        folder.now (all_given given.now) rules.now result streams.old streams.new }
     ensures flushed { OnOk result (streams.new.output.device.flushed ≡ true) }
 {
     let counted = has(given, Word::Count);
@@ -298,7 +290,7 @@ fn redact_all<'a, F: Folder, I: Read, W: Write, E: Sink>(
     counts: &mut [u64],
     streams: &mut Streams<'_, I, W, E>,
 ) -> Result<bool, Failure<'a>>
-    requires some { All (λ secret. 1 ≤ length secret.pattern) (secrets_of rules.now) }
+    requires some { HaveNoEmpty (secrets_of rules.now) }
     ensures outcome { RunOutcome W.Write E.Sink
         (work_by (call_of F.Folder folder.now (all_given given.now)) (secrets_of rules.now))
         result streams.old streams.new }
@@ -328,8 +320,8 @@ fn redact_by<A: Automaton, B: Automaton, F: Folder, I: Read, W: Write, E: Sink>(
     counts: &mut [u64],
     streams: &mut Streams<'_, I, W, E>,
 ) -> Result<bool, StreamError>
-    requires ready { CanRedact A.Automaton automaton.now (length job.now.replacements.now) }
-    requires rows { IfSome rows (λ rows. CanRedact B.Automaton rows.now (length job.now.replacements.now)) }
+    requires ready { CanRedact A.Automaton automaton.now job.now.replacements.now }
+    requires rows { IfSome rows (λ rows. CanRedact B.Automaton rows.now job.now.replacements.now) }
     ensures outcome { IfOf A.Automaton automaton.now (λ p. IfSome rows.entry (λ rows. B.is_of rows.now p)
         → FilesOutcome W.Write E.Sink (work_of F.Folder job.now p) result streams.old streams.new) }
     ensures flushed { OnOk result (streams.new.output.device.flushed ≡ true) }

@@ -4,15 +4,15 @@ use Rattle.programs.specs.Streams.{bytes_left}
 use Rattle.acredact.specs.Arguments.{all_given, has}
 use Rattle.acredact.specs.Calls.{call_of, reading_by}
 use Rattle.acredact.specs.Loading.{AreGiven, CannotLoadOne, Reading}
-use Rattle.acredact.specs.Tables.{Secret, secrets_of}
+use Rattle.acredact.specs.Tables.{HaveNoEmpty, Secret, secrets_of}
 use Rattle.acredact.specs.declared.arguments.Word.TheVariants.{AllowEmpty, Crlf}
 use Rattle.acredact.proofs.Calls.{call_from, call_refused}
-use Rattle.acredact.proofs.Ready.{AreSome, given_some, reading_as}
+use Rattle.acredact.proofs.Ready.{given_some, reading_as}
 use Rattle.acredact.proofs.run.load.Goals as goal
 
 pub redact_counted-requires : goal.redact_counted-requires
 redact_counted-requires g c = record {
-  some = subst (λ (l : List _). AreSome (secrets_of l)) (sym c.as_slice.ensures.value) (given_some _ _ _ _ _ c.in-Ok.ensures.given);
+  some = subst (λ (l : List _). HaveNoEmpty (secrets_of l)) (sym c.as_slice.ensures.value) (given_some _ _ _ _ _ c.in-Ok.ensures.given);
 }
 
 pub returns-in-Ok-clause-outcome : goal.returns-in-Ok-clause-outcome

@@ -48,10 +48,10 @@ rows_are g c =
     lent c.in_ok-rows.rows c.as_ref.result (λ rows. HybridGhosts.is_of rows p) c.as_ref.ensures.value
     (c.in_ok-rows.ensures.of p (record { words_are = sym (words_are g c); rule = sym c.has.ensures.has }) (nfa_is g c))
 
-rows_ready : (rows : Option (Bor Hybrid)) (p : Patterns) (count : ℕ) → IfSome rows (λ rows. HybridGhosts.is_of rows.now p) → IfSome rows (λ rows. IsOk (HybridGhosts.start rows.now No))
-    → 1 ≤ shortest (map length p.words) → count ≡ length p.words → IfSome rows (λ rows. CanRedact HybridGhosts rows.now count)
-rows_ready None p count of starts some one = tt
-rows_ready (Some rows) p count of starts some one = ready_of HybridGhosts rows.now p count of (rows-laws rows.now p of).lengths_are starts some one
+rows_ready : (rows : Option (Bor Hybrid)) (p : Patterns) (replacements : List (Bor (List ℕ))) → IfSome rows (λ rows. HybridGhosts.is_of rows.now p) → IfSome rows (λ rows. IsOk (HybridGhosts.start rows.now No))
+    → 1 ≤ shortest (map length p.words) → length replacements ≡ length p.words → IfSome rows (λ rows. CanRedact HybridGhosts rows.now replacements)
+rows_ready None p replacements of starts some one = tt
+rows_ready (Some rows) p replacements of starts some one = ready_of HybridGhosts rows.now p replacements of (rows-laws rows.now p of).lengths_are starts some one
 
 pub redact_by-requires : goal.redact_by-requires
 redact_by-requires g c =
