@@ -2,7 +2,7 @@
 
 ghost use Rattle.std.specs.Prelude.{◌≡◌, ◌<◌, ◌≤◌, [], length, slice_index, slice_index_or, slice_set};
 ghost use Rattle.aho_core.specs.Replacement.{pieces_of};
-ghost use Rattle.acredact.specs.Counts.{counted_more};
+ghost use Rattle.acredact.specs.Counts.{CountsOne, counted_more};
 ghost use Rattle.acredact.specs.Secrets.{IfOf, CanRedact, redactor_by};
 ghost use Rattle.acredact.specs.Streams.{StreamOutcome, WritesPiece};
 
@@ -61,6 +61,7 @@ fn put_counted<W: Sink>(
 ) -> Result<(), StreamError>
     ensures written { WritesPiece W.Sink result sink.old sink.new
         (slice_index_or (pieces_of replacements.now) found.now.pattern []) }
+    ensures counted { CountsOne found.now.pattern counts.old counts.new }
 {
     let number = found.pattern().as_usize();
     count_one(counts, number);
