@@ -1,7 +1,6 @@
 //! The bytes that were read and not searched yet.
 
 ghost use Rattle.std.specs.Prelude.{◌≡◌, ◌≤◌, ◌<◌, IfOk, OnOk, drop, length, vec_len};
-ghost use Rattle.acgrep.specs.Filled.{FillsBehind, ReadsOn, bytes_buffered};
 
 use std::alloc::{AllocError, Global};
 use std::io;
@@ -19,6 +18,8 @@ pub struct Buffer {
 }
 
 impl Buffer {
+    ghost use Rattle.acgrep.specs.Filled.{FillsBehind, ReadsOn, bytes_buffered};
+
     /// A buffer of the first size.
     pub fn new(alloc: Global) -> Result<Buffer, AllocError> {
         Ok(Buffer {
