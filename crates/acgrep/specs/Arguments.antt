@@ -1,6 +1,6 @@
 -- What the arguments, those after the program's name, say.
 use Rattle.programs.specs.Arguments.{kind_by}
-use Rattle.std.specs.Prelude.{◌≡◌, ℕ, ◌==◌, ◌^◌, ◌||◌, ◌&&◌, nat_lt, Bool, true, false, List, [], ◌∷◌, ◌++◌, Option, Some, None, codes, drop, length, map, take, String, string_bytes, option_and_then, option_map, if◌then◌else◌}
+use Rattle.std.specs.Prelude.{◌≡◌, ℕ, ◌==◌, ◌^◌, ◌||◌, ◌&&◌, nat_lt, Bool, true, false, List, [], ◌∷◌, ◌++◌, Option, Some, None, codes, drop, length, map, take, String, Result, IfErr, IfOk, OnOk, string_bytes, option_and_then, option_map, if◌then◌else◌}
 use Rattle.std.specs.Str.{all_ascii_digits, bytes_eq}
 use Rattle.std.specs.Str.Parse.{digits_value}
 use Rattle.aho_core.specs.declared.search.MatchKind.{MatchKind}
@@ -92,6 +92,10 @@ name_by argument =
 pub record ReadSoFar : Type 0 where
   pub awaits : Awaited
   pub said : Said
+
+-- this was said, and that is waited for
+abbrev pub so_far : Awaited → Given → ReadSoFar
+so_far awaits given = record { awaits = awaits; said = said given }
 
 abbrev pub with_operand : List ℕ → Said → Said
 with_operand operand s = record s { operands = s.operands ++ (operand ∷ []) }
@@ -204,3 +208,15 @@ shown_by flags =
     else if flags.json then Objects
     else if flags.only_matching then Matches
     else Lines
+
+-- where it fails the arguments are wrong by this, or memory ran out
+abbrev pub FailsBy : {A T : Type 0} → Option A → Result T Refusal → Type 0
+FailsBy outcome result = IfErr result (AreRefused outcome)
+
+-- where it does not fail arguments were read by this
+abbrev pub ReadsBy : {E : Type 0} → (Said → Option ReadSoFar) → Given → Given → Result Awaited E → Type 0
+ReadsBy reads old new result = IfOk result (λ awaited. reads (said old) ≡ Some (so_far awaited new))
+
+-- where it does not fail this was said more
+abbrev pub SaysMore : {T E : Type 0} → (Said → Said) → Given → Given → Result T E → Type 0
+SaysMore more old new result = OnOk result (said new ≡ more (said old))

@@ -1,6 +1,6 @@
 -- What is written of files, one after another.
 use Rattle.programs.specs.Answers.{status_of}
-use Rattle.programs.specs.Names.{is_input, or_input}
+use Rattle.programs.specs.Names.{is_input, name_bytes, or_input}
 use Rattle.std.specs.Prelude.{◌≡◌, ◌⊎◌, ℕ, ◌||◌, nat_lt, Bool, true, false, List, [], ◌∷◌, ◌++◌, Option, IfSome, MatchBool, codes, map, if◌then◌else◌}
 use Rattle.std.specs.Borrow.{Bor}
 use Rattle.std.specs.Io.KnownBytes.{Appends, Consumes, IsAtEnd, Keeps}
@@ -10,6 +10,7 @@ use Rattle.acgrep.specs.Filled.{ReadsOn}
 use Rattle.acgrep.specs.Lines.{lines}
 use Rattle.acgrep.specs.Printed.{count_by, file_line}
 use Rattle.acgrep.specs.Written.{EachLine, IsPassedOver, IsSelected, StartsNext, TellsOfLines, after_lines, needs_one, place_behind}
+use Rattle.acgrep.specs.declared.files.Files.{Files}
 use Rattle.acgrep.specs.declared.files.Outcome.{Outcome}
 use Rattle.acgrep.specs.declared.files.Outcome.TheVariants.{Searched, Unread, Stopped}
 use Rattle.acgrep.specs.declared.files.Seen.{Seen}
@@ -17,6 +18,10 @@ use Rattle.acgrep.specs.declared.options.Shown.{Shown}
 use Rattle.acgrep.specs.declared.options.Shown.TheVariants.{Lines, Matches, Objects, Count, Names, Nothing}
 use Rattle.acgrep.specs.declared.print.Style.{Style}
 use Rattle.acgrep.specs.declared.select.Job.{Job}
+
+-- the names of a call's files: that of standard input where none is given
+abbrev pub files_named : {F : Type 0} → Files F → List (List ℕ)
+files_named files = or_input (name_bytes files.names.now)
 
 -- some line is so
 abbrev pub SomeLine : (List ℕ → Type 0) → List (List ℕ) → Type 0

@@ -1,6 +1,11 @@
 -- What a read puts behind the bytes that are held.
-use Rattle.std.specs.Prelude.{◌≡◌, ℕ, List, ◌++◌, Option, length}
+use Rattle.std.specs.Prelude.{◌≡◌, ℕ, List, ◌++◌, Option, length, take}
 use Rattle.std.specs.Io.KnownBytes.{Consumes, IsAtEnd}
+use Rattle.acgrep.specs.declared.buffer.Buffer.{Buffer}
+
+-- the bytes that a buffer holds
+abbrev pub bytes_buffered : Buffer → List ℕ
+bytes_buffered buffer = take buffer.held buffer.room.items
 
 -- what comes stands behind the bytes before, and nothing comes only at the end
 pub record FillsBehind (before after : List ℕ) (left_before left_after : Option (List ℕ)) (count : ℕ) : Type 0 where

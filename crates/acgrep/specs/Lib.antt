@@ -6,6 +6,7 @@ pub mod Loading
 pub mod Objects
 pub mod Printed
 pub mod Runs
+pub mod Searched
 pub mod Searchers
 pub mod Selected
 pub mod Streamed

@@ -1,11 +1,14 @@
 -- What is written of a line, with what stands before it.
-use Rattle.std.specs.Prelude.{ℕ, ◌+◌, ◌%◌, ◌^◌, ◌==◌, ◌&&◌, nat_le, Bool, true, List, [], ◌∷◌, ◌++◌, Option, None, codes, decimal, length, slice_range, if◌then◌else◌}
+use Rattle.std.specs.Prelude.{ℕ, ◌+◌, ◌%◌, ◌^◌, ◌==◌, ◌&&◌, nat_le, Bool, true, List, [], ◌∷◌, ◌++◌, Option, None, Result, OnOk, codes, decimal, length, slice_range, if◌then◌else◌}
 use Rattle.std.specs.Io.KnownBytes.{Appends}
+use Rattle.std.specs.Iterator.Runs.{WholeRun}
 use Rattle.std.specs.List.{flat_map}
+use Rattle.std.specs.declared.io.traits.Write.{Ghosts as Writers}
 use Rattle.aho_core.specs.Iteration.{AreFinds}
 use Rattle.aho_core.specs.Occurrence.{Occurrence}
 use Rattle.aho_core.specs.Patterns.{Patterns}
 use Rattle.aho_core.specs.Search.{plain_search}
+use Rattle.aho_automaton.specs.declared.automaton.Automaton.{Ghosts as Automata}
 use Rattle.acgrep.specs.declared.print.Place.{Place}
 use Rattle.acgrep.specs.declared.print.Style.{Style}
 
@@ -101,3 +104,24 @@ pub record WritesColored (old new : Option (List ℕ)) (p : Patterns) (style : S
   pub matches : List Occurrence
   pub found : AreFinds p (plain_search line) None matches
   pub written : Appends old new (colored_line_by style place line matches)
+
+module _ {W : Type 0} (writers : Writers W) (old new : W) where
+  -- where a call does not fail these bytes were written, and nothing else
+  abbrev pub Puts : {T E : Type 0} → Result T E → List ℕ → Type 0
+  Puts result bytes = OnOk result (Appends (writers.contents old) (writers.contents new) bytes)
+
+  -- where it does not, these bytes were written for all matches that an iterator gives
+  abbrev pub PutsEach : {S T E : Type 0} → (S → Option Occurrence → S → Type 0) → S → Result T E → (List Occurrence → List ℕ) → Type 0
+  PutsEach steps matches result bytes =
+      OnOk result (WholeRun steps matches (λ run. Appends (writers.contents old) (writers.contents new) (bytes run.items)))
+
+module _ {A W : Type 0} (automata : Automata A) (writers : Writers W) (automaton : A) (style : Style) (place : Place) (line : List ℕ) (old new : W) where
+  -- where a call does not fail a line was written with the matches of the automaton's patterns in colour
+  abbrev pub PutsColored : {T E : Type 0} → Result T E → Type 0
+  PutsColored result = (p : Patterns) → automata.is_of automaton p
+      → OnOk result (WritesColored (writers.contents old) (writers.contents new) p style place line)
+
+  -- or those matches were
+  abbrev pub PutsFinds : {T E : Type 0} → Result T E → Type 0
+  PutsFinds result = (p : Patterns) → automata.is_of automaton p
+      → OnOk result (WritesFinds (writers.contents old) (writers.contents new) p style place line)

@@ -8,6 +8,7 @@ use Rattle.aho_core.specs.declared.search.Anchored.TheVariants.{No}
 use Rattle.aho_core.specs.declared.search.Span.{Span}
 use Rattle.memchr.specs.Find.{Nowhere}
 use Rattle.acgrep.specs.Lines.{IsNewline}
+use Rattle.acgrep.specs.Written.{HasNone}
 use Rattle.acgrep.specs.declared.select.Job.{Job}
 use Rattle.acgrep.specs.declared.select.State.{State}
 
@@ -15,6 +16,10 @@ use Rattle.acgrep.specs.declared.select.State.{State}
 abbrev pub HoldNoNewline : Patterns → Type 0
 HoldNoNewline p =
     (number place : ℕ) → number < length p.words → place < length (pattern_at p number) → slice_index (pattern_at p number) place ≢ 10
+
+-- what holds of all patterns without a newline that are so
+abbrev pub ForLines : (Patterns → Type 0) → (Patterns → Type 0) → Type 0
+ForLines Are Holds = (p : Patterns) → Are p → HoldNoNewline p → Holds p
 
 -- the span is a line of the text, without its newline
 pub record IsLine (text : List ℕ) (line : Span) : Type 0 where
@@ -39,6 +44,11 @@ pub record IsFirstWith (p : Patterns) (text : List ℕ) (line : Span) : Type 0 w
 abbrev pub IsNextLine : Patterns → List ℕ → Option Span → Type 0
 IsNextLine p text None = (m : Occurrence) → OccursIn p (plain_search text) m → ⊥
 IsNextLine p text (Some line) = IsFirstWith p text line
+
+-- where none is selected none was before, and nothing occurs in the text
+abbrev pub FindsNone : Patterns → State → State → List ℕ → Type 0
+FindsNone p before after text =
+    after.selected ≡ 0 → (before.selected ≡ 0) × HasNone p text
 
 -- where lines with a match are selected and none was, nothing occurs in a text that is not empty
 abbrev pub IsNoneSelected : Patterns → Job → List ℕ → State → Type 0

@@ -1,7 +1,9 @@
 -- What is written of all that a reader gives.
 use Rattle.std.specs.Prelude.{◌≡◌, ◌⊎◌, ℕ, Bool, true, List, [], ◌++◌, Option}
 use Rattle.std.specs.Io.KnownBytes.{Consumes, IsAtEnd}
+use Rattle.std.specs.declared.io.traits.Read.{Ghosts as Readers}
 use Rattle.aho_core.specs.Patterns.{Patterns}
+use Rattle.aho_devices.specs.declared.device.Sink.{Ghosts as SinkGhosts}
 use Rattle.acgrep.specs.Lines.{lines}
 use Rattle.acgrep.specs.Written.{BeginsLines, EndsLine, IsSettled, SearchesText}
 use Rattle.acgrep.specs.declared.select.Job.{Job}
@@ -25,6 +27,11 @@ course before after held_before held_after left_before left_after = record {
   left_before = left_before;
   left_after = left_after;
 }
+
+-- that of a state, a writer and a reader
+abbrev pub course_of : {W R : Type 0} → SinkGhosts W → Readers R → State → State → W → W → R → R → Course
+course_of sinks readers before after output output' input input' =
+    course before after (sinks.taken output) (sinks.taken output') (readers.remaining input) (readers.remaining input')
 
 -- bytes that were read are searched: all that the reader had, or whole lines up to those with a selected one that tells all
 pub record SearchesStream (p : Patterns) (job : Job) (c : Course) : Type 0 where

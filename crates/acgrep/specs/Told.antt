@@ -7,16 +7,18 @@ use Rattle.aho_core.specs.declared.error.MatchErrorKind.{MatchErrorKind}
 use Rattle.aho_devices.specs.declared.device.Sink.{Ghosts as SinkGhosts}
 use Rattle.programs.specs.Messages.{Message, message_by, reason_text}
 use Rattle.programs.specs.Names.{IsAmong, or_input}
-use Rattle.programs.specs.Telling.{Tells, TellsSome}
+use Rattle.programs.specs.Telling.{Tells, TellsBytes, TellsSome}
 use Rattle.programs.specs.declared.errors.Errors.{Errors}
 use Rattle.programs.specs.declared.reason.Reason.{Reason}
-use Rattle.acgrep.specs.Arguments.{Origin, Said}
+use Rattle.acgrep.specs.Arguments.{Origin, Said, shown_by}
 use Rattle.acgrep.specs.Files.{shown_name}
-use Rattle.acgrep.specs.Runs.{names_by, sources_by}
+use Rattle.acgrep.specs.Runs.{names_by, origins_of, sources_by}
+use Rattle.acgrep.specs.declared.arguments.Source.{Source}
 use Rattle.acgrep.specs.declared.arguments.Wrong.{Wrong}
 use Rattle.acgrep.specs.declared.arguments.Wrong.TheVariants.{NotText, NoPattern, UnknownLetter, UnknownName, NoArgument, NoKind, UnknownKind, UnknownColor, NoOffset, NoNumber}
 use Rattle.acgrep.specs.declared.files.Outcome.{Outcome}
 use Rattle.acgrep.specs.declared.files.Outcome.TheVariants.{Searched, Unread, Stopped}
+use Rattle.acgrep.specs.declared.options.Flags.{Flags}
 use Rattle.acgrep.specs.declared.options.Shown.{Shown}
 use Rattle.acgrep.specs.declared.options.Shown.TheVariants.{Nothing}
 
@@ -39,6 +41,20 @@ pub record IsMessage (names : List (List ℕ)) (line : List ℕ) : Type 0 where
   pub name : IfSome message.name (MayName names)
   pub cause : IsToldCause message.cause
   pub is : line ≡ message_by (codes "acgrep") message
+
+-- why something was not done is told
+module _ {E : Type 0} (K : SinkGhosts E) where
+  -- with no file
+  abbrev pub TellsCause : Errors E → Errors E → Type 0
+  TellsCause old new = (names : List (List ℕ)) → TellsSome K (IsMessage names) old new
+
+  -- with the file of a name
+  abbrev pub TellsOfFile : List ℕ → Errors E → Errors E → Type 0
+  TellsOfFile name old new = (names : List (List ℕ)) → IsAmong name names → TellsSome K (IsMessage names) old new
+
+  -- with what is called so: a file or something else
+  abbrev pub TellsOfNamed : List ℕ → Errors E → Errors E → Type 0
+  TellsOfNamed name old new = (names : List (List ℕ)) → MayName names name → TellsSome K (IsMessage names) old new
 
 -- what a call with wrong arguments writes behind the reason
 abbrev pub usage_text : List ℕ
@@ -95,3 +111,40 @@ module _ {E : Type 0} (K : SinkGhosts E) (IsLine : List ℕ → Type 0) where
     pub tells : Tells K IsLine old new
     pub silent : status < 2 → (shown ≡ Nothing → ⊥) → new ≡ old
     pub some : status ≡ 2 → TellsSome K IsLine old new
+
+module _ {E : Type 0} (K : SinkGhosts E) where
+  -- why arguments are wrong
+  abbrev pub TellsWrong : Wrong → Errors E → Errors E → Type 0
+  TellsWrong wrong old new = TellsBytes K old new (concat (wrong_parts wrong))
+
+  -- or that, or another cause
+  abbrev pub TellsRefusal : Errors E → Errors E → Type 0
+  TellsRefusal old new = (names : List (List ℕ)) → TellsSome K (MayTell names) old new
+
+  -- why patterns of these sources are not searched for
+  abbrev pub TellsOfSources : List Source → Errors E → Errors E → Type 0
+  TellsOfSources sources old new = TellsSome K (IsMessage (source_names (origins_of sources))) old new
+
+  -- what is told of a file of this name by what came of it
+  abbrev pub TellsOfOutcome : List ℕ → Outcome → Errors E → Errors E → Type 0
+  TellsOfOutcome name outcome old new = (names : List (List ℕ)) → IsAmong name names → TellsOutcome K (IsMessage names) outcome old new
+
+  -- and where it was read to its end
+  abbrev pub TellsOfEnd : Outcome → Errors E → Errors E → Type 0
+  TellsOfEnd outcome old new = (names : List (List ℕ)) → TellsOutcome K (IsMessage names) outcome old new
+
+  -- what is told of files of these names by the status
+  abbrev pub TellsOfFiles : List (List ℕ) → Shown → ℕ → Errors E → Errors E → Type 0
+  TellsOfFiles names shown status old new = TellsStatus K (IsMessage (shown_names names)) shown status old new
+
+  -- and of a text of the program
+  abbrev pub TellsOfText : ℕ → Errors E → Errors E → Type 0
+  TellsOfText status old new = (shown : Shown) → (names : List (List ℕ)) → TellsStatus K (MayTell names) shown status old new
+
+  -- and of a search for the patterns of these sources
+  abbrev pub TellsOfSearch : Flags → List Origin → List (List ℕ) → ℕ → Errors E → Errors E → Type 0
+  TellsOfSearch flags sources names status old new = TellsStatus K (MayTell (names_told sources names)) (shown_by flags) status old new
+
+  -- and of a call whose arguments say this
+  abbrev pub TellsOfCall : Said → ℕ → Errors E → Errors E → Type 0
+  TellsOfCall given status old new = TellsStatus K (MayTell (names_said (Some given))) (shown_by given.flags) status old new

@@ -2,9 +2,9 @@
 //!
 //! Options may be joined, take their argument joined or as the next one, and stand behind files. Two hyphens end them.
 
-ghost use Rattle.std.specs.Prelude.{◌≡◌, Some, IfOk, IfErr, OnOk, option_map, string_bytes};
+ghost use Rattle.std.specs.Prelude.{◌≡◌, Some, IfOk, IfErr, string_bytes};
 ghost use Rattle.programs.specs.Arguments.{kind_by, texts};
-ghost use Rattle.acgrep.specs.Arguments.{AreRefused, argument_by, letters_by, name_by, named_by, number_by, offset_by, plain_by, said, said_by, taken_by, with_operand, with_source};
+ghost use Rattle.acgrep.specs.Arguments.{FailsBy, ReadsBy, SaysMore, argument_by, letters_by, name_by, named_by, number_by, offset_by, plain_by, said, said_by, so_far, taken_by, with_operand, with_source};
 
 use crate::options::{Color, Flags};
 use chromesquid::MatchKind;
@@ -116,7 +116,7 @@ pub enum Named {
 /// Reads the arguments after the program's name.
 pub fn parse<'a>(alloc: Global, arguments: &'a [String]) -> Result<Given<'a>, Refusal<'a>>
     ensures read { IfOk result (λ given. said_by (texts arguments.now) ≡ Some (said given)) }
-    ensures refused { IfErr result (AreRefused (said_by (texts arguments.now))) }
+    ensures refused { FailsBy (said_by (texts arguments.now)) result }
 {
     let mut given = Given {
         flags: Flags::new(),
@@ -143,10 +143,8 @@ fn read_argument<'a>(
     before: Awaited,
     argument: &'a String,
 ) -> Result<Awaited, Refusal<'a>>
-    ensures read { IfOk result (λ awaited. argument_by before (string_bytes argument.now) (said given.old)
-        ≡ Some (record { awaits = awaited; said = said given.new })) }
-    ensures refused { IfErr result
-        (AreRefused (argument_by before (string_bytes argument.now) (said given.old))) }
+    ensures read { ReadsBy (argument_by before (string_bytes argument.now)) given.old given.new result }
+    ensures refused { FailsBy (argument_by before (string_bytes argument.now) (said given.old)) result }
 {
     match before {
         Awaited::Letter(letter) => {
@@ -168,9 +166,8 @@ fn read_argument<'a>(
 
 /// Reads the argument of `--kind`.
 fn read_kind<'a>(given: &mut Given<'a>, argument: &'a str) -> Result<Awaited, Refusal<'a>>
-    ensures read { IfOk result (λ awaited. option_map (λ kind. named_by (Named.Which kind) (said given.old)) (kind_by argument.now)
-        ≡ Some (record { awaits = awaited; said = said given.new })) }
-    ensures refused { IfErr result (AreRefused (kind_by argument.now)) }
+    ensures read { ReadsBy (argument_by Awaited.Kind argument.now) given.old given.new result }
+    ensures refused { FailsBy (kind_by argument.now) result }
 {
     match parse_kind(argument) {
         Some(kind) => Ok(turn_on(given, Named::Which(kind))),
@@ -180,10 +177,8 @@ fn read_kind<'a>(given: &mut Given<'a>, argument: &'a str) -> Result<Awaited, Re
 
 /// Reads the argument of `--offset`.
 fn read_offset<'a>(given: &mut Given<'a>, argument: &'a str) -> Result<Awaited, Refusal<'a>>
-    ensures read { IfOk result (λ awaited.
-        option_map (λ first. named_by (Named.First first) (said given.old)) (number_by argument.now)
-        ≡ Some (record { awaits = awaited; said = said given.new })) }
-    ensures refused { IfErr result (AreRefused (number_by argument.now)) }
+    ensures read { ReadsBy (argument_by Awaited.Offset argument.now) given.old given.new result }
+    ensures refused { FailsBy (number_by argument.now) result }
 {
     match number_of(argument) {
         Some(first) => Ok(turn_on(given, Named::First(first))),
@@ -239,7 +234,7 @@ fn number_of(digits: &str) -> Option<u64>
 
 /// Turns on what a name means, and answers what it waits for.
 fn turn_on(given: &mut Given<'_>, named: Named) -> Awaited
-    ensures named { named_by named (said given.old) ≡ record { awaits = result; said = said given.new } }
+    ensures named { named_by named (said given.old) ≡ so_far result given.new }
 {
     match named {
         Named::Help => given.flags.help = true,
@@ -257,9 +252,8 @@ fn turn_on(given: &mut Given<'_>, named: Named) -> Awaited
 
 /// Reads an argument that is no whole name: joined letters behind a hyphen, or an operand.
 fn read_plain<'a>(given: &mut Given<'a>, argument: &'a [u8]) -> Result<Awaited, Refusal<'a>>
-    ensures read { IfOk result (λ awaited. plain_by argument.now (said given.old)
-        ≡ Some (record { awaits = awaited; said = said given.new })) }
-    ensures refused { IfErr result (AreRefused (plain_by argument.now (said given.old))) }
+    ensures read { ReadsBy (plain_by argument.now) given.old given.new result }
+    ensures refused { FailsBy (plain_by argument.now (said given.old)) result }
 {
     match argument {
         [b'-', b'-', ..] => Err(Refusal::Wrong(wrong_name(argument))),
@@ -286,9 +280,8 @@ fn wrong_name(argument: &[u8]) -> Wrong<'_> {
 
 /// Reads joined letters. `-e` and `-f` take what stands behind them.
 fn read_letters<'a>(given: &mut Given<'a>, letters: &'a [u8]) -> Result<Awaited, Refusal<'a>>
-    ensures read { IfOk result (λ awaited. letters_by letters.now (said given.old)
-        ≡ Some (record { awaits = awaited; said = said given.new })) }
-    ensures refused { IfErr result (AreRefused (letters_by letters.now (said given.old))) }
+    ensures read { ReadsBy (letters_by letters.now) given.old given.new result }
+    ensures refused { FailsBy (letters_by letters.now (said given.old)) result }
 {
     let mut rest = letters;
     while let Some((letter, behind)) = rest.split_first() {
@@ -310,8 +303,8 @@ fn take_source<'a>(
     letter: u8,
     behind: &'a [u8],
 ) -> Result<Awaited, Refusal<'a>>
-    ensures read { IfOk result (λ awaited. taken_by letter behind.now (said given.old)
-        ≡ record { awaits = awaited; said = said given.new }) }
+    ensures read { IfOk result (λ awaited.
+        taken_by letter behind.now (said given.old) ≡ so_far awaited given.new) }
     ensures memory { IfErr result (λ refusal. refusal ≡ Refusal.OutOfMemory) }
 {
     if behind.is_empty() {
@@ -323,7 +316,7 @@ fn take_source<'a>(
 
 /// Adds the patterns that `-e` or `-f` gives.
 fn add_source<'a>(given: &mut Given<'a>, letter: u8, argument: &'a [u8]) -> Result<(), AllocError>
-    ensures added { OnOk result (said given.new ≡ with_source letter argument.now (said given.old)) }
+    ensures added { SaysMore (with_source letter argument.now) given.old given.new result }
 {
     let source = if letter == b'f' {
         Source::File(argument)
@@ -336,7 +329,7 @@ fn add_source<'a>(given: &mut Given<'a>, letter: u8, argument: &'a [u8]) -> Resu
 
 /// Adds what is no option.
 fn add_operand<'a>(given: &mut Given<'a>, argument: &'a [u8]) -> Result<(), AllocError>
-    ensures added { OnOk result (said given.new ≡ with_operand argument.now (said given.old)) }
+    ensures added { SaysMore (with_operand argument.now) given.old given.new result }
 {
     given.operands.push(argument)?;
     Ok(())

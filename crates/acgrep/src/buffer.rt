@@ -1,7 +1,6 @@
 //! The bytes that were read and not searched yet.
 
-ghost use Rattle.std.specs.Prelude.{◌≡◌, ◌≤◌, ◌<◌, IfOk, OnOk, drop, length, take, vec_len};
-ghost use Rattle.acgrep.specs.Filled.{FillsBehind, ReadsOn};
+ghost use Rattle.std.specs.Prelude.{◌≡◌, ◌≤◌, ◌<◌, IfOk, OnOk, drop, length, vec_len};
 
 use std::alloc::{AllocError, Global};
 use std::io;
@@ -19,6 +18,8 @@ pub struct Buffer {
 }
 
 impl Buffer {
+    ghost use Rattle.acgrep.specs.Filled.{FillsBehind, ReadsOn, bytes_buffered};
+
     /// A buffer of the first size.
     pub fn new(alloc: Global) -> Result<Buffer, AllocError> {
         Ok(Buffer {
@@ -36,7 +37,7 @@ impl Buffer {
 
     /// The bytes.
     pub fn bytes(&self) -> &[u8]
-        ensures bytes { result.now ≡ take self.now.held self.now.room.items }
+        ensures bytes { result.now ≡ bytes_buffered self.now }
         ensures len { length result.now ≡ self.now.held }
     {
         &self.room[..self.held]
@@ -45,8 +46,7 @@ impl Buffer {
     /// Doubles the room where it is full.
     pub fn make_room(&mut self) -> Result<(), AllocError>
         ensures held { self.new.held ≡ self.old.held }
-        ensures bytes { OnOk result
-            (take self.new.held self.new.room.items ≡ take self.old.held self.old.room.items) }
+        ensures bytes { OnOk result (bytes_buffered self.new ≡ bytes_buffered self.old) }
         ensures room { OnOk result (self.new.held < vec_len self.new.room) }
     {
         let len = self.room.len();
@@ -59,8 +59,7 @@ impl Buffer {
     /// Reads once behind the bytes, and answers how many came.
     pub fn fill<R: Read>(&mut self, input: &mut R) -> io::Result<usize>
         requires room { self.now.held < vec_len self.now.room }
-        ensures filled { IfOk result (FillsBehind (take self.old.held self.old.room.items)
-            (take self.new.held self.new.room.items)
+        ensures filled { IfOk result (FillsBehind (bytes_buffered self.old) (bytes_buffered self.new)
             (R.remaining input.old) (R.remaining input.new)) }
         ensures reads { ReadsOn (R.remaining input.old) (R.remaining input.new) }
     {
@@ -72,8 +71,7 @@ impl Buffer {
     /// Drops bytes from the front.
     pub fn drop_front(&mut self, count: usize)
         requires within { count ≤ self.now.held }
-        ensures rest { take self.new.held self.new.room.items
-            ≡ drop count (take self.old.held self.old.room.items) }
+        ensures rest { bytes_buffered self.new ≡ drop count (bytes_buffered self.old) }
     {
         if count == 0 {
             return;

@@ -1,14 +1,15 @@
 //! Searching the files of a call, one after another.
 
-ghost use Rattle.std.specs.Prelude.{◌≡◌, ◌≤◌, ◌<◌, ◌⊎◌, ℕ, List, [], IsTrue, OnOk, false, length, true};
+ghost use Rattle.std.specs.Prelude.{◌≡◌, ◌≤◌, ◌<◌, ◌⊎◌, [], IsTrue, OnOk, false, length, true};
 ghost use Rattle.std.specs.Io.KnownBytes.{Appends};
 ghost use Rattle.aho_core.specs.Patterns.{Patterns};
 ghost use Rattle.acgrep.specs.Filled.{ReadsOn};
-ghost use Rattle.programs.specs.Names.{IsAmong, name_bytes, or_input};
-ghost use Rattle.programs.specs.Telling.{TellsSome};
-ghost use Rattle.acgrep.specs.Told.{IsMessage, TellsIf, TellsOutcome, TellsStatus, shown_names};
-ghost use Rattle.acgrep.specs.Files.{AreFilesBegun, AreSearchedOr, BeginsFile, BeginsName, BeginsTotal, EndsFile, IfBroken, IfSearched, IsNamed, LeavesInput, SearchesFile, SearchesName, SearchesNames, SearchesReader, is_enough, nothing_seen, seen_after, shown_name, status_by, total_if};
-ghost use Rattle.acgrep.specs.Selected.{HoldNoNewline};
+ghost use Rattle.programs.specs.Names.{name_bytes};
+ghost use Rattle.acgrep.specs.Told.{IsMessage, TellsCause, TellsIf, TellsOfEnd, TellsOfFile, TellsOfFiles, TellsOfOutcome, shown_names};
+ghost use Rattle.acgrep.specs.Files.{AreFilesBegun, AreSearchedOr, BeginsName, BeginsTotal, EndsFile, IfBroken, IfSearched, IsNamed, LeavesInput, SearchesName, SearchesNames, files_named, is_enough, nothing_seen, seen_after, shown_name, status_by, total_if};
+ghost use Rattle.acgrep.specs.Printed.{Puts};
+ghost use Rattle.acgrep.specs.Searched.{BeginsFileBy, BeginsFilesBy, SearchesFileBy, SearchesReaderBy};
+ghost use Rattle.acgrep.specs.Selected.{ForLines};
 
 use crate::buffer::Buffer;
 use crate::failure::Stop;
@@ -131,19 +132,18 @@ pub fn search_files<A: Automaton, F: Open, R: Read, W: Sink, E: Sink>(
 ) -> u8
     requires of { (p : Patterns) × A.is_of automaton.now p }
     ensures bound { result ≤ 2 }
-    ensures searched { (p : Patterns) → A.is_of automaton.now p → HoldNoNewline p → result < 2
-        → AreSearchedOr p job.now (F.holds files.now.files.now) (or_input (name_bytes files.now.names.now))
+    ensures searched { ForLines (A.is_of automaton.now) (λ p. result < 2
+        → AreSearchedOr p job.now (F.holds files.now.files.now) (files_named files.now)
         (R.remaining input.old) (R.remaining input.new)
-        (W.taken output.old) (W.taken output.new) result }
+        (W.taken output.old) (W.taken output.new) result) }
 
     // Whatever the status, a beginning of what is asked is written.
-    ensures begun { (p : Patterns) → A.is_of automaton.now p → HoldNoNewline p
-        → AreFilesBegun p job.now (F.holds files.now.files.now) (or_input (name_bytes files.now.names.now))
-        (R.remaining input.old) (W.taken output.old) (W.taken output.new) }
+    ensures begun { ForLines (A.is_of automaton.now) (λ p.
+        AreFilesBegun p job.now (F.holds files.now.files.now) (files_named files.now)
+        (R.remaining input.old) (W.taken output.old) (W.taken output.new)) }
 
     // What is told tells why a file was not searched; where the status tells of no error, nothing is told.
-    ensures told { TellsStatus E.Sink
-        (IsMessage (shown_names (or_input (name_bytes files.now.names.now))))
+    ensures told { TellsOfFiles E.Sink (files_named files.now)
         job.now.shown result errors.old errors.new }
 {
     if files.names.is_empty() {
@@ -184,14 +184,13 @@ fn search_names<A: Automaton, F: Open, R: Read, W: Sink, E: Sink>(
 ) -> u8
     requires of { (p : Patterns) × A.is_of automaton.now p }
     ensures bound { result ≤ 2 }
-    ensures searched { (p : Patterns) → A.is_of automaton.now p → HoldNoNewline p → result < 2
+    ensures searched { ForLines (A.is_of automaton.now) (λ p. result < 2
         → AreSearchedOr p job.now (F.holds files.now) (name_bytes names.now)
         (R.remaining input.old) (R.remaining input.new)
-        (W.taken output.old) (W.taken output.new) result }
-    ensures begun { (p : Patterns) → A.is_of automaton.now p → HoldNoNewline p
-        → AreFilesBegun p job.now (F.holds files.now) (name_bytes names.now)
-        (R.remaining input.old) (W.taken output.old) (W.taken output.new) }
-    ensures told { TellsStatus E.Sink (IsMessage (shown_names (name_bytes names.now)))
+        (W.taken output.old) (W.taken output.new) result) }
+    ensures begun { BeginsFilesBy A.Automaton F.Open R.Read W.Sink automaton.now job.now
+        files.now names.now input.old output.old output.new }
+    ensures told { TellsOfFiles E.Sink (name_bytes names.now)
         job.now.shown result errors.old errors.new }
 {
     let Ok(mut buffer) = Buffer::new(alloc) else {
@@ -226,13 +225,12 @@ fn search_each<A: Automaton, F: Open, R: Read, W: Sink, E: Sink>(
     errors: &mut Errors<'_, E>,
 ) -> Seen
     requires of { (p : Patterns) × A.is_of automaton.now p }
-    ensures searched { (p : Patterns) → A.is_of automaton.now p → HoldNoNewline p
-        → SearchesNames p job.now (F.holds files.now) (name_bytes names.now)
+    ensures searched { ForLines (A.is_of automaton.now) (λ p.
+        SearchesNames p job.now (F.holds files.now) (name_bytes names.now)
         (R.remaining input.old) (R.remaining input.new)
-        (W.taken output.old) (W.taken output.new) result }
-    ensures begun { (p : Patterns) → A.is_of automaton.now p → HoldNoNewline p
-        → AreFilesBegun p job.now (F.holds files.now) (name_bytes names.now)
-        (R.remaining input.old) (W.taken output.old) (W.taken output.new) }
+        (W.taken output.old) (W.taken output.new) result) }
+    ensures begun { BeginsFilesBy A.Automaton F.Open R.Read W.Sink automaton.now job.now
+        files.now names.now input.old output.old output.new }
     ensures told { TellsIf E.Sink (IsMessage (shown_names (name_bytes names.now)))
         result.failed errors.old errors.new }
 {
@@ -270,16 +268,15 @@ fn search_name<A: Automaton, F: Open, R: Read, W: Sink, E: Sink>(
     errors: &mut Errors<'_, E>,
 ) -> Outcome
     requires of { (p : Patterns) × A.is_of automaton.now p }
-    ensures searched { (p : Patterns) → A.is_of automaton.now p → HoldNoNewline p
-        → IfSearched result (SearchesName p job.now (F.holds files.now) name.now
+    ensures searched { ForLines (A.is_of automaton.now) (λ p.
+        IfSearched result (SearchesName p job.now (F.holds files.now) name.now
         (R.remaining input.old) (R.remaining input.new)
-        (W.taken output.old) (W.taken output.new)) }
-    ensures begun { (p : Patterns) → A.is_of automaton.now p → HoldNoNewline p
-        → IfBroken result (BeginsName p job.now (F.holds files.now) name.now
-        (R.remaining input.old) (W.taken output.old) (W.taken output.new)) }
+        (W.taken output.old) (W.taken output.new))) }
+    ensures begun { ForLines (A.is_of automaton.now) (λ p.
+        IfBroken result (BeginsName p job.now (F.holds files.now) name.now
+        (R.remaining input.old) (W.taken output.old) (W.taken output.new))) }
     ensures leaves { LeavesInput name.now (R.remaining input.old) (R.remaining input.new) }
-    ensures told { (names : List (List ℕ)) → IsAmong (shown_name name.now) names
-        → TellsOutcome E.Sink (IsMessage names) result errors.old errors.new }
+    ensures told { TellsOfOutcome E.Sink (shown_name name.now) result errors.old errors.new }
 {
     if is_input(name) {
         let named = job_for(job, INPUT_NAME);
@@ -301,14 +298,11 @@ fn search_named<A: Automaton, F: Open, W: Sink, E: Sink>(
     errors: &mut Errors<'_, E>,
 ) -> Outcome
     requires of { (p : Patterns) × A.is_of automaton.now p }
-    ensures searched { (p : Patterns) → A.is_of automaton.now p → HoldNoNewline p
-        → IfSearched result (SearchesFile p job.now (F.holds files.now name.now)
-        (W.taken output.old) (W.taken output.new)) }
-    ensures begun { (p : Patterns) → A.is_of automaton.now p → HoldNoNewline p
-        → IfBroken result (BeginsFile p job.now (F.holds files.now name.now)
-        (W.taken output.old) (W.taken output.new)) }
-    ensures told { (names : List (List ℕ)) → IsAmong job.now.style.name.now names
-        → TellsOutcome E.Sink (IsMessage names) result errors.old errors.new }
+    ensures searched { SearchesFileBy A.Automaton W.Sink automaton.now job.now
+        (F.holds files.now name.now) output.old output.new result }
+    ensures begun { BeginsFileBy A.Automaton W.Sink automaton.now job.now
+        (F.holds files.now name.now) output.old output.new result }
+    ensures told { TellsOfOutcome E.Sink job.now.style.name.now result errors.old errors.new }
 {
     match open_named(files, name) {
         Ok(mut file) => search_one(automaton, job, buffer, &mut file, page, output, errors),
@@ -331,16 +325,12 @@ fn search_one<A: Automaton, R: Read, W: Sink, E: Sink>(
     errors: &mut Errors<'_, E>,
 ) -> Outcome
     requires of { (p : Patterns) × A.is_of automaton.now p }
-    ensures searched { (p : Patterns) → A.is_of automaton.now p → HoldNoNewline p
-        → IfSearched result (SearchesReader p job.now
-        (R.remaining reader.old) (R.remaining reader.new)
-        (W.taken output.old) (W.taken output.new)) }
-    ensures begun { (p : Patterns) → A.is_of automaton.now p → HoldNoNewline p
-        → IfBroken result (BeginsFile p job.now (R.remaining reader.old)
-        (W.taken output.old) (W.taken output.new)) }
+    ensures searched { SearchesReaderBy A.Automaton R.Read W.Sink automaton.now job.now
+        reader.old reader.new output.old output.new result }
+    ensures begun { BeginsFileBy A.Automaton W.Sink automaton.now job.now
+        (R.remaining reader.old) output.old output.new result }
     ensures reads { ReadsOn (R.remaining reader.old) (R.remaining reader.new) }
-    ensures told { (names : List (List ℕ)) → IsAmong job.now.style.name.now names
-        → TellsOutcome E.Sink (IsMessage names) result errors.old errors.new }
+    ensures told { TellsOfOutcome E.Sink job.now.style.name.now result errors.old errors.new }
 {
     let mut state = State::new(job.first);
     match search_stream(automaton, job, buffer, reader, &mut state, page, output) {
@@ -361,8 +351,7 @@ fn end_file<W: Sink, E: Sink>(
         (W.taken output.old) (W.taken output.new)) }
     ensures begun { IfBroken result (BeginsTotal job.now state.now.selected
         (W.taken output.old) (W.taken output.new)) }
-    ensures told { (names : List (List ℕ)) →
-        TellsOutcome E.Sink (IsMessage names) result errors.old errors.new }
+    ensures told { TellsOfEnd E.Sink result errors.old errors.new }
 {
     match put_total(job, state.selected, page, output) {
         Ok(()) => Outcome::Searched(state.selected > 0),
@@ -384,8 +373,7 @@ fn break_off<W: Sink, E: Sink>(
 ) -> Outcome
     ensures unsearched { IfSearched result (λ any. ⊥) }
     ensures begun { BeginsTotal job.now state.now.selected (W.taken output.old) (W.taken output.new) }
-    ensures told { (names : List (List ℕ)) → IsAmong job.now.style.name.now names
-        → TellsSome E.Sink (IsMessage names) errors.old errors.new }
+    ensures told { TellsOfFile E.Sink job.now.style.name.now errors.old errors.new }
 {
     let _ = output.flush();
     if tell_stop(job.style.name, stop, errors) {
@@ -418,8 +406,8 @@ fn put_total<W: Sink>(
 
 /// Puts together what is asked of a file as a whole, of which this many lines were selected.
 fn put_asked<W: Write>(job: &Job<'_>, selected: u64, output: &mut W) -> io::Result<()>
-    ensures written { OnOk result (Appends (W.contents output.old) (W.contents output.new)
-        (total_if job.now.shown job.now.style selected)) }
+    ensures written { Puts W.Write output.old output.new result
+        (total_if job.now.shown job.now.style selected) }
 {
     match job.shown {
         Shown::Count => put_count(output, &job.style, selected),
@@ -430,8 +418,7 @@ fn put_asked<W: Write>(job: &Job<'_>, selected: u64, output: &mut W) -> io::Resu
 
 /// Tells why a search stopped, and answers whether that ends the call.
 fn tell_stop<E: Sink>(name: &[u8], stop: &Stop, errors: &mut Errors<'_, E>) -> bool
-    ensures told { (names : List (List ℕ)) → IsAmong name.now names
-        → TellsSome E.Sink (IsMessage names) errors.old errors.new }
+    ensures told { TellsOfFile E.Sink name.now errors.old errors.new }
 {
     match stop {
         Stop::Read(reason) => {
@@ -455,7 +442,7 @@ fn tell_stop<E: Sink>(name: &[u8], stop: &Stop, errors: &mut Errors<'_, E>) -> b
 
 /// Tells why what is asked of a file as a whole was not written: memory ran out, or the output cannot be written.
 fn tell_total<E: Sink>(stop: &Stop, errors: &mut Errors<'_, E>)
-    ensures told { (names : List (List ℕ)) → TellsSome E.Sink (IsMessage names) errors.old errors.new }
+    ensures told { TellsCause E.Sink errors.old errors.new }
 {
     match stop {
         Stop::OutOfMemory => tell_memory(errors),

@@ -1,11 +1,10 @@
 //! A match as a JSON object.
 
 ghost use Rattle.std.specs.Iterator.{IsFinite};
-ghost use Rattle.std.specs.Iterator.Runs.{WholeRun};
-ghost use Rattle.std.specs.Prelude.{◌≡◌, ◌<◌, ◌++◌, OnOk, decimal};
-ghost use Rattle.std.specs.Io.KnownBytes.{Appends};
+ghost use Rattle.std.specs.Prelude.{◌≡◌, ◌<◌, ◌++◌, decimal};
 ghost use Rattle.aho_core.specs.Patterns.{Patterns};
-ghost use Rattle.acgrep.specs.Objects.{WritesObjects, json_escaped, escaped_byte, hex_of, object_by, objects_by};
+ghost use Rattle.acgrep.specs.Printed.{Puts, PutsEach};
+ghost use Rattle.acgrep.specs.Objects.{PutsObjects, json_escaped, escaped_byte, hex_of, object_by, objects_by};
 
 use crate::failure::Stop;
 use crate::print::{DIGITS, Place, Style, put_digits};
@@ -22,8 +21,8 @@ pub fn put_objects<A: Automaton, W: Write>(
     line: &[u8],
 ) -> Result<(), Stop>
     requires of { (p : Patterns) × A.is_of automaton.now p }
-    ensures written { (p : Patterns) → A.is_of automaton.now p → OnOk result (WritesObjects
-        (W.contents output.old) (W.contents output.new) p style.now place line.now) }
+    ensures written { PutsObjects A.Automaton W.Write automaton.now
+        style.now place line.now output.old output.new result }
 {
     let matches = automaton.try_find_iter(Input::new(line))?;
     put_each(output, style, place, matches)?;
@@ -39,9 +38,8 @@ fn put_each<W: Write, I: Iterator<Item = Match> + Drop>(
 ) -> io::Result<()>
     requires ready { I.can_next matches }
     requires finite { IsFinite (I.remaining matches) }
-    ensures written { OnOk result (WholeRun I.next_gives matches (λ run.
-        Appends (W.contents output.old) (W.contents output.new)
-        (objects_by style.now place run.items))) }
+    ensures written { PutsEach W.Write output.old output.new
+        I.next_gives matches result (objects_by style.now place) }
 {
     for found in matches {
         put_object(output, style, place, &found)?;
@@ -57,8 +55,8 @@ fn put_object<W: Write>(
     place: Place,
     found: &Match,
 ) -> io::Result<()>
-    ensures written { OnOk result (Appends (W.contents output.old) (W.contents output.new)
-        (object_by style.now place found.now)) }
+    ensures written { Puts W.Write output.old output.new result
+        (object_by style.now place found.now) }
 {
     let start = found.start();
     let end = found.end();
@@ -79,8 +77,8 @@ fn put_object<W: Write>(
 
 /// Writes what stands before a number, and the number.
 fn put_field<W: Write>(output: &mut W, before: &[u8], number: u64) -> io::Result<()>
-    ensures written { OnOk result (Appends (W.contents output.old) (W.contents output.new)
-        (before.now ++ decimal number)) }
+    ensures written { Puts W.Write output.old output.new result
+        (before.now ++ decimal number) }
 {
     let mut digits = [0; DIGITS];
     let start = put_digits(number, &mut digits);
@@ -91,8 +89,8 @@ fn put_field<W: Write>(output: &mut W, before: &[u8], number: u64) -> io::Result
 
 /// Writes bytes as they stand in a JSON string.
 fn put_escaped<W: Write>(output: &mut W, bytes: &[u8]) -> io::Result<()>
-    ensures written { OnOk result (Appends (W.contents output.old) (W.contents output.new)
-        (json_escaped bytes.now)) }
+    ensures written { Puts W.Write output.old output.new result
+        (json_escaped bytes.now) }
 {
     for byte in bytes {
         put_byte(output, *byte)?;
@@ -102,8 +100,8 @@ fn put_escaped<W: Write>(output: &mut W, bytes: &[u8]) -> io::Result<()>
 
 /// Writes a byte as it stands in a JSON string.
 fn put_byte<W: Write>(output: &mut W, byte: u8) -> io::Result<()>
-    ensures written { OnOk result (Appends (W.contents output.old) (W.contents output.new)
-        (escaped_byte byte)) }
+    ensures written { Puts W.Write output.old output.new result
+        (escaped_byte byte) }
 {
     match byte {
         b'"' => output.write_all(b"\\\""),

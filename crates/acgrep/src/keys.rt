@@ -1,15 +1,13 @@
 //! Reading the patterns that a call names, and telling which one is refused.
 
-ghost use Rattle.std.specs.Prelude.{◌≡◌, ℕ, List, IfOk, IfSome, IsNone, IsSome, OnOk, true};
+ghost use Rattle.std.specs.Prelude.{◌≡◌, IfOk, IfSome, IsNone, IsSome, OnOk};
 ghost use Rattle.std.specs.Io.KnownBytes.{Keeps};
 ghost use Rattle.acgrep.specs.Arguments.{origin_of};
-ghost use Rattle.programs.specs.Names.{IsAmong, is_input};
-ghost use Rattle.acgrep.specs.Lines.{lines};
-ghost use Rattle.acgrep.specs.Loading.{AddsText, AddsWords};
-ghost use Rattle.acgrep.specs.Runs.{AreWords, origins_of};
-ghost use Rattle.acgrep.specs.Told.{IsMessage, MayName, source_names};
+ghost use Rattle.programs.specs.Names.{is_input};
+ghost use Rattle.acgrep.specs.Loading.{AddsFile, AddsSource, ReadsSources, file_origin};
+ghost use Rattle.acgrep.specs.Runs.{origins_of};
+ghost use Rattle.acgrep.specs.Told.{MayName, TellsOfFile, TellsOfSources, source_names};
 ghost use Rattle.acgrep.specs.Written.{EndsLine};
-ghost use Rattle.programs.specs.Telling.{TellsSome};
 
 use crate::arguments::Source;
 use crate::open::Open;
@@ -37,11 +35,10 @@ pub fn read_keys<F: Open, R: Read, E: Sink>(
     input: &mut R,
     errors: &mut Errors<'_, E>,
 ) -> Option<Keys>
-    ensures words { IfSome result (λ keys. AreWords (F.holds files.now) (origins_of sources.now)
-        (R.remaining input.old) (R.remaining input.new) (lines keys.text.items)) }
+    ensures words { IfSome result
+        (ReadsSources F.Open R.Read files.now sources.now input.old input.new) }
     ensures silent { IsSome result → errors.new ≡ errors.old }
-    ensures told { IsNone result → TellsSome E.Sink
-        (IsMessage (source_names (origins_of sources.now))) errors.old errors.new }
+    ensures told { IsNone result → TellsOfSources E.Sink sources.now errors.old errors.new }
 {
     let mut keys = Keys::new(alloc);
     let mut rest = sources;
@@ -61,8 +58,7 @@ pub fn read_keys<F: Open, R: Read, E: Sink>(
 
 /// Tells why a source cannot be read. Where it is a text, memory ran out.
 fn tell_source<E: Sink>(source: Source<'_>, reason: Reason, errors: &mut Errors<'_, E>)
-    ensures told { (names : List (List ℕ)) → IsAmong (origin_of source.entry).bytes names
-        → TellsSome E.Sink (IsMessage names) errors.old errors.new }
+    ensures told { TellsOfFile E.Sink (origin_of source.entry).bytes errors.old errors.new }
 {
     match source {
         Source::Text(_) => tell_memory(errors),
@@ -78,9 +74,8 @@ fn read_source<F: Open, R: Read>(
     input: &mut R,
 ) -> io::Result<()>
     requires whole { EndsLine keys.old.text.items }
-    ensures added { OnOk result (AddsWords (F.holds files.now) (origin_of source.entry)
-        (R.remaining input.old) (R.remaining input.new)
-        (lines keys.old.text.items) (lines keys.new.text.items)) }
+    ensures added { OnOk result (AddsSource F.Open R.Read files.now
+        (origin_of source.entry) input.old input.new keys.old keys.new) }
     ensures ends { OnOk result (EndsLine keys.new.text.items) }
 {
     match source {
@@ -97,10 +92,8 @@ fn read_file<F: Open, R: Read>(
     input: &mut R,
 ) -> io::Result<()>
     requires whole { EndsLine keys.old.text.items }
-    ensures added { OnOk result (AddsWords (F.holds files.now)
-        (record { is_file = true; bytes = name.now })
-        (R.remaining input.old) (R.remaining input.new)
-        (lines keys.old.text.items) (lines keys.new.text.items)) }
+    ensures added { OnOk result (AddsSource F.Open R.Read files.now
+        (file_origin name.now) input.old input.new keys.old keys.new) }
     ensures ends { OnOk result (EndsLine keys.new.text.items) }
 {
     keys.begin()?;
@@ -116,8 +109,8 @@ fn read_text<F: Open, R: Read>(
     files: &F,
     input: &mut R,
 ) -> io::Result<()>
-    ensures added { OnOk result (AddsText (F.holds files.now) name.now
-        (R.remaining input.old) (R.remaining input.new) text.old.items text.new.items) }
+    ensures added { OnOk result (AddsFile F.Open R.Read files.now
+        name.now input.old input.new text.old.items text.new.items) }
 {
     if is_input(name) {
         input.read_to_end(text)?;
@@ -153,8 +146,7 @@ pub fn tell_refusal<E: Sink>(
     error: &BuildError,
     errors: &mut Errors<'_, E>,
 )
-    ensures told { TellsSome E.Sink (IsMessage (source_names (origins_of sources.now)))
-        errors.old errors.new }
+    ensures told { TellsOfSources E.Sink sources.now errors.old errors.new }
 {
     match error {
         BuildError::PatternTooLong { pattern, .. } => {

@@ -1,11 +1,9 @@
 //! Writing lines and matches with what stands before them.
 
 ghost use Rattle.std.specs.Iterator.{IsFinite};
-ghost use Rattle.std.specs.Iterator.Runs.{WholeRun};
-ghost use Rattle.std.specs.Prelude.{◌≡◌, ◌≤◌, IfOk, OnOk, decimal, drop};
-ghost use Rattle.std.specs.Io.KnownBytes.{Appends};
+ghost use Rattle.std.specs.Prelude.{◌≡◌, ◌≤◌, IfOk, decimal, drop};
 ghost use Rattle.aho_core.specs.Patterns.{Patterns};
-ghost use Rattle.acgrep.specs.Printed.{WritesColored, WritesFinds, behind_match, colored_by, colored_from, count_by, file_line, head_of, line_by, match_by, matches_by, name_part, number_by, number_if, painted, part_by, part_of};
+ghost use Rattle.acgrep.specs.Printed.{Puts, PutsColored, PutsEach, PutsFinds, behind_match, colored_by, colored_from, count_by, file_line, head_of, line_by, match_by, matches_by, name_part, number_by, number_if, painted, part_by, part_of};
 
 use crate::failure::Stop;
 use chromesquid::{Automaton, Input, Match};
@@ -53,8 +51,8 @@ pub struct Place {
 
 /// Writes bytes, in a colour where that is asked for.
 fn put_painted<W: Write>(output: &mut W, color: bool, start: &[u8], bytes: &[u8]) -> io::Result<()>
-    ensures written { OnOk result (Appends (W.contents output.old) (W.contents output.new)
-        (painted color start.now bytes.now)) }
+    ensures written { Puts W.Write output.old output.new result
+        (painted color start.now bytes.now) }
 {
     if !color {
         return output.write_all(bytes);
@@ -67,8 +65,8 @@ fn put_painted<W: Write>(output: &mut W, color: bool, start: &[u8], bytes: &[u8]
 
 /// Writes a part of what stands before a line, and a colon.
 fn put_part<W: Write>(output: &mut W, color: bool, start: &[u8], bytes: &[u8]) -> io::Result<()>
-    ensures written { OnOk result (Appends (W.contents output.old) (W.contents output.new)
-        (part_by color start.now bytes.now)) }
+    ensures written { Puts W.Write output.old output.new result
+        (part_by color start.now bytes.now) }
 {
     put_painted(output, color, start, bytes)?;
     put_painted(output, color, SEPARATOR_COLOR, b":")?;
@@ -85,8 +83,8 @@ pub fn put_digits(number: u64, room: &mut [u8; DIGITS]) -> usize
 
 /// Writes a number and a colon.
 fn put_number<W: Write>(output: &mut W, color: bool, number: u64) -> io::Result<()>
-    ensures written { OnOk result (Appends (W.contents output.old) (W.contents output.new)
-        (number_by color number)) }
+    ensures written { Puts W.Write output.old output.new result
+        (number_by color number) }
 {
     let mut digits = [0; DIGITS];
     let start = put_digits(number, &mut digits);
@@ -95,8 +93,8 @@ fn put_number<W: Write>(output: &mut W, color: bool, number: u64) -> io::Result<
 
 /// Writes what stands before a line, or before a match that begins at a place of it.
 fn put_head<W: Write>(output: &mut W, style: &Style<'_>, number: u64, offset: u64) -> io::Result<()>
-    ensures written { OnOk result (Appends (W.contents output.old) (W.contents output.new)
-        (head_of style.now number offset)) }
+    ensures written { Puts W.Write output.old output.new result
+        (head_of style.now number offset) }
 {
     put_file(output, style)?;
     put_if(output, style.number, style.color, number)?;
@@ -106,8 +104,8 @@ fn put_head<W: Write>(output: &mut W, style: &Style<'_>, number: u64, offset: u6
 
 /// Writes the file's name where it is asked for.
 fn put_file<W: Write>(output: &mut W, style: &Style<'_>) -> io::Result<()>
-    ensures written { OnOk result (Appends (W.contents output.old) (W.contents output.new)
-        (name_part style.now)) }
+    ensures written { Puts W.Write output.old output.new result
+        (name_part style.now) }
 {
     if style.with_name {
         return put_part(output, style.color, NAME_COLOR, style.name);
@@ -117,8 +115,8 @@ fn put_file<W: Write>(output: &mut W, style: &Style<'_>) -> io::Result<()>
 
 /// Writes a number where it is asked for.
 fn put_if<W: Write>(output: &mut W, asked: bool, color: bool, number: u64) -> io::Result<()>
-    ensures written { OnOk result (Appends (W.contents output.old) (W.contents output.new)
-        (number_if asked color number)) }
+    ensures written { Puts W.Write output.old output.new result
+        (number_if asked color number) }
 {
     if asked {
         return put_number(output, color, number);
@@ -133,8 +131,8 @@ pub fn put_line<W: Write>(
     place: Place,
     line: &[u8],
 ) -> io::Result<()>
-    ensures written { OnOk result (Appends (W.contents output.old) (W.contents output.new)
-        (line_by style.now place line.now)) }
+    ensures written { Puts W.Write output.old output.new result
+        (line_by style.now place line.now) }
 {
     put_head(output, style, place.lines.wrapping_add(1), place.bytes)?;
     output.write_all(line)?;
@@ -162,8 +160,8 @@ pub fn put_colored_line<A: Automaton, W: Write>(
     line: &[u8],
 ) -> Result<(), Stop>
     requires of { (p : Patterns) × A.is_of automaton.now p }
-    ensures written { (p : Patterns) → A.is_of automaton.now p → OnOk result (WritesColored
-        (W.contents output.old) (W.contents output.new) p style.now place line.now) }
+    ensures written { PutsColored A.Automaton W.Write automaton.now
+        style.now place line.now output.old output.new result }
 {
     put_head(output, style, place.lines.wrapping_add(1), place.bytes)?;
     let matches = automaton.try_find_iter(Input::new(line))?;
@@ -180,9 +178,8 @@ fn put_colored<W: Write, I: Iterator<Item = Match> + Drop>(
 ) -> io::Result<()>
     requires ready { I.can_next matches }
     requires finite { IsFinite (I.remaining matches) }
-    ensures written { OnOk result (WholeRun I.next_gives matches (λ run.
-        Appends (W.contents output.old) (W.contents output.new)
-        (colored_from line.now 0 run.items))) }
+    ensures written { PutsEach W.Write output.old output.new
+        I.next_gives matches result (colored_from line.now 0) }
 {
     let mut at = 0;
     for found in matches {
@@ -196,8 +193,8 @@ fn put_colored<W: Write, I: Iterator<Item = Match> + Drop>(
 /// changes nothing.
 fn put_up_to<W: Write>(output: &mut W, line: &[u8], at: usize, found: &Match) -> io::Result<usize>
     ensures behind { IfOk result (λ behind. behind ≡ behind_match at found.now) }
-    ensures written { OnOk result (Appends (W.contents output.old) (W.contents output.new)
-        (colored_by line.now at found.now)) }
+    ensures written { Puts W.Write output.old output.new result
+        (colored_by line.now at found.now) }
 {
     let start = found.start();
     let end = found.end();
@@ -218,8 +215,8 @@ pub fn put_matches<A: Automaton, W: Write>(
     line: &[u8],
 ) -> Result<(), Stop>
     requires of { (p : Patterns) × A.is_of automaton.now p }
-    ensures written { (p : Patterns) → A.is_of automaton.now p → OnOk result (WritesFinds
-        (W.contents output.old) (W.contents output.new) p style.now place line.now) }
+    ensures written { PutsFinds A.Automaton W.Write automaton.now
+        style.now place line.now output.old output.new result }
 {
     let matches = automaton.try_find_iter(Input::new(line))?;
     put_each(output, style, place, line, matches)?;
@@ -236,9 +233,8 @@ fn put_each<W: Write, I: Iterator<Item = Match> + Drop>(
 ) -> io::Result<()>
     requires ready { I.can_next matches }
     requires finite { IsFinite (I.remaining matches) }
-    ensures written { OnOk result (WholeRun I.next_gives matches (λ run.
-        Appends (W.contents output.old) (W.contents output.new)
-        (matches_by style.now place line.now run.items))) }
+    ensures written { PutsEach W.Write output.old output.new
+        I.next_gives matches result (matches_by style.now place line.now) }
 {
     for found in matches {
         put_match(output, style, place, line, &found)?;
@@ -254,8 +250,8 @@ fn put_match<W: Write>(
     line: &[u8],
     found: &Match,
 ) -> io::Result<()>
-    ensures written { OnOk result (Appends (W.contents output.old) (W.contents output.new)
-        (match_by style.now place line.now found.now)) }
+    ensures written { Puts W.Write output.old output.new result
+        (match_by style.now place line.now found.now) }
 {
     let start = found.start();
     let end = found.end();
@@ -271,8 +267,8 @@ fn put_match<W: Write>(
 
 /// Writes the number of selected lines.
 pub fn put_count<W: Write>(output: &mut W, style: &Style<'_>, count: u64) -> io::Result<()>
-    ensures written { OnOk result (Appends (W.contents output.old) (W.contents output.new)
-        (count_by style.now count)) }
+    ensures written { Puts W.Write output.old output.new result
+        (count_by style.now count) }
 {
     put_file(output, style)?;
     let mut digits = [0; DIGITS];
@@ -284,8 +280,8 @@ pub fn put_count<W: Write>(output: &mut W, style: &Style<'_>, count: u64) -> io:
 
 /// Writes the name of a file with a selected line.
 pub fn put_name<W: Write>(output: &mut W, style: &Style<'_>) -> io::Result<()>
-    ensures written { OnOk result (Appends (W.contents output.old) (W.contents output.new)
-        (file_line style.now)) }
+    ensures written { Puts W.Write output.old output.new result
+        (file_line style.now) }
 {
     put_painted(output, style.color, NAME_COLOR, style.name)?;
     output.write_all(b"\n")?;

@@ -1,19 +1,18 @@
 //! A call over its arguments, files and streams.
 
-ghost use Rattle.std.specs.Prelude.{◌≡◌, ◌≤◌, ◌<◌, ◌⊎◌, ℕ, List, [], None, Some, false, nat_lt, true, unwrap_or};
+ghost use Rattle.std.specs.Prelude.{◌≡◌, ◌≤◌, ◌<◌, ◌⊎◌, [], None, false, nat_lt, true, unwrap_or};
 ghost use Rattle.std.specs.Io.KnownBytes.{Keeps};
 ghost use Rattle.aho_core.specs.Patterns.{Patterns};
 ghost use Rattle.aho_core.specs.Replacement.{pieces_of};
 ghost use Rattle.programs.specs.Arguments.{texts};
-ghost use Rattle.acgrep.specs.Arguments.{said, said_by, shown_by};
-ghost use Rattle.programs.specs.Names.{name_bytes, or_input};
+ghost use Rattle.acgrep.specs.Arguments.{said, said_by};
+ghost use Rattle.programs.specs.Names.{name_bytes};
 ghost use Rattle.programs.specs.Telling.{Tells, TellsSome};
-ghost use Rattle.acgrep.specs.declared.options.Shown.{Shown};
-ghost use Rattle.acgrep.specs.Told.{IsMessage, MayTell, TellsStatus, names_said, names_told, shown_names};
-ghost use Rattle.acgrep.specs.Files.{AreFilesBegun, AreSearchedOr};
+ghost use Rattle.acgrep.specs.Told.{MayTell, TellsCause, TellsOfCall, TellsOfFiles, TellsOfSearch, TellsOfText, TellsRefusal, names_said};
+ghost use Rattle.acgrep.specs.Files.{AreFilesBegun, AreSearchedOr, files_named};
 ghost use Rattle.acgrep.specs.Runs.{AsksToSearch, BeginsSearch, BeginsFor, GivesNone, IfSaid, IsJob, Searches, SearchesFor, are_empty, is_colored, origins_of, selects_none};
 ghost use Rattle.acgrep.specs.Searchers.{IsSearcherOf};
-ghost use Rattle.acgrep.specs.Selected.{HoldNoNewline};
+ghost use Rattle.acgrep.specs.Selected.{ForLines};
 
 use crate::arguments::{Given, Refusal, Source, Wrong, parse};
 use crate::files::{Files, search_files};
@@ -92,7 +91,7 @@ pub fn run<F: Open, R: Read, W: Sink, E: Sink>(
 
 /// Tells why the arguments are refused.
 fn tell_refused<E: Sink>(refusal: Refusal<'_>, errors: &mut Errors<'_, E>)
-    ensures told { (names : List (List ℕ)) → TellsSome E.Sink (MayTell names) errors.old errors.new }
+    ensures told { TellsRefusal E.Sink errors.old errors.new }
 {
     match refusal {
         Refusal::Wrong(wrong) => tell_wrong(errors, wrong),
@@ -119,8 +118,7 @@ fn finish<W: Sink, E: Sink>(status: u8, output: &mut W, errors: &mut Errors<'_, 
     ensures flushed { result < 2 → W.flushed output.new ≡ true }
     ensures silent { result < 2 → errors.new ≡ errors.old }
     ensures told_before { 2 ≤ status → errors.new ≡ errors.old }
-    ensures told { status < 2 → result ≡ 2 → (names : List (List ℕ)) →
-        TellsSome E.Sink (IsMessage names) errors.old errors.new }
+    ensures told { status < 2 → result ≡ 2 → TellsCause E.Sink errors.old errors.new }
 {
     match output.flush() {
         Ok(()) => status,
@@ -153,8 +151,7 @@ fn answer<F: Open, R: Read, W: Sink, E: Sink>(
     ensures begins { AsksToSearch given.now.flags
         → BeginsSearch (F.holds files.now) terminal (said given.now)
         (R.remaining input.old) (W.taken output.old) (W.taken output.new) }
-    ensures told { TellsStatus E.Sink (MayTell (names_said (Some (said given.now))))
-        (shown_by given.now.flags) result errors.old errors.new }
+    ensures told { TellsOfCall E.Sink (said given.now) result errors.old errors.new }
 {
     if given.flags.version {
         return write_text(VERSION, output, errors);
@@ -182,8 +179,7 @@ fn search_asked<F: Open, R: Read, W: Sink, E: Sink>(
         (W.taken output.old) (W.taken output.new) result }
     ensures begins { BeginsSearch (F.holds files.now) terminal (said given.now)
         (R.remaining input.old) (W.taken output.old) (W.taken output.new) }
-    ensures told { TellsStatus E.Sink (MayTell (names_said (Some (said given.now))))
-        (shown_by given.now.flags) result errors.old errors.new }
+    ensures told { TellsOfCall E.Sink (said given.now) result errors.old errors.new }
 {
     let flags = &given.flags;
     let sources = given.sources.as_slice();
@@ -210,8 +206,7 @@ fn search_asked<F: Open, R: Read, W: Sink, E: Sink>(
 /// Writes a text, and answers the status.
 fn write_text<W: Sink, E: Sink>(text: &[u8], output: &mut W, errors: &mut Errors<'_, E>) -> u8
     ensures bound { result ≤ 2 }
-    ensures told { (shown : Shown) → (names : List (List ℕ)) →
-        TellsStatus E.Sink (MayTell names) shown result errors.old errors.new }
+    ensures told { TellsOfText E.Sink result errors.old errors.new }
 {
     match write_whole(output, text) {
         Ok(()) => 0,
@@ -242,9 +237,8 @@ fn search<F: Open, R: Read, W: Sink, E: Sink>(
     ensures begins { BeginsFor (F.holds files.now) terminal flags.now
         (origins_of sources.now) (name_bytes names.now)
         (R.remaining input.old) (W.taken output.old) (W.taken output.new) }
-    ensures told { TellsStatus E.Sink
-        (MayTell (names_told (origins_of sources.now) (name_bytes names.now)))
-        (shown_by flags.now) result errors.old errors.new }
+    ensures told { TellsOfSearch E.Sink flags.now (origins_of sources.now) (name_bytes names.now)
+        result errors.old errors.new }
 {
     let Some(keys) = read_keys(alloc, sources, files, input, errors) else {
         return 2;
@@ -283,15 +277,14 @@ fn search_by<F: Open, R: Read, W: Sink, E: Sink>(
 ) -> u8
     requires of { (p : Patterns) × IsSearcherOf p searcher.now }
     ensures bound { result ≤ 2 }
-    ensures searched { (p : Patterns) → IsSearcherOf p searcher.now → HoldNoNewline p → result < 2
-        → AreSearchedOr p job.now (F.holds files.now.files.now) (or_input (name_bytes files.now.names.now))
+    ensures searched { ForLines (λ p. IsSearcherOf p searcher.now) (λ p. result < 2
+        → AreSearchedOr p job.now (F.holds files.now.files.now) (files_named files.now)
         (R.remaining input.old) (R.remaining input.new)
-        (W.taken output.old) (W.taken output.new) result }
-    ensures begun { (p : Patterns) → IsSearcherOf p searcher.now → HoldNoNewline p
-        → AreFilesBegun p job.now (F.holds files.now.files.now) (or_input (name_bytes files.now.names.now))
-        (R.remaining input.old) (W.taken output.old) (W.taken output.new) }
-    ensures told { TellsStatus E.Sink
-        (IsMessage (shown_names (or_input (name_bytes files.now.names.now))))
+        (W.taken output.old) (W.taken output.new) result) }
+    ensures begun { ForLines (λ p. IsSearcherOf p searcher.now) (λ p.
+        AreFilesBegun p job.now (F.holds files.now.files.now) (files_named files.now)
+        (R.remaining input.old) (W.taken output.old) (W.taken output.new)) }
+    ensures told { TellsOfFiles E.Sink (files_named files.now)
         job.now.shown result errors.old errors.new }
 {
     match searcher {

@@ -1,10 +1,8 @@
 //! The automaton by which files are searched. No answer depends on how it is made.
 
 ghost use Rattle.std.specs.Prelude.{◌≡◌, IfOk};
-ghost use Rattle.aho_core.specs.Patterns.{Patterns};
 ghost use Rattle.aho_core.specs.Replacement.{pieces_of};
-ghost use Rattle.programs.specs.Asked.{ArePatterns};
-ghost use Rattle.acgrep.specs.Searchers.{IsSearcherOf, settings_asked};
+ghost use Rattle.acgrep.specs.Searchers.{ForAsked, IsSearcherOf, IsNFAOf, settings_asked};
 
 use aho_corasick::noncontiguous::{Builder, NFA};
 use aho_hybrid::hybrid::Hybrid;
@@ -33,9 +31,8 @@ impl Searcher {
         ignore_case: bool,
         patterns: &[&[u8]],
     ) -> Result<Searcher, BuildError>
-        ensures of { (p : Patterns) → p.kind ≡ kind
-            → ArePatterns p ignore_case (pieces_of patterns.now)
-            → IfOk result (IsSearcherOf p) }
+        ensures of { ForAsked kind ignore_case (pieces_of patterns.now)
+            (λ p. IfOk result (IsSearcherOf p)) }
     {
         let nfa = trie_of(alloc, kind, ignore_case, patterns)?;
         match rows_of(alloc, &nfa, ignore_case, patterns) {
@@ -53,9 +50,8 @@ fn trie_of(
     ignore_case: bool,
     patterns: &[&[u8]],
 ) -> Result<NFA, BuildError>
-    ensures of { (p : Patterns) → p.kind ≡ kind
-        → ArePatterns p ignore_case (pieces_of patterns.now)
-        → IfOk result (λ nfa. ⟦<NFA as Automaton>⟧.is_of nfa p) }
+    ensures of { ForAsked kind ignore_case (pieces_of patterns.now)
+        (λ p. IfOk result (IsNFAOf p)) }
 {
     builder_for(kind, ignore_case).build(alloc, patterns.iter().copied())
 }

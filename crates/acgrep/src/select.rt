@@ -1,11 +1,12 @@
 //! Which lines of a text are selected, and what is written of them.
 
-ghost use Rattle.std.specs.Prelude.{◌≡◌, ◌+◌, ◌%◌, ◌^◌, ◌↔◌, ◌⊎◌, ◌&&◌, ◌≤◌, ◌<◌, [], ◌∷◌, IfOk, IfSome, IsTrue, OnErr, OnOk, false, not, true, length};
+ghost use Rattle.std.specs.Prelude.{◌≡◌, ◌+◌, ◌%◌, ◌^◌, ◌↔◌, ◌⊎◌, ◌&&◌, ◌≤◌, ◌<◌, [], IfOk, IfSome, IsTrue, OnOk, false, not, length};
 ghost use Rattle.memchr.specs.Find.{is_byte, places};
 ghost use Rattle.aho_core.specs.Patterns.{Patterns};
 ghost use Rattle.acgrep.specs.Lines.{lines};
-ghost use Rattle.acgrep.specs.Selected.{HoldNoNewline, IsLine, IsNextLine, IsNoneSelected};
-ghost use Rattle.acgrep.specs.Written.{BeginsLine, BeginsLines, EachLine, EndsLine, HasMatch, HasNone, NumbersLines, IsSelected, IsSettled, SamePlace, SearchesText, SearchesTo, TellsLines, after_line, after_lines, at_begin, WritesLine, is_numbered, needs_one, one_more, place_behind};
+ghost use Rattle.acgrep.specs.Searched.{BeginsInvertedBy, BeginsLineBy, BeginsMatchBy, BeginsOthersBy, BeginsSelectedBy, BeginsTextBy, SearchesSomeBy, SearchesTextBy, TellsInvertedBy, TellsMatchBy, TellsOthersBy, WritesLineBy};
+ghost use Rattle.acgrep.specs.Selected.{FindsNone, ForLines, IsLine, IsNextLine, IsNoneSelected};
+ghost use Rattle.acgrep.specs.Written.{EndsLine, NumbersLines, IsSettled, SamePlace, after_line, after_lines, at_begin, is_numbered, needs_one, one_more, place_behind};
 
 use crate::failure::Stop;
 use crate::json::put_objects;
@@ -100,8 +101,7 @@ pub fn next_line<A: Automaton>(automaton: &A, text: &[u8]) -> Result<Option<Span
     requires of { (p : Patterns) × A.is_of automaton.now p }
     ensures ordered { IfOk result (λ line. IfSome line (λ line. line.start ≤ line.end)) }
     ensures within { IfOk result (λ line. IfSome line (λ line. line.end ≤ length text.now)) }
-    ensures next { (p : Patterns) → A.is_of automaton.now p → HoldNoNewline p
-        → IfOk result (IsNextLine p text.now) }
+    ensures next { ForLines (A.is_of automaton.now) (λ p. IfOk result (IsNextLine p text.now)) }
 {
     match automaton.try_find(&Input::new(text))? {
         Some(found) => Ok(Some(line_around(text, found.start()))),
@@ -136,18 +136,16 @@ pub fn search_text<A: Automaton, W: Sink>(
     requires of { (p : Patterns) × A.is_of automaton.now p }
 
     // Where no line was selected, no pattern occurs.
-    ensures none { (p : Patterns) → A.is_of automaton.now p → HoldNoNewline p →
-        OnOk result (IsNoneSelected p job.now text.now state.new) }
+    ensures none { ForLines (A.is_of automaton.now) (λ p.
+        OnOk result (IsNoneSelected p job.now text.now state.new)) }
 
     // What is told of the lines is written, in order.
-    ensures written { (p : Patterns) → A.is_of automaton.now p → HoldNoNewline p →
-        OnOk result (SearchesText p job.now state.old state.new
-        (W.taken output.old) (W.taken output.new) text.now) }
+    ensures written { SearchesTextBy A.Automaton W.Sink automaton.now job.now
+        state.old state.new output.old output.new text.now result }
 
     // Where it fails a beginning of that is.
-    ensures begun { (p : Patterns) → A.is_of automaton.now p → HoldNoNewline p →
-        OnErr result (BeginsLines p job.now state.old state.new.selected
-        (W.taken output.old) (W.taken output.new) (lines text.now)) }
+    ensures begun { BeginsTextBy A.Automaton W.Sink automaton.now job.now
+        state.old state.new output.old output.new text.now result }
 {
     let mut rest = text;
     while job.goes_on(rest, state) {
@@ -168,14 +166,12 @@ fn search_some<'t, A: Automaton, W: Sink>(
     requires of { (p : Patterns) × A.is_of automaton.now p }
     requires some { 0 < length text.now }
     ensures shorter { IfOk result (λ left. length left.now < length text.now) }
-    ensures none { (p : Patterns) → A.is_of automaton.now p → HoldNoNewline p → job.now.invert ≡ false
-        → OnOk result (state.new.selected ≡ 0 → (state.old.selected ≡ 0) × HasNone p text.now) }
-    ensures written { (p : Patterns) → A.is_of automaton.now p → HoldNoNewline p →
-        IfOk result (λ left. SearchesTo p job.now state.old state.new
-        (W.taken output.old) (W.taken output.new) text.now left.now) }
-    ensures begun { (p : Patterns) → A.is_of automaton.now p → HoldNoNewline p →
-        OnErr result (BeginsLines p job.now state.old state.new.selected
-        (W.taken output.old) (W.taken output.new) (lines text.now)) }
+    ensures none { ForLines (A.is_of automaton.now) (λ p. job.now.invert ≡ false
+        → OnOk result (FindsNone p state.old state.new text.now)) }
+    ensures written { SearchesSomeBy A.Automaton W.Sink automaton.now job.now
+        state.old state.new output.old output.new text.now result }
+    ensures begun { BeginsTextBy A.Automaton W.Sink automaton.now job.now
+        state.old state.new output.old output.new text.now result }
 {
     match next_line(automaton, text)? {
         Some(line) => {
@@ -209,12 +205,10 @@ fn pass_matched<A: Automaton, W: Sink>(
     requires of { (p : Patterns) × A.is_of automaton.now p }
     ensures selected { job.now.invert ≡ false → OnOk result (0 < state.new.selected) }
     ensures placed { OnOk result (state.new.place ≡ after_line state.old.place line.now) }
-    ensures written { (p : Patterns) → A.is_of automaton.now p → HasMatch p line.now
-        → OnOk result (TellsLines p job.now state.old state.new
-        (W.taken output.old) (W.taken output.new) (line.now ∷ [])) }
-    ensures begun { (p : Patterns) → A.is_of automaton.now p → HasMatch p line.now
-        → OnErr result (BeginsLines p job.now state.old state.new.selected
-        (W.taken output.old) (W.taken output.new) (line.now ∷ [])) }
+    ensures written { TellsMatchBy A.Automaton W.Sink automaton.now job.now
+        state.old state.new output.old output.new line.now result }
+    ensures begun { BeginsMatchBy A.Automaton W.Sink automaton.now job.now
+        state.old state.new output.old output.new line.now result }
 {
     if job.invert {
         state.place = behind_line(state.place, line);
@@ -235,12 +229,10 @@ fn pass_selected<A: Automaton, W: Sink>(
     requires of { (p : Patterns) × A.is_of automaton.now p }
     ensures counted { OnOk result (state.new.selected ≡ one_more state.old.selected) }
     ensures placed { OnOk result (state.new.place ≡ after_line state.old.place line.now) }
-    ensures shown { (p : Patterns) → A.is_of automaton.now p → OnOk result
-        (WritesLine p job.now state.old.place
-        (W.taken output.old) (W.taken output.new) line.now) }
-    ensures begun { (p : Patterns) → A.is_of automaton.now p → IsSelected p job.now.invert line.now
-        → OnErr result (BeginsLines p job.now state.old state.new.selected
-        (W.taken output.old) (W.taken output.new) (line.now ∷ [])) }
+    ensures shown { WritesLineBy (A.is_of automaton.now) job.now state.old.place
+        (W.taken output.old) (W.taken output.new) line.now result }
+    ensures begun { BeginsSelectedBy A.Automaton W.Sink automaton.now job.now
+        state.old state.new output.old output.new line.now result }
 {
     show(automaton, job, line, state.place, page, output)?;
     state.selected = state.selected.saturating_add(1);
@@ -262,14 +254,10 @@ fn pass_others<A: Automaton, W: Sink>(
         → OnOk result (state.new.selected ≡ state.old.selected) }
     ensures placed { EndsLine text.now → OnOk result
         (SamePlace job.now state.new.place (after_lines state.old.place (lines text.now))) }
-    ensures written { (p : Patterns) → A.is_of automaton.now p
-        → EachLine (HasNone p) (lines text.now)
-        → OnOk result (TellsLines p job.now state.old state.new
-        (W.taken output.old) (W.taken output.new) (lines text.now)) }
-    ensures begun { (p : Patterns) → A.is_of automaton.now p
-        → EachLine (HasNone p) (lines text.now)
-        → OnErr result (BeginsLines p job.now state.old state.new.selected
-        (W.taken output.old) (W.taken output.new) (lines text.now)) }
+    ensures written { TellsOthersBy A.Automaton W.Sink automaton.now job.now
+        state.old state.new output.old output.new text.now result }
+    ensures begun { BeginsOthersBy A.Automaton W.Sink automaton.now job.now
+        state.old state.new output.old output.new text.now result }
 {
     if job.invert {
         return pass_each(automaton, job, text, state, page, output);
@@ -289,14 +277,10 @@ fn pass_each<A: Automaton, W: Sink>(
 ) -> Result<(), Stop>
     requires of { (p : Patterns) × A.is_of automaton.now p }
     ensures placed { OnOk result (state.new.place ≡ after_lines state.old.place (lines text.now)) }
-    ensures written { (p : Patterns) → A.is_of automaton.now p → job.now.invert ≡ true
-        → EachLine (HasNone p) (lines text.now)
-        → OnOk result (TellsLines p job.now state.old state.new
-        (W.taken output.old) (W.taken output.new) (lines text.now)) }
-    ensures begun { (p : Patterns) → A.is_of automaton.now p → job.now.invert ≡ true
-        → EachLine (HasNone p) (lines text.now)
-        → OnErr result (BeginsLines p job.now state.old state.new.selected
-        (W.taken output.old) (W.taken output.new) (lines text.now)) }
+    ensures written { TellsInvertedBy A.Automaton W.Sink automaton.now job.now
+        state.old state.new output.old output.new text.now result }
+    ensures begun { BeginsInvertedBy A.Automaton W.Sink automaton.now job.now
+        state.old state.new output.old output.new text.now result }
 {
     let mut rest = text;
     while !rest.is_empty() {
@@ -367,10 +351,10 @@ fn show<A: Automaton, W: Sink>(
     output: &mut W,
 ) -> Result<(), Stop>
     requires of { (p : Patterns) × A.is_of automaton.now p }
-    ensures shown { (p : Patterns) → A.is_of automaton.now p → OnOk result
-        (WritesLine p job.now place (W.taken output.old) (W.taken output.new) line.now) }
-    ensures begun { (p : Patterns) → A.is_of automaton.now p → OnErr result
-        (BeginsLine p job.now place (W.taken output.old) (W.taken output.new) line.now) }
+    ensures shown { WritesLineBy (A.is_of automaton.now) job.now place
+        (W.taken output.old) (W.taken output.new) line.now result }
+    ensures begun { BeginsLineBy (A.is_of automaton.now) job.now place
+        (W.taken output.old) (W.taken output.new) line.now result }
 {
     page.clear();
     match put_shown(automaton, job, line, place, page) {
@@ -388,8 +372,8 @@ fn put_shown<A: Automaton, W: Write>(
     output: &mut W,
 ) -> Result<(), Stop>
     requires of { (p : Patterns) × A.is_of automaton.now p }
-    ensures shown { (p : Patterns) → A.is_of automaton.now p → OnOk result
-        (WritesLine p job.now place (W.contents output.old) (W.contents output.new) line.now) }
+    ensures shown { WritesLineBy (A.is_of automaton.now) job.now place
+        (W.contents output.old) (W.contents output.new) line.now result }
 {
     match job.shown {
         Shown::Lines if job.colors() => {

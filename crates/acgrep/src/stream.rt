@@ -1,11 +1,11 @@
 //! Searching what a reader gives, in memory that is bounded by its longest line and by what is written of one line.
 
-ghost use Rattle.std.specs.Prelude.{◌≤◌, ◌-◌, ◌<◌, IfOk, OnErr, OnOk, length, take};
+ghost use Rattle.std.specs.Prelude.{◌≤◌, ◌-◌, ◌<◌, IfOk, OnErr, OnOk, length};
 ghost use Rattle.aho_core.specs.Patterns.{Patterns};
-ghost use Rattle.acgrep.specs.Filled.{ReadsOn};
+ghost use Rattle.acgrep.specs.Filled.{ReadsOn, bytes_buffered};
 ghost use Rattle.acgrep.specs.Lines.{IsNewline};
-ghost use Rattle.acgrep.specs.Selected.{HoldNoNewline};
-ghost use Rattle.acgrep.specs.Streamed.{BeginsSome, BeginsStream, BeginsWhole, ReadsSome, SearchesStream, SearchesWhole, course};
+ghost use Rattle.acgrep.specs.Selected.{ForLines};
+ghost use Rattle.acgrep.specs.Streamed.{BeginsSome, BeginsStream, BeginsWhole, ReadsSome, SearchesStream, SearchesWhole, course_of};
 
 use crate::buffer::Buffer;
 use crate::failure::Stop;
@@ -26,16 +26,14 @@ pub fn search_stream<A: Automaton, R: Read, W: Sink>(
     output: &mut W,
 ) -> Result<(), Stop>
     requires of { (p : Patterns) × A.is_of automaton.now p }
-    ensures written { (p : Patterns) → A.is_of automaton.now p → HoldNoNewline p →
-        OnOk result (SearchesStream p job.now (course state.old state.new
-        (W.taken output.old) (W.taken output.new)
-        (R.remaining input.old) (R.remaining input.new))) }
+    ensures written { ForLines (A.is_of automaton.now) (λ p.
+        OnOk result (SearchesStream p job.now (course_of W.Sink R.Read
+        state.old state.new output.old output.new input.old input.new))) }
 
     // Where it fails a beginning of that is written.
-    ensures begun { (p : Patterns) → A.is_of automaton.now p → HoldNoNewline p →
-        OnErr result (BeginsStream p job.now (course state.old state.new
-        (W.taken output.old) (W.taken output.new)
-        (R.remaining input.old) (R.remaining input.new))) }
+    ensures begun { ForLines (A.is_of automaton.now) (λ p.
+        OnErr result (BeginsStream p job.now (course_of W.Sink R.Read
+        state.old state.new output.old output.new input.old input.new))) }
 
     // Whatever comes of it, the reader is only read.
     ensures reads { ReadsOn (R.remaining input.old) (R.remaining input.new) }
@@ -63,16 +61,14 @@ fn read_some<A: Automaton, R: Read, W: Sink>(
     output: &mut W,
 ) -> Result<bool, Stop>
     requires of { (p : Patterns) × A.is_of automaton.now p }
-    ensures read { (p : Patterns) → A.is_of automaton.now p → HoldNoNewline p →
-        IfOk result (ReadsSome p job.now (course state.old state.new
-        (W.taken output.old) (W.taken output.new)
-        (R.remaining input.old) (R.remaining input.new))
-        (take buffer.old.held buffer.old.room.items) (take buffer.new.held buffer.new.room.items)) }
-    ensures begun { (p : Patterns) → A.is_of automaton.now p → HoldNoNewline p →
-        OnErr result (BeginsSome p job.now (course state.old state.new
-        (W.taken output.old) (W.taken output.new)
-        (R.remaining input.old) (R.remaining input.new))
-        (take buffer.old.held buffer.old.room.items)) }
+    ensures read { ForLines (A.is_of automaton.now) (λ p.
+        IfOk result (ReadsSome p job.now (course_of W.Sink R.Read
+        state.old state.new output.old output.new input.old input.new)
+        (bytes_buffered buffer.old) (bytes_buffered buffer.new))) }
+    ensures begun { ForLines (A.is_of automaton.now) (λ p.
+        OnErr result (BeginsSome p job.now (course_of W.Sink R.Read
+        state.old state.new output.old output.new input.old input.new)
+        (bytes_buffered buffer.old))) }
     ensures reads { ReadsOn (R.remaining input.old) (R.remaining input.new) }
 {
     output.flush()?;
@@ -99,14 +95,13 @@ fn search_whole<A: Automaton, W: Sink>(
     output: &mut W,
 ) -> Result<(), Stop>
     requires of { (p : Patterns) × A.is_of automaton.now p }
-    ensures searched { (p : Patterns) → A.is_of automaton.now p → HoldNoNewline p →
+    ensures searched { ForLines (A.is_of automaton.now) (λ p.
         OnOk result (SearchesWhole p job.now state.old state.new
         (W.taken output.old) (W.taken output.new)
-        (take buffer.old.held buffer.old.room.items) (take buffer.new.held buffer.new.room.items)) }
-    ensures begun { (p : Patterns) → A.is_of automaton.now p → HoldNoNewline p →
+        (bytes_buffered buffer.old) (bytes_buffered buffer.new))) }
+    ensures begun { ForLines (A.is_of automaton.now) (λ p.
         OnErr result (BeginsWhole p job.now state.old state.new
-        (W.taken output.old) (W.taken output.new)
-        (take buffer.old.held buffer.old.room.items)) }
+        (W.taken output.old) (W.taken output.new) (bytes_buffered buffer.old))) }
 {
     let whole = whole_lines(buffer.bytes(), count);
     search_text(

@@ -1,10 +1,6 @@
 //! What is told on standard error: why something was not done.
 
-ghost use Rattle.std.specs.List.{concat};
-ghost use Rattle.std.specs.Prelude.{ℕ, List};
-ghost use Rattle.programs.specs.Names.{IsAmong};
-ghost use Rattle.programs.specs.Telling.{TellsBytes, TellsSome};
-ghost use Rattle.acgrep.specs.Told.{IsMessage, MayName, wrong_parts};
+ghost use Rattle.acgrep.specs.Told.{TellsCause, TellsOfFile, TellsOfNamed, TellsWrong};
 
 use crate::arguments::Wrong;
 use crate::help::USAGE;
@@ -17,29 +13,28 @@ const PROGRAM: &[u8] = b"acgrep";
 
 /// Tells that memory ran out.
 pub fn tell_memory<E: Sink>(errors: &mut Errors<'_, E>)
-    ensures told { (names : List (List ℕ)) → TellsSome E.Sink (IsMessage names) errors.old errors.new }
+    ensures told { TellsCause E.Sink errors.old errors.new }
 {
     errors.tell(PROGRAM, None, None, Reason::OutOfMemory.text().as_bytes());
 }
 
 /// Tells why a file of this name cannot be opened or read.
 pub fn tell_fault<E: Sink>(name: &[u8], reason: Reason, errors: &mut Errors<'_, E>)
-    ensures told { (names : List (List ℕ)) → IsAmong name.now names
-        → TellsSome E.Sink (IsMessage names) errors.old errors.new }
+    ensures told { TellsOfFile E.Sink name.now errors.old errors.new }
 {
     errors.tell(PROGRAM, Some(name), None, reason.text().as_bytes());
 }
 
 /// Tells why the output cannot be written.
 pub fn tell_write<E: Sink>(errors: &mut Errors<'_, E>)
-    ensures told { (names : List (List ℕ)) → TellsSome E.Sink (IsMessage names) errors.old errors.new }
+    ensures told { TellsCause E.Sink errors.old errors.new }
 {
     errors.tell_unwritten(PROGRAM);
 }
 
 /// Tells why the search is refused.
 pub fn tell_search<E: Sink>(error: &MatchError, errors: &mut Errors<'_, E>)
-    ensures told { (names : List (List ℕ)) → TellsSome E.Sink (IsMessage names) errors.old errors.new }
+    ensures told { TellsCause E.Sink errors.old errors.new }
 {
     errors.tell_search(PROGRAM, Some(b"search"), error);
 }
@@ -51,15 +46,14 @@ pub fn tell_build<E: Sink>(
     error: &BuildError,
     errors: &mut Errors<'_, E>,
 )
-    ensures told { (names : List (List ℕ)) → MayName names name.now
-        → TellsSome E.Sink (IsMessage names) errors.old errors.new }
+    ensures told { TellsOfNamed E.Sink name.now errors.old errors.new }
 {
     errors.tell_build(PROGRAM, Some(name), line, error);
 }
 
 /// Tells why arguments are wrong, and how to get help.
 pub fn tell_wrong<E: Sink>(errors: &mut Errors<'_, E>, wrong: Wrong<'_>)
-    ensures told { TellsBytes E.Sink errors.old errors.new (concat (wrong_parts wrong.entry)) }
+    ensures told { TellsWrong E.Sink wrong.entry errors.old errors.new }
 {
     match wrong {
         Wrong::NotText => errors.write(&[b"acgrep: an argument is not UTF-8\n"]),

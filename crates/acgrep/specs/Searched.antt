@@ -1,0 +1,90 @@
+-- What searching by an automaton does, of whatever patterns it is.
+use Rattle.std.specs.Prelude.{◌≡◌, ℕ, true, List, [], ◌∷◌, Option, Result, IfOk, OnErr, OnOk}
+use Rattle.std.specs.Borrow.{Bor}
+use Rattle.std.specs.declared.io.traits.Read.{Ghosts as Readers}
+use Rattle.aho_core.specs.Patterns.{Patterns}
+use Rattle.aho_automaton.specs.declared.automaton.Automaton.{Ghosts as Automata}
+use Rattle.aho_devices.specs.declared.device.Sink.{Ghosts as SinkGhosts}
+use Rattle.programs.specs.Names.{name_bytes}
+use Rattle.acgrep.specs.Files.{AreFilesBegun, BeginsFile, IfBroken, IfSearched, SearchesFile, SearchesReader}
+use Rattle.acgrep.specs.Lines.{lines}
+use Rattle.acgrep.specs.Selected.{ForLines}
+use Rattle.acgrep.specs.Written.{BeginsLine, BeginsLines, EachLine, HasMatch, HasNone, IsSelected, SearchesText, SearchesTo, TellsLines, WritesLine}
+use Rattle.acgrep.specs.declared.files.Outcome.{Outcome}
+use Rattle.acgrep.specs.declared.open.Open.{Ghosts as Openers}
+use Rattle.acgrep.specs.declared.print.Place.{Place}
+use Rattle.acgrep.specs.declared.select.Job.{Job}
+use Rattle.acgrep.specs.declared.select.State.{State}
+
+-- what is asked of a selected line is written where a call does not fail, and where it fails a beginning of it
+module _ (Are : Patterns → Type 0) (job : Job) (place : Place) (held held' : Option (List ℕ)) (line : List ℕ) where
+  abbrev pub WritesLineBy : {T E : Type 0} → Result T E → Type 0
+  WritesLineBy result = (p : Patterns) → Are p → OnOk result (WritesLine p job place held held' line)
+
+  abbrev pub BeginsLineBy : {T E : Type 0} → Result T E → Type 0
+  BeginsLineBy result = (p : Patterns) → Are p → OnErr result (BeginsLine p job place held held' line)
+
+-- the lines of a text are searched where a call does not fail, and where it fails a beginning of what is told of them is written
+module _ {A W : Type 0} (automata : Automata A) (sinks : SinkGhosts W) (automaton : A) (job : Job) (before after : State) (old new : W) where
+  abbrev pub SearchesTextBy : {T E : Type 0} → List ℕ → Result T E → Type 0
+  SearchesTextBy text result =
+      ForLines (automata.is_of automaton) (λ p. OnOk result (SearchesText p job before after (sinks.taken old) (sinks.taken new) text))
+
+  abbrev pub BeginsTextBy : {T E : Type 0} → List ℕ → Result T E → Type 0
+  BeginsTextBy text result =
+      ForLines (automata.is_of automaton) (λ p. OnErr result (BeginsLines p job before after.selected (sinks.taken old) (sinks.taken new) (lines text)))
+
+  -- up to those that are answered
+  abbrev pub SearchesSomeBy : {E : Type 0} → List ℕ → Result (Bor (List ℕ)) E → Type 0
+  SearchesSomeBy text result =
+      ForLines (automata.is_of automaton) (λ p. IfOk result (λ left. SearchesTo p job before after (sinks.taken old) (sinks.taken new) text left.now))
+
+  -- of a line with a match
+  abbrev pub TellsMatchBy : {T E : Type 0} → List ℕ → Result T E → Type 0
+  TellsMatchBy line result = (p : Patterns) → automata.is_of automaton p → HasMatch p line
+      → OnOk result (TellsLines p job before after (sinks.taken old) (sinks.taken new) (line ∷ []))
+
+  abbrev pub BeginsMatchBy : {T E : Type 0} → List ℕ → Result T E → Type 0
+  BeginsMatchBy line result = (p : Patterns) → automata.is_of automaton p → HasMatch p line
+      → OnErr result (BeginsLines p job before after.selected (sinks.taken old) (sinks.taken new) (line ∷ []))
+
+  -- of a line that is selected
+  abbrev pub BeginsSelectedBy : {T E : Type 0} → List ℕ → Result T E → Type 0
+  BeginsSelectedBy line result = (p : Patterns) → automata.is_of automaton p → IsSelected p job.invert line
+      → OnErr result (BeginsLines p job before after.selected (sinks.taken old) (sinks.taken new) (line ∷ []))
+
+  -- of lines without a match
+  abbrev pub TellsOthersBy : {T E : Type 0} → List ℕ → Result T E → Type 0
+  TellsOthersBy text result = (p : Patterns) → automata.is_of automaton p → EachLine (HasNone p) (lines text)
+      → OnOk result (TellsLines p job before after (sinks.taken old) (sinks.taken new) (lines text))
+
+  abbrev pub BeginsOthersBy : {T E : Type 0} → List ℕ → Result T E → Type 0
+  BeginsOthersBy text result = (p : Patterns) → automata.is_of automaton p → EachLine (HasNone p) (lines text)
+      → OnErr result (BeginsLines p job before after.selected (sinks.taken old) (sinks.taken new) (lines text))
+
+  -- of such lines, where they are selected
+  abbrev pub TellsInvertedBy : {T E : Type 0} → List ℕ → Result T E → Type 0
+  TellsInvertedBy text result = (p : Patterns) → automata.is_of automaton p → job.invert ≡ true → EachLine (HasNone p) (lines text)
+      → OnOk result (TellsLines p job before after (sinks.taken old) (sinks.taken new) (lines text))
+
+  abbrev pub BeginsInvertedBy : {T E : Type 0} → List ℕ → Result T E → Type 0
+  BeginsInvertedBy text result = (p : Patterns) → automata.is_of automaton p → job.invert ≡ true → EachLine (HasNone p) (lines text)
+      → OnErr result (BeginsLines p job before after.selected (sinks.taken old) (sinks.taken new) (lines text))
+
+-- a file was searched, or a beginning of what is asked of it is written
+module _ {A W : Type 0} (automata : Automata A) (sinks : SinkGhosts W) (automaton : A) (job : Job) (known : Option (List ℕ)) (old new : W) (outcome : Outcome) where
+  abbrev pub SearchesFileBy : Type 0
+  SearchesFileBy = ForLines (automata.is_of automaton) (λ p. IfSearched outcome (SearchesFile p job known (sinks.taken old) (sinks.taken new)))
+
+  abbrev pub BeginsFileBy : Type 0
+  BeginsFileBy = ForLines (automata.is_of automaton) (λ p. IfBroken outcome (BeginsFile p job known (sinks.taken old) (sinks.taken new)))
+
+-- all that a reader has left was searched
+abbrev pub SearchesReaderBy : {A R W : Type 0} → Automata A → Readers R → SinkGhosts W → A → Job → R → R → W → W → Outcome → Type 0
+SearchesReaderBy automata readers sinks automaton job reader reader' old new outcome = ForLines (automata.is_of automaton)
+    (λ p. IfSearched outcome (SearchesReader p job (readers.remaining reader) (readers.remaining reader') (sinks.taken old) (sinks.taken new)))
+
+-- of some first ones of the files of these names all that is asked is written, or a beginning of it
+abbrev pub BeginsFilesBy : {A F X R W : Type 0} → Automata A → Openers F X → Readers R → SinkGhosts W → A → Job → F → List (Bor (List ℕ)) → R → W → W → Type 0
+BeginsFilesBy automata openers readers sinks automaton job files names input old new = ForLines (automata.is_of automaton)
+    (λ p. AreFilesBegun p job (openers.holds files) (name_bytes names) (readers.remaining input) (sinks.taken old) (sinks.taken new))
