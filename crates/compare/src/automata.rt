@@ -1,5 +1,5 @@
 //! The automata of a case: the noncontiguous one under each setting, the one that is made of what it tells, those with rows, and
-//! those with a packed search.
+//! those with a packed or a strided search.
 
 ghost use Rattle.std.specs.Prelude.{◌≡◌, IfOk, IfSome};
 ghost use Rattle.aho_core.specs.Patterns.{Patterns};
@@ -104,6 +104,36 @@ fn packed_of(
     builder.build()
 }
 
+/// The prefilter of these words where it may be of each kind, if there is one.
+fn quickest_of(
+    alloc: Global,
+    words: &[&[u8]],
+    kind: MatchKind,
+    ignore_case: bool,
+) -> Result<Option<Prefilter>, AllocError>
+    ensures of { IfOk result (λ held. IfSome held (λ prefilter. IsPrefilterOf prefilter
+        (patterns_of (record default_settings { kind = kind; ignore_case = ignore_case }) words.now))) }
+{
+    Prefilter::quickest(alloc, ignore_case, words)
+}
+
+/// The prefilter of these words where it may be a packed search, or `strided` a strided one too, if there is one.
+fn prefilter_of(
+    alloc: Global,
+    strided: bool,
+    words: &[&[u8]],
+    kind: MatchKind,
+    ignore_case: bool,
+) -> Result<Option<Prefilter>, AllocError>
+    ensures of { IfOk result (λ held. IfSome held (λ prefilter. IsPrefilterOf prefilter
+        (patterns_of (record default_settings { kind = kind; ignore_case = ignore_case }) words.now))) }
+{
+    if strided {
+        return quickest_of(alloc, words, kind, ignore_case);
+    }
+    packed_of(alloc, words, kind, ignore_case)
+}
+
 /// The text of a stream that is longer than a buffer: this one behind a gap, or over and over again.
 fn long_text(alloc: Global, text: &[u8], numbers: &mut Numbers) -> Result<Vec<u8>, AllocError> {
     let size = 65_520 + numbers.below(32);
@@ -200,7 +230,7 @@ fn compare_rows(
 }
 
 /// Compares the calls of an automaton with rows and with this prefilter.
-fn compare_packed_rows(
+fn compare_prefiltered_rows(
     alloc: Global,
     nfa: &NFA,
     prefilter: Option<Prefilter>,
@@ -234,8 +264,8 @@ fn compare_skipping(
     compare_calls(alloc, &skipping, asked, true, numbers, count)
 }
 
-/// Compares the calls of the automata of this one with a prefilter that may be a packed search.
-fn compare_packed(
+/// Compares the calls of the automata of this one with a prefilter that may be a packed search, or every other time a strided one.
+fn compare_prefiltered(
     alloc: Global,
     nfa: &NFA,
     words: &[&[u8]],
@@ -248,12 +278,13 @@ fn compare_packed(
     requires of { ⟦<NFA as Automaton>⟧.is_of nfa.now
         (patterns_of (record default_settings { kind = kind; ignore_case = ignore_case }) words.now) }
 {
-    if let Some(prefilter) = packed_of(alloc, words, kind, ignore_case)? {
+    let strided = numbers.once_in(2);
+    if let Some(prefilter) = prefilter_of(alloc, strided, words, kind, ignore_case)? {
         compare_candidates(&prefilter, asked.patterns, asked.text, numbers, count)?;
         compare_skipping(alloc, nfa, &prefilter, asked, numbers, count)?;
     }
-    let prefilter = packed_of(alloc, words, kind, ignore_case)?;
-    compare_packed_rows(alloc, nfa, prefilter, asked, numbers, count)
+    let prefilter = prefilter_of(alloc, strided, words, kind, ignore_case)?;
+    compare_prefiltered_rows(alloc, nfa, prefilter, asked, numbers, count)
 }
 
 /// Compares the calls of each automaton of these words.
@@ -275,5 +306,5 @@ pub(crate) fn compare_automata(
     compare_calls(alloc, &nfa, asked, true, numbers, count)?;
     compare_relinked(alloc, &nfa, asked, numbers, count)?;
     compare_rows(alloc, &nfa, asked, numbers, count)?;
-    compare_packed(alloc, &nfa, words, kind, ignore_case, asked, numbers, count)
+    compare_prefiltered(alloc, &nfa, words, kind, ignore_case, asked, numbers, count)
 }

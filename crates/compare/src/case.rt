@@ -55,6 +55,8 @@ struct Making {
     empty: bool,
     /// Whether each pattern has two or three letters. A packed search looks at as many, so a cut of a read falls between them.
     short: bool,
+    /// Whether there are many patterns, each with five letters or more: for these a strided search may be held.
+    long: bool,
     /// The greatest number of letters of most patterns.
     most: usize,
 }
@@ -72,6 +74,7 @@ impl Making {
             },
             empty: numbers.once_in(8),
             short: numbers.once_in(4),
+            long: numbers.once_in(12),
             most: 1 + numbers.below(7),
         }
     }
@@ -112,6 +115,11 @@ impl Making {
         earlier: &[Vec<u8>],
     ) -> Result<Vec<u8>, AllocError> {
         let mut pattern = Vec::new(alloc);
+        if self.long {
+            let size = 5 + numbers.below(8).min(self.most);
+            self.push_letters(numbers, size, &mut pattern)?;
+            return Ok(pattern);
+        }
         if self.short {
             let size = 2 + numbers.below(2);
             self.push_letters(numbers, size, &mut pattern)?;
@@ -135,10 +143,23 @@ impl Making {
         Ok(pattern)
     }
 
+    /// How many patterns there are: one, few, some, or about as many as a packed search is held for. There are 28 to 127 long ones.
+    fn count(&self, numbers: &mut Numbers) -> usize {
+        if self.long {
+            return 28 + numbers.below(100);
+        }
+        match numbers.below(16) {
+            0 | 1 | 2 => 1,
+            3 | 4 => 3 + numbers.below(20),
+            5 => 95 + numbers.below(10),
+            _ => numbers.below(7),
+        }
+    }
+
     /// The patterns.
     fn patterns(&self, alloc: Global, numbers: &mut Numbers) -> Result<Vec<Vec<u8>>, AllocError> {
         let mut patterns = Vec::new(alloc);
-        for _ in 0..count_of(numbers) {
+        for _ in 0..self.count(numbers) {
             let pattern = self.pattern(alloc, numbers, patterns.as_slice())?;
             patterns.push(pattern)?;
         }
@@ -179,16 +200,6 @@ impl Making {
             }
         }
         Ok(text)
-    }
-}
-
-/// How many patterns there are: one, few, some, or about as many as a packed search is held for.
-fn count_of(numbers: &mut Numbers) -> usize {
-    match numbers.below(16) {
-        0 | 1 | 2 => 1,
-        3 | 4 => 3 + numbers.below(20),
-        5 => 95 + numbers.below(10),
-        _ => numbers.below(7),
     }
 }
 

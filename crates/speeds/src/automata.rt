@@ -9,7 +9,7 @@ use aho_automaton::automaton::Automaton;
 use aho_corasick::noncontiguous::{Builder, NFA};
 use aho_core::error::BuildError;
 use aho_core::search::MatchKind;
-use aho_prefilter::prefilter::{PackedBuilder, Prefilter};
+use aho_prefilter::prefilter::Prefilter;
 use anyhow::Result;
 use std::alloc::{AllocError, Global};
 
@@ -56,8 +56,8 @@ pub(crate) fn automaton_of(
     builder_of(kind, ignore_case, prefilter, depth).build(alloc, lines.iter().copied())
 }
 
-/// The prefilter of these lines where it may be a packed search, if there is one.
-pub(crate) fn packed_of(
+/// The prefilter of these lines where it may be of each kind, if there is one.
+pub(crate) fn quickest_of(
     alloc: Global,
     lines: &[&[u8]],
     kind: MatchKind,
@@ -66,9 +66,5 @@ pub(crate) fn packed_of(
     ensures of { IfOk result (λ held. IfSome held (λ prefilter. IsPrefilterOf prefilter
         (patterns_of (record default_settings { kind = kind; ignore_case = ignore_case }) lines.now))) }
 {
-    let mut builder = PackedBuilder::new(alloc, ignore_case);
-    for line in lines {
-        builder.add(line)?;
-    }
-    builder.build()
+    Prefilter::quickest(alloc, ignore_case, lines)
 }

@@ -3,8 +3,8 @@
 //! many matches there are, a sum over their places, and the automaton's size in bytes. The seconds are those of the processor.
 //!
 //! AUTOMATON is `n` for the `NFA` and `h` for the `Hybrid`, which is made of it. KIND is `s`, `f` or `l` (Standard,
-//! leftmost-first, leftmost-longest), CASE is 0 or 1, PREFILTER is 0, 1, or `p` for one that may be a packed search, and DEPTH is
-//! the greatest depth of a dense state. `bin/speeds` makes the works, runs this on each, and prints a table.
+//! leftmost-first, leftmost-longest), CASE is 0 or 1, PREFILTER is 0, 1, or `q` for the quickest one, and DEPTH is the
+//! greatest depth of a dense state. `bin/speeds` makes the works, runs this on each, and prints a table.
 #![tactic(auto)]
 
 mod automata;

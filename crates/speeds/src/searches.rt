@@ -5,7 +5,7 @@ ghost use Rattle.aho_core.specs.Patterns.{Patterns};
 ghost use Rattle.aho_build.specs.Items.{patterns_of};
 ghost use Rattle.aho_build.specs.Settings.{default_settings};
 
-use crate::automata::{automaton_of, lines_of, packed_of};
+use crate::automata::{automaton_of, lines_of, quickest_of};
 use crate::trial::{Searched, Skips, Trial};
 use aho_automaton::automaton::{Automaton, WithPrefilter};
 use aho_corasick::noncontiguous::NFA;
@@ -66,8 +66,8 @@ fn report_by_rows<R: CpuClock>(
     requires of { ⟦<NFA as Automaton>⟧.is_of nfa.now
         (patterns_of (record default_settings { kind = trial.kind; ignore_case = trial.ignore_case }) lines.now) }
 {
-    if let Skips::Packed = trial.skips {
-        return report_by_packed_rows(rt, alloc, trial, nfa, lines, times, text);
+    if let Skips::Quickest = trial.skips {
+        return report_by_quickest_rows(rt, alloc, trial, nfa, lines, times, text);
     }
     let begun = rt.process_cpu_time()?;
     let hybrid = Hybrid::from_nfa(alloc, nfa)?;
@@ -75,8 +75,8 @@ fn report_by_rows<R: CpuClock>(
     report_by(rt, alloc, trial, &hybrid, lines, built, times, text)
 }
 
-/// Makes the `Hybrid` of an automaton with a packed search, and searches by it.
-fn report_by_packed_rows<R: CpuClock>(
+/// Makes the `Hybrid` of an automaton with the quickest prefilter, and searches by it.
+fn report_by_quickest_rows<R: CpuClock>(
     rt: &R,
     alloc: Global,
     trial: Trial,
@@ -88,8 +88,8 @@ fn report_by_packed_rows<R: CpuClock>(
     requires of { ⟦<NFA as Automaton>⟧.is_of nfa.now
         (patterns_of (record default_settings { kind = trial.kind; ignore_case = trial.ignore_case }) lines.now) }
 {
-    let prefilter = packed_of(alloc, lines, trial.kind, trial.ignore_case)?;
     let begun = rt.process_cpu_time()?;
+    let prefilter = quickest_of(alloc, lines, trial.kind, trial.ignore_case)?;
     let hybrid = Hybrid::with_prefilter(alloc, nfa, DEFAULT_BUDGET, prefilter)?;
     let built = rt.process_cpu_time()?.saturating_sub(begun);
     let memory = hybrid.memory_usage();
@@ -111,10 +111,10 @@ fn report_by<R: CpuClock, A: Automaton>(
         (patterns_of (record default_settings { kind = trial.kind; ignore_case = trial.ignore_case }) lines.now) }
 {
     let memory = automaton.memory_usage();
-    let Skips::Packed = trial.skips else {
+    let Skips::Quickest = trial.skips else {
         return searched(rt, automaton, built, memory, times, text);
     };
-    match packed_of(alloc, lines, trial.kind, trial.ignore_case)? {
+    match quickest_of(alloc, lines, trial.kind, trial.ignore_case)? {
         Some(prefilter) => {
             let skipping = WithPrefilter::new(automaton, &prefilter);
             searched(rt, &skipping, built, memory, times, text)

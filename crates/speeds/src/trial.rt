@@ -17,8 +17,8 @@ pub(crate) enum Skips {
     No,
     /// By the one that the `NFA` holds.
     Own,
-    /// By one that may be a packed search.
-    Packed,
+    /// By the quickest one, of each kind.
+    Quickest,
 }
 
 /// What is measured.
@@ -73,7 +73,7 @@ fn skips_of(word: &str) -> Result<Skips> {
     match word {
         "0" => Ok(Skips::No),
         "1" => Ok(Skips::Own),
-        "p" => Ok(Skips::Packed),
-        _ => bail!("PREFILTER is 0, 1 or p"),
+        "q" => Ok(Skips::Quickest),
+        _ => bail!("PREFILTER is 0, 1 or q"),
     }
 }
