@@ -3,9 +3,9 @@
 
 ghost use Rattle.std.specs.Prelude.{◌≡◌, IfOk, IfSome};
 ghost use Rattle.aho_core.specs.Patterns.{Patterns};
-ghost use Rattle.aho_build.specs.Items.{patterns_of};
 ghost use Rattle.aho_build.specs.Settings.{default_settings};
 ghost use Rattle.aho_prefilter.specs.Prefilter.{IsPrefilterOf};
+ghost use Rattle.compare.specs.Words.{words_by};
 
 use crate::candidates::{compare_candidates, compare_held};
 use crate::count::Count;
@@ -79,7 +79,7 @@ pub(crate) fn automaton_of(
     depth: usize,
 ) -> Result<NFA, BuildError>
     ensures of { IfOk result (λ nfa. ⟦<NFA as Automaton>⟧.is_of nfa
-        (patterns_of (record default_settings { kind = kind; ignore_case = ignore_case }) words.now)) }
+        (words_by kind ignore_case words.now)) }
 {
     builder_of(kind, ignore_case, prefilter, depth, limits_for(words)).build(
         alloc,
@@ -95,7 +95,7 @@ fn packed_of(
     ignore_case: bool,
 ) -> Result<Option<Prefilter>, AllocError>
     ensures of { IfOk result (λ held. IfSome held (λ prefilter. IsPrefilterOf prefilter
-        (patterns_of (record default_settings { kind = kind; ignore_case = ignore_case }) words.now))) }
+        (words_by kind ignore_case words.now))) }
 {
     let mut builder = PackedBuilder::new(alloc, ignore_case);
     for word in words {
@@ -112,7 +112,7 @@ fn quickest_of(
     ignore_case: bool,
 ) -> Result<Option<Prefilter>, AllocError>
     ensures of { IfOk result (λ held. IfSome held (λ prefilter. IsPrefilterOf prefilter
-        (patterns_of (record default_settings { kind = kind; ignore_case = ignore_case }) words.now))) }
+        (words_by kind ignore_case words.now))) }
 {
     Prefilter::quickest(alloc, ignore_case, words)
 }
@@ -126,7 +126,7 @@ fn prefilter_of(
     ignore_case: bool,
 ) -> Result<Option<Prefilter>, AllocError>
     ensures of { IfOk result (λ held. IfSome held (λ prefilter. IsPrefilterOf prefilter
-        (patterns_of (record default_settings { kind = kind; ignore_case = ignore_case }) words.now))) }
+        (words_by kind ignore_case words.now))) }
 {
     if strided {
         return quickest_of(alloc, words, kind, ignore_case);
@@ -276,7 +276,7 @@ fn compare_prefiltered(
     count: &mut Count,
 ) -> Result<()>
     requires of { ⟦<NFA as Automaton>⟧.is_of nfa.now
-        (patterns_of (record default_settings { kind = kind; ignore_case = ignore_case }) words.now) }
+        (words_by kind ignore_case words.now) }
 {
     let strided = numbers.once_in(2);
     if let Some(prefilter) = prefilter_of(alloc, strided, words, kind, ignore_case)? {
