@@ -37,9 +37,7 @@ impl CsSearcher {
         requires some { IsOfSome searcher.value }
         ensures holds { IfOk result (λ h. HoldsSearcher h searcher.value) }
     {
-        let Ok(boxed) = Box::new(alloc, Inner { searcher }) else {
-            return Err(AllocError);
-        };
+        let boxed = Box::new(alloc, Inner { searcher })?;
         Ok(CsSearcher {
             full: true,
             held: Held::of(Loose::of(boxed)),
