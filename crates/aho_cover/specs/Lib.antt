@@ -1,0 +1,4 @@
+pub mod Hand
+pub mod Walks
+pub mod Writes
+pub mod Progress
