@@ -98,3 +98,14 @@ part_held haystack bytes read start end (gone, e) within short low ordered high 
     ∙ ap (λ (xs : List ℕ). take (end - start) (drop (start - length gone) xs)) (sym (drop_at gone bytes (length gone) refl) ∙ ap (drop (length gone)) (sym e))
     ∙ ap (take (end - start)) (drop-drop (start - length gone) (length gone) all ∙ ap (λ (n : ℕ). drop n all) place)
     ∙ part_of_part haystack 0 read start end start end (omega arith) (omega arith) ordered high
+
+-- bytes end in what is left of their last ones
+pub ends-drop : (given last : List ℕ) (n : ℕ) → EndsWith given last → EndsWith given (drop n last)
+ends-drop given last n (gone, e) = (
+  gone ++ take n last,
+  e ∙ ap (λ (xs : List ℕ). gone ++ xs) (sym (take-append-drop n last)) ∙ sym (append_assoc gone (take n last) (drop n last)),
+)
+
+-- and where more is given, in these with what is more
+pub ends-append : (given last more : List ℕ) → EndsWith given last → EndsWith (given ++ more) (last ++ more)
+ends-append given last more (gone, e) = (gone, ap (λ (xs : List ℕ). xs ++ more) e ∙ append_assoc gone last more)

@@ -1,6 +1,6 @@
 -- One byte more of a walk over a stream's bytes, and what its states tell.
-use Rattle.std.proofs.Common.{◌≡◌, ℕ, ◌+◌, ◌<◌, ◌≤◌, Bool, true, false, List, [], ◌∷◌, ◌++◌, length, take, get_or, refl, sym, ◌∙◌, ap, subst, arith, append_assoc, length-append}
-use Rattle.std.proofs.lemmas.List.{take_more, length-take}
+use Rattle.std.proofs.Common.{◌≡◌, ℕ, ◌+◌, ◌<◌, ◌≤◌, Bool, true, false, List, [], ◌∷◌, ◌++◌, length, take, drop, get_or, refl, sym, ◌∙◌, ap, subst, arith, append_assoc, length-append}
+use Rattle.std.proofs.lemmas.List.{take-append-drop, take_more, length-take}
 use Rattle.std.specs.Prelude.{Option, None, Some, is_some}
 use Rattle.aho_core.specs.Laws.{Reads, told}
 use Rattle.aho_core.specs.Occurrence.{Occurrence}
@@ -9,7 +9,7 @@ use Rattle.aho_core.specs.Patterns.{Patterns}
 use Rattle.aho_core.specs.declared.search.Anchored.{Anchored}
 use Rattle.aho_core.specs.declared.search.Anchored.TheVariants.{No}
 use Rattle.aho_core.specs.declared.search.MatchKind.{MatchKind}
-use Rattle.aho_cover.specs.Walks.{IsClear, IsClearAfter}
+use Rattle.aho_cover.specs.Walks.{IsClear}
 
 -- one byte more
 pub one_further : (word bytes : List ℕ) (n : ℕ) → n < length bytes → word ++ take (n + 1) bytes ≡ (word ++ take n bytes) ++ get_or bytes n 0 ∷ []
@@ -20,26 +20,23 @@ one_further word bytes n within =
 pub length_further : (word bytes : List ℕ) (n at : ℕ) → length word ≡ at → n ≤ length bytes → length (word ++ take n bytes) ≡ at + n
 length_further word bytes n at place within = simp (length-append, length-take) (omega (arith, place))
 
+-- the whole, behind a part of the bytes
+pub whole_further : (word bytes rest : List ℕ) (n : ℕ) → word ++ (bytes ++ rest) ≡ (word ++ take n bytes) ++ (drop n bytes ++ rest)
+whole_further word bytes rest n =
+    ap (λ (xs : List ℕ). word ++ (xs ++ rest)) (sym (take-append-drop n bytes))
+    ∙ ap (λ (xs : List ℕ). word ++ xs) (append_assoc (take n bytes) (drop n bytes) rest)
+    ∙ sym (append_assoc word (take n bytes) (drop n bytes ++ rest))
+
 module _ (p : Patterns) where
   -- what is clear stays so
   pub clear-later : (haystack : List ℕ) (at at' place : ℕ) → at ≤ at' → IsClear p haystack at place → IsClear p haystack at' place
   clear-later haystack at at' place le clear m occurs ends = clear m occurs (omega arith)
 
-  -- also behind a longer word
-  pub clear-longer : (word more : List ℕ) (place : ℕ) → IsClearAfter p word place → IsClearAfter p (word ++ more) place
-  clear-longer word more place clear rest m occurs ends =
-      let same : (word ++ more) ++ rest ≡ word ++ (more ++ rest) = append_assoc word more rest in
-      clear (more ++ rest) m (subst (λ (h : List ℕ). Occurs p No h 0 (length h) m) same occurs) (omega (arith, length-append word more))
-
-  -- and from one word to the word with a byte more
-  pub clear-more : (word bytes : List ℕ) (n place : ℕ) → n < length bytes → IsClearAfter p (word ++ take n bytes) place → IsClearAfter p (word ++ take (n + 1) bytes) place
-  clear-more word bytes n place within clear =
-      subst (λ (xs : List ℕ). IsClearAfter p xs place) (sym (one_further word bytes n within)) (clear-longer (word ++ take n bytes) (get_or bytes n 0 ∷ []) place clear)
-
 module _ {p : Patterns} {kind : MatchKind} {lengths : List ℕ} {held : Anchored → List ℕ → ℕ → Type 0} {list : ℕ → List ℕ} {dead starts : ℕ → Bool} (laws : Reads p kind lengths held list dead starts) where
-  -- a start is clear where it is held
-  pub clear-start : (word : List ℕ) (sid : ℕ) → held No word sid → starts sid ≡ true → IsClearAfter p word (length word)
-  clear-start word sid is_held start rest m occurs ends = laws.start_apart word rest sid m is_held start occurs ends
+  -- where a start is held, what ends later begins there or behind it
+  pub clear-start : (haystack word rest : List ℕ) (at sid : ℕ) → haystack ≡ word ++ rest → length word ≡ at → held No word sid → starts sid ≡ true → IsClear p haystack at at
+  clear-start haystack word rest at sid whole long is_held start m occurs ends =
+      omega (arith, long, laws.start_apart word rest sid m is_held start (subst (λ (h : List ℕ). Occurs p No h 0 (length h) m) whole occurs) (omega (arith, long)))
 
 -- a state that tells nothing lists nothing
 pub told-nothing : (lengths list : List ℕ) (at : ℕ) → told lengths No 0 at list ≡ None → list ≡ []

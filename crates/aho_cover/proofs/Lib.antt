@@ -5,3 +5,5 @@ pub mod Written
 pub mod Copied
 pub mod Covered
 pub mod Sound
+-- From one match that is told to the next.
+pub mod Reached

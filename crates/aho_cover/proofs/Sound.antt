@@ -1,10 +1,11 @@
 -- The numbers of a cover, from one run that is written to the next.
-use Rattle.std.proofs.Common.{◌≡◌, inl, inr, ℕ, ◌+◌, ◌-◌, ◌<◌, ◌≤◌, max, List, [], ◌∷◌, length, refl, sym, ◌∙◌, ap, subst, arith}
+use Rattle.std.proofs.Common.{◌≡◌, inl, inr, ℕ, ◌+◌, ◌-◌, ◌/◌, ◌^◌, ◌<◌, ◌≤◌, max, min, List, [], ◌∷◌, length, refl, sym, ◌∙◌, ap, subst, arith}
 use Rattle.std.proofs.lemmas.Bool.{cases_lt}
 use Rattle.aho_core.specs.Cover.{IsCovered}
 use Rattle.aho_core.specs.Listing.{IsMember}
 use Rattle.aho_core.specs.Occurrence.{Occurrence}
 use Rattle.aho_laws.specs.CoverLaws.{AreInOrder, joined_runs}
+use Rattle.aho_devices.specs.Buffer.{Buffered}
 use Rattle.aho_laws.proofs.CoverRuns.{in_order-rest, joined-has, joined-in_order}
 use Rattle.aho_laws.proofs.SettledRuns.{few-joined}
 use Rattle.aho_cover.specs.declared.hand.Hand.{Hand}
@@ -137,7 +138,7 @@ module _ (s : CoverProgress) (at : ℕ) (sound : IsSound s at) where
       by_first (x ∷ runs) last ordered = absurd (omega (arith, last x runs refl, ordered.within x (inl refl)))
 
 -- runs in order are so up to a later place
-order-later : (runs : List Occurrence) (at at' : ℕ) → at ≤ at' → AreInOrder runs at → AreInOrder runs at'
+pub order-later : (runs : List Occurrence) (at at' : ℕ) → at ≤ at' → AreInOrder runs at → AreInOrder runs at'
 order-later runs at at' le ordered = record { in_order = ordered.in_order; full = ordered.full; within = λ x there. omega (arith, ordered.within x there) }
 
 -- a match is joined that ends one byte later
@@ -172,3 +173,22 @@ module _ (s : CoverProgress) (m : Occurrence) (sound : IsSound s (m.end - 1)) (s
 -- the open place is not behind what was walked
 pub open-within : (s : CoverProgress) (at : ℕ) → IsSound s at → open_place s at ≤ at
 open-within s at sound = omega (arith, sound.since_walked, sound.some)
+
+-- once more was read
+module _ (s : CoverProgress) (sound : IsSound s s.read) (near : BareFrom s.copied (held_runs s.hand) (s.read - s.buffer.least)) where
+  pub sound-read : (buffer : Buffered) (read n : ℕ) → read ≡ s.read + n → read < 2 ^ 63 → buffer.least ≡ s.buffer.least → length buffer.bytes ≡ min s.buffer.least (length s.buffer.bytes) + n
+      → IsSound (record s { buffer = buffer; read = read }) s.read
+  sound-read buffer read n count small least long = record {
+    small = small;
+    walked = omega arith;
+    some = omega (arith, sound.some);
+    held = omega (arith, sound.held);
+    unwalked = omega arith;
+    since_walked = sound.since_walked;
+    copied_walked = sound.copied_walked;
+    in_order = sound.in_order;
+    behind = sound.behind;
+    kept = λ place low bare. omega (arith, sound.kept place low bare, near place low bare);
+    whole = sound.whole;
+    room = sound.room ∙ ap (λ (n : ℕ). n / 2 + 1) (sym least);
+  }

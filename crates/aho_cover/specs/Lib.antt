@@ -2,3 +2,5 @@ pub mod Hand
 pub mod Walks
 pub mod Writes
 pub mod Progress
+pub mod Steps
+pub mod Refilling

@@ -12,10 +12,6 @@ use Rattle.aho_cover.specs.declared.walk.Reached.{Reached}
 abbrev pub IsClear : Patterns → List ℕ → ℕ → ℕ → Type 0
 IsClear p haystack at place = (m : Occurrence) → Occurs p No haystack 0 (length haystack) m → at < m.end → place ≤ m.start
 
--- so it is behind a word, whatever follows
-abbrev pub IsClearAfter : Patterns → List ℕ → ℕ → Type 0
-IsClearAfter p word place = (rest : List ℕ) → IsClear p (word ++ rest) (length word) place
-
 -- how many bytes were walked before a match was told
 abbrev pub walked_before : Option Occurrence → ℕ → ℕ
 walked_before None count = count
@@ -29,7 +25,7 @@ pub record Reaches {A : Type 0} (G : Automata A) (a : A) (p : Patterns) (word by
   pub is_held : G.held a p No (word ++ take reached.count bytes) reached.sid
   pub told_is : reached.found ≡ told (G.lengths a) No 0 (length word + reached.count) (G.list a reached.sid)
   pub plain : (k : ℕ) → 0 < k → k ≤ told_before reached → (sid : ℕ) × G.held a p No (word ++ take k bytes) sid × (G.list a sid ≡ [])
-  pub clear : IsClearAfter p word since → IsClearAfter p (word ++ take (told_before reached) bytes) reached.since
+  pub clear : (rest : List ℕ) → IsClear p (word ++ (bytes ++ rest)) (length word) since → IsClear p (word ++ (bytes ++ rest)) (length word + told_before reached) reached.since
 
 -- a state of this automaton that is held after some word of so many bytes
 abbrev pub IsHeldAfter : {A : Type 0} → Automata A → A → ℕ → ℕ → Type 0

@@ -4,4 +4,6 @@
 mod hand;
 mod output;
 mod progress;
+mod refill;
+mod steps;
 mod walk;

@@ -1,13 +1,13 @@
 -- Each turn of the loop, and what was reached at the end.
-use Rattle.std.proofs.Common.{◌≡◌, ◌+◌, ◌<◌, ◌≤◌, ◌++◌, ◌⊎◌, inl, inr, ℕ, List, [], ◌∷◌, take, length, refl, sym, ◌∙◌, ap, subst, arith}
+use Rattle.std.proofs.Common.{◌≡◌, ◌+◌, ◌<◌, ◌≤◌, ◌++◌, ◌⊎◌, inl, inr, ℕ, List, [], ◌∷◌, take, drop, length, refl, sym, ◌∙◌, ap, subst, arith}
 use Rattle.std.specs.Prelude.{Option, None, Some}
 use Rattle.std.proofs.lemmas.Bool.{cases_lt}
 use Rattle.aho_core.specs.Laws.{told}
 use Rattle.aho_core.specs.Occurrence.{Occurrence}
 use Rattle.aho_core.specs.Patterns.{Patterns}
 use Rattle.aho_core.specs.declared.search.Anchored.TheVariants.{No}
-use Rattle.aho_cover.specs.Walks.{IsClearAfter}
-use Rattle.aho_cover.proofs.Further.{clear-more, clear-start, length_further, one_further, not-some, told-nothing}
+use Rattle.aho_cover.specs.Walks.{IsClear}
+use Rattle.aho_cover.proofs.Further.{clear-start, length_further, not-some, one_further, told-nothing, whole_further}
 use Rattle.aho_cover.proofs.walk.walk_to_match.Given.{Over}
 use Rattle.aho_cover.proofs.walk.walk_to_match.Goals.{After-step-sid, else-looks_at, then-looks_at+else-is_some}
 use Rattle.aho_cover.proofs.walk.walk_to_match.Goals as goal
@@ -48,15 +48,14 @@ loop-count-preserved g c =
         | inr before ↦ inv.plain p word of is_held k some before
       ];
       quiet = λ some. quiet;
-      clear = λ p word of place is_held clear. elim c.start_after-since.ensures.since [
+      clear = λ p word of place is_held rest clear. elim c.start_after-since.ensures.since [
         | inl now ↦
             (let held = held_more g d p word of is_held in
-            let is : length (word ++ take (n + 1) bytes) ≡ c.start_after-since.result = omega (arith, length_further word bytes (n + 1) c.args.at place (omega arith), now.0) in
-            subst (λ (at : ℕ). IsClearAfter p (word ++ take (n + 1) bytes) at) is
-            (clear-start (g.met.A.Automaton.laws automaton p of) (word ++ take (n + 1) bytes) c.step-sid.result held (rw same at now.1)))
-        | inr before ↦
-            subst (λ (at : ℕ). IsClearAfter p (word ++ take (n + 1) bytes) at) (sym before)
-            (clear-more p word bytes n c.loop-count.since (omega arith) (inv.clear p word of place is_held clear))
+            let long : length (word ++ take (n + 1) bytes) ≡ c.args.at + (n + 1) = length_further word bytes (n + 1) c.args.at place (omega arith) in
+            let start = clear-start (g.met.A.Automaton.laws automaton p of) (word ++ (bytes ++ rest)) (word ++ take (n + 1) bytes) (drop (n + 1) bytes ++ rest) (c.args.at + (n + 1)) c.step-sid.result
+            (whole_further word bytes rest (n + 1)) long held (rw same at now.1) in
+            λ m occurs ends. omega (arith, start m occurs ends, now.0))
+        | inr before ↦ λ m occurs ends. omega (arith, inv.clear p word of place is_held rest clear m occurs (omega (arith, ends)), before)
       ];
     }
 
@@ -69,5 +68,5 @@ returns-clause-reaches g c p word of place is_held =
       is_held = subst (λ (n : ℕ). g.A.Automaton.held c.args.walk.now.automaton.now p No (word ++ take n bytes) c.loop-count.sid) all (inv.held p word of is_held);
       told_is = sym (ap (told (g.A.Automaton.lengths c.args.walk.now.automaton.now) No 0 (length word + length bytes)) (inv.quiet (omega (arith, c.requires.some))));
       plain = λ k some within. inv.plain p word of is_held k some (omega arith);
-      clear = λ clear. subst (λ (n : ℕ). IsClearAfter p (word ++ take n bytes) c.loop-count.since) all (inv.clear p word of place is_held clear);
+      clear = λ rest clear m occurs ends. inv.clear p word of place is_held rest (subst (λ (at : ℕ). IsClear p (word ++ (bytes ++ rest)) at c.args.since) place clear) m occurs (omega (arith, ends, all, place));
     }
