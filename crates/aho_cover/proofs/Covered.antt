@@ -1,11 +1,10 @@
 -- How far the cover of a stream has come, from one run that is written to the next, and from one byte to the next.
-use Rattle.std.proofs.Common.{◌≡◌, inl, inr, ℕ, zero, suc, ◌+◌, ◌-◌, ◌<◌, ◌≤◌, max, List, [], ◌∷◌, ◌++◌, length, map, take, refl, sym, ◌∙◌, ap, subst, arith, append_assoc, append-nil}
+use Rattle.std.proofs.Common.{◌≡◌, inl, inr, ℕ, zero, suc, ◌+◌, ◌-◌, ◌<◌, ◌≤◌, max, List, [], ◌∷◌, ◌++◌, length, refl, sym, ◌∙◌, ap, subst, arith, append_assoc, append-nil}
 use Rattle.std.specs.Prelude.{nat_lt, slice_range}
 use Rattle.std.specs.Io.{StartsWith}
 use Rattle.std.proofs.lemmas.Bool.{cases_lt, cond-true, cond-false, lt-ltb, le-ltb}
 use Rattle.std.proofs.lemmas.List.{drop_all}
 use Rattle.aho_core.specs.declared.search.Anchored.TheVariants.{No}
-use Rattle.aho_core.specs.Laws.{longest}
 use Rattle.aho_core.specs.Listing.{IsMember}
 use Rattle.aho_core.specs.Occurrence.{Occurrence}
 use Rattle.aho_core.specs.Occurs.{Occurs}
@@ -22,9 +21,9 @@ use Rattle.aho_stream.specs.Replacing.{piece_for}
 use Rattle.aho_cover.specs.declared.hand.Hand.{Hand}
 use Rattle.aho_cover.specs.declared.progress.CoverProgress.{CoverProgress}
 use Rattle.aho_cover.specs.Hand.{held_runs}
-use Rattle.aho_cover.specs.Progress.{EndsHere, EndsNext, HasCovered, IsAll, IsBeginning, copied_to, open_place}
+use Rattle.aho_cover.specs.Progress.{HasCovered, IsAll, IsBeginning, copied_to, open_place}
 use Rattle.aho_cover.specs.Walks.{IsClear}
-use Rattle.aho_cover.proofs.Copied.{ begins_with, copied-more, copied-rest, copied-run, nothing_between}
+use Rattle.aho_cover.proofs.Copied.{begins_with, copied-more, copied-rest, copied-run, nothing_between}
 
 -- each begins at a place or behind it
 abbrev pub BeginBehind : List Occurrence → ℕ → Type 0

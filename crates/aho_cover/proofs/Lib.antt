@@ -7,3 +7,5 @@ pub mod Covered
 pub mod Sound
 -- From one match that is told to the next.
 pub mod Reached
+-- From one read to the next.
+pub mod Going

@@ -1,10 +1,10 @@
 -- What the walk over further bytes of a stream makes of its cover.
-use Rattle.std.proofs.Common.{◌≡◌, inl, inr, ℕ, zero, suc, ◌+◌, ◌-◌, ◌<◌, ◌≤◌, max, List, [], ◌∷◌, ◌++◌, length, map, take, drop, refl, sym, ◌∙◌, ap, subst, arith, append_assoc}
+use Rattle.std.proofs.Common.{◌≡◌, inl, ℕ, zero, suc, ◌+◌, ◌-◌, ◌<◌, ◌≤◌, max, List, [], ◌∷◌, ◌++◌, length, map, take, drop, refl, sym, ◌∙◌, ap, subst, arith, append_assoc}
 use Rattle.std.specs.Prelude.{Option, Some, None, slice_index_or, slice_range}
-use Rattle.std.proofs.lemmas.List.{length-take, take-append-drop, take-take}
+use Rattle.std.proofs.lemmas.List.{take-append-drop, take-take}
 use Rattle.aho_core.specs.declared.search.Anchored.TheVariants.{No}
 use Rattle.aho_core.specs.declared.search.MatchKind.TheVariants.{Standard}
-use Rattle.aho_core.specs.Laws.{Reads, longest, shortest, told}
+use Rattle.aho_core.specs.Laws.{Reads, shortest, told}
 use Rattle.aho_core.specs.Listing.{IsMember}
 use Rattle.aho_core.specs.Occurrence.{Occurrence}
 use Rattle.aho_core.specs.Occurs.{Occurs}
@@ -12,7 +12,6 @@ use Rattle.aho_core.specs.Overlapping.{occurrences_ending}
 use Rattle.aho_core.specs.Patterns.{Patterns}
 use Rattle.aho_core.specs.Progress.{StandsAt}
 use Rattle.aho_core.specs.Search.{plain_search}
-use Rattle.aho_laws.specs.CoverLaws.{runs_upto}
 use Rattle.aho_laws.proofs.Listings.{occurrences_ending-only}
 use Rattle.aho_automaton.specs.Overlaps.{ended}
 use Rattle.aho_automaton.specs.declared.automaton.Automaton.{Ghosts as Automata}

@@ -1,7 +1,6 @@
 -- The numbers of a cover, from one run that is written to the next.
 use Rattle.std.proofs.Common.{◌≡◌, inl, inr, ℕ, ◌+◌, ◌-◌, ◌/◌, ◌^◌, ◌<◌, ◌≤◌, max, min, List, [], ◌∷◌, length, refl, sym, ◌∙◌, ap, subst, arith}
 use Rattle.std.proofs.lemmas.Bool.{cases_lt}
-use Rattle.aho_core.specs.Cover.{IsCovered}
 use Rattle.aho_core.specs.Listing.{IsMember}
 use Rattle.aho_core.specs.Occurrence.{Occurrence}
 use Rattle.aho_laws.specs.CoverLaws.{AreInOrder, joined_runs}
@@ -33,13 +32,16 @@ module _ (s : CoverProgress) (at : ℕ) (sound : IsSound s at) where
     -- the bytes in front of it are held
     pub gap-held : s.copied < x.start → s.read ≤ s.copied + length s.buffer.bytes
     gap-held some =
-        omega (arith, sound.held,
-        sound.kept s.copied (omega arith) (λ c.
-        let there : IsMember (x ∷ rest) c.found = subst (λ (runs : List Occurrence). IsMember runs c.found) first c.member in
-        elim there [
-          | inl e ↦ omega (arith, c.after_start, ap (λ (o : Occurrence). o.start) e)
-          | inr later ↦ omega (arith, c.after_start, rest-lie c.found later, first-lies)
-        ]))
+        omega (
+          arith,
+          sound.held,
+          sound.kept s.copied (omega arith) (λ c.
+              let there : IsMember (x ∷ rest) c.found = subst (λ (runs : List Occurrence). IsMember runs c.found) first c.member in
+              elim there [
+                | inl e ↦ omega (arith, c.after_start, ap (λ (o : Occurrence). o.start) e)
+                | inr later ↦ omega (arith, c.after_start, rest-lie c.found later, first-lies)
+              ]),
+        )
 
     -- once it is written
     pub sound-settled : (hand : Hand) (copied : ℕ) → held_runs hand ≡ rest → copied ≡ x.end → IsWhole hand → room_in hand ≡ room_in s.hand → IsSound (record s { copied = copied; hand = hand }) at
@@ -75,8 +77,11 @@ module _ (s : CoverProgress) (at : ℕ) (sound : IsSound s at) where
   -- the bytes that are written outside are held
   pub outside-held : (place : ℕ) → s.copied < outside_end place (held_runs s.hand) → s.read ≤ s.copied + length s.buffer.bytes
   outside-held place some =
-      omega (arith, sound.held,
-      sound.kept s.copied (omega arith) (λ c. omega (arith, c.after_start, end-first (held_runs s.hand) at place sound.in_order c.found c.member)))
+      omega (
+        arith,
+        sound.held,
+        sound.kept s.copied (omega arith) (λ c. omega (arith, c.after_start, end-first (held_runs s.hand) at place sound.in_order c.found c.member)),
+      )
 
   end-within : (runs : List Occurrence) (place : ℕ) → outside_end place runs ≤ place
   end-within [] place = omega arith
@@ -149,8 +154,11 @@ module _ (s : CoverProgress) (m : Occurrence) (sound : IsSound s (m.end - 1)) (s
   -- there is room for it, once what is settled was written
   pub room-joined : (place : ℕ) → m.end - s.buffer.least ≤ place → FirstEndsBehind place (held_runs s.hand) → length (joined_runs (held_runs s.hand) m) ≤ room_in s.hand
   room-joined place far last =
-      omega (arith, sound.room,
-      few-joined (held_runs s.hand) (m.end - s.buffer.least) (m.end - 1) m sound.in_order (λ x there. omega (arith, all-behind s (m.end - 1) sound place last x there)) (omega arith) some)
+      omega (
+        arith,
+        sound.room,
+        few-joined (held_runs s.hand) (m.end - s.buffer.least) (m.end - 1) m sound.in_order (λ x there. omega (arith, all-behind s (m.end - 1) sound place last x there)) (omega arith) some,
+      )
 
   pub sound-joined : (hand : Hand) → held_runs hand ≡ joined_runs (held_runs s.hand) m → m.end ≤ s.read → s.copied ≤ m.start → IsWhole hand → room_in hand ≡ room_in s.hand → IsSound (record s { hand = hand }) m.end
   sound-joined hand joined within behind whole room = record {

@@ -4,3 +4,4 @@ pub mod Writes
 pub mod Progress
 pub mod Steps
 pub mod Refilling
+pub mod Covers

@@ -1,6 +1,6 @@
 -- How far the walk over a covered stream has come, with what was written of it.
 use Rattle.std.specs.Prelude.{◌≡◌, ℕ, ◌+◌, ◌-◌, ◌*◌, ◌≤◌, List, slice_range}
-use Rattle.aho_core.specs.Laws.{longest, shortest}
+use Rattle.aho_core.specs.Laws.{shortest}
 use Rattle.aho_core.specs.Patterns.{Patterns}
 use Rattle.aho_core.specs.declared.search.Anchored.TheVariants.{No}
 use Rattle.aho_core.specs.declared.search.MatchKind.TheVariants.{Standard}

@@ -5,5 +5,7 @@ mod hand;
 mod output;
 mod progress;
 mod refill;
+pub mod start;
 mod steps;
+pub mod stream;
 mod walk;

@@ -23,12 +23,7 @@ pub(crate) struct Reached {
 
 /// The last place at which a start was held, after one byte more.
 #[inline(always)]
-fn start_after<A: Automaton>(
-    walk: &Counted<'_, A>,
-    sid: StateID,
-    at: usize,
-    since: usize,
-) -> usize
+fn start_after<A: Automaton>(walk: &Counted<'_, A>, sid: StateID, at: usize, since: usize) -> usize
     requires valid { A.valid walk.now.automaton.now sid }
     ensures since { ((result ≡ at) × (A.starts walk.now.automaton.now sid ≡ true)) ⊎ (result ≡ since) }
 {

@@ -1,5 +1,4 @@
 -- Some bytes, and a beginning of the piece behind them.
-use Rattle.std.proofs.Common.{◌++◌}
 use Rattle.aho_cover.proofs.Written.{appends_then, if_err}
 use Rattle.aho_cover.proofs.output.write_both.Goals as goal
 

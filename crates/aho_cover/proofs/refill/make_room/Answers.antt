@@ -1,5 +1,5 @@
 -- The last bytes are still the last.
-use Rattle.std.proofs.Common.{◌-◌, List, ℕ, length, sym, ap, subst}
+use Rattle.std.proofs.Common.{◌-◌, length, sym, ap, subst}
 use Rattle.aho_devices.specs.Buffer.{Buffered}
 use Rattle.aho_stream.specs.After.{EndsWith}
 use Rattle.aho_cover.proofs.Copied.{ends-drop}

@@ -1,5 +1,5 @@
 -- One read behind the bytes that are kept.
-use Rattle.std.proofs.Common.{◌≡◌, ◌+◌, ◌++◌, List, ℕ, length, refl, sym, ap, subst, arith, ◌∙◌, length-append}
+use Rattle.std.proofs.Common.{◌+◌, ◌++◌, length, refl, sym, ap, subst, arith, ◌∙◌, length-append}
 use Rattle.aho_stream.specs.After.{EndsWith}
 use Rattle.aho_cover.proofs.Copied.{ends-append}
 use Rattle.aho_cover.proofs.Sound.{sound-read}

@@ -1,12 +1,11 @@
 -- One match after another, and then what is settled.
-use Rattle.std.proofs.Common.{◌≡◌, ℕ, ◌+◌, ◌-◌, ◌*◌, ◌≤◌, List, ◌++◌, refl, sym, ◌∙◌, ap, subst, arith}
+use Rattle.std.proofs.Common.{◌≡◌, ℕ, ◌+◌, ◌*◌, ◌≤◌, ◌++◌, refl, sym, ◌∙◌, ap, subst, arith}
 use Rattle.std.specs.Prelude.{slice_range}
-use Rattle.aho_core.specs.Patterns.{Patterns}
 use Rattle.aho_core.specs.Replacement.{pieces_of}
 use Rattle.aho_core.specs.declared.search.Anchored.TheVariants.{No}
 use Rattle.aho_cover.specs.declared.progress.CoverProgress.{CoverProgress}
-use Rattle.aho_cover.specs.Progress.{HasCovered, IsBeginning, IsSound}
-use Rattle.aho_cover.specs.Steps.{CanWalk, CoversOn, IsNear}
+use Rattle.aho_cover.specs.Progress.{HasCovered, IsBeginning}
+use Rattle.aho_cover.specs.Steps.{CoversOn}
 use Rattle.aho_cover.specs.Writes.{WritesOn}
 use Rattle.aho_cover.proofs.Written.{if_both, if_err, on_err, writes_nothing, writes_still, writes_then, writes_with}
 use Rattle.aho_cover.proofs.steps.walk_read.Given.{Over}
@@ -95,8 +94,13 @@ returns-clause-can g c =
       no_empty = inv.can.no_empty;
       is_state = subst (a.valid automaton) sid inv.can.is_state;
       cheap = subst (λ (n : ℕ). c.loop-at.walk.work + a.depth automaton n ≤ 2 * new.read) sid (omega (arith, inv.can.cheap, read, all_walked g d));
-      stands = (p, haystack, written ++ writes.bytes, subst (λ x. CoversOn a x pieces new new.read p haystack (written ++ writes.bytes)) (sym inv.same)
-          (writes.follows p haystack written (subst (λ x. CoversOn a x pieces c.loop-at.progress c.loop-at.at p haystack written) inv.same covers)));
+      stands = (
+        p,
+        haystack,
+        written ++ writes.bytes,
+        subst (λ x. CoversOn a x pieces new new.read p haystack (written ++ writes.bytes)) (sym inv.same)
+            (writes.follows p haystack written (subst (λ x. CoversOn a x pieces c.loop-at.progress c.loop-at.at p haystack written) inv.same covers)),
+      );
     }) c.write_settled.ensures.others c.write_settled.ensures.writes
 
 pub returns-clause-writes : goal.returns-clause-writes

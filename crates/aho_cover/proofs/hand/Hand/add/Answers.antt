@@ -1,6 +1,5 @@
 -- The runs behind the first are in order too.
-use Rattle.std.proofs.Common.{◌∷◌, List, subst, ap, arith, inl, refl}
-use Rattle.aho_core.specs.Occurrence.{Occurrence}
+use Rattle.std.proofs.Common.{subst, arith, inl, refl}
 use Rattle.aho_laws.specs.CoverLaws.{AreInOrder}
 use Rattle.aho_laws.proofs.CoverRuns.{in_order-rest}
 use Rattle.aho_cover.specs.Hand.{runs_from}

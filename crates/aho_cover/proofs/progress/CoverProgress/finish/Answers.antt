@@ -1,10 +1,10 @@
 -- All runs, and then the bytes behind them.
-use Rattle.std.proofs.Common.{◌≡◌, ℕ, ◌+◌, ◌≤◌, max, List, length, refl, sym, ◌∙◌, ap, subst, arith}
+use Rattle.std.proofs.Common.{◌≡◌, ℕ, ◌+◌, max, List, length, sym, ◌∙◌, ap, subst, arith}
 use Rattle.aho_core.specs.Patterns.{Patterns}
 use Rattle.aho_core.specs.Replacement.{pieces_of}
 use Rattle.aho_cover.specs.declared.progress.CoverProgress.{CoverProgress}
 use Rattle.aho_cover.specs.Hand.{held_runs}
-use Rattle.aho_cover.specs.Progress.{ClearlyCovered, EndsHere, HasCovered, IsAll, IsBeginning, IsSound, outside_end}
+use Rattle.aho_cover.specs.Progress.{ClearlyCovered, EndsHere, HasCovered, IsAll, IsBeginning, outside_end}
 use Rattle.aho_cover.specs.Walks.{IsClear}
 use Rattle.aho_cover.specs.Writes.{WritesOn}
 use Rattle.aho_cover.proofs.Covered.{has-all}

@@ -1,11 +1,11 @@
 -- What is settled is written, and the match is joined to the other runs.
-use Rattle.std.proofs.Common.{◌≡◌, ℕ, ◌+◌, ◌-◌, ◌∷◌, ◌≤◌, List, length, refl, sym, ◌∙◌, ap, subst, arith}
+use Rattle.std.proofs.Common.{◌≡◌, ℕ, ◌-◌, ◌∷◌, List, ap, arith}
 use Rattle.aho_core.specs.Occurrence.{Occurrence}
 use Rattle.aho_core.specs.Overlapping.{occurrences_ending}
 use Rattle.aho_core.specs.Patterns.{Patterns}
 use Rattle.aho_core.specs.Replacement.{pieces_of}
 use Rattle.aho_cover.specs.declared.progress.CoverProgress.{CoverProgress}
-use Rattle.aho_cover.specs.Progress.{ClearlyCovered, EndsNext, HasCovered, IsBeginning, IsSound}
+use Rattle.aho_cover.specs.Progress.{ClearlyCovered, EndsNext, HasCovered, IsBeginning}
 use Rattle.aho_cover.proofs.Covered.{has-joined, has-open}
 use Rattle.aho_cover.proofs.Sound.{order-joined, room-joined, sound-joined}
 use Rattle.aho_cover.proofs.Written.{on_err, writes_still, writes_with}

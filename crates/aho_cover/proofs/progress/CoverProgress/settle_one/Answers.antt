@@ -1,12 +1,12 @@
 -- The first run in hand.
-use Rattle.std.proofs.Common.{◌≡◌, ℕ, ◌<◌, ◌≤◌, List, ◌∷◌, ◌++◌, take, refl, sym, ◌∙◌, ap, subst, arith}
+use Rattle.std.proofs.Common.{◌≡◌, ℕ, List, ◌++◌, take, refl, sym, ◌∙◌, ap, subst, arith}
 use Rattle.std.specs.Prelude.{slice_range}
 use Rattle.aho_core.specs.Patterns.{Patterns}
 use Rattle.aho_core.specs.Replacement.{pieces_of}
 use Rattle.aho_stream.specs.Replacing.{piece_for}
 use Rattle.aho_cover.specs.declared.hand.Hand.{Hand}
 use Rattle.aho_cover.specs.Hand.{held_runs}
-use Rattle.aho_cover.specs.Progress.{ClearlyCovered, HasCovered, IsBeginning, IsGiven, IsSound}
+use Rattle.aho_cover.specs.Progress.{ClearlyCovered, HasCovered, IsGiven, IsSound}
 use Rattle.aho_cover.proofs.Copied.{begins_shorter}
 use Rattle.aho_cover.proofs.Covered.{has-begun, has-settled}
 use Rattle.aho_cover.proofs.Sound.{first-lies, gap-held, sound-settled}
@@ -63,9 +63,13 @@ returns-in_err-write_both-clause-begins g c = λ at.
     let run = c.in-Some.run' in
     let some = c.in_err-write_both.ensures.beginning in
     let after = sound-settled s sound.0 sound.1 run (held_runs c.take_before.new.self) c.in-Some.ensures.first.0 c.take_before.new.self run.end refl refl c.in-Some.ensures.whole c.in-Some.ensures.same_room in
-    on_err c.from_residual.result _ (record { bytes = take some.0 (c.gap-gap.result.now ++ c.piece_of.result.now); appends = some.2; follows = λ p haystack written before.
-    begins_shorter _ written (c.gap-gap.result.now ++ c.piece_of.result.now) some.0 some.1
-    (has-begun p haystack (pieces_of c.args.pieces.now) (record s { copied = run.end; hand = c.take_before.new.self }) at _ (covered g d at run.end p haystack written refl before) after.behind) })
+    on_err c.from_residual.result _ (record {
+      bytes = take some.0 (c.gap-gap.result.now ++ c.piece_of.result.now);
+      appends = some.2;
+      follows = λ p haystack written before.
+          begins_shorter _ written (c.gap-gap.result.now ++ c.piece_of.result.now) some.0 some.1
+          (has-begun p haystack (pieces_of c.args.pieces.now) (record s { copied = run.end; hand = c.take_before.new.self }) at _ (covered g d at run.end p haystack written refl before) after.behind);
+    })
 
 pub returns-clause-sound : goal.returns-clause-sound
 returns-clause-sound g c = λ at sound.
@@ -75,5 +79,9 @@ returns-clause-sound g c = λ at sound.
 pub returns-clause-writes : goal.returns-clause-writes
 returns-clause-writes g c = λ at.
     let d = (goal.at.returns-clause-writes g c).After-write_both in
-    record { bytes = c.gap-gap.result.now ++ c.piece_of.result.now; appends = c.in_ok-write_both.ensures.whole; follows = λ p haystack written before.
-    (covered g d at c.end-self.result p haystack written c.end-self.ensures.end before, before.1) }
+    record {
+      bytes = c.gap-gap.result.now ++ c.piece_of.result.now;
+      appends = c.in_ok-write_both.ensures.whole;
+      follows = λ p haystack written before.
+          (covered g d at c.end-self.result p haystack written c.end-self.ensures.end before, before.1);
+    }
