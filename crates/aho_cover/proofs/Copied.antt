@@ -1,6 +1,7 @@
 -- Bytes that were copied up to a place, with a piece for each run before it.
-use Rattle.std.proofs.Common.{◌≡◌, inl, inr, ℕ, ◌+◌, ◌-◌, ◌≤◌, List, [], ◌∷◌, ◌++◌, length, drop, take, refl, sym, ◌∙◌, ap, arith, append_assoc, append-nil, length-append}
-use Rattle.std.specs.Prelude.{slice_range}
+use Rattle.std.proofs.lemmas.Bool.{cond-true, cond-false, le-leb, lt-leb}
+use Rattle.std.proofs.Common.{◌≡◌, inl, inr, ℕ, ◌+◌, ◌-◌, ◌<◌, ◌≤◌, List, [], ◌∷◌, ◌++◌, length, drop, take, refl, sym, ◌∙◌, ap, arith, append_assoc, append-nil, length-append}
+use Rattle.std.specs.Prelude.{slice_range, nat_le}
 use Rattle.std.specs.Io.{StartsWith}
 use Rattle.std.proofs.lemmas.List.{take-append-drop, take-append-le, take_all, drop-drop, drop_at}
 use Rattle.aho_core.specs.Listing.{IsMember}
@@ -8,6 +9,7 @@ use Rattle.aho_core.specs.Occurrence.{Occurrence}
 use Rattle.aho_core.specs.Replacement.{replaced_from}
 use Rattle.aho_automaton.proofs.Places.{length_part, no_part, part_join, part_of_part}
 use Rattle.aho_stream.specs.After.{EndsWith}
+use Rattle.aho_cover.specs.Covers.{covered_up_to}
 use Rattle.aho_cover.specs.Progress.{copied_to}
 
 -- a list begins with its first part
@@ -84,6 +86,21 @@ module _ (haystack : List ℕ) (piece : Occurrence → List ℕ) where
       ap (λ (xs : List ℕ). gap ++ (piece y ++ xs)) (copied-rest y.end front rest place (ends y (inl refl)) (λ z there. ends z (inr there)) behind)
       ∙ ap (λ (xs : List ℕ). gap ++ xs) (sym (append_assoc (piece y) copied after))
       ∙ sym (append_assoc gap (piece y ++ copied) after)
+
+-- each has a byte at least, and begins at a place or behind it
+abbrev pub LieBehind : List Occurrence → ℕ → Type 0
+LieBehind runs place = (x : Occurrence) → IsMember runs x → (place ≤ x.start) × (x.start < x.end)
+
+-- up to the place the runs before it make what was copied
+pub covered-copied : (haystack : List ℕ) (piece : Occurrence → List ℕ) (at : ℕ) (front later : List Occurrence) (place : ℕ) → EndBy front place → LieBehind later place
+    → covered_up_to haystack place at (front ++ later) piece ≡ copied_to haystack at front piece place
+covered-copied haystack piece at [] [] place ends behind = refl
+covered-copied haystack piece at [] (y ∷ later) place ends behind =
+    cond-false (nat_le y.end place) (slice_range haystack at y.start ++ (piece y ++ covered_up_to haystack place y.end later piece)) (slice_range haystack at place) (lt-leb y.end place (omega (arith, behind y (inl refl))))
+covered-copied haystack piece at (x ∷ front) later place ends behind =
+    let gap = slice_range haystack at x.start in
+    cond-true (nat_le x.end place) (gap ++ (piece x ++ covered_up_to haystack place x.end (front ++ later) piece)) (slice_range haystack at place) (le-leb x.end place (ends x (inl refl)))
+    ∙ ap (λ (xs : List ℕ). gap ++ (piece x ++ xs)) (covered-copied haystack piece x.end front later place (λ y there. ends y (inr there)) behind)
 
 -- a part of the last bytes is that part of the whole
 pub part_held : (haystack bytes : List ℕ) (read start end : ℕ) → EndsWith (slice_range haystack 0 read) bytes → read ≤ length haystack → length bytes ≤ read → read ≤ start + length bytes → start ≤ end → end ≤ read

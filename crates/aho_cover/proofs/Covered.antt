@@ -1,4 +1,6 @@
 -- How far the cover of a stream has come, from one run that is written to the next, and from one byte to the next.
+use Rattle.aho_laws.proofs.TextRuns.{upto-covers}
+use Rattle.aho_cover.specs.Covers.{covered_up_to}
 use Rattle.std.proofs.Common.{◌≡◌, inl, inr, ℕ, zero, suc, ◌+◌, ◌-◌, ◌<◌, ◌≤◌, max, List, [], ◌∷◌, ◌++◌, length, refl, sym, ◌∙◌, ap, subst, arith, append_assoc, append-nil}
 use Rattle.std.specs.Prelude.{nat_lt, slice_range}
 use Rattle.std.specs.Io.{StartsWith}
@@ -11,19 +13,19 @@ use Rattle.aho_core.specs.Occurs.{Occurs}
 use Rattle.aho_core.specs.Overlapping.{occurrences_ending}
 use Rattle.aho_core.specs.Patterns.{Patterns}
 use Rattle.aho_core.specs.Replacement.{replaced_from}
-use Rattle.aho_laws.specs.CoverLaws.{joined_first, joined_runs, runs_upto}
+use Rattle.aho_laws.specs.CoverLaws.{joined_first, joined_runs, runs_upto, AreInOrder}
 use Rattle.aho_laws.proofs.CoverRuns.{member-of_joined}
 use Rattle.aho_laws.proofs.Listed.{member-of_append}
 use Rattle.aho_laws.proofs.Listings.{occurrences_ending-only}
-use Rattle.aho_laws.proofs.SettledRuns.{joined-behind, occurrence-near}
+use Rattle.aho_laws.proofs.SettledRuns.{joined-behind, occurrence-near, in_order-last}
 use Rattle.aho_automaton.specs.Covering.{cover_in, runs_in}
 use Rattle.aho_stream.specs.Replacing.{piece_for}
 use Rattle.aho_cover.specs.declared.hand.Hand.{Hand}
 use Rattle.aho_cover.specs.declared.progress.CoverProgress.{CoverProgress}
 use Rattle.aho_cover.specs.Hand.{held_runs}
 use Rattle.aho_cover.specs.Progress.{HasCovered, IsAll, IsBeginning, copied_to, open_place}
-use Rattle.aho_cover.specs.Walks.{IsClear}
-use Rattle.aho_cover.proofs.Copied.{begins_with, copied-more, copied-rest, copied-run, nothing_between}
+use Rattle.aho_cover.specs.Walks.{NoneReaches}
+use Rattle.aho_cover.proofs.Copied.{begins_with, copied-more, copied-rest, copied-run, nothing_between, covered-copied}
 
 -- each begins at a place or behind it
 abbrev pub BeginBehind : List Occurrence → ℕ → Type 0
@@ -43,10 +45,10 @@ joined-start runs m place behind low x there =
 module _ (p : Patterns) (haystack : List ℕ) where
   -- each is clear
   abbrev pub AreClear : List Occurrence → ℕ → Type 0
-  AreClear runs at = (x : Occurrence) → IsMember runs x → IsClear p haystack at (x.end + 1)
+  AreClear runs at = (x : Occurrence) → IsMember runs x → NoneReaches p haystack at (x.end + 1)
 
   -- what nothing can touch stays, and what comes behind a clear place begins there or later
-  stays : (n : ℕ) (front rest : List Occurrence) (at place : ℕ) → runs_upto p haystack at ≡ front ++ rest → AreClear front at → IsClear p haystack at place → BeginBehind rest place → at + n ≤ length haystack
+  stays : (n : ℕ) (front rest : List Occurrence) (at place : ℕ) → runs_upto p haystack at ≡ front ++ rest → AreClear front at → NoneReaches p haystack at place → BeginBehind rest place → at + n ≤ length haystack
       → (later : List Occurrence) × (runs_upto p haystack (at + n) ≡ front ++ later) × BeginBehind later place
   stays zero front rest at place is settled clear behind within = let same : at + 0 ≡ at = omega arith in (rest, ap (runs_upto p haystack) same ∙ is, behind)
   stays (suc n) front rest at place is settled clear behind within =
@@ -84,15 +86,30 @@ module _ (p : Patterns) (haystack : List ℕ) where
     abbrev Has : CoverProgress → ℕ → List ℕ → Type 0
     Has s at written = HasCovered pieces s at p haystack written
 
-    -- what was written begins the cover
-    pub has-begun : (s : CoverProgress) (at : ℕ) (written : List ℕ) → Has s at written → BeginBehind (held_runs s.hand) s.copied → IsBeginning pieces p haystack written
-    has-begun s at written has behind =
+    -- the runs of the whole are those that were written, and others behind them
+    pub has-runs : (s : CoverProgress) (at : ℕ) (written : List ℕ) (has : Has s at written) → BeginBehind (held_runs s.hand) s.copied
+        → (later : List Occurrence) × (runs_in p haystack ≡ has.front ++ later) × BeginBehind later s.copied
+    has-runs s at written has behind =
         let within : at ≤ length haystack = omega (arith, has.walked_within, has.given.within) in
         let place : at + (length haystack - at) ≡ length haystack = omega arith in
         let all = stays (length haystack - at) has.front (held_runs s.hand) at s.copied has.runs has.settled has.clear behind (omega arith) in
-        let whole : runs_in p haystack ≡ has.front ++ all.0 = ap (runs_upto p haystack) (sym place) ∙ all.1 in
+        (all.0, ap (runs_upto p haystack) (sym place) ∙ all.1, all.2)
+
+    -- so what was written is the cover up to there
+    pub has-upto : (s : CoverProgress) (at : ℕ) (written : List ℕ) → Has s at written → BeginBehind (held_runs s.hand) s.copied → covered_up_to haystack s.copied 0 (runs_in p haystack) (piece_for pieces) ≡ written
+    has-upto s at written has behind =
+        let all = has-runs s at written has behind in
+        let ordered = in_order-last has.front all.0 (length haystack) (subst (λ (runs : List Occurrence). AreInOrder runs (length haystack)) all.1 (upto-covers p haystack (length haystack) (omega arith)).ordered) in
+        ap (λ (runs : List Occurrence). covered_up_to haystack s.copied 0 runs (piece_for pieces)) all.1
+        ∙ covered-copied haystack (piece_for pieces) 0 has.front all.0 s.copied has.before (λ x there. (all.2 x there, ordered.full x there))
+        ∙ sym has.written_is
+
+    -- what was written begins the cover
+    pub has-begun : (s : CoverProgress) (at : ℕ) (written : List ℕ) → Has s at written → BeginBehind (held_runs s.hand) s.copied → IsBeginning pieces p haystack written
+    has-begun s at written has behind =
+        let all = has-runs s at written has behind in
         let cover : cover_in p haystack pieces ≡ written ++ replaced_from haystack s.copied all.0 (piece_for pieces) =
-        ap (λ (runs : List Occurrence). replaced_from haystack 0 runs (piece_for pieces)) whole
+        ap (λ (runs : List Occurrence). replaced_from haystack 0 runs (piece_for pieces)) all.1
         ∙ copied-rest haystack (piece_for pieces) 0 has.front all.0 s.copied (omega arith) has.before all.2
         ∙ ap (λ (xs : List ℕ). xs ++ replaced_from haystack s.copied all.0 (piece_for pieces)) (sym has.written_is) in
         subst (λ (xs : List ℕ). StartsWith xs written) (sym cover) (begins_with written (replaced_from haystack s.copied all.0 (piece_for pieces)))
@@ -110,7 +127,7 @@ module _ (p : Patterns) (haystack : List ℕ) where
 
     -- the first run in hand is written, and the bytes in front of it
     pub has-settled : (s : CoverProgress) (at place : ℕ) (written : List ℕ) (x : Occurrence) (hand : Hand) (copied : ℕ) → Has s at written → held_runs s.hand ≡ x ∷ held_runs hand → copied ≡ x.end → x.end < place
-        → IsClear p haystack at place → s.copied ≤ x.start → x.start ≤ x.end
+        → NoneReaches p haystack at place → s.copied ≤ x.start → x.start ≤ x.end
         → Has (record s { copied = copied; hand = hand }) at (written ++ (slice_range haystack s.copied x.start ++ piece_for pieces x))
     has-settled s at place written x hand copied has first ends before clear behind ordered = record {
       given = record { within = has.given.within; last = has.given.last };
@@ -134,7 +151,7 @@ module _ (p : Patterns) (haystack : List ℕ) where
     }
 
     -- bytes are written that no run holds
-    pub has-copied : (s : CoverProgress) (at : ℕ) (written : List ℕ) (end copied : ℕ) → Has s at written → copied ≡ max s.copied end → IsClear p haystack at end
+    pub has-copied : (s : CoverProgress) (at : ℕ) (written : List ℕ) (end copied : ℕ) → Has s at written → copied ≡ max s.copied end → NoneReaches p haystack at end
         → Has (record s { copied = copied }) at (written ++ slice_range haystack s.copied end)
     has-copied s at written end copied has most clear = record {
       given = record { within = has.given.within; last = has.given.last };
@@ -161,7 +178,7 @@ module _ (p : Patterns) (haystack : List ℕ) where
     }
 
     -- what ends later begins behind the open place
-    pub has-open : (s : CoverProgress) (at : ℕ) (written : List ℕ) → Has s at written → IsClear p haystack at (open_place s at)
+    pub has-open : (s : CoverProgress) (at : ℕ) (written : List ℕ) → Has s at written → NoneReaches p haystack at (open_place s at)
     has-open s at written has m occurs later = omega (arith, has.since_clear m occurs later, occurrence-near p haystack m 0 (length haystack) occurs, has.far)
 
     -- a match is joined, once its last byte was walked

@@ -9,7 +9,7 @@ use Rattle.aho_core.specs.Patterns.{Patterns}
 use Rattle.aho_core.specs.declared.search.Anchored.{Anchored}
 use Rattle.aho_core.specs.declared.search.Anchored.TheVariants.{No}
 use Rattle.aho_core.specs.declared.search.MatchKind.{MatchKind}
-use Rattle.aho_cover.specs.Walks.{IsClear}
+use Rattle.aho_cover.specs.Walks.{NoneReaches}
 
 -- one byte more
 pub one_further : (word bytes : List ℕ) (n : ℕ) → n < length bytes → word ++ take (n + 1) bytes ≡ (word ++ take n bytes) ++ get_or bytes n 0 ∷ []
@@ -29,12 +29,12 @@ whole_further word bytes rest n =
 
 module _ (p : Patterns) where
   -- what is clear stays so
-  pub clear-later : (haystack : List ℕ) (at at' place : ℕ) → at ≤ at' → IsClear p haystack at place → IsClear p haystack at' place
+  pub clear-later : (haystack : List ℕ) (at at' place : ℕ) → at ≤ at' → NoneReaches p haystack at place → NoneReaches p haystack at' place
   clear-later haystack at at' place le clear m occurs ends = clear m occurs (omega arith)
 
 module _ {p : Patterns} {kind : MatchKind} {lengths : List ℕ} {held : Anchored → List ℕ → ℕ → Type 0} {list : ℕ → List ℕ} {dead starts : ℕ → Bool} (laws : Reads p kind lengths held list dead starts) where
   -- where a start is held, what ends later begins there or behind it
-  pub clear-start : (haystack word rest : List ℕ) (at sid : ℕ) → haystack ≡ word ++ rest → length word ≡ at → held No word sid → starts sid ≡ true → IsClear p haystack at at
+  pub clear-start : (haystack word rest : List ℕ) (at sid : ℕ) → haystack ≡ word ++ rest → length word ≡ at → held No word sid → starts sid ≡ true → NoneReaches p haystack at at
   clear-start haystack word rest at sid whole long is_held start m occurs ends =
       omega (arith, long, laws.start_apart word rest sid m is_held start (subst (λ (h : List ℕ). Occurs p No h 0 (length h) m) whole occurs) (omega (arith, long)))
 

@@ -1,5 +1,10 @@
 -- How far the cover of a stream has come, from one read to the next.
-use Rattle.std.proofs.Common.{◌≡◌, ℕ, ◌-◌, Bool, true, false, List, [], ◌++◌, length, take, refl, sym, ◌∙◌, ap, subst, arith, append_assoc, append-nil, length-append}
+use Rattle.aho_cover.specs.Hand.{held_runs}
+use Rattle.aho_core.specs.Occurs.{Occurs}
+use Rattle.aho_core.specs.Listing.{IsMember}
+use Rattle.aho_core.specs.declared.search.Anchored.TheVariants.{No}
+use Rattle.aho_laws.proofs.Listed.{member-right}
+use Rattle.std.proofs.Common.{◌≡◌, ℕ, ◌-◌, Bool, true, false, List, [], ◌++◌, length, take, refl, sym, ◌∙◌, ap, subst, arith, append_assoc, append-nil, length-append, ◌∷◌}
 use Rattle.std.specs.Prelude.{Result, Ok, Err, IfErr, IsErrAnd, OnErr, OnOk, slice_range}
 use Rattle.std.specs.Io.{StartsWith}
 use Rattle.std.specs.Io.KnownBytes.{Appends, Keeps}
@@ -7,11 +12,11 @@ use Rattle.std.proofs.KnownBytes.{Appends-kept, Appends-nil, Appends-trans, Cons
 use Rattle.std.proofs.lemmas.List.{take-append-le, take_all}
 use Rattle.aho_core.specs.declared.error.stream.StreamError.{StreamError}
 use Rattle.aho_core.specs.declared.error.stream.StreamError.TheVariants.{Match as Refused, Read, Write, WriteZero, Memory, PositionLimit}
-use Rattle.aho_core.specs.Cover.{IsCover}
+use Rattle.aho_core.specs.Cover.{IsCover, IsCovered}
 use Rattle.aho_core.specs.Occurrence.{Occurrence}
 use Rattle.aho_core.specs.Patterns.{Patterns}
 use Rattle.aho_core.specs.Replacement.{replaced}
-use Rattle.aho_laws.proofs.TextRuns.{runs-are, runs-made}
+use Rattle.aho_laws.proofs.TextRuns.{runs-are, runs-made, upto-covers}
 use Rattle.aho_devices.specs.Counts.{counted}
 use Rattle.aho_devices.specs.Refusals.{IsWriteRefusal}
 use Rattle.aho_devices.specs.declared.device.Sink.{Ghosts as SinkGhosts}
@@ -20,14 +25,19 @@ use Rattle.aho_automaton.specs.Covering.{cover_in, runs_in}
 use Rattle.aho_automaton.specs.declared.automaton.Automaton.{Ghosts as Automata}
 use Rattle.aho_stream.specs.After.{EndsWith, greatest_position}
 use Rattle.aho_stream.specs.Refills.{is_limit}
-use Rattle.aho_stream.specs.Replacing.{GaveAsMany, IsMakingRefusal, SourceGave}
+use Rattle.aho_stream.specs.Replacing.{GaveAsMany, IsMakingRefusal, SourceGave, piece_for}
 use Rattle.aho_cover.specs.declared.progress.CoverProgress.{CoverProgress}
-use Rattle.aho_cover.specs.Covers.{BeginsCovering, CoversStream, LeavesCovered}
-use Rattle.aho_cover.specs.Progress.{EndsHere, HasCovered, IsAll, IsBeginning, IsGiven, IsSound}
+use Rattle.aho_cover.specs.Covers.{BeginsCovering, CoversStream, LeavesCovered, CoversStreamUpTo, covered_up_to}
+use Rattle.aho_cover.specs.Progress.{EndsHere, HasCovered, IsAll, IsBeginning, IsGiven, IsSoundCover}
 use Rattle.aho_cover.specs.Refilling.{TakesIn}
-use Rattle.aho_cover.specs.Steps.{CoversOn}
+use Rattle.aho_cover.specs.Steps.{CoversOn, MayRoll}
 use Rattle.aho_cover.specs.Writes.{WritesOn}
-use Rattle.aho_cover.proofs.Covered.{has-begun}
+use Rattle.aho_cover.proofs.Covered.{has-begun, has-upto}
+
+-- a list of no length
+no_items : (xs : List ℕ) → length xs ≡ 0 → xs ≡ []
+no_items [] none = refl
+no_items (x ∷ xs) none = absurd (omega (arith, none))
 
 -- the error of a call that is passed on
 pub err_passed : {X E : Type 0} (result : Result X E) (error : E) → IsErrAnd result (λ e. e ≡ error) → result ≡ Err error
@@ -83,7 +93,7 @@ module _ {A R W : Type 0} (G : Automata A) (S : SourceGhosts R) (K : SinkGhosts 
   }
 
   -- what was written begins the cover
-  pub going_begins : (s : CoverProgress) (source : R) (sink : W) → Going s source sink → IsSound s s.read → Begins source sink
+  pub going_begins : (s : CoverProgress) (source : R) (sink : W) → Going s source sink → IsSoundCover s s.read → Begins source sink
   going_begins s source sink going sound = record {
     given = going.given;
     ended = false;
@@ -141,7 +151,7 @@ module _ {A R W : Type 0} (G : Automata A) (S : SourceGhosts R) (K : SinkGhosts 
         })
 
     -- a call that reads fails: what was written before begins the cover
-    pub begins_more : (sink' : W) → Appends (K.taken begun) (K.taken sink') going.written → IsSound s s.read → S.empty_reads source' ≡ counted false (S.empty_reads source) → Begins source' sink'
+    pub begins_more : (sink' : W) → Appends (K.taken begun) (K.taken sink') going.written → IsSoundCover s s.read → S.empty_reads source' ≡ counted false (S.empty_reads source) → Begins source' sink'
     begins_more sink' writes sound counts = record {
       given = given_now;
       ended = false;
@@ -208,6 +218,35 @@ module _ {A R W : Type 0} (G : Automata A) (S : SourceGhosts R) (K : SinkGhosts 
             subst (λ (xs : List ℕ). StartsWith xs (going.written ++ writes.bytes)) (sym (cover_is p bytes output pieces cover ∙ ap (λ (h : List ℕ). cover_in p h pieces) whole)) starts;
       }
 
+    -- nothing was given by a read that fails
+    given_same : s'.read ≡ s.read → given_now ≡ going.given
+    given_same same = ap (λ (xs : List ℕ). going.given ++ xs) (no_items takes.bytes (omega (arith, takes.count, same))) ∙ append-nil going.given
+
+    -- what was written then is the cover up to a place, and few bytes are left out that lie in no match
+    pub upto_more : (sink' : W) → Appends (K.taken begun) (K.taken sink') going.written → IsSoundCover s s.read → MayRoll s → s'.read ≡ s.read → S.empty_reads source' ≡ counted false (S.empty_reads source)
+        → CoversStreamUpTo S K (G.is_of a) pieces first source' begun sink'
+    upto_more sink' writes sound near same counts = record {
+      given = given_now;
+      ended = false;
+      gives = gives_more false counts;
+      place = s.copied;
+      within = omega (arith, sound.copied_walked, count_more, same);
+      near = λ p at of low bare.
+          let has = (subst (λ (h : List ℕ). CoversOn G a pieces s s.read p h going.written) (append-nil going.given ∙ sym (given_same same)) (going.covers p [] of)).covered in
+          let runs = upto-covers p given_now s.read (omega (arith, count_more, same)) in
+          let long : s.read ≡ length given_now = sym same ∙ count_more in
+          let rolls = near at low (λ c.
+          let there = subst (λ (xs : List Occurrence). IsMember xs c.found) (sym has.runs) (member-right has.front (held_runs s.hand) c.found c.member) in
+          bare (subst (λ (end : ℕ). IsCovered (λ m. Occurs p No given_now 0 end m) at) long (runs.only at (record { found = c.found; member = there; after_start = c.after_start; before_end = c.before_end })))) in
+          omega (arith, rolls, has.far, long);
+      writes = λ p bytes runs of may are.
+          let whole : bytes ≡ going.given ++ (takes.bytes ++ may.0) = may.1 ∙ append_assoc going.given takes.bytes may.0 in
+          let upto = has-upto p (going.given ++ (takes.bytes ++ may.0)) pieces s s.read going.written (going.covers p (takes.bytes ++ may.0) of).covered sound.behind in
+          subst (Appends (K.taken begun) (K.taken sink'))
+          (sym (ap (λ (xs : List Occurrence). covered_up_to bytes s.copied 0 xs (piece_for pieces)) (runs-are p bytes runs are) ∙ ap (λ (h : List ℕ). covered_up_to h s.copied 0 (runs_in p h) (piece_for pieces)) whole ∙ upto))
+          writes;
+    }
+
     -- the limit was met
     pub limit_more : s'.read ≡ s.read → s.read ≡ greatest_position → S.empty_reads source' ≡ counted false (S.empty_reads source) → GaveAsMany S first source' greatest_position
     limit_more same reached counts = (given_now, gives_more false counts, sym count_more ∙ same ∙ reached)
@@ -221,23 +260,23 @@ module _ {R W : Type 0} (S : SourceGhosts R) (K : SinkGhosts W) (AreSearched : P
   pub leaves_written : (error : StreamError) → IsWriteRefusal error → BeginsCovering S K AreSearched pieces source source' sink sink' → Leaves (Err error)
   leaves_written (Refused cause) only some = absurd only
   leaves_written (Read fault) only some = absurd only
-  leaves_written (Write fault) only some = record { covered = tt; begun = some; limit = λ met. cc }
-  leaves_written WriteZero only some = record { covered = tt; begun = some; limit = λ met. cc }
+  leaves_written (Write fault) only some = record { covered = tt; begun = some; near = λ fills. absurd fills; limit = λ met. cc }
+  leaves_written WriteZero only some = record { covered = tt; begun = some; near = λ fills. absurd fills; limit = λ met. cc }
   leaves_written Memory only some = absurd only
   leaves_written PositionLimit only some = absurd only
 
   -- where a read was refused
-  pub leaves_read : (error : StreamError) → BeginsCovering S K AreSearched pieces source source' sink sink' → (is_limit {A = Bool} (Err error) ≡ true → GaveAsMany S source source' greatest_position) → Leaves (Err error)
-  leaves_read (Refused cause) some limit = record { covered = tt; begun = some; limit = limit }
-  leaves_read (Read fault) some limit = record { covered = tt; begun = some; limit = limit }
-  leaves_read (Write fault) some limit = record { covered = tt; begun = some; limit = limit }
-  leaves_read WriteZero some limit = record { covered = tt; begun = some; limit = limit }
-  leaves_read Memory some limit = record { covered = tt; begun = some; limit = limit }
-  leaves_read PositionLimit some limit = record { covered = tt; begun = some; limit = limit }
+  pub leaves_read : (error : StreamError) → BeginsCovering S K AreSearched pieces source source' sink sink' → CoversStreamUpTo S K AreSearched pieces source source' sink sink' → (is_limit {A = Bool} (Err error) ≡ true → GaveAsMany S source source' greatest_position) → Leaves (Err error)
+  leaves_read (Refused cause) some near limit = record { covered = tt; begun = some; near = λ fills. near; limit = limit }
+  leaves_read (Read fault) some near limit = record { covered = tt; begun = some; near = λ fills. near; limit = limit }
+  leaves_read (Write fault) some near limit = record { covered = tt; begun = some; near = λ fills. near; limit = limit }
+  leaves_read WriteZero some near limit = record { covered = tt; begun = some; near = λ fills. near; limit = limit }
+  leaves_read Memory some near limit = record { covered = tt; begun = some; near = λ fills. near; limit = limit }
+  leaves_read PositionLimit some near limit = record { covered = tt; begun = some; near = λ fills. near; limit = limit }
 
   -- at the end
   pub leaves_ended : (result : Result (Unit {0}) StreamError) → IfErr result IsWriteRefusal → OnOk result (CoversStream S K AreSearched pieces source source' sink sink') → OnErr result (BeginsCovering S K AreSearched pieces source source' sink sink') → Leaves result
-  leaves_ended (Ok done) only whole some = record { covered = whole; begun = tt; limit = λ met. cc }
+  leaves_ended (Ok done) only whole some = record { covered = whole; begun = tt; near = tt; limit = λ met. cc }
   leaves_ended (Err error) only whole some = leaves_written error only some
 
 -- nothing is left where it was refused before it was begun
@@ -256,9 +295,9 @@ module _ {R W : Type 0} (S : SourceGhosts R) (K : SinkGhosts W) (source : R) (si
       }
 
       by_error : (error : StreamError) → IsMakingRefusal error → LeavesCovered S K AreSearched pieces source source sink sink (Err error)
-      by_error (Refused cause) only = record { covered = tt; begun = nothing; limit = λ met. cc }
+      by_error (Refused cause) only = record { covered = tt; begun = nothing; near = λ fills. absurd fills; limit = λ met. cc }
       by_error (Read fault) only = absurd only
       by_error (Write fault) only = absurd only
       by_error WriteZero only = absurd only
-      by_error Memory only = record { covered = tt; begun = nothing; limit = λ met. cc }
+      by_error Memory only = record { covered = tt; begun = nothing; near = λ fills. absurd fills; limit = λ met. cc }
       by_error PositionLimit only = absurd only

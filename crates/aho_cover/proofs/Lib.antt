@@ -9,3 +9,4 @@ pub mod Sound
 pub mod Reached
 -- From one read to the next.
 pub mod Going
+pub mod Begun

@@ -19,9 +19,9 @@ use Rattle.aho_automaton.proofs.Endings.{lists_here}
 use Rattle.aho_automaton.proofs.Places.{length_part, part_join}
 use Rattle.aho_cover.specs.declared.progress.CoverProgress.{CoverProgress}
 use Rattle.aho_cover.specs.declared.walk.Reached.{Reached}
-use Rattle.aho_cover.specs.Progress.{EndsNext, HasCovered, IsSound, open_place}
+use Rattle.aho_cover.specs.Progress.{EndsNext, HasCovered, IsSoundCover, open_place}
 use Rattle.aho_cover.specs.Steps.{CoversOn}
-use Rattle.aho_cover.specs.Walks.{IsClear, Reaches, told_before, walked_before}
+use Rattle.aho_cover.specs.Walks.{NoneReaches, Reaches, told_before, walked_before}
 use Rattle.aho_cover.proofs.Covered.{has-open, still-runs}
 use Rattle.aho_cover.proofs.Sound.{order-later}
 
@@ -49,7 +49,7 @@ part_further haystack at read n within =
     ∙ ap (λ (xs : List ℕ). slice_range haystack 0 at ++ xs) (ap (λ (k : ℕ). take k (drop at haystack)) count ∙ sym (take-take n (read - at) (drop at haystack) (omega arith)))
 
 -- the numbers, once more bytes were walked
-pub sound-moved : (s : CoverProgress) (at at' sid since : ℕ) → IsSound s at → at ≤ at' → at' ≤ s.read → since ≤ at' → IsSound (record s { sid = sid; since = since }) at'
+pub sound-moved : (s : CoverProgress) (at at' sid since : ℕ) → IsSoundCover s at → at ≤ at' → at' ≤ s.read → since ≤ at' → IsSoundCover (record s { sid = sid; since = since }) at'
 sound-moved s at at' sid since sound le within start = record {
   small = sound.small;
   walked = within;
@@ -133,8 +133,8 @@ module _ {A : Type 0} (G : Automata A) (a : A) (p : Patterns) (standard : G.kind
         ∙ sym (append_assoc (slice_range haystack 0 at) (slice_range haystack at s.read) rest)
         ∙ ap (λ (xs : List ℕ). xs ++ rest) (sym (part_join haystack 0 at s.read (omega arith) has.walked_within))
         ∙ take-append-drop (s.read - 0) haystack in
-        let clear = subst (λ (h : List ℕ). IsClear p h at s.since → IsClear p h (at + told_before reached) reached.since) whole
-        (subst (λ (k : ℕ). IsClear p (slice_range haystack 0 at ++ (bytes ++ rest)) k s.since → IsClear p (slice_range haystack 0 at ++ (bytes ++ rest)) (k + told_before reached) reached.since) long (reaches.clear rest)) in
+        let clear = subst (λ (h : List ℕ). NoneReaches p h at s.since → NoneReaches p h (at + told_before reached) reached.since) whole
+        (subst (λ (k : ℕ). NoneReaches p (slice_range haystack 0 at ++ (bytes ++ rest)) k s.since → NoneReaches p (slice_range haystack 0 at ++ (bytes ++ rest)) (k + told_before reached) reached.since) long (reaches.clear rest)) in
         record {
           given = record { within = has.given.within; last = has.given.last };
           walked_within = omega (arith, counted);

@@ -9,11 +9,11 @@ use Rattle.aho_laws.proofs.CoverRuns.{in_order-rest, joined-has, joined-in_order
 use Rattle.aho_laws.proofs.SettledRuns.{few-joined}
 use Rattle.aho_cover.specs.declared.hand.Hand.{Hand}
 use Rattle.aho_cover.specs.declared.progress.CoverProgress.{CoverProgress}
-use Rattle.aho_cover.specs.Hand.{FirstEndsBehind, IsWhole, held_runs, room_in}
-use Rattle.aho_cover.specs.Progress.{BareFrom, IsSound, open_place, outside_end}
+use Rattle.aho_cover.specs.Hand.{FirstEndsBehind, HoldsFirst, held_runs, room_in}
+use Rattle.aho_cover.specs.Progress.{BareFrom, IsSoundCover, open_place, outside_end}
 use Rattle.aho_cover.proofs.Covered.{joined-start}
 
-module _ (s : CoverProgress) (at : ℕ) (sound : IsSound s at) where
+module _ (s : CoverProgress) (at : ℕ) (sound : IsSoundCover s at) where
   module _ (x : Occurrence) (rest : List Occurrence) (first : held_runs s.hand ≡ x ∷ rest) where
     ordered-first : AreInOrder (x ∷ rest) at
     ordered-first = subst (λ (runs : List Occurrence). AreInOrder runs at) first sound.in_order
@@ -44,7 +44,7 @@ module _ (s : CoverProgress) (at : ℕ) (sound : IsSound s at) where
         )
 
     -- once it is written
-    pub sound-settled : (hand : Hand) (copied : ℕ) → held_runs hand ≡ rest → copied ≡ x.end → IsWhole hand → room_in hand ≡ room_in s.hand → IsSound (record s { copied = copied; hand = hand }) at
+    pub sound-settled : (hand : Hand) (copied : ℕ) → held_runs hand ≡ rest → copied ≡ x.end → HoldsFirst hand → room_in hand ≡ room_in s.hand → IsSoundCover (record s { copied = copied; hand = hand }) at
     sound-settled hand copied left ends whole room = record {
       small = sound.small;
       walked = sound.walked;
@@ -91,7 +91,7 @@ module _ (s : CoverProgress) (at : ℕ) (sound : IsSound s at) where
   outside-within place = end-within (held_runs s.hand) place
 
   -- once they are written
-  pub sound-outside : (place copied : ℕ) → place ≤ at → copied ≡ max s.copied (outside_end place (held_runs s.hand)) → IsSound (record s { copied = copied }) at
+  pub sound-outside : (place copied : ℕ) → place ≤ at → copied ≡ max s.copied (outside_end place (held_runs s.hand)) → IsSoundCover (record s { copied = copied }) at
   sound-outside place copied within most = record {
     small = sound.small;
     walked = sound.walked;
@@ -147,7 +147,7 @@ pub order-later : (runs : List Occurrence) (at at' : ℕ) → at ≤ at' → Are
 order-later runs at at' le ordered = record { in_order = ordered.in_order; full = ordered.full; within = λ x there. omega (arith, ordered.within x there) }
 
 -- a match is joined that ends one byte later
-module _ (s : CoverProgress) (m : Occurrence) (sound : IsSound s (m.end - 1)) (some : m.start < m.end) where
+module _ (s : CoverProgress) (m : Occurrence) (sound : IsSoundCover s (m.end - 1)) (some : m.start < m.end) where
   pub order-joined : AreInOrder (held_runs s.hand) m.end
   order-joined = order-later (held_runs s.hand) (m.end - 1) m.end (omega arith) sound.in_order
 
@@ -160,7 +160,7 @@ module _ (s : CoverProgress) (m : Occurrence) (sound : IsSound s (m.end - 1)) (s
         few-joined (held_runs s.hand) (m.end - s.buffer.least) (m.end - 1) m sound.in_order (λ x there. omega (arith, all-behind s (m.end - 1) sound place last x there)) (omega arith) some,
       )
 
-  pub sound-joined : (hand : Hand) → held_runs hand ≡ joined_runs (held_runs s.hand) m → m.end ≤ s.read → s.copied ≤ m.start → IsWhole hand → room_in hand ≡ room_in s.hand → IsSound (record s { hand = hand }) m.end
+  pub sound-joined : (hand : Hand) → held_runs hand ≡ joined_runs (held_runs s.hand) m → m.end ≤ s.read → s.copied ≤ m.start → HoldsFirst hand → room_in hand ≡ room_in s.hand → IsSoundCover (record s { hand = hand }) m.end
   sound-joined hand joined within behind whole room = record {
     small = sound.small;
     walked = within;
@@ -179,13 +179,13 @@ module _ (s : CoverProgress) (m : Occurrence) (sound : IsSound s (m.end - 1)) (s
   }
 
 -- the open place is not behind what was walked
-pub open-within : (s : CoverProgress) (at : ℕ) → IsSound s at → open_place s at ≤ at
+pub open-within : (s : CoverProgress) (at : ℕ) → IsSoundCover s at → open_place s at ≤ at
 open-within s at sound = omega (arith, sound.since_walked, sound.some)
 
 -- once more was read
-module _ (s : CoverProgress) (sound : IsSound s s.read) (near : BareFrom s.copied (held_runs s.hand) (s.read - s.buffer.least)) where
+module _ (s : CoverProgress) (sound : IsSoundCover s s.read) (near : BareFrom s.copied (held_runs s.hand) (s.read - s.buffer.least)) where
   pub sound-read : (buffer : Buffered) (read n : ℕ) → read ≡ s.read + n → read < 2 ^ 63 → buffer.least ≡ s.buffer.least → length buffer.bytes ≡ min s.buffer.least (length s.buffer.bytes) + n
-      → IsSound (record s { buffer = buffer; read = read }) s.read
+      → IsSoundCover (record s { buffer = buffer; read = read }) s.read
   sound-read buffer read n count small least long = record {
     small = small;
     walked = omega arith;

@@ -2,7 +2,6 @@
 use Rattle.std.specs.Prelude.{◌≡◌, ℕ, ◌+◌, ◌-◌, ◌/◌, ◌<◌, ◌≤◌, ◌^◌, max, min, List, [], ◌∷◌, ◌++◌, Option, None, Some, length, map, slice_range}
 use Rattle.std.specs.Io.{StartsWith}
 use Rattle.aho_core.specs.Cover.{IsCovered}
-use Rattle.aho_core.specs.Laws.{longest}
 use Rattle.aho_core.specs.Listing.{IsMember}
 use Rattle.aho_core.specs.Occurrence.{Occurrence}
 use Rattle.aho_core.specs.Overlapping.{occurrences_ending}
@@ -10,12 +9,12 @@ use Rattle.aho_core.specs.Patterns.{Patterns}
 use Rattle.aho_laws.specs.CoverLaws.{AreInOrder, runs_upto}
 use Rattle.aho_devices.specs.Buffer.{Buffered}
 use Rattle.aho_automaton.specs.Covering.{cover_in}
-use Rattle.aho_stream.specs.After.{EndsWith}
+use Rattle.aho_stream.specs.After.{EndsWith, kept_for}
 use Rattle.aho_stream.specs.Replacing.{piece_for}
 use Rattle.aho_cover.specs.declared.hand.Hand.{Hand}
 use Rattle.aho_cover.specs.declared.progress.CoverProgress.{CoverProgress}
-use Rattle.aho_cover.specs.Hand.{IsWhole, first_start, held_runs, room_in}
-use Rattle.aho_cover.specs.Walks.{IsClear}
+use Rattle.aho_cover.specs.Hand.{HoldsFirst, first_start, held_runs, room_in}
+use Rattle.aho_cover.specs.Walks.{NoneReaches}
 
 -- before the first byte
 abbrev pub unbegun_cover : Buffered → Hand → ℕ → CoverProgress
@@ -39,7 +38,7 @@ BareFrom from runs low = (place : ℕ) → from ≤ place → (IsCovered (IsMemb
 
 -- the numbers of a cover of which so many bytes were walked. The buffer holds each byte that was not walked, and each that was not
 -- written and lies in no run in hand
-pub record IsSound (s : CoverProgress) (at : ℕ) : Type 0 where
+pub record IsSoundCover (s : CoverProgress) (at : ℕ) : Type 0 where
   pub small : s.read < 2 ^ 63
   pub walked : at ≤ s.read
   pub some : 1 ≤ s.buffer.least
@@ -50,7 +49,7 @@ pub record IsSound (s : CoverProgress) (at : ℕ) : Type 0 where
   pub in_order : AreInOrder (held_runs s.hand) at
   pub behind : (x : Occurrence) → IsMember (held_runs s.hand) x → s.copied ≤ x.start
   pub kept : BareFrom s.copied (held_runs s.hand) (s.read - length s.buffer.bytes)
-  pub whole : IsWhole s.hand
+  pub whole : HoldsFirst s.hand
   pub room : room_in s.hand ≡ s.buffer.least / 2 + 1
 
 -- the bytes given are the first of these, and the buffer holds the last of them
@@ -68,18 +67,18 @@ copied_to haystack at (run ∷ runs) piece place = slice_range haystack at run.s
 pub record HasCovered (pieces : List (List ℕ)) (s : CoverProgress) (at : ℕ) (p : Patterns) (haystack written : List ℕ) : Type 0 where
   pub given : IsGiven s haystack
   pub walked_within : at ≤ s.read
-  pub far : longest (map length p.words) ≤ s.buffer.least
-  pub since_clear : IsClear p haystack at s.since
+  pub far : s.buffer.least ≡ kept_for (map length p.words)
+  pub since_clear : NoneReaches p haystack at s.since
   pub front : List Occurrence
   pub runs : runs_upto p haystack at ≡ front ++ held_runs s.hand
-  pub settled : (x : Occurrence) → IsMember front x → IsClear p haystack at (x.end + 1)
+  pub settled : (x : Occurrence) → IsMember front x → NoneReaches p haystack at (x.end + 1)
   pub before : (x : Occurrence) → IsMember front x → x.end ≤ s.copied
-  pub clear : IsClear p haystack at s.copied
+  pub clear : NoneReaches p haystack at s.copied
   pub written_is : written ≡ copied_to haystack 0 front (piece_for pieces) s.copied
 
 -- and nothing that ends later begins before a place
 abbrev pub ClearlyCovered : List (List ℕ) → CoverProgress → ℕ → ℕ → Patterns → List ℕ → List ℕ → Type 0
-ClearlyCovered pieces s at place p haystack written = HasCovered pieces s at p haystack written × IsClear p haystack at place
+ClearlyCovered pieces s at place p haystack written = HasCovered pieces s at p haystack written × NoneReaches p haystack at place
 
 -- what was written begins the cover of these bytes
 abbrev pub IsBeginning : List (List ℕ) → Patterns → List ℕ → List ℕ → Type 0

@@ -25,8 +25,8 @@ pub record CanWalk {A : Type 0} (G : Automata A) (walk : Counted A) (pieces : Li
   pub stands : (p : Patterns) × (haystack written : List ℕ) × CoversOn G walk.automaton.now pieces s at p haystack written
 
 -- the buffer may be rolled: each byte that was not written and lies in no run in hand is among those that a roll keeps
-abbrev pub IsNear : CoverProgress → Type 0
-IsNear s = BareFrom s.copied (held_runs s.hand) (s.read - s.buffer.least)
+abbrev pub MayRoll : CoverProgress → Type 0
+MayRoll s = BareFrom s.copied (held_runs s.hand) (s.read - s.buffer.least)
 
 -- nothing was read, and the buffer holds the same
 pub record KeepsBytes (s s' : CoverProgress) : Type 0 where

@@ -9,8 +9,8 @@ use Rattle.aho_automaton.specs.declared.automaton.Automaton.{Ghosts as Automata}
 use Rattle.aho_cover.specs.declared.walk.Reached.{Reached}
 
 -- what ends behind a place of these bytes begins at another or behind it
-abbrev pub IsClear : Patterns → List ℕ → ℕ → ℕ → Type 0
-IsClear p haystack at place = (m : Occurrence) → Occurs p No haystack 0 (length haystack) m → at < m.end → place ≤ m.start
+abbrev pub NoneReaches : Patterns → List ℕ → ℕ → ℕ → Type 0
+NoneReaches p haystack at place = (m : Occurrence) → Occurs p No haystack 0 (length haystack) m → at < m.end → place ≤ m.start
 
 -- how many bytes were walked before a match was told
 abbrev pub walked_before : Option Occurrence → ℕ → ℕ
@@ -25,7 +25,7 @@ pub record Reaches {A : Type 0} (G : Automata A) (a : A) (p : Patterns) (word by
   pub is_held : G.held a p No (word ++ take reached.count bytes) reached.sid
   pub told_is : reached.found ≡ told (G.lengths a) No 0 (length word + reached.count) (G.list a reached.sid)
   pub plain : (k : ℕ) → 0 < k → k ≤ told_before reached → (sid : ℕ) × G.held a p No (word ++ take k bytes) sid × (G.list a sid ≡ [])
-  pub clear : (rest : List ℕ) → IsClear p (word ++ (bytes ++ rest)) (length word) since → IsClear p (word ++ (bytes ++ rest)) (length word + told_before reached) reached.since
+  pub clear : (rest : List ℕ) → NoneReaches p (word ++ (bytes ++ rest)) (length word) since → NoneReaches p (word ++ (bytes ++ rest)) (length word + told_before reached) reached.since
 
 -- a state of this automaton that is held after some word of so many bytes
 abbrev pub IsHeldAfter : {A : Type 0} → Automata A → A → ℕ → ℕ → Type 0

@@ -2,8 +2,9 @@
 
 ghost use Rattle.std.specs.Prelude.{◌≡◌, ◌+◌, ◌-◌, ◌<◌, ◌≤◌, ◌^◌, ℕ, List, OnErr, OnOk, Ok, length, max, slice_range, true, false};
 ghost use Rattle.aho_core.specs.Replacement.{pieces_of};
-ghost use Rattle.aho_cover.specs.Hand.{FirstEndsBehind, IsWhole, held_runs};
-ghost use Rattle.aho_cover.specs.Progress.{BareFrom, ClearlyCovered, EndsHere, EndsNext, HasCovered, IsAll, IsBeginning, IsGiven, IsSound, open_place, outside_end, unbegun_cover};
+ghost use Rattle.aho_cover.specs.Hand.{FirstEndsBehind, HoldsFirst, held_runs};
+ghost use Rattle.aho_cover.specs.Progress.{BareFrom, ClearlyCovered, EndsHere, EndsNext, HasCovered, IsAll, IsBeginning, IsGiven, IsSoundCover, open_place, outside_end, unbegun_cover};
+ghost use Rattle.aho_cover.specs.Settling.{Settles, StopsAt, StopsOutside, StopsSettling, WritesOutside};
 ghost use Rattle.aho_cover.specs.Writes.{TellsWrites, WritesOn};
 
 use crate::hand::Hand;
@@ -91,20 +92,18 @@ impl CoverProgress {
         pieces: &[&[u8]],
         place: usize,
     ) -> Result<bool, StreamError>
-        requires sound { (at : ℕ) × IsSound self.old at }
-        ensures sound { OnOk result ((at : ℕ) → IsSound self.old at → IsSound self.new at) }
+        requires sound { (at : ℕ) × IsSoundCover self.old at }
+        ensures sound { OnOk result ((at : ℕ) → IsSoundCover self.old at → IsSoundCover self.new at) }
         ensures others { OnOk result
             (self.new ≡ record self.old { copied = self.new.copied; hand = self.new.hand }) }
         ensures copied { OnOk result (self.new.copied ≤ max self.old.copied place) }
         ensures fewer { result ≡ Ok true
             → length (held_runs self.new.hand) < length (held_runs self.old.hand) }
         ensures last { result ≡ Ok false → FirstEndsBehind place (held_runs self.new.hand) }
-        ensures writes { (at : ℕ) → OnOk result (WritesOn W.Sink sink.old sink.new
-            (ClearlyCovered (pieces_of pieces.now) self.old at place)
-            (ClearlyCovered (pieces_of pieces.now) self.new at place)) }
-        ensures begins { (at : ℕ) → OnErr result (WritesOn W.Sink sink.old sink.new
-            (ClearlyCovered (pieces_of pieces.now) self.old at place)
-            (IsBeginning (pieces_of pieces.now))) }
+        ensures writes { OnOk result (Settles W.Sink sink.old sink.new
+            (pieces_of pieces.now) place self.old self.new) }
+        ensures begins { OnErr result (StopsSettling W.Sink sink.old sink.new
+            (pieces_of pieces.now) place self.old) }
         ensures tells { TellsWrites W.Sink sink.old sink.new result }
     {
         let Some(run) = self.hand.take_before(place) else {
@@ -123,18 +122,16 @@ impl CoverProgress {
         pieces: &[&[u8]],
         place: usize,
     ) -> Result<(), StreamError>
-        requires sound { (at : ℕ) × IsSound self.old at }
-        ensures sound { OnOk result ((at : ℕ) → IsSound self.old at → IsSound self.new at) }
+        requires sound { (at : ℕ) × IsSoundCover self.old at }
+        ensures sound { OnOk result ((at : ℕ) → IsSoundCover self.old at → IsSoundCover self.new at) }
         ensures others { OnOk result
             (self.new ≡ record self.old { copied = self.new.copied; hand = self.new.hand }) }
         ensures copied { OnOk result (self.new.copied ≤ max self.old.copied place) }
         ensures last { OnOk result (FirstEndsBehind place (held_runs self.new.hand)) }
-        ensures writes { (at : ℕ) → OnOk result (WritesOn W.Sink sink.old sink.new
-            (ClearlyCovered (pieces_of pieces.now) self.old at place)
-            (ClearlyCovered (pieces_of pieces.now) self.new at place)) }
-        ensures begins { (at : ℕ) → OnErr result (WritesOn W.Sink sink.old sink.new
-            (ClearlyCovered (pieces_of pieces.now) self.old at place)
-            (IsBeginning (pieces_of pieces.now))) }
+        ensures writes { OnOk result (Settles W.Sink sink.old sink.new
+            (pieces_of pieces.now) place self.old self.new) }
+        ensures begins { OnErr result (StopsSettling W.Sink sink.old sink.new
+            (pieces_of pieces.now) place self.old) }
         ensures tells { TellsWrites W.Sink sink.old sink.new result }
     {
         while self.settle_one(sink, &*pieces, place)? {}
@@ -143,7 +140,7 @@ impl CoverProgress {
 
     /// A place, or the start of the first run in hand, where that is before it.
     fn outside_end(&self, place: usize) -> usize
-        requires whole { IsWhole self.now.hand }
+        requires whole { HoldsFirst self.now.hand }
         ensures end { result ≡ outside_end place (held_runs self.now.hand) }
     {
         match self.hand.start() {
@@ -154,16 +151,14 @@ impl CoverProgress {
 
     /// Writes the bytes up to a place, or up to the first run in hand, where that begins before.
     fn write_outside<W: Sink>(&mut self, sink: &mut W, place: usize) -> Result<(), StreamError>
-        requires sound { (at : ℕ) × IsSound self.old at × (place ≤ at) }
+        requires sound { (at : ℕ) × IsSoundCover self.old at × (place ≤ at) }
         ensures copied { OnOk result (self.new ≡ record self.old {
           copied = max self.old.copied (outside_end place (held_runs self.old.hand));
         }) }
-        ensures writes { (at : ℕ) (pieces : List (List ℕ)) → OnOk result
-            (WritesOn W.Sink sink.old sink.new
-            (ClearlyCovered pieces self.old at place) (HasCovered pieces self.new at)) }
-        ensures begins { (at : ℕ) (pieces : List (List ℕ)) → OnErr result
-            (WritesOn W.Sink sink.old sink.new
-            (ClearlyCovered pieces self.old at place) (IsBeginning pieces)) }
+        ensures writes { OnOk result
+            (WritesOutside W.Sink sink.old sink.new place self.old self.new) }
+        ensures begins { OnErr result
+            (StopsOutside W.Sink sink.old sink.new place self.old) }
         ensures tells { TellsWrites W.Sink sink.old sink.new result }
     {
         let end = self.outside_end(place);
@@ -179,8 +174,8 @@ impl CoverProgress {
         pieces: &[&[u8]],
         at: usize,
     ) -> Result<(), StreamError>
-        requires sound { IsSound self.old at }
-        ensures sound { OnOk result (IsSound self.new at) }
+        requires sound { IsSoundCover self.old at }
+        ensures sound { OnOk result (IsSoundCover self.new at) }
         ensures others { OnOk result
             (self.new ≡ record self.old { copied = self.new.copied; hand = self.new.hand }) }
         ensures near { OnOk result (BareFrom self.new.copied (held_runs self.new.hand)
@@ -188,9 +183,8 @@ impl CoverProgress {
         ensures writes { OnOk result (WritesOn W.Sink sink.old sink.new
             (HasCovered (pieces_of pieces.now) self.old at)
             (HasCovered (pieces_of pieces.now) self.new at)) }
-        ensures begins { OnErr result (WritesOn W.Sink sink.old sink.new
-            (HasCovered (pieces_of pieces.now) self.old at)
-            (IsBeginning (pieces_of pieces.now))) }
+        ensures begins { OnErr result (StopsAt W.Sink sink.old sink.new
+            (pieces_of pieces.now) self.old at) }
         ensures tells { TellsWrites W.Sink sink.old sink.new result }
     {
         let open = self.open_place(at);
@@ -205,19 +199,18 @@ impl CoverProgress {
         pieces: &[&[u8]],
         m: Match,
     ) -> Result<(), StreamError>
-        requires sound { IsSound self.old (m.end - 1) }
+        requires sound { IsSoundCover self.old (m.end - 1) }
         requires some { m.start < m.end }
         requires read { m.end ≤ self.old.read }
         requires behind { max self.old.copied (open_place self.old (m.end - 1)) ≤ m.start }
-        ensures sound { OnOk result (IsSound self.new m.end) }
+        ensures sound { OnOk result (IsSoundCover self.new m.end) }
         ensures others { OnOk result
             (self.new ≡ record self.old { copied = self.new.copied; hand = self.new.hand }) }
         ensures writes { OnOk result (WritesOn W.Sink sink.old sink.new
             (EndsNext (pieces_of pieces.now) self.old m)
             (HasCovered (pieces_of pieces.now) self.new m.end)) }
-        ensures begins { OnErr result (WritesOn W.Sink sink.old sink.new
-            (HasCovered (pieces_of pieces.now) self.old (m.end - 1))
-            (IsBeginning (pieces_of pieces.now))) }
+        ensures begins { OnErr result (StopsAt W.Sink sink.old sink.new
+            (pieces_of pieces.now) self.old (m.end - 1)) }
         ensures tells { TellsWrites W.Sink sink.old sink.new result }
     {
         let open = self.open_place(m.end() - 1);
@@ -232,7 +225,7 @@ impl CoverProgress {
         sink: &mut W,
         pieces: &[&[u8]],
     ) -> Result<(), StreamError>
-        requires sound { IsSound self.old self.old.read }
+        requires sound { IsSoundCover self.old self.old.read }
         ensures covers { OnOk result (WritesOn W.Sink sink.old sink.new
             (EndsHere (pieces_of pieces.now) self.old) (IsAll (pieces_of pieces.now))) }
         ensures begins { OnErr result (WritesOn W.Sink sink.old sink.new

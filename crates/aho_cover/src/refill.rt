@@ -5,9 +5,9 @@ ghost use Rattle.aho_devices.specs.Counts.{counted};
 ghost use Rattle.aho_devices.specs.Refusals.{IsFillRefusal, is_read_fault};
 ghost use Rattle.aho_stream.specs.After.{EndsWith, greatest_position};
 ghost use Rattle.aho_stream.specs.Refills.{is_limit};
-ghost use Rattle.aho_cover.specs.Progress.{IsSound};
+ghost use Rattle.aho_cover.specs.Progress.{IsSoundCover};
 ghost use Rattle.aho_cover.specs.Refilling.{TakesIn, sees_end};
-ghost use Rattle.aho_cover.specs.Steps.{IsNear};
+ghost use Rattle.aho_cover.specs.Steps.{MayRoll};
 
 use crate::progress::CoverProgress;
 use aho_core::error::StreamError;
@@ -36,9 +36,9 @@ pub(crate) fn refill<R: Source>(
     progress: &mut CoverProgress,
     source: &mut R,
 ) -> Result<bool, StreamError>
-    requires sound { IsSound progress.old progress.old.read }
-    requires near { IsNear progress.old }
-    ensures sound { OnOk result (IsSound progress.new progress.old.read) }
+    requires sound { IsSoundCover progress.old progress.old.read }
+    requires near { MayRoll progress.old }
+    ensures sound { OnOk result (IsSoundCover progress.new progress.old.read) }
     ensures takes { TakesIn progress.old progress.new (R.remaining source.old) (R.remaining source.new) }
     ensures more { result ≡ Ok false → progress.old.read < progress.new.read }
     ensures none { result ≡ Ok true → progress.new.read ≡ progress.old.read }

@@ -2,8 +2,8 @@
 
 ghost use Rattle.std.specs.Prelude.{◌≡◌, ◌<◌, IfOk, OnErr, OnOk, Ok, IfErr, true, false};
 ghost use Rattle.aho_core.specs.Replacement.{pieces_of};
-ghost use Rattle.aho_cover.specs.Progress.{IsBeginning, IsSound};
-ghost use Rattle.aho_cover.specs.Steps.{CanWalk, CoversOn, IsNear, KeepsBytes};
+ghost use Rattle.aho_cover.specs.Progress.{IsBeginning, IsSoundCover};
+ghost use Rattle.aho_cover.specs.Steps.{CanWalk, CoversOn, MayRoll, KeepsBytes};
 ghost use Rattle.aho_cover.specs.Writes.{TellsWrites, WritesOn};
 
 use crate::progress::CoverProgress;
@@ -22,10 +22,10 @@ fn walk_once<A: Automaton, W: Sink>(
     pieces: &[&[u8]],
     at: usize,
 ) -> Result<usize, StreamError>
-    requires sound { IsSound progress.old at }
+    requires sound { IsSoundCover progress.old at }
     requires further { at < progress.old.read }
     requires can { CanWalk A.Automaton walk.old (pieces_of pieces.now) progress.old at }
-    ensures sound { IfOk result (IsSound progress.new) }
+    ensures sound { IfOk result (IsSoundCover progress.new) }
     ensures can { IfOk result (CanWalk A.Automaton walk.new (pieces_of pieces.now) progress.new) }
     ensures further { IfOk result (λ next. at < next) }
     ensures bytes { OnOk result (KeepsBytes progress.old progress.new) }
@@ -58,10 +58,10 @@ pub(crate) fn walk_read<A: Automaton, W: Sink>(
     pieces: &[&[u8]],
     from: usize,
 ) -> Result<(), StreamError>
-    requires sound { IsSound progress.old from }
+    requires sound { IsSoundCover progress.old from }
     requires can { CanWalk A.Automaton walk.old (pieces_of pieces.now) progress.old from }
-    ensures sound { OnOk result (IsSound progress.new progress.new.read) }
-    ensures near { OnOk result (IsNear progress.new) }
+    ensures sound { OnOk result (IsSoundCover progress.new progress.new.read) }
+    ensures near { OnOk result (MayRoll progress.new) }
     ensures can { OnOk result (CanWalk A.Automaton walk.new
         (pieces_of pieces.now) progress.new progress.new.read) }
     ensures bytes { OnOk result (KeepsBytes progress.old progress.new) }

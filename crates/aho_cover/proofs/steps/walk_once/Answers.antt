@@ -9,7 +9,7 @@ use Rattle.aho_core.specs.declared.search.Anchored.TheVariants.{No}
 use Rattle.aho_core.specs.declared.search.MatchKind.TheVariants.{Standard}
 use Rattle.aho_automaton.proofs.Places.{length_part}
 use Rattle.aho_cover.specs.declared.progress.CoverProgress.{CoverProgress}
-use Rattle.aho_cover.specs.Progress.{EndsNext, HasCovered, IsBeginning, IsSound, open_place}
+use Rattle.aho_cover.specs.Progress.{EndsNext, HasCovered, IsBeginning, IsSoundCover, open_place}
 use Rattle.aho_cover.specs.Steps.{CoversOn}
 use Rattle.aho_cover.specs.Walks.{Reaches, told_before, walked_before}
 use Rattle.aho_cover.specs.Writes.{WritesOn}
@@ -166,7 +166,7 @@ pub returns-clause-sound : goal.returns-clause-sound
 returns-clause-sound g c =
     let d = (goal.at.returns-clause-sound g c).After-walk_to_match-reached in
     let (first, whole, begun, stands) = c.requires.can.stands in
-    subst (IsSound c.join.new.self) (ends g d first whole begun stands c.in-Some.m c.in-Some.is) c.in_ok-join.ensures.sound
+    subst (IsSoundCover c.join.new.self) (ends g d first whole begun stands c.in-Some.m c.in-Some.is) c.in_ok-join.ensures.sound
 
 pub returns-clause-can : goal.returns-clause-can
 returns-clause-can g c =

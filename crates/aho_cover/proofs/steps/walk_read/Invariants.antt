@@ -1,7 +1,7 @@
 -- What the loop keeps: the walk has come to a place, and what was written leads there. No write has failed.
 use Rattle.std.proofs.Common.{◌≡◌, ◌-◌}
 use Rattle.aho_core.specs.Replacement.{pieces_of}
-use Rattle.aho_cover.specs.Progress.{IsSound}
+use Rattle.aho_cover.specs.Progress.{IsSoundCover}
 use Rattle.aho_cover.specs.Steps.{CanWalk, CoversOn, KeepsBytes}
 use Rattle.aho_cover.specs.Writes.{WritesOn}
 use Rattle.aho_cover.proofs.steps.walk_read.Given as goal
@@ -10,7 +10,7 @@ abbrev pub invariant-loop-at : goal.invariant-loop-at
 invariant-loop-at g l =
     let automaton = l.initial.walk.automaton.now in
     record {
-      sound : IsSound l.progress l.at;
+      sound : IsSoundCover l.progress l.at;
       can : CanWalk g.A.Automaton l.walk (pieces_of l.pieces) l.progress l.at;
       same : l.walk.automaton.now ≡ automaton;
       bytes : KeepsBytes l.initial.progress l.progress;

@@ -3,9 +3,9 @@ use Rattle.std.proofs.Common.{◌≡◌, ℕ, ◌+◌, ◌*◌, ◌≤◌, ◌++
 use Rattle.aho_core.specs.Replacement.{pieces_of}
 use Rattle.aho_devices.specs.Counts.{counted}
 use Rattle.aho_cover.specs.declared.progress.CoverProgress.{CoverProgress}
-use Rattle.aho_cover.specs.Progress.{IsSound}
+use Rattle.aho_cover.specs.Progress.{IsSoundCover}
 use Rattle.aho_cover.specs.Steps.{CoversOn}
-use Rattle.aho_cover.proofs.Going.{Going, begins_end, begins_more, begins_on, covers_all, covers_more, err_passed, going_begins, going_first, going_kept, going_on, leaves_ended, leaves_read, leaves_written, limit_more}
+use Rattle.aho_cover.proofs.Going.{Going, begins_end, begins_more, begins_on, covers_all, covers_more, err_passed, going_begins, going_first, going_kept, going_on, leaves_ended, leaves_read, leaves_written, limit_more, upto_more}
 use Rattle.aho_cover.proofs.Written.{if_err, if_ok}
 use Rattle.aho_cover.proofs.stream.cover_from.Given.{Over}
 use Rattle.aho_cover.proofs.stream.cover_from.Goals.{Else-branch, In_ok-flush}
@@ -20,7 +20,7 @@ loop-from-init g c =
     let unread = sym unbegun.unread in
     record {
       going = going_first g.A.Automaton g.R.Source g.W.Sink c.args.walk.now.automaton.now pieces c.args.source.now c.args.sink.now s unbegun.unread (λ p haystack of. unbegun.covers p pieces haystack of);
-      sound = subst (IsSound s) unread unbegun.sound;
+      sound = subst (IsSoundCover s) unread unbegun.sound;
       near = λ place low bare. omega (arith, unbegun.unread);
       can = record {
         standard = unbegun.standard;
@@ -52,7 +52,7 @@ returns-in_err-refill-clause-leaves g c =
     let going = flushed g d in
     let refilled = c.in_err-refill.ensures in
     rw (err_passed c.from_residual-in_err-refill.result c.in_err-refill.field-0.0 c.from_residual-in_err-refill.ensures.1)
-    (leaves_read _ _ _ _ _ _ _ _ _ (begins_more _ _ _ _ _ _ _ _ _ _ _ _ going refilled.takes _ going.writes inv.sound refilled.ended)
+    (leaves_read _ _ _ _ _ _ _ _ _ (begins_more _ _ _ _ _ _ _ _ _ _ _ _ going refilled.takes _ going.writes inv.sound refilled.ended) (upto_more _ _ _ _ _ _ _ _ _ _ _ _ going refilled.takes _ going.writes inv.sound inv.near refilled.fails refilled.ended)
     (λ met. limit_more _ _ _ _ _ _ _ _ _ _ _ _ going refilled.takes refilled.fails (refilled.limit met) refilled.ended))
 
 pub returns-then-branch-clause-leaves : goal.returns-then-branch-clause-leaves

@@ -4,7 +4,7 @@ use Rattle.std.proofs.lemmas.Bool.{cases_lt}
 use Rattle.aho_core.specs.Laws.{told}
 use Rattle.aho_core.specs.Patterns.{Patterns}
 use Rattle.aho_core.specs.declared.search.Anchored.TheVariants.{No}
-use Rattle.aho_cover.specs.Walks.{IsClear}
+use Rattle.aho_cover.specs.Walks.{NoneReaches}
 use Rattle.aho_cover.proofs.Further.{clear-start, length_further, not-some, one_further, told-nothing, whole_further}
 use Rattle.aho_cover.proofs.walk.walk_to_match.Given.{Over}
 use Rattle.aho_cover.proofs.walk.walk_to_match.Goals.{After-step-sid, else-looks_at, then-looks_at+else-is_some}
@@ -66,5 +66,5 @@ returns-clause-reaches g c p word of place is_held =
       is_held = subst (λ (n : ℕ). g.A.Automaton.held c.args.walk.now.automaton.now p No (word ++ take n bytes) c.loop-count.sid) all (inv.held p word of is_held);
       told_is = sym (ap (told (g.A.Automaton.lengths c.args.walk.now.automaton.now) No 0 (length word + length bytes)) (inv.quiet (omega (arith, c.requires.some))));
       plain = λ k some within. inv.plain p word of is_held k some (omega arith);
-      clear = λ rest clear m occurs ends. inv.clear p word of place is_held rest (subst (λ (at : ℕ). IsClear p (word ++ (bytes ++ rest)) at c.args.since) place clear) m occurs (omega (arith, ends, all, place));
+      clear = λ rest clear m occurs ends. inv.clear p word of place is_held rest (subst (λ (at : ℕ). NoneReaches p (word ++ (bytes ++ rest)) at c.args.since) place clear) m occurs (omega (arith, ends, all, place));
     }

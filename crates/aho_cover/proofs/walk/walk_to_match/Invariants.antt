@@ -2,7 +2,7 @@
 use Rattle.std.proofs.Common.{◌≡◌, ◌+◌, ◌*◌, ◌<◌, ◌≤◌, ◌++◌, ℕ, List, [], take, length}
 use Rattle.aho_core.specs.Patterns.{Patterns}
 use Rattle.aho_core.specs.declared.search.Anchored.TheVariants.{No}
-use Rattle.aho_cover.specs.Walks.{IsClear}
+use Rattle.aho_cover.specs.Walks.{NoneReaches}
 use Rattle.aho_cover.proofs.walk.walk_to_match.Given as goal
 
 -- Over the same automaton:
@@ -22,5 +22,5 @@ invariant-loop-count g l =
       plain : (p : Patterns) (word : List ℕ) → g.A.Automaton.is_of automaton p → g.A.Automaton.held automaton p No word l.initial.sid → (k : ℕ) → 0 < k → k ≤ l.count
           → (sid : ℕ) × g.A.Automaton.held automaton p No (word ++ take k l.bytes) sid × (g.A.Automaton.list automaton sid ≡ []);
       quiet : 0 < l.count → g.A.Automaton.list automaton l.sid ≡ [];
-      clear : (p : Patterns) (word : List ℕ) → g.A.Automaton.is_of automaton p → length word ≡ l.at → g.A.Automaton.held automaton p No word l.initial.sid → (rest : List ℕ) → IsClear p (word ++ (l.bytes ++ rest)) l.at l.initial.since → IsClear p (word ++ (l.bytes ++ rest)) (l.at + l.count) l.since;
+      clear : (p : Patterns) (word : List ℕ) → g.A.Automaton.is_of automaton p → length word ≡ l.at → g.A.Automaton.held automaton p No word l.initial.sid → (rest : List ℕ) → NoneReaches p (word ++ (l.bytes ++ rest)) l.at l.initial.since → NoneReaches p (word ++ (l.bytes ++ rest)) (l.at + l.count) l.since;
     }

@@ -5,7 +5,7 @@ use Rattle.aho_core.specs.Replacement.{pieces_of}
 use Rattle.aho_cover.specs.declared.progress.CoverProgress.{CoverProgress}
 use Rattle.aho_cover.specs.Hand.{held_runs}
 use Rattle.aho_cover.specs.Progress.{ClearlyCovered, EndsHere, HasCovered, IsAll, IsBeginning, outside_end}
-use Rattle.aho_cover.specs.Walks.{IsClear}
+use Rattle.aho_cover.specs.Walks.{NoneReaches}
 use Rattle.aho_cover.specs.Writes.{WritesOn}
 use Rattle.aho_cover.proofs.Covered.{has-all}
 use Rattle.aho_cover.proofs.Sound.{none-left}
@@ -15,7 +15,7 @@ use Rattle.aho_cover.proofs.progress.CoverProgress.finish.Goals.{After-write_out
 use Rattle.aho_cover.proofs.progress.CoverProgress.finish.Goals as goal
 
 -- nothing ends behind the end
-clear_end : (p : Patterns) (haystack : List ℕ) (end place : ℕ) → length haystack ≡ end → IsClear p haystack end place
+clear_end : (p : Patterns) (haystack : List ℕ) (end place : ℕ) → length haystack ≡ end → NoneReaches p haystack end place
 clear_end p haystack end place ended m occurs later = absurd (omega (arith, occurs.before_end))
 
 pub returns-in_err-settle-clause-begins : goal.returns-in_err-settle-clause-begins
@@ -62,8 +62,8 @@ returns-clause-covers g c =
     let s = c.args.self.now in
     let pieces = pieces_of c.args.pieces.now in
     if_both c.write_outside.result _ _ _ (λ is more.
-    writes_still (EndsHere pieces s) (IsAll pieces) (λ p haystack written h. h) (all g d is) (writes_then (first g d) (writes_with (λ p haystack. length haystack ≡ s.read) more)))
-    c.write_outside.ensures.copied (c.write_outside.ensures.writes s.read pieces)
+    writes_still (EndsHere pieces s) (IsAll pieces) (λ p haystack written h. h) (all g d is) (writes_then (first g d) (writes_with (λ p haystack. length haystack ≡ s.read) (more s.read pieces))))
+    c.write_outside.ensures.copied c.write_outside.ensures.writes
 
 pub returns-clause-begins : goal.returns-clause-begins
 returns-clause-begins g c =
@@ -71,5 +71,5 @@ returns-clause-begins g c =
     let s = c.args.self.now in
     let pieces = pieces_of c.args.pieces.now in
     if_err c.write_outside.result _ _ (λ more.
-    writes_still (EndsHere pieces s) (IsBeginning pieces) (λ p haystack written h. h) (λ p haystack written h. h.0) (writes_then (first g d) (writes_with (λ p haystack. length haystack ≡ s.read) more)))
-    (c.write_outside.ensures.begins s.read pieces)
+    writes_still (EndsHere pieces s) (IsBeginning pieces) (λ p haystack written h. h) (λ p haystack written h. h.0) (writes_then (first g d) (writes_with (λ p haystack. length haystack ≡ s.read) (more s.read pieces))))
+    c.write_outside.ensures.begins

@@ -20,8 +20,8 @@ pub settle_one-requires : goal.settle_one-requires
 settle_one-requires g c = record { sound = (c.requires.sound.0, c.loop.invariant.sound c.requires.sound.0 c.requires.sound.1) }
 
 pub returns-in_err-settle_one-clause-begins : goal.returns-in_err-settle_one-clause-begins
-returns-in_err-settle_one-clause-begins g c = λ at.
-    on_err c.from_residual.result _ (writes_then (c.loop.invariant.writes at) (c.in_err-settle_one.ensures.begins at))
+returns-in_err-settle_one-clause-begins g c =
+    on_err c.from_residual.result _ (λ at. writes_then (c.loop.invariant.writes at) (c.in_err-settle_one.ensures.begins at))
 
 pub loop-preserved : goal.loop-preserved
 loop-preserved g c =

@@ -2,13 +2,13 @@
 use Rattle.std.proofs.Common.{◌≡◌, ℕ, ◌≤◌, max, length}
 use Rattle.aho_core.specs.Replacement.{pieces_of}
 use Rattle.aho_cover.specs.Hand.{held_runs}
-use Rattle.aho_cover.specs.Progress.{ClearlyCovered, IsSound}
+use Rattle.aho_cover.specs.Progress.{ClearlyCovered, IsSoundCover}
 use Rattle.aho_cover.specs.Writes.{WritesOn}
 use Rattle.aho_cover.proofs.progress.CoverProgress.settle.Given as goal
 
 abbrev pub invariant-loop : goal.invariant-loop
 invariant-loop g l = record {
-  sound : (at : ℕ) → IsSound l.initial.self at → IsSound l.self at;
+  sound : (at : ℕ) → IsSoundCover l.initial.self at → IsSoundCover l.self at;
   others : l.self ≡ record l.initial.self { copied = l.self.copied; hand = l.self.hand };
   copied : l.self.copied ≤ max l.initial.self.copied l.place;
   writes : (at : ℕ) → WritesOn g.W.Sink l.initial.sink l.sink (ClearlyCovered (pieces_of l.pieces) l.initial.self at l.place) (ClearlyCovered (pieces_of l.pieces) l.self at l.place);

@@ -6,7 +6,7 @@ use Rattle.aho_core.specs.Replacement.{pieces_of}
 use Rattle.aho_stream.specs.Replacing.{piece_for}
 use Rattle.aho_cover.specs.declared.hand.Hand.{Hand}
 use Rattle.aho_cover.specs.Hand.{held_runs}
-use Rattle.aho_cover.specs.Progress.{ClearlyCovered, HasCovered, IsGiven, IsSound}
+use Rattle.aho_cover.specs.Progress.{ClearlyCovered, HasCovered, IsGiven, IsSoundCover}
 use Rattle.aho_cover.proofs.Copied.{begins_shorter}
 use Rattle.aho_cover.proofs.Covered.{has-begun, has-settled}
 use Rattle.aho_cover.proofs.Sound.{first-lies, gap-held, sound-settled}
@@ -18,7 +18,7 @@ use Rattle.aho_cover.proofs.progress.CoverProgress.settle_one.Goals as goal
 pub returns-in_default-clause-sound : goal.returns-in_default-clause-sound
 returns-in_default-clause-sound g c = λ at sound.
     let s = c.args.self.now in
-    subst (λ (hand : Hand). IsSound (record s { hand = hand }) at) (sym (c.in_default.ensures.none refl).0) sound
+    subst (λ (hand : Hand). IsSoundCover (record s { hand = hand }) at) (sym (c.in_default.ensures.none refl).0) sound
 
 pub returns-in_default-clause-writes : goal.returns-in_default-clause-writes
 returns-in_default-clause-writes g c = λ at.
@@ -56,14 +56,14 @@ covered g c at copied p haystack written ends before =
     (has-settled p haystack (pieces_of c.args.pieces.now) s at c.args.place written run c.take_before.new.self copied before.0 c.in-Some.ensures.first.0 ends c.in-Some.ensures.first.1 before.1 lies.0 (omega (arith, lies)))
 
 pub returns-in_err-write_both-clause-begins : goal.returns-in_err-write_both-clause-begins
-returns-in_err-write_both-clause-begins g c = λ at.
+returns-in_err-write_both-clause-begins g c =
     let d = (goal.at.returns-in_err-write_both-clause-begins g c).After-write_both in
     let s = c.args.self.now in
     let sound = c.requires.sound in
     let run = c.in-Some.run' in
     let some = c.in_err-write_both.ensures.beginning in
     let after = sound-settled s sound.0 sound.1 run (held_runs c.take_before.new.self) c.in-Some.ensures.first.0 c.take_before.new.self run.end refl refl c.in-Some.ensures.whole c.in-Some.ensures.same_room in
-    on_err c.from_residual.result _ (record {
+    on_err c.from_residual.result _ (λ at. record {
       bytes = take some.0 (c.gap-gap.result.now ++ c.piece_of.result.now);
       appends = some.2;
       follows = λ p haystack written before.

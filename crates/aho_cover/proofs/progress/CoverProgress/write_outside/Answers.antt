@@ -2,7 +2,7 @@
 use Rattle.std.proofs.Common.{ℕ, max, List, ◌++◌, take, refl, sym, ap, subst, arith}
 use Rattle.aho_core.specs.Patterns.{Patterns}
 use Rattle.aho_cover.specs.Progress.{HasCovered, IsBeginning}
-use Rattle.aho_cover.specs.Walks.{IsClear}
+use Rattle.aho_cover.specs.Walks.{NoneReaches}
 use Rattle.aho_cover.proofs.Copied.{begins_shorter}
 use Rattle.aho_cover.proofs.Covered.{has-begun, has-copied}
 use Rattle.aho_cover.proofs.Sound.{outside-held, outside-within, sound-outside}
@@ -17,13 +17,13 @@ gap-requires-clause-held g c =
     λ some. outside-held c.args.self.now sound.0 sound.1 c.args.place (omega (arith, some, c.outside_end-end.ensures.end))
 
 -- what ends later begins behind its end
-clear_end : (g : Over) (c : After-outside_end-end g) (at : ℕ) (p : Patterns) (haystack : List ℕ) → IsClear p haystack at c.args.place → IsClear p haystack at c.outside_end-end.result
+clear_end : (g : Over) (c : After-outside_end-end g) (at : ℕ) (p : Patterns) (haystack : List ℕ) → NoneReaches p haystack at c.args.place → NoneReaches p haystack at c.outside_end-end.result
 clear_end g c at p haystack clear m occurs later =
     let sound = c.requires.sound in
     omega (arith, clear m occurs later, c.outside_end-end.ensures.end, outside-within c.args.self.now sound.0 sound.1 c.args.place)
 
 pub returns-in_err-write_whole-clause-begins : goal.returns-in_err-write_whole-clause-begins
-returns-in_err-write_whole-clause-begins g c = λ at pieces.
+returns-in_err-write_whole-clause-begins g c =
     let d = (goal.at.returns-in_err-write_whole-clause-begins g c).After-outside_end-end in
     let s = c.args.self.now in
     let end = c.outside_end-end.result in
@@ -31,7 +31,7 @@ returns-in_err-write_whole-clause-begins g c = λ at pieces.
     let sound = c.requires.sound in
     let copied = max s.copied end in
     let after = sound-outside s sound.0 sound.1 c.args.place copied sound.2 (ap (max s.copied) c.outside_end-end.ensures.end) in
-    on_err c.from_residual.result _ (record {
+    on_err c.from_residual.result _ (λ at pieces. record {
       bytes = take some.0 c.gap.result.now;
       appends = some.2;
       follows = λ p haystack written before.

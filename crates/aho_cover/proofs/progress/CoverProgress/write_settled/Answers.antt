@@ -4,7 +4,7 @@ use Rattle.aho_core.specs.Patterns.{Patterns}
 use Rattle.aho_core.specs.Replacement.{pieces_of}
 use Rattle.aho_cover.specs.declared.progress.CoverProgress.{CoverProgress}
 use Rattle.aho_cover.specs.Hand.{held_runs}
-use Rattle.aho_cover.specs.Progress.{BareFrom, ClearlyCovered, HasCovered, IsBeginning, IsSound, outside_end}
+use Rattle.aho_cover.specs.Progress.{BareFrom, ClearlyCovered, HasCovered, IsBeginning, IsSoundCover, outside_end}
 use Rattle.aho_cover.specs.Writes.{WritesOn}
 use Rattle.aho_cover.proofs.Covered.{has-open}
 use Rattle.aho_cover.proofs.Sound.{near-outside, open-within, sound-outside}
@@ -37,7 +37,7 @@ write_outside-requires g c = record {
 
 -- the bytes behind the runs are written
 after : (g : Over) (c : After-write_outside g) → c.write_outside.new.self ≡ record c.settle.new.self { copied = max c.settle.new.self.copied (outside_end c.open_place-open.result (held_runs c.settle.new.self.hand)) }
-    → IsSound c.write_outside.new.self c.args.at × BareFrom c.write_outside.new.self.copied (held_runs c.write_outside.new.self.hand) (c.args.at + 1 - c.args.self.now.buffer.least)
+    → IsSoundCover c.write_outside.new.self c.args.at × BareFrom c.write_outside.new.self.copied (held_runs c.write_outside.new.self.hand) (c.args.at + 1 - c.args.self.now.buffer.least)
 after g c is =
     let s = c.settle.new.self in
     let at = c.args.at in
@@ -46,7 +46,7 @@ after g c is =
     let copied = max s.copied (outside_end place (held_runs s.hand)) in
     let within : place ≤ at = omega (arith, open-within c.args.self.now at c.requires.sound, c.open_place-open.ensures.place) in
     let near = near-outside s at sound place c.in_ok-settle.ensures.last in (
-      subst (λ (s' : CoverProgress). IsSound s' at) (sym is) (sound-outside s at sound place copied within refl),
+      subst (λ (s' : CoverProgress). IsSoundCover s' at) (sym is) (sound-outside s at sound place copied within refl),
       subst (λ (s' : CoverProgress). BareFrom s'.copied (held_runs s'.hand) (at + 1 - c.args.self.now.buffer.least)) (sym is)
           (λ other low bare. omega (arith, near other low bare, c.open_place-open.ensures.place)),
     )
@@ -72,9 +72,9 @@ first g c =
 pub returns-clause-writes : goal.returns-clause-writes
 returns-clause-writes g c =
     let d = (goal.at.returns-clause-writes g c).After-write_outside in
-    if_ok c.write_outside.result _ _ (λ more. writes_then (first g d) more) (c.write_outside.ensures.writes c.args.at (pieces_of c.args.pieces.now))
+    if_ok c.write_outside.result _ _ (λ more. writes_then (first g d) (more c.args.at (pieces_of c.args.pieces.now))) c.write_outside.ensures.writes
 
 pub returns-clause-begins : goal.returns-clause-begins
 returns-clause-begins g c =
     let d = (goal.at.returns-clause-begins g c).After-write_outside in
-    if_err c.write_outside.result _ _ (λ more. writes_then (first g d) more) (c.write_outside.ensures.begins c.args.at (pieces_of c.args.pieces.now))
+    if_err c.write_outside.result _ _ (λ more. writes_then (first g d) (more c.args.at (pieces_of c.args.pieces.now))) c.write_outside.ensures.begins
