@@ -11,7 +11,7 @@ use Rattle.aho_devices.specs.Buffer.{Buffered}
 use Rattle.aho_automaton.specs.declared.automaton.Automaton.{Ghosts as Automata}
 use Rattle.aho_automaton.proofs.Places.{no_part}
 use Rattle.aho_cover.specs.declared.hand.Hand.{Hand}
-use Rattle.aho_cover.specs.Hand.{HoldsFirst, held_runs, room_in}
+use Rattle.aho_cover.specs.Hand.{HasItsFirst, held_runs, room_in}
 use Rattle.aho_cover.specs.Progress.{HasCovered, IsSoundCover, unbegun_cover}
 
 none-there : (runs : List Occurrence) (P : Occurrence → Type 0) → runs ≡ [] → (x : Occurrence) → IsMember runs x → P x
@@ -20,7 +20,7 @@ none-there runs P none x there = absurd (subst (λ (xs : List Occurrence). IsMem
 none-ordered : AreInOrder [] 0
 none-ordered = record { in_order = tt; full = λ x there. absurd there; within = λ x there. absurd there }
 
-pub begun-sound : (buffer : Buffered) (hand : Hand) (sid : ℕ) → 1 ≤ buffer.least → buffer.bytes ≡ [] → held_runs hand ≡ [] → HoldsFirst hand → room_in hand ≡ buffer.least / 2 + 1 → IsSoundCover (unbegun_cover buffer hand sid) 0
+pub begun-sound : (buffer : Buffered) (hand : Hand) (sid : ℕ) → 1 ≤ buffer.least → buffer.bytes ≡ [] → held_runs hand ≡ [] → HasItsFirst hand → room_in hand ≡ buffer.least / 2 + 1 → IsSoundCover (unbegun_cover buffer hand sid) 0
 begun-sound buffer hand sid some empty none whole room = record {
   small = omega arith;
   walked = omega arith;

@@ -9,7 +9,7 @@ use Rattle.aho_laws.proofs.CoverRuns.{in_order-rest, joined-has, joined-in_order
 use Rattle.aho_laws.proofs.SettledRuns.{few-joined}
 use Rattle.aho_cover.specs.declared.hand.Hand.{Hand}
 use Rattle.aho_cover.specs.declared.progress.CoverProgress.{CoverProgress}
-use Rattle.aho_cover.specs.Hand.{FirstEndsBehind, HoldsFirst, held_runs, room_in}
+use Rattle.aho_cover.specs.Hand.{FirstEndsBehind, HasItsFirst, held_runs, room_in}
 use Rattle.aho_cover.specs.Progress.{BareFrom, IsSoundCover, open_place, outside_end}
 use Rattle.aho_cover.proofs.Covered.{joined-start}
 
@@ -44,7 +44,7 @@ module _ (s : CoverProgress) (at : ℕ) (sound : IsSoundCover s at) where
         )
 
     -- once it is written
-    pub sound-settled : (hand : Hand) (copied : ℕ) → held_runs hand ≡ rest → copied ≡ x.end → HoldsFirst hand → room_in hand ≡ room_in s.hand → IsSoundCover (record s { copied = copied; hand = hand }) at
+    pub sound-settled : (hand : Hand) (copied : ℕ) → held_runs hand ≡ rest → copied ≡ x.end → HasItsFirst hand → room_in hand ≡ room_in s.hand → IsSoundCover (record s { copied = copied; hand = hand }) at
     sound-settled hand copied left ends whole room = record {
       small = sound.small;
       walked = sound.walked;
@@ -160,7 +160,7 @@ module _ (s : CoverProgress) (m : Occurrence) (sound : IsSoundCover s (m.end - 1
         few-joined (held_runs s.hand) (m.end - s.buffer.least) (m.end - 1) m sound.in_order (λ x there. omega (arith, all-behind s (m.end - 1) sound place last x there)) (omega arith) some,
       )
 
-  pub sound-joined : (hand : Hand) → held_runs hand ≡ joined_runs (held_runs s.hand) m → m.end ≤ s.read → s.copied ≤ m.start → HoldsFirst hand → room_in hand ≡ room_in s.hand → IsSoundCover (record s { hand = hand }) m.end
+  pub sound-joined : (hand : Hand) → held_runs hand ≡ joined_runs (held_runs s.hand) m → m.end ≤ s.read → s.copied ≤ m.start → HasItsFirst hand → room_in hand ≡ room_in s.hand → IsSoundCover (record s { hand = hand }) m.end
   sound-joined hand joined within behind whole room = record {
     small = sound.small;
     walked = within;

@@ -13,8 +13,8 @@ abbrev pub held_runs : Hand → List Occurrence
 held_runs hand = runs_from hand.first hand.rest.runs.items
 
 -- where there is no first run, there is none
-abbrev pub HoldsFirst : Hand → Type 0
-HoldsFirst hand = hand.first ≡ None → hand.rest.runs.items ≡ []
+abbrev pub HasItsFirst : Hand → Type 0
+HasItsFirst hand = hand.first ≡ None → hand.rest.runs.items ≡ []
 
 -- how many runs may stand behind the first
 abbrev pub room_in : Hand → ℕ

@@ -13,7 +13,7 @@ use Rattle.aho_stream.specs.After.{EndsWith, kept_for}
 use Rattle.aho_stream.specs.Replacing.{piece_for}
 use Rattle.aho_cover.specs.declared.hand.Hand.{Hand}
 use Rattle.aho_cover.specs.declared.progress.CoverProgress.{CoverProgress}
-use Rattle.aho_cover.specs.Hand.{HoldsFirst, first_start, held_runs, room_in}
+use Rattle.aho_cover.specs.Hand.{HasItsFirst, first_start, held_runs, room_in}
 use Rattle.aho_cover.specs.Walks.{NoneReaches}
 
 -- before the first byte
@@ -49,7 +49,7 @@ pub record IsSoundCover (s : CoverProgress) (at : ℕ) : Type 0 where
   pub in_order : AreInOrder (held_runs s.hand) at
   pub behind : (x : Occurrence) → IsMember (held_runs s.hand) x → s.copied ≤ x.start
   pub kept : BareFrom s.copied (held_runs s.hand) (s.read - length s.buffer.bytes)
-  pub whole : HoldsFirst s.hand
+  pub whole : HasItsFirst s.hand
   pub room : room_in s.hand ≡ s.buffer.least / 2 + 1
 
 -- the bytes given are the first of these, and the buffer holds the last of them

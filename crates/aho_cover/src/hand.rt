@@ -4,7 +4,7 @@ ghost use Rattle.std.specs.Prelude.{◌≡◌, ◌+◌, ◌/◌, ◌<◌, ◌≤
 ghost use Rattle.std.specs.VecDeque.{deque_capacity};
 ghost use Rattle.std.specs.Option.{option_map};
 ghost use Rattle.aho_laws.specs.CoverLaws.{AreInOrder, extended, joined_runs};
-ghost use Rattle.aho_cover.specs.Hand.{FirstEndsBehind, HoldsFirst, first_start, held_runs, room_in};
+ghost use Rattle.aho_cover.specs.Hand.{FirstEndsBehind, HasItsFirst, first_start, held_runs, room_in};
 
 use aho_automaton::open_runs::OpenRuns;
 use aho_core::search::{Match, Span};
@@ -49,7 +49,7 @@ impl Hand {
     /// Where the allocation of that room fails.
     pub(crate) fn new(alloc: Global, longest: usize) -> Result<Hand, AllocError>
         ensures none { IfOk result (λ hand. held_runs hand ≡ []) }
-        ensures whole { IfOk result HoldsFirst }
+        ensures whole { IfOk result HasItsFirst }
         ensures room { IfOk result (λ hand. room_in hand ≡ longest / 2 + 1) }
     {
         let rest = OpenRuns::new(alloc, longest)?;
@@ -58,7 +58,7 @@ impl Hand {
 
     /// Where the first run begins.
     pub(crate) fn start(&self) -> Option<usize>
-        requires whole { HoldsFirst self.now }
+        requires whole { HasItsFirst self.now }
         ensures start { result ≡ first_start (held_runs self.now) }
     {
         match &self.first {
@@ -69,12 +69,12 @@ impl Hand {
 
     /// Takes the first run, where it ends before a place.
     pub(crate) fn take_before(&mut self, place: usize) -> Option<Match>
-        requires whole { HoldsFirst self.old }
+        requires whole { HasItsFirst self.old }
         ensures first { IfSome result (λ run. (held_runs self.old ≡ run ∷ held_runs self.new)
             × (run.end < place)) }
         ensures none { result ≡ None → (self.new ≡ self.old)
             × FirstEndsBehind place (held_runs self.old) }
-        ensures whole { HoldsFirst self.new }
+        ensures whole { HasItsFirst self.new }
         ensures same_room { room_in self.new ≡ room_in self.old }
     {
         let Some(run) = self.first else {
@@ -89,12 +89,12 @@ impl Hand {
 
     /// Adds a match that ends behind all runs: those that it touches become one with it.
     pub(crate) fn add(&mut self, m: Match)
-        requires whole { HoldsFirst self.old }
+        requires whole { HasItsFirst self.old }
         requires in_order { AreInOrder (held_runs self.old) m.end }
         requires some { m.start < m.end }
         requires room { length (joined_runs (held_runs self.old) m) ≤ room_in self.old }
         ensures joined { held_runs self.new ≡ joined_runs (held_runs self.old) m }
-        ensures whole { HoldsFirst self.new }
+        ensures whole { HasItsFirst self.new }
         ensures same_room { room_in self.new ≡ room_in self.old }
     {
         let Some(run) = self.first else {

@@ -2,7 +2,7 @@
 
 ghost use Rattle.std.specs.Prelude.{◌≡◌, ◌+◌, ◌-◌, ◌<◌, ◌≤◌, ◌^◌, ℕ, List, OnErr, OnOk, Ok, length, max, slice_range, true, false};
 ghost use Rattle.aho_core.specs.Replacement.{pieces_of};
-ghost use Rattle.aho_cover.specs.Hand.{FirstEndsBehind, HoldsFirst, held_runs};
+ghost use Rattle.aho_cover.specs.Hand.{FirstEndsBehind, HasItsFirst, held_runs};
 ghost use Rattle.aho_cover.specs.Progress.{BareFrom, ClearlyCovered, EndsHere, EndsNext, HasCovered, IsAll, IsBeginning, IsGiven, IsSoundCover, open_place, outside_end, unbegun_cover};
 ghost use Rattle.aho_cover.specs.Settling.{Settles, StopsAt, StopsOutside, StopsSettling, WritesOutside};
 ghost use Rattle.aho_cover.specs.Writes.{TellsWrites, WritesOn};
@@ -140,7 +140,7 @@ impl CoverProgress {
 
     /// A place, or the start of the first run in hand, where that is before it.
     fn outside_end(&self, place: usize) -> usize
-        requires whole { HoldsFirst self.now.hand }
+        requires whole { HasItsFirst self.now.hand }
         ensures end { result ≡ outside_end place (held_runs self.now.hand) }
     {
         match self.hand.start() {

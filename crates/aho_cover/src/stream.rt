@@ -68,7 +68,9 @@ fn cover_from<A: Automaton, R: Source, W: Sink>(
 ///
 /// `Read` exactly where a read fails, `Write` where a write or a flush fails, `WriteZero` where a write of some bytes takes
 /// none, and `PositionLimit` where 2^63 - 1 bytes were given and the end was not seen. Nothing is tried again, and what was
-/// written then is a beginning of the cover, whatever bytes would have followed.
+/// written then is a beginning of the cover, whatever bytes would have followed. After `Read` and `PositionLimit` it is all of
+/// it up to a place: each byte that was given from there on lies in a match, or is among the last, as many as the longest
+/// pattern has.
 pub fn cover_stream<'a, A: Automaton, R: Source, W: Sink>(
     start: StreamCoverStart<'a, A>,
     source: &mut R,
