@@ -1,0 +1,55 @@
+-- A cover of a stream before the first byte.
+use Rattle.std.proofs.Common.{◌≡◌, ℕ, ◌+◌, ◌/◌, ◌≤◌, max, List, [], length, map, sym, ◌∙◌, ap, subst, arith}
+use Rattle.std.specs.Prelude.{slice_range}
+use Rattle.aho_core.specs.Laws.{longest}
+use Rattle.aho_core.specs.Listing.{IsMember}
+use Rattle.aho_core.specs.Occurrence.{Occurrence}
+use Rattle.aho_core.specs.Patterns.{Patterns}
+use Rattle.aho_core.specs.declared.search.Anchored.TheVariants.{No}
+use Rattle.aho_laws.specs.CoverLaws.{AreInOrder}
+use Rattle.aho_devices.specs.Buffer.{Buffered}
+use Rattle.aho_automaton.specs.declared.automaton.Automaton.{Ghosts as Automata}
+use Rattle.aho_automaton.proofs.Places.{no_part}
+use Rattle.aho_cover.specs.declared.hand.Hand.{Hand}
+use Rattle.aho_cover.specs.Hand.{HasItsFirst, held_runs, room_in}
+use Rattle.aho_cover.specs.Progress.{HasCovered, IsSoundCover, unbegun_cover}
+
+none-there : (runs : List Occurrence) (P : Occurrence → Type 0) → runs ≡ [] → (x : Occurrence) → IsMember runs x → P x
+none-there runs P none x there = absurd (subst (λ (xs : List Occurrence). IsMember xs x) none there)
+
+none-ordered : AreInOrder [] 0
+none-ordered = record { in_order = tt; full = λ x there. absurd there; within = λ x there. absurd there }
+
+pub begun-sound : (buffer : Buffered) (hand : Hand) (sid : ℕ) → 1 ≤ buffer.least → buffer.bytes ≡ [] → held_runs hand ≡ [] → HasItsFirst hand → room_in hand ≡ buffer.least / 2 + 1 → IsSoundCover (unbegun_cover buffer hand sid) 0
+begun-sound buffer hand sid some empty none whole room = record {
+  small = omega arith;
+  walked = omega arith;
+  some = some;
+  held = omega (arith, ap length empty);
+  unwalked = omega arith;
+  since_walked = omega arith;
+  copied_walked = omega arith;
+  in_order = subst (λ (runs : List Occurrence). AreInOrder runs 0) (sym none) none-ordered;
+  behind = none-there (held_runs hand) (λ x. 0 ≤ x.start) none;
+  kept = λ place low bare. omega arith;
+  whole = whole;
+  room = room;
+}
+
+pub begun-held : {A : Type 0} (G : Automata A) (a : A) (p : Patterns) (haystack : List ℕ) (sid : ℕ) → G.held a p No [] sid → G.held a p No (slice_range haystack 0 0) sid
+begun-held G a p haystack sid held = subst (λ (w : List ℕ). G.held a p No w sid) (sym (no_part haystack 0)) held
+
+pub begun-covered : (p : Patterns) (pieces : List (List ℕ)) (haystack : List ℕ) (buffer : Buffered) (hand : Hand) (sid : ℕ) → buffer.bytes ≡ [] → held_runs hand ≡ [] → buffer.least ≡ max 1 (longest (map length p.words))
+    → HasCovered pieces (unbegun_cover buffer hand sid) 0 p haystack []
+begun-covered p pieces haystack buffer hand sid empty none least = record {
+  given = record { within = omega arith; last = ([], no_part haystack 0 ∙ sym empty) };
+  walked_within = omega arith;
+  far = least;
+  since_clear = λ m occurs later. omega arith;
+  front = [];
+  runs = sym none;
+  settled = λ x there. absurd there;
+  before = λ x there. absurd there;
+  clear = λ m occurs later. omega arith;
+  written_is = sym (no_part haystack 0);
+}

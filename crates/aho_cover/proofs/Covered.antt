@@ -1,0 +1,208 @@
+-- How far the cover of a stream has come, from one run that is written to the next, and from one byte to the next.
+use Rattle.aho_laws.proofs.TextRuns.{upto-covers}
+use Rattle.aho_cover.specs.Covers.{covered_up_to}
+use Rattle.std.proofs.Common.{◌≡◌, inl, inr, ℕ, zero, suc, ◌+◌, ◌-◌, ◌<◌, ◌≤◌, max, List, [], ◌∷◌, ◌++◌, length, refl, sym, ◌∙◌, ap, subst, arith, append_assoc, append-nil}
+use Rattle.std.specs.Prelude.{nat_lt, slice_range}
+use Rattle.std.specs.Io.{StartsWith}
+use Rattle.std.proofs.lemmas.Bool.{cases_lt, cond-true, cond-false, lt-ltb, le-ltb}
+use Rattle.std.proofs.lemmas.List.{drop_all}
+use Rattle.aho_core.specs.declared.search.Anchored.TheVariants.{No}
+use Rattle.aho_core.specs.Listing.{IsMember}
+use Rattle.aho_core.specs.Occurrence.{Occurrence}
+use Rattle.aho_core.specs.Occurs.{Occurs}
+use Rattle.aho_core.specs.Overlapping.{occurrences_ending}
+use Rattle.aho_core.specs.Patterns.{Patterns}
+use Rattle.aho_core.specs.Replacement.{replaced_from}
+use Rattle.aho_laws.specs.CoverLaws.{joined_first, joined_runs, runs_upto, AreInOrder}
+use Rattle.aho_laws.proofs.CoverRuns.{member-of_joined}
+use Rattle.aho_laws.proofs.Listed.{member-of_append}
+use Rattle.aho_laws.proofs.Listings.{occurrences_ending-only}
+use Rattle.aho_laws.proofs.SettledRuns.{joined-behind, occurrence-near, in_order-last}
+use Rattle.aho_automaton.specs.Covering.{cover_in, runs_in}
+use Rattle.aho_stream.specs.Replacing.{piece_for}
+use Rattle.aho_cover.specs.declared.hand.Hand.{Hand}
+use Rattle.aho_cover.specs.declared.progress.CoverProgress.{CoverProgress}
+use Rattle.aho_cover.specs.Hand.{held_runs}
+use Rattle.aho_cover.specs.Progress.{HasCovered, IsAll, IsBeginning, copied_to, open_place}
+use Rattle.aho_cover.specs.Walks.{NoneReaches}
+use Rattle.aho_cover.proofs.Copied.{begins_with, copied-more, copied-rest, copied-run, nothing_between, covered-copied}
+
+-- each begins at a place or behind it
+abbrev pub BeginBehind : List Occurrence → ℕ → Type 0
+BeginBehind runs place = (x : Occurrence) → IsMember runs x → place ≤ x.start
+
+-- what is joined begins no sooner
+pub joined-start : (runs : List Occurrence) (m : Occurrence) (place : ℕ) → BeginBehind runs place → place ≤ m.start → BeginBehind (joined_runs runs m) place
+joined-start runs m place behind low x there =
+    elim (member-of_joined runs m x there) [
+      | inl kept ↦ behind x kept.0
+      | inr last ↦ elim last.1 [
+        | inl own ↦ omega (arith, own.0)
+        | inr other ↦ omega (arith, behind other.1.0 other.1.1, other.1.3)
+      ]
+    ]
+
+module _ (p : Patterns) (haystack : List ℕ) where
+  -- each is clear
+  abbrev pub AreClear : List Occurrence → ℕ → Type 0
+  AreClear runs at = (x : Occurrence) → IsMember runs x → NoneReaches p haystack at (x.end + 1)
+
+  -- what nothing can touch stays, and what comes behind a clear place begins there or later
+  stays : (n : ℕ) (front rest : List Occurrence) (at place : ℕ) → runs_upto p haystack at ≡ front ++ rest → AreClear front at → NoneReaches p haystack at place → BeginBehind rest place → at + n ≤ length haystack
+      → (later : List Occurrence) × (runs_upto p haystack (at + n) ≡ front ++ later) × BeginBehind later place
+  stays zero front rest at place is settled clear behind within = let same : at + 0 ≡ at = omega arith in (rest, ap (runs_upto p haystack) same ∙ is, behind)
+  stays (suc n) front rest at place is settled clear behind within =
+      let before = stays n front rest at place is settled clear behind (omega arith) in
+      let next : at + suc n ≡ suc (at + n) = omega arith in
+      let more = one_more (occurrences_ending p haystack 0 (suc (at + n))) (λ m there. occurrences_ending-only p haystack 0 (suc (at + n)) m (omega arith) there) before.0 before.2 in
+      (more.0, ap (runs_upto p haystack) next ∙ ap (λ (runs : List Occurrence). joined_first runs (occurrences_ending p haystack 0 (suc (at + n)))) before.1 ∙ more.1, more.2)
+    where
+      one_more : (list : List Occurrence) → ((m : Occurrence) → IsMember list m → Occurs p No haystack 0 (suc (at + n)) m × (m.end ≡ suc (at + n))) → (runs : List Occurrence) → BeginBehind runs place
+          → (later : List Occurrence) × (joined_first (front ++ runs) list ≡ front ++ later) × BeginBehind later place
+      one_more [] only runs low = (runs, refl, low)
+      one_more (m ∷ ms) only runs low =
+          let first = only m (inl refl) in
+          let here : Occurs p No haystack 0 (length haystack) m = record { numbered = first.0.numbered; after_start = first.0.after_start; before_end = omega (arith, first.1); sized = first.0.sized; same = first.0.same; admitted = λ e. cc } in
+          elim (cases_lt m.start m.end) [
+            | inl some ↦ (
+              joined_runs runs m,
+              cond-true (nat_lt m.start m.end) (joined_runs (front ++ runs) m) (front ++ runs) (lt-ltb m.start m.end some)
+                  ∙ joined-behind front runs m (λ x there. omega (arith, settled x there m here (omega (arith, first.1)))),
+              joined-start runs m place low (clear m here (omega (arith, first.1))),
+            )
+            | inr empty ↦ (runs, cond-false (nat_lt m.start m.end) (joined_runs (front ++ runs) m) (front ++ runs) (le-ltb m.start m.end empty), low)
+          ]
+
+  -- where nothing ends, the runs stay
+  pub still-runs : (n at : ℕ) → ((k : ℕ) → at < k → k ≤ at + n → occurrences_ending p haystack 0 k ≡ []) → runs_upto p haystack (at + n) ≡ runs_upto p haystack at
+  still-runs zero at none = let same : at + 0 ≡ at = omega arith in ap (runs_upto p haystack) same
+  still-runs (suc n) at none =
+      let next : at + suc n ≡ suc (at + n) = omega arith in
+      ap (runs_upto p haystack) next
+      ∙ ap (joined_first (runs_upto p haystack (at + n))) (none (suc (at + n)) (omega arith) (omega arith))
+      ∙ still-runs n at (λ k low high. none k low (omega arith))
+
+  module _ (pieces : List (List ℕ)) where
+    abbrev Has : CoverProgress → ℕ → List ℕ → Type 0
+    Has s at written = HasCovered pieces s at p haystack written
+
+    -- the runs of the whole are those that were written, and others behind them
+    pub has-runs : (s : CoverProgress) (at : ℕ) (written : List ℕ) (has : Has s at written) → BeginBehind (held_runs s.hand) s.copied
+        → (later : List Occurrence) × (runs_in p haystack ≡ has.front ++ later) × BeginBehind later s.copied
+    has-runs s at written has behind =
+        let within : at ≤ length haystack = omega (arith, has.walked_within, has.given.within) in
+        let place : at + (length haystack - at) ≡ length haystack = omega arith in
+        let all = stays (length haystack - at) has.front (held_runs s.hand) at s.copied has.runs has.settled has.clear behind (omega arith) in
+        (all.0, ap (runs_upto p haystack) (sym place) ∙ all.1, all.2)
+
+    -- so what was written is the cover up to there
+    pub has-upto : (s : CoverProgress) (at : ℕ) (written : List ℕ) → Has s at written → BeginBehind (held_runs s.hand) s.copied → covered_up_to haystack s.copied 0 (runs_in p haystack) (piece_for pieces) ≡ written
+    has-upto s at written has behind =
+        let all = has-runs s at written has behind in
+        let ordered = in_order-last has.front all.0 (length haystack) (subst (λ (runs : List Occurrence). AreInOrder runs (length haystack)) all.1 (upto-covers p haystack (length haystack) (omega arith)).ordered) in
+        ap (λ (runs : List Occurrence). covered_up_to haystack s.copied 0 runs (piece_for pieces)) all.1
+        ∙ covered-copied haystack (piece_for pieces) 0 has.front all.0 s.copied has.before (λ x there. (all.2 x there, ordered.full x there))
+        ∙ sym has.written_is
+
+    -- what was written begins the cover
+    pub has-begun : (s : CoverProgress) (at : ℕ) (written : List ℕ) → Has s at written → BeginBehind (held_runs s.hand) s.copied → IsBeginning pieces p haystack written
+    has-begun s at written has behind =
+        let all = has-runs s at written has behind in
+        let cover : cover_in p haystack pieces ≡ written ++ replaced_from haystack s.copied all.0 (piece_for pieces) =
+        ap (λ (runs : List Occurrence). replaced_from haystack 0 runs (piece_for pieces)) all.1
+        ∙ copied-rest haystack (piece_for pieces) 0 has.front all.0 s.copied (omega arith) has.before all.2
+        ∙ ap (λ (xs : List ℕ). xs ++ replaced_from haystack s.copied all.0 (piece_for pieces)) (sym has.written_is) in
+        subst (λ (xs : List ℕ). StartsWith xs written) (sym cover) (begins_with written (replaced_from haystack s.copied all.0 (piece_for pieces)))
+
+    -- at the end, with none in hand and all copied, it is the cover
+    pub has-all : (s : CoverProgress) (written : List ℕ) → Has s s.read written → length haystack ≡ s.read → held_runs s.hand ≡ [] → s.copied ≡ s.read → IsAll pieces p haystack written
+    has-all s written has ended none all =
+        let whole : runs_in p haystack ≡ has.front ++ [] = ap (runs_upto p haystack) ended ∙ has.runs ∙ ap (λ (runs : List Occurrence). has.front ++ runs) none in
+        let nothing : replaced_from haystack s.copied [] (piece_for pieces) ≡ [] = drop_all s.copied haystack (omega (arith, ended, all)) in
+        sym (ap (λ (runs : List Occurrence). replaced_from haystack 0 runs (piece_for pieces)) whole
+        ∙ copied-rest haystack (piece_for pieces) 0 has.front [] s.copied (omega arith) has.before (λ x there. absurd there)
+        ∙ ap (λ (xs : List ℕ). copied_to haystack 0 has.front (piece_for pieces) s.copied ++ xs) nothing
+        ∙ append-nil (copied_to haystack 0 has.front (piece_for pieces) s.copied)
+        ∙ sym has.written_is)
+
+    -- the first run in hand is written, and the bytes in front of it
+    pub has-settled : (s : CoverProgress) (at place : ℕ) (written : List ℕ) (x : Occurrence) (hand : Hand) (copied : ℕ) → Has s at written → held_runs s.hand ≡ x ∷ held_runs hand → copied ≡ x.end → x.end < place
+        → NoneReaches p haystack at place → s.copied ≤ x.start → x.start ≤ x.end
+        → Has (record s { copied = copied; hand = hand }) at (written ++ (slice_range haystack s.copied x.start ++ piece_for pieces x))
+    has-settled s at place written x hand copied has first ends before clear behind ordered = record {
+      given = record { within = has.given.within; last = has.given.last };
+      walked_within = has.walked_within;
+      far = has.far;
+      since_clear = has.since_clear;
+      front = has.front ++ x ∷ [];
+      runs = has.runs ∙ ap (λ (runs : List Occurrence). has.front ++ runs) first ∙ sym (append_assoc has.front (x ∷ []) (held_runs hand));
+      settled = λ y there. elim (member-of_append has.front (x ∷ []) y there) [
+        | inl early ↦ has.settled y early
+        | inr here ↦ λ m occurs later. elim here [ inl e ↦ omega (arith, ap (λ (o : Occurrence). o.end) e, clear m occurs later) | inr none ↦ absurd none ]
+      ];
+      before = λ y there. elim (member-of_append has.front (x ∷ []) y there) [
+        | inl early ↦ omega (arith, has.before y early)
+        | inr here ↦ elim here [ inl e ↦ omega (arith, ap (λ (o : Occurrence). o.end) e) | inr none ↦ absurd none ]
+      ];
+      clear = λ m occurs later. omega (arith, clear m occurs later);
+      written_is = ap (λ (xs : List ℕ). xs ++ (slice_range haystack s.copied x.start ++ piece_for pieces x)) has.written_is
+          ∙ sym (copied-run haystack (piece_for pieces) 0 has.front x s.copied (omega arith) has.before behind)
+          ∙ ap (copied_to haystack 0 (has.front ++ x ∷ []) (piece_for pieces)) (sym ends);
+    }
+
+    -- bytes are written that no run holds
+    pub has-copied : (s : CoverProgress) (at : ℕ) (written : List ℕ) (end copied : ℕ) → Has s at written → copied ≡ max s.copied end → NoneReaches p haystack at end
+        → Has (record s { copied = copied }) at (written ++ slice_range haystack s.copied end)
+    has-copied s at written end copied has most clear = record {
+      given = record { within = has.given.within; last = has.given.last };
+      walked_within = has.walked_within;
+      far = has.far;
+      since_clear = has.since_clear;
+      front = has.front;
+      runs = has.runs;
+      settled = has.settled;
+      before = λ y there. omega (arith, has.before y there);
+      clear = λ m occurs later. omega (arith, clear m occurs later, has.clear m occurs later);
+      written_is = ap (λ (xs : List ℕ). xs ++ slice_range haystack s.copied end) has.written_is
+          ∙ elim (cases_lt s.copied end) [
+            | inl behind ↦
+                (let all : copied ≡ end = omega arith in
+                sym (copied-more haystack (piece_for pieces) 0 has.front s.copied end (omega arith) has.before (omega arith))
+                ∙ ap (copied_to haystack 0 has.front (piece_for pieces)) (sym all))
+            | inr past ↦
+                (let all : copied ≡ s.copied = omega arith in
+                ap (λ (xs : List ℕ). copied_to haystack 0 has.front (piece_for pieces) s.copied ++ xs) (nothing_between haystack s.copied end past)
+                ∙ append-nil (copied_to haystack 0 has.front (piece_for pieces) s.copied)
+                ∙ ap (copied_to haystack 0 has.front (piece_for pieces)) (sym all))
+          ];
+    }
+
+    -- what ends later begins behind the open place
+    pub has-open : (s : CoverProgress) (at : ℕ) (written : List ℕ) → Has s at written → NoneReaches p haystack at (open_place s at)
+    has-open s at written has m occurs later = omega (arith, has.since_clear m occurs later, occurrence-near p haystack m 0 (length haystack) occurs, has.far)
+
+    -- a match is joined, once its last byte was walked
+    pub has-joined : (s : CoverProgress) (m : Occurrence) (hand : Hand) (written : List ℕ) → Has s (m.end - 1) written → (others : List Occurrence) → occurrences_ending p haystack 0 m.end ≡ m ∷ others
+        → m.start < m.end → m.end ≤ s.read → held_runs hand ≡ joined_runs (held_runs s.hand) m → Has (record s { hand = hand }) m.end written
+    has-joined s m hand written has others ends some within joined =
+        let next : m.end ≡ suc (m.end - 1) = omega arith in
+        let here : IsMember (occurrences_ending p haystack 0 m.end) m = subst (λ (list : List Occurrence). IsMember list m) (sym ends) (inl refl) in
+        let last = occurrences_ending-only p haystack 0 m.end m (omega (arith, has.given.within)) here in
+        let occurs : Occurs p No haystack 0 (length haystack) m = record { numbered = last.0.numbered; after_start = last.0.after_start; before_end = omega (arith, last.1, has.given.within); sized = last.0.sized; same = last.0.same; admitted = λ e. cc } in
+        record {
+          given = record { within = has.given.within; last = has.given.last };
+          walked_within = within;
+          far = has.far;
+          since_clear = λ n o later. has.since_clear n o (omega arith);
+          front = has.front;
+          runs = ap (runs_upto p haystack) next
+              ∙ ap (joined_first (runs_upto p haystack (m.end - 1))) (ap (occurrences_ending p haystack 0) (sym next) ∙ ends)
+              ∙ cond-true (nat_lt m.start m.end) (joined_runs (runs_upto p haystack (m.end - 1)) m) (runs_upto p haystack (m.end - 1)) (lt-ltb m.start m.end some)
+              ∙ ap (λ (runs : List Occurrence). joined_runs runs m) has.runs
+              ∙ joined-behind has.front (held_runs s.hand) m (λ x there. omega (arith, has.settled x there m occurs (omega arith)))
+              ∙ ap (λ (runs : List Occurrence). has.front ++ runs) (sym joined);
+          settled = λ x there n o later. has.settled x there n o (omega arith);
+          before = has.before;
+          clear = λ n o later. has.clear n o (omega arith);
+          written_is = has.written_is;
+        }

@@ -1,0 +1,303 @@
+-- How far the cover of a stream has come, from one read to the next.
+use Rattle.aho_cover.specs.Hand.{held_runs}
+use Rattle.aho_core.specs.Occurs.{Occurs}
+use Rattle.aho_core.specs.Listing.{IsMember}
+use Rattle.aho_core.specs.declared.search.Anchored.TheVariants.{No}
+use Rattle.aho_laws.proofs.Listed.{member-right}
+use Rattle.std.proofs.Common.{◌≡◌, ℕ, ◌-◌, Bool, true, false, List, [], ◌++◌, length, take, refl, sym, ◌∙◌, ap, subst, arith, append_assoc, append-nil, length-append, ◌∷◌}
+use Rattle.std.specs.Prelude.{Result, Ok, Err, IfErr, IsErrAnd, OnErr, OnOk, slice_range}
+use Rattle.std.specs.Io.{StartsWith}
+use Rattle.std.specs.Io.KnownBytes.{Appends, Keeps}
+use Rattle.std.proofs.KnownBytes.{Appends-kept, Appends-nil, Appends-trans, Consumes-nil, Consumes-trans}
+use Rattle.std.proofs.lemmas.List.{take-append-le, take_all}
+use Rattle.aho_core.specs.declared.error.stream.StreamError.{StreamError}
+use Rattle.aho_core.specs.declared.error.stream.StreamError.TheVariants.{Match as Refused, Read, Write, WriteZero, Memory, PositionLimit}
+use Rattle.aho_core.specs.Cover.{IsCover, IsCovered}
+use Rattle.aho_core.specs.Occurrence.{Occurrence}
+use Rattle.aho_core.specs.Patterns.{Patterns}
+use Rattle.aho_core.specs.Replacement.{replaced}
+use Rattle.aho_laws.proofs.TextRuns.{runs-are, runs-made, upto-covers}
+use Rattle.aho_devices.specs.Counts.{counted}
+use Rattle.aho_devices.specs.Refusals.{IsWriteRefusal}
+use Rattle.aho_devices.specs.declared.device.Sink.{Ghosts as SinkGhosts}
+use Rattle.aho_devices.specs.declared.device.Source.{Ghosts as SourceGhosts}
+use Rattle.aho_automaton.specs.Covering.{cover_in, runs_in}
+use Rattle.aho_automaton.specs.declared.automaton.Automaton.{Ghosts as Automata}
+use Rattle.aho_stream.specs.After.{EndsWith, greatest_position}
+use Rattle.aho_stream.specs.Refills.{is_limit}
+use Rattle.aho_stream.specs.Replacing.{GaveAsMany, IsMakingRefusal, SourceGave, piece_for}
+use Rattle.aho_cover.specs.declared.progress.CoverProgress.{CoverProgress}
+use Rattle.aho_cover.specs.Covers.{BeginsCovering, CoversStream, LeavesCovered, CoversStreamUpTo, covered_up_to}
+use Rattle.aho_cover.specs.Progress.{EndsHere, HasCovered, IsAll, IsBeginning, IsGiven, IsSoundCover}
+use Rattle.aho_cover.specs.Refilling.{TakesIn}
+use Rattle.aho_cover.specs.Steps.{CoversOn, MayRoll}
+use Rattle.aho_cover.specs.Writes.{WritesOn}
+use Rattle.aho_cover.proofs.Covered.{has-begun, has-upto}
+
+-- a list of no length
+no_items : (xs : List ℕ) → length xs ≡ 0 → xs ≡ []
+no_items [] none = refl
+no_items (x ∷ xs) none = absurd (omega (arith, none))
+
+-- the error of a call that is passed on
+pub err_passed : {X E : Type 0} (result : Result X E) (error : E) → IsErrAnd result (λ e. e ≡ error) → result ≡ Err error
+err_passed (Ok x) error is = absurd is
+err_passed (Err e) error is = ap Err is
+
+-- the cover of a text is what is computed
+cover_is : (p : Patterns) (haystack output : List ℕ) (pieces : List (List ℕ)) → IsCover p haystack pieces output → output ≡ cover_in p haystack pieces
+cover_is p haystack output pieces (runs, are, is) = is ∙ ap (λ (xs : List Occurrence). replaced haystack xs pieces) (runs-are p haystack runs are)
+
+is_cover : (p : Patterns) (haystack output : List ℕ) (pieces : List (List ℕ)) → IsAll pieces p haystack output → IsCover p haystack pieces output
+is_cover p haystack output pieces all = (runs_in p haystack, runs-made p haystack, all)
+
+-- the first bytes of a text that goes on
+first_part : (given more : List ℕ) (n : ℕ) → n ≡ length given → slice_range (given ++ more) 0 n ≡ given
+first_part given more n long =
+    let count : n - 0 ≡ length given = omega (arith, long) in
+    ap (λ (k : ℕ). take k (given ++ more)) count ∙ take-append-le (length given) given more (omega arith) ∙ take_all (length given) given (omega arith)
+
+module _ {A R W : Type 0} (G : Automata A) (S : SourceGhosts R) (K : SinkGhosts W) (a : A) (pieces : List (List ℕ)) (first : R) (begun : W) where
+  -- so much was given and written
+  pub record Going (s : CoverProgress) (source : R) (sink : W) : Type 0 where
+    pub given : List ℕ
+    pub written : List ℕ
+    pub gives : SourceGave S first source given false
+    pub writes : Appends (K.taken begun) (K.taken sink) written
+    pub count : s.read ≡ length given
+    pub covers : (p : Patterns) (more : List ℕ) → G.is_of a p → CoversOn G a pieces s s.read p (given ++ more) written
+
+  abbrev Begins : R → W → Type 0
+  Begins source sink = BeginsCovering S K (G.is_of a) pieces first source begun sink
+
+  -- nothing was given yet
+  pub going_first : (s : CoverProgress) → s.read ≡ 0 → ((p : Patterns) (haystack : List ℕ) → G.is_of a p → CoversOn G a pieces s 0 p haystack []) → Going s first begun
+  going_first s unread covers = record {
+    given = [];
+    written = [];
+    gives = record { bytes = Consumes-nil (S.remaining first); end = refl };
+    writes = Appends-nil (K.taken begun);
+    count = unread;
+    covers = λ p more of. subst (λ (n : ℕ). CoversOn G a pieces s n p more []) (sym unread) (covers p more of);
+  }
+
+  -- the sink has what it had
+  pub going_kept : (s : CoverProgress) (source : R) (sink sink' : W) → Going s source sink → Keeps (K.taken sink) (K.taken sink') → Going s source sink'
+  going_kept s source sink sink' going kept = record {
+    given = going.given;
+    written = going.written;
+    gives = going.gives;
+    writes = Appends-kept (K.taken begun) (K.taken sink) (K.taken sink') going.written going.writes kept;
+    count = going.count;
+    covers = going.covers;
+  }
+
+  -- what was written begins the cover
+  pub going_begins : (s : CoverProgress) (source : R) (sink : W) → Going s source sink → IsSoundCover s s.read → Begins source sink
+  going_begins s source sink going sound = record {
+    given = going.given;
+    ended = false;
+    gives = going.gives;
+    written = going.written;
+    writes = going.writes;
+    beginning = λ p bytes output of may cover.
+        let whole : bytes ≡ going.given ++ may.0 = may.1 in
+        let starts = has-begun p (going.given ++ may.0) pieces s s.read going.written (going.covers p may.0 of).covered sound.behind in
+        subst (λ (xs : List ℕ). StartsWith xs going.written) (sym (cover_is p bytes output pieces cover ∙ ap (λ (h : List ℕ). cover_in p h pieces) whole)) starts;
+  }
+
+  -- one read more, of a progress that takes in what it gives
+  module _ (s s' : CoverProgress) (source source' : R) (sink : W) (going : Going s source sink) (takes : TakesIn s s' (S.remaining source) (S.remaining source')) where
+    abbrev given_now : List ℕ
+    given_now = going.given ++ takes.bytes
+
+    pub gives_more : (ended : Bool) → S.empty_reads source' ≡ counted ended (S.empty_reads source) → SourceGave S first source' given_now ended
+    gives_more ended counts = record {
+      bytes = Consumes-trans (S.remaining first) (S.remaining source) (S.remaining source') going.given takes.bytes going.gives.bytes takes.given;
+      end = counts ∙ ap (counted ended) going.gives.end;
+    }
+
+    pub count_more : s'.read ≡ length given_now
+    count_more = omega (arith, takes.count, going.count, length-append going.given takes.bytes)
+
+    -- the same was covered
+    pub covers_more : (p : Patterns) (more : List ℕ) → G.is_of a p → CoversOn G a pieces s' s.read p (given_now ++ more) going.written
+    covers_more p more of =
+        let before = subst (λ (h : List ℕ). CoversOn G a pieces s s.read p h going.written) (sym (append_assoc going.given takes.bytes more)) (going.covers p (takes.bytes ++ more) of) in
+        let has = before.covered in
+        let h = given_now ++ more in
+        let ends = subst (λ (xs : List ℕ). EndsWith xs s.buffer.bytes) (ap (λ (xs : List ℕ). slice_range xs 0 s.read) (append_assoc going.given takes.bytes more) ∙ first_part going.given (takes.bytes ++ more) s.read going.count) has.given.last in
+        let given : IsGiven s' h = record {
+          within = omega (arith, count_more, length-append given_now more);
+          last = subst (λ (xs : List ℕ). EndsWith xs s'.buffer.bytes) (sym (first_part given_now more s'.read count_more)) (takes.last going.given ends);
+        } in
+        let next : CoverProgress = record s { buffer = s'.buffer; read = s'.read } in
+        subst (λ (t : CoverProgress). CoversOn G a pieces t s.read p h going.written) (sym takes.others)
+        (record {
+          of = of;
+          is_held = before.is_held;
+          covered = record {
+            given = record { within = given.within; last = given.last };
+            walked_within = omega (arith, takes.count);
+            far = omega (arith, has.far, takes.least);
+            since_clear = has.since_clear;
+            front = has.front;
+            runs = has.runs;
+            settled = has.settled;
+            before = has.before;
+            clear = has.clear;
+            written_is = has.written_is;
+          };
+        })
+
+    -- a call that reads fails: what was written before begins the cover
+    pub begins_more : (sink' : W) → Appends (K.taken begun) (K.taken sink') going.written → IsSoundCover s s.read → S.empty_reads source' ≡ counted false (S.empty_reads source) → Begins source' sink'
+    begins_more sink' writes sound counts = record {
+      given = given_now;
+      ended = false;
+      gives = gives_more false counts;
+      written = going.written;
+      writes = writes;
+      beginning = λ p bytes output of may cover.
+          let whole : bytes ≡ going.given ++ (takes.bytes ++ may.0) = may.1 ∙ append_assoc going.given takes.bytes may.0 in
+          let starts = has-begun p (going.given ++ (takes.bytes ++ may.0)) pieces s s.read going.written (going.covers p (takes.bytes ++ may.0) of).covered sound.behind in
+          subst (λ (xs : List ℕ). StartsWith xs going.written) (sym (cover_is p bytes output pieces cover ∙ ap (λ (h : List ℕ). cover_in p h pieces) whole)) starts;
+    }
+
+    module _ (sink' : W) (s'' : CoverProgress) (writes : WritesOn K sink sink' (CoversOn G a pieces s' s.read) (CoversOn G a pieces s'' s''.read)) (read : s''.read ≡ s'.read) (counts : S.empty_reads source' ≡ counted false (S.empty_reads source)) where
+      -- it was walked over
+      pub going_on : Going s'' source' sink'
+      going_on = record {
+        given = given_now;
+        written = going.written ++ writes.bytes;
+        gives = gives_more false counts;
+        writes = Appends-trans (K.taken begun) (K.taken sink) (K.taken sink') going.written writes.bytes going.writes writes.appends;
+        count = read ∙ count_more;
+        covers = λ p more of. writes.follows p (given_now ++ more) going.written (covers_more p more of);
+      }
+
+    -- a write fails on the way
+    pub begins_on : (sink' : W) → WritesOn K sink sink' (CoversOn G a pieces s' s.read) (IsBeginning pieces) → S.empty_reads source' ≡ counted false (S.empty_reads source) → Begins source' sink'
+    begins_on sink' writes counts = record {
+      given = given_now;
+      ended = false;
+      gives = gives_more false counts;
+      written = going.written ++ writes.bytes;
+      writes = Appends-trans (K.taken begun) (K.taken sink) (K.taken sink') going.written writes.bytes going.writes writes.appends;
+      beginning = λ p bytes output of may cover.
+          let starts = writes.follows p (given_now ++ may.0) going.written (covers_more p may.0 of) in
+          subst (λ (xs : List ℕ). StartsWith xs (going.written ++ writes.bytes)) (sym (cover_is p bytes output pieces cover ∙ ap (λ (h : List ℕ). cover_in p h pieces) may.1)) starts;
+    }
+
+    -- the end was seen
+    module _ (same : s'.read ≡ s.read) (counts : S.empty_reads source' ≡ counted true (S.empty_reads source)) where
+      ends_here : (p : Patterns) → G.is_of a p → EndsHere pieces s' p given_now going.written
+      ends_here p of =
+          let covered = (subst (λ (h : List ℕ). CoversOn G a pieces s' s.read p h going.written) (append-nil given_now) (covers_more p [] of)).covered in
+          (subst (λ (n : ℕ). HasCovered pieces s' n p given_now going.written) (sym same) covered, sym count_more)
+
+      pub covers_all : (sink' : W) → WritesOn K sink sink' (EndsHere pieces s') (IsAll pieces) → CoversStream S K (G.is_of a) pieces first source' begun sink'
+      covers_all sink' writes = record {
+        given = given_now;
+        gives = gives_more true counts;
+        output = going.written ++ writes.bytes;
+        writes = Appends-trans (K.taken begun) (K.taken sink) (K.taken sink') going.written writes.bytes going.writes writes.appends;
+        covers = λ p of. is_cover p given_now (going.written ++ writes.bytes) pieces (writes.follows p given_now going.written (ends_here p of));
+      }
+
+      pub begins_end : (sink' : W) → WritesOn K sink sink' (EndsHere pieces s') (IsBeginning pieces) → Begins source' sink'
+      begins_end sink' writes = record {
+        given = given_now;
+        ended = true;
+        gives = gives_more true counts;
+        written = going.written ++ writes.bytes;
+        writes = Appends-trans (K.taken begun) (K.taken sink) (K.taken sink') going.written writes.bytes going.writes writes.appends;
+        beginning = λ p bytes output of may cover.
+            let whole : bytes ≡ given_now = may.1 ∙ ap (λ (xs : List ℕ). given_now ++ xs) may.2 ∙ append-nil given_now in
+            let starts = writes.follows p given_now going.written (ends_here p of) in
+            subst (λ (xs : List ℕ). StartsWith xs (going.written ++ writes.bytes)) (sym (cover_is p bytes output pieces cover ∙ ap (λ (h : List ℕ). cover_in p h pieces) whole)) starts;
+      }
+
+    -- nothing was given by a read that fails
+    given_same : s'.read ≡ s.read → given_now ≡ going.given
+    given_same same = ap (λ (xs : List ℕ). going.given ++ xs) (no_items takes.bytes (omega (arith, takes.count, same))) ∙ append-nil going.given
+
+    -- what was written then is the cover up to a place, and few bytes are left out that lie in no match
+    pub upto_more : (sink' : W) → Appends (K.taken begun) (K.taken sink') going.written → IsSoundCover s s.read → MayRoll s → s'.read ≡ s.read → S.empty_reads source' ≡ counted false (S.empty_reads source)
+        → CoversStreamUpTo S K (G.is_of a) pieces first source' begun sink'
+    upto_more sink' writes sound near same counts = record {
+      given = given_now;
+      ended = false;
+      gives = gives_more false counts;
+      place = s.copied;
+      within = omega (arith, sound.copied_walked, count_more, same);
+      near = λ p at of low bare.
+          let has = (subst (λ (h : List ℕ). CoversOn G a pieces s s.read p h going.written) (append-nil going.given ∙ sym (given_same same)) (going.covers p [] of)).covered in
+          let runs = upto-covers p given_now s.read (omega (arith, count_more, same)) in
+          let long : s.read ≡ length given_now = sym same ∙ count_more in
+          let rolls = near at low (λ c.
+          let there = subst (λ (xs : List Occurrence). IsMember xs c.found) (sym has.runs) (member-right has.front (held_runs s.hand) c.found c.member) in
+          bare (subst (λ (end : ℕ). IsCovered (λ m. Occurs p No given_now 0 end m) at) long (runs.only at (record { found = c.found; member = there; after_start = c.after_start; before_end = c.before_end })))) in
+          omega (arith, rolls, has.far, long);
+      writes = λ p bytes runs of may are.
+          let whole : bytes ≡ going.given ++ (takes.bytes ++ may.0) = may.1 ∙ append_assoc going.given takes.bytes may.0 in
+          let upto = has-upto p (going.given ++ (takes.bytes ++ may.0)) pieces s s.read going.written (going.covers p (takes.bytes ++ may.0) of).covered sound.behind in
+          subst (Appends (K.taken begun) (K.taken sink'))
+          (sym (ap (λ (xs : List Occurrence). covered_up_to bytes s.copied 0 xs (piece_for pieces)) (runs-are p bytes runs are) ∙ ap (λ (h : List ℕ). covered_up_to h s.copied 0 (runs_in p h) (piece_for pieces)) whole ∙ upto))
+          writes;
+    }
+
+    -- the limit was met
+    pub limit_more : s'.read ≡ s.read → s.read ≡ greatest_position → S.empty_reads source' ≡ counted false (S.empty_reads source) → GaveAsMany S first source' greatest_position
+    limit_more same reached counts = (given_now, gives_more false counts, sym count_more ∙ same ∙ reached)
+
+-- what is left, by how it ended
+module _ {R W : Type 0} (S : SourceGhosts R) (K : SinkGhosts W) (AreSearched : Patterns → Type 0) (pieces : List (List ℕ)) (source source' : R) (sink sink' : W) where
+  abbrev Leaves : Result (Unit {0}) StreamError → Type 0
+  Leaves = LeavesCovered S K AreSearched pieces source source' sink sink'
+
+  -- where a write was refused
+  pub leaves_written : (error : StreamError) → IsWriteRefusal error → BeginsCovering S K AreSearched pieces source source' sink sink' → Leaves (Err error)
+  leaves_written (Refused cause) only some = absurd only
+  leaves_written (Read fault) only some = absurd only
+  leaves_written (Write fault) only some = record { covered = tt; begun = some; near = λ fills. absurd fills; limit = λ met. cc }
+  leaves_written WriteZero only some = record { covered = tt; begun = some; near = λ fills. absurd fills; limit = λ met. cc }
+  leaves_written Memory only some = absurd only
+  leaves_written PositionLimit only some = absurd only
+
+  -- where a read was refused
+  pub leaves_read : (error : StreamError) → BeginsCovering S K AreSearched pieces source source' sink sink' → CoversStreamUpTo S K AreSearched pieces source source' sink sink' → (is_limit {A = Bool} (Err error) ≡ true → GaveAsMany S source source' greatest_position) → Leaves (Err error)
+  leaves_read (Refused cause) some near limit = record { covered = tt; begun = some; near = λ fills. near; limit = limit }
+  leaves_read (Read fault) some near limit = record { covered = tt; begun = some; near = λ fills. near; limit = limit }
+  leaves_read (Write fault) some near limit = record { covered = tt; begun = some; near = λ fills. near; limit = limit }
+  leaves_read WriteZero some near limit = record { covered = tt; begun = some; near = λ fills. near; limit = limit }
+  leaves_read Memory some near limit = record { covered = tt; begun = some; near = λ fills. near; limit = limit }
+  leaves_read PositionLimit some near limit = record { covered = tt; begun = some; near = λ fills. near; limit = limit }
+
+  -- at the end
+  pub leaves_ended : (result : Result (Unit {0}) StreamError) → IfErr result IsWriteRefusal → OnOk result (CoversStream S K AreSearched pieces source source' sink sink') → OnErr result (BeginsCovering S K AreSearched pieces source source' sink sink') → Leaves result
+  leaves_ended (Ok done) only whole some = record { covered = whole; begun = tt; near = tt; limit = λ met. cc }
+  leaves_ended (Err error) only whole some = leaves_written error only some
+
+-- nothing is left where it was refused before it was begun
+module _ {R W : Type 0} (S : SourceGhosts R) (K : SinkGhosts W) (source : R) (sink : W) where
+  pub leaves_nothing : (AreSearched : Patterns → Type 0) (pieces : List (List ℕ)) (error : StreamError) → IsMakingRefusal error → LeavesCovered S K AreSearched pieces source source sink sink (Err error)
+  leaves_nothing AreSearched pieces error only = by_error error only
+    where
+      nothing : BeginsCovering S K AreSearched pieces source source sink sink
+      nothing = record {
+        given = [];
+        ended = false;
+        gives = record { bytes = Consumes-nil (S.remaining source); end = refl };
+        written = [];
+        writes = Appends-nil (K.taken sink);
+        beginning = λ p bytes output of may cover. refl;
+      }
+
+      by_error : (error : StreamError) → IsMakingRefusal error → LeavesCovered S K AreSearched pieces source source sink sink (Err error)
+      by_error (Refused cause) only = record { covered = tt; begun = nothing; near = λ fills. absurd fills; limit = λ met. cc }
+      by_error (Read fault) only = absurd only
+      by_error (Write fault) only = absurd only
+      by_error WriteZero only = absurd only
+      by_error Memory only = record { covered = tt; begun = nothing; near = λ fills. absurd fills; limit = λ met. cc }
+      by_error PositionLimit only = absurd only

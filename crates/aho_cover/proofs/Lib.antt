@@ -1,0 +1,12 @@
+-- One byte more of a walk.
+pub mod Further
+-- What is written, and what it makes of the cover.
+pub mod Written
+pub mod Copied
+pub mod Covered
+pub mod Sound
+-- From one match that is told to the next.
+pub mod Reached
+-- From one read to the next.
+pub mod Going
+pub mod Begun

@@ -1,0 +1,44 @@
+-- One run after another.
+use Rattle.std.proofs.Common.{◌∙◌, refl, ap, arith}
+use Rattle.aho_core.specs.Replacement.{pieces_of}
+use Rattle.aho_cover.specs.declared.progress.CoverProgress.{CoverProgress}
+use Rattle.aho_cover.specs.Progress.{ClearlyCovered}
+use Rattle.aho_cover.proofs.Written.{on_err, writes_nothing, writes_then}
+use Rattle.aho_cover.proofs.progress.CoverProgress.settle.Goals as goal
+
+pub loop-init : goal.loop-init
+loop-init g c = record {
+  sound = λ at sound. sound;
+  others = refl;
+  copied = omega arith;
+  writes = λ at. writes_nothing g.W.Sink c.args.sink.now _ (ClearlyCovered (pieces_of c.args.pieces.now) c.args.self.now at c.args.place) (λ p haystack written before. before);
+  failures = refl;
+  empty_writes = refl;
+}
+
+pub settle_one-requires : goal.settle_one-requires
+settle_one-requires g c = record { sound = (c.requires.sound.0, c.loop.invariant.sound c.requires.sound.0 c.requires.sound.1) }
+
+pub returns-in_err-settle_one-clause-begins : goal.returns-in_err-settle_one-clause-begins
+returns-in_err-settle_one-clause-begins g c =
+    on_err c.from_residual.result _ (λ at. writes_then (c.loop.invariant.writes at) (c.in_err-settle_one.ensures.begins at))
+
+pub loop-preserved : goal.loop-preserved
+loop-preserved g c =
+    let inv = c.loop.invariant in
+    let one = c.in_ok-settle_one.ensures in
+    let next = c.settle_one.new.self in
+    record {
+      sound = λ at sound. one.sound at (inv.sound at sound);
+      others = one.others ∙ ap (λ (s : CoverProgress). record s { copied = next.copied; hand = next.hand }) inv.others;
+      copied = omega (arith, one.copied, inv.copied);
+      writes = λ at. writes_then (inv.writes at) (one.writes at);
+      failures = one.tells.write_failed ∙ inv.failures;
+      empty_writes = one.tells.took_nothing ∙ inv.empty_writes;
+    }
+
+pub returns-clause-sound : goal.returns-clause-sound
+returns-clause-sound g c = λ at sound. c.in_ok-settle_one.ensures.sound at (c.loop.invariant.sound at sound)
+
+pub returns-clause-writes : goal.returns-clause-writes
+returns-clause-writes g c = λ at. writes_then (c.loop.invariant.writes at) (c.in_ok-settle_one.ensures.writes at)

@@ -1,0 +1,80 @@
+-- The runs that are settled, and then the bytes behind them.
+use Rattle.std.proofs.Common.{◌≡◌, ℕ, ◌+◌, ◌-◌, ◌≤◌, max, List, refl, sym, subst, arith}
+use Rattle.aho_core.specs.Patterns.{Patterns}
+use Rattle.aho_core.specs.Replacement.{pieces_of}
+use Rattle.aho_cover.specs.declared.progress.CoverProgress.{CoverProgress}
+use Rattle.aho_cover.specs.Hand.{held_runs}
+use Rattle.aho_cover.specs.Progress.{BareFrom, ClearlyCovered, HasCovered, IsBeginning, IsSoundCover, outside_end}
+use Rattle.aho_cover.specs.Writes.{WritesOn}
+use Rattle.aho_cover.proofs.Covered.{has-open}
+use Rattle.aho_cover.proofs.Sound.{near-outside, open-within, sound-outside}
+use Rattle.aho_cover.proofs.Written.{if_err, if_ok, on_err, writes_still, writes_then}
+use Rattle.aho_cover.proofs.progress.CoverProgress.write_settled.Given.{Over}
+use Rattle.aho_cover.proofs.progress.CoverProgress.write_settled.Goals.{After-open_place-open, After-write_outside}
+use Rattle.aho_cover.proofs.progress.CoverProgress.write_settled.Goals as goal
+
+-- what ends later begins behind the open place
+clearly : (g : Over) (c : After-open_place-open g) (p : Patterns) (haystack written : List ℕ) → HasCovered (pieces_of c.args.pieces.now) c.args.self.now c.args.at p haystack written
+    → ClearlyCovered (pieces_of c.args.pieces.now) c.args.self.now c.args.at c.open_place-open.result p haystack written
+clearly g c p haystack written has =
+    (has, λ m occurs later. omega (arith, has-open p haystack (pieces_of c.args.pieces.now) c.args.self.now c.args.at written has m occurs later, c.open_place-open.ensures.place))
+
+pub returns-in_err-settle-clause-begins : goal.returns-in_err-settle-clause-begins
+returns-in_err-settle-clause-begins g c =
+    let d = (goal.at.returns-in_err-settle-clause-begins g c).After-open_place-open in
+    let pieces = pieces_of c.args.pieces.now in
+    on_err c.from_residual.result _
+    (writes_still (HasCovered pieces c.args.self.now c.args.at) (IsBeginning pieces) (clearly g d) (λ p haystack written begins. begins) (c.in_err-settle.ensures.begins c.args.at))
+
+pub write_outside-requires : goal.write_outside-requires
+write_outside-requires g c = record {
+  sound = (
+    c.args.at,
+    c.in_ok-settle.ensures.sound c.args.at c.requires.sound,
+    omega (arith, open-within c.args.self.now c.args.at c.requires.sound, c.open_place-open.ensures.place),
+  );
+}
+
+-- the bytes behind the runs are written
+after : (g : Over) (c : After-write_outside g) → c.write_outside.new.self ≡ record c.settle.new.self { copied = max c.settle.new.self.copied (outside_end c.open_place-open.result (held_runs c.settle.new.self.hand)) }
+    → IsSoundCover c.write_outside.new.self c.args.at × BareFrom c.write_outside.new.self.copied (held_runs c.write_outside.new.self.hand) (c.args.at + 1 - c.args.self.now.buffer.least)
+after g c is =
+    let s = c.settle.new.self in
+    let at = c.args.at in
+    let place = c.open_place-open.result in
+    let sound = c.in_ok-settle.ensures.sound at c.requires.sound in
+    let copied = max s.copied (outside_end place (held_runs s.hand)) in
+    let within : place ≤ at = omega (arith, open-within c.args.self.now at c.requires.sound, c.open_place-open.ensures.place) in
+    let near = near-outside s at sound place c.in_ok-settle.ensures.last in (
+      subst (λ (s' : CoverProgress). IsSoundCover s' at) (sym is) (sound-outside s at sound place copied within refl),
+      subst (λ (s' : CoverProgress). BareFrom s'.copied (held_runs s'.hand) (at + 1 - c.args.self.now.buffer.least)) (sym is)
+          (λ other low bare. omega (arith, near other low bare, c.open_place-open.ensures.place)),
+    )
+
+pub returns-clause-sound : goal.returns-clause-sound
+returns-clause-sound g c =
+    let d = (goal.at.returns-clause-sound g c).After-write_outside in
+    if_ok c.write_outside.result _ _ (λ is. (after g d is).0) c.write_outside.ensures.copied
+
+pub returns-clause-near : goal.returns-clause-near
+returns-clause-near g c =
+    let d = (goal.at.returns-clause-near g c).After-write_outside in
+    if_ok c.write_outside.result _ _ (λ is. (after g d is).1) c.write_outside.ensures.copied
+
+-- what was written of the runs
+first : (g : Over) (c : After-write_outside g)
+    → WritesOn g.W.Sink c.args.sink.now c.settle.new.sink (HasCovered (pieces_of c.args.pieces.now) c.args.self.now c.args.at) (ClearlyCovered (pieces_of c.args.pieces.now) c.settle.new.self c.args.at c.open_place-open.result)
+first g c =
+    let d = (goal.at.returns-clause-writes g c).After-open_place-open in
+    let pieces = pieces_of c.args.pieces.now in
+    writes_still (HasCovered pieces c.args.self.now c.args.at) (ClearlyCovered pieces c.settle.new.self c.args.at c.open_place-open.result) (clearly g d) (λ p haystack written has. has) (c.in_ok-settle.ensures.writes c.args.at)
+
+pub returns-clause-writes : goal.returns-clause-writes
+returns-clause-writes g c =
+    let d = (goal.at.returns-clause-writes g c).After-write_outside in
+    if_ok c.write_outside.result _ _ (λ more. writes_then (first g d) (more c.args.at (pieces_of c.args.pieces.now))) c.write_outside.ensures.writes
+
+pub returns-clause-begins : goal.returns-clause-begins
+returns-clause-begins g c =
+    let d = (goal.at.returns-clause-begins g c).After-write_outside in
+    if_err c.write_outside.result _ _ (λ more. writes_then (first g d) (more c.args.at (pieces_of c.args.pieces.now))) c.write_outside.ensures.begins

@@ -1,0 +1,31 @@
+-- Nothing was given and nothing written.
+use Rattle.std.proofs.Common.{◌≡◌, ℕ, ◌+◌, ◌/◌, max, List, refl, sym, ◌∙◌, ap, subst, arith}
+use Rattle.aho_core.specs.Laws.{longest}
+use Rattle.aho_cover.specs.declared.progress.CoverProgress.{CoverProgress}
+use Rattle.aho_cover.specs.Covers.{IsUnbegunCover}
+use Rattle.aho_cover.proofs.Begun.{begun-covered, begun-held, begun-sound}
+use Rattle.aho_cover.proofs.start.StreamCoverStart.new.Goals as goal
+
+pub returns-clause-unbegun : goal.returns-clause-unbegun
+returns-clause-unbegun g c =
+    let a = g.A.Automaton in
+    let automaton = c.args.automaton.now in
+    let check = c.in_ok-sid.ensures in
+    let buffer = c.in_ok-buffer.buffer in
+    let hand = c.in_ok-hand.hand in
+    let least : buffer.least ≡ max 1 (longest (a.lengths automaton)) = c.in_ok-buffer.ensures.least ∙ ap (max 1) c.max_pattern_len.ensures.longest in
+    subst (λ (s : CoverProgress). IsUnbegunCover a automaton s) (sym c.new-3.ensures.made)
+    (record {
+      standard = check.standard;
+      no_empty = check.no_empty;
+      is_state = check.valid;
+      shallow = check.shallow;
+      unread = refl;
+      sound = begun-sound buffer hand c.in_ok-sid.sid (omega (arith, least)) c.in_ok-buffer.ensures.empty c.in_ok-hand.ensures.none c.in_ok-hand.ensures.whole (c.in_ok-hand.ensures.room ∙ ap (λ (n : ℕ). n / 2 + 1) c.min_buffer_len.ensures.least);
+      covers = λ p pieces haystack of. record {
+        of = of;
+        is_held = begun-held a automaton p haystack c.in_ok-sid.sid (check.begins p of);
+        covered = begun-covered p pieces haystack buffer hand c.in_ok-sid.sid c.in_ok-buffer.ensures.empty c.in_ok-hand.ensures.none
+            (least ∙ ap (λ (lengths : List ℕ). max 1 (longest lengths)) (g.met.A.Automaton.laws automaton p of).lengths_are);
+      };
+    })

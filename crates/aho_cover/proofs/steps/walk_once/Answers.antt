@@ -1,0 +1,188 @@
+-- To the next match, or to the end of the bytes.
+use Rattle.std.proofs.Common.{◌≡◌, ℕ, ◌+◌, ◌-◌, ◌*◌, ◌<◌, ◌≤◌, max, List, ◌++◌, length, sym, ap, subst, arith}
+use Rattle.std.specs.Prelude.{Option, None, Some, slice_range}
+use Rattle.aho_core.specs.Laws.{shortest}
+use Rattle.aho_core.specs.Occurrence.{Occurrence}
+use Rattle.aho_core.specs.Patterns.{Patterns}
+use Rattle.aho_core.specs.Replacement.{pieces_of}
+use Rattle.aho_core.specs.declared.search.Anchored.TheVariants.{No}
+use Rattle.aho_core.specs.declared.search.MatchKind.TheVariants.{Standard}
+use Rattle.aho_automaton.proofs.Places.{length_part}
+use Rattle.aho_cover.specs.declared.progress.CoverProgress.{CoverProgress}
+use Rattle.aho_cover.specs.Progress.{EndsNext, HasCovered, IsBeginning, IsSoundCover, open_place}
+use Rattle.aho_cover.specs.Steps.{CoversOn}
+use Rattle.aho_cover.specs.Walks.{Reaches, told_before, walked_before}
+use Rattle.aho_cover.specs.Writes.{WritesOn}
+use Rattle.aho_cover.proofs.Reached.{moved-all, moved-behind, moved-end, moved-found, moved-next, sound-moved, told-counted}
+use Rattle.aho_cover.proofs.Written.{on_err, writes_nothing, writes_still, writes_with}
+use Rattle.aho_cover.proofs.steps.walk_once.Given.{Over}
+use Rattle.aho_cover.proofs.steps.walk_once.Goals.{After-walk_to_match-reached, In_ok-join}
+use Rattle.aho_cover.proofs.steps.walk_once.Goals as goal
+
+pub walk_to_match-reached-requires-clause-held : goal.walk_to_match-reached-requires-clause-held
+walk_to_match-reached-requires-clause-held g c =
+    let (p, haystack, written, covers) = c.requires.can.stands in
+    let has = covers.covered in
+    (p, slice_range haystack 0 c.args.at, covers.of, omega (arith, length_part haystack 0 c.args.at (omega (arith, has.walked_within, has.given.within))), covers.is_held)
+
+-- so much was covered before the walk
+abbrev Before : (g : Over) (c : After-walk_to_match-reached g) → Patterns → List ℕ → List ℕ → Type 0
+Before g c p haystack written = CoversOn g.A.Automaton c.args.walk.now.automaton.now (pieces_of c.args.pieces.now) c.args.progress.now c.args.at p haystack written
+
+-- the progress with what was reached
+abbrev reached_by : (g : Over) (c : After-walk_to_match-reached g) → CoverProgress
+reached_by g c = record c.args.progress.now { sid = c.walk_to_match-reached.result.sid; since = c.walk_to_match-reached.result.since }
+
+module _ (g : Over) (c : After-walk_to_match-reached g) (p : Patterns) (haystack written : List ℕ) (covers : Before g c p haystack written) where
+  -- what the bytes are, how many were walked, and what was reached
+  bytes_are : c.bytes-bytes.result.now ≡ slice_range haystack c.args.at c.args.progress.now.read
+  bytes_are = c.bytes-bytes.ensures.part haystack covers.covered.given
+
+  within : c.args.at + c.walk_to_match-reached.result.count ≤ c.args.progress.now.read
+  within = omega (arith, c.walk_to_match-reached.ensures.within, ap length bytes_are, length_part haystack c.args.at c.args.progress.now.read covers.covered.given.within, c.requires.further)
+
+  reaches : Reaches g.A.Automaton c.args.walk.now.automaton.now p (slice_range haystack 0 c.args.at) c.bytes-bytes.result.now c.args.progress.now.since c.walk_to_match-reached.result
+  reaches =
+      c.walk_to_match-reached.ensures.reaches p (slice_range haystack 0 c.args.at) covers.of
+      (omega (arith, length_part haystack 0 c.args.at (omega (arith, covers.covered.walked_within, covers.covered.given.within)))) covers.is_held
+
+  to_end : c.walk_to_match-reached.result.found ≡ None → CoversOn g.A.Automaton c.args.walk.now.automaton.now (pieces_of c.args.pieces.now) (reached_by g c) (c.args.at + c.walk_to_match-reached.result.count) p haystack written
+  to_end none =
+      moved-all g.A.Automaton c.args.walk.now.automaton.now p c.requires.can.standard (g.met.A.Automaton.laws c.args.walk.now.automaton.now p covers.of) haystack (pieces_of c.args.pieces.now) c.args.progress.now c.args.at written
+      c.bytes-bytes.result.now covers c.walk_to_match-reached.result bytes_are within reaches (told-counted c.walk_to_match-reached.result) none
+
+  module _ (m : Occurrence) (some : c.walk_to_match-reached.result.found ≡ Some m) where
+    ends : m.end ≡ c.args.at + c.walk_to_match-reached.result.count
+    ends =
+        moved-end g.A.Automaton c.args.walk.now.automaton.now p c.requires.can.standard (g.met.A.Automaton.laws c.args.walk.now.automaton.now p covers.of) haystack (pieces_of c.args.pieces.now) c.args.progress.now c.args.at written
+        c.bytes-bytes.result.now covers c.walk_to_match-reached.result bytes_are within reaches (told-counted c.walk_to_match-reached.result) m some c.requires.can.no_empty c.walk_to_match-reached.ensures.some
+
+    full : m.start < m.end
+    full =
+        (moved-found g.A.Automaton c.args.walk.now.automaton.now p c.requires.can.standard (g.met.A.Automaton.laws c.args.walk.now.automaton.now p covers.of) haystack (pieces_of c.args.pieces.now) c.args.progress.now c.args.at written
+        c.bytes-bytes.result.now covers c.walk_to_match-reached.result bytes_are within reaches (told-counted c.walk_to_match-reached.result) m some c.requires.can.no_empty c.walk_to_match-reached.ensures.some).1
+
+    behind : max c.args.progress.now.copied (open_place (reached_by g c) (m.end - 1)) ≤ m.start
+    behind =
+        moved-behind g.A.Automaton c.args.walk.now.automaton.now p c.requires.can.standard (g.met.A.Automaton.laws c.args.walk.now.automaton.now p covers.of) haystack (pieces_of c.args.pieces.now) c.args.progress.now c.args.at written
+        c.bytes-bytes.result.now covers c.walk_to_match-reached.result bytes_are within reaches (told-counted c.walk_to_match-reached.result) m some c.requires.can.no_empty c.walk_to_match-reached.ensures.some
+
+    next_match : EndsNext (pieces_of c.args.pieces.now) (reached_by g c) m p haystack written × (g.A.Automaton.is_of c.args.walk.now.automaton.now p × g.A.Automaton.held c.args.walk.now.automaton.now p No (slice_range haystack 0 m.end) c.walk_to_match-reached.result.sid)
+    next_match =
+        moved-next g.A.Automaton c.args.walk.now.automaton.now p c.requires.can.standard (g.met.A.Automaton.laws c.args.walk.now.automaton.now p covers.of) haystack (pieces_of c.args.pieces.now) c.args.progress.now c.args.at written
+        c.bytes-bytes.result.now covers c.walk_to_match-reached.result bytes_are within reaches (told-counted c.walk_to_match-reached.result) m some c.requires.can.no_empty c.walk_to_match-reached.ensures.some
+
+-- no byte was written
+pub returns-in_default-clause-sound : goal.returns-in_default-clause-sound
+returns-in_default-clause-sound g c =
+    let d = (goal.at.returns-in_default-clause-sound g c).After-walk_to_match-reached in
+    let (p, haystack, written, covers) = c.requires.can.stands in
+    let r = c.walk_to_match-reached.result in
+    sound-moved c.args.progress.now c.args.at (c.args.at + r.count) r.sid r.since c.requires.sound (omega arith) (within g d p haystack written covers)
+    (omega (arith, c.walk_to_match-reached.ensures.since, told-counted r))
+
+pub returns-in_default-clause-can : goal.returns-in_default-clause-can
+returns-in_default-clause-can g c =
+    let d = (goal.at.returns-in_default-clause-can g c).After-walk_to_match-reached in
+    let a = g.A.Automaton in
+    let s = c.args.progress.now in
+    let r = c.walk_to_match-reached.result in
+    let back = sym c.walk_to_match-reached.ensures.same in
+    let (p, haystack, written, covers) = c.requires.can.stands in
+    record {
+      standard = subst (λ x. a.kind x ≡ Standard) back c.requires.can.standard;
+      no_empty = subst (λ x. 1 ≤ shortest (a.lengths x)) back c.requires.can.no_empty;
+      is_state = subst (λ x. a.valid x r.sid) back c.walk_to_match-reached.ensures.valid;
+      cheap = subst (λ x. c.walk_to_match-reached.new.walk.work + a.depth x r.sid ≤ 2 * (c.args.at + r.count)) back (omega (arith, c.walk_to_match-reached.ensures.cost, c.requires.can.cheap));
+      stands = (p, haystack, written, subst (λ x. CoversOn a x (pieces_of c.args.pieces.now) (reached_by g d) (c.args.at + r.count) p haystack written) back (to_end g d p haystack written covers c.in_default.is));
+    }
+
+pub returns-in_default-clause-writes : goal.returns-in_default-clause-writes
+returns-in_default-clause-writes g c =
+    let d = (goal.at.returns-in_default-clause-writes g c).After-walk_to_match-reached in
+    writes_nothing g.W.Sink c.args.sink.now _ _ (λ p haystack written covers. to_end g d p haystack written covers c.in_default.is)
+
+pub join-requires-clause-sound : goal.join-requires-clause-sound
+join-requires-clause-sound g c =
+    let d = (goal.at.join-requires-clause-sound g c).After-walk_to_match-reached in
+    let (p, haystack, written, covers) = c.requires.can.stands in
+    let r = c.walk_to_match-reached.result in
+    let m = c.in-Some.m in
+    let last = ends g d p haystack written covers m c.in-Some.is in
+    let some : told_before r ≡ r.count - 1 = ap (λ (found : Option Occurrence). walked_before found r.count) c.in-Some.is in
+    sound-moved c.args.progress.now c.args.at (m.end - 1) r.sid r.since c.requires.sound (omega (arith, last, c.walk_to_match-reached.ensures.some)) (omega (arith, last, within g d p haystack written covers))
+    (omega (arith, last, some, c.walk_to_match-reached.ensures.since, c.walk_to_match-reached.ensures.some))
+
+pub join-requires-clause-some : goal.join-requires-clause-some
+join-requires-clause-some g c =
+    let (p, haystack, written, covers) = c.requires.can.stands in
+    full g (goal.at.join-requires-clause-some g c).After-walk_to_match-reached p haystack written covers c.in-Some.m c.in-Some.is
+
+pub join-requires-clause-read : goal.join-requires-clause-read
+join-requires-clause-read g c =
+    let d = (goal.at.join-requires-clause-read g c).After-walk_to_match-reached in
+    let (p, haystack, written, covers) = c.requires.can.stands in
+    omega (arith, ends g d p haystack written covers c.in-Some.m c.in-Some.is, within g d p haystack written covers)
+
+pub join-requires-clause-behind : goal.join-requires-clause-behind
+join-requires-clause-behind g c =
+    let (p, haystack, written, covers) = c.requires.can.stands in
+    behind g (goal.at.join-requires-clause-behind g c).After-walk_to_match-reached p haystack written covers c.in-Some.m c.in-Some.is
+
+pub returns-in_err-join-clause-begins : goal.returns-in_err-join-clause-begins
+returns-in_err-join-clause-begins g c =
+    let d = (goal.at.returns-in_err-join-clause-begins g c).After-walk_to_match-reached in
+    let pieces = pieces_of c.args.pieces.now in
+    on_err c.from_residual.result _
+    (writes_still (Before g d) (IsBeginning pieces) (λ p haystack written covers. (next_match g d p haystack written covers c.in-Some.m c.in-Some.is).0.0) (λ p haystack written begins. begins) c.in_err-join.ensures.begins)
+
+-- the match was joined
+wrote : (g : Over) (c : In_ok-join g) → WritesOn g.W.Sink c.args.sink.now c.join.new.sink (CoversOn g.A.Automaton c.args.walk.now.automaton.now (pieces_of c.args.pieces.now) c.args.progress.now c.args.at)
+    (CoversOn g.A.Automaton c.args.walk.now.automaton.now (pieces_of c.args.pieces.now) c.join.new.self (c.args.at + c.walk_to_match-reached.result.count))
+wrote g c =
+    let d = (goal.at.returns-clause-writes g c).After-walk_to_match-reached in
+    let a = g.A.Automaton in
+    let automaton = c.args.walk.now.automaton.now in
+    let pieces = pieces_of c.args.pieces.now in
+    let m = c.in-Some.m in
+    let r = c.walk_to_match-reached.result in
+    let new = c.join.new.self in
+    let (first, whole, begun, stands) = c.requires.can.stands in
+    let last : m.end ≡ c.args.at + r.count = ends g d first whole begun stands m c.in-Some.is in
+    let sid : new.sid ≡ r.sid = ap (λ (s : CoverProgress). s.sid) c.in_ok-join.ensures.others in
+    writes_still (Before g d) (CoversOn a automaton pieces new (c.args.at + r.count))
+    (λ p haystack written covers. next_match g d p haystack written covers m c.in-Some.is)
+    (λ p haystack written h. record {
+      of = h.1.0;
+      is_held = subst (λ (n : ℕ). a.held automaton p No (slice_range haystack 0 n) new.sid) last (subst (λ (sid : ℕ). a.held automaton p No (slice_range haystack 0 m.end) sid) (sym sid) h.1.1);
+      covered = subst (λ (n : ℕ). HasCovered pieces new n p haystack written) last h.0;
+    })
+    (writes_with (λ p haystack. a.is_of automaton p × a.held automaton p No (slice_range haystack 0 m.end) r.sid) c.in_ok-join.ensures.writes)
+
+pub returns-clause-writes : goal.returns-clause-writes
+returns-clause-writes g c = wrote g c
+
+pub returns-clause-sound : goal.returns-clause-sound
+returns-clause-sound g c =
+    let d = (goal.at.returns-clause-sound g c).After-walk_to_match-reached in
+    let (first, whole, begun, stands) = c.requires.can.stands in
+    subst (IsSoundCover c.join.new.self) (ends g d first whole begun stands c.in-Some.m c.in-Some.is) c.in_ok-join.ensures.sound
+
+pub returns-clause-can : goal.returns-clause-can
+returns-clause-can g c =
+    let a = g.A.Automaton in
+    let r = c.walk_to_match-reached.result in
+    let new = c.join.new.self in
+    let pieces = pieces_of c.args.pieces.now in
+    let back = sym c.walk_to_match-reached.ensures.same in
+    let sid : r.sid ≡ new.sid = sym (ap (λ (s : CoverProgress). s.sid) c.in_ok-join.ensures.others) in
+    let writes = wrote g c in
+    let (p, haystack, written, covers) = c.requires.can.stands in
+    record {
+      standard = subst (λ x. a.kind x ≡ Standard) back c.requires.can.standard;
+      no_empty = subst (λ x. 1 ≤ shortest (a.lengths x)) back c.requires.can.no_empty;
+      is_state = subst (λ x. a.valid x new.sid) back (subst (a.valid c.args.walk.now.automaton.now) sid c.walk_to_match-reached.ensures.valid);
+      cheap = subst (λ x. c.walk_to_match-reached.new.walk.work + a.depth x new.sid ≤ 2 * (c.args.at + r.count)) back
+          (subst (λ (n : ℕ). c.walk_to_match-reached.new.walk.work + a.depth c.args.walk.now.automaton.now n ≤ 2 * (c.args.at + r.count)) sid (omega (arith, c.walk_to_match-reached.ensures.cost, c.requires.can.cheap)));
+      stands = (p, haystack, written ++ writes.bytes, subst (λ x. CoversOn a x pieces new (c.args.at + r.count) p haystack (written ++ writes.bytes)) back (writes.follows p haystack written covers));
+    }

@@ -1,0 +1,118 @@
+-- One match after another, and then what is settled.
+use Rattle.std.proofs.Common.{◌≡◌, ℕ, ◌+◌, ◌*◌, ◌≤◌, ◌++◌, refl, sym, ◌∙◌, ap, subst, arith}
+use Rattle.std.specs.Prelude.{slice_range}
+use Rattle.aho_core.specs.Replacement.{pieces_of}
+use Rattle.aho_core.specs.declared.search.Anchored.TheVariants.{No}
+use Rattle.aho_cover.specs.declared.progress.CoverProgress.{CoverProgress}
+use Rattle.aho_cover.specs.Progress.{HasCovered, IsBeginning}
+use Rattle.aho_cover.specs.Steps.{CoversOn}
+use Rattle.aho_cover.specs.Writes.{WritesOn}
+use Rattle.aho_cover.proofs.Written.{if_both, if_err, on_err, writes_nothing, writes_still, writes_then, writes_with}
+use Rattle.aho_cover.proofs.steps.walk_read.Given.{Over}
+use Rattle.aho_cover.proofs.steps.walk_read.Goals.{After-write_settled}
+use Rattle.aho_cover.proofs.steps.walk_read.Goals as goal
+
+pub loop-at-init : goal.loop-at-init
+loop-at-init g c = record {
+  sound = c.requires.sound;
+  can = c.requires.can;
+  same = refl;
+  bytes = record { read = refl; buffer = refl };
+  writes = writes_nothing g.W.Sink c.args.sink.now _ _ (λ p haystack written covers. covers);
+  failures = refl;
+  empty_writes = refl;
+}
+
+pub loop-at-preserved : goal.loop-at-preserved
+loop-at-preserved g c =
+    let inv = c.loop-at.invariant in
+    let one = c.in_ok-at.ensures in
+    record {
+      sound = one.sound;
+      can = one.can;
+      same = one.same ∙ inv.same;
+      bytes = record { read = one.bytes.read ∙ inv.bytes.read; buffer = one.bytes.buffer ∙ inv.bytes.buffer };
+      writes = writes_then inv.writes (rw inv.same at one.writes);
+      failures = one.tells.write_failed ∙ inv.failures;
+      empty_writes = one.tells.took_nothing ∙ inv.empty_writes;
+    }
+
+pub returns-in_err-at-clause-begins : goal.returns-in_err-at-clause-begins
+returns-in_err-at-clause-begins g c =
+    on_err c.from_residual.result _ (writes_then c.loop-at.invariant.writes (rw c.loop-at.invariant.same at c.in_err-at.ensures.begins))
+
+-- all was walked
+all_walked : (g : Over) (c : After-write_settled g) → c.loop-at.at ≡ c.loop-at.progress.read
+all_walked g c = omega (arith, c.loop-at.invariant.sound.walked, c.loop-at-test.false)
+
+-- what was written of the bytes that are settled
+wrote : (g : Over) (c : After-write_settled g) → c.write_settled.new.self ≡ record c.loop-at.progress { copied = c.write_settled.new.self.copied; hand = c.write_settled.new.self.hand }
+    → WritesOn g.W.Sink c.loop-at.sink c.write_settled.new.sink (HasCovered (pieces_of c.args.pieces.now) c.loop-at.progress c.loop-at.at) (HasCovered (pieces_of c.args.pieces.now) c.write_settled.new.self c.loop-at.at)
+    → WritesOn g.W.Sink c.loop-at.sink c.write_settled.new.sink (CoversOn g.A.Automaton c.args.walk.now.automaton.now (pieces_of c.args.pieces.now) c.loop-at.progress c.loop-at.at)
+    (CoversOn g.A.Automaton c.args.walk.now.automaton.now (pieces_of c.args.pieces.now) c.write_settled.new.self c.write_settled.new.self.read)
+wrote g c others writes =
+    let a = g.A.Automaton in
+    let automaton = c.args.walk.now.automaton.now in
+    let pieces = pieces_of c.args.pieces.now in
+    let s = c.loop-at.progress in
+    let at = c.loop-at.at in
+    let new = c.write_settled.new.self in
+    let place : at ≡ new.read = all_walked g c ∙ sym (ap (λ (s' : CoverProgress). s'.read) others) in
+    let sid : s.sid ≡ new.sid = sym (ap (λ (s' : CoverProgress). s'.sid) others) in
+    writes_still (CoversOn a automaton pieces s at) (CoversOn a automaton pieces new new.read)
+    (λ p haystack written covers. (covers.covered, (covers.of, covers.is_held)))
+    (λ p haystack written h. record {
+      of = h.1.0;
+      is_held = subst (λ (n : ℕ). a.held automaton p No (slice_range haystack 0 n) new.sid) place (subst (λ (n : ℕ). a.held automaton p No (slice_range haystack 0 at) n) sid h.1.1);
+      covered = subst (λ (n : ℕ). HasCovered pieces new n p haystack written) place h.0;
+    })
+    (writes_with (λ p haystack. a.is_of automaton p × a.held automaton p No (slice_range haystack 0 at) s.sid) writes)
+
+pub returns-clause-near : goal.returns-clause-near
+returns-clause-near g c =
+    let d = (goal.at.returns-clause-near g c).After-write_settled in
+    if_both c.write_settled.result _ _ _ (λ others near place low bare.
+    let read = ap (λ (s : CoverProgress). s.read) others in
+    let least = ap (λ (s : CoverProgress). s.buffer.least) others in
+    omega (arith, near place low bare, read, least, all_walked g d)) c.write_settled.ensures.others c.write_settled.ensures.near
+
+pub returns-clause-can : goal.returns-clause-can
+returns-clause-can g c =
+    let d = (goal.at.returns-clause-can g c).After-write_settled in
+    let a = g.A.Automaton in
+    let inv = c.loop-at.invariant in
+    let new = c.write_settled.new.self in
+    let pieces = pieces_of c.args.pieces.now in
+    let automaton = c.loop-at.walk.automaton.now in
+    if_both c.write_settled.result _ _ _ (λ others more.
+    let read : new.read ≡ c.loop-at.progress.read = ap (λ (s : CoverProgress). s.read) others in
+    let sid : c.loop-at.progress.sid ≡ new.sid = sym (ap (λ (s : CoverProgress). s.sid) others) in
+    let writes = wrote g d others more in
+    let (p, haystack, written, covers) = inv.can.stands in
+    record {
+      standard = inv.can.standard;
+      no_empty = inv.can.no_empty;
+      is_state = subst (a.valid automaton) sid inv.can.is_state;
+      cheap = subst (λ (n : ℕ). c.loop-at.walk.work + a.depth automaton n ≤ 2 * new.read) sid (omega (arith, inv.can.cheap, read, all_walked g d));
+      stands = (
+        p,
+        haystack,
+        written ++ writes.bytes,
+        subst (λ x. CoversOn a x pieces new new.read p haystack (written ++ writes.bytes)) (sym inv.same)
+            (writes.follows p haystack written (subst (λ x. CoversOn a x pieces c.loop-at.progress c.loop-at.at p haystack written) inv.same covers)),
+      );
+    }) c.write_settled.ensures.others c.write_settled.ensures.writes
+
+pub returns-clause-writes : goal.returns-clause-writes
+returns-clause-writes g c =
+    let d = (goal.at.returns-clause-writes g c).After-write_settled in
+    if_both c.write_settled.result _ _ _ (λ others more. writes_then c.loop-at.invariant.writes (wrote g d others more)) c.write_settled.ensures.others c.write_settled.ensures.writes
+
+pub returns-clause-begins : goal.returns-clause-begins
+returns-clause-begins g c =
+    let a = g.A.Automaton in
+    let pieces = pieces_of c.args.pieces.now in
+    if_err c.write_settled.result _ _ (λ more.
+    writes_then c.loop-at.invariant.writes
+    (writes_still (CoversOn a c.args.walk.now.automaton.now pieces c.loop-at.progress c.loop-at.at) (IsBeginning pieces) (λ p haystack written covers. covers.covered) (λ p haystack written begins. begins) more))
+    c.write_settled.ensures.begins

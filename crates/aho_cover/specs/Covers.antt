@@ -1,0 +1,86 @@
+-- What the cover of a stream leaves, and why one is refused.
+use Rattle.std.specs.Prelude.{◌≡◌, ℕ, ◌+◌, ◌≤◌, Bool, true, List, [], ◌∷◌, ◌++◌, Option, Some, Result, Err, IfErr, OnErr, OnOk, if◌then◌else◌, length, map, nat_le, slice_range}
+use Rattle.std.specs.Io.{StartsWith}
+use Rattle.std.specs.Io.KnownBytes.{Appends}
+use Rattle.aho_core.specs.declared.error.MatchErrorKind.{MatchErrorKind}
+use Rattle.aho_core.specs.declared.error.stream.StreamError.{StreamError}
+use Rattle.aho_core.specs.declared.error.stream.StreamError.TheVariants.{Match}
+use Rattle.aho_core.specs.declared.search.MatchKind.TheVariants.{Standard}
+use Rattle.aho_core.specs.Cover.{AreRuns, IsCover, IsCovered}
+use Rattle.aho_core.specs.Laws.{shortest}
+use Rattle.aho_core.specs.Occurrence.{Occurrence}
+use Rattle.aho_core.specs.Occurs.{OccursIn}
+use Rattle.aho_core.specs.Patterns.{Patterns}
+use Rattle.aho_core.specs.Search.{plain_search}
+use Rattle.aho_devices.specs.Refusals.{IsFillRefusal}
+use Rattle.aho_devices.specs.declared.device.Sink.{Ghosts as SinkGhosts}
+use Rattle.aho_devices.specs.declared.device.Source.{Ghosts as SourceGhosts}
+use Rattle.aho_automaton.specs.declared.automaton.Automaton.{Ghosts as Automata}
+use Rattle.aho_stream.specs.After.{greatest_position, kept_for}
+use Rattle.aho_stream.specs.Refills.{is_limit}
+use Rattle.aho_stream.specs.Replacing.{GaveAsMany, MayBe, SourceGave, piece_for}
+use Rattle.aho_cover.specs.declared.progress.CoverProgress.{CoverProgress}
+use Rattle.aho_cover.specs.Progress.{IsSoundCover}
+use Rattle.aho_cover.specs.Steps.{CoversOn}
+
+-- the bytes up to a place, with a piece in the place of each run that ends there or before
+abbrev pub covered_up_to : List ℕ → ℕ → ℕ → List Occurrence → (Occurrence → List ℕ) → List ℕ
+covered_up_to bytes place at [] piece = slice_range bytes at place
+covered_up_to bytes place at (run ∷ runs) piece =
+    if nat_le run.end place
+    then slice_range bytes at run.start ++ (piece run ++ covered_up_to bytes place run.end runs piece)
+    else slice_range bytes at place
+
+-- of the patterns that are searched for, with one piece for each of them: from a source and a sink before a call to those after it
+module _ {R W : Type 0} (S : SourceGhosts R) (K : SinkGhosts W) (AreSearched : Patterns → Type 0) (pieces : List (List ℕ)) (source source' : R) (sink sink' : W) where
+  -- the stream has ended, and the cover of all that was given was written
+  pub record CoversStream : Type 0 where
+    pub given : List ℕ
+    pub gives : SourceGave S source source' given true
+    pub output : List ℕ
+    pub writes : Appends (K.taken sink) (K.taken sink') output
+    pub covers : (p : Patterns) → AreSearched p → IsCover p given pieces output
+
+  -- a beginning of the cover was written, whatever bytes may follow
+  pub record BeginsCovering : Type 0 where
+    pub given : List ℕ
+    pub ended : Bool
+    pub gives : SourceGave S source source' given ended
+    pub written : List ℕ
+    pub writes : Appends (K.taken sink) (K.taken sink') written
+    pub beginning : (p : Patterns) (bytes output : List ℕ) → AreSearched p → MayBe given ended bytes → IsCover p bytes pieces output → StartsWith output written
+
+  -- the cover was written up to a place, whatever bytes may follow: each byte behind it lies in a match of the bytes given, or at
+  -- most as many are given from it on as the longest pattern has
+  pub record CoversStreamUpTo : Type 0 where
+    pub given : List ℕ
+    pub ended : Bool
+    pub gives : SourceGave S source source' given ended
+    pub place : ℕ
+    pub within : place ≤ length given
+    pub near : (p : Patterns) (at : ℕ) → AreSearched p → place ≤ at → (IsCovered (OccursIn p (plain_search given)) at → ⊥) → length given ≤ at + kept_for (map length p.words)
+    pub writes : (p : Patterns) (bytes : List ℕ) (runs : List Occurrence) → AreSearched p → MayBe given ended bytes → AreRuns p bytes runs
+        → Appends (K.taken sink) (K.taken sink') (covered_up_to bytes place 0 runs (piece_for pieces))
+
+  -- what a cover leaves that answers so: all of it was written, or a beginning, and all but the last bytes where a read failed or
+  -- the limit was met. That is where as many bytes were given
+  pub record LeavesCovered (result : Result (Unit {0}) StreamError) : Type 0 where
+    pub covered : OnOk result CoversStream
+    pub begun : OnErr result BeginsCovering
+    pub near : IfErr result (λ error. IsFillRefusal error → CoversStreamUpTo)
+    pub limit : is_limit result ≡ true → GaveAsMany S source source' greatest_position
+
+-- a cover of a stream is refused for this reason where there is one, and for no other
+pub record RefusesStreamCover {T : Type 0} (refusal : Option MatchErrorKind) (result : Result T StreamError) : Type 0 where
+  pub refused : (reason : MatchErrorKind) → refusal ≡ Some reason → result ≡ Err (Match reason)
+  pub only : (reason : MatchErrorKind) → result ≡ Err (Match reason) → refusal ≡ Some reason
+
+-- a cover by this automaton that has not begun, whatever patterns it is of: nothing was given and nothing written
+pub record IsUnbegunCover {A : Type 0} (G : Automata A) (a : A) (s : CoverProgress) : Type 0 where
+  pub standard : G.kind a ≡ Standard
+  pub no_empty : 1 ≤ shortest (G.lengths a)
+  pub is_state : G.valid a s.sid
+  pub shallow : G.depth a s.sid ≡ 0
+  pub unread : s.read ≡ 0
+  pub sound : IsSoundCover s 0
+  pub covers : (p : Patterns) (pieces : List (List ℕ)) (haystack : List ℕ) → G.is_of a p → CoversOn G a pieces s 0 p haystack []

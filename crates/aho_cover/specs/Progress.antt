@@ -1,0 +1,98 @@
+-- How far the cover of a stream has come: what its numbers keep, and what was written of the bytes given.
+use Rattle.std.specs.Prelude.{◌≡◌, ℕ, ◌+◌, ◌-◌, ◌/◌, ◌<◌, ◌≤◌, ◌^◌, max, min, List, [], ◌∷◌, ◌++◌, Option, None, Some, length, map, slice_range}
+use Rattle.std.specs.Io.{StartsWith}
+use Rattle.aho_core.specs.Cover.{IsCovered}
+use Rattle.aho_core.specs.Listing.{IsMember}
+use Rattle.aho_core.specs.Occurrence.{Occurrence}
+use Rattle.aho_core.specs.Overlapping.{occurrences_ending}
+use Rattle.aho_core.specs.Patterns.{Patterns}
+use Rattle.aho_laws.specs.CoverLaws.{AreInOrder, runs_upto}
+use Rattle.aho_devices.specs.Buffer.{Buffered}
+use Rattle.aho_automaton.specs.Covering.{cover_in}
+use Rattle.aho_stream.specs.After.{EndsWith, kept_for}
+use Rattle.aho_stream.specs.Replacing.{piece_for}
+use Rattle.aho_cover.specs.declared.hand.Hand.{Hand}
+use Rattle.aho_cover.specs.declared.progress.CoverProgress.{CoverProgress}
+use Rattle.aho_cover.specs.Hand.{HasItsFirst, first_start, held_runs, room_in}
+use Rattle.aho_cover.specs.Walks.{NoneReaches}
+
+-- before the first byte
+abbrev pub unbegun_cover : Buffered → Hand → ℕ → CoverProgress
+unbegun_cover buffer hand sid = record { buffer = buffer; read = 0; since = 0; copied = 0; sid = sid; hand = hand }
+
+-- the place before which nothing begins that ends behind another: the last start, or as far back as the longest pattern reaches
+abbrev pub open_place : CoverProgress → ℕ → ℕ
+open_place s at = max s.since (at + 1 - s.buffer.least)
+
+-- a place, or the start of the first of some runs, where that is before it
+abbrev pub least_start : ℕ → Option ℕ → ℕ
+least_start place None = place
+least_start place (Some start) = min place start
+
+abbrev pub outside_end : ℕ → List Occurrence → ℕ
+outside_end place runs = least_start place (first_start runs)
+
+-- each byte from one place on that no run holds stands at another or behind it
+abbrev pub BareFrom : ℕ → List Occurrence → ℕ → Type 0
+BareFrom from runs low = (place : ℕ) → from ≤ place → (IsCovered (IsMember runs) place → ⊥) → low ≤ place
+
+-- the numbers of a cover of which so many bytes were walked. The buffer holds each byte that was not walked, and each that was not
+-- written and lies in no run in hand
+pub record IsSoundCover (s : CoverProgress) (at : ℕ) : Type 0 where
+  pub small : s.read < 2 ^ 63
+  pub walked : at ≤ s.read
+  pub some : 1 ≤ s.buffer.least
+  pub held : length s.buffer.bytes ≤ s.read
+  pub unwalked : s.read ≤ at + length s.buffer.bytes
+  pub since_walked : s.since ≤ at
+  pub copied_walked : s.copied ≤ at
+  pub in_order : AreInOrder (held_runs s.hand) at
+  pub behind : (x : Occurrence) → IsMember (held_runs s.hand) x → s.copied ≤ x.start
+  pub kept : BareFrom s.copied (held_runs s.hand) (s.read - length s.buffer.bytes)
+  pub whole : HasItsFirst s.hand
+  pub room : room_in s.hand ≡ s.buffer.least / 2 + 1
+
+-- the bytes given are the first of these, and the buffer holds the last of them
+pub record IsGiven (s : CoverProgress) (haystack : List ℕ) : Type 0 where
+  pub within : s.read ≤ length haystack
+  pub last : EndsWith (slice_range haystack 0 s.read) s.buffer.bytes
+
+-- the bytes up to a place, with a piece for each of some runs before it
+abbrev pub copied_to : List ℕ → ℕ → List Occurrence → (Occurrence → List ℕ) → ℕ → List ℕ
+copied_to haystack at [] piece place = slice_range haystack at place
+copied_to haystack at (run ∷ runs) piece place = slice_range haystack at run.start ++ (piece run ++ copied_to haystack run.end runs piece place)
+
+-- of a stream that begins with the bytes given, so many bytes were walked. The runs of what ends there are some that were written,
+-- which nothing can touch that ends later, and those in hand
+pub record HasCovered (pieces : List (List ℕ)) (s : CoverProgress) (at : ℕ) (p : Patterns) (haystack written : List ℕ) : Type 0 where
+  pub given : IsGiven s haystack
+  pub walked_within : at ≤ s.read
+  pub far : s.buffer.least ≡ kept_for (map length p.words)
+  pub since_clear : NoneReaches p haystack at s.since
+  pub front : List Occurrence
+  pub runs : runs_upto p haystack at ≡ front ++ held_runs s.hand
+  pub settled : (x : Occurrence) → IsMember front x → NoneReaches p haystack at (x.end + 1)
+  pub before : (x : Occurrence) → IsMember front x → x.end ≤ s.copied
+  pub clear : NoneReaches p haystack at s.copied
+  pub written_is : written ≡ copied_to haystack 0 front (piece_for pieces) s.copied
+
+-- and nothing that ends later begins before a place
+abbrev pub ClearlyCovered : List (List ℕ) → CoverProgress → ℕ → ℕ → Patterns → List ℕ → List ℕ → Type 0
+ClearlyCovered pieces s at place p haystack written = HasCovered pieces s at p haystack written × NoneReaches p haystack at place
+
+-- what was written begins the cover of these bytes
+abbrev pub IsBeginning : List (List ℕ) → Patterns → List ℕ → List ℕ → Type 0
+IsBeginning pieces p haystack written = StartsWith (cover_in p haystack pieces) written
+
+-- it is the cover
+abbrev pub IsAll : List (List ℕ) → Patterns → List ℕ → List ℕ → Type 0
+IsAll pieces p haystack written = written ≡ cover_in p haystack pieces
+
+-- all but the last byte of a match was walked, and of what ends with it the match is the longest, and the first by number
+abbrev pub EndsNext : List (List ℕ) → CoverProgress → Occurrence → Patterns → List ℕ → List ℕ → Type 0
+EndsNext pieces s m p haystack written = HasCovered pieces s (m.end - 1) p haystack written
+    × ((others : List Occurrence) × (occurrences_ending p haystack 0 m.end ≡ m ∷ others))
+
+-- all that was given was walked, and nothing follows
+abbrev pub EndsHere : List (List ℕ) → CoverProgress → Patterns → List ℕ → List ℕ → Type 0
+EndsHere pieces s p haystack written = HasCovered pieces s s.read p haystack written × (length haystack ≡ s.read)

@@ -1,0 +1,34 @@
+-- How far the walk over a covered stream has come, with what was written of it.
+use Rattle.std.specs.Prelude.{◌≡◌, ℕ, ◌+◌, ◌-◌, ◌*◌, ◌≤◌, List, slice_range}
+use Rattle.aho_core.specs.Laws.{shortest}
+use Rattle.aho_core.specs.Patterns.{Patterns}
+use Rattle.aho_core.specs.declared.search.Anchored.TheVariants.{No}
+use Rattle.aho_core.specs.declared.search.MatchKind.TheVariants.{Standard}
+use Rattle.aho_automaton.specs.declared.automaton.Automaton.{Ghosts as Automata}
+use Rattle.aho_automaton.specs.declared.walk.Counted.{Counted}
+use Rattle.aho_cover.specs.declared.progress.CoverProgress.{CoverProgress}
+use Rattle.aho_cover.specs.Hand.{held_runs}
+use Rattle.aho_cover.specs.Progress.{BareFrom, HasCovered}
+
+-- by an automaton of these patterns the state is held after the bytes that were walked, and so much was covered
+pub record CoversOn {A : Type 0} (G : Automata A) (a : A) (pieces : List (List ℕ)) (s : CoverProgress) (at : ℕ) (p : Patterns) (haystack written : List ℕ) : Type 0 where
+  pub of : G.is_of a p
+  pub is_held : G.held a p No (slice_range haystack 0 at) s.sid
+  pub covered : HasCovered pieces s at p haystack written
+
+-- the walk may go on, with so many bytes walked
+pub record CanWalk {A : Type 0} (G : Automata A) (walk : Counted A) (pieces : List (List ℕ)) (s : CoverProgress) (at : ℕ) : Type 0 where
+  pub standard : G.kind walk.automaton.now ≡ Standard
+  pub no_empty : 1 ≤ shortest (G.lengths walk.automaton.now)
+  pub is_state : G.valid walk.automaton.now s.sid
+  pub cheap : walk.work + G.depth walk.automaton.now s.sid ≤ 2 * at
+  pub stands : (p : Patterns) × (haystack written : List ℕ) × CoversOn G walk.automaton.now pieces s at p haystack written
+
+-- the buffer may be rolled: each byte that was not written and lies in no run in hand is among those that a roll keeps
+abbrev pub MayRoll : CoverProgress → Type 0
+MayRoll s = BareFrom s.copied (held_runs s.hand) (s.read - s.buffer.least)
+
+-- nothing was read, and the buffer holds the same
+pub record KeepsBytes (s s' : CoverProgress) : Type 0 where
+  pub read : s'.read ≡ s.read
+  pub buffer : s'.buffer ≡ s.buffer

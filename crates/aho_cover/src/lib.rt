@@ -1,0 +1,11 @@
+//! Covers of streams: each byte that lies in some match is kept from the sink, and a piece is written for each run of such bytes.
+#![tactic(auto)]
+
+mod hand;
+mod output;
+mod progress;
+mod refill;
+pub mod start;
+mod steps;
+pub mod stream;
+mod walk;

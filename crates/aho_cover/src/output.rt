@@ -1,0 +1,39 @@
+//! What is written for a run: the bytes in front of it, and the piece of its pattern.
+
+ghost use Rattle.std.specs.Prelude.{◌≡◌, ◌++◌, OnErr, OnOk};
+ghost use Rattle.std.specs.Io.KnownBytes.{Appends};
+ghost use Rattle.aho_core.specs.Replacement.{pieces_of};
+ghost use Rattle.aho_devices.specs.Counts.{AppendsBeginning};
+ghost use Rattle.aho_stream.specs.Replacing.{piece_for};
+ghost use Rattle.aho_cover.specs.Writes.{TellsWrites};
+
+use aho_core::error::StreamError;
+use aho_core::search::Match;
+use aho_devices::device::Sink;
+use aho_devices::write::write_whole;
+
+/// The piece of a run's pattern: no byte, where there is none.
+pub(crate) fn piece_of<'b>(pieces: &[&'b [u8]], run: &Match) -> &'b [u8]
+    ensures piece { result.now ≡ piece_for (pieces_of pieces.now) run.now }
+{
+    match pieces.get(run.pattern().as_usize()) {
+        Some(piece) => piece,
+        None => &[],
+    }
+}
+
+/// Writes some bytes, and a piece behind them.
+pub(crate) fn write_both<W: Sink>(
+    sink: &mut W,
+    bytes: &[u8],
+    piece: &[u8],
+) -> Result<(), StreamError>
+    ensures whole { OnOk result
+        (Appends (W.taken sink.old) (W.taken sink.new) (bytes.now ++ piece.now)) }
+    ensures beginning { OnErr result
+        (AppendsBeginning (W.taken sink.old) (W.taken sink.new) (bytes.now ++ piece.now)) }
+    ensures tells { TellsWrites W.Sink sink.old sink.new result }
+{
+    write_whole(sink, bytes)?;
+    write_whole(sink, piece)
+}

@@ -1,0 +1,239 @@
+//! How far the cover of a stream has come: numbers, the last bytes, and the runs in hand.
+
+ghost use Rattle.std.specs.Prelude.{◌≡◌, ◌+◌, ◌-◌, ◌<◌, ◌≤◌, ◌^◌, ℕ, List, OnErr, OnOk, Ok, length, max, slice_range, true, false};
+ghost use Rattle.aho_core.specs.Replacement.{pieces_of};
+ghost use Rattle.aho_cover.specs.Hand.{FirstEndsBehind, HasItsFirst, held_runs};
+ghost use Rattle.aho_cover.specs.Progress.{BareFrom, ClearlyCovered, EndsHere, EndsNext, HasCovered, IsAll, IsBeginning, IsGiven, IsSoundCover, open_place, outside_end, unbegun_cover};
+ghost use Rattle.aho_cover.specs.Settling.{Settles, StopsAt, StopsOutside, StopsSettling, WritesOutside};
+ghost use Rattle.aho_cover.specs.Writes.{TellsWrites, WritesOn};
+
+use crate::hand::Hand;
+use crate::output::{piece_of, write_both};
+use aho_core::error::StreamError;
+use aho_core::search::{Match, StateID};
+use aho_devices::buffer::Buffer;
+use aho_devices::device::Sink;
+use aho_devices::write::write_whole;
+
+/// How far the cover of a stream has come. Places count from the first byte that the source gave.
+#[derive(Drop)]
+pub(crate) struct CoverProgress {
+    /// The last bytes that were given.
+    pub(crate) buffer: Buffer,
+    /// How many bytes were given.
+    pub(crate) read: usize,
+    /// The last place at which a start was held: what ends later begins there or behind it.
+    pub(crate) since: usize,
+    /// The place up to which all was written: the bytes themselves, or the pieces of runs.
+    pub(crate) copied: usize,
+    /// The state that is held after the bytes that were walked.
+    pub(crate) sid: StateID,
+    /// The runs that were not written, of what was walked.
+    pub(crate) hand: Hand,
+}
+
+impl CoverProgress {
+    /// Nothing was given yet.
+    pub(crate) fn new(buffer: Buffer, hand: Hand, sid: StateID) -> CoverProgress
+        ensures made { result ≡ unbegun_cover buffer hand sid }
+    {
+        CoverProgress {
+            buffer,
+            read: 0,
+            since: 0,
+            copied: 0,
+            sid,
+            hand,
+        }
+    }
+
+    /// The place before which nothing begins that ends behind `at`, whatever follows.
+    fn open_place(&self, at: usize) -> usize
+        requires small { at < 2 ^ 63 }
+        ensures place { result ≡ open_place self.now at }
+    {
+        let far = self.buffer.min_buffer_len();
+        self.since.max((at + 1).saturating_sub(far))
+    }
+
+    /// The bytes from one place up to another, of those that are held.
+    pub(crate) fn bytes(&self, start: usize, end: usize) -> &[u8]
+        requires ordered { start ≤ end }
+        requires read { end ≤ self.now.read }
+        requires held { self.now.read ≤ start + length self.now.buffer.bytes }
+        requires whole { length self.now.buffer.bytes ≤ self.now.read }
+        ensures part { (haystack : List ℕ) → IsGiven self.now haystack
+            → result.now ≡ slice_range haystack start end }
+    {
+        let bytes = self.buffer.buffer();
+        let first = self.read - bytes.len();
+        &bytes[start - first..end - first]
+    }
+
+    /// The bytes from where all was written up to another place: none, where that is not behind.
+    fn gap(&self, end: usize) -> &[u8]
+        requires read { end ≤ self.now.read }
+        requires held { self.now.copied < end
+            → self.now.read ≤ self.now.copied + length self.now.buffer.bytes }
+        requires whole { length self.now.buffer.bytes ≤ self.now.read }
+        ensures part { (haystack : List ℕ) → IsGiven self.now haystack
+            → result.now ≡ slice_range haystack self.now.copied end }
+    {
+        if self.copied >= end {
+            return &[];
+        }
+        self.bytes(self.copied, end)
+    }
+
+    /// Writes the first run in hand, where it ends before a place, and the bytes in front of it. Says whether there was one.
+    fn settle_one<W: Sink>(
+        &mut self,
+        sink: &mut W,
+        pieces: &[&[u8]],
+        place: usize,
+    ) -> Result<bool, StreamError>
+        requires sound { (at : ℕ) × IsSoundCover self.old at }
+        ensures sound { OnOk result ((at : ℕ) → IsSoundCover self.old at → IsSoundCover self.new at) }
+        ensures others { OnOk result
+            (self.new ≡ record self.old { copied = self.new.copied; hand = self.new.hand }) }
+        ensures copied { OnOk result (self.new.copied ≤ max self.old.copied place) }
+        ensures fewer { result ≡ Ok true
+            → length (held_runs self.new.hand) < length (held_runs self.old.hand) }
+        ensures last { result ≡ Ok false → FirstEndsBehind place (held_runs self.new.hand) }
+        ensures writes { OnOk result (Settles W.Sink sink.old sink.new
+            (pieces_of pieces.now) place self.old self.new) }
+        ensures begins { OnErr result (StopsSettling W.Sink sink.old sink.new
+            (pieces_of pieces.now) place self.old) }
+        ensures tells { TellsWrites W.Sink sink.old sink.new result }
+    {
+        let Some(run) = self.hand.take_before(place) else {
+            return Ok(false);
+        };
+        let gap = self.gap(run.start());
+        write_both(sink, gap, piece_of(pieces, &run))?;
+        self.copied = run.end();
+        Ok(true)
+    }
+
+    /// Writes the runs in hand that end before a place, and the bytes in front of each.
+    fn settle<W: Sink>(
+        &mut self,
+        sink: &mut W,
+        pieces: &[&[u8]],
+        place: usize,
+    ) -> Result<(), StreamError>
+        requires sound { (at : ℕ) × IsSoundCover self.old at }
+        ensures sound { OnOk result ((at : ℕ) → IsSoundCover self.old at → IsSoundCover self.new at) }
+        ensures others { OnOk result
+            (self.new ≡ record self.old { copied = self.new.copied; hand = self.new.hand }) }
+        ensures copied { OnOk result (self.new.copied ≤ max self.old.copied place) }
+        ensures last { OnOk result (FirstEndsBehind place (held_runs self.new.hand)) }
+        ensures writes { OnOk result (Settles W.Sink sink.old sink.new
+            (pieces_of pieces.now) place self.old self.new) }
+        ensures begins { OnErr result (StopsSettling W.Sink sink.old sink.new
+            (pieces_of pieces.now) place self.old) }
+        ensures tells { TellsWrites W.Sink sink.old sink.new result }
+    {
+        while self.settle_one(sink, &*pieces, place)? {}
+        Ok(())
+    }
+
+    /// A place, or the start of the first run in hand, where that is before it.
+    fn outside_end(&self, place: usize) -> usize
+        requires whole { HasItsFirst self.now.hand }
+        ensures end { result ≡ outside_end place (held_runs self.now.hand) }
+    {
+        match self.hand.start() {
+            Some(start) => place.min(start),
+            None => place,
+        }
+    }
+
+    /// Writes the bytes up to a place, or up to the first run in hand, where that begins before.
+    fn write_outside<W: Sink>(&mut self, sink: &mut W, place: usize) -> Result<(), StreamError>
+        requires sound { (at : ℕ) × IsSoundCover self.old at × (place ≤ at) }
+        ensures copied { OnOk result (self.new ≡ record self.old {
+          copied = max self.old.copied (outside_end place (held_runs self.old.hand));
+        }) }
+        ensures writes { OnOk result
+            (WritesOutside W.Sink sink.old sink.new place self.old self.new) }
+        ensures begins { OnErr result
+            (StopsOutside W.Sink sink.old sink.new place self.old) }
+        ensures tells { TellsWrites W.Sink sink.old sink.new result }
+    {
+        let end = self.outside_end(place);
+        write_whole(sink, self.gap(end))?;
+        self.copied = self.copied.max(end);
+        Ok(())
+    }
+
+    /// Writes all that is settled once `at` bytes were walked.
+    pub(crate) fn write_settled<W: Sink>(
+        &mut self,
+        sink: &mut W,
+        pieces: &[&[u8]],
+        at: usize,
+    ) -> Result<(), StreamError>
+        requires sound { IsSoundCover self.old at }
+        ensures sound { OnOk result (IsSoundCover self.new at) }
+        ensures others { OnOk result
+            (self.new ≡ record self.old { copied = self.new.copied; hand = self.new.hand }) }
+        ensures near { OnOk result (BareFrom self.new.copied (held_runs self.new.hand)
+            (at + 1 - self.old.buffer.least)) }
+        ensures writes { OnOk result (WritesOn W.Sink sink.old sink.new
+            (HasCovered (pieces_of pieces.now) self.old at)
+            (HasCovered (pieces_of pieces.now) self.new at)) }
+        ensures begins { OnErr result (StopsAt W.Sink sink.old sink.new
+            (pieces_of pieces.now) self.old at) }
+        ensures tells { TellsWrites W.Sink sink.old sink.new result }
+    {
+        let open = self.open_place(at);
+        self.settle(sink, &*pieces, open)?;
+        self.write_outside(sink, open)
+    }
+
+    /// Joins a match that was told to the runs in hand, once those are written that nothing can touch any more.
+    pub(crate) fn join<W: Sink>(
+        &mut self,
+        sink: &mut W,
+        pieces: &[&[u8]],
+        m: Match,
+    ) -> Result<(), StreamError>
+        requires sound { IsSoundCover self.old (m.end - 1) }
+        requires some { m.start < m.end }
+        requires read { m.end ≤ self.old.read }
+        requires behind { max self.old.copied (open_place self.old (m.end - 1)) ≤ m.start }
+        ensures sound { OnOk result (IsSoundCover self.new m.end) }
+        ensures others { OnOk result
+            (self.new ≡ record self.old { copied = self.new.copied; hand = self.new.hand }) }
+        ensures writes { OnOk result (WritesOn W.Sink sink.old sink.new
+            (EndsNext (pieces_of pieces.now) self.old m)
+            (HasCovered (pieces_of pieces.now) self.new m.end)) }
+        ensures begins { OnErr result (StopsAt W.Sink sink.old sink.new
+            (pieces_of pieces.now) self.old (m.end - 1)) }
+        ensures tells { TellsWrites W.Sink sink.old sink.new result }
+    {
+        let open = self.open_place(m.end() - 1);
+        self.settle(sink, &*pieces, open)?;
+        self.hand.add(m);
+        Ok(())
+    }
+
+    /// Writes all that is left, at the end of the stream.
+    pub(crate) fn finish<W: Sink>(
+        &mut self,
+        sink: &mut W,
+        pieces: &[&[u8]],
+    ) -> Result<(), StreamError>
+        requires sound { IsSoundCover self.old self.old.read }
+        ensures covers { OnOk result (WritesOn W.Sink sink.old sink.new
+            (EndsHere (pieces_of pieces.now) self.old) (IsAll (pieces_of pieces.now))) }
+        ensures begins { OnErr result (WritesOn W.Sink sink.old sink.new
+            (EndsHere (pieces_of pieces.now) self.old) (IsBeginning (pieces_of pieces.now))) }
+        ensures tells { TellsWrites W.Sink sink.old sink.new result }
+    {
+        let end = self.read;
+        self.settle(sink, &*pieces, end + 1)?;
+        self.write_outside(sink, end)
+    }
+}

@@ -1,0 +1,83 @@
+//! One read of a stream: the walk over its bytes, and what is written of them.
+
+ghost use Rattle.std.specs.Prelude.{◌≡◌, ◌<◌, IfOk, OnErr, OnOk, Ok, IfErr, true, false};
+ghost use Rattle.aho_core.specs.Replacement.{pieces_of};
+ghost use Rattle.aho_cover.specs.Progress.{IsBeginning, IsSoundCover};
+ghost use Rattle.aho_cover.specs.Steps.{CanWalk, CoversOn, MayRoll, KeepsBytes};
+ghost use Rattle.aho_cover.specs.Writes.{TellsWrites, WritesOn};
+
+use crate::progress::CoverProgress;
+use crate::walk::walk_to_match;
+use aho_automaton::automaton::Automaton;
+use aho_automaton::walk::Counted;
+use aho_core::error::StreamError;
+use aho_devices::device::Sink;
+
+/// Walks on to the next match that ends, and joins it to the runs in hand. Answers the place behind the bytes that were walked.
+#[inline(always)]
+fn walk_once<A: Automaton, W: Sink>(
+    walk: &mut Counted<'_, A>,
+    progress: &mut CoverProgress,
+    sink: &mut W,
+    pieces: &[&[u8]],
+    at: usize,
+) -> Result<usize, StreamError>
+    requires sound { IsSoundCover progress.old at }
+    requires further { at < progress.old.read }
+    requires can { CanWalk A.Automaton walk.old (pieces_of pieces.now) progress.old at }
+    ensures sound { IfOk result (IsSoundCover progress.new) }
+    ensures can { IfOk result (CanWalk A.Automaton walk.new (pieces_of pieces.now) progress.new) }
+    ensures further { IfOk result (λ next. at < next) }
+    ensures bytes { OnOk result (KeepsBytes progress.old progress.new) }
+    ensures same { walk.new.automaton.now ≡ walk.old.automaton.now }
+    ensures writes { IfOk result (λ next. WritesOn W.Sink sink.old sink.new
+        (CoversOn A.Automaton walk.old.automaton.now (pieces_of pieces.now) progress.old at)
+        (CoversOn A.Automaton walk.old.automaton.now (pieces_of pieces.now) progress.new next)) }
+    ensures begins { OnErr result (WritesOn W.Sink sink.old sink.new
+        (CoversOn A.Automaton walk.old.automaton.now (pieces_of pieces.now) progress.old at)
+        (IsBeginning (pieces_of pieces.now))) }
+    ensures tells { TellsWrites W.Sink sink.old sink.new result }
+{
+    let bytes = progress.bytes(at, progress.read);
+    let reached = walk_to_match(walk, bytes, at, progress.sid, progress.since);
+    progress.sid = reached.sid;
+    progress.since = reached.since;
+    let next = at + reached.count;
+    let Some(m) = reached.found else {
+        return Ok(next);
+    };
+    progress.join(sink, &*pieces, m)?;
+    Ok(next)
+}
+
+/// Walks over all that was read and not walked, and writes all that is settled then.
+pub(crate) fn walk_read<A: Automaton, W: Sink>(
+    walk: &mut Counted<'_, A>,
+    progress: &mut CoverProgress,
+    sink: &mut W,
+    pieces: &[&[u8]],
+    from: usize,
+) -> Result<(), StreamError>
+    requires sound { IsSoundCover progress.old from }
+    requires can { CanWalk A.Automaton walk.old (pieces_of pieces.now) progress.old from }
+    ensures sound { OnOk result (IsSoundCover progress.new progress.new.read) }
+    ensures near { OnOk result (MayRoll progress.new) }
+    ensures can { OnOk result (CanWalk A.Automaton walk.new
+        (pieces_of pieces.now) progress.new progress.new.read) }
+    ensures bytes { OnOk result (KeepsBytes progress.old progress.new) }
+    ensures same { walk.new.automaton.now ≡ walk.old.automaton.now }
+    ensures writes { OnOk result (WritesOn W.Sink sink.old sink.new
+        (CoversOn A.Automaton walk.old.automaton.now (pieces_of pieces.now) progress.old from)
+        (CoversOn A.Automaton walk.old.automaton.now
+        (pieces_of pieces.now) progress.new progress.new.read)) }
+    ensures begins { OnErr result (WritesOn W.Sink sink.old sink.new
+        (CoversOn A.Automaton walk.old.automaton.now (pieces_of pieces.now) progress.old from)
+        (IsBeginning (pieces_of pieces.now))) }
+    ensures tells { TellsWrites W.Sink sink.old sink.new result }
+{
+    let mut at = from;
+    while at < progress.read {
+        at = walk_once(walk, progress, sink, &*pieces, at)?;
+    }
+    progress.write_settled(sink, &*pieces, at)
+}

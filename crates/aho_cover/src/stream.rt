@@ -1,0 +1,120 @@
+//! Covers of streams: what a source gives goes to a sink, but in the place of each run of bytes that matches hold a piece.
+//!
+//! # The walk
+//!
+//! The automaton walks over each byte once, when it was read. The longest match that ends at a byte joins the runs in hand:
+//! all others that end there lie in it, and the runs that it touches become one with it.
+//!
+//! # What is written when
+//!
+//! A match that ends later begins at most as far back as the longest pattern reaches, and behind the last place at which the
+//! automaton stood in a start. What lies before both is settled: the runs that end there are written as their pieces, and the
+//! bytes between them as they are. All that is settled is written and flushed before the source is read again.
+
+ghost use Rattle.std.specs.Prelude.{◌≡◌, ℕ, List, IfErr, length};
+ghost use Rattle.aho_core.specs.Patterns.{Patterns};
+ghost use Rattle.aho_core.specs.Replacement.{pieces_of};
+ghost use Rattle.aho_automaton.specs.CoverIters.{cover_refusal_of};
+ghost use Rattle.aho_devices.specs.Errors.{CountsErrors};
+ghost use Rattle.aho_stream.specs.Replacing.{IsMakingRefusal, IsStreamFault};
+ghost use Rattle.aho_cover.specs.Covers.{IsUnbegunCover, LeavesCovered, RefusesStreamCover};
+
+use crate::progress::CoverProgress;
+use crate::refill::refill;
+use crate::start::StreamCoverStart;
+use crate::steps::walk_read;
+use aho_automaton::automaton::Automaton;
+use aho_automaton::walk::Counted;
+use aho_core::error::StreamError;
+use aho_devices::device::{Sink, Source};
+use std::alloc::Global;
+
+/// Covers what a source gives, of a stream that has not begun.
+fn cover_from<A: Automaton, R: Source, W: Sink>(
+    walk: &mut Counted<'_, A>,
+    progress: &mut CoverProgress,
+    source: &mut R,
+    sink: &mut W,
+    pieces: &[&[u8]],
+) -> Result<(), StreamError>
+    requires some { (p : Patterns) × A.is_of walk.old.automaton.now p }
+    requires unbegun { IsUnbegunCover A.Automaton walk.old.automaton.now progress.old }
+    requires unwalked { walk.old.work ≡ 0 }
+    ensures leaves { LeavesCovered R.Source W.Sink
+        (A.is_of walk.old.automaton.now) (pieces_of pieces.now)
+        source.old source.new sink.old sink.new result }
+    ensures errors { CountsErrors R.Source W.Sink
+        source.old source.new sink.old sink.new result }
+    ensures only { IfErr result IsStreamFault }
+{
+    loop {
+        sink.flush()?;
+        let from = progress.read;
+        if refill(progress, source)? {
+            return progress.finish(sink, &*pieces);
+        }
+        walk_read(walk, progress, sink, &*pieces, from)?;
+    }
+}
+
+/// Writes what the source gives to the sink, but in the place of each run of its cover the bytes for the run's pattern. So
+/// nothing that a match holds is passed on: not a byte of it, whichever other match overlaps it.
+///
+/// A run is a maximal stretch of bytes that matches hold, and its pattern is that of the longest match that begins where it
+/// does, of equal ones the first. There is one replacement for each pattern. It ends where the source's end is seen. It keeps
+/// no memory but that of the start. The sink is flushed before each read, and not at the end.
+///
+/// # Errors
+///
+/// `Read` exactly where a read fails, `Write` where a write or a flush fails, `WriteZero` where a write of some bytes takes
+/// none, and `PositionLimit` where 2^63 - 1 bytes were given and the end was not seen. Nothing is tried again, and what was
+/// written then is a beginning of the cover, whatever bytes would have followed. After `Read` and `PositionLimit` it is all of
+/// it up to a place: each byte that was given from there on lies in a match, or is among the last, as many as the longest
+/// pattern has.
+pub fn cover_stream<'a, A: Automaton, R: Source, W: Sink>(
+    start: StreamCoverStart<'a, A>,
+    source: &mut R,
+    sink: &mut W,
+    replace_with: &[&[u8]],
+) -> Result<(), StreamError>
+    requires of { (p : Patterns) × A.is_of start.automaton.now p }
+    requires unbegun { IsUnbegunCover A.Automaton start.automaton.now start.progress }
+    requires one_each { length replace_with.now ≡ length (A.lengths start.automaton.now) }
+    ensures leaves { LeavesCovered R.Source W.Sink
+        (A.is_of start.entry.automaton.now) (pieces_of replace_with.now)
+        source.old source.new sink.old sink.new result }
+    ensures errors { CountsErrors R.Source W.Sink
+        source.old source.new sink.old sink.new result }
+    ensures only { IfErr result IsStreamFault }
+{
+    let mut walk = Counted::new(start.automaton);
+    let mut progress = start.progress;
+    cover_from(&mut walk, &mut progress, source, sink, replace_with)
+}
+
+/// `StreamCoverStart::new` and `cover_stream` in one call. The source may give 2^63 - 1 bytes.
+///
+/// # Errors
+///
+/// `Match` and `Memory` as `StreamCoverStart::new`, before anything is read. Then as `cover_stream`.
+pub fn try_stream_cover_all<A: Automaton, R: Source, W: Sink>(
+    alloc: Global,
+    automaton: &A,
+    source: &mut R,
+    sink: &mut W,
+    replace_with: &[&[u8]],
+) -> Result<(), StreamError>
+    requires of { (p : Patterns) × A.is_of automaton.now p }
+    requires one_each { length replace_with.now ≡ length (A.lengths automaton.now) }
+    ensures leaves { LeavesCovered R.Source W.Sink
+        (A.is_of automaton.now) (pieces_of replace_with.now)
+        source.old source.new sink.old sink.new result }
+    ensures errors { CountsErrors R.Source W.Sink
+        source.old source.new sink.old sink.new result }
+    ensures untouched { IfErr result (λ error. IsMakingRefusal error →
+        (source.new ≡ source.old) × (sink.new ≡ sink.old)) }
+    ensures refuses { RefusesStreamCover (cover_refusal_of A.Automaton automaton.now) result }
+{
+    let start = StreamCoverStart::new(alloc, automaton)?;
+    cover_stream(start, source, sink, replace_with)
+}
