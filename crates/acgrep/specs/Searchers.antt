@@ -6,7 +6,6 @@ use Rattle.aho_build.specs.Settings.{default_settings}
 use Rattle.aho_build.specs.declared.settings.Settings.{Settings}
 use Rattle.aho_corasick.specs.contracts.noncontiguous.NFAAutomaton.TheImpl.{ghosts as of_nfa}
 use Rattle.aho_hybrid.specs.contracts.hybrid.HybridAutomaton.TheImpl.{ghosts as of_hybrid}
-use Rattle.aho_corasick.specs.declared.noncontiguous.NFA.{NFA}
 use Rattle.programs.specs.Asked.{ArePatterns}
 use Rattle.acgrep.specs.declared.searcher.Searcher.{Searcher}
 use Rattle.acgrep.specs.declared.searcher.Searcher.TheVariants.{Rows, Trie}
@@ -22,10 +21,6 @@ settings_asked kind ignore_case = record default_settings { kind = kind; ignore_
 -- what holds of the patterns that are these words by a match kind and a case rule
 abbrev pub ForAsked : MatchKind → Bool → List (List ℕ) → (Patterns → Type 0) → Type 0
 ForAsked kind ignore_case words Holds = (p : Patterns) → p.kind ≡ kind → ArePatterns p ignore_case words → Holds p
-
--- the automaton that rows are made of is of these patterns
-abbrev pub IsNFAOf : Patterns → NFA → Type 0
-IsNFAOf p nfa = of_nfa.is_of nfa p
 
 -- the automaton that is held is of these patterns
 abbrev pub IsSearcherOf : Patterns → Searcher → Type 0

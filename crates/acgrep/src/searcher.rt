@@ -2,7 +2,8 @@
 
 ghost use Rattle.std.specs.Prelude.{◌≡◌, IfOk};
 ghost use Rattle.aho_core.specs.Replacement.{pieces_of};
-ghost use Rattle.acgrep.specs.Searchers.{ForAsked, IsSearcherOf, IsNFAOf, settings_asked};
+ghost use Rattle.programs.specs.Automata.{IsNFAFor};
+ghost use Rattle.acgrep.specs.Searchers.{ForAsked, IsSearcherOf, settings_asked};
 
 use aho_corasick::noncontiguous::{Builder, NFA};
 use aho_hybrid::hybrid::Hybrid;
@@ -51,7 +52,7 @@ fn trie_of(
     patterns: &[&[u8]],
 ) -> Result<NFA, BuildError>
     ensures of { ForAsked kind ignore_case (pieces_of patterns.now)
-        (λ p. IfOk result (IsNFAOf p)) }
+        (λ p. IfOk result (IsNFAFor p)) }
 {
     builder_for(kind, ignore_case).build(alloc, patterns.iter().copied())
 }
