@@ -1,0 +1,138 @@
+/* Searches bytes for many patterns at once. Each function is proved to answer what it says here; CALLING.md says what is not.
+ *
+ * Places and lengths count bytes, from 0 on. A pattern's number is its place among the patterns, from 0 on. Where a length is 0 the
+ * pointer before it may be NULL; no other may. No function keeps a pointer that it is given: the patterns may go after cs_build.
+ *
+ * A handle owns one share of a searcher, or none. Start it with CS_SEARCHER_INIT, and end each by cs_free. Never copy one by '='
+ * and never write its fields. One call at a time uses a handle; another thread takes one of its own by cs_share, and the searches
+ * of both run side by side. A call takes memory only where that is said. */
+#ifndef CHROMESQUID_H
+#define CHROMESQUID_H
+
+#include <stdbool.h>
+#include <stddef.h>
+#include <stdint.h>
+
+#ifdef __cplusplus
+extern "C" {
+#endif
+
+/* The version of this header: 102 is 0.1.2. cs_version tells that of the library. */
+#define CS_VERSION 100
+
+/* What the functions answer. */
+enum {
+    CS_DONE = 0,              /* all is done; a search found nothing */
+    CS_FOUND = 1,             /* a search found a match */
+    CS_NO_SEARCHER = 2,       /* the handle has no searcher */
+    CS_REFUSED = 3,           /* the searcher was not built for such a search */
+    CS_NO_SPAN = 4,           /* the haystack has no such span */
+    CS_NO_MEMORY = 5,         /* memory ran out */
+    CS_NO_OPTION = 6,         /* a number of the options means nothing */
+    CS_TOO_MANY_STATES = 7,   /* the patterns need more than 2^31 - 1 states or transitions */
+    CS_TOO_MANY_PATTERNS = 8, /* there are more than 2^31 - 1 patterns */
+    CS_TOO_LONG = 9,          /* a pattern has more than 2^31 - 2 bytes */
+    CS_NOT_ONE_EACH = 10,     /* there is not one replacement for each pattern */
+    CS_NO_ROOM = 11           /* the room is too small */
+};
+
+/* Which of several matches is found. */
+enum {
+    CS_STANDARD = 0,       /* the one that ends first */
+    CS_LEFTMOST_FIRST = 1, /* of those that start first, the one of the pattern that stands first */
+    CS_LEFTMOST_LONGEST = 2 /* of those that start first, the longest */
+};
+
+/* Which searches are answered. */
+enum {
+    CS_UNANCHORED = 0, /* those that are not anchored: the quickest */
+    CS_ANCHORED = 1,   /* anchored ones */
+    CS_BOTH = 2
+};
+
+typedef struct cs_searcher {
+    bool full;
+    void *at;
+} cs_searcher;
+
+#define CS_SEARCHER_INIT { false, NULL }
+
+typedef struct cs_slice {
+    const uint8_t *at;
+    size_t len;
+} cs_slice;
+
+typedef struct cs_options {
+    uint32_t match_kind; /* CS_STANDARD and so on */
+    uint32_t start_kind; /* CS_UNANCHORED and so on */
+    bool ignore_case;    /* whether ASCII letters are the same in both cases */
+    bool prefilter;      /* whether it may search by a prefilter; no answer depends on it */
+} cs_options;
+
+#define CS_OPTIONS_INIT { CS_STANDARD, CS_UNANCHORED, false, true }
+
+typedef struct cs_match {
+    size_t pattern; /* its number */
+    size_t start;   /* the place of its first byte */
+    size_t end;     /* the place behind its last byte */
+} cs_match;
+
+typedef struct cs_facts {
+    size_t patterns; /* how many there are */
+    size_t min_len;  /* of the shortest pattern; SIZE_MAX where there is none */
+    size_t max_len;  /* of the longest pattern; 0 where there is none */
+    size_t memory;   /* how many bytes the searcher holds */
+} cs_facts;
+
+/* The version of the library. */
+uint32_t cs_version(void);
+
+/* Builds a searcher for the patterns, in memory that it takes, and puts it into the handle; what the handle had is let go.
+ * CS_DONE; CS_NO_OPTION; else CS_NO_MEMORY, CS_TOO_MANY_STATES, CS_TOO_MANY_PATTERNS or CS_TOO_LONG. If not CS_DONE, the handle is as
+ * it was. */
+uint32_t cs_build(const cs_slice *patterns, size_t patterns_len, const cs_options *options, cs_searcher *out);
+
+/* Lets go what the handle has: it has none then. The searcher's memory is freed with its last handle. */
+void cs_free(cs_searcher *searcher);
+
+/* Makes `out`, another handle, share the searcher; what `out` had is let go. It takes 8 bytes of memory.
+ * CS_DONE; CS_NO_SEARCHER, CS_NO_MEMORY: `out` is as it was. */
+uint32_t cs_share(cs_searcher *searcher, cs_searcher *out);
+
+/* Whether a pattern occurs: CS_FOUND or CS_DONE.
+ * Else CS_NO_SEARCHER; CS_REFUSED where it was built for anchored searches alone. */
+uint32_t cs_is_match(cs_searcher *searcher, const uint8_t *haystack, size_t haystack_len);
+
+/* The first match: CS_FOUND and the match, or CS_DONE.
+ * Else as cs_is_match. If not CS_FOUND, `found` is as it was. */
+uint32_t cs_find(cs_searcher *searcher, const uint8_t *haystack, size_t haystack_len, cs_match *found);
+
+/* The same within a span; where `anchored`, a match starts where the span does; where `earliest`, it is the one that ends first.
+ * Else CS_NO_SEARCHER; CS_NO_SPAN where not start <= end <= haystack_len; CS_REFUSED where it was not built for it. */
+uint32_t cs_search(cs_searcher *searcher, const uint8_t *haystack, size_t haystack_len, size_t start, size_t end, bool anchored,
+                   bool earliest, cs_match *found);
+
+/* All matches, each searched for from the end of the one before: CS_DONE, the first of them in `room`, as many as it holds, and in
+ * `count` how many there are.
+ * Else as cs_is_match: `room` and `count` are as they were. */
+uint32_t cs_find_all(cs_searcher *searcher, const uint8_t *haystack, size_t haystack_len, cs_match *room, size_t room_len,
+                     size_t *count);
+
+/* The same of all matches, those that overlap too: by end, then start, then number.
+ * CS_REFUSED also where the match kind is not CS_STANDARD. */
+uint32_t cs_overlapping(cs_searcher *searcher, const uint8_t *haystack, size_t haystack_len, cs_match *room, size_t room_len,
+                        size_t *count);
+
+/* The haystack with each match replaced by the bytes for its pattern: CS_DONE, the bytes in `room`, and in `len` how many they are.
+ * CS_NO_ROOM where they are more than `room` holds: `len` is how many. The replacement is made in memory of its own first.
+ * Else CS_NO_SEARCHER; CS_NOT_ONE_EACH; CS_REFUSED as cs_is_match; CS_NO_MEMORY. If not CS_DONE, `room` is as it was. */
+uint32_t cs_replace_all(cs_searcher *searcher, const uint8_t *haystack, size_t haystack_len, const cs_slice *replace_with,
+                        size_t replace_with_len, uint8_t *room, size_t room_len, size_t *len);
+
+/* What is known of the searcher: CS_DONE. Else CS_NO_SEARCHER: `out` is as it was. */
+uint32_t cs_info(cs_searcher *searcher, cs_facts *out);
+
+#ifdef __cplusplus
+}
+#endif
+#endif

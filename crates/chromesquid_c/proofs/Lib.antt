@@ -1,0 +1,5 @@
+pub mod Evidence
+pub mod Helds
+pub mod Listing
+pub mod Values
+pub mod Written

@@ -1,0 +1,9 @@
+pub mod Building
+pub mod Evidence
+pub mod Holding
+pub mod Lending
+pub mod Matches
+pub mod Owned
+pub mod Replacing
+pub mod Telling
+pub mod Told

@@ -1,0 +1,17 @@
+//! The searcher of `chromesquid` for C: the functions of `include/chromesquid.h`, over a handle that C holds.
+#![tactic(auto)]
+
+pub mod build;
+mod handle;
+mod held;
+mod inner;
+pub mod list;
+mod loose;
+pub mod options;
+pub mod replace;
+pub mod search;
+pub mod status;
+pub mod told;
+
+pub use handle::CsSearcher;
+pub use options::{CsFacts, CsMatch, CsOptions};

@@ -1,0 +1,37 @@
+//! The numbers that the functions answer. The header has the same, with CS_ before each.
+
+/// All is done. A search found nothing.
+pub const DONE: u32 = 0;
+
+/// A search found a match.
+pub const FOUND: u32 = 1;
+
+/// The handle has no searcher.
+pub const NO_SEARCHER: u32 = 2;
+
+/// The searcher was not built for such a search.
+pub const REFUSED: u32 = 3;
+
+/// The haystack has no such span.
+pub const NO_SPAN: u32 = 4;
+
+/// Memory ran out.
+pub const NO_MEMORY: u32 = 5;
+
+/// A number of the options means nothing.
+pub const NO_OPTION: u32 = 6;
+
+/// The patterns need more states than there may be.
+pub const TOO_MANY_STATES: u32 = 7;
+
+/// There are more patterns than there may be.
+pub const TOO_MANY_PATTERNS: u32 = 8;
+
+/// A pattern is longer than it may be.
+pub const TOO_LONG: u32 = 9;
+
+/// There is not one replacement for each pattern.
+pub const NOT_ONE_EACH: u32 = 10;
+
+/// The room is too small.
+pub const NO_ROOM: u32 = 11;
