@@ -1,0 +1,256 @@
+/* Rows of the C library. It tells the first that fails, with its line, and its status is then 1. */
+#include "chromesquid.h"
+#include <pthread.h>
+#include <stdio.h>
+#include <stdlib.h>
+#include <string.h>
+
+#define HAS(truth) \
+    do { \
+        if (!(truth)) { \
+            fprintf(stderr, "clib.c:%d: %s\n", __LINE__, #truth); \
+            exit(1); \
+        } \
+    } while (0)
+#define SLICE(text) { (const uint8_t *)(text), sizeof(text) - 1 }
+#define BYTES(text) (const uint8_t *)(text), sizeof(text) - 1
+#define ROOM 16
+
+static const cs_slice names[] = { SLICE("samwise"), SLICE("sam"), SLICE("frodo"), SLICE("s") };
+static const cs_slice others[] = { SLICE("SW"), SLICE("SAM"), SLICE("FRODO"), SLICE("") };
+
+static bool is(cs_match m, size_t pattern, size_t start, size_t end) {
+    return m.pattern == pattern && m.start == start && m.end == end;
+}
+
+static cs_searcher built(uint32_t match_kind, uint32_t start_kind) {
+    cs_searcher it = CS_SEARCHER_INIT;
+    cs_options options = CS_OPTIONS_INIT;
+    options.match_kind = match_kind;
+    options.start_kind = start_kind;
+    HAS(cs_build(names, 4, &options, &it) == CS_DONE);
+    return it;
+}
+
+/* What a handle without a searcher answers, and that it writes nothing. */
+static void none(void) {
+    cs_searcher it = CS_SEARCHER_INIT, other = CS_SEARCHER_INIT;
+    cs_match m = { 7, 8, 9 };
+    cs_facts facts = { 1, 2, 3, 4 };
+    size_t count = 5;
+    uint8_t byte = 6;
+    HAS(cs_is_match(&it, BYTES("sam")) == CS_NO_SEARCHER);
+    HAS(cs_find(&it, BYTES("sam"), &m) == CS_NO_SEARCHER);
+    HAS(cs_search(&it, BYTES("sam"), 0, 9, false, false, &m) == CS_NO_SEARCHER);
+    HAS(cs_find_all(&it, BYTES("sam"), &m, 1, &count) == CS_NO_SEARCHER);
+    HAS(cs_overlapping(&it, BYTES("sam"), &m, 1, &count) == CS_NO_SEARCHER);
+    HAS(cs_replace_all(&it, BYTES("sam"), others, 4, &byte, 1, &count) == CS_NO_SEARCHER);
+    HAS(cs_info(&it, &facts) == CS_NO_SEARCHER);
+    HAS(cs_share(&it, &other) == CS_NO_SEARCHER);
+    HAS(is(m, 7, 8, 9) && facts.patterns == 1 && facts.memory == 4 && count == 5 && byte == 6);
+    cs_free(&it);
+    cs_free(&it);
+    HAS(!it.full && !it.at);
+}
+
+/* The options' numbers, and a build in the place of another. */
+static void builds(void) {
+    cs_searcher it = CS_SEARCHER_INIT;
+    cs_options options = CS_OPTIONS_INIT;
+    options.match_kind = 3;
+    HAS(cs_build(names, 4, &options, &it) == CS_NO_OPTION && !it.full);
+    options.match_kind = CS_STANDARD;
+    options.start_kind = 3;
+    HAS(cs_build(names, 4, &options, &it) == CS_NO_OPTION && !it.full);
+    options.start_kind = CS_UNANCHORED;
+    HAS(cs_build(names, 4, &options, &it) == CS_DONE && it.full);
+    HAS(cs_build(NULL, 0, &options, &it) == CS_DONE);
+    HAS(cs_is_match(&it, BYTES("sam")) == CS_DONE);
+    options.match_kind = 9;
+    HAS(cs_build(names, 4, &options, &it) == CS_NO_OPTION && it.full);
+    options = (cs_options)CS_OPTIONS_INIT;
+    options.ignore_case = true;
+    HAS(cs_build(names, 4, &options, &it) == CS_DONE);
+    HAS(cs_is_match(&it, BYTES("SAM")) == CS_FOUND);
+    cs_slice empty = { NULL, 0 };
+    HAS(cs_build(&empty, 1, &options, &it) == CS_DONE);
+    cs_match m, all[3];
+    size_t count;
+    HAS(cs_find(&it, NULL, 0, &m) == CS_FOUND && is(m, 0, 0, 0));
+    HAS(cs_find_all(&it, BYTES("ab"), all, 3, &count) == CS_DONE && count == 3);
+    HAS(is(all[0], 0, 0, 0) && is(all[1], 0, 1, 1) && is(all[2], 0, 2, 2));
+    cs_free(&it);
+}
+
+/* One match, by each match kind. */
+static void finds(void) {
+    cs_match m;
+    cs_searcher it = built(CS_STANDARD, CS_UNANCHORED);
+    HAS(cs_find(&it, BYTES("frodo and samwise"), &m) == CS_FOUND && is(m, 2, 0, 5));
+    HAS(cs_find(&it, BYTES("a samwise"), &m) == CS_FOUND && is(m, 3, 2, 3));
+    m = (cs_match){ 7, 8, 9 };
+    HAS(cs_find(&it, BYTES("x"), &m) == CS_DONE && is(m, 7, 8, 9));
+    HAS(cs_find(&it, NULL, 0, &m) == CS_DONE && is(m, 7, 8, 9));
+    HAS(cs_is_match(&it, BYTES("xsx")) == CS_FOUND && cs_is_match(&it, BYTES("x")) == CS_DONE);
+    cs_free(&it);
+    it = built(CS_LEFTMOST_FIRST, CS_UNANCHORED);
+    HAS(cs_find(&it, BYTES("a samwise"), &m) == CS_FOUND && is(m, 0, 2, 9));
+    HAS(cs_find(&it, BYTES("a samw"), &m) == CS_FOUND && is(m, 1, 2, 5));
+    cs_free(&it);
+    it = built(CS_LEFTMOST_LONGEST, CS_UNANCHORED);
+    HAS(cs_find(&it, BYTES("a samwise"), &m) == CS_FOUND && is(m, 0, 2, 9));
+    cs_free(&it);
+}
+
+/* Spans, anchored searches and earliest ones. */
+static void searches(void) {
+    cs_match m = { 7, 8, 9 };
+    cs_searcher it = built(CS_LEFTMOST_FIRST, CS_BOTH);
+    HAS(cs_search(&it, BYTES("a samwise"), 0, 9, false, false, &m) == CS_FOUND && is(m, 0, 2, 9));
+    HAS(cs_search(&it, BYTES("a samwise"), 0, 9, false, true, &m) == CS_FOUND && is(m, 3, 2, 3));
+    HAS(cs_search(&it, BYTES("a samwise"), 0, 8, false, false, &m) == CS_FOUND && is(m, 1, 2, 5));
+    HAS(cs_search(&it, BYTES("a samwise"), 3, 9, false, false, &m) == CS_FOUND && is(m, 3, 7, 8));
+    HAS(cs_search(&it, BYTES("a samwise"), 2, 9, true, false, &m) == CS_FOUND && is(m, 0, 2, 9));
+    m = (cs_match){ 7, 8, 9 };
+    HAS(cs_search(&it, BYTES("a samwise"), 0, 9, true, false, &m) == CS_DONE);
+    HAS(cs_search(&it, BYTES("a samwise"), 9, 9, false, false, &m) == CS_DONE);
+    HAS(cs_search(&it, NULL, 0, 0, 0, false, false, &m) == CS_DONE);
+    HAS(cs_search(&it, BYTES("a samwise"), 3, 2, false, false, &m) == CS_NO_SPAN);
+    HAS(cs_search(&it, BYTES("a samwise"), 0, 10, false, false, &m) == CS_NO_SPAN);
+    HAS(cs_search(&it, BYTES("a samwise"), SIZE_MAX, SIZE_MAX, false, false, &m) == CS_NO_SPAN);
+    cs_free(&it);
+    it = built(CS_STANDARD, CS_UNANCHORED);
+    HAS(cs_search(&it, BYTES("sam"), 0, 3, true, false, &m) == CS_REFUSED);
+    cs_free(&it);
+    HAS(is(m, 7, 8, 9));
+    it = built(CS_STANDARD, CS_ANCHORED);
+    HAS(cs_search(&it, BYTES("sam"), 0, 3, true, false, &m) == CS_FOUND && is(m, 3, 0, 1));
+    m = (cs_match){ 7, 8, 9 };
+    size_t count = 5;
+    uint8_t byte = 6;
+    HAS(cs_search(&it, BYTES("sam"), 0, 3, false, false, &m) == CS_REFUSED);
+    HAS(cs_is_match(&it, BYTES("sam")) == CS_REFUSED && cs_find(&it, BYTES("sam"), &m) == CS_REFUSED);
+    HAS(cs_find_all(&it, BYTES("sam"), &m, 1, &count) == CS_REFUSED);
+    HAS(cs_overlapping(&it, BYTES("sam"), &m, 1, &count) == CS_REFUSED);
+    HAS(cs_replace_all(&it, BYTES("sam"), others, 4, &byte, 1, &count) == CS_REFUSED);
+    HAS(is(m, 7, 8, 9) && count == 5 && byte == 6);
+    cs_free(&it);
+}
+
+/* All matches: what the room holds, and the count of all. */
+static void lists(void) {
+    cs_match room[ROOM];
+    size_t count;
+    cs_searcher it = built(CS_STANDARD, CS_UNANCHORED);
+    HAS(cs_find_all(&it, BYTES("frodo sam"), room, ROOM, &count) == CS_DONE && count == 2);
+    HAS(is(room[0], 2, 0, 5) && is(room[1], 3, 6, 7));
+    HAS(cs_overlapping(&it, BYTES("frodo samwise"), room, ROOM, &count) == CS_DONE && count == 5);
+    HAS(is(room[0], 2, 0, 5) && is(room[1], 3, 6, 7) && is(room[2], 1, 6, 9));
+    HAS(is(room[3], 3, 11, 12) && is(room[4], 0, 6, 13));
+    memset(room, 0, sizeof room);
+    HAS(cs_overlapping(&it, BYTES("frodo samwise"), room, 2, &count) == CS_DONE && count == 5);
+    HAS(is(room[1], 3, 6, 7) && is(room[2], 0, 0, 0));
+    HAS(cs_find_all(&it, BYTES("ssssss"), NULL, 0, &count) == CS_DONE && count == 6);
+    HAS(cs_find_all(&it, BYTES("ssssss"), room, 3, &count) == CS_DONE && count == 6);
+    HAS(is(room[2], 3, 2, 3) && is(room[3], 0, 0, 0));
+    HAS(cs_find_all(&it, NULL, 0, room, ROOM, &count) == CS_DONE && count == 0);
+    cs_free(&it);
+    it = built(CS_LEFTMOST_FIRST, CS_UNANCHORED);
+    HAS(cs_find_all(&it, BYTES("samwise sam"), room, ROOM, &count) == CS_DONE && count == 2);
+    HAS(is(room[0], 0, 0, 7) && is(room[1], 1, 8, 11));
+    count = 5;
+    HAS(cs_overlapping(&it, BYTES("sam"), room, ROOM, &count) == CS_REFUSED && count == 5);
+    cs_free(&it);
+}
+
+static void replaces(void) {
+    uint8_t room[64];
+    size_t len = 0;
+    cs_searcher it = built(CS_LEFTMOST_FIRST, CS_UNANCHORED);
+    memset(room, '-', sizeof room);
+    HAS(cs_replace_all(&it, BYTES("frodo, samwise"), others, 4, room, 8, &len) == CS_NO_ROOM && len == 9 && room[0] == '-');
+    HAS(cs_replace_all(&it, BYTES("frodo, samwise"), others, 4, room, 9, &len) == CS_DONE && len == 9);
+    HAS(!memcmp(room, "FRODO, SW--", 11));
+    HAS(cs_replace_all(&it, BYTES("sss"), others, 4, NULL, 0, &len) == CS_DONE && len == 0);
+    HAS(cs_replace_all(&it, NULL, 0, others, 4, room, 64, &len) == CS_DONE && len == 0);
+    len = 5;
+    HAS(cs_replace_all(&it, BYTES("sam"), others, 3, room, 64, &len) == CS_NOT_ONE_EACH && len == 5);
+    HAS(cs_replace_all(&it, BYTES("sam"), NULL, 0, room, 64, &len) == CS_NOT_ONE_EACH && len == 5);
+    cs_free(&it);
+}
+
+static void tells(void) {
+    cs_facts facts;
+    cs_searcher it = built(CS_STANDARD, CS_UNANCHORED);
+    HAS(cs_info(&it, &facts) == CS_DONE);
+    HAS(facts.patterns == 4 && facts.min_len == 1 && facts.max_len == 7 && facts.memory > 0);
+    cs_options options = CS_OPTIONS_INIT;
+    HAS(cs_build(NULL, 0, &options, &it) == CS_DONE && cs_info(&it, &facts) == CS_DONE);
+    HAS(facts.patterns == 0 && facts.min_len == SIZE_MAX && facts.max_len == 0);
+    cs_free(&it);
+    HAS(cs_version() == CS_VERSION);
+}
+
+/* Handles that share one searcher, each in a thread of its own. */
+#define THREADS 8
+static uint8_t text[1 << 18];
+static size_t wanted;
+
+static void *searched(void *handle) {
+    for (int turn = 0; turn < 8; turn++) {
+        size_t count = 0;
+        HAS(cs_find_all(handle, text, sizeof text, NULL, 0, &count) == CS_DONE && count == wanted);
+    }
+    cs_free(handle);
+    return NULL;
+}
+
+static void shares(void) {
+    cs_searcher it = built(CS_STANDARD, CS_UNANCHORED), other = CS_SEARCHER_INIT, some[THREADS];
+    HAS(cs_share(&it, &other) == CS_DONE);
+    cs_free(&it);
+    HAS(cs_is_match(&other, BYTES("sam")) == CS_FOUND && cs_is_match(&it, BYTES("sam")) == CS_NO_SEARCHER);
+    for (size_t at = 0; at < sizeof text; at++) text[at] = "frodo and samwise "[at % 18];
+    HAS(cs_find_all(&other, text, sizeof text, NULL, 0, &wanted) == CS_DONE && wanted > 0);
+    pthread_t threads[THREADS];
+    for (int at = 0; at < THREADS; at++) {
+        some[at] = (cs_searcher)CS_SEARCHER_INIT;
+        HAS(cs_share(&other, &some[at]) == CS_DONE);
+        HAS(pthread_create(&threads[at], NULL, searched, &some[at]) == 0);
+    }
+    for (int at = 0; at < THREADS; at++) HAS(pthread_join(threads[at], NULL) == 0);
+    cs_free(&other);
+}
+
+/* Tells a count of matches for memory that is refused: what was built, or why not. */
+static int refused(void) {
+    cs_searcher it = CS_SEARCHER_INIT, other = CS_SEARCHER_INIT;
+    cs_options options = CS_OPTIONS_INIT;
+    uint8_t room[64];
+    size_t len;
+    uint32_t status = cs_build(names, 4, &options, &it);
+    HAS(status == CS_DONE ? it.full : status == CS_NO_MEMORY && !it.full);
+    if (status == CS_DONE) {
+        status = cs_share(&it, &other);
+        HAS(status == CS_DONE ? other.full : status == CS_NO_MEMORY && !other.full);
+        uint32_t replaced = cs_replace_all(&it, BYTES("frodo, samwise"), others, 4, room, 64, &len);
+        HAS(replaced == CS_DONE || replaced == CS_NO_MEMORY);
+        status = status == CS_DONE ? replaced : status;
+    }
+    cs_free(&it);
+    cs_free(&other);
+    return status == CS_DONE ? 0 : 5;
+}
+
+int main(int count, char **words) {
+    if (count > 1 && !strcmp(words[1], "refused")) return refused();
+    none();
+    builds();
+    finds();
+    searches();
+    lists();
+    replaces();
+    tells();
+    shares();
+    return 0;
+}

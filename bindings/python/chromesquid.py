@@ -1,0 +1,332 @@
+"""Searches bytes and texts for many patterns at once, by the proved C library of Chromesquid.
+
+    >>> from chromesquid import AhoCorasick
+    >>> searcher = AhoCorasick(["samwise", "sam", "frodo"], kind="leftmost-first")
+    >>> searcher.find("frodo and samwise")
+    Match(pattern=2, start=0, end=5)
+    >>> [match.end for match in searcher.find_iter("frodo and samwise")]
+    [5, 17]
+    >>> searcher.replace_all("frodo and samwise", ["S", "s", "F"])
+    'F and S'
+
+A pattern's number is its place among the patterns, from 0 on. Places count bytes in a haystack of bytes, and characters in one of
+type str.
+
+This one file needs libchromesquid.so, which bin/clib makes: in the folder that the environment names as CHROMESQUID_LIBRARY, or
+beside this file, or where the system looks for libraries."""
+
+from __future__ import annotations
+
+import ctypes
+import os
+import threading
+from typing import Any, Iterable, Iterator, List, NamedTuple, Optional, Sequence, Tuple, Union
+
+__all__ = ["AhoCorasick", "BuildError", "Match", "version"]
+
+# bytes, bytearray, memoryview, mmap, array: whatever has a buffer.
+Haystack = Union[str, bytes, bytearray, memoryview, Any]
+Bytes = Union[bytes, bytearray, memoryview, Any]
+
+
+class Match(NamedTuple):
+    """A match: the pattern's number, and the places of its begin and its end."""
+
+    pattern: int
+    start: int
+    end: int
+
+
+class BuildError(ValueError):
+    """The patterns are more, or longer, than there may be."""
+
+
+class _Slice(ctypes.Structure):
+    _fields_ = [("at", ctypes.c_char_p), ("len", ctypes.c_size_t)]
+
+
+class _Options(ctypes.Structure):
+    _fields_ = [
+        ("match_kind", ctypes.c_uint32),
+        ("start_kind", ctypes.c_uint32),
+        ("ignore_case", ctypes.c_bool),
+        ("prefilter", ctypes.c_bool),
+    ]
+
+
+class _Match(ctypes.Structure):
+    _fields_ = [("pattern", ctypes.c_size_t), ("start", ctypes.c_size_t), ("end", ctypes.c_size_t)]
+
+
+class _Facts(ctypes.Structure):
+    _fields_ = [(name, ctypes.c_size_t) for name in ("patterns", "min_len", "max_len", "memory")]
+
+
+class _Handle(ctypes.Structure):
+    """What the library holds of a searcher, or none. It is let go with this object."""
+
+    _fields_ = [("full", ctypes.c_bool), ("at", ctypes.c_void_p)]
+
+    def __del__(self) -> None:
+        if _free is not None:  # as the interpreter ends
+            _free(ctypes.byref(self))
+
+
+_DONE, _FOUND, _REFUSED, _NO_MEMORY, _NO_ROOM = 0, 1, 3, 5, 11
+_WHY_NOT_BUILT = {7: "the patterns need too many states", 8: "there are too many patterns", 9: "a pattern is too long"}
+_KINDS = {"standard": 0, "leftmost-first": 1, "leftmost-longest": 2}
+_ENCODING = ("utf-8", "surrogatepass")
+_AT_A_TIME = 4096
+_VERSION = 100
+
+
+def _library() -> ctypes.CDLL:
+    name = "libchromesquid.so"
+    folder = os.environ.get("CHROMESQUID_LIBRARY") or os.path.dirname(os.path.abspath(__file__))
+    beside = os.path.join(folder, name)
+    return ctypes.CDLL(beside if os.path.exists(beside) else name)
+
+
+_loaded = _library()
+
+
+def _function(name: str, result: Any, *parameters: Any) -> Any:
+    function = getattr(_loaded, name)
+    function.restype, function.argtypes = result, parameters
+    return function
+
+
+_HANDLE, _COUNT = ctypes.POINTER(_Handle), ctypes.POINTER(ctypes.c_size_t)
+_HAYSTACK, _ROOM = (ctypes.c_void_p, ctypes.c_size_t), (ctypes.c_void_p, ctypes.c_size_t)
+_SLICES = (ctypes.POINTER(_Slice), ctypes.c_size_t)
+_version = _function("cs_version", ctypes.c_uint32)
+_build = _function("cs_build", ctypes.c_uint32, *_SLICES, ctypes.POINTER(_Options), _HANDLE)
+_free = _function("cs_free", None, _HANDLE)
+_share = _function("cs_share", ctypes.c_uint32, _HANDLE, _HANDLE)
+_is_match = _function("cs_is_match", ctypes.c_uint32, _HANDLE, *_HAYSTACK)
+_find = _function("cs_find", ctypes.c_uint32, _HANDLE, *_HAYSTACK, ctypes.POINTER(_Match))
+_find_all = _function("cs_find_all", ctypes.c_uint32, _HANDLE, *_HAYSTACK, *_ROOM, _COUNT)
+_overlapping = _function("cs_overlapping", ctypes.c_uint32, _HANDLE, *_HAYSTACK, *_ROOM, _COUNT)
+_replace_all = _function("cs_replace_all", ctypes.c_uint32, _HANDLE, *_HAYSTACK, *_SLICES, *_ROOM, _COUNT)
+_info = _function("cs_info", ctypes.c_uint32, _HANDLE, ctypes.POINTER(_Facts))
+if _version() != _VERSION:
+    raise ImportError(f"this file is for version {_VERSION} of libchromesquid.so, and not for {_version()}")
+
+
+def version() -> Tuple[int, int, int]:
+    """The version of the library: major, minor, patch."""
+    number = _version()
+    return number // 10000, number // 100 % 100, number % 100
+
+
+def _pattern_bytes(pattern: Haystack) -> bytes:
+    return pattern.encode(*_ENCODING) if isinstance(pattern, str) else bytes(memoryview(pattern))
+
+
+def _slices(items: Sequence[bytes]) -> Any:
+    """The byte strings as the library takes them. It keeps none of them."""
+    return (_Slice * len(items))(*(_Slice(item, len(item)) for item in items))
+
+
+def _borrowed(haystack: Bytes) -> Any:
+    """The bytes of a buffer as the library takes them. They are copied only where they have to be."""
+    if isinstance(haystack, bytes):
+        return haystack
+    view = memoryview(haystack)
+    if view.readonly or not view.c_contiguous or view.nbytes == 0:
+        return view.tobytes()
+    return (ctypes.c_char * view.nbytes).from_buffer(view.cast("B"))
+
+
+class AhoCorasick:
+    """A searcher for some patterns, all of type str or all of bytes.
+
+    `kind` says which of several matches is found: "standard", the one that ends first; "leftmost-first", of those that start first
+    the one whose pattern stands first; "leftmost-longest", of those that start first the longest. With `ignore_case` ASCII
+    letters are the same in both cases. With `prefilter` it may search by a prefilter, on which no answer depends.
+
+    A haystack is a str, if the patterns are, or bytes or another buffer, where patterns of type str stand for their UTF-8. A buffer
+    must not change while a call runs. Any threads may search by one searcher at the same time. It is pickled as its patterns, and
+    built anew from them.
+
+    Raises BuildError where the patterns are more, or longer, than there may be, and MemoryError where memory runs out, as every call
+    does."""
+
+    def __init__(
+        self,
+        patterns: Iterable[Haystack],
+        *,
+        kind: str = "standard",
+        ignore_case: bool = False,
+        prefilter: bool = True,
+    ) -> None:
+        if isinstance(patterns, (str, bytes, bytearray)):
+            raise TypeError("the patterns are a list of str or of bytes, and not one of them")
+        if kind not in _KINDS:
+            raise ValueError(f"there is no kind {kind!r}, but {', '.join(_KINDS)}")
+        given = list(patterns)
+        texts = sum(isinstance(it, str) for it in given)
+        if texts not in (0, len(given)):
+            raise TypeError("the patterns are all of type str, or all of bytes")
+        words = [_pattern_bytes(it) for it in given]
+        self._patterns: Tuple[Union[str, bytes], ...] = tuple(given if texts else words)
+        self._of_texts = texts > 0 or not given
+        self._kind, self._ignore_case, self._prefilter = kind, bool(ignore_case), bool(prefilter)
+        self._handle, self._lock, self._own = _Handle(), threading.Lock(), threading.local()
+        options = _Options(_KINDS[kind], 0, self._ignore_case, self._prefilter)
+        status = _build(_slices(words), len(words), ctypes.byref(options), ctypes.byref(self._handle))
+        if status in _WHY_NOT_BUILT:
+            raise BuildError(_WHY_NOT_BUILT[status])
+        _check(status)
+
+    @property
+    def patterns(self) -> Tuple[Union[str, bytes], ...]:
+        """The patterns by their numbers."""
+        return self._patterns
+
+    @property
+    def kind(self) -> str:
+        """Which of several matches is found."""
+        return self._kind
+
+    def memory_usage(self) -> int:
+        """How many bytes the searcher holds, by the stated sizes of its parts. This object holds the patterns besides."""
+        facts = _Facts()
+        _check(_info(self._reference(), ctypes.byref(facts)))
+        return facts.memory
+
+    def is_match(self, haystack: Haystack) -> bool:
+        """Whether a pattern occurs."""
+        given = self._bytes_of(haystack)
+        status = _is_match(self._reference(), given, len(given))
+        _check(status, _FOUND)
+        return status == _FOUND
+
+    def find(self, haystack: Haystack) -> Optional[Match]:
+        """The first match, None where there is none."""
+        given, found = self._bytes_of(haystack), _Match()
+        status = _find(self._reference(), given, len(given), ctypes.byref(found))
+        _check(status, _FOUND)
+        if status != _FOUND:
+            return None
+        match = Match(found.pattern, found.start, found.end)
+        return next(self._characters([match], given)) if _is_wide(haystack) else match
+
+    def find_iter(self, haystack: Haystack) -> Iterator[Match]:
+        """The matches, each searched for from the end of the one before. All are searched for at once, and take 24 bytes each."""
+        return self._all(_find_all, haystack)
+
+    def find_overlapping_iter(self, haystack: Haystack) -> Iterator[Match]:
+        """All matches, those that overlap too: by end, then start, then number. All are searched for at once, and take 24 bytes each.
+
+        The kind has to be "standard": else ValueError is raised."""
+        if self._kind != "standard":
+            raise ValueError(f"overlapping matches are those of kind standard, and this searcher is of kind {self._kind}")
+        return self._all(_overlapping, haystack)
+
+    def replace_all(self, haystack: Haystack, replace_with: Sequence[Haystack]) -> Union[str, bytes]:
+        """The haystack with each match replaced by what stands in the place of its pattern: a str for a str, else bytes.
+
+        Raises ValueError where there is not one replacement for each pattern."""
+        if isinstance(replace_with, (str, bytes, bytearray)):
+            raise TypeError("the replacements are a list of str or of bytes, and not one of them")
+        if len(replace_with) != len(self._patterns):
+            raise ValueError(f"there are {len(replace_with)} replacements for {len(self._patterns)} patterns")
+        if any(isinstance(it, str) != isinstance(haystack, str) for it in replace_with):
+            raise TypeError("the replacements are of the type of the haystack")
+        if _is_wide(haystack) and "" in self._patterns:
+            return self._replaced(haystack, replace_with)
+        replaced = self._replaced_bytes(haystack, [_pattern_bytes(it) for it in replace_with])
+        return replaced.decode(*_ENCODING) if isinstance(haystack, str) else replaced
+
+    def __reduce__(self) -> Tuple[Any, ...]:
+        return _rebuilt, (self._patterns, self._kind, self._ignore_case, self._prefilter)
+
+    def __repr__(self) -> str:
+        return f"<AhoCorasick of {len(self._patterns)} patterns, {self._kind}>"
+
+    def _reference(self) -> Any:
+        """This thread's own handle: no handle is used by two calls at a time."""
+        try:
+            return self._own.reference
+        except AttributeError:
+            reference = ctypes.byref(_Handle())
+            with self._lock:
+                _check(_share(ctypes.byref(self._handle), reference))
+            self._own.reference = reference
+            return reference
+
+    def _bytes_of(self, haystack: Haystack) -> Any:
+        if not isinstance(haystack, str):
+            return _borrowed(haystack)
+        if not self._of_texts:
+            raise TypeError("a text is searched for patterns of type str, and these are bytes")
+        return haystack.encode(*_ENCODING)
+
+    def _all(self, function: Any, haystack: Haystack) -> Iterator[Match]:
+        given, count = self._bytes_of(haystack), ctypes.c_size_t()
+        reference, room = self._reference(), 256 + len(given) // 256
+        while True:
+            found = (ctypes.c_size_t * (3 * room))()
+            _check(function(reference, given, len(given), found, room, ctypes.byref(count)))
+            if count.value <= room:
+                break
+            room = count.value
+        matches = _matches(found, count.value)
+        return self._characters(matches, given) if _is_wide(haystack) else matches
+
+    def _characters(self, matches: Iterable[Match], text: bytes) -> Iterator[Match]:
+        """Matches of a text's UTF-8, which come by their ends, with the places of characters. One that lies inside a character, as
+        an empty one may, is left out."""
+        at = passed = 0
+        for it in matches:
+            if it.end < len(text) and text[it.end] & 0xC0 == 0x80:
+                continue
+            passed += len(text[at : it.end].decode(*_ENCODING))
+            at = it.end
+            yield Match(it.pattern, passed - len(self._patterns[it.pattern]), passed)
+
+    def _replaced(self, text: str, replace_with: Sequence[str]) -> str:
+        parts: List[str] = []
+        copied = 0
+        for it in self.find_iter(text):
+            parts += text[copied : it.start], replace_with[it.pattern]
+            copied = it.end
+        return "".join([*parts, text[copied:]])
+
+    def _replaced_bytes(self, haystack: Haystack, replace_with: List[bytes]) -> bytes:
+        given, pieces = self._bytes_of(haystack), _slices(replace_with)
+        reference, wanted = self._reference(), ctypes.c_size_t(len(given))
+        while True:
+            room = ctypes.create_string_buffer(max(wanted.value, 1))
+            status = _replace_all(
+                reference, given, len(given), pieces, len(pieces), room, len(room), ctypes.byref(wanted)
+            )
+            if status != _NO_ROOM:
+                _check(status)
+                return room.raw[: wanted.value]
+
+
+def _is_wide(haystack: Haystack) -> bool:
+    """Whether places of characters are others than those of bytes."""
+    return isinstance(haystack, str) and not haystack.isascii()
+
+
+def _matches(found: Any, count: int) -> Iterator[Match]:
+    """The matches of which these are the numbers and places."""
+    for at in range(0, 3 * count, 3 * _AT_A_TIME):
+        some = found[at : min(at + 3 * _AT_A_TIME, 3 * count)]
+        yield from map(Match, some[0::3], some[1::3], some[2::3])
+
+
+def _check(status: int, *good: int) -> None:
+    """Raises what a status says that is not good."""
+    if status == _NO_MEMORY:
+        raise MemoryError
+    if status != _DONE and status not in good:
+        raise RuntimeError(f"the library answered {status}")
+
+
+def _rebuilt(patterns: Tuple[Union[str, bytes], ...], kind: str, ignore_case: bool, prefilter: bool) -> AhoCorasick:
+    """What a pickled searcher is read as."""
+    return AhoCorasick(patterns, kind=kind, ignore_case=ignore_case, prefilter=prefilter)

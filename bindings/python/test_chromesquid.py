@@ -1,0 +1,198 @@
+"""Tests of the binding, beside a slow model that looks at every place. Run them with python3 -m unittest."""
+
+import array
+import copy
+import mmap
+import pickle
+import random
+import threading
+import unittest
+
+from chromesquid import AhoCorasick, Match, version
+
+KINDS = ("standard", "leftmost-first", "leftmost-longest")
+
+
+def folded(text):
+    """ASCII letters in small, other characters as they are."""
+    small = {upper: upper + 32 for upper in range(65, 91)}
+    if isinstance(text, str):
+        return text.translate(small)
+    return bytes(small.get(it, it) for it in text)
+
+
+def occurrences(patterns, haystack, ignore_case, start=0):
+    """All that occurs from a place on: by end, then start, then number."""
+    if ignore_case:
+        patterns, haystack = [folded(it) for it in patterns], folded(haystack)
+    return sorted(
+        (Match(number, at, at + len(pattern)) for number, pattern in enumerate(patterns) for at in range(start, len(haystack) - len(pattern) + 1)
+         if haystack[at : at + len(pattern)] == pattern),
+        key=lambda it: (it.end, it.start, it.pattern),
+    )
+
+
+BEST = {
+    "standard": lambda it: (it.end, it.start, it.pattern),
+    "leftmost-first": lambda it: (it.start, it.pattern),
+    "leftmost-longest": lambda it: (it.start, -it.end, it.pattern),
+}
+
+
+def finds(patterns, haystack, kind, ignore_case):
+    """The matches of iteration."""
+    found, at, last = [], 0, None
+    while at <= len(haystack):
+        best = min(occurrences(patterns, haystack, ignore_case, at), key=BEST[kind], default=None)
+        if best is None:
+            break
+        if best.start == best.end == last:
+            at += 1
+            last = None
+            continue
+        found.append(best)
+        at = last = best.end
+    return found
+
+
+def replaced(haystack, found, pieces):
+    parts, at = [], 0
+    for it in found:
+        parts += haystack[at : it.start], pieces[it.pattern]
+        at = it.end
+    return haystack[:0].join([*parts, haystack[at:]])
+
+
+class Rows(unittest.TestCase):
+    def test_one_match(self):
+        searcher = AhoCorasick(["samwise", "sam", "frodo"], kind="leftmost-first")
+        self.assertEqual(searcher.find("frodo and samwise"), Match(2, 0, 5))
+        self.assertEqual(searcher.find(b"and samwise"), Match(0, 4, 11))
+        self.assertIsNone(searcher.find("pippin"))
+        self.assertTrue(searcher.is_match("a sam") and not searcher.is_match("sa"))
+
+    def test_characters_are_counted_in_a_text(self):
+        searcher = AhoCorasick(["né", "e", "🦑"])
+        self.assertEqual(list(searcher.find_iter("é🦑 née")), [Match(2, 1, 2), Match(0, 3, 5), Match(1, 5, 6)])
+        self.assertEqual(searcher.find("ééé né"), Match(0, 4, 6))
+        self.assertEqual(searcher.find("ééé né".encode()), Match(0, 7, 10))
+        self.assertEqual(searcher.replace_all("é🦑 née", ["NÉ", "", "squid"]), "ésquid NÉ")
+
+    def test_an_empty_pattern_matches_between_characters(self):
+        searcher = AhoCorasick([""])
+        self.assertEqual(list(searcher.find_iter("é🦑")), [Match(0, 0, 0), Match(0, 1, 1), Match(0, 2, 2)])
+        self.assertEqual(searcher.replace_all("é🦑", ["-"]), "-é-🦑-")
+        self.assertEqual(len(list(searcher.find_iter("é🦑".encode()))), 7)
+
+    def test_surrogates_and_zeros(self):
+        searcher = AhoCorasick(["\ud800", "b\0"])
+        self.assertEqual(list(searcher.find_iter("é\0\ud800b\0")), [Match(0, 2, 3), Match(1, 3, 5)])
+        self.assertEqual(searcher.replace_all("é\0\ud800b\0", ["x", "y"]), "é\0xy")
+
+    def test_buffers(self):
+        searcher = AhoCorasick([b"ab", b"\0"])
+        given = b"x\0ab"
+        with mmap.mmap(-1, 4) as mapped:
+            mapped[:] = given
+            for haystack in (given, bytearray(given), memoryview(given), memoryview(bytearray(given)), array.array("B", given), mapped,
+                             memoryview(b"xx\0\0aabb")[::2]):
+                self.assertEqual(list(searcher.find_iter(haystack)), [Match(1, 1, 2), Match(0, 2, 4)])
+                self.assertEqual(searcher.replace_all(haystack, [b"A", b"0"]), b"x0A")
+        self.assertFalse(searcher.is_match(b"") or searcher.is_match(bytearray()))
+        grown = bytearray(given)
+        searcher.is_match(grown)
+        grown += b"more"  # no call keeps it
+
+    def test_no_patterns(self):
+        searcher = AhoCorasick([])
+        self.assertFalse(searcher.is_match("a") or searcher.is_match(b"a"))
+        self.assertEqual(searcher.replace_all("a", []), "a")
+
+    def test_what_is_refused(self):
+        searcher = AhoCorasick([b"a"], kind="leftmost-longest")
+        for error, call in (
+            (TypeError, lambda: AhoCorasick("ab")),
+            (TypeError, lambda: AhoCorasick(["a", b"b"])),
+            (TypeError, lambda: AhoCorasick([1.5])),
+            (ValueError, lambda: AhoCorasick(["a"], kind="leftmost")),
+            (TypeError, lambda: searcher.find("a")),
+            (TypeError, lambda: searcher.find(3)),
+            (ValueError, lambda: searcher.find_overlapping_iter(b"a")),
+            (ValueError, lambda: searcher.replace_all(b"a", [])),
+            (TypeError, lambda: searcher.replace_all(b"a", ["b"])),
+            (TypeError, lambda: searcher.replace_all(b"a", b"b")),
+        ):
+            self.assertRaises(error, call)
+
+    def test_a_replacement_that_grows(self):
+        self.assertEqual(AhoCorasick([b"a"]).replace_all(b"aba" * 1000, [b"long"]), b"longblong" * 1000)
+
+    def test_more_matches_than_the_first_room_holds(self):
+        searcher = AhoCorasick([b"a", b"aa"])
+        self.assertEqual(list(searcher.find_iter(b"a" * 5000)), [Match(0, at, at + 1) for at in range(5000)])
+        self.assertEqual(len(list(searcher.find_overlapping_iter(b"a" * 5000))), 9999)
+
+    def test_what_is_told(self):
+        searcher = AhoCorasick(["b", "a"], kind="leftmost-longest")
+        self.assertEqual((searcher.patterns, searcher.kind), (("b", "a"), "leftmost-longest"))
+        self.assertEqual(repr(searcher), "<AhoCorasick of 2 patterns, leftmost-longest>")
+        self.assertGreater(searcher.memory_usage(), 0)
+        self.assertEqual(len(version()), 3)
+
+
+class Copies(unittest.TestCase):
+    def test_pickled_and_copied(self):
+        for patterns in (["né", "E"], [b"n\xff", b"E"]):
+            searcher = AhoCorasick(patterns, kind="leftmost-first", ignore_case=True, prefilter=False)
+            haystack = patterns[0][:0].join([*patterns, patterns[1].lower()])
+            for other in (pickle.loads(pickle.dumps(searcher)), copy.copy(searcher), copy.deepcopy(searcher)):
+                self.assertEqual(list(other.find_iter(haystack)), list(searcher.find_iter(haystack)))
+                self.assertEqual(len(list(other.find_iter(haystack))), 3)
+                self.assertEqual((other.patterns, other.kind), (searcher.patterns, searcher.kind))
+
+    def test_threads(self):
+        searcher = AhoCorasick(["frodo", "sam"])
+        text = "frodo and sam " * 5000
+        counts = []
+        threads = [threading.Thread(target=lambda: counts.append(sum(1 for _ in searcher.find_iter(text)))) for _ in range(8)]
+        for it in threads:
+            it.start()
+        for it in threads:
+            it.join()
+        self.assertEqual(counts, [10000] * 8)
+
+    def test_an_iterator_outlives_what_it_was_made_of(self):
+        self.assertEqual(list(AhoCorasick(["a"]).find_iter("aéa")), [Match(0, 0, 1), Match(0, 2, 3)])
+
+
+class BesideTheModel(unittest.TestCase):
+    def compare(self, dice, letters, empty):
+        patterns = [empty.join(dice.choices(letters, k=dice.randrange(4))) for _ in range(dice.randrange(6))]
+        haystack = empty.join(dice.choices(letters, k=dice.randrange(20)))
+        kind, ignore_case = dice.choice(KINDS), dice.random() < 0.3
+        if not patterns and not isinstance(haystack, str):
+            patterns = [empty]
+        with self.subTest(patterns=patterns, haystack=haystack, kind=kind, ignore_case=ignore_case):
+            searcher = AhoCorasick(patterns, kind=kind, ignore_case=ignore_case, prefilter=dice.random() < 0.5)
+            wanted = finds(patterns, haystack, kind, ignore_case)
+            self.assertEqual(list(searcher.find_iter(haystack)), wanted)
+            self.assertEqual(searcher.find(haystack), wanted[0] if wanted else None)
+            self.assertEqual(searcher.is_match(haystack), bool(wanted))
+            if kind == "standard":
+                self.assertEqual(list(searcher.find_overlapping_iter(haystack)), occurrences(patterns, haystack, ignore_case))
+            pieces = [empty.join(dice.choices(letters, k=dice.randrange(5))) for _ in patterns]
+            self.assertEqual(searcher.replace_all(haystack, pieces), replaced(haystack, wanted, pieces))
+
+    def test_bytes(self):
+        dice = random.Random(1)
+        for _ in range(3000):
+            self.compare(dice, [b"a", b"b", b"A", b"\0", b"\xff"][: dice.randrange(2, 6)], b"")
+
+    def test_texts(self):
+        dice = random.Random(2)
+        for _ in range(3000):
+            self.compare(dice, ["a", "é", "A", "🦑", "\0"][: dice.randrange(1, 6)], "")
+
+
+if __name__ == "__main__":
+    unittest.main()
