@@ -125,7 +125,7 @@ uint32_t cs_overlapping(cs_searcher *searcher, const uint8_t *haystack, size_t h
 
 /* The haystack with each match replaced by the bytes for its pattern: CS_DONE, the bytes in `room`, and in `len` how many they are.
  * CS_NO_ROOM where they are more than `room` holds: `len` is how many. The replacement is made in memory of its own first.
- * Else CS_NO_SEARCHER; CS_NOT_ONE_EACH; CS_REFUSED as cs_is_match; CS_NO_MEMORY. If not CS_DONE, `room` is as it was. */
+ * Else CS_NO_SEARCHER; CS_NOT_ONE_EACH; CS_REFUSED as cs_is_match; CS_NO_MEMORY: `len` is as it was. If not CS_DONE, `room` is. */
 uint32_t cs_replace_all(cs_searcher *searcher, const uint8_t *haystack, size_t haystack_len, const cs_slice *replace_with,
                         size_t replace_with_len, uint8_t *room, size_t room_len, size_t *len);
 

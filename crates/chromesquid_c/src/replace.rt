@@ -39,6 +39,7 @@ fn replace_in(
     ensures wanted { result ≡ NO_ROOM → WantsRoom searcher.now haystack.now replace_with.now
         room.old len.new }
     ensures kept { result ≢ DONE → room.new ≡ room.old }
+    ensures unmeasured { result ≢ DONE → result ≢ NO_ROOM → len.new ≡ len.old }
     ensures not_one_each { (IsOneEach searcher.now replace_with.now → ⊥) → result ≡ NOT_ONE_EACH }
     ensures refused { IsOneEach searcher.now replace_with.now → RefusesSearch searcher.now No
         → result ≡ REFUSED }
@@ -62,7 +63,7 @@ fn replace_in(
 /// # Errors
 ///
 /// 2 where there is no searcher; else 10 where there is not one replacement for each pattern; else 3 where the searcher answers
-/// anchored searches alone, 5 where memory runs out. `room` is as it was unless 0 is answered.
+/// anchored searches alone, 5 where memory runs out. `room` is as it was unless 0 is answered, `len` unless 0 or 11 is.
 #[unsafe(no_mangle)]
 pub extern "C" fn cs_replace_all(
     alloc: Global,
@@ -77,6 +78,7 @@ pub extern "C" fn cs_replace_all(
     ensures wanted { IfHeld searcher.old (λ s. result ≡ NO_ROOM
         → WantsRoom s haystack.now replace_with.now room.old len.new) }
     ensures kept { result ≢ DONE → room.new ≡ room.old }
+    ensures unmeasured { result ≢ DONE → result ≢ NO_ROOM → len.new ≡ len.old }
     ensures not_one_each { IfHeld searcher.old (λ s.
         (IsOneEach s replace_with.now → ⊥) → result ≡ NOT_ONE_EACH) }
     ensures refused { IfHeld searcher.old (λ s.
