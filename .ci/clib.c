@@ -179,6 +179,60 @@ static void replaces(void) {
     cs_free(&it);
 }
 
+/* Pushes all of a piece, with what is certain told in between, and answers how many matches that were. */
+static size_t pushed(cs_stream *stream, const uint8_t *piece, size_t left, cs_match *room) {
+    size_t found = 0, taken = 0;
+    do {
+        HAS(cs_stream_push(stream, piece, left, &taken) == CS_DONE && taken <= left && (taken > 0 || left == 0));
+        piece += taken;
+        left -= taken;
+        while (cs_stream_next(stream, &room[found]) == CS_FOUND) found++;
+    } while (left > 0);
+    return found;
+}
+
+/* Streams whose bytes are pushed, cut inside matches, by each match kind. */
+static uint8_t long_text[300000];
+
+static void streams(void) {
+    cs_match room[ROOM];
+    cs_stream stream = CS_STREAM_INIT;
+    size_t taken = 5;
+    cs_searcher it = built(CS_LEFTMOST_FIRST, CS_UNANCHORED);
+    HAS(cs_stream_new(&it, &stream) == CS_DONE);
+    cs_free(&it);
+    HAS(pushed(&stream, BYTES("frodo and sam"), room) == 1 && is(room[0], 2, 0, 5));
+    HAS(pushed(&stream, NULL, 0, room) == 0);
+    HAS(pushed(&stream, BYTES("wi"), room) == 0 && pushed(&stream, BYTES("x sam"), room) == 1 && is(room[0], 1, 10, 13));
+    HAS(cs_stream_end(&stream) == CS_DONE && cs_stream_push(&stream, BYTES("sam"), &taken) == CS_ENDED && taken == 5);
+    HAS(cs_stream_next(&stream, room) == CS_FOUND && is(room[0], 1, 17, 20));
+    HAS(cs_stream_next(&stream, room) == CS_DONE && cs_stream_end(&stream) == CS_DONE && cs_stream_next(&stream, room) == CS_DONE);
+    HAS(is(room[0], 1, 17, 20));
+    it = built(CS_STANDARD, CS_UNANCHORED);
+    HAS(cs_stream_new(&it, &stream) == CS_DONE);
+    for (size_t at = 0; at < sizeof long_text; at++) long_text[at] = at % 100000 == 99998 ? 's' : 'x';
+    HAS(pushed(&stream, long_text, sizeof long_text, room) == 3 && is(room[0], 3, 99998, 99999) && is(room[2], 3, 299998, 299999));
+    HAS(pushed(&stream, BYTES("ss"), room) == 2 && is(room[1], 3, 300001, 300002));
+    HAS(cs_stream_push(&stream, BYTES("ss"), &taken) == CS_DONE && taken == 2);
+    HAS(cs_stream_push(&stream, BYTES("ss"), &taken) == CS_DONE && taken == 0);
+    HAS(cs_stream_next(&stream, room) == CS_FOUND && cs_stream_next(&stream, room) == CS_FOUND && is(room[0], 3, 300003, 300004));
+    cs_free(&it);
+    HAS(cs_stream_new(&it, &stream) == CS_NO_SEARCHER && stream.full);
+    it = built(CS_STANDARD, CS_ANCHORED);
+    HAS(cs_stream_new(&it, &stream) == CS_REFUSED && stream.full);
+    cs_options options = CS_OPTIONS_INIT;
+    cs_slice empty = { NULL, 0 };
+    HAS(cs_build(&empty, 1, &options, &it) == CS_DONE && cs_stream_new(&it, &stream) == CS_EMPTY_PATTERN && stream.full);
+    cs_free(&it);
+    cs_stream_free(&stream);
+    cs_stream_free(&stream);
+    HAS(!stream.full && !stream.at);
+    taken = 5;
+    room[0] = (cs_match){ 7, 8, 9 };
+    HAS(cs_stream_push(&stream, BYTES("sam"), &taken) == CS_NO_SEARCHER && cs_stream_next(&stream, room) == CS_NO_SEARCHER);
+    HAS(cs_stream_end(&stream) == CS_NO_SEARCHER && taken == 5 && is(room[0], 7, 8, 9));
+}
+
 static void tells(void) {
     cs_facts facts;
     cs_searcher it = built(CS_STANDARD, CS_UNANCHORED);
@@ -237,6 +291,12 @@ static int refused(void) {
         HAS(replaced == CS_DONE || replaced == CS_NO_MEMORY);
         status = status == CS_DONE ? replaced : status;
     }
+    cs_stream stream = CS_STREAM_INIT;
+    if (status == CS_DONE) {
+        status = cs_stream_new(&it, &stream);
+        HAS(status == CS_DONE ? stream.full : status == CS_NO_MEMORY && !stream.full);
+    }
+    cs_stream_free(&stream);
     cs_free(&it);
     cs_free(&other);
     return status == CS_DONE ? 0 : 5;
@@ -250,6 +310,7 @@ int main(int count, char **words) {
     searches();
     lists();
     replaces();
+    streams();
     tells();
     shares();
     return 0;

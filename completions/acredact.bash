@@ -2,7 +2,7 @@
 _acredact() {
     local word=${COMP_WORDS[COMP_CWORD]} words=""
     case ${COMP_WORDS[COMP_CWORD - 1]} in
-    --kind) words='first longest standard' ;;
+    --kind) words='cover first longest standard' ;;
     -e | --with) return ;;
     *) [[ $word != -* ]] || words='-e -f -t -i --kind --with --count --crlf --allow-empty -- --help --version' ;;
     esac

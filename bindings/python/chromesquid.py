@@ -13,16 +13,18 @@ A pattern's number is its place among the patterns, from 0 on. Places count byte
 type str.
 
 This one file needs libchromesquid.so, which bin/clib makes: in the folder that the environment names as CHROMESQUID_LIBRARY, or
-beside this file, or where the system looks for libraries."""
+beside this file, or where the system looks for libraries. `python3 -m chromesquid` tells whether it is there and answers."""
 
 from __future__ import annotations
 
 import ctypes
 import os
+import struct
 import threading
+import weakref
 from typing import Any, Iterable, Iterator, List, NamedTuple, Optional, Sequence, Tuple, Union
 
-__all__ = ["AhoCorasick", "BuildError", "Match", "version"]
+__all__ = ["AhoCorasick", "BuildError", "Match", "SearchError", "Stream", "version"]
 
 # bytes, bytearray, memoryview, mmap, array: whatever has a buffer.
 Haystack = Union[str, bytes, bytearray, memoryview, Any]
@@ -39,6 +41,10 @@ class Match(NamedTuple):
 
 class BuildError(ValueError):
     """The patterns are more, or longer, than there may be."""
+
+
+class SearchError(ValueError):
+    """The searcher does not answer such a search."""
 
 
 class _Slice(ctypes.Structure):
@@ -72,11 +78,63 @@ class _Handle(ctypes.Structure):
             _free(ctypes.byref(self))
 
 
-_DONE, _FOUND, _REFUSED, _NO_MEMORY, _NO_ROOM = 0, 1, 3, 5, 11
+class _StreamHandle(ctypes.Structure):
+    """What the library holds of a stream, or none. It is let go with this object."""
+
+    _fields_ = [("full", ctypes.c_bool), ("at", ctypes.c_void_p)]
+
+    def __del__(self) -> None:
+        if _stream_free is not None:  # as the interpreter ends
+            _stream_free(ctypes.byref(self))
+
+
+class _View(ctypes.Structure):
+    """How CPython lends the bytes of a buffer: its Py_buffer."""
+
+    _fields_ = [
+        ("buf", ctypes.c_void_p),
+        ("obj", ctypes.py_object),
+        ("len", ctypes.c_ssize_t),
+        ("itemsize", ctypes.c_ssize_t),
+        ("readonly", ctypes.c_int),
+        ("ndim", ctypes.c_int),
+        ("format", ctypes.c_char_p),
+        ("shape", ctypes.c_void_p),
+        ("strides", ctypes.c_void_p),
+        ("suboffsets", ctypes.c_void_p),
+        ("internal", ctypes.c_void_p),
+    ]
+
+
+class _Lent:
+    """The bytes of a buffer that may only be read, as long as this object is there."""
+
+    def __init__(self, buffer: Any) -> None:
+        self._view = _View()
+        ctypes.pythonapi.PyObject_GetBuffer(ctypes.py_object(buffer), ctypes.byref(self._view), 0)
+        self._as_parameter_ = ctypes.c_void_p(self._view.buf)
+
+    def __len__(self) -> int:
+        return self._view.len
+
+    def __del__(self) -> None:
+        ctypes.pythonapi.PyBuffer_Release(ctypes.byref(self._view))
+
+
+_DONE, _FOUND, _NO_MEMORY, _NO_ROOM = 0, 1, 5, 11
 _WHY_NOT_BUILT = {7: "the patterns need too many states", 8: "there are too many patterns", 9: "a pattern is too long"}
+_WHY_REFUSED = {
+    3: "the searcher was not built for such a search",
+    12: "the stream has ended",
+    13: "2^63 - 1 bytes were pushed to the stream, and no more may be",
+    14: "a pattern is empty, and streams are not searched for such a one",
+}
 _KINDS = {"standard": 0, "leftmost-first": 1, "leftmost-longest": 2}
 _ENCODING = ("utf-8", "surrogatepass")
-_AT_A_TIME = 4096
+_MATCH = struct.Struct("NNN")
+_KEPT_ROOM = 1 << 16
+_PIECE = 1 << 16
+_INSIDE = bytes(range(0x80, 0xC0))  # the bytes of a character's UTF-8 but the first
 _VERSION = 100
 
 
@@ -109,6 +167,12 @@ _find_all = _function("cs_find_all", ctypes.c_uint32, _HANDLE, *_HAYSTACK, *_ROO
 _overlapping = _function("cs_overlapping", ctypes.c_uint32, _HANDLE, *_HAYSTACK, *_ROOM, _COUNT)
 _replace_all = _function("cs_replace_all", ctypes.c_uint32, _HANDLE, *_HAYSTACK, *_SLICES, *_ROOM, _COUNT)
 _info = _function("cs_info", ctypes.c_uint32, _HANDLE, ctypes.POINTER(_Facts))
+_STREAM = ctypes.POINTER(_StreamHandle)
+_stream_new = _function("cs_stream_new", ctypes.c_uint32, _HANDLE, _STREAM)
+_stream_push = _function("cs_stream_push", ctypes.c_uint32, _STREAM, *_HAYSTACK, _COUNT)
+_stream_next = _function("cs_stream_next", ctypes.c_uint32, _STREAM, ctypes.POINTER(_Match))
+_stream_end = _function("cs_stream_end", ctypes.c_uint32, _STREAM)
+_stream_free = _function("cs_stream_free", None, _STREAM)
 if _version() != _VERSION:
     raise ImportError(f"this file is for version {_VERSION} of libchromesquid.so, and not for {_version()}")
 
@@ -133,9 +197,9 @@ def _borrowed(haystack: Bytes) -> Any:
     if isinstance(haystack, bytes):
         return haystack
     view = memoryview(haystack)
-    if view.readonly or not view.c_contiguous or view.nbytes == 0:
+    if not view.c_contiguous or view.nbytes == 0:
         return view.tobytes()
-    return (ctypes.c_char * view.nbytes).from_buffer(view.cast("B"))
+    return _Lent(view) if view.readonly else (ctypes.c_char * view.nbytes).from_buffer(view.cast("B"))
 
 
 class AhoCorasick:
@@ -172,7 +236,9 @@ class AhoCorasick:
         self._patterns: Tuple[Union[str, bytes], ...] = tuple(given if texts else words)
         self._of_texts = texts > 0 or not given
         self._kind, self._ignore_case, self._prefilter = kind, bool(ignore_case), bool(prefilter)
-        self._handle, self._lock, self._own = _Handle(), threading.Lock(), threading.local()
+        self._handle = _Handle()
+        self._begin_process()
+        _searchers.add(self)
         options = _Options(_KINDS[kind], 0, self._ignore_case, self._prefilter)
         status = _build(_slices(words), len(words), ctypes.byref(options), ctypes.byref(self._handle))
         if status in _WHY_NOT_BUILT:
@@ -219,10 +285,56 @@ class AhoCorasick:
     def find_overlapping_iter(self, haystack: Haystack) -> Iterator[Match]:
         """All matches, those that overlap too: by end, then start, then number. All are searched for at once, and take 24 bytes each.
 
-        The kind has to be "standard": else ValueError is raised."""
+        The kind has to be "standard": else SearchError is raised."""
         if self._kind != "standard":
-            raise ValueError(f"overlapping matches are those of kind standard, and this searcher is of kind {self._kind}")
+            raise SearchError(f"overlapping matches are those of kind standard, and this searcher is of kind {self._kind}")
         return self._all(_overlapping, haystack)
+
+    def find_into(self, haystack: Bytes, room: Any, *, overlapping: bool = False) -> int:
+        """Writes the matches of bytes into an array.array("Q") or another buffer of unsigned 64-bit numbers, three for each match as
+        far as they fit, and answers how many matches there are. No object is made for a match, and the array can be used again.
+
+            >>> import array
+            >>> room = array.array("Q", bytes(24 * 100))
+            >>> AhoCorasick([b"sam"]).find_into(b"sam and sam", room), room[:6].tolist()
+            (2, [0, 0, 3, 0, 8, 11])
+        """
+        if isinstance(haystack, str):
+            raise TypeError("places in an array count bytes, so the haystack is not a str")
+        if overlapping and self._kind != "standard":
+            raise SearchError(f"overlapping matches are those of kind standard, and this searcher is of kind {self._kind}")
+        given, count, view = _borrowed(haystack), ctypes.c_size_t(), memoryview(room)
+        if view.readonly or view.itemsize != 8:
+            raise TypeError("the room is a buffer of 64-bit numbers that can be written")
+        fits = view.nbytes // _MATCH.size
+        found = (ctypes.c_char * view.nbytes).from_buffer(view.cast("B")) if fits else None
+        _check((_overlapping if overlapping else _find_all)(self._reference(), given, len(given), found, fits, ctypes.byref(count)))
+        return count.value
+
+    def stream(self, reader: Any) -> Iterator[Match]:
+        """The matches of what a reader gives, each as soon as no byte that follows can change it. The reader has a method `read`, as
+        a file and a socket's makefile() have, or is an iterable of pieces. Its pieces are str, if the patterns are, or bytes; the
+        places count from the first one. It is read in pieces of 65536, and no more is kept of it than that and what the longest pattern needs.
+
+            >>> import io
+            >>> [match.start for match in AhoCorasick([b"sam"]).stream(io.BytesIO(b"frodo, sam"))]
+            [7]
+
+        Raises SearchError where a pattern is empty."""
+        stream = Stream(self)
+        return self._stream(stream, reader)
+
+    def _stream(self, stream: "Stream", reader: Any) -> Iterator[Match]:
+        # As the reader of a buffered pipe or socket gives what is there, so that a match is told as soon as it came.
+        read = getattr(reader, "read1", None) or getattr(reader, "read", None)
+        pieces = iter(lambda: read(_PIECE), self) if read else iter(reader)
+        for piece in pieces:
+            if piece is None:
+                raise BlockingIOError("the reader has nothing for now")
+            if read and not len(piece):
+                break
+            yield from stream.push(piece)
+        yield from stream.end()
 
     def replace_all(self, haystack: Haystack, replace_with: Sequence[Haystack]) -> Union[str, bytes]:
         """The haystack with each match replaced by what stands in the place of its pattern: a str for a str, else bytes.
@@ -245,8 +357,11 @@ class AhoCorasick:
     def __repr__(self) -> str:
         return f"<AhoCorasick of {len(self._patterns)} patterns, {self._kind}>"
 
+    def _begin_process(self) -> None:
+        self._lock, self._own = threading.Lock(), threading.local()
+
     def _reference(self) -> Any:
-        """This thread's own handle: no handle is used by two calls at a time."""
+        """This thread's own handle: no handle is used by two calls at a time. A process that was forked makes its own anew."""
         try:
             return self._own.reference
         except AttributeError:
@@ -265,15 +380,25 @@ class AhoCorasick:
 
     def _all(self, function: Any, haystack: Haystack) -> Iterator[Match]:
         given, count = self._bytes_of(haystack), ctypes.c_size_t()
-        reference, room = self._reference(), 256 + len(given) // 256
+        reference, found = self._reference(), self._room(256)
         while True:
-            found = (ctypes.c_size_t * (3 * room))()
+            room = len(found) // _MATCH.size
             _check(function(reference, given, len(given), found, room, ctypes.byref(count)))
             if count.value <= room:
                 break
-            room = count.value
-        matches = _matches(found, count.value)
+            found = self._room(count.value)
+        matches = map(Match._make, _MATCH.iter_unpack(memoryview(found)[: count.value * _MATCH.size].tobytes()))
         return self._characters(matches, given) if _is_wide(haystack) else matches
+
+    def _room(self, matches: int) -> Any:
+        """Room for so many matches, or for more: this thread's own, if that is enough."""
+        own = getattr(self._own, "room", None)
+        if own is not None and len(own) >= matches * _MATCH.size:
+            return own
+        room = (ctypes.c_char * (matches * _MATCH.size))()
+        if matches <= _KEPT_ROOM:
+            self._own.room = room
+        return room
 
     def _characters(self, matches: Iterable[Match], text: bytes) -> Iterator[Match]:
         """Matches of a text's UTF-8, which come by their ends, with the places of characters. One that lies inside a character, as
@@ -312,17 +437,12 @@ def _is_wide(haystack: Haystack) -> bool:
     return isinstance(haystack, str) and not haystack.isascii()
 
 
-def _matches(found: Any, count: int) -> Iterator[Match]:
-    """The matches of which these are the numbers and places."""
-    for at in range(0, 3 * count, 3 * _AT_A_TIME):
-        some = found[at : min(at + 3 * _AT_A_TIME, 3 * count)]
-        yield from map(Match, some[0::3], some[1::3], some[2::3])
-
-
 def _check(status: int, *good: int) -> None:
     """Raises what a status says that is not good."""
     if status == _NO_MEMORY:
         raise MemoryError
+    if status in _WHY_REFUSED:
+        raise SearchError(_WHY_REFUSED[status])
     if status != _DONE and status not in good:
         raise RuntimeError(f"the library answered {status}")
 
@@ -330,3 +450,90 @@ def _check(status: int, *good: int) -> None:
 def _rebuilt(patterns: Tuple[Union[str, bytes], ...], kind: str, ignore_case: bool, prefilter: bool) -> AhoCorasick:
     """What a pickled searcher is read as."""
     return AhoCorasick(patterns, kind=kind, ignore_case=ignore_case, prefilter=prefilter)
+
+
+class Stream:
+    """The search of a stream whose pieces are pushed as they come. It is used by one thread at a time.
+
+        >>> stream = Stream(AhoCorasick(["samwise", "sam"], kind="leftmost-longest"))
+        >>> stream.push("frodo, sam"), stream.push("wise"), stream.end()
+        ([], [], [Match(pattern=0, start=7, end=14)])
+
+    Raises SearchError where a pattern is empty."""
+
+    def __init__(self, searcher: AhoCorasick) -> None:
+        self._searcher, self._handle = searcher, _StreamHandle()
+        self._found, self._taken = _Match(), ctypes.c_size_t()
+        # Of a text the bytes from `_at` on are kept, before which so many bytes and characters stand.
+        self._of_text: Optional[bool] = None
+        self._tail, self._at, self._passed = bytearray(), 0, 0
+        self._most = max((len(_pattern_bytes(it)) for it in searcher.patterns), default=0) + 1
+        _check(_stream_new(searcher._reference(), ctypes.byref(self._handle)))
+
+    def push(self, piece: Haystack) -> List[Match]:
+        """The matches that are certain with this piece and were not told before: str or bytes, as the first piece was."""
+        text = isinstance(piece, str)
+        if self._of_text not in (None, text):
+            raise TypeError("the pieces of a stream are all of type str, or all of bytes")
+        self._of_text = text
+        rest = memoryview(self._searcher._bytes_of(piece) if isinstance(piece, str) else piece)
+        rest = (rest if rest.c_contiguous else memoryview(rest.tobytes())).cast("B")
+        if text:
+            self._tail += rest
+        matches: List[Match] = []
+        while len(rest):
+            _check(_stream_push(ctypes.byref(self._handle), _borrowed(rest), len(rest), ctypes.byref(self._taken)))
+            rest = rest[self._taken.value :]
+            matches += self._certain()
+        return matches
+
+    def end(self) -> List[Match]:
+        """The matches that are left, where nothing more is pushed."""
+        _check(_stream_end(ctypes.byref(self._handle)))
+        return list(self._certain())
+
+    def _certain(self) -> Iterator[Match]:
+        handle, found = ctypes.byref(self._handle), self._found
+        while True:
+            status = _stream_next(handle, ctypes.byref(found))
+            _check(status, _FOUND)
+            if status != _FOUND:
+                break
+            match = Match(found.pattern, found.start, found.end)
+            yield self._in_characters(match) if self._of_text else match
+        self._pass(len(self._tail) + self._at - self._most)
+
+    def _in_characters(self, match: Match) -> Match:
+        self._pass(match.end)
+        return Match(match.pattern, self._passed - len(self._searcher.patterns[match.pattern]), self._passed)
+
+    def _pass(self, place: int) -> None:
+        """Counts the characters of a text before a place, and keeps what is behind."""
+        count = place - self._at
+        if count > 0:
+            self._passed += len(self._tail[:count].translate(None, _INSIDE))
+            del self._tail[:count]
+            self._at = place
+
+
+_searchers: "weakref.WeakSet[AhoCorasick]" = weakref.WeakSet()
+
+
+def _begin_process() -> None:
+    for searcher in list(_searchers):
+        searcher._begin_process()
+
+
+if hasattr(os, "register_at_fork"):
+    os.register_at_fork(after_in_child=_begin_process)
+
+
+def _main() -> None:
+    searcher = AhoCorasick(["samwise", "sam", "frodo"], kind="leftmost-first")
+    if [*searcher.find_iter("frodo and samwise")] != [Match(2, 0, 5), Match(0, 10, 17)]:
+        raise SystemExit(f"chromesquid: {_loaded._name} answers otherwise than it should")
+    print(f"chromesquid {'.'.join(map(str, version()))}: {_loaded._name} is there and answers")
+
+
+if __name__ == "__main__":
+    _main()

@@ -2,13 +2,15 @@
 
 import array
 import copy
+import io
 import mmap
+import os
 import pickle
 import random
 import threading
 import unittest
 
-from chromesquid import AhoCorasick, Match, version
+from chromesquid import AhoCorasick, Match, SearchError, Stream, version
 
 KINDS = ("standard", "leftmost-first", "leftmost-longest")
 
@@ -63,6 +65,12 @@ def replaced(haystack, found, pieces):
     return haystack[:0].join([*parts, haystack[at:]])
 
 
+def mapped_pages():
+    """How many kilobytes this process has had of memory at most."""
+    with open("/proc/self/status", encoding="utf-8") as file:
+        return next((int(line.split()[1]) for line in file if line.startswith("VmHWM")), 0)
+
+
 class Rows(unittest.TestCase):
     def test_one_match(self):
         searcher = AhoCorasick(["samwise", "sam", "frodo"], kind="leftmost-first")
@@ -103,6 +111,22 @@ class Rows(unittest.TestCase):
         searcher.is_match(grown)
         grown += b"more"  # no call keeps it
 
+    def test_a_buffer_that_may_only_be_read_is_not_copied(self):
+        searcher = AhoCorasick([b"ab"])
+        with mmap.mmap(-1, 1 << 26, mmap.MAP_PRIVATE | mmap.MAP_ANONYMOUS, mmap.PROT_READ) as mapped:
+            before = mapped_pages()
+            self.assertFalse(searcher.is_match(memoryview(mapped)[5:]) or searcher.is_match(mapped))
+            self.assertLess(mapped_pages() - before, 1 << 12)
+
+    def test_matches_into_an_array(self):
+        searcher, room = AhoCorasick([b"a", b"aa"]), array.array("Q", [9] * 10)
+        self.assertEqual(searcher.find_into(b"aab", room), 2)
+        self.assertEqual(room.tolist(), [0, 0, 1, 0, 1, 2, 9, 9, 9, 9])
+        self.assertEqual(searcher.find_into(b"baa", room, overlapping=True), 3)
+        self.assertEqual(room.tolist(), [0, 1, 2, 1, 1, 3, 0, 2, 3, 9])
+        self.assertEqual(searcher.find_into(b"aaaaa", room), 5)
+        self.assertEqual(searcher.find_into(b"aaaaa", array.array("Q")), 5)
+
     def test_no_patterns(self):
         searcher = AhoCorasick([])
         self.assertFalse(searcher.is_match("a") or searcher.is_match(b"a"))
@@ -117,7 +141,11 @@ class Rows(unittest.TestCase):
             (ValueError, lambda: AhoCorasick(["a"], kind="leftmost")),
             (TypeError, lambda: searcher.find("a")),
             (TypeError, lambda: searcher.find(3)),
-            (ValueError, lambda: searcher.find_overlapping_iter(b"a")),
+            (SearchError, lambda: searcher.find_overlapping_iter(b"a")),
+            (SearchError, lambda: Stream(AhoCorasick([b"a", b""]))),
+            (TypeError, lambda: searcher.find_into("a", bytearray(24))),
+            (TypeError, lambda: searcher.find_into(b"a", array.array("I", [0] * 6))),
+            (TypeError, lambda: searcher.find_into(b"a", bytes(24))),
             (ValueError, lambda: searcher.replace_all(b"a", [])),
             (TypeError, lambda: searcher.replace_all(b"a", ["b"])),
             (TypeError, lambda: searcher.replace_all(b"a", b"b")),
@@ -140,6 +168,58 @@ class Rows(unittest.TestCase):
         self.assertEqual(len(version()), 3)
 
 
+class Slow:
+    """A reader that gives what it is told to, piece by piece."""
+
+    def __init__(self, pieces):
+        self.pieces = list(pieces)
+
+    def read(self, size):
+        return self.pieces.pop(0) if self.pieces else b""
+
+
+class Streams(unittest.TestCase):
+    def test_readers(self):
+        searcher = AhoCorasick(["samwise", "sam", "né"], kind="leftmost-longest")
+        text = "né, sam" + "x" * 100000 + "samwise né"
+        wanted = [Match(2, 0, 2), Match(1, 4, 7), Match(0, 100007, 100014), Match(2, 100015, 100017)]
+        for reader in (io.StringIO(text), iter(text), [text], [text[:5], "", text[5:]]):
+            self.assertEqual(list(searcher.stream(reader)), wanted)
+        given = text.encode()
+        wanted = list(searcher.find_iter(given))
+        for reader in (io.BytesIO(given), [given], (given[at : at + 1] for at in range(len(given))), Slow([given[:6], given[6:]]),
+                       [memoryview(given)[:50000], bytearray(given[50000:])]):
+            self.assertEqual(list(searcher.stream(reader)), wanted)
+        self.assertEqual(list(searcher.stream([])), [])
+
+    def test_a_match_is_told_as_soon_as_it_is_certain(self):
+        stream = Stream(AhoCorasick([b"sam", b"samwise"]))
+        self.assertEqual((stream.push(b"xsa"), stream.push(b"m"), stream.push(b"wise"), stream.end()), ([], [Match(0, 1, 4)], [], []))
+        stream = Stream(AhoCorasick([b"sam", b"samwise"], kind="leftmost-longest"))
+        self.assertEqual((stream.push(b"xsam"), stream.push(b"w"), stream.push(b"x"), stream.push(b"sam")), ([], [], [Match(0, 1, 4)], []))
+        self.assertEqual((stream.end(), stream.end()), ([Match(0, 6, 9)], []))
+        self.assertRaises(SearchError, stream.push, b"x")
+
+    def test_one_type_in_a_stream(self):
+        stream = Stream(AhoCorasick(["a"]))
+        stream.push("a")
+        self.assertRaises(TypeError, stream.push, b"a")
+        self.assertRaises(TypeError, Stream(AhoCorasick([b"a"])).push, "a")
+        self.assertRaises(BlockingIOError, list, AhoCorasick([b"a"]).stream(Slow([b"a", None])))
+
+    def test_beside_the_search_of_all_at_once(self):
+        dice = random.Random(3)
+        for turn in range(1500):
+            letters = dice.choice((["a", "é", "A", "🦑"], [b"a", b"b", b"A", b"\xff"]))[: dice.randrange(1, 5)]
+            empty, kind = letters[0][:0], dice.choice(KINDS)
+            patterns = [empty.join(dice.choices(letters, k=dice.randrange(1, 5))) for _ in range(dice.randrange(1, 6))]
+            pieces = [empty.join(dice.choices(letters, k=dice.randrange(20))) for _ in range(dice.randrange(8))]
+            if turn % 250 == 0:
+                pieces = [it * 5000 for it in pieces[:3]]
+            searcher = AhoCorasick(patterns, kind=kind, ignore_case=dice.random() < 0.3, prefilter=dice.random() < 0.7)
+            self.assertEqual(list(searcher.stream(pieces)), list(searcher.find_iter(empty.join(pieces))))
+
+
 class Copies(unittest.TestCase):
     def test_pickled_and_copied(self):
         for patterns in (["né", "E"], [b"n\xff", b"E"]):
@@ -160,6 +240,25 @@ class Copies(unittest.TestCase):
         for it in threads:
             it.join()
         self.assertEqual(counts, [10000] * 8)
+
+    @unittest.skipUnless(hasattr(os, "fork"), "no fork")
+    def test_a_forked_process_searches_too(self):
+        searcher, over = AhoCorasick(["frodo", "sam"]), []
+        searches = threading.Thread(target=lambda: [searcher.is_match("x" * 1000) for _ in iter(lambda: bool(over), True)])
+        searches.start()
+        try:
+            for _ in range(20):
+                child = os.fork()
+                if child == 0:
+                    counts = []
+                    thread = threading.Thread(target=lambda: counts.append(len(list(searcher.find_iter("a sam")))))
+                    thread.start()
+                    thread.join()
+                    os._exit(0 if counts == [1] and searcher.find("frodo") == Match(0, 0, 5) else 1)
+                self.assertEqual(os.waitpid(child, 0)[1], 0)
+        finally:
+            over.append(True)
+            searches.join()
 
     def test_an_iterator_outlives_what_it_was_made_of(self):
         self.assertEqual(list(AhoCorasick(["a"]).find_iter("aéa")), [Match(0, 0, 1), Match(0, 2, 3)])

@@ -1,6 +1,6 @@
 -- The word of a state, by how it is reached.
 use Rattle.std.proofs.Common.{◌≡◌, ◌≢◌, ◌⊎◌, inl, inr, ℕ, zero, suc, ◌+◌, ◌<◌, true, ◌&&◌, List, [], ◌∷◌, ◌++◌, length, get_or, refl, sym, ◌∙◌, ap, subst, arith}
-use Rattle.std.specs.Prelude.{Option, Some, None, nat_le, if◌then◌else◌}
+use Rattle.std.specs.Prelude.{IfSome, Option, Some, None, nat_le, if◌then◌else◌}
 use Rattle.std.specs.List.{All}
 use Rattle.std.proofs.Math.ListN.{get_or-append}
 use Rattle.std.proofs.Math.Seq.{get_or-append_seam}
@@ -24,7 +24,7 @@ use Rattle.aho_build.proofs.OneWordMore.{folded-small}
 use Rattle.aho_corasick.proofs.ReadOut.{word-anchored, word-other}
 use Rattle.aho_corasick.specs.ReadOut.{states_of, word_in}
 use Rattle.aho_corasick.specs.declared.noncontiguous.NFA.{NFA}
-use Rattle.acdraw.specs.Words.{AreBytes, IsAheadOf, IsLastTo, IsReachedBy, IsUnreached, IsWordOf}
+use Rattle.acdraw.specs.Words.{AreBytes, IsAheadOf, IsLastTo, IsReachedBy, IsUnreached, IsWordOf, Leads}
 use Rattle.acdraw.specs.declared.picture.words.Reached.{Reached}
 
 -- ---- lists of transitions
@@ -273,3 +273,26 @@ ahead_all nfa sid at behind below unreached ahead p names bytes naming alive kep
     let found = ahead p names word.0 naming word.1 in
     let empty = unreached-word nfa.special p names (states_of nfa) naming.1 naming.0.listed bytes at found.0 unreached found.1 in
     word.1 ∙ ap Some (found.2 ∙ ap (λ (l : List ℕ). l ++ behind) empty)
+
+-- ---- how a state leads to another
+
+-- the last byte of a state's transitions that leads to one which is further from the start
+pub leads_by : (states : List State) (from sid : ℕ) (transitions : List (ℕ × ℕ)) (byte : Option ℕ) → from < length states → depth_in states from < depth_in states sid
+    → transitions ≡ (state_at states from).transitions → IsRising transitions → IfSome byte (λ b. b < 256) → IsLastTo sid transitions byte → Leads states from sid byte
+leads_by states from sid transitions None within nearer is rising small last = λ _. subst (λ (l : List (ℕ × ℕ)). IsLastTo sid l None) is last
+leads_by states from sid transitions (Some b) within nearer is rising small last = record {
+  within = within;
+  small = small;
+  nearer = nearer;
+  rising = subst IsRising is rising;
+  last = subst (λ (l : List (ℕ × ℕ)). IsLastTo sid l (Some b)) is last;
+}
+
+-- no state up to one leads to it, if none before that one does, nor that one
+pub none_up_to : (states : List State) (sid index : ℕ) → ((from : ℕ) → from < index → Leads states from sid None) → Leads states index sid None
+    → (from : ℕ) → from < index + 1 → Leads states from sid None
+none_up_to states sid index before here from below =
+    elim (cases_eq from index) [
+      | inl same ↦ subst (λ (n : ℕ). Leads states n sid None) (sym same) here
+      | inr other ↦ before from (omega (arith, below, other))
+    ]

@@ -9,11 +9,11 @@ use Rattle.acgrep.specs.Files.{EndsFile, IfSearched, IsAny, IsRead, SearchesFile
 use Rattle.acgrep.specs.Lines.{lines}
 use Rattle.acgrep.specs.Printed.{file_line}
 use Rattle.acgrep.specs.Streamed.{SearchesStream, course}
-use Rattle.acgrep.specs.Written.{EachLine, IsPassedOver, IsSelected, ShowsBy, TellsOfLines, at_begin, needs_one, one_more, place_behind}
+use Rattle.acgrep.specs.Written.{EachLine, IsPassedOver, IsSelected, ShowsBy, TellsOfLines, at_begin, needs_one, one_more}
 use Rattle.acgrep.specs.declared.files.Outcome.{Outcome}
 use Rattle.acgrep.specs.declared.files.Outcome.TheVariants.{Searched, Unread, Stopped}
 use Rattle.acgrep.specs.declared.options.Shown.{Shown}
-use Rattle.acgrep.specs.declared.options.Shown.TheVariants.{Lines, Matches, Objects, Count, Names, Nothing}
+use Rattle.acgrep.specs.declared.options.Shown.TheVariants.{Lines, Matches, Objects, Count, Names, Lacking, Nothing}
 use Rattle.acgrep.specs.declared.print.Place.{Place}
 use Rattle.acgrep.specs.declared.print.Style.{Style}
 use Rattle.acgrep.specs.declared.select.Job.{Job}
@@ -28,6 +28,7 @@ shows_none p Matches invert style place line bytes one shows = absurd (cc)
 shows_none p Objects invert style place line bytes one shows = absurd (cc)
 shows_none p Count invert style place line bytes one shows = absurd (cc)
 shows_none p Names invert style place line bytes one shows = shows
+shows_none p Lacking invert style place line bytes one shows = shows
 shows_none p Nothing invert style place line bytes one shows = shows
 
 more_positive : (count : ℕ) → 0 < one_more count
@@ -84,16 +85,18 @@ module _ (p : Patterns) (job : Job) where
       ]
 
   -- what is written of a whole text
-  by_whole : (shown : Shown) → shown ≡ job.shown → (text told : List ℕ) (count : ℕ) → TellsOfLines p job (place_behind 0 job.first) 0 (lines text) told count
+  by_whole : (shown : Shown) → shown ≡ job.shown → (text told : List ℕ) (count : ℕ) → TellsOfLines p job job.first 0 (lines text) told count
       → TellsBy p job shown text (nat_lt 0 count) (told ++ total_if shown job.style count)
   by_whole Lines is text told count tells = (told, count, tells, ap (λ (shown : Shown). told ++ count_if shown job.style count) is)
   by_whole Matches is text told count tells = (told, count, tells, ap (λ (shown : Shown). told ++ count_if shown job.style count) is)
   by_whole Objects is text told count tells = (told, count, tells, ap (λ (shown : Shown). told ++ count_if shown job.style count) is)
   by_whole Count is text told count tells = (told, count, tells, ap (λ (shown : Shown). told ++ count_if shown job.style count) is)
   by_whole Names is text told count tells =
-      ap (λ (l : List ℕ). l ++ total_if Names job.style count) (tells_none (lines text) (place_behind 0 job.first) 0 told count (ap needs_one (sym is)) tells)
+      ap (λ (l : List ℕ). l ++ total_if Names job.style count) (tells_none (lines text) job.first 0 told count (ap needs_one (sym is)) tells)
+  by_whole Lacking is text told count tells =
+      ap (λ (l : List ℕ). l ++ total_if Lacking job.style count) (tells_none (lines text) job.first 0 told count (ap needs_one (sym is)) tells)
   by_whole Nothing is text told count tells =
-      ap (λ (l : List ℕ). l ++ []) (tells_none (lines text) (place_behind 0 job.first) 0 told count (ap needs_one (sym is)) tells)
+      ap (λ (l : List ℕ). l ++ []) (tells_none (lines text) job.first 0 told count (ap needs_one (sym is)) tells)
 
   -- and where one selected line told all
   by_front : (shown : Shown) (text : List ℕ) (count : ℕ) → needs_one shown ≡ true → 0 < count → TellsBy p job shown text true (total_if shown job.style count)
@@ -104,18 +107,21 @@ module _ (p : Patterns) (job : Job) where
   by_front Names text count one some =
       let is : nat_lt 0 count ≡ true = lt-ltb 0 count some in
       ap (λ (any : Bool). if any then file_line job.style else []) is
+  by_front Lacking text count one some =
+      let is : nat_lt 0 count ≡ true = lt-ltb 0 count some in
+      ap (λ (any : Bool). if any then [] else file_line job.style) is
   by_front Nothing text count one some = refl
 
   -- all of a text was searched
   file_whole : (state : State) (known held meanwhile held' : Option (List ℕ)) (text told : List ℕ) → IfSome known (λ (all : List ℕ). text ≡ all)
-      → TellsOfLines p job (place_behind 0 job.first) 0 (lines text) told state.selected → Appends held meanwhile told → (any : Bool) → EndsFile job state.selected meanwhile held' any
+      → TellsOfLines p job job.first 0 (lines text) told state.selected → Appends held meanwhile told → (any : Bool) → EndsFile job state.selected meanwhile held' any
       → SearchesFile p job known held held' any
   file_whole state known held meanwhile held' text told of tells written any ends =
       let count = state.selected in
       record {
         text = text;
         of = of;
-        selected = subst (IsAny p job.invert (lines text)) (sym ends.is_any) (tells_any (lines text) (place_behind 0 job.first) told count tells);
+        selected = subst (IsAny p job.invert (lines text)) (sym ends.is_any) (tells_any (lines text) job.first told count tells);
         bytes = told ++ total_if job.shown job.style count;
         tells = subst (λ (any : Bool). TellsBy p job job.shown text any (told ++ total_if job.shown job.style count)) (sym ends.is_any) (by_whole job.shown refl text told count tells);
         written = Appends-trans held meanwhile held' told (total_if job.shown job.style count) written ends.written;
@@ -123,16 +129,16 @@ module _ (p : Patterns) (job : Job) where
 
   -- a line was selected that told all
   file_front : (state : State) (known held meanwhile held' : Option (List ℕ)) (text told : List ℕ) (ls : List (List ℕ)) → IfSome known (λ (all : List ℕ). text ≡ all)
-      → TellsOfLines p job (place_behind 0 job.first) 0 ls told state.selected → needs_one job.shown ≡ true → 0 < state.selected → (SomeLine (IsSelected p job.invert) ls → SomeLine (IsSelected p job.invert) (lines text))
+      → TellsOfLines p job job.first 0 ls told state.selected → needs_one job.shown ≡ true → 0 < state.selected → (SomeLine (IsSelected p job.invert) ls → SomeLine (IsSelected p job.invert) (lines text))
       → Appends held meanwhile told → (any : Bool) → EndsFile job state.selected meanwhile held' any → SearchesFile p job known held held' any × (any ≡ true)
   file_front state known held meanwhile held' text told ls of tells one some front written any ends =
       let count = state.selected in
       let is : any ≡ true = ends.is_any ∙ lt-ltb 0 count some in
-      let none : told ≡ [] = tells_none ls (place_behind 0 job.first) 0 told count one tells in (
+      let none : told ≡ [] = tells_none ls job.first 0 told count one tells in (
         record {
           text = text;
           of = of;
-          selected = subst (IsAny p job.invert (lines text)) (sym is) (front (tells_some ls (place_behind 0 job.first) 0 told count tells refl some));
+          selected = subst (IsAny p job.invert (lines text)) (sym is) (front (tells_some ls job.first 0 told count tells refl some));
           bytes = total_if job.shown job.style count;
           tells = subst (λ (any : Bool). TellsBy p job job.shown text any (total_if job.shown job.style count)) (sym is) (by_front job.shown text count one some);
           written = subst (λ (l : List ℕ). Appends held held' (l ++ total_if job.shown job.style count)) none
@@ -159,7 +165,7 @@ module _ (p : Patterns) (job : Job) where
                   let same : lines text ≡ to.searched = ap lines all ∙ to.cut ∙ ap (λ (l : List ℕ). to.searched ++ lines l) whole ∙ append-nil to.searched in
                   record {
                     file = file_whole state left held meanwhile held' text tells.bytes known
-                        (subst (λ (ls : List (List ℕ)). TellsOfLines p job (place_behind 0 job.first) 0 ls tells.bytes state.selected) (sym same) tells.told) tells.written any ends;
+                        (subst (λ (ls : List (List ℕ)). TellsOfLines p job job.first 0 ls tells.bytes state.selected) (sym same) tells.told) tells.written any ends;
                     reads = read any;
                   }
               | inr (one, some) ↦

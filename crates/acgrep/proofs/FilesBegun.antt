@@ -7,11 +7,11 @@ use Rattle.acgrep.specs.Files.{AreFilesBegun, BeginsFile, BeginsTotal, IfBroken,
 use Rattle.acgrep.specs.Lines.{lines}
 use Rattle.acgrep.specs.Streamed.{BeginsStream, course}
 use Rattle.aho_devices.specs.Counts.{AppendsBeginning}
-use Rattle.acgrep.specs.Written.{ShowsBy, StartsNext, after_lines, at_begin, place_behind}
+use Rattle.acgrep.specs.Written.{ShowsBy, StartsNext, after_lines, at_begin}
 use Rattle.acgrep.specs.declared.files.Outcome.{Outcome}
 use Rattle.acgrep.specs.declared.files.Outcome.TheVariants.{Searched, Unread, Stopped}
 use Rattle.acgrep.specs.declared.options.Shown.{Shown}
-use Rattle.acgrep.specs.declared.options.Shown.TheVariants.{Lines, Matches, Objects, Count, Names, Nothing}
+use Rattle.acgrep.specs.declared.options.Shown.TheVariants.{Lines, Matches, Objects, Count, Names, Lacking, Nothing}
 use Rattle.acgrep.specs.declared.print.Place.{Place}
 use Rattle.acgrep.specs.declared.print.Style.{Style}
 use Rattle.acgrep.specs.declared.select.Job.{Job}
@@ -69,6 +69,7 @@ one_none p Matches invert style place line all begun more count total missing sh
 one_none p Objects invert style place line all begun more count total missing shows is cut = inr (nil_front total missing cut)
 one_none p Count invert style place line all begun more count total missing shows is cut = inl (nil_front begun more (sym shows ∙ is))
 one_none p Names invert style place line all begun more count total missing shows is cut = inl (nil_front begun more (sym shows ∙ is))
+one_none p Lacking invert style place line all begun more count total missing shows is cut = inl (nil_front begun more (sym shows ∙ is))
 one_none p Nothing invert style place line all begun more count total missing shows is cut = inl (nil_front begun more (sym shows ∙ is))
 
 module _ (p : Patterns) (job : Job) where
@@ -86,7 +87,7 @@ module _ (p : Patterns) (job : Job) where
       let (more, known, none) = text_behind left left' (stream.searched ++ stream.rest) stream.consumed in
       let text = (stream.searched ++ stream.rest) ++ more in
       let begins = stream.begins in
-      let start = after_lines (place_behind 0 job.first) begins.first in
+      let start = after_lines job.first begins.first in
       let (others, cut) : (others : List (List ℕ)) × (lines text ≡ lines stream.searched ++ others) =
       elim stream.ends [
         | inl whole ↦ (lines (stream.rest ++ more), ap lines (append_assoc stream.searched stream.rest more) ∙ lines_append stream.searched (stream.rest ++ more) whole)
@@ -153,7 +154,7 @@ module _ (p : Patterns) (job : Job) where
     count = 0;
     tells = (refl, refl);
     begun = [];
-    starts = inl (starts_none p job (place_behind 0 job.first) (lines bytes));
+    starts = inl (starts_none p job job.first (lines bytes));
     written = keeps_nil held held' keeps;
   }
 

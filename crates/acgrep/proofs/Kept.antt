@@ -8,7 +8,7 @@ use Rattle.aho_core.specs.Patterns.{Patterns}
 use Rattle.acgrep.specs.Arguments.{Origin, Said}
 use Rattle.programs.specs.Names.{or_input}
 use Rattle.acgrep.specs.Files.{AreFilesSearched, AreSearchedOr, is_enough}
-use Rattle.acgrep.specs.Runs.{BeginsFor, SelectsNoLine, SearchesFor, SearchesWords, selects_none}
+use Rattle.acgrep.specs.Runs.{BeginsFor, SelectsNoLine, SearchesFor, SearchesWords, knows_none}
 use Rattle.acgrep.specs.Searchers.{patterns_asked}
 use Rattle.acgrep.specs.declared.options.Flags.{Flags}
 use Rattle.acgrep.specs.declared.select.Job.{Job}
@@ -50,7 +50,7 @@ module _ (held' held'' : Option (List ℕ)) (kept : Keeps held' held'') where
         between = done.between;
         read = done.read;
         searched =
-            elim (cases_Bool (selects_none flags.invert done.words)) [
+            elim (cases_Bool (knows_none flags done.words)) [
               | inl none ↦
                   let found : Passed = subst (λ (b : Bool). MatchBool b Passed Found) none done.searched in
                   rw none (record { passed = found.passed; unread = found.unread; unwritten = Keeps-trans held held' held'' found.unwritten kept; none = found.none })

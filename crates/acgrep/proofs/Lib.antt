@@ -7,10 +7,12 @@ pub mod Fillings
 pub mod FirstLines
 pub mod Kept
 pub mod LineLists
+pub mod LongNames
 pub mod NamesSearched
 pub mod Numbers
 pub mod Objected
 pub mod PlacesBehind
+pub mod Statuses
 pub mod Streams
 pub mod StreamsBegun
 pub mod Tellings

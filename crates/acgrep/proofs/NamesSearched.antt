@@ -14,7 +14,7 @@ use Rattle.acgrep.specs.declared.files.Outcome.{Outcome}
 use Rattle.acgrep.specs.declared.files.Outcome.TheVariants.{Searched, Unread, Stopped}
 use Rattle.acgrep.specs.declared.files.Seen.{Seen}
 use Rattle.acgrep.specs.declared.options.Shown.{Shown}
-use Rattle.acgrep.specs.declared.options.Shown.TheVariants.{Lines, Matches, Objects, Count, Names, Nothing}
+use Rattle.acgrep.specs.declared.options.Shown.TheVariants.{Lines, Matches, Objects, Count, Names, Lacking, Nothing}
 use Rattle.acgrep.specs.declared.select.Job.{Job}
 
 or_true : (a : Bool) → (a || true) ≡ true
@@ -36,6 +36,7 @@ enough_only Matches any is = absurd (cc)
 enough_only Objects any is = absurd (cc)
 enough_only Count any is = absurd (cc)
 enough_only Names any is = absurd (cc)
+enough_only Lacking any is = absurd (cc)
 enough_only Nothing any is = (refl, is)
 
 status_clean : (shown : Shown) (any : Bool) → (if is_enough shown any then 0 else (if any then 0 else 1)) ≡ status_of any
@@ -44,6 +45,7 @@ status_clean Matches any = refl
 status_clean Objects any = refl
 status_clean Count any = refl
 status_clean Names any = refl
+status_clean Lacking any = refl
 status_clean Nothing true = refl
 status_clean Nothing false = refl
 

@@ -13,7 +13,7 @@ use Rattle.acgrep.specs.Objects.{objects_by}
 use Rattle.acgrep.specs.Printed.{WritesColored, color_of, colored_from, colored_line_by, head_of, match_by, matches_by, line_number_at, offset_at, painted, part_of}
 use Rattle.acgrep.specs.Written.{EachLine, EndsLine, HasMatch, HasNone, IsPassedOver, IsSelected, LineOf, SamePlace, SearchesTo, ShowsBy, TellsOfLines, TellsLines, WritesLine, after_line, after_lines, is_numbered, one_more, place_behind}
 use Rattle.acgrep.specs.declared.options.Shown.{Shown}
-use Rattle.acgrep.specs.declared.options.Shown.TheVariants.{Lines, Matches, Objects, Count, Names, Nothing}
+use Rattle.acgrep.specs.declared.options.Shown.TheVariants.{Lines, Matches, Objects, Count, Names, Lacking, Nothing}
 use Rattle.acgrep.specs.declared.print.Place.{Place}
 use Rattle.acgrep.specs.declared.select.Job.{Job}
 use Rattle.acgrep.specs.declared.select.State.{State}
@@ -56,6 +56,7 @@ asked_numbered Matches asked is = is
 asked_numbered Objects asked is = refl
 asked_numbered Count asked is = is
 asked_numbered Names asked is = is
+asked_numbered Lacking asked is = is
 asked_numbered Nothing asked is = is
 
 -- a coloured line is what is written of a line where that is asked for
@@ -111,6 +112,7 @@ by_same p Objects false job a b line bytes counted same (ms, finds, is) =
     (ms, finds, is ∙ ap (λ (place : Place). objects_by job.style place ms) (place_same a b (counted refl) same.bytes))
 by_same p Count invert job a b line bytes counted same shows = shows
 by_same p Names invert job a b line bytes counted same shows = shows
+by_same p Lacking invert job a b line bytes counted same shows = shows
 by_same p Nothing invert job a b line bytes counted same shows = shows
 
 -- lines tell the same from places that are the same

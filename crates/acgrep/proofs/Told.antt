@@ -16,7 +16,7 @@ use Rattle.programs.specs.Names.{IsAmong}
 use Rattle.programs.specs.Telling.{Tells, TellsBytes, TellsSome}
 use Rattle.programs.specs.declared.errors.Errors.{Errors}
 use Rattle.programs.specs.declared.reason.Reason.{Reason}
-use Rattle.programs.proofs.Lines.{some-one, some-tells, some-then, some-weaker, tells-none, tells-then, tells-weaker, then-some}
+use Rattle.programs.proofs.Lines.{some-one, some-tells, some-then, some-weaker, tells-none, tells-weaker, then-some}
 use Rattle.acgrep.specs.Arguments.{origin_of}
 use Rattle.acgrep.specs.Files.{IfSearched, is_enough, seen_after, status_by}
 use Rattle.acgrep.specs.Runs.{origins_of}
@@ -25,7 +25,7 @@ use Rattle.acgrep.specs.declared.arguments.Source.{Source}
 use Rattle.acgrep.specs.declared.arguments.Source.TheVariants.{File}
 use Rattle.acgrep.specs.declared.files.Seen.{Seen}
 use Rattle.acgrep.specs.declared.options.Shown.{Shown}
-use Rattle.acgrep.specs.declared.options.Shown.TheVariants.{Lines, Matches, Objects, Count, Names, Nothing}
+use Rattle.acgrep.specs.declared.options.Shown.TheVariants.{Lines, Matches, Objects, Count, Names, Lacking, Nothing}
 use Rattle.acgrep.proofs.NamesSearched.{enough_only}
 use Rattle.acgrep.specs.declared.files.Outcome.{Outcome}
 use Rattle.acgrep.specs.declared.files.Outcome.TheVariants.{Searched, Unread, Stopped}
@@ -199,14 +199,16 @@ within-cut first rest names all cut within =
     (both first (inl refl), λ name is. both name (inr is))
 
 -- the same is told of a status that is that one
-pub not-quiet : (quiet names count json only : Bool) → (if quiet then Nothing else if names then Names else if count then Count else if json then Objects else if only then Matches else Lines) ≡ Nothing
+pub not-quiet : (quiet names lacking count json only : Bool)
+    → (if quiet then Nothing else if names then Names else if lacking then Lacking else if count then Count else if json then Objects else if only then Matches else Lines) ≡ Nothing
     → quiet ≡ false → ⊥
-not-quiet true names count json only is loud = absurd (cc)
-not-quiet false true count json only is loud = absurd (cc)
-not-quiet false false true json only is loud = absurd (cc)
-not-quiet false false false true only is loud = absurd (cc)
-not-quiet false false false false true is loud = absurd (cc)
-not-quiet false false false false false is loud = absurd (cc)
+not-quiet true names lacking count json only is loud = absurd (cc)
+not-quiet false true lacking count json only is loud = absurd (cc)
+not-quiet false false true count json only is loud = absurd (cc)
+not-quiet false false false true json only is loud = absurd (cc)
+not-quiet false false false false true only is loud = absurd (cc)
+not-quiet false false false false false true is loud = absurd (cc)
+not-quiet false false false false false false is loud = absurd (cc)
 
 module _ {E : Type 0} (K : SinkGhosts E) (names : List (List ℕ)) where
   -- what was told before a last flush, and of it

@@ -1,15 +1,21 @@
 -- What the arguments, those after the program's name, say.
 use Rattle.programs.specs.Arguments.{kind_by}
-use Rattle.std.specs.Prelude.{◌≡◌, ℕ, ◌==◌, ◌^◌, ◌||◌, ◌&&◌, nat_lt, Bool, true, false, List, [], ◌∷◌, ◌++◌, Option, Some, None, codes, drop, length, map, take, String, Result, IfErr, IfOk, OnOk, string_bytes, option_and_then, option_map, if◌then◌else◌}
+use Rattle.std.specs.Prelude.{◌≡◌, ℕ, ◌==◌, ◌^◌, ◌||◌, ◌&&◌, nat_lt, Bool, true, false, List, [], ◌∷◌, ◌++◌, Option, Some, None, codes, drop, length, map, take, Result, IfErr, IfOk, OnOk, option_and_then, option_map, if◌then◌else◌}
 use Rattle.std.specs.Str.{all_ascii_digits, bytes_eq}
+use Rattle.std.specs.List.{after_first, before_first, position_or_len}
 use Rattle.std.specs.Str.Parse.{digits_value}
-use Rattle.aho_core.specs.declared.search.MatchKind.{MatchKind}
-use Rattle.aho_core.specs.declared.search.MatchKind.TheVariants.{Standard, LeftmostFirst, LeftmostLongest}
+use Rattle.aho_core.specs.declared.search.MatchKind.TheVariants.{LeftmostLongest}
 use Rattle.acgrep.specs.declared.arguments.Given.{Given}
-use Rattle.acgrep.specs.declared.arguments.Named.{Named}
-use Rattle.acgrep.specs.declared.arguments.Named.TheVariants.{Help, Version, Json, When, Which, WhichFollows, First, FirstFollows, End}
+use Rattle.acgrep.specs.Long.{option_by}
+use Rattle.acgrep.specs.declared.long.Long.{Long}
+use Rattle.acgrep.specs.declared.long.Long.TheVariants.{Plain, Takes, When}
+use Rattle.acgrep.specs.declared.long.Valued.{Valued}
+use Rattle.acgrep.specs.declared.long.Valued.TheVariants.{Regexp, PatternFile, Kind, Offset, FirstLine}
+use Rattle.acgrep.specs.declared.options.Color.{Color}
+use Rattle.acgrep.specs.declared.options.Switch.{Switch}
+use Rattle.acgrep.specs.declared.options.Switch.TheVariants.{IgnoreCase, MatchCase, Invert, Counts, Numbers, OnlyMatching, Offsets, OnlyNames, OnlyLacking, NullNames, Quiet, Json, NoName, WithName, NoMatchOk, Help, Version, Same}
 use Rattle.acgrep.specs.declared.arguments.Awaited.{Awaited}
-use Rattle.acgrep.specs.declared.arguments.Awaited.TheVariants.{Fresh, Letter, Kind, Offset, Operands}
+use Rattle.acgrep.specs.declared.arguments.Awaited.TheVariants.{Fresh, Argument, Operands}
 use Rattle.acgrep.specs.declared.arguments.Refusal.{Refusal}
 use Rattle.acgrep.specs.declared.arguments.Refusal.TheVariants.{Wrong, OutOfMemory}
 use Rattle.acgrep.specs.declared.arguments.Source.{Source}
@@ -17,7 +23,7 @@ use Rattle.acgrep.specs.declared.arguments.Source.TheVariants.{Text, File}
 use Rattle.acgrep.specs.declared.options.Color.TheVariants.{Auto, Always, Never}
 use Rattle.acgrep.specs.declared.options.Flags.{Flags}
 use Rattle.acgrep.specs.declared.options.Shown.{Shown}
-use Rattle.acgrep.specs.declared.options.Shown.TheVariants.{Lines, Matches, Objects, Count, Names, Nothing}
+use Rattle.acgrep.specs.declared.options.Shown.TheVariants.{Lines, Matches, Objects, Count, Names, Lacking, Nothing}
 
 -- where patterns come from: a text, or the file of a name
 pub record Origin : Type 0 where
@@ -42,20 +48,45 @@ said given = record {
   operands = map (λ operand. operand.now) given.operands.items;
 }
 
--- the option of a letter that takes no argument; of `-h` and `-H` the last counts
-abbrev pub turned_on : ℕ → Flags → Option Flags
-turned_on letter flags =
-    if letter == 105 then Some (record flags { ignore_case = true })
-    else if letter == 118 then Some (record flags { invert = true })
-    else if letter == 99 then Some (record flags { count = true })
-    else if letter == 110 then Some (record flags { number = true })
-    else if letter == 111 then Some (record flags { only_matching = true })
-    else if letter == 98 then Some (record flags { offset = true })
-    else if letter == 108 then Some (record flags { names = true })
-    else if letter == 113 then Some (record flags { quiet = true })
-    else if letter == 104 then Some (record flags { with_name = Some false })
-    else if letter == 72 then Some (record flags { with_name = Some true })
+-- the option of a letter that takes no argument
+abbrev pub switch_by : ℕ → Option Switch
+switch_by letter =
+    if letter == 105 || letter == 121 then Some IgnoreCase
+    else if letter == 118 then Some Invert
+    else if letter == 99 then Some Counts
+    else if letter == 110 then Some Numbers
+    else if letter == 111 then Some OnlyMatching
+    else if letter == 98 then Some Offsets
+    else if letter == 108 then Some OnlyNames
+    else if letter == 76 then Some OnlyLacking
+    else if letter == 90 then Some NullNames
+    else if letter == 113 then Some Quiet
+    else if letter == 104 then Some NoName
+    else if letter == 72 then Some WithName
+    else if letter == 86 then Some Version
+    else if letter == 70 || (letter == 97 || letter == 85) then Some Same
     else None
+
+-- what such an option changes; of `-h` and `-H` the last counts, of `-l` and `-L`, and of `-i` and `--no-ignore-case`
+abbrev pub switched : Switch → Flags → Flags
+switched IgnoreCase flags = record flags { ignore_case = true }
+switched MatchCase flags = record flags { ignore_case = false }
+switched Invert flags = record flags { invert = true }
+switched Counts flags = record flags { count = true }
+switched Numbers flags = record flags { number = true }
+switched OnlyMatching flags = record flags { only_matching = true }
+switched Offsets flags = record flags { offset = true }
+switched OnlyNames flags = record flags { names = true; lacking = false }
+switched OnlyLacking flags = record flags { names = false; lacking = true }
+switched NullNames flags = record flags { null = true }
+switched Quiet flags = record flags { quiet = true }
+switched Json flags = record flags { json = true }
+switched NoName flags = record flags { with_name = Some false }
+switched WithName flags = record flags { with_name = Some true }
+switched NoMatchOk flags = record flags { no_match_ok = true }
+switched Help flags = record flags { help = true }
+switched Version flags = record flags { version = true }
+switched Same flags = flags
 
 -- whether this is a number below 2^64 in decimal: one digit or more, and nothing else
 abbrev pub is_number : List ℕ → Bool
@@ -64,29 +95,6 @@ is_number digits = all_ascii_digits digits && (nat_lt 0 (length digits) && nat_l
 -- that number
 abbrev pub number_by : List ℕ → Option ℕ
 number_by digits = if is_number digits then Some (digits_value 10 digits) else None
-
--- what `--offset=` means with the number behind it
-abbrev pub offset_by : List ℕ → Option Named
-offset_by argument =
-    if bytes_eq (take 9 argument) (codes "--offset=") then option_map First (number_by (drop 9 argument)) else None
-
--- what an argument that is a whole name means
-abbrev pub name_by : List ℕ → Option Named
-name_by argument =
-    if bytes_eq argument (codes "--") then Some End
-    else if bytes_eq argument (codes "--help") then Some Help
-    else if bytes_eq argument (codes "--version") then Some Version
-    else if bytes_eq argument (codes "--json") then Some Json
-    else if bytes_eq argument (codes "--color") then Some (When Auto)
-    else if bytes_eq argument (codes "--color=auto") then Some (When Auto)
-    else if bytes_eq argument (codes "--color=always") then Some (When Always)
-    else if bytes_eq argument (codes "--color=never") then Some (When Never)
-    else if bytes_eq argument (codes "--kind") then Some WhichFollows
-    else if bytes_eq argument (codes "--kind=first") then Some (Which LeftmostFirst)
-    else if bytes_eq argument (codes "--kind=longest") then Some (Which LeftmostLongest)
-    else if bytes_eq argument (codes "--kind=standard") then Some (Which Standard)
-    else if bytes_eq argument (codes "--offset") then Some FirstFollows
-    else offset_by argument
 
 -- what was said, and what an argument waits for
 pub record ReadSoFar : Type 0 where
@@ -100,65 +108,108 @@ so_far awaits given = record { awaits = awaits; said = said given }
 abbrev pub with_operand : List ℕ → Said → Said
 with_operand operand s = record s { operands = s.operands ++ (operand ∷ []) }
 
--- the argument of `-e` is a text, and that of `-f` a file's name
-abbrev pub with_source : ℕ → List ℕ → Said → Said
-with_source letter argument s = record s { sources = s.sources ++ (record { is_file = letter == 102; bytes = argument } ∷ []) }
+-- an option may follow
+abbrev pub said_so : Said → ReadSoFar
+said_so s = record { awaits = Fresh; said = s }
 
--- the argument of an option that takes one stands behind its letter, or is the next one
-abbrev pub taken_by : ℕ → List ℕ → Said → ReadSoFar
-taken_by letter [] s = record { awaits = Letter letter; said = s }
-taken_by letter (first ∷ rest) s = record { awaits = Fresh; said = with_source letter (first ∷ rest) s }
+-- the argument of `-e` is a text, and that of `-f` a file's name
+abbrev pub with_source : Bool → List ℕ → Said → Said
+with_source is_file argument s = record s { sources = s.sources ++ (record { is_file = is_file; bytes = argument } ∷ []) }
+
+-- the option that gives patterns, or a file of them
+abbrev pub source_option : Bool → Valued
+source_option false = Regexp
+source_option true = PatternFile
+
+-- its argument stands behind its letter, or is the next one
+abbrev pub taken_by : Bool → List ℕ → Said → ReadSoFar
+taken_by is_file [] s = record { awaits = Argument (source_option is_file); said = s }
+taken_by is_file (first ∷ rest) s = said_so (with_source is_file (first ∷ rest) s)
 
 -- joined letters
 abbrev pub letters_by : List ℕ → Said → Option ReadSoFar
-letters_by [] s = Some (record { awaits = Fresh; said = s })
+letters_by [] s = Some (said_so s)
 letters_by (letter ∷ rest) s =
-    if letter == 101 || letter == 102 then Some (taken_by letter rest s)
-    else option_and_then (λ flags. letters_by rest (record s { flags = flags })) (turned_on letter s.flags)
+    if letter == 101 || letter == 102 then Some (taken_by (letter == 102) rest s)
+    else option_and_then (λ switch. letters_by rest (record s { flags = switched switch s.flags })) (switch_by letter)
 
--- what a whole name turns on
-abbrev pub named_by : Named → Said → ReadSoFar
-named_by Help s = record { awaits = Fresh; said = record s { flags = record s.flags { help = true } } }
-named_by Version s = record { awaits = Fresh; said = record s { flags = record s.flags { version = true } } }
-named_by Json s = record { awaits = Fresh; said = record s { flags = record s.flags { json = true } } }
-named_by (When color) s = record { awaits = Fresh; said = record s { flags = record s.flags { color = color } } }
-named_by (Which kind) s = record { awaits = Fresh; said = record s { flags = record s.flags { kind = kind } } }
-named_by WhichFollows s = record { awaits = Kind; said = s }
-named_by (First first) s = record { awaits = Fresh; said = record s { flags = record s.flags { first = first } } }
-named_by FirstFollows s = record { awaits = Offset; said = s }
-named_by End s = record { awaits = Operands; said = s }
+-- the argument of an option
+abbrev pub value_by : Valued → List ℕ → Said → Option ReadSoFar
+value_by Regexp argument s = Some (said_so (with_source false argument s))
+value_by PatternFile argument s = Some (said_so (with_source true argument s))
+value_by Kind argument s = option_map (λ kind. said_so (record s { flags = record s.flags { kind = kind } })) (kind_by argument)
+value_by Offset argument s = option_map (λ first. said_so (record s { flags = record s.flags { first = first } })) (number_by argument)
+value_by FirstLine argument s = option_map (λ number. said_so (record s { flags = record s.flags { first_line = number } })) (number_by argument)
 
--- what stands behind a hyphen: nothing is an operand of its own, and a name that is not known is wrong
+-- when matches are coloured
+abbrev pub color_named : List ℕ → Option Color
+color_named argument =
+    if bytes_eq argument (codes "auto") then Some Auto
+    else if bytes_eq argument (codes "always") then Some Always
+    else if bytes_eq argument (codes "never") then Some Never
+    else None
+
+abbrev pub with_color : Color → Said → ReadSoFar
+with_color color s = said_so (record s { flags = record s.flags { color = color } })
+
+abbrev pub color_by : List ℕ → Said → Option ReadSoFar
+color_by argument s = option_map (λ color. with_color color s) (color_named argument)
+
+-- what a long name turns on, or what it waits for
+abbrev pub turned_by : Long → Said → ReadSoFar
+turned_by (Plain switch) s = said_so (record s { flags = switched switch s.flags })
+turned_by (Takes valued) s = record { awaits = Argument valued; said = s }
+turned_by When s = with_color Auto s
+
+-- a long name without an argument
+abbrev pub named_by : List ℕ → Said → Option ReadSoFar
+named_by name s = option_map (λ long. turned_by long s) (option_by name)
+
+-- one with an argument behind an equals sign, which an option has to take
+abbrev pub valued_by : Long → List ℕ → Said → Option ReadSoFar
+valued_by (Plain switch) value s = None
+valued_by (Takes valued) value s = value_by valued value s
+valued_by When value s = color_by value s
+
+abbrev pub joined_by : (name value : List ℕ) → Said → Option ReadSoFar
+joined_by name value s = option_and_then (λ long. valued_by long value s) (option_by name)
+
+-- what stands behind two hyphens
+abbrev pub is_equals : ℕ → Bool
+is_equals byte = byte == 61
+
+abbrev pub long_by : List ℕ → Said → Option ReadSoFar
+long_by argument s =
+    if nat_lt (position_or_len is_equals argument) (length argument) then joined_by (before_first is_equals argument) (after_first is_equals argument) s
+    else named_by argument s
+
+-- what stands behind a hyphen; nothing makes the hyphen an operand
 abbrev pub behind_hyphen : List ℕ → Said → Option ReadSoFar
-behind_hyphen [] s = Some (record { awaits = Fresh; said = with_operand (45 ∷ []) s })
-behind_hyphen (first ∷ rest) s = if first == 45 then None else letters_by (first ∷ rest) s
+behind_hyphen [] s = Some (said_so (with_operand (45 ∷ []) s))
+behind_hyphen (first ∷ rest) s = letters_by (first ∷ rest) s
 
--- an argument that is no whole name
+-- an argument that is no long name
 abbrev pub plain_by : List ℕ → Said → Option ReadSoFar
-plain_by [] s = Some (record { awaits = Fresh; said = with_operand [] s })
-plain_by (first ∷ rest) s =
-    if first == 45 then behind_hyphen rest s
-    else Some (record { awaits = Fresh; said = with_operand (first ∷ rest) s })
+plain_by [] s = Some (said_so (with_operand [] s))
+plain_by (first ∷ rest) s = if first == 45 then behind_hyphen rest s else Some (said_so (with_operand (first ∷ rest) s))
 
 -- an argument that stands where an option may
-abbrev pub fresh_by : Option Named → List ℕ → Said → Option ReadSoFar
-fresh_by (Some named) argument s = Some (named_by named s)
-fresh_by None argument s = plain_by argument s
+abbrev pub fresh_by : List ℕ → Said → Option ReadSoFar
+fresh_by argument s =
+    if bytes_eq argument (codes "--") then Some (record { awaits = Operands; said = s })
+    else if bytes_eq (take 2 argument) (codes "--") then long_by (drop 2 argument) s
+    else plain_by argument s
 
 -- an argument, by what the one before waits for
 abbrev pub argument_by : Awaited → List ℕ → Said → Option ReadSoFar
-argument_by Fresh argument s = fresh_by (name_by argument) argument s
-argument_by (Letter letter) argument s = Some (record { awaits = Fresh; said = with_source letter argument s })
-argument_by Kind argument s = option_map (λ kind. named_by (Which kind) s) (kind_by argument)
-argument_by Offset argument s = option_map (λ first. named_by (First first) s) (number_by argument)
+argument_by Fresh argument s = fresh_by argument s
+argument_by (Argument valued) argument s = value_by valued argument s
 argument_by Operands argument s = Some (record { awaits = Operands; said = with_operand argument s })
 
 -- no option may wait for its argument at the end
 abbrev pub ended_by : Awaited → Said → Option Said
 ended_by Fresh s = Some s
-ended_by (Letter letter) s = None
-ended_by Kind s = None
-ended_by Offset s = None
+ended_by (Argument valued) s = None
 ended_by Operands s = Some s
 
 -- one argument after another
@@ -177,12 +228,16 @@ no_flags = record {
   only_matching = false;
   offset = false;
   names = false;
+  lacking = false;
+  null = false;
   quiet = false;
   json = false;
   with_name = None;
   color = Never;
   kind = LeftmostLongest;
   first = 0;
+  first_line = 1;
+  no_match_ok = false;
   help = false;
   version = false;
 }
@@ -199,11 +254,12 @@ abbrev pub AreRefused : {A : Type 0} → Option A → Refusal → Type 0
 AreRefused outcome (Wrong wrong) = outcome ≡ None
 AreRefused outcome OutOfMemory = Unit {0}
 
--- what is written of a file: of several options `-q` goes first, then `-l`, `-c`, `--json` and `-o`
+-- what is written of a file: of several options `-q` goes first, then `-l` or `-L`, `-c`, `--json` and `-o`
 abbrev pub shown_by : Flags → Shown
 shown_by flags =
     if flags.quiet then Nothing
     else if flags.names then Names
+    else if flags.lacking then Lacking
     else if flags.count then Count
     else if flags.json then Objects
     else if flags.only_matching then Matches

@@ -1,21 +1,19 @@
 -- What is written of files, one after another.
 use Rattle.programs.specs.Answers.{status_of}
 use Rattle.programs.specs.Names.{is_input, name_bytes, or_input}
-use Rattle.std.specs.Prelude.{◌≡◌, ◌⊎◌, ℕ, ◌||◌, nat_lt, Bool, true, false, List, [], ◌∷◌, ◌++◌, Option, IfSome, MatchBool, codes, map, if◌then◌else◌}
-use Rattle.std.specs.Borrow.{Bor}
+use Rattle.std.specs.Prelude.{◌≡◌, ◌⊎◌, ℕ, ◌||◌, nat_lt, Bool, true, false, List, [], ◌∷◌, ◌++◌, Option, IfSome, MatchBool, codes, if◌then◌else◌}
 use Rattle.std.specs.Io.KnownBytes.{Appends, Consumes, IsAtEnd, Keeps}
-use Rattle.std.specs.Str.{bytes_eq}
 use Rattle.aho_core.specs.Patterns.{Patterns}
 use Rattle.acgrep.specs.Filled.{ReadsOn}
 use Rattle.acgrep.specs.Lines.{lines}
 use Rattle.acgrep.specs.Printed.{count_by, file_line}
-use Rattle.acgrep.specs.Written.{EachLine, IsPassedOver, IsSelected, StartsNext, TellsOfLines, after_lines, needs_one, place_behind}
+use Rattle.acgrep.specs.Written.{EachLine, IsPassedOver, IsSelected, StartsNext, TellsOfLines, after_lines, needs_one}
 use Rattle.acgrep.specs.declared.files.Files.{Files}
 use Rattle.acgrep.specs.declared.files.Outcome.{Outcome}
 use Rattle.acgrep.specs.declared.files.Outcome.TheVariants.{Searched, Unread, Stopped}
 use Rattle.acgrep.specs.declared.files.Seen.{Seen}
 use Rattle.acgrep.specs.declared.options.Shown.{Shown}
-use Rattle.acgrep.specs.declared.options.Shown.TheVariants.{Lines, Matches, Objects, Count, Names, Nothing}
+use Rattle.acgrep.specs.declared.options.Shown.TheVariants.{Lines, Matches, Objects, Count, Names, Lacking, Nothing}
 use Rattle.acgrep.specs.declared.print.Style.{Style}
 use Rattle.acgrep.specs.declared.select.Job.{Job}
 
@@ -39,29 +37,32 @@ count_if Matches style count = []
 count_if Objects style count = []
 count_if Count style count = count_by style count
 count_if Names style count = []
+count_if Lacking style count = []
 count_if Nothing style count = []
 
--- or its name where a line is selected
+-- or its name where a line is selected, or where none is
 abbrev pub total_if : Shown → Style → ℕ → List ℕ
 total_if Lines style count = []
 total_if Matches style count = []
 total_if Objects style count = []
 total_if Count style count = count_by style count
 total_if Names style count = if nat_lt 0 count then file_line style else []
+total_if Lacking style count = if nat_lt 0 count then [] else file_line style
 total_if Nothing style count = []
 
 -- what is told of each line of a text from the begin of its file on, and the count of selected lines
 abbrev pub TellsEach : Patterns → Job → List ℕ → List ℕ → Type 0
 TellsEach p job text bytes =
-    (told : List ℕ) × (count : ℕ) × TellsOfLines p job (place_behind 0 job.first) 0 (lines text) told count × (bytes ≡ told ++ count_if job.shown job.style count)
+    (told : List ℕ) × (count : ℕ) × TellsOfLines p job job.first 0 (lines text) told count × (bytes ≡ told ++ count_if job.shown job.style count)
 
--- what is written of a file with this text: of its lines, its name where one is selected, or nothing
+-- what is written of a file with this text: of its lines, its name where one is selected, or where none is, or nothing
 abbrev pub TellsBy : Patterns → Job → Shown → List ℕ → Bool → List ℕ → Type 0
 TellsBy p job Lines text any bytes = TellsEach p job text bytes
 TellsBy p job Matches text any bytes = TellsEach p job text bytes
 TellsBy p job Objects text any bytes = TellsEach p job text bytes
 TellsBy p job Count text any bytes = TellsEach p job text bytes
 TellsBy p job Names text any bytes = bytes ≡ (if any then file_line job.style else [])
+TellsBy p job Lacking text any bytes = bytes ≡ (if any then [] else file_line job.style)
 TellsBy p job Nothing text any bytes = bytes ≡ []
 
 -- a file was searched whose bytes are these, where they are known: that is written, and nothing else
@@ -90,6 +91,7 @@ pub record IsNamed (job : Job) (bytes : List ℕ) (named : Job) : Type 0 where
   pub invert : named.invert ≡ job.invert
   pub name : named.style.name.now ≡ bytes
   pub with_name : named.style.with_name ≡ job.style.with_name
+  pub null : named.style.null ≡ job.style.null
   pub number : named.style.number ≡ job.style.number
   pub offset : named.style.offset ≡ job.style.offset
   pub color : named.style.color ≡ job.style.color
@@ -117,6 +119,7 @@ is_enough Matches any = false
 is_enough Objects any = false
 is_enough Count any = false
 is_enough Names any = false
+is_enough Lacking any = false
 is_enough Nothing any = any
 
 -- the files of these names were searched, one after another; `any` says whether a line is selected
@@ -196,9 +199,9 @@ pub record BeginsFile (p : Patterns) (job : Job) (known held held' : Option (Lis
   pub cut : lines text ≡ first ++ left
   pub told : List ℕ
   pub count : ℕ
-  pub tells : TellsOfLines p job (place_behind 0 job.first) 0 first told count
+  pub tells : TellsOfLines p job job.first 0 first told count
   pub begun : List ℕ
-  pub starts : StartsNext p job (after_lines (place_behind 0 job.first) first) left begun ⊎ ((missing : List ℕ) × (total_if job.shown job.style count ≡ begun ++ missing))
+  pub starts : StartsNext p job (after_lines job.first first) left begun ⊎ ((missing : List ℕ) × (total_if job.shown job.style count ≡ begun ++ missing))
   pub written : Appends held held' (told ++ begun)
 
 -- what is so where a file was not searched

@@ -3,6 +3,7 @@ pub mod Files
 pub mod Filled
 pub mod Lines
 pub mod Loading
+pub mod Long
 pub mod Objects
 pub mod Printed
 pub mod Runs

@@ -30,9 +30,14 @@ part_by color start bytes = painted color start bytes ++ painted color (color_of
 abbrev pub number_by : Bool → ℕ → List ℕ
 number_by color number = part_by color (color_of (codes "32")) (decimal number)
 
--- the file's name, the line's number and an offset, of which each stands there if it is asked for
+-- the file's name, and what ends it
+abbrev pub name_ended : Style → List ℕ → List ℕ
+name_ended style end = painted style.color (color_of (codes "35")) style.name.now ++ end
+
+-- the file's name, the line's number and an offset, of which each stands there if it is asked for; a name may end in a zero byte
 abbrev pub name_part : Style → List ℕ
-name_part style = if style.with_name then part_by style.color (color_of (codes "35")) style.name.now else []
+name_part style =
+    if style.with_name then (if style.null then name_ended style (0 ∷ []) else part_by style.color (color_of (codes "35")) style.name.now) else []
 
 abbrev pub number_if : Bool → Bool → ℕ → List ℕ
 number_if asked color number = if asked then number_by color number else []
@@ -52,9 +57,9 @@ line_by style place line = head_of style (line_number_at place) place.bytes ++ (
 abbrev pub count_by : Style → ℕ → List ℕ
 count_by style count = name_part style ++ (decimal count ++ codes "\n")
 
--- the name of a file
+-- the name of a file, on a line of its own or with a zero byte behind it
 abbrev pub file_line : Style → List ℕ
-file_line style = painted style.color (color_of (codes "35")) style.name.now ++ codes "\n"
+file_line style = name_ended style (if style.null then 0 ∷ [] else codes "\n")
 
 -- the bytes of a range of a line; none where it does not lie in the line
 abbrev pub part_of : List ℕ → ℕ → ℕ → List ℕ

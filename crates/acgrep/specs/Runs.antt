@@ -1,5 +1,5 @@
 -- What a call searches for and in which files, by what its arguments say.
-use Rattle.std.specs.Prelude.{◌≡◌, ◌⊎◌, ℕ, ◌&&◌, nat_lt, Bool, MatchBool, true, false, List, [], ◌∷◌, ◌++◌, Option, Some, IfSome, String, codes, length, map, unwrap_or}
+use Rattle.std.specs.Prelude.{◌≡◌, ◌⊎◌, ℕ, ◌+◌, ◌-◌, ◌%◌, ◌^◌, ◌==◌, ◌&&◌, ◌||◌, nat_lt, Bool, MatchBool, true, false, not, List, [], ◌∷◌, ◌++◌, Option, Some, IfSome, String, codes, length, map, unwrap_or, if◌then◌else◌}
 use Rattle.std.specs.Io.KnownBytes.{Consumes, IsAtEnd, Keeps}
 use Rattle.aho_core.specs.Patterns.{Patterns}
 use Rattle.programs.specs.Arguments.{texts}
@@ -13,6 +13,7 @@ use Rattle.acgrep.specs.declared.arguments.Source.{Source}
 use Rattle.acgrep.specs.declared.options.Color.{Color}
 use Rattle.acgrep.specs.declared.options.Color.TheVariants.{Auto, Always, Never}
 use Rattle.acgrep.specs.declared.options.Flags.{Flags}
+use Rattle.acgrep.specs.declared.print.Place.{Place}
 use Rattle.acgrep.specs.declared.select.Job.{Job}
 
 -- what holds of what the arguments say, where they are right
@@ -78,13 +79,16 @@ abbrev pub are_empty : List (List ℕ) → Bool
 are_empty [] = true
 are_empty (word ∷ words) = is_none word && are_empty words
 
--- whether it is known without reading a file that no line is selected: there is no pattern, or under `invert` there are empty
--- ones alone
+-- whether no line is selected, whatever it holds: there is no pattern, or under `invert` there are empty ones alone
 abbrev pub selects_none : Bool → List (List ℕ) → Bool
 selects_none false [] = true
 selects_none false (word ∷ words) = false
 selects_none true [] = false
 selects_none true (word ∷ words) = are_empty (word ∷ words)
+
+-- whether that is known without reading a file, and no file is to be named for it
+abbrev pub knows_none : Flags → List (List ℕ) → Bool
+knows_none flags words = (flags.quiet || not flags.lacking) && selects_none flags.invert words
 
 -- whether matches are coloured
 abbrev pub is_colored : Color → Bool → Bool
@@ -92,17 +96,22 @@ is_colored Auto terminal = terminal
 is_colored Always terminal = true
 is_colored Never terminal = false
 
+-- where the first line of each file stands: its number is the asked one, as many lines stand before it as one less
+abbrev pub first_place : Flags → Place
+first_place flags = record { lines = (flags.first_line + (2 ^ 64 - 1)) % 2 ^ 64; bytes = flags.first }
+
 -- what is written of each of `count` files, but for its name
 pub record IsJob (flags : Flags) (terminal : Bool) (count : ℕ) (job : Job) : Type 0 where
   pub shown : job.shown ≡ shown_by flags
   pub invert : job.invert ≡ flags.invert
   -- where nothing is said of names they stand before the lines of several files
   pub with_name : job.style.with_name ≡ unwrap_or flags.with_name (nat_lt 1 count)
+  pub null : job.style.null ≡ flags.null
   pub number : job.style.number ≡ flags.number
   pub offset : job.style.offset ≡ flags.offset
   pub color : job.style.color ≡ is_colored flags.color terminal
-  -- where the first byte of each file stands
-  pub first : job.first ≡ flags.first
+  -- where the first line of each file stands
+  pub first : job.first ≡ first_place flags
 
 -- these words were searched for in the files of these names, as the flags say
 pub record SearchesWords (holds : List ℕ → Option (List ℕ)) (terminal : Bool) (flags : Flags) (words names : List (List ℕ)) (left left' held held' : Option (List ℕ)) (status : ℕ) : Type 0 where
@@ -122,13 +131,22 @@ pub record SearchesFor (holds : List ℕ → Option (List ℕ)) (terminal : Bool
   pub words : List (List ℕ)
   pub between : Option (List ℕ)
   pub read : AreWords holds sources left between words
-  pub searched : MatchBool (selects_none flags.invert words) (SelectsNoLine (patterns_asked flags.kind flags.ignore_case words) flags.invert between left' held held' status)
+  pub searched : MatchBool (knows_none flags words) (SelectsNoLine (patterns_asked flags.kind flags.ignore_case words) flags.invert between left' held held' status)
       (SearchesWords holds terminal flags words names between left' held held' status)
+
+-- what was said was searched for
+abbrev pub SearchesSaid : (List ℕ → Option (List ℕ)) → Bool → Said → (left left' held held' : Option (List ℕ)) → ℕ → Type 0
+SearchesSaid holds terminal given left left' held held' status =
+    SearchesFor holds terminal given.flags (sources_by given.sources given.operands) (names_by given.sources given.operands) left left' held held' status
+
+-- the status of a search, by whether finding nothing is no failure
+abbrev pub status_told : Bool → ℕ → ℕ
+status_told no_match_ok status = if no_match_ok && (status == 1) then 0 else status
 
 -- what was said was done; `left` is what the input has left, and `held` what the output holds
 abbrev pub Searches : (List ℕ → Option (List ℕ)) → Bool → Said → (left left' held held' : Option (List ℕ)) → ℕ → Type 0
 Searches holds terminal given left left' held held' status =
-    SearchesFor holds terminal given.flags (sources_by given.sources given.operands) (names_by given.sources given.operands) left left' held held' status
+    (found : ℕ) × SearchesSaid holds terminal given left left' held held' found × (status ≡ status_told given.flags.no_match_ok found)
 
 -- the patterns of these sources were read, and of some first ones of the files of these names that is written which is asked, or a
 -- beginning of it

@@ -1,5 +1,5 @@
 -- What is told on standard error.
-use Rattle.std.specs.Prelude.{◌≡◌, ◌⊎◌, ℕ, ◌<◌, ⊤, Bool, MatchBool, List, [], ◌∷◌, ◌++◌, Option, Some, None, IfSome, codes, map}
+use Rattle.std.specs.Prelude.{◌≡◌, ◌⊎◌, ℕ, ◌<◌, Bool, MatchBool, List, [], ◌∷◌, ◌++◌, Option, Some, None, IfSome, codes, map}
 use Rattle.std.specs.List.{concat}
 use Rattle.aho_core.specs.Texts.{build_error_text, match_error_text}
 use Rattle.aho_core.specs.declared.error.BuildError.{BuildError}
@@ -15,9 +15,11 @@ use Rattle.acgrep.specs.Files.{shown_name}
 use Rattle.acgrep.specs.Runs.{names_by, origins_of, sources_by}
 use Rattle.acgrep.specs.declared.arguments.Source.{Source}
 use Rattle.acgrep.specs.declared.arguments.Wrong.{Wrong}
-use Rattle.acgrep.specs.declared.arguments.Wrong.TheVariants.{NotText, NoPattern, UnknownLetter, UnknownName, NoArgument, NoKind, UnknownKind, UnknownColor, NoOffset, NoNumber}
+use Rattle.acgrep.specs.declared.arguments.Wrong.TheVariants.{NotText, NoPattern, UnknownLetter, UnknownName, Ambiguous, NoArgument, TakesNone, UnknownKind, UnknownColor, NoNumber}
 use Rattle.acgrep.specs.declared.files.Outcome.{Outcome}
 use Rattle.acgrep.specs.declared.files.Outcome.TheVariants.{Searched, Unread, Stopped}
+use Rattle.acgrep.specs.declared.long.Valued.{Valued}
+use Rattle.acgrep.specs.declared.long.Valued.TheVariants.{Regexp, PatternFile, Kind, Offset, FirstLine}
 use Rattle.acgrep.specs.declared.options.Flags.{Flags}
 use Rattle.acgrep.specs.declared.options.Shown.{Shown}
 use Rattle.acgrep.specs.declared.options.Shown.TheVariants.{Nothing}
@@ -60,18 +62,34 @@ module _ {E : Type 0} (K : SinkGhosts E) where
 abbrev pub usage_text : List ℕ
 usage_text = codes "usage: acgrep [OPTIONS] [PATTERN] [FILE..]\nTry 'acgrep --help' for more.\n"
 
+-- how an option that takes an argument is called
+abbrev pub valued_name : Valued → List ℕ
+valued_name Regexp = codes "-e"
+valued_name PatternFile = codes "-f"
+valued_name Kind = codes "--kind"
+valued_name Offset = codes "--offset"
+valued_name FirstLine = codes "--first-line"
+
+-- an option of this name has no argument, or one that is no number
+abbrev pub unargued_parts : List ℕ → List (List ℕ)
+unargued_parts name = codes "acgrep: option '" ∷ name ∷ codes "' needs an argument\n" ∷ usage_text ∷ []
+
+abbrev pub number_parts : (name argument : List ℕ) → List (List ℕ)
+number_parts name argument =
+    codes "acgrep: option '" ∷ name ∷ codes "' takes a number below 2^64, not '" ∷ argument ∷ codes "'\n" ∷ usage_text ∷ []
+
 -- why arguments are wrong, and how to get help
 abbrev pub wrong_parts : Wrong → List (List ℕ)
 wrong_parts NotText = codes "acgrep: an argument is not UTF-8\n" ∷ []
 wrong_parts NoPattern = codes "acgrep: no pattern is given\n" ∷ usage_text ∷ []
 wrong_parts (UnknownLetter letter) = codes "acgrep: unknown option '-" ∷ (letter ∷ []) ∷ codes "'\n" ∷ usage_text ∷ []
-wrong_parts (UnknownName name) = codes "acgrep: unknown option '" ∷ name.now ∷ codes "'\n" ∷ usage_text ∷ []
-wrong_parts (NoArgument letter) = codes "acgrep: option '-" ∷ (letter ∷ []) ∷ codes "' needs an argument\n" ∷ usage_text ∷ []
-wrong_parts NoKind = codes "acgrep: option '--kind' needs an argument\n" ∷ usage_text ∷ []
+wrong_parts (UnknownName name) = codes "acgrep: unknown option '--" ∷ name.now ∷ codes "'\n" ∷ usage_text ∷ []
+wrong_parts (Ambiguous name) = codes "acgrep: several options begin with '--" ∷ name.now ∷ codes "'\n" ∷ usage_text ∷ []
+wrong_parts (NoArgument valued) = unargued_parts (valued_name valued)
+wrong_parts (TakesNone name) = codes "acgrep: option '--" ∷ name.now ∷ codes "' takes no argument\n" ∷ usage_text ∷ []
 wrong_parts (UnknownKind name) = codes "acgrep: option '--kind' takes first, longest or standard, not '" ∷ name.now ∷ codes "'\n" ∷ usage_text ∷ []
 wrong_parts (UnknownColor name) = codes "acgrep: option '--color' takes auto, always or never, not '" ∷ name.now ∷ codes "'\n" ∷ usage_text ∷ []
-wrong_parts NoOffset = codes "acgrep: option '--offset' needs an argument\n" ∷ usage_text ∷ []
-wrong_parts (NoNumber number) = codes "acgrep: option '--offset' takes a number below 2^64, not '" ∷ number.now ∷ codes "'\n" ∷ usage_text ∷ []
+wrong_parts (NoNumber valued number) = number_parts (valued_name valued) number.now
 
 -- that is told of wrong arguments
 abbrev pub IsUsage : List ℕ → Type 0

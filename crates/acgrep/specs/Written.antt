@@ -1,5 +1,5 @@
 -- What is written of the lines of a text, one after another.
-use Rattle.std.specs.Prelude.{◌≡◌, ◌⊎◌, ⊤, ℕ, ◌+◌, ◌-◌, ◌%◌, ◌^◌, ◌<◌, ◌≤◌, min, Bool, true, false, not, ◌&&◌, List, [], ◌∷◌, ◌++◌, Option, None, length, drop, MatchBool, take}
+use Rattle.std.specs.Prelude.{◌≡◌, ◌⊎◌, ⊤, ℕ, ◌+◌, ◌-◌, ◌%◌, ◌^◌, ◌<◌, ◌≤◌, min, Bool, true, false, not, ◌&&◌, List, [], ◌∷◌, ◌++◌, Option, None, length, drop, MatchBool}
 use Rattle.std.specs.Io.KnownBytes.{Appends}
 use Rattle.aho_core.specs.Iteration.{AreFinds}
 use Rattle.aho_core.specs.Occurrence.{Occurrence}
@@ -10,7 +10,7 @@ use Rattle.acgrep.specs.Lines.{IsNewline, lines}
 use Rattle.acgrep.specs.Objects.{objects_by}
 use Rattle.acgrep.specs.Printed.{colored_line_by, line_by, matches_by}
 use Rattle.acgrep.specs.declared.options.Shown.{Shown}
-use Rattle.acgrep.specs.declared.options.Shown.TheVariants.{Lines, Matches, Objects, Count, Names, Nothing}
+use Rattle.acgrep.specs.declared.options.Shown.TheVariants.{Lines, Matches, Objects, Count, Names, Lacking, Nothing}
 use Rattle.acgrep.specs.declared.print.Place.{Place}
 use Rattle.acgrep.specs.declared.print.Style.{Style}
 use Rattle.acgrep.specs.declared.select.Job.{Job}
@@ -63,6 +63,7 @@ ShowsBy p Matches invert style place line bytes = MatchBool invert (bytes ≡ []
 ShowsBy p Objects invert style place line bytes = MatchBool invert (bytes ≡ []) (ObjectsOf p style place line bytes)
 ShowsBy p Count invert style place line bytes = bytes ≡ []
 ShowsBy p Names invert style place line bytes = bytes ≡ []
+ShowsBy p Lacking invert style place line bytes = bytes ≡ []
 ShowsBy p Nothing invert style place line bytes = bytes ≡ []
 
 abbrev pub ShowsLine : Patterns → Job → Place → List ℕ → List ℕ → Type 0
@@ -76,9 +77,9 @@ WritesLine p job place old new line =
 abbrev pub place_behind : ℕ → ℕ → Place
 place_behind count offset = record { lines = count; bytes = offset }
 
--- the begin of a file whose first byte stands there
-abbrev pub at_begin : ℕ → State
-at_begin first = record { place = place_behind 0 first; selected = 0 }
+-- the begin of a file whose first line stands there
+abbrev pub at_begin : Place → State
+at_begin first = record { place = first; selected = 0 }
 
 -- the place behind a line and its newline; numbers wrap at 2^64
 abbrev pub after_line : Place → List ℕ → Place
@@ -112,6 +113,7 @@ is_numbered Matches asked = asked
 is_numbered Objects asked = true
 is_numbered Count asked = asked
 is_numbered Names asked = asked
+is_numbered Lacking asked = asked
 is_numbered Nothing asked = asked
 
 abbrev pub NumbersLines : Job → Type 0
@@ -145,6 +147,7 @@ needs_one Matches = false
 needs_one Objects = false
 needs_one Count = false
 needs_one Names = true
+needs_one Lacking = true
 needs_one Nothing = true
 
 -- such a line was selected

@@ -1,12 +1,15 @@
 //! What the arguments of a call mean.
 //!
-//! Options may be joined, take their argument joined or as the next one, and stand behind files. Two hyphens end them.
+//! Options may be joined, take their argument joined or as the next one, and stand behind files. A long name may be a beginning that
+//! no other option's name has. Two hyphens end the options.
 
 ghost use Rattle.std.specs.Prelude.{◌≡◌, Some, IfOk, IfErr, string_bytes};
 ghost use Rattle.programs.specs.Arguments.{kind_by, texts};
-ghost use Rattle.acgrep.specs.Arguments.{FailsBy, ReadsBy, SaysMore, argument_by, letters_by, name_by, named_by, number_by, offset_by, plain_by, said, said_by, so_far, taken_by, with_operand, with_source};
+ghost use Rattle.acgrep.specs.Arguments.{FailsBy, ReadsBy, SaysMore, argument_by, color_by, fresh_by, joined_by, letters_by, long_by, named_by, number_by, plain_by, said, said_by, source_option, so_far, taken_by, turned_by, value_by, with_operand, with_source};
+ghost use Rattle.acgrep.specs.Long.{option_by};
 
-use crate::options::{Color, Flags};
+use crate::long::{Long, Valued, option_of};
+use crate::options::{Color, Flags, switch_of};
 use chromesquid::MatchKind;
 use programs::command::parse_kind;
 use std::alloc::{AllocError, Global};
@@ -29,20 +32,20 @@ pub enum Wrong<'a> {
     NoPattern,
     /// No option has this letter.
     UnknownLetter(u8),
-    /// No option has this name.
+    /// No option has this long name.
     UnknownName(&'a [u8]),
-    /// The option of this letter has no argument.
-    NoArgument(u8),
-    /// `--kind` has no argument.
-    NoKind,
+    /// Several options have long names that begin so.
+    Ambiguous(&'a [u8]),
+    /// This option has no argument.
+    NoArgument(Valued),
+    /// The option of this long name has an argument, and takes none.
+    TakesNone(&'a [u8]),
     /// The argument of `--kind` is none of its three.
     UnknownKind(&'a [u8]),
     /// The argument of `--color` is none of its three.
     UnknownColor(&'a [u8]),
-    /// `--offset` has no argument.
-    NoOffset,
-    /// The argument of `--offset` is no number below 2^64.
-    NoNumber(&'a [u8]),
+    /// The argument of this option is no number below 2^64.
+    NoNumber(Valued, &'a [u8]),
 }
 
 /// What the arguments say.
@@ -80,37 +83,10 @@ impl<'a> From<AllocError> for Refusal<'a> {
 pub enum Awaited {
     /// No argument: an option may follow.
     Fresh,
-    /// The next argument is that of the option of this letter.
-    Letter(u8),
-    /// The next argument is that of `--kind`.
-    Kind,
-    /// The next argument is that of `--offset`.
-    Offset,
+    /// The next argument is that of this option.
+    Argument(Valued),
     /// No option follows.
     Operands,
-}
-
-/// What an argument means that is a whole name.
-#[derive(Clone, Copy)]
-pub enum Named {
-    /// `--help`
-    Help,
-    /// `--version`
-    Version,
-    /// `--json`
-    Json,
-    /// `--color`, with its argument
-    When(Color),
-    /// `--kind`, with its argument
-    Which(MatchKind),
-    /// `--kind`, whose argument is the next one
-    WhichFollows,
-    /// `--offset`, with its argument
-    First(u64),
-    /// `--offset`, whose argument is the next one
-    FirstFollows,
-    /// `--`
-    End,
 }
 
 /// Reads the arguments after the program's name.
@@ -130,9 +106,7 @@ pub fn parse<'a>(alloc: Global, arguments: &'a [String]) -> Result<Given<'a>, Re
         left = behind;
     }
     match awaited {
-        Awaited::Letter(letter) => Err(Refusal::Wrong(Wrong::NoArgument(letter))),
-        Awaited::Kind => Err(Refusal::Wrong(Wrong::NoKind)),
-        Awaited::Offset => Err(Refusal::Wrong(Wrong::NoOffset)),
+        Awaited::Argument(valued) => Err(Refusal::Wrong(Wrong::NoArgument(valued))),
         Awaited::Fresh | Awaited::Operands => Ok(given),
     }
 }
@@ -147,74 +121,132 @@ fn read_argument<'a>(
     ensures refused { FailsBy (argument_by before (string_bytes argument.now) (said given.old)) result }
 {
     match before {
-        Awaited::Letter(letter) => {
-            add_source(given, letter, argument.as_bytes())?;
-            Ok(Awaited::Fresh)
-        }
-        Awaited::Kind => read_kind(given, argument.as_str()),
-        Awaited::Offset => read_offset(given, argument.as_str()),
+        Awaited::Argument(valued) => read_value(given, valued, argument.as_str()),
         Awaited::Operands => {
             add_operand(given, argument.as_bytes())?;
             Ok(Awaited::Operands)
         }
-        Awaited::Fresh => match name_of(argument.as_str()) {
-            Some(named) => Ok(turn_on(given, named)),
-            None => read_plain(given, argument.as_bytes()),
-        },
+        Awaited::Fresh => read_fresh(given, argument.as_str()),
     }
 }
 
-/// Reads the argument of `--kind`.
-fn read_kind<'a>(given: &mut Given<'a>, argument: &'a str) -> Result<Awaited, Refusal<'a>>
-    ensures read { ReadsBy (argument_by Awaited.Kind argument.now) given.old given.new result }
+/// Reads an argument that stands where an option may.
+fn read_fresh<'a>(given: &mut Given<'a>, argument: &'a str) -> Result<Awaited, Refusal<'a>>
+    ensures read { ReadsBy (fresh_by argument.now) given.old given.new result }
+    ensures refused { FailsBy (fresh_by argument.now (said given.old)) result }
+{
+    if argument == "--" {
+        return Ok(Awaited::Operands);
+    }
+    match argument.strip_prefix("--") {
+        Some(long) => read_long(given, long),
+        None => read_plain(given, argument.as_bytes()),
+    }
+}
+
+/// Reads what stands behind two hyphens: a long name, which an argument may follow behind an equals sign.
+fn read_long<'a>(given: &mut Given<'a>, argument: &'a str) -> Result<Awaited, Refusal<'a>>
+    ensures read { ReadsBy (long_by argument.now) given.old given.new result }
+    ensures refused { FailsBy (long_by argument.now (said given.old)) result }
+{
+    match argument.split_once('=') {
+        Some((name, value)) => read_joined(given, name, value),
+        None => read_named(given, argument),
+    }
+}
+
+/// Reads a long name without an argument.
+fn read_named<'a>(given: &mut Given<'a>, name: &'a str) -> Result<Awaited, Refusal<'a>>
+    ensures read { ReadsBy (named_by name.now) given.old given.new result }
+    ensures refused { FailsBy (named_by name.now (said given.old)) result }
+{
+    match option_of(name.as_bytes()) {
+        Ok(long) => Ok(turn_on(given, long)),
+        Err(wrong) => Err(Refusal::Wrong(wrong)),
+    }
+}
+
+/// Turns on what a long name means, and answers what it waits for.
+fn turn_on(given: &mut Given<'_>, long: Long) -> Awaited
+    ensures turned { turned_by long (said given.old) ≡ so_far result given.new }
+{
+    match long {
+        Long::Plain(switch) => given.flags = given.flags.switched(switch),
+        Long::Takes(valued) => return Awaited::Argument(valued),
+        Long::When => given.flags.color = Color::Auto,
+    }
+    Awaited::Fresh
+}
+
+/// Reads a long name with an argument behind an equals sign.
+fn read_joined<'a>(
+    given: &mut Given<'a>,
+    name: &'a str,
+    value: &'a str,
+) -> Result<Awaited, Refusal<'a>>
+    ensures read { ReadsBy (joined_by name.now value.now) given.old given.new result }
+    ensures refused { FailsBy (joined_by name.now value.now (said given.old)) result }
+{
+    match option_of(name.as_bytes()) {
+        Ok(Long::Takes(valued)) => read_value(given, valued, value),
+        Ok(Long::When) => read_color(given, value),
+        Ok(Long::Plain(_)) => Err(Refusal::Wrong(Wrong::TakesNone(name.as_bytes()))),
+        Err(wrong) => Err(Refusal::Wrong(wrong)),
+    }
+}
+
+/// Reads the argument of `--color`.
+fn read_color<'a>(given: &mut Given<'a>, argument: &'a str) -> Result<Awaited, Refusal<'a>>
+    ensures read { ReadsBy (color_by argument.now) given.old given.new result }
+    ensures refused { FailsBy (color_by argument.now (said given.old)) result }
+{
+    given.flags.color = match argument {
+        "auto" => Color::Auto,
+        "always" => Color::Always,
+        "never" => Color::Never,
+        _ => return Err(Refusal::Wrong(Wrong::UnknownColor(argument.as_bytes()))),
+    };
+    Ok(Awaited::Fresh)
+}
+
+/// Reads the argument of an option.
+fn read_value<'a>(
+    given: &mut Given<'a>,
+    valued: Valued,
+    argument: &'a str,
+) -> Result<Awaited, Refusal<'a>>
+    ensures read { ReadsBy (value_by valued argument.now) given.old given.new result }
+    ensures refused { FailsBy (value_by valued argument.now (said given.old)) result }
+{
+    match valued {
+        Valued::Regexp => add_source(given, false, argument.as_bytes())?,
+        Valued::PatternFile => add_source(given, true, argument.as_bytes())?,
+        Valued::Kind => given.flags.kind = read_kind(argument)?,
+        Valued::Offset => given.flags.first = read_number(valued, argument)?,
+        Valued::FirstLine => given.flags.first_line = read_number(valued, argument)?,
+    }
+    Ok(Awaited::Fresh)
+}
+
+/// The match kind that an argument names.
+fn read_kind(argument: &str) -> Result<MatchKind, Refusal<'_>>
+    ensures read { IfOk result (λ kind. kind_by argument.now ≡ Some kind) }
     ensures refused { FailsBy (kind_by argument.now) result }
 {
     match parse_kind(argument) {
-        Some(kind) => Ok(turn_on(given, Named::Which(kind))),
+        Some(kind) => Ok(kind),
         None => Err(Refusal::Wrong(Wrong::UnknownKind(argument.as_bytes()))),
     }
 }
 
-/// Reads the argument of `--offset`.
-fn read_offset<'a>(given: &mut Given<'a>, argument: &'a str) -> Result<Awaited, Refusal<'a>>
-    ensures read { ReadsBy (argument_by Awaited.Offset argument.now) given.old given.new result }
+/// The number that the argument of this option is.
+fn read_number(valued: Valued, argument: &str) -> Result<u64, Refusal<'_>>
+    ensures read { IfOk result (λ number. number_by argument.now ≡ Some number) }
     ensures refused { FailsBy (number_by argument.now) result }
 {
     match number_of(argument) {
-        Some(first) => Ok(turn_on(given, Named::First(first))),
-        None => Err(Refusal::Wrong(Wrong::NoNumber(argument.as_bytes()))),
-    }
-}
-
-/// What an argument means that is a whole name.
-fn name_of(argument: &str) -> Option<Named>
-    ensures named { result ≡ name_by argument.now }
-{
-    match argument {
-        "--" => Some(Named::End),
-        "--help" => Some(Named::Help),
-        "--version" => Some(Named::Version),
-        "--json" => Some(Named::Json),
-        "--color" => Some(Named::When(Color::Auto)),
-        "--color=auto" => Some(Named::When(Color::Auto)),
-        "--color=always" => Some(Named::When(Color::Always)),
-        "--color=never" => Some(Named::When(Color::Never)),
-        "--kind" => Some(Named::WhichFollows),
-        "--kind=first" => Some(Named::Which(MatchKind::LeftmostFirst)),
-        "--kind=longest" => Some(Named::Which(MatchKind::LeftmostLongest)),
-        "--kind=standard" => Some(Named::Which(MatchKind::Standard)),
-        "--offset" => Some(Named::FirstFollows),
-        _ => offset_of(argument),
-    }
-}
-
-/// What `--offset=` means with the number behind it.
-fn offset_of(argument: &str) -> Option<Named>
-    ensures named { result ≡ offset_by argument.now }
-{
-    match argument.strip_prefix("--offset=") {
-        Some(digits) => number_of(digits).map(Named::First),
-        None => None,
+        Some(number) => Ok(number),
+        None => Err(Refusal::Wrong(Wrong::NoNumber(valued, argument.as_bytes()))),
     }
 }
 
@@ -232,49 +264,17 @@ fn number_of(digits: &str) -> Option<u64>
     }
 }
 
-/// Turns on what a name means, and answers what it waits for.
-fn turn_on(given: &mut Given<'_>, named: Named) -> Awaited
-    ensures named { named_by named (said given.old) ≡ so_far result given.new }
-{
-    match named {
-        Named::Help => given.flags.help = true,
-        Named::Version => given.flags.version = true,
-        Named::Json => given.flags.json = true,
-        Named::When(color) => given.flags.color = color,
-        Named::Which(kind) => given.flags.kind = kind,
-        Named::WhichFollows => return Awaited::Kind,
-        Named::First(first) => given.flags.first = first,
-        Named::FirstFollows => return Awaited::Offset,
-        Named::End => return Awaited::Operands,
-    }
-    Awaited::Fresh
-}
-
-/// Reads an argument that is no whole name: joined letters behind a hyphen, or an operand.
+/// Reads an argument that is no long name: joined letters behind a hyphen, or an operand.
 fn read_plain<'a>(given: &mut Given<'a>, argument: &'a [u8]) -> Result<Awaited, Refusal<'a>>
     ensures read { ReadsBy (plain_by argument.now) given.old given.new result }
     ensures refused { FailsBy (plain_by argument.now (said given.old)) result }
 {
     match argument {
-        [b'-', b'-', ..] => Err(Refusal::Wrong(wrong_name(argument))),
         [b'-', _, ..] => read_letters(given, &argument[1..]),
         _ => {
             add_operand(given, argument)?;
             Ok(Awaited::Fresh)
         }
-    }
-}
-
-/// Why an argument that begins with two hyphens is wrong: its name, or what stands behind the name.
-fn wrong_name(argument: &[u8]) -> Wrong<'_> {
-    if let Some(kind) = argument.strip_prefix(b"--kind=") {
-        Wrong::UnknownKind(kind)
-    } else if let Some(color) = argument.strip_prefix(b"--color=") {
-        Wrong::UnknownColor(color)
-    } else if let Some(number) = argument.strip_prefix(b"--offset=") {
-        Wrong::NoNumber(number)
-    } else {
-        Wrong::UnknownName(argument)
     }
 }
 
@@ -286,10 +286,10 @@ fn read_letters<'a>(given: &mut Given<'a>, letters: &'a [u8]) -> Result<Awaited,
     let mut rest = letters;
     while let Some((letter, behind)) = rest.split_first() {
         if *letter == b'e' || *letter == b'f' {
-            return take_source(given, *letter, behind);
+            return take_source(given, *letter == b'f', behind);
         }
-        match given.flags.turned_on(*letter) {
-            Some(flags) => given.flags = flags,
+        match switch_of(*letter) {
+            Some(switch) => given.flags = given.flags.switched(switch),
             None => return Err(Refusal::Wrong(Wrong::UnknownLetter(*letter))),
         }
         rest = behind;
@@ -297,28 +297,43 @@ fn read_letters<'a>(given: &mut Given<'a>, letters: &'a [u8]) -> Result<Awaited,
     Ok(Awaited::Fresh)
 }
 
-/// Takes what stands behind `-e` or `-f` for its argument, if it is not empty.
+/// Takes what stands behind `-e`, or behind `-f`, for its argument, if it is not empty.
 fn take_source<'a>(
     given: &mut Given<'a>,
-    letter: u8,
+    is_file: bool,
     behind: &'a [u8],
 ) -> Result<Awaited, Refusal<'a>>
     ensures read { IfOk result (λ awaited.
-        taken_by letter behind.now (said given.old) ≡ so_far awaited given.new) }
+        taken_by is_file behind.now (said given.old) ≡ so_far awaited given.new) }
     ensures memory { IfErr result (λ refusal. refusal ≡ Refusal.OutOfMemory) }
 {
     if behind.is_empty() {
-        return Ok(Awaited::Letter(letter));
+        return Ok(Awaited::Argument(source_option(is_file)));
     }
-    add_source(given, letter, behind)?;
+    add_source(given, is_file, behind)?;
     Ok(Awaited::Fresh)
 }
 
-/// Adds the patterns that `-e` or `-f` gives.
-fn add_source<'a>(given: &mut Given<'a>, letter: u8, argument: &'a [u8]) -> Result<(), AllocError>
-    ensures added { SaysMore (with_source letter argument.now) given.old given.new result }
+/// The option that gives a file of patterns, or patterns.
+fn source_option(is_file: bool) -> Valued
+    ensures option { result ≡ source_option is_file }
 {
-    let source = if letter == b'f' {
+    if is_file {
+        Valued::PatternFile
+    } else {
+        Valued::Regexp
+    }
+}
+
+/// Adds the patterns that `-e` or `-f` gives.
+fn add_source<'a>(
+    given: &mut Given<'a>,
+    is_file: bool,
+    argument: &'a [u8],
+) -> Result<(), AllocError>
+    ensures added { SaysMore (with_source is_file argument.now) given.old given.new result }
+{
+    let source = if is_file {
         Source::File(argument)
     } else {
         Source::Text(argument)

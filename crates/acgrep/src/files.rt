@@ -412,6 +412,7 @@ fn put_asked<W: Write>(job: &Job<'_>, selected: u64, output: &mut W) -> io::Resu
     match job.shown {
         Shown::Count => put_count(output, &job.style, selected),
         Shown::Names if selected > 0 => put_name(output, &job.style),
+        Shown::Lacking if selected == 0 => put_name(output, &job.style),
         _ => Ok(()),
     }
 }
@@ -433,9 +434,10 @@ fn tell_stop<E: Sink>(name: &[u8], stop: &Stop, errors: &mut Errors<'_, E>) -> b
             tell_search(error, errors);
             true
         }
+        // A line is too long: the other files are searched.
         Stop::OutOfMemory => {
             tell_fault(name, Reason::OutOfMemory, errors);
-            true
+            false
         }
     }
 }
@@ -460,6 +462,7 @@ fn job_for<'a>(job: &Job<'_>, name: &'a [u8]) -> Job<'a>
         style: Style {
             name,
             with_name: job.style.with_name,
+            null: job.style.null,
             number: job.style.number,
             offset: job.style.offset,
             color: job.style.color,

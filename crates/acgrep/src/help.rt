@@ -14,31 +14,41 @@ lines is several patterns. FILE '-' is standard input, which is read too where
 no FILE is given.
 
 Patterns:
-  -e PATTERN            search for PATTERN
-  -f FILE               search for each line of FILE
-  -i                    ASCII letters are the same in both cases
-  -v                    select the lines in which no pattern occurs
+  -e, --regexp PATTERN  search for PATTERN
+  -f, --file FILE       search for each line of FILE
+  -i, -y, --ignore-case ASCII letters are the same in both cases
+  --no-ignore-case      they are not: of this and -i the last counts
+  -v, --invert-match    select the lines in which no pattern occurs
   --kind KIND           which of several matches -o, --json and --color
                         take: longest (the default), first or standard
 
 Output:
-  -c                    write how many lines are selected
-  -l                    write the names of the files with a selected line
-  -q                    write nothing, and stop at the first selected line
-  -o                    write each match that is not empty on its own line
+  -c, --count           write how many lines are selected
+  -l, --files-with-matches
+                        write the names of the files with a selected line
+  -L, --files-without-match
+                        write the names of the files without one
+  -q, --quiet, --silent write nothing, and stop at the first selected line
+  -o, --only-matching   write each match that is not empty on its own line
   --json                write each such match as a JSON object
-  -n                    write a line's number before it
-  -b                    write where it starts in its file, in bytes
+  -n, --line-number     write a line's number before it
+  -b, --byte-offset     write where it starts in its file, in bytes
   --offset N            the first byte of each file stands at N, not at 0
-  -H                    write the file's name before each line
-  -h                    do not write it
+  --first-line N        the first line of each file has number N, not 1
+  -H, --with-filename   write the file's name before each line
+  -h, --no-filename     do not write it
+  -Z, --null            write a zero byte behind a file's name
   --color[=WHEN]        color the output: auto, always or never
 
 Others:
+  --no-match-ok         end with 0 where no line is selected too
+  -F, -a, -U, --fixed-strings, --text, --binary, --line-buffered
+                        what is done without them too
   --                    what follows is no option
   --help                write this text
-  --version             write the version
+  -V, --version         write the version
 
-The status is 0 where a line is selected, 1 where none is, and 2 where an error
+A long name may be a beginning that no other one has, and takes its argument
+behind '=' or as the next one. The status is 0 where a line is selected, 1 where none is, and 2 where an error
 occurred, but for -q with a selected line.
 ";

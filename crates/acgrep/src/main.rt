@@ -12,6 +12,7 @@ mod help;
 mod json;
 mod keys;
 mod lines;
+mod long;
 mod open;
 mod options;
 mod patterns;

@@ -1,6 +1,7 @@
 //! What a call is asked to do.
 
 ghost use Rattle.std.specs.Prelude.{◌≡◌};
+ghost use Rattle.acgrep.specs.Arguments.{switch_by};
 
 use chromesquid::MatchKind;
 
@@ -28,14 +29,80 @@ pub enum Shown {
     Count,
     /// The name of a file that has a selected line.
     Names,
+    /// The name of a file that has none.
+    Lacking,
     /// Nothing.
     Nothing,
+}
+
+/// An option that takes no argument.
+#[derive(Clone, Copy)]
+pub enum Switch {
+    /// `-i`, `-y`
+    IgnoreCase,
+    /// `--no-ignore-case`
+    MatchCase,
+    /// `-v`
+    Invert,
+    /// `-c`
+    Counts,
+    /// `-n`
+    Numbers,
+    /// `-o`
+    OnlyMatching,
+    /// `-b`
+    Offsets,
+    /// `-l`
+    OnlyNames,
+    /// `-L`
+    OnlyLacking,
+    /// `-Z`
+    NullNames,
+    /// `-q`
+    Quiet,
+    /// `--json`
+    Json,
+    /// `-h`
+    NoName,
+    /// `-H`
+    WithName,
+    /// `--no-match-ok`
+    NoMatchOk,
+    /// `--help`
+    Help,
+    /// `-V`
+    Version,
+    /// `-F`, `-a`, `-U` and `--line-buffered`: what is done without them too.
+    Same,
+}
+
+/// The option of a letter that takes no argument, if there is one.
+pub fn switch_of(letter: u8) -> Option<Switch>
+    ensures switch { result ≡ switch_by letter }
+{
+    match letter {
+        b'i' | b'y' => Some(Switch::IgnoreCase),
+        b'v' => Some(Switch::Invert),
+        b'c' => Some(Switch::Counts),
+        b'n' => Some(Switch::Numbers),
+        b'o' => Some(Switch::OnlyMatching),
+        b'b' => Some(Switch::Offsets),
+        b'l' => Some(Switch::OnlyNames),
+        b'L' => Some(Switch::OnlyLacking),
+        b'Z' => Some(Switch::NullNames),
+        b'q' => Some(Switch::Quiet),
+        b'h' => Some(Switch::NoName),
+        b'H' => Some(Switch::WithName),
+        b'V' => Some(Switch::Version),
+        b'F' | b'a' | b'U' => Some(Switch::Same),
+        _ => None,
+    }
 }
 
 /// Each option as it was given.
 #[derive(Clone, Copy)]
 pub struct Flags {
-    /// `-i`: ASCII letters are the same in both cases.
+    /// The last of `-i` and `--no-ignore-case`: whether ASCII letters are the same in both cases.
     pub ignore_case: bool,
     /// `-v`: the lines without a match are selected.
     pub invert: bool,
@@ -47,8 +114,12 @@ pub struct Flags {
     pub only_matching: bool,
     /// `-b`: where a line starts in its file stands before it.
     pub offset: bool,
-    /// `-l`: files with a selected line are named.
+    /// `-l`, and no `-L` behind it: files with a selected line are named.
     pub names: bool,
+    /// `-L`, and no `-l` behind it: files without one are.
+    pub lacking: bool,
+    /// `-Z`: a zero byte stands behind a file's name.
+    pub null: bool,
     /// `-q`: nothing is written.
     pub quiet: bool,
     /// `--json`: each match is written as a JSON object.
@@ -61,6 +132,10 @@ pub struct Flags {
     pub kind: MatchKind,
     /// Where the first byte of each file stands: the last `--offset`.
     pub first: u64,
+    /// The number of each file's first line: the last `--first-line`.
+    pub first_line: u64,
+    /// `--no-match-ok`: the status is 0 where no line is selected.
+    pub no_match_ok: bool,
     /// `--help`.
     pub help: bool,
     /// `--version`.
@@ -68,7 +143,7 @@ pub struct Flags {
 }
 
 impl Flags {
-    ghost use Rattle.acgrep.specs.Arguments.{no_flags, shown_by, turned_on};
+    ghost use Rattle.acgrep.specs.Arguments.{no_flags, shown_by, switched};
 
     /// Where no option is given.
     pub fn new() -> Flags
@@ -82,18 +157,22 @@ impl Flags {
             only_matching: false,
             offset: false,
             names: false,
+            lacking: false,
+            null: false,
             quiet: false,
             json: false,
             with_name: None,
             color: Color::Never,
             kind: MatchKind::LeftmostLongest,
             first: 0,
+            first_line: 1,
+            no_match_ok: false,
             help: false,
             version: false,
         }
     }
 
-    /// What is written of a file: of several options `-q` goes first, then `-l`, `-c`, `--json` and `-o`.
+    /// What is written of a file: of several options `-q` goes first, then `-l` or `-L`, `-c`, `--json` and `-o`.
     pub fn shown(&self) -> Shown
         ensures shown { result ≡ shown_by self.now }
     {
@@ -101,6 +180,8 @@ impl Flags {
             Shown::Nothing
         } else if self.names {
             Shown::Names
+        } else if self.lacking {
+            Shown::Lacking
         } else if self.count {
             Shown::Count
         } else if self.json {
@@ -112,24 +193,37 @@ impl Flags {
         }
     }
 
-    /// These with the option of a letter that takes no argument, if there is one.
-    pub fn turned_on(self, letter: u8) -> Option<Flags>
-        ensures turned { result ≡ turned_on letter self }
+    /// These with an option that takes no argument.
+    pub fn switched(self, switch: Switch) -> Flags
+        ensures switched { result ≡ switched switch self }
     {
         let mut flags = self;
-        match letter {
-            b'i' => flags.ignore_case = true,
-            b'v' => flags.invert = true,
-            b'c' => flags.count = true,
-            b'n' => flags.number = true,
-            b'o' => flags.only_matching = true,
-            b'b' => flags.offset = true,
-            b'l' => flags.names = true,
-            b'q' => flags.quiet = true,
-            b'h' => flags.with_name = Some(false),
-            b'H' => flags.with_name = Some(true),
-            _ => return None,
+        match switch {
+            Switch::IgnoreCase => flags.ignore_case = true,
+            Switch::MatchCase => flags.ignore_case = false,
+            Switch::Invert => flags.invert = true,
+            Switch::Counts => flags.count = true,
+            Switch::Numbers => flags.number = true,
+            Switch::OnlyMatching => flags.only_matching = true,
+            Switch::Offsets => flags.offset = true,
+            Switch::OnlyNames => {
+                flags.names = true;
+                flags.lacking = false;
+            }
+            Switch::OnlyLacking => {
+                flags.names = false;
+                flags.lacking = true;
+            }
+            Switch::NullNames => flags.null = true,
+            Switch::Quiet => flags.quiet = true,
+            Switch::Json => flags.json = true,
+            Switch::NoName => flags.with_name = Some(false),
+            Switch::WithName => flags.with_name = Some(true),
+            Switch::NoMatchOk => flags.no_match_ok = true,
+            Switch::Help => flags.help = true,
+            Switch::Version => flags.version = true,
+            Switch::Same => {}
         }
-        Some(flags)
+        flags
     }
 }

@@ -3,7 +3,7 @@
 ghost use Rattle.std.specs.Iterator.{IsFinite};
 ghost use Rattle.std.specs.Prelude.{◌≡◌, ◌≤◌, IfOk, decimal, drop};
 ghost use Rattle.aho_core.specs.Patterns.{Patterns};
-ghost use Rattle.acgrep.specs.Printed.{Puts, PutsColored, PutsEach, PutsFinds, behind_match, colored_by, colored_from, count_by, file_line, head_of, line_by, match_by, matches_by, name_part, number_by, number_if, painted, part_by, part_of};
+ghost use Rattle.acgrep.specs.Printed.{Puts, PutsColored, PutsEach, PutsFinds, behind_match, colored_by, colored_from, count_by, file_line, head_of, line_by, match_by, matches_by, name_ended, name_part, number_by, number_if, painted, part_by, part_of};
 
 use crate::failure::Stop;
 use chromesquid::{Automaton, Input, Match};
@@ -32,6 +32,8 @@ pub struct Style<'a> {
     pub name: &'a [u8],
     /// Whether the file's name stands before each line.
     pub with_name: bool,
+    /// Whether a zero byte stands behind the file's name.
+    pub null: bool,
     /// Whether the line's number does.
     pub number: bool,
     /// Whether its offset in the file does.
@@ -107,10 +109,13 @@ fn put_file<W: Write>(output: &mut W, style: &Style<'_>) -> io::Result<()>
     ensures written { Puts W.Write output.old output.new result
         (name_part style.now) }
 {
-    if style.with_name {
-        return put_part(output, style.color, NAME_COLOR, style.name);
+    if !style.with_name {
+        return Ok(());
     }
-    Ok(())
+    if style.null {
+        return put_ended(output, style, b"\0");
+    }
+    put_part(output, style.color, NAME_COLOR, style.name)
 }
 
 /// Writes a number where it is asked for.
@@ -278,12 +283,23 @@ pub fn put_count<W: Write>(output: &mut W, style: &Style<'_>, count: u64) -> io:
     Ok(())
 }
 
-/// Writes the name of a file with a selected line.
+/// Writes the name of a file on a line of its own, or with a zero byte behind it.
 pub fn put_name<W: Write>(output: &mut W, style: &Style<'_>) -> io::Result<()>
     ensures written { Puts W.Write output.old output.new result
         (file_line style.now) }
 {
+    if style.null {
+        return put_ended(output, style, b"\0");
+    }
+    put_ended(output, style, b"\n")
+}
+
+/// Writes the name of a file and what ends it.
+fn put_ended<W: Write>(output: &mut W, style: &Style<'_>, end: &[u8]) -> io::Result<()>
+    ensures written { Puts W.Write output.old output.new result
+        (name_ended style.now end.now) }
+{
     put_painted(output, style.color, NAME_COLOR, style.name)?;
-    output.write_all(b"\n")?;
+    output.write_all(end)?;
     Ok(())
 }

@@ -10,7 +10,7 @@ ghost use Rattle.programs.specs.Names.{name_bytes};
 ghost use Rattle.programs.specs.Telling.{Tells, TellsSome};
 ghost use Rattle.acgrep.specs.Told.{MayTell, TellsCause, TellsOfCall, TellsOfFiles, TellsOfSearch, TellsOfText, TellsRefusal, names_said};
 ghost use Rattle.acgrep.specs.Files.{AreFilesBegun, AreSearchedOr, files_named};
-ghost use Rattle.acgrep.specs.Runs.{AsksToSearch, BeginsSearch, BeginsFor, GivesNone, IfSaid, IsJob, Searches, SearchesFor, are_empty, is_colored, origins_of, selects_none};
+ghost use Rattle.acgrep.specs.Runs.{AsksToSearch, BeginsSearch, BeginsFor, GivesNone, IfSaid, IsJob, Searches, SearchesFor, SearchesSaid, are_empty, is_colored, knows_none, origins_of, selects_none, status_told};
 ghost use Rattle.acgrep.specs.Searchers.{IsSearcherOf};
 ghost use Rattle.acgrep.specs.Selected.{ForLines};
 
@@ -21,7 +21,7 @@ use crate::keys::{read_keys, tell_refusal};
 use crate::open::Open;
 use crate::options::{Color, Flags};
 use crate::patterns::lines_of;
-use crate::print::Style;
+use crate::print::{Place, Style};
 use crate::searcher::Searcher;
 use crate::select::Job;
 use crate::tell::{tell_memory, tell_write, tell_wrong};
@@ -32,7 +32,7 @@ use std::alloc::Global;
 use std::io::Read;
 
 /// Does what the arguments after the program's name ask for, and answers the exit status: 0 where a line was selected, 1 where
-/// none was, and 2 where an error occurred. `terminal` says whether the output is a terminal with colours.
+/// none was, or 0 there too under `--no-match-ok`, and 2 where an error occurred. `terminal` says whether the output is a terminal with colours.
 pub fn run<F: Open, R: Read, W: Sink, E: Sink>(
     alloc: Global,
     arguments: &[String],
@@ -159,7 +159,18 @@ fn answer<F: Open, R: Read, W: Sink, E: Sink>(
     if given.flags.help {
         return write_text(HELP, output, errors);
     }
-    search_asked(alloc, given, terminal, files, input, output, errors)
+    let status = search_asked(alloc, given, terminal, files, input, output, errors);
+    status_told(given.flags.no_match_ok, status)
+}
+
+/// The status of a search, by whether finding nothing is no failure.
+fn status_told(no_match_ok: bool, status: u8) -> u8
+    ensures told { result ≡ status_told no_match_ok status }
+{
+    if no_match_ok && status == 1 {
+        return 0;
+    }
+    status
 }
 
 /// Searches as the arguments say. Where no option gives patterns the first operand does.
@@ -174,7 +185,7 @@ fn search_asked<F: Open, R: Read, W: Sink, E: Sink>(
 ) -> u8
     ensures bound { result ≤ 2 }
     ensures patternless { GivesNone (said given.now) → result ≡ 2 }
-    ensures searches { result < 2 → Searches (F.holds files.now) terminal (said given.now)
+    ensures searches { result < 2 → SearchesSaid (F.holds files.now) terminal (said given.now)
         (R.remaining input.old) (R.remaining input.new)
         (W.taken output.old) (W.taken output.new) result }
     ensures begins { BeginsSearch (F.holds files.now) terminal (said given.now)
@@ -248,7 +259,7 @@ fn search<F: Open, R: Read, W: Sink, E: Sink>(
         return 2;
     };
     let words = patterns.as_slice();
-    if selects_none(words, flags.invert) {
+    if knows_none(flags, words) {
         return 1;
     }
     let job = job_of(flags, terminal, names.len());
@@ -293,8 +304,14 @@ fn search_by<F: Open, R: Read, W: Sink, E: Sink>(
     }
 }
 
-/// Whether it is known without reading a file that no line is selected: there is no pattern, or `-v` is given and all are empty.
-/// Then no file is opened, as with grep.
+/// Whether that no line is selected is known without reading a file, and asked for no file. Then none is opened, as with grep.
+fn knows_none(flags: &Flags, patterns: &[&[u8]]) -> bool
+    ensures { result ≡ knows_none flags.now (pieces_of patterns.now) }
+{
+    (flags.quiet || !flags.lacking) && selects_none(patterns, flags.invert)
+}
+
+/// Whether no line is selected, whatever it holds: there is no pattern, or `-v` is given and all are empty.
 fn selects_none(patterns: &[&[u8]], invert: bool) -> bool
     ensures { result ≡ selects_none invert (pieces_of patterns.now) }
 {
@@ -328,11 +345,15 @@ fn job_of(flags: &Flags, terminal: bool, count: usize) -> Job<'static>
         style: Style {
             name: b"",
             with_name: has_name(flags.with_name, count),
+            null: flags.null,
             number: flags.number,
             offset: flags.offset,
             color: is_colored(flags.color, terminal),
         },
-        first: flags.first,
+        first: Place {
+            lines: flags.first_line.wrapping_sub(1),
+            bytes: flags.first,
+        },
     }
 }
 

@@ -26,8 +26,8 @@ pub struct Job<'a> {
     pub invert: bool,
     /// What stands before a line.
     pub style: Style<'a>,
-    /// Where the first byte of a file stands.
-    pub first: u64,
+    /// Where the first line of a file stands.
+    pub first: Place,
 }
 
 impl<'a> Job<'a> {
@@ -52,7 +52,7 @@ impl<'a> Job<'a> {
     fn needs_one(&self) -> bool
         ensures one { result ≡ needs_one self.now.shown }
     {
-        matches!(self.shown, Shown::Names | Shown::Nothing)
+        matches!(self.shown, Shown::Names | Shown::Lacking | Shown::Nothing)
     }
 
     /// Whether no further line changes what is written.
@@ -82,15 +82,12 @@ pub struct State {
 }
 
 impl State {
-    /// At the begin of a file whose first byte stands there.
-    pub fn new(first: u64) -> State
+    /// At the begin of a file whose first line stands there.
+    pub fn new(first: Place) -> State
         ensures begin { result ≡ at_begin first }
     {
         State {
-            place: Place {
-                lines: 0,
-                bytes: first,
-            },
+            place: first,
             selected: 0,
         }
     }

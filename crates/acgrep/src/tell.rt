@@ -1,9 +1,13 @@
 //! What is told on standard error: why something was not done.
 
-ghost use Rattle.acgrep.specs.Told.{TellsCause, TellsOfFile, TellsOfNamed, TellsWrong};
+ghost use Rattle.acgrep.specs.Told.{TellsCause, TellsOfFile, TellsOfNamed, TellsWrong, number_parts, unargued_parts, valued_name};
+ghost use Rattle.std.specs.List.{concat};
+ghost use Rattle.programs.specs.Telling.{TellsBytes};
+ghost use Rattle.std.specs.Prelude.{◌≡◌};
 
 use crate::arguments::Wrong;
 use crate::help::USAGE;
+use crate::long::Valued;
 use chromesquid::{BuildError, MatchError, Sink};
 use programs::errors::Errors;
 use programs::reason::Reason;
@@ -62,15 +66,24 @@ pub fn tell_wrong<E: Sink>(errors: &mut Errors<'_, E>, wrong: Wrong<'_>)
             errors.write(&[b"acgrep: unknown option '-", &[letter], b"'\n", USAGE])
         }
         Wrong::UnknownName(name) => {
-            errors.write(&[b"acgrep: unknown option '", name, b"'\n", USAGE])
+            errors.write(&[b"acgrep: unknown option '--", name, b"'\n", USAGE])
         }
-        Wrong::NoArgument(letter) => errors.write(&[
-            b"acgrep: option '-",
-            &[letter],
-            b"' needs an argument\n",
+        Wrong::Ambiguous(name) => errors.write(&[
+            b"acgrep: several options begin with '--",
+            name,
+            b"'\n",
             USAGE,
         ]),
-        Wrong::NoKind => { errors.write(&[b"acgrep: option '--kind' needs an argument\n", USAGE]) }
+        Wrong::NoArgument(valued) => {
+            let name = valued_name(valued);
+            tell_unargued(name, errors)
+        }
+        Wrong::TakesNone(name) => errors.write(&[
+            b"acgrep: option '--",
+            name,
+            b"' takes no argument\n",
+            USAGE,
+        ]),
         Wrong::UnknownKind(name) => errors.write(&[
             b"acgrep: option '--kind' takes first, longest or standard, not '",
             name,
@@ -83,14 +96,51 @@ pub fn tell_wrong<E: Sink>(errors: &mut Errors<'_, E>, wrong: Wrong<'_>)
             b"'\n",
             USAGE,
         ]),
-        Wrong::NoOffset => {
-            errors.write(&[b"acgrep: option '--offset' needs an argument\n", USAGE])
+        Wrong::NoNumber(valued, number) => {
+            let name = name_beside(valued, number);
+            tell_number(name, number, errors)
         }
-        Wrong::NoNumber(number) => errors.write(&[
-            b"acgrep: option '--offset' takes a number below 2^64, not '",
-            number,
-            b"'\n",
-            USAGE,
-        ]),
     }
+}
+
+/// Tells that the option of a name has no argument.
+fn tell_unargued<E: Sink>(name: &[u8], errors: &mut Errors<'_, E>)
+    ensures told { TellsBytes E.Sink errors.old errors.new (concat (unargued_parts name.now)) }
+{
+    errors.write(&[b"acgrep: option '", name, b"' needs an argument\n", USAGE]);
+}
+
+/// Tells that the argument of the option of a name is no number.
+fn tell_number<'a, E: Sink>(name: &'a [u8], argument: &'a [u8], errors: &mut Errors<'_, E>)
+    ensures told { TellsBytes E.Sink errors.old errors.new
+        (concat (number_parts name.now argument.now)) }
+{
+    errors.write(&[
+        b"acgrep: option '",
+        name,
+        b"' takes a number below 2^64, not '",
+        argument,
+        b"'\n",
+        USAGE,
+    ]);
+}
+
+/// How an option that takes an argument is called.
+fn valued_name<'a>(valued: Valued) -> &'a [u8]
+    ensures name { result.now ≡ valued_name valued }
+{
+    match valued {
+        Valued::Regexp => b"-e",
+        Valued::PatternFile => b"-f",
+        Valued::Kind => b"--kind",
+        Valued::Offset => b"--offset",
+        Valued::FirstLine => b"--first-line",
+    }
+}
+
+/// The same, for as long as other bytes are lent.
+fn name_beside<'a>(valued: Valued, _others: &'a [u8]) -> &'a [u8]
+    ensures name { result.now ≡ valued_name valued }
+{
+    valued_name(valued)
 }

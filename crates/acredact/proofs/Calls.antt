@@ -211,13 +211,14 @@ module _ {R : Type 0} {Reads : Readers R} {W E : Type 0} (Writes : Writers W) (K
     call_told all counted (Err failure) errors is run same counts fails told =
         call_untold all errors failure run (subst (λ (b : Bool). IsCountsFailure b failure) is fails) (subst (λ (b : Bool). Tells K (IsCountsLine b) mid.errors errors) is told)
 
--- what holds of some work holds of the same with the same names and pieces
-pub work_as : (holds : List ℕ → Option (List ℕ)) (refuses : List ℕ → Reason → Type 0) (p : Patterns) (names names' pieces pieces' : List (List ℕ)) → names ≡ names' → pieces ≡ pieces'
-    → (P : Work → Type 0) → P (record { holds = holds; refuses = refuses; names = names; redactor = record { patterns = p; pieces = pieces } })
-    → P (record { holds = holds; refuses = refuses; names = names'; redactor = record { patterns = p; pieces = pieces' } })
-work_as holds refuses p names names' pieces pieces' same alike P is =
-    subst (λ (l : List (List ℕ)). P (record { holds = holds; refuses = refuses; names = names'; redactor = record { patterns = p; pieces = l } })) alike
-    (subst (λ (l : List (List ℕ)). P (record { holds = holds; refuses = refuses; names = l; redactor = record { patterns = p; pieces = pieces } })) same is)
+-- what holds of some work holds of the same with the same names, pieces and way
+pub work_as : (holds : List ℕ → Option (List ℕ)) (refuses : List ℕ → Reason → Type 0) (p : Patterns) (names names' pieces pieces' : List (List ℕ)) (covers covers' : Bool) → names ≡ names' → covers ≡ covers' → pieces ≡ pieces'
+    → (P : Work → Type 0) → P (record { holds = holds; refuses = refuses; names = names; redactor = record { patterns = p; covers = covers; pieces = pieces } })
+    → P (record { holds = holds; refuses = refuses; names = names'; redactor = record { patterns = p; covers = covers'; pieces = pieces' } })
+work_as holds refuses p names names' pieces pieces' covers covers' same by alike P is =
+    subst (λ (l : List (List ℕ)). P (record { holds = holds; refuses = refuses; names = names'; redactor = record { patterns = p; covers = covers'; pieces = l } })) alike
+    (subst (λ (b : Bool). P (record { holds = holds; refuses = refuses; names = names'; redactor = record { patterns = p; covers = b; pieces = pieces } })) by
+    (subst (λ (l : List (List ℕ)). P (record { holds = holds; refuses = refuses; names = l; redactor = record { patterns = p; covers = covers; pieces = pieces } })) same is))
 
 -- a call as it is from a state whose input was read further
 module _ {R : Type 0} {Reads : Readers R} {W E : Type 0} (Writes : Writers W) (K : SinkGhosts E) (call : Call) (left : Option (List ℕ)) where

@@ -15,7 +15,7 @@ use Rattle.aho_core.specs.declared.search.Anchored.TheVariants.{No}
 use Rattle.aho_core.specs.declared.search.MatchKind.{MatchKind}
 use Rattle.aho_core.specs.declared.search.MatchKind.TheVariants.{LeftmostFirst, LeftmostLongest, Standard}
 use Rattle.aho_stream.specs.After.{search_from}
-use Rattle.acredact.specs.Secrets.{IsTouched, NoSecretLeft}
+use Rattle.acredact.specs.Secrets.{IsTouched, NoneIsWhole}
 
 -- what is before another does not start after the other ends: both have a byte
 not_after : (kind : MatchKind) (m o : Occurrence) → m.start < m.end → o.start < o.end → IsBefore kind m o → m.start < o.end
@@ -93,5 +93,5 @@ module _ (p : Patterns) (no_empty : 1 ≤ shortest (map length p.words)) (bytes 
             (rest.0, inr rest.1, rest.2))
       ]
 
-  pub none_left : (ms : List Occurrence) → AreFinds p (plain_search bytes) None ms → NoSecretLeft p bytes ms
+  pub none_left : (ms : List Occurrence) → AreFinds p (plain_search bytes) None ms → NoneIsWhole p bytes ms
   none_left ms finds = record { touched = λ o occurs. touched_from ms 0 None finds o occurs }

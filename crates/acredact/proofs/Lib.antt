@@ -12,4 +12,5 @@ mod Done
 mod Loaded
 mod Calls
 mod Given
+mod Reading
 mod Ready

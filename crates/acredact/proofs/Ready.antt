@@ -1,17 +1,21 @@
 -- What is loaded can be searched for.
 use Rattle.std.proofs.Common.{◌≡◌, inl, inr, ℕ, ◌≤◌, Bool, false, true, List, [], ◌∷◌, ◌++◌, Option, length, map, refl, sym, ap, subst, ◌∙◌, arith}
-use Rattle.std.specs.Prelude.{◌||◌, Result, Ok, Err, IsOk, IfSome, Some, None}
+use Rattle.std.specs.Prelude.{◌||◌, codes, option_and_then, unwrap_or, Result, Ok, Err, IsOk, IfSome, Some, None}
 use Rattle.std.specs.Borrow.{Bor}
 use Rattle.std.specs.List.{All, AllZip}
 use Rattle.std.proofs.lemmas.List.{length-map}
+use Rattle.std.proofs.lemmas.Slice.Eq.{bytes_eq-Decides}
 use Rattle.std.proofs.lemmas.List.Elements.{All-append, All-cons, All-head, All-nil, All-tail}
 use Rattle.aho_core.specs.Laws.{shortest}
 use Rattle.aho_core.specs.Patterns.{Patterns}
 use Rattle.aho_core.specs.declared.error.MatchErrorKind.{MatchErrorKind}
 use Rattle.aho_core.specs.declared.search.Anchored.TheVariants.{No}
+use Rattle.aho_core.specs.declared.search.MatchKind.{MatchKind}
+use Rattle.aho_core.specs.declared.search.MatchKind.TheVariants.{Standard}
 use Rattle.aho_automaton.specs.declared.automaton.Automaton.{Ghosts}
+use Rattle.programs.specs.Arguments.{kind_by}
 use Rattle.programs.specs.declared.reason.Reason.{Reason}
-use Rattle.acredact.specs.Arguments.{Given, GivesNoPattern, has}
+use Rattle.acredact.specs.Arguments.{Given, GivesNoPattern, covers_asked, has, is_cover, kind_asked, last_value}
 use Rattle.acredact.specs.Calls.{gives_pattern}
 use Rattle.acredact.specs.Loading.{AreGiven, OptionGives, Reading, Rules}
 use Rattle.acredact.specs.Secrets.{CanRedact}
@@ -56,19 +60,31 @@ given_some reading [] secrets left left' given = none_some secrets given.0
 given_some reading (item ∷ items) secrets left left' (first, rest, are, between, gives, given) =
     subst HaveNoEmpty (sym are) (All-append IsSomeSecret first rest (option_some reading item.word item.value first left between gives) (given_some reading items rest between left' given))
 
+-- a cover is by the standard kind
+kind_of_cover : (name : List ℕ) → is_cover name ≡ true → kind_by name ≡ None
+kind_of_cover name is = ap kind_by ((bytes_eq-Decides name (codes "cover")).0 is)
+
+standard_by : (asked : Option (List ℕ)) → is_cover (unwrap_or asked (codes "cover")) ≡ true → unwrap_or (option_and_then kind_by asked) Standard ≡ Standard
+standard_by None is = refl
+standard_by (Some name) is = ap (λ (kind : Option MatchKind). unwrap_or kind Standard) (kind_of_cover name is)
+
+pub covers_standard : (given : List Given) → covers_asked given ≡ true → kind_asked given ≡ Standard
+covers_standard given is = standard_by (last_value Kind given) is
+
 started : (start : Result ℕ MatchErrorKind) → IsOk start → (sid : ℕ) × (start ≡ Ok sid)
 started (Ok sid) is = (sid, refl)
 started (Err error) is = absurd (cc)
 
 -- an automaton is ready
-pub ready_of : {A : Type 0} (G : Ghosts A) (automaton : A) (p : Patterns) (replacements : List (Bor (List ℕ))) → G.is_of automaton p → G.lengths automaton ≡ map length p.words → IsOk (G.start automaton No)
-    → 1 ≤ shortest (map length p.words) → length replacements ≡ length p.words → CanRedact G automaton replacements
-ready_of G automaton p replacements of are starts some one =
+pub ready_of : {A : Type 0} (G : Ghosts A) (automaton : A) (p : Patterns) (covers : Bool) (replacements : List (Bor (List ℕ))) → G.is_of automaton p → G.lengths automaton ≡ map length p.words → G.kind automaton ≡ p.kind
+    → (covers ≡ true → p.kind ≡ Standard) → IsOk (G.start automaton No) → 1 ≤ shortest (map length p.words) → length replacements ≡ length p.words → CanRedact G automaton covers replacements
+ready_of G automaton p covers replacements of are kind standard starts some one =
     let start = started (G.start automaton No) starts in
     record {
       patterns = p;
       of = of;
       begins = (start.0, subst (λ (ns : List ℕ). 1 ≤ shortest ns) (sym are) some, start.1);
+      standard = λ is. kind ∙ standard is;
       one_each = one ∙ sym (length-map p.words length) ∙ ap length (sym are);
     }
 

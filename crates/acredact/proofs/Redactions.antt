@@ -1,8 +1,10 @@
--- What a replacement of a stream writes is a redaction, and what it begins is begun.
+-- What a cover or a replacement of a stream writes is a redaction, and what it begins is begun.
 use Rattle.std.proofs.Common.{◌≡◌, ◌≢◌, ℕ, ◌≤◌, ◌++◌, List, [], ◌∷◌, Option, true, false, length, map, take, refl, sym, ap, subst, ◌∙◌, append-nil, le_refl, arith}
-use Rattle.std.specs.Prelude.{Bool, None, Some, Result, Ok, Err, OnErr, OnOk}
+use Rattle.std.specs.Prelude.{Bool, MatchBool, if◌then◌else◌, None, Some, Result, Ok, Err, OnErr, OnOk}
 use Rattle.std.specs.Io.{StartsWith}
 use Rattle.std.proofs.Math.Seq.{take-length}
+use Rattle.std.proofs.lemmas.Bool.{ne_eqb}
+use Rattle.aho_core.specs.Cover.{AreRuns, IsCover}
 use Rattle.aho_core.specs.Iteration.{AreFinds}
 use Rattle.aho_core.specs.Laws.{shortest}
 use Rattle.aho_core.specs.Occurrence.{Occurrence}
@@ -12,19 +14,29 @@ use Rattle.aho_core.specs.Search.{plain_search}
 use Rattle.aho_core.specs.declared.error.MatchErrorKind.{MatchErrorKind}
 use Rattle.aho_core.specs.declared.error.stream.StreamError.{StreamError}
 use Rattle.aho_core.specs.declared.error.stream.StreamError.TheVariants.{Match as Refused, Read, Write, WriteZero, Memory, PositionLimit}
+use Rattle.aho_core.specs.declared.error.MatchErrorKind.TheVariants.{UnsupportedEmpty}
 use Rattle.aho_core.specs.declared.search.Anchored.TheVariants.{No}
+use Rattle.aho_core.specs.declared.search.MatchKind.{MatchKind}
+use Rattle.aho_core.specs.declared.search.MatchKind.TheVariants.{Standard}
 use Rattle.aho_devices.specs.Counts.{counted}
+use Rattle.aho_devices.specs.Errors.{CountsErrors}
 use Rattle.aho_devices.specs.Refusals.{is_read_fault, is_write_fault, is_write_of_nothing}
 use Rattle.aho_devices.specs.declared.device.Sink.{Ghosts as SinkGhosts}
 use Rattle.aho_devices.specs.declared.device.Source.{Ghosts as SourceGhosts}
+use Rattle.aho_laws.specs.CoverLaws.{runs_upto}
+use Rattle.aho_laws.proofs.CoverClean.{cover-free}
+use Rattle.aho_laws.proofs.CoverKept.{kept-uncovered, runs-cover}
 use Rattle.aho_laws.proofs.Iterations.{finds-exist}
+use Rattle.aho_laws.proofs.TextRuns.{runs-made}
 use Rattle.aho_automaton.specs.declared.automaton.Automaton.{Ghosts}
 use Rattle.aho_stream.specs.After.{greatest_position}
 use Rattle.aho_stream.specs.Refills.{is_limit}
 use Rattle.aho_stream.specs.Replacing.{BeginsReplacing, GaveAsMany, MayBe, ReplacesStream, SourceGave}
 use Rattle.aho_stream.specs.StreamRun.{CanBegin}
 use Rattle.acredact.specs.Faults.{IsStreamEnd}
-use Rattle.acredact.specs.Secrets.{BeginsRedaction, IsRedaction, Redactor}
+use Rattle.aho_automaton.specs.Covering.{cover_refusal}
+use Rattle.aho_cover.specs.Covers.{BeginsCovering, CoversStream, LeavesCovered, RefusesStreamCover}
+use Rattle.acredact.specs.Secrets.{AreReplaced, BeginsRedaction, IsRedaction, NoByteIsKept, NoneIsWhole, Redactor}
 use Rattle.acredact.specs.Streams.{RedactsStream, StartsStream, StreamOutcome}
 use Rattle.acredact.proofs.Covered.{none_left}
 
@@ -32,22 +44,56 @@ use Rattle.acredact.proofs.Covered.{none_left}
 all_of : (given text : List ℕ) → MayBe given true text → text ≡ given
 all_of given text may = may.1 ∙ ap (λ more. given ++ more) may.2 ∙ append-nil given
 
+module _ (p : Patterns) (text : List ℕ) where
+  -- the runs of a text hold each byte of what occurs in it
+  runs_hide : (runs : List Occurrence) → AreRuns p text runs → NoByteIsKept p text runs
+  runs_hide runs are = record { hidden = (runs-cover p text runs are).has; stays = kept-uncovered p text runs are }
+
+  -- so no secret is left, by either way
+  safe_by : (covers : Bool) (ranges : List Occurrence) → 1 ≤ shortest (map length p.words) → MatchBool covers (AreRuns p text ranges) (AreFinds p (plain_search text) None ranges)
+      → MatchBool covers (NoByteIsKept p text ranges) (NoneIsWhole p text ranges)
+  safe_by true ranges some found = runs_hide ranges found
+  safe_by false ranges some found = none_left p some text ranges found
+
+  ranges_exist : (covers : Bool) → (ranges : List Occurrence) × MatchBool covers (AreRuns p text ranges) (AreFinds p (plain_search text) None ranges)
+  ranges_exist true = (runs_upto p text (length text), runs-made p text)
+  ranges_exist false = finds-exist p (plain_search text) None (le_refl (length text))
+
+-- what is replaced where there is no cover, and where there is one
+pub of_finds : (r : Redactor) → r.covers ≡ false → (text : List ℕ) (ms : List Occurrence) → AreFinds r.patterns (plain_search text) None ms → AreReplaced r text ms
+of_finds r plain text ms found = subst (λ (b : Bool). MatchBool b (AreRuns r.patterns text ms) (AreFinds r.patterns (plain_search text) None ms)) (sym plain) found
+
+pub to_finds : (r : Redactor) → r.covers ≡ false → (text : List ℕ) (ms : List Occurrence) → AreReplaced r text ms → AreFinds r.patterns (plain_search text) None ms
+to_finds r plain text ms found = subst (λ (b : Bool). MatchBool b (AreRuns r.patterns text ms) (AreFinds r.patterns (plain_search text) None ms)) plain found
+
+of_runs : (r : Redactor) → r.covers ≡ true → (text : List ℕ) (ms : List Occurrence) → AreRuns r.patterns text ms → AreReplaced r text ms
+of_runs r covers text ms found = subst (λ (b : Bool). MatchBool b (AreRuns r.patterns text ms) (AreFinds r.patterns (plain_search text) None ms)) (sym covers) found
+
+to_runs : (r : Redactor) → r.covers ≡ true → (text : List ℕ) (ms : List Occurrence) → AreReplaced r text ms → AreRuns r.patterns text ms
+to_runs r covers text ms found = subst (λ (b : Bool). MatchBool b (AreRuns r.patterns text ms) (AreFinds r.patterns (plain_search text) None ms)) covers found
+
 module _ (r : Redactor) (some : 1 ≤ shortest (map length r.patterns.words)) where
-  -- a text with its finds replaced is its redaction
-  pub redaction_by : (text : List ℕ) (ms : List Occurrence) → AreFinds r.patterns (plain_search text) None ms → IsRedaction r text (replaced text ms r.pieces)
-  redaction_by text ms found = record { matches = ms; found = found; safe = none_left r.patterns some text ms found; is = refl }
+  -- a text with its ranges replaced is its redaction
+  pub redaction_by : (text : List ℕ) (ranges : List Occurrence) → AreReplaced r text ranges → IsRedaction r text (replaced text ranges r.pieces)
+  redaction_by text ranges found = record {
+    ranges = ranges;
+    found = found;
+    safe = safe_by r.patterns text r.covers ranges some found;
+    is = refl;
+    clean = λ covers are m. cover-free r.patterns r.pieces are text (replaced text ranges r.pieces) (ranges, to_runs r covers text ranges found, refl) m;
+  }
 
   -- what begins the replacement of each text that may come begins its redaction
   pub begins_by : (given : List ℕ) (ended : Bool) (part : List ℕ)
-      → ((text : List ℕ) (ms : List Occurrence) → MayBe given ended text → AreFinds r.patterns (plain_search text) None ms → StartsWith (replaced text ms r.pieces) part)
+      → ((text : List ℕ) (ranges : List Occurrence) → MayBe given ended text → AreReplaced r text ranges → StartsWith (replaced text ranges r.pieces) part)
       → BeginsRedaction r given ended part
   begins_by given ended part beginning text may =
-      let finds = finds-exist r.patterns (plain_search text) None (le_refl (length text)) in
-      (replaced text finds.0 r.pieces, redaction_by text finds.0 finds.1, beginning text finds.0 may finds.1)
+      let ranges = ranges_exist r.patterns text r.covers in
+      (replaced text ranges.0 r.pieces, redaction_by text ranges.0 ranges.1, beginning text ranges.0 may ranges.1)
 
   -- nothing begins each
   pub begins_nothing : (given : List ℕ) (ended : Bool) → BeginsRedaction r given ended []
-  begins_nothing given ended = begins_by given ended [] (λ text ms may found. refl)
+  begins_nothing given ended = begins_by given ended [] (λ text ranges may found. refl)
 
 -- the whole is a beginning
 pub begins_whole : (r : Redactor) (text redaction : List ℕ) → IsRedaction r text redaction → BeginsRedaction r text true redaction
@@ -69,7 +115,7 @@ module _ {R W : Type 0} {S : SourceGhosts R} {K : SinkGhosts W} {r : Redactor} {
 pub some_of : {A : Type 0} (G : Ghosts A) (automaton : A) (p : Patterns) → G.lengths automaton ≡ map length p.words → CanBegin G automaton → 1 ≤ shortest (map length p.words)
 some_of G automaton p are can = subst (λ (ns : List ℕ). 1 ≤ shortest ns) are can.1
 
-module _ {A R W : Type 0} (G : Ghosts A) (S : SourceGhosts R) (K : SinkGhosts W) (automaton : A) (r : Redactor) (of : G.is_of automaton r.patterns)
+module _ {A R W : Type 0} (G : Ghosts A) (S : SourceGhosts R) (K : SinkGhosts W) (automaton : A) (r : Redactor) (plain : r.covers ≡ false) (of : G.is_of automaton r.patterns)
     (are : G.lengths automaton ≡ map length r.patterns.words) (can : CanBegin G automaton) (source source' : R) (sink sink' : W) where
   pub some_by : 1 ≤ shortest (map length r.patterns.words)
   some_by = some_of G automaton r.patterns are can
@@ -81,7 +127,7 @@ module _ {A R W : Type 0} (G : Ghosts A) (S : SourceGhosts R) (K : SinkGhosts W)
         text = whole.given;
         gives = whole.gives;
         redaction = replaced whole.given finds.0 r.pieces;
-        redacts = redaction_by r some_by whole.given finds.0 finds.1;
+        redacts = redaction_by r some_by whole.given finds.0 (of_finds r plain whole.given finds.0 finds.1);
         written = whole.writes r.patterns finds.0 of finds.1;
       }
 
@@ -91,7 +137,7 @@ module _ {A R W : Type 0} (G : Ghosts A) (S : SourceGhosts R) (K : SinkGhosts W)
     ended = begun.ended;
     gives = begun.gives;
     part = begun.written;
-    begins = begins_by r some_by begun.given begun.ended begun.written (λ text ms may found. begun.beginning r.patterns text ms of may found);
+    begins = begins_by r some_by begun.given begun.ended begun.written (λ text ms may found. begun.beginning r.patterns text ms of may (to_finds r plain text ms found));
     written = begun.writes;
   }
 
@@ -130,4 +176,71 @@ module _ {A R W : Type 0} (G : Ghosts A) (S : SourceGhosts R) (K : SinkGhosts W)
     took_nothing = took_nothing;
     limit = limit;
     only = never_refused (Err error) error refl suits;
+  }
+
+-- the same of a cover
+module _ {A R W : Type 0} (G : Ghosts A) (S : SourceGhosts R) (K : SinkGhosts W) (automaton : A) (r : Redactor) (covers : r.covers ≡ true) (of : G.is_of automaton r.patterns)
+    (are : G.lengths automaton ≡ map length r.patterns.words) (can : CanBegin G automaton) (standard : G.kind automaton ≡ Standard) (source source' : R) (sink sink' : W) where
+  some_cover : 1 ≤ shortest (map length r.patterns.words)
+  some_cover = some_of G automaton r.patterns are can
+
+  covered_of : CoversStream S K (G.is_of automaton) r.pieces source source' sink sink' → RedactsStream S K r source source' sink sink'
+  covered_of whole =
+      let cover : IsCover r.patterns whole.given r.pieces whole.output = whole.covers r.patterns of in
+      record {
+        text = whole.given;
+        gives = whole.gives;
+        redaction = whole.output;
+        redacts = subst (IsRedaction r whole.given) (sym cover.2) (redaction_by r some_cover whole.given cover.0 (of_runs r covers whole.given cover.0 cover.1));
+        written = whole.writes;
+      }
+
+  covering_of : BeginsCovering S K (G.is_of automaton) r.pieces source source' sink sink' → StartsStream S K r source source' sink sink'
+  covering_of begun = record {
+    given = begun.given;
+    ended = begun.ended;
+    gives = begun.gives;
+    part = begun.written;
+    begins = begins_by r some_cover begun.given begun.ended begun.written
+        (λ text runs may found. begun.beginning r.patterns text (replaced text runs r.pieces) of may (runs, to_runs r covers text runs found, refl));
+    written = begun.writes;
+  }
+
+  -- by a standard automaton without empty patterns none is refused
+  suits_cover : cover_refusal (G.kind automaton) (G.lengths automaton) (G.start automaton No) ≡ None
+  suits_cover =
+      subst (λ (k : MatchKind). cover_refusal k (G.lengths automaton) (G.start automaton No) ≡ None) (sym standard)
+      (subst (λ (s : Result ℕ MatchErrorKind). cover_refusal Standard (G.lengths automaton) s ≡ None) (sym can.2)
+      (ap (λ (b : Bool). if b then Some UnsupportedEmpty else None) (ne_eqb (shortest (G.lengths automaton)) 0 (λ (none : shortest (G.lengths automaton) ≡ 0). omega (arith, none, can.1)))))
+
+  never_refused_cover : (result : Result (Unit {0}) StreamError) (error : StreamError) → result ≡ Err error
+      → RefusesStreamCover (cover_refusal (G.kind automaton) (G.lengths automaton) (G.start automaton No)) result → IsStreamEnd error
+  never_refused_cover result (Refused reason) is refuses = let clash : None ≡ Some reason = sym suits_cover ∙ refuses.only reason is in absurd (cc)
+  never_refused_cover result (Read fault) is refuses = tt
+  never_refused_cover result (Write fault) is refuses = tt
+  never_refused_cover result WriteZero is refuses = tt
+  never_refused_cover result Memory is refuses = tt
+  never_refused_cover result PositionLimit is refuses = tt
+
+  pub outcome_of_cover : (result : Result (Unit {0}) StreamError) → LeavesCovered S K (G.is_of automaton) r.pieces source source' sink sink' result
+      → CountsErrors S K source source' sink sink' result
+      → RefusesStreamCover (cover_refusal (G.kind automaton) (G.lengths automaton) (G.start automaton No)) result
+      → StreamOutcome S K r result source source' sink sink'
+  outcome_of_cover (Ok x) leaves errors refuses = record {
+    redacted = covered_of leaves.covered;
+    begun = starts_whole (covered_of leaves.covered);
+    read_failed = errors.read_failed;
+    write_failed = errors.write_failed;
+    took_nothing = errors.took_nothing;
+    limit = leaves.limit;
+    only = tt;
+  }
+  outcome_of_cover (Err error) leaves errors refuses = record {
+    redacted = tt;
+    begun = covering_of leaves.begun;
+    read_failed = errors.read_failed;
+    write_failed = errors.write_failed;
+    took_nothing = errors.took_nothing;
+    limit = leaves.limit;
+    only = never_refused_cover (Err error) error refl refuses;
   }

@@ -1,8 +1,8 @@
 -- What the arguments, those after the program's name, ask for.
-use Rattle.std.specs.Prelude.{◌≡◌, ℕ, ◌&&◌, Bool, true, false, List, [], ◌∷◌, ◌++◌, Option, Some, None, codes, filter, is_some, map, option_and_then, option_map, unwrap_or, nat_eq, String, string_bytes, if◌then◌else◌}
+use Rattle.std.specs.Prelude.{◌≡◌, ℕ, ◌&&◌, ◌||◌, Bool, true, false, List, [], ◌∷◌, ◌++◌, Option, Some, None, codes, drop, filter, is_some, map, option_and_then, option_map, unwrap_or, nat_eq, take, String, string_bytes, if◌then◌else◌}
 use Rattle.std.specs.Str.{bytes_eq}
 use Rattle.aho_core.specs.declared.search.MatchKind.{MatchKind}
-use Rattle.aho_core.specs.declared.search.MatchKind.TheVariants.{LeftmostLongest}
+use Rattle.aho_core.specs.declared.search.MatchKind.TheVariants.{Standard}
 use Rattle.programs.specs.Arguments.{kind_by, texts}
 use Rattle.acredact.specs.declared.arguments.Word.{Word}
 use Rattle.acredact.specs.declared.arguments.Word.TheVariants.{IgnoreCase, Kind, Pattern, Patterns, Table, With, Count, Crlf, AllowEmpty, Help, Version, File}
@@ -63,9 +63,13 @@ takes_value Help = false
 takes_value Version = false
 takes_value File = false
 
+-- the kind that covers each byte of each match
+abbrev pub is_cover : List ℕ → Bool
+is_cover name = bytes_eq name (codes "cover")
+
 -- the values that an option can have
 abbrev pub is_value_of : Word → List ℕ → Bool
-is_value_of Kind value = is_some (kind_by value)
+is_value_of Kind value = is_cover value || is_some (kind_by value)
 is_value_of IgnoreCase value = true
 is_value_of Pattern value = true
 is_value_of Patterns value = true
@@ -94,14 +98,28 @@ abbrev pub word_read : Word → List ℕ → Option ReadAs
 word_read word argument = if takes_value word then expected (Value word) else completed word argument Any
 
 -- an option or a file; behind '--' there are files alone
+abbrev pub value_read : Word → List ℕ → Option ReadAs
+value_read word value = if is_value_of word value then completed word value Any else None
+
+-- a long option with its value behind '='
+abbrev pub joined_option_of : List ℕ → Option ReadAs
+joined_option_of argument =
+    if bytes_eq (take 7 argument) (codes "--kind=") then value_read Kind (drop 7 argument)
+    else if bytes_eq (take 7 argument) (codes "--with=") then value_read With (drop 7 argument)
+    else None
+
+abbrev pub word_or_joined : Option Word → List ℕ → Option ReadAs
+word_or_joined None argument = joined_option_of argument
+word_or_joined (Some word) argument = word_read word argument
+
 abbrev pub any_by : List ℕ → Option ReadAs
 any_by argument =
     if bytes_eq argument (codes "--") then expected Name
-    else option_and_then (λ word. word_read word argument) (word_by argument)
+    else word_or_joined (word_by argument) argument
 
 abbrev pub read_by : Expects → List ℕ → Option ReadAs
 read_by Any argument = any_by argument
-read_by (Value word) argument = if is_value_of word argument then completed word argument Any else None
+read_by (Value word) argument = value_read word argument
 read_by Name argument = completed File argument Name
 
 -- in front of the others
@@ -171,9 +189,13 @@ option_name Help = codes "-e"
 option_name Version = codes "-e"
 option_name File = codes "-e"
 
--- the match kind that is asked for: the longest of those that begin first, where none is
+-- whether a cover is asked for: so it is where no kind is given
+abbrev pub covers_asked : List Given → Bool
+covers_asked items = is_cover (unwrap_or (last_value Kind items) (codes "cover"))
+
+-- the match kind that is searched by: for a cover all matches count, wherever they end
 abbrev pub kind_asked : List Given → MatchKind
-kind_asked items = unwrap_or (option_and_then kind_by (last_value Kind items)) LeftmostLongest
+kind_asked items = unwrap_or (option_and_then kind_by (last_value Kind items)) Standard
 
 -- a redaction is asked for: no help and no version
 pub record AsksToRedact (given : List Given) : Type 0 where

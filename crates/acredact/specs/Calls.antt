@@ -1,5 +1,5 @@
 -- What a call does, by what its arguments ask for, and what it tells.
-use Rattle.std.specs.Prelude.{◌≡◌, ◌⊎◌, ℕ, ◌||◌, Bool, true, false, List, [], ◌∷◌, Option, Result, Ok, IfErr, IfOk, OnErr, OnOk, codes, map, unwrap_or, if◌then◌else◌}
+use Rattle.std.specs.Prelude.{◌≡◌, ◌⊎◌, ℕ, ◌&&◌, ◌||◌, Bool, true, false, List, [], ◌∷◌, Option, Result, Ok, IfErr, IfOk, OnErr, OnOk, codes, map, unwrap_or, if◌then◌else◌}
 use Rattle.std.specs.declared.io.traits.Read.{Ghosts as Readers}
 use Rattle.std.specs.declared.io.traits.Write.{Ghosts as Writers}
 use Rattle.aho_core.specs.declared.error.BuildError.{BuildError}
@@ -13,7 +13,7 @@ use Rattle.programs.specs.declared.errors.Errors.{Errors}
 use Rattle.programs.specs.declared.failure.Failure.{Failure as OtherFailure}
 use Rattle.programs.specs.declared.failure.Failure.TheVariants.{Usage, Build, Search, OutOfMemory, PositionLimit, Read, Write, WriteZero}
 use Rattle.programs.specs.declared.reason.Reason.{Reason}
-use Rattle.acredact.specs.Arguments.{Given, GivesNoPattern, has, is_same, last_value}
+use Rattle.acredact.specs.Arguments.{Given, GivesNoPattern, covers_asked, has, is_same, last_value}
 use Rattle.acredact.specs.Builds.{patterns_by_given}
 use Rattle.acredact.specs.Counts.{counts_text}
 use Rattle.acredact.specs.Failures.{IsFailureLine}
@@ -23,7 +23,7 @@ use Rattle.acredact.specs.Mistakes.{IsMistake}
 use Rattle.acredact.specs.Secrets.{Redactor}
 use Rattle.acredact.specs.Tables.{Secret, patterns_in, piece_by, secrets_of}
 use Rattle.acredact.specs.declared.arguments.Expects.TheVariants.{Any}
-use Rattle.acredact.specs.declared.arguments.Mistake.TheVariants.{NoPattern, OutOfMemory as NoRoom}
+use Rattle.acredact.specs.declared.arguments.Mistake.TheVariants.{NoPattern, CountsCover, OutOfMemory as NoRoom}
 use Rattle.acredact.specs.declared.arguments.Word.{Word}
 use Rattle.acredact.specs.declared.arguments.Word.TheVariants.{Count, Crlf, AllowEmpty, File, Pattern as PatternOption, Patterns as PatternFile, Table, With}
 use Rattle.acredact.specs.declared.failure.Failure.{Failure}
@@ -68,7 +68,7 @@ abbrev pub pieces_asked : List Given → List Secret → List (List ℕ)
 pieces_asked given secrets = map (piece_by (text_asked given)) secrets
 
 abbrev pub redactor_by_given : List Given → List Secret → Redactor
-redactor_by_given given secrets = record { patterns = patterns_by_given given (patterns_in secrets); pieces = pieces_asked given secrets }
+redactor_by_given given secrets = record { patterns = patterns_by_given given (patterns_in secrets); covers = covers_asked given; pieces = pieces_asked given secrets }
 
 abbrev pub work_by : Call → List Secret → Work
 work_by call secrets = record {
@@ -93,11 +93,16 @@ IsRunFailure fails failure =
     ((error : BuildError) × (failure ≡ Other (Build error)))
     ⊎ ((failure ≡ Other OutOfMemory) ⊎ IsPrintFailure fails failure)
 
--- why a call ends early: there is no pattern, one of the options cannot be loaded, the counts cannot be written, or the files are
+-- counts are asked for of a cover
+abbrev pub counts_cover : List Given → Bool
+counts_cover given = has Count given && covers_asked given
+
+-- why a call ends early: there is no pattern, counts are asked for of a cover, one of the options cannot be loaded, the counts cannot be written, or the files are
 -- not redacted
 abbrev pub MayFail : Call → (fails : Type 0) → Failure → Type 0
 MayFail call fails failure =
-    ((failure ≡ Arguments NoRoom) ⊎ ((failure ≡ Arguments NoPattern) × GivesNoPattern call.given))
+    ((failure ≡ Arguments NoRoom) ⊎ (((failure ≡ Arguments NoPattern) × GivesNoPattern call.given)
+    ⊎ ((failure ≡ Arguments CountsCover) × (counts_cover call.given ≡ true))))
     ⊎ (CannotLoadOne (reading_by call) call.given failure
     ⊎ (((failure ≡ Counts) × (has Count call.given ≡ true))
     ⊎ IsRunFailure fails failure))

@@ -20,7 +20,7 @@ use Rattle.programs.specs.declared.reason.Reason.{Reason}
 use Rattle.acredact.specs.Faults.{IsOutputEnd, IsReadReason}
 use Rattle.acredact.specs.Messages.{line_about}
 use Rattle.acredact.specs.Reads.{OfName, ReadsText}
-use Rattle.acredact.specs.Secrets.{BeginsRedaction, IfOf, IsRedaction, Redactor, redactor_by}
+use Rattle.acredact.specs.Secrets.{BeginsRedaction, IfOf, IsRedaction, CanRedact, Redactor, redactor_by}
 use Rattle.acredact.specs.declared.files.Job.{Job}
 use Rattle.acredact.specs.declared.folder.Folder.{Ghosts as Folders}
 use Rattle.acredact.specs.declared.streams.Streams.{Streams}
@@ -33,7 +33,11 @@ pub record Work : Type 1 where
   pub redactor : Redactor
 
 abbrev pub redactor_of : {F : Type 0} → Job F → Patterns → Redactor
-redactor_of job p = redactor_by p job.replacements.now
+redactor_of job p = redactor_by p job.covers job.replacements.now
+
+-- an automaton suits it
+abbrev pub CanDo : {A F : Type 0} → Ghosts A → A → Job F → Type 0
+CanDo G automaton job = CanRedact G automaton job.covers job.replacements.now
 
 abbrev pub work_of : {F X : Type 0} → Folders F X → Job F → Patterns → Work
 work_of D job p = record {

@@ -1,12 +1,13 @@
 -- What is wrong with arguments, and how it is told.
-use Rattle.std.specs.Prelude.{◌≡◌, ◌⊎◌, ℕ, Bool, List, [], ◌∷◌, Option, Some, None, codes}
+use Rattle.std.specs.Prelude.{◌≡◌, ◌⊎◌, ℕ, Bool, List, [], ◌∷◌, Option, Some, None, codes, drop, take, if◌then◌else◌}
+use Rattle.std.specs.Str.{bytes_eq}
 use Rattle.programs.specs.Messages.{Message}
 use Rattle.acredact.specs.Arguments.{ReadAs, option_name, read_by}
 use Rattle.acredact.specs.Messages.{about, alone}
 use Rattle.acredact.specs.declared.arguments.Expects.{Expects}
 use Rattle.acredact.specs.declared.arguments.Expects.TheVariants.{Any, Value, Name}
 use Rattle.acredact.specs.declared.arguments.Mistake.{Mistake}
-use Rattle.acredact.specs.declared.arguments.Mistake.TheVariants.{Unknown, UnknownKind, NoValue, NoPattern, OutOfMemory}
+use Rattle.acredact.specs.declared.arguments.Mistake.TheVariants.{Unknown, UnknownKind, NoValue, NoPattern, CountsCover, OutOfMemory}
 use Rattle.acredact.specs.declared.arguments.Reading.{Reading}
 use Rattle.acredact.specs.declared.arguments.Reading.TheVariants.{Whole, Begun, Wrong}
 
@@ -16,11 +17,17 @@ mistake_message (Unknown argument) = about (codes "unknown option") argument.now
 mistake_message (UnknownKind kind) = about (codes "unknown kind") kind.now
 mistake_message (NoValue word) = about (codes "no value") (option_name word)
 mistake_message NoPattern = alone (codes "no pattern: give -e, -f or -t, or --help")
+mistake_message CountsCover = alone (codes "--count tells nothing of a cover: give --kind longest, first or standard")
 mistake_message OutOfMemory = alone (codes "out of memory")
 
 -- what is told of a wrong argument
+abbrev pub wrong_option : List ℕ → Message
+wrong_option argument =
+    if bytes_eq (take 7 argument) (codes "--kind=") then about (codes "unknown kind") (drop 7 argument)
+    else about (codes "unknown option") argument
+
 abbrev pub wrong_at : Expects → List ℕ → Message
-wrong_at Any argument = about (codes "unknown option") argument
+wrong_at Any argument = wrong_option argument
 wrong_at (Value word) argument = about (codes "unknown kind") argument
 wrong_at Name argument = about (codes "unknown option") argument
 

@@ -1,15 +1,18 @@
 -- What a redaction is, and what it means that no secret is passed on.
-use Rattle.std.specs.Prelude.{◌≡◌, ℕ, ◌<◌, Bool, List, None, length}
+use Rattle.std.specs.Prelude.{◌≡◌, ℕ, ◌<◌, Bool, MatchBool, List, None, length, true}
 use Rattle.std.specs.Borrow.{Bor}
 use Rattle.std.specs.Io.{StartsWith}
+use Rattle.aho_core.specs.Cover.{AreRuns, IsCovered}
 use Rattle.aho_core.specs.Iteration.{AreFinds}
 use Rattle.aho_core.specs.Listing.{IsMember}
 use Rattle.aho_core.specs.Occurrence.{Occurrence}
-use Rattle.aho_core.specs.Occurs.{Occurs}
+use Rattle.aho_core.specs.Occurs.{Occurs, OccursIn}
 use Rattle.aho_core.specs.Patterns.{Patterns}
 use Rattle.aho_core.specs.Replacement.{pieces_of, replaced}
 use Rattle.aho_core.specs.Search.{plain_search}
 use Rattle.aho_core.specs.declared.search.Anchored.TheVariants.{No}
+use Rattle.aho_core.specs.declared.search.MatchKind.TheVariants.{Standard}
+use Rattle.aho_laws.specs.CoverLaws.{AreClean, kept, uncovered}
 use Rattle.aho_automaton.specs.declared.automaton.Automaton.{Ghosts}
 use Rattle.aho_stream.specs.Replacing.{MayBe}
 use Rattle.aho_stream.specs.StreamRun.{CanBegin}
@@ -23,36 +26,57 @@ abbrev pub IsTouched : List Occurrence → Occurrence → Type 0
 IsTouched ms o = (m : Occurrence) × IsMember ms m × Overlaps m o
 
 -- wherever a pattern occurs in the bytes, some byte of it lies in a range that is replaced
-pub record NoSecretLeft (p : Patterns) (bytes : List ℕ) (ms : List Occurrence) : Type 0 where
-  pub touched : (o : Occurrence) → Occurs p No bytes 0 (length bytes) o → IsTouched ms o
+pub record NoneIsWhole (p : Patterns) (bytes : List ℕ) (ranges : List Occurrence) : Type 0 where
+  pub touched : (o : Occurrence) → Occurs p No bytes 0 (length bytes) o → IsTouched ranges o
 
--- what is redacted: some patterns, with the text that is written in the place of each
+-- wherever a pattern occurs in the bytes, all bytes of it lie in ranges that are replaced: what is kept are just the bytes that
+-- lie in no occurrence
+pub record NoByteIsKept (p : Patterns) (bytes : List ℕ) (ranges : List Occurrence) : Type 0 where
+  pub hidden : (at : ℕ) → IsCovered (OccursIn p (plain_search bytes)) at → IsCovered (IsMember ranges) at
+  pub stays : kept bytes ranges ≡ uncovered p bytes
+
+-- no pattern occurs anywhere
+abbrev pub NoneOccurs : Patterns → List ℕ → Type 0
+NoneOccurs p bytes = (m : Occurrence) → OccursIn p (plain_search bytes) m → ⊥
+
+-- what is redacted: some patterns, whether by a cover, and the text that is written in the place of each
 pub record Redactor : Type 0 where
   pub patterns : Patterns
+  pub covers : Bool
   pub pieces : List (List ℕ)
 
-abbrev pub redactor_by : Patterns → List (Bor (List ℕ)) → Redactor
-redactor_by p replacements = record { patterns = p; pieces = pieces_of replacements }
+abbrev pub redactor_by : Patterns → Bool → List (Bor (List ℕ)) → Redactor
+redactor_by p covers replacements = record { patterns = p; covers = covers; pieces = pieces_of replacements }
 
 -- what holds of the patterns of an automaton
 abbrev pub IfOf : {A : Type 0} → Ghosts A → A → (Patterns → Type 0) → Type 0
 IfOf G automaton Holds = (p : Patterns) → G.is_of automaton p → Holds p
 
--- a text with its matches replaced, and no secret left
+-- the ranges of a text that are replaced: the runs of its cover, or else its finds
+abbrev pub AreReplaced : Redactor → List ℕ → List Occurrence → Type 0
+AreReplaced r text ranges = MatchBool r.covers (AreRuns r.patterns text ranges) (AreFinds r.patterns (plain_search text) None ranges)
+
+-- no secret is left: of a cover no byte of one, and else none whole
+abbrev pub NoSecretLeft : Redactor → List ℕ → List Occurrence → Type 0
+NoSecretLeft r text ranges = MatchBool r.covers (NoByteIsKept r.patterns text ranges) (NoneIsWhole r.patterns text ranges)
+
+-- a text with its ranges replaced, and no secret left. Where the texts in their places are clean, a cover's output has none either
 pub record IsRedaction (r : Redactor) (text redaction : List ℕ) : Type 0 where
-  pub matches : List Occurrence
-  pub found : AreFinds r.patterns (plain_search text) None matches
-  pub safe : NoSecretLeft r.patterns text matches
-  pub is : redaction ≡ replaced text matches r.pieces
+  pub ranges : List Occurrence
+  pub found : AreReplaced r text ranges
+  pub safe : NoSecretLeft r text ranges
+  pub is : redaction ≡ replaced text ranges r.pieces
+  pub clean : r.covers ≡ true → AreClean r.patterns r.pieces → NoneOccurs r.patterns redaction
 
 -- a beginning of the redaction of a text of which these bytes were read, whatever bytes follow: none once its end was seen
 abbrev pub BeginsRedaction : Redactor → List ℕ → Bool → List ℕ → Type 0
 BeginsRedaction r given ended part =
     (text : List ℕ) → MayBe given ended text → (redaction : List ℕ) × IsRedaction r text redaction × StartsWith redaction part
 
--- an automaton of some patterns can search streams, and there are as many replacements
-pub record CanRedact {A : Type 0} (G : Ghosts A) (automaton : A) (replacements : List (Bor (List ℕ))) : Type 0 where
+-- an automaton of some patterns can search streams, or cover them, and there are as many replacements
+pub record CanRedact {A : Type 0} (G : Ghosts A) (automaton : A) (covers : Bool) (replacements : List (Bor (List ℕ))) : Type 0 where
   pub patterns : Patterns
   pub of : G.is_of automaton patterns
   pub begins : CanBegin G automaton
+  pub standard : covers ≡ true → G.kind automaton ≡ Standard
   pub one_each : length replacements ≡ length (G.lengths automaton)

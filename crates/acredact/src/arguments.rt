@@ -2,7 +2,7 @@
 
 ghost use Rattle.std.specs.Prelude.{◌≡◌, Some, None, IfErr, IfOk, option_map};
 ghost use Rattle.programs.specs.Arguments.{kind_by, texts};
-ghost use Rattle.acredact.specs.Arguments.{all_given, any_by, completed, file_by, given_by, has, is_same, is_value_of, kind_asked, last_value, option_name, read_by, read_of, takes_value, word_by, word_read};
+ghost use Rattle.acredact.specs.Arguments.{all_given, any_by, completed, covers_asked, file_by, given_by, has, is_cover, is_same, is_value_of, joined_option_of, kind_asked, last_value, option_name, read_by, read_of, takes_value, word_by, word_read};
 ghost use Rattle.acredact.specs.Mistakes.{IsMistake, IsMistaken};
 ghost use Rattle.acredact.specs.declared.arguments.Expects.TheVariants.{Any, Value};
 
@@ -14,7 +14,7 @@ use std::alloc::Global;
 pub enum Word {
     /// `-i`: ASCII letters are the same in both cases.
     IgnoreCase,
-    /// `--kind`: which of several matches is replaced.
+    /// `--kind`: what is replaced where several matches share bytes.
     Kind,
     /// `-e`: a pattern.
     Pattern,
@@ -69,6 +69,8 @@ pub enum Mistake<'a> {
     NoValue(Word),
     /// There is no pattern, no file of patterns and no table.
     NoPattern,
+    /// `--count` is given for a cover, of which nothing is counted.
+    CountsCover,
     /// Memory runs out.
     OutOfMemory,
 }
@@ -208,6 +210,20 @@ fn read_any(argument: &str) -> Reading<'_>
     }
     match word_of(argument) {
         Some(word) => read_word(word, argument),
+        None => read_joined(argument),
+    }
+}
+
+/// A long option with its value behind `=`.
+fn read_joined(argument: &str) -> Reading<'_>
+    ensures read { read_of result ≡ joined_option_of argument.now }
+    ensures wrong { IsMistaken Any argument.now result }
+{
+    if let Some(kind) = argument.strip_prefix("--kind=") {
+        return read_value(Word::Kind, kind);
+    }
+    match argument.strip_prefix("--with=") {
+        Some(text) => whole(Word::With, text, Expects::Any),
         None => Reading::Wrong(Mistake::Unknown(argument)),
     }
 }
@@ -233,12 +249,19 @@ fn read_value(word: Word, value: &str) -> Reading<'_>
     Reading::Wrong(Mistake::UnknownKind(value))
 }
 
-/// Whether an option can have this value: that of `--kind` is a match kind.
+/// Whether this is the kind that covers each byte of each match.
+fn is_cover(name: &str) -> bool
+    ensures is { result ≡ is_cover name.now }
+{
+    name == "cover"
+}
+
+/// Whether an option can have this value: that of `--kind` is `cover` or a match kind.
 fn is_value_of(word: Word, value: &str) -> bool
     ensures is { result ≡ is_value_of word value.now }
 {
     match word {
-        Word::Kind => kind_by(value).is_some(),
+        Word::Kind => is_cover(value) || kind_by(value).is_some(),
         _ => true,
     }
 }
@@ -272,12 +295,22 @@ pub fn last_value<'a>(items: &[Item<'a>], word: Word) -> Option<&'a str>
     value
 }
 
-/// The match kind that is asked for: the longest of those that begin first, where none is.
+/// Whether a cover is asked for: so it is where no kind is given.
+pub fn covers(items: &[Item<'_>]) -> bool
+    ensures covers { result ≡ covers_asked (all_given items.now) }
+{
+    match last_value(items, Word::Kind) {
+        Some(name) => is_cover(name),
+        None => true,
+    }
+}
+
+/// The match kind that is searched by. A cover needs all matches, so for it that is `Standard`.
 pub fn kind_of(items: &[Item<'_>]) -> MatchKind
     ensures kind { result ≡ kind_asked (all_given items.now) }
 {
     match last_value(items, Word::Kind) {
-        Some(name) => kind_by(name).unwrap_or(MatchKind::LeftmostLongest),
-        None => MatchKind::LeftmostLongest,
+        Some(name) => kind_by(name).unwrap_or(MatchKind::Standard),
+        None => MatchKind::Standard,
     }
 }

@@ -6,13 +6,13 @@ ghost use Rattle.aho_devices.specs.Counts.{counted};
 ghost use Rattle.programs.specs.Names.{is_input};
 ghost use Rattle.programs.specs.Streams.{bytes_left};
 ghost use Rattle.acredact.specs.Faults.{is_unread, reading_of};
-ghost use Rattle.acredact.specs.Files.{FileOutcome, JobOutcome, TextOutcome, ToldOutcome, redactor_of, work_of};
-ghost use Rattle.acredact.specs.Secrets.{IfOf, CanRedact};
+ghost use Rattle.acredact.specs.Files.{CanDo, FileOutcome, JobOutcome, TextOutcome, ToldOutcome, redactor_of, work_of};
+ghost use Rattle.acredact.specs.Secrets.{IfOf};
 ghost use Rattle.acredact.specs.Streams.{StreamOutcome};
 
 use crate::failure::tell_unread;
 use crate::folder::Folder;
-use crate::redact::{redact, redact_counting};
+use crate::redact::{cover, redact, redact_counting};
 use crate::streams::Streams;
 use aho_automaton::automaton::Automaton;
 use aho_core::error::StreamError;
@@ -33,6 +33,8 @@ pub struct Job<'s, 't, F> {
     pub names: &'s [&'t str],
     /// What is written in the place of each pattern.
     pub replacements: &'s [&'t [u8]],
+    /// Whether all bytes of all matches are replaced, and not only matches that share no byte.
+    pub covers: bool,
     /// Whether the matches of each pattern are counted.
     pub counted: bool,
 }
@@ -49,7 +51,7 @@ pub fn redact_files<A: Automaton, F: Folder, I: Read, W: Write, E: Sink>(
     counts: &mut [u64],
     streams: &mut Streams<'_, I, W, E>,
 ) -> Result<bool, StreamError>
-    requires ready { CanRedact A.Automaton automaton.now job.now.replacements.now }
+    requires ready { CanDo A.Automaton automaton.now job.now }
     ensures outcome { JobOutcome W.Write E.Sink A.Automaton F.Folder
         automaton.now job.now result streams.old streams.new }
     ensures flushed { OnOk result (streams.new.output.device.flushed ≡ true) }
@@ -66,7 +68,7 @@ fn redact_each<A: Automaton, F: Folder, I: Read, W: Write, E: Sink>(
     counts: &mut [u64],
     streams: &mut Streams<'_, I, W, E>,
 ) -> Result<bool, StreamError>
-    requires ready { CanRedact A.Automaton automaton.now job.now.replacements.now }
+    requires ready { CanDo A.Automaton automaton.now job.now }
     ensures outcome { JobOutcome W.Write E.Sink A.Automaton F.Folder
         automaton.now job.now result streams.old streams.new }
 {
@@ -95,7 +97,7 @@ fn redact_told<A: Automaton, F: Folder, I: Read, W: Write, E: Sink>(
     counts: &mut [u64],
     streams: &mut Streams<'_, I, W, E>,
 ) -> Result<bool, StreamError>
-    requires ready { CanRedact A.Automaton automaton.now job.now.replacements.now }
+    requires ready { CanDo A.Automaton automaton.now job.now }
     ensures outcome { IfOf A.Automaton automaton.now (λ p. ToldOutcome W.Write E.Sink
         (work_of F.Folder job.now p) name.now result streams.old streams.new) }
 {
@@ -124,7 +126,7 @@ fn redact_file<A: Automaton, F: Folder, I: Read, W: Write>(
     input: &mut FromRead<I>,
     output: &mut FromWrite<W>,
 ) -> Result<Option<Reason>, StreamError>
-    requires ready { CanRedact A.Automaton automaton.now job.now.replacements.now }
+    requires ready { CanDo A.Automaton automaton.now job.now }
     ensures outcome { IfOf A.Automaton automaton.now (λ p. FileOutcome W.Write
         (work_of F.Folder job.now p) name.now result input.old input.new output.old output.new) }
 {
@@ -152,7 +154,7 @@ fn redact_opened<A: Automaton, F, I: Read + Drop, W: Write>(
     reader: I,
     output: &mut FromWrite<W>,
 ) -> Result<Option<Reason>, StreamError>
-    requires ready { CanRedact A.Automaton automaton.now job.now.replacements.now }
+    requires ready { CanDo A.Automaton automaton.now job.now }
     ensures outcome { IfOf A.Automaton automaton.now (λ p. (rest : Option (List ℕ)) × TextOutcome
         W.Write (redactor_of job.now p) result (I.remaining reader) rest output.old output.new) }
 {
@@ -168,7 +170,7 @@ fn redact_input<A: Automaton, F, I: Read, W: Write>(
     input: &mut FromRead<I>,
     output: &mut FromWrite<W>,
 ) -> Result<Option<Reason>, StreamError>
-    requires ready { CanRedact A.Automaton automaton.now job.now.replacements.now }
+    requires ready { CanDo A.Automaton automaton.now job.now }
     ensures outcome { IfOf A.Automaton automaton.now (λ p. TextOutcome W.Write (redactor_of job.now p)
         result (bytes_left input.old) (bytes_left input.new) output.old output.new) }
     ensures failed { input.new.failures ≡ counted (is_unread result) input.old.failures }
@@ -185,11 +187,13 @@ fn redact_stream<A: Automaton, F, R: Source, W: Sink>(
     source: &mut R,
     sink: &mut W,
 ) -> Result<(), StreamError>
-    requires ready { CanRedact A.Automaton automaton.now job.now.replacements.now }
+    requires ready { CanDo A.Automaton automaton.now job.now }
     ensures outcome { IfOf A.Automaton automaton.now (λ p. StreamOutcome R.Source W.Sink
         (redactor_of job.now p) result source.old source.new sink.old sink.new) }
 {
-    if job.counted {
+    if job.covers {
+        cover(job.alloc, automaton, job.replacements, source, sink)
+    } else if job.counted {
         redact_counting(job.alloc, automaton, job.replacements, counts, source, sink)
     } else {
         redact(job.alloc, automaton, job.replacements, source, sink)

@@ -1,6 +1,6 @@
 //! The redaction of one stream.
 
-ghost use Rattle.std.specs.Prelude.{◌≡◌, ◌<◌, ◌≤◌, [], length, slice_index, slice_index_or, slice_set};
+ghost use Rattle.std.specs.Prelude.{◌≡◌, ◌<◌, ◌≤◌, [], false, length, slice_index, slice_index_or, slice_set, true};
 ghost use Rattle.aho_core.specs.Replacement.{pieces_of};
 ghost use Rattle.acredact.specs.Counts.{CountsOne, counted_more};
 ghost use Rattle.acredact.specs.Secrets.{IfOf, CanRedact, redactor_by};
@@ -9,10 +9,31 @@ ghost use Rattle.acredact.specs.Streams.{StreamOutcome, WritesPiece};
 use aho_automaton::automaton::Automaton;
 use aho_core::error::StreamError;
 use aho_core::search::Match;
+use aho_cover::stream::try_stream_cover_all;
 use aho_devices::device::{Sink, Source};
 use aho_devices::write::write_whole;
 use aho_stream::replace::{try_stream_replace_all, try_stream_replace_all_with};
 use std::alloc::Global;
+
+/// Writes what the source gives to the sink, but in the place of each run of bytes that lie in matches the replacement of the
+/// longest that begins with the run.
+///
+/// # Errors
+///
+/// As `redact`.
+pub fn cover<A: Automaton, R: Source, W: Sink>(
+    alloc: Global,
+    automaton: &A,
+    replacements: &[&[u8]],
+    source: &mut R,
+    sink: &mut W,
+) -> Result<(), StreamError>
+    requires ready { CanRedact A.Automaton automaton.now true replacements.now }
+    ensures outcome { IfOf A.Automaton automaton.now (λ p. StreamOutcome R.Source W.Sink
+        (redactor_by p true replacements.now) result source.old source.new sink.old sink.new) }
+{
+    try_stream_cover_all(alloc, automaton, source, sink, replacements)
+}
 
 /// Writes what the source gives to the sink, with its replacement in the place of each match.
 ///
@@ -27,9 +48,9 @@ pub fn redact<A: Automaton, R: Source, W: Sink>(
     source: &mut R,
     sink: &mut W,
 ) -> Result<(), StreamError>
-    requires ready { CanRedact A.Automaton automaton.now replacements.now }
+    requires ready { CanRedact A.Automaton automaton.now false replacements.now }
     ensures outcome { IfOf A.Automaton automaton.now (λ p. StreamOutcome R.Source W.Sink
-        (redactor_by p replacements.now) result source.old source.new sink.old sink.new) }
+        (redactor_by p false replacements.now) result source.old source.new sink.old sink.new) }
 {
     try_stream_replace_all(alloc, automaton, source, sink, replacements)
 }
@@ -43,9 +64,9 @@ pub fn redact_counting<A: Automaton, R: Source, W: Sink>(
     source: &mut R,
     sink: &mut W,
 ) -> Result<(), StreamError>
-    requires ready { CanRedact A.Automaton automaton.now replacements.now }
+    requires ready { CanRedact A.Automaton automaton.now false replacements.now }
     ensures outcome { IfOf A.Automaton automaton.now (λ p. StreamOutcome R.Source W.Sink
-        (redactor_by p replacements.now) result source.old source.new sink.old sink.new) }
+        (redactor_by p false replacements.now) result source.old source.new sink.old sink.new) }
 {
     try_stream_replace_all_with(alloc, automaton, source, sink, |found, _matched, sink| {
         put_counted(counts, replacements, found, sink)

@@ -6,14 +6,14 @@ ghost use Rattle.programs.specs.Names.{name_bytes};
 ghost use Rattle.programs.specs.Streams.{WritesBytes};
 ghost use Rattle.programs.specs.Telling.{Tells, TellsBytes, TellsSome};
 ghost use Rattle.acredact.specs.Arguments.{AreMistaken, AsksToRedact, GivesNoPattern, IfAsked, all_given, has};
-ghost use Rattle.acredact.specs.Calls.{AskedOutcome, BeginsAsked, IsCountsFailure, IsCountsLine, IsPrintFailure, IsRefusedLine, IsWrongFailure, IsWrongLine, LoadedOutcome, OutputFails, RedactsAsked, RunOutcome, TellsAsked, TellsCounts, call_of, gives_pattern, names_asked, text_asked, work_by};
+ghost use Rattle.acredact.specs.Calls.{AskedOutcome, BeginsAsked, IsCountsFailure, IsCountsLine, IsPrintFailure, IsRefusedLine, IsWrongFailure, IsWrongLine, LoadedOutcome, OutputFails, RedactsAsked, RunOutcome, TellsAsked, TellsCounts, call_of, counts_cover, gives_pattern, names_asked, text_asked, work_by};
 ghost use Rattle.acredact.specs.Failures.{IsFailureLine};
-ghost use Rattle.acredact.specs.Files.{FilesOutcome, work_of};
-ghost use Rattle.acredact.specs.Secrets.{IfOf, CanRedact};
+ghost use Rattle.acredact.specs.Files.{CanDo, FilesOutcome, work_of};
+ghost use Rattle.acredact.specs.Secrets.{IfOf};
 ghost use Rattle.acredact.specs.Tables.{HaveNoEmpty, secrets_of};
 ghost use Rattle.acredact.specs.declared.arguments.Word.TheVariants.{Count};
 
-use crate::arguments::{Item, Mistake, Word, has, is_same, items, last_value};
+use crate::arguments::{Item, Mistake, Word, covers, has, is_same, items, last_value};
 use crate::counts::{counts_of, tell_counts};
 use crate::failure::{Failure, tell_failure};
 use crate::files::{Job, redact_files};
@@ -40,15 +40,16 @@ const REDACTED: &[u8] = b"[redacted]";
 const HELP: &[u8] =
     b"usage: acredact [-i] [--kind KIND] (-e PATTERN | -f FILE | -t TABLE).. [--with TEXT] [--count] [FILE]..
 
-Writes each FILE with a text in the place of each match of the patterns. No FILE, or -, is standard input.
+Writes each FILE with a text in the place of each run of bytes that lie in matches of the patterns. No FILE, or -, is standard input.
 
   -e PATTERN    a pattern
   -f FILE       a file of patterns, one on each line; - is standard input
   -t TABLE      a table: on each line a pattern, a TAB and its replacement; \\t, \\n and \\\\ stand for bytes
   -i            ASCII letters are the same in both cases
-  --kind KIND   which of several matches is replaced: longest (if none is given), first or standard
+  --kind KIND   what is replaced: cover (if none is given) each byte of each match; longest, first and standard
+                one of several matches that overlap, and then a part of another can stay
   --with TEXT   the replacement of patterns that have none of their own: [redacted] if none is given
-  --count       write to standard error how many matches of each pattern were replaced
+  --count       write to standard error how many matches of each pattern were replaced: not of a cover
   --crlf        leave out a carriage return at the end of a line of a FILE of patterns or a TABLE
   --allow-empty allow an empty FILE of patterns or TABLE
   --            only FILEs follow
@@ -172,6 +173,9 @@ fn answer_items<'a, F: Folder, I: Read, W: Write, E: Sink>(
     if !gives_pattern(given) {
         return Err(Failure::Arguments(Mistake::NoPattern));
     }
+    if counts_cover(given) {
+        return Err(Failure::Arguments(Mistake::CountsCover));
+    }
     load(alloc, given, folder, streams)
 }
 
@@ -180,6 +184,13 @@ fn gives_pattern(given: &[Item<'_>]) -> bool
     ensures gives { result ≡ gives_pattern (all_given given.now) }
 {
     has(given, Word::Pattern) || has(given, Word::Patterns) || has(given, Word::Table)
+}
+
+/// Whether counts are asked for of a cover.
+fn counts_cover(given: &[Item<'_>]) -> bool
+    ensures counts { result ≡ counts_cover (all_given given.now) }
+{
+    has(given, Word::Count) && covers(given)
 }
 
 /// Writes a text whole, and answers that nothing was left out.
@@ -307,6 +318,7 @@ fn redact_all<'a, F: Folder, I: Read, W: Write, E: Sink>(
         folder,
         names: names.as_slice(),
         replacements: replacements.as_slice(),
+        covers: covers(given),
         counted: has(given, Word::Count),
     };
     Ok(redact_by(&nfa, rows.as_ref(), &job, counts, streams)?)
@@ -320,8 +332,8 @@ fn redact_by<A: Automaton, B: Automaton, F: Folder, I: Read, W: Write, E: Sink>(
     counts: &mut [u64],
     streams: &mut Streams<'_, I, W, E>,
 ) -> Result<bool, StreamError>
-    requires ready { CanRedact A.Automaton automaton.now job.now.replacements.now }
-    requires rows { IfSome rows (λ rows. CanRedact B.Automaton rows.now job.now.replacements.now) }
+    requires ready { CanDo A.Automaton automaton.now job.now }
+    requires rows { IfSome rows (λ rows. CanDo B.Automaton rows.now job.now) }
     ensures outcome { IfOf A.Automaton automaton.now (λ p. IfSome rows.entry (λ rows. B.is_of rows.now p)
         → FilesOutcome W.Write E.Sink (work_of F.Folder job.now p) result streams.old streams.new) }
     ensures flushed { OnOk result (streams.new.output.device.flushed ≡ true) }

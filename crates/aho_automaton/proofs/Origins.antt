@@ -12,6 +12,11 @@ use Rattle.aho_core.specs.Patterns.{Patterns}
 use Rattle.aho_automaton.proofs.Places.{best_in_whole, into_part, length_part, moved_back, part_join, widened}
 use Rattle.aho_automaton.proofs.Walks.{Standing}
 
+-- where nothing was found, nothing occurs
+pub nothing_stands : (p : Patterns) (haystack : List ℕ) (origin at sid : ℕ) (held : Anchored → List ℕ → ℕ → Type 0) → origin ≤ at → at ≤ length haystack
+    → Standing p held No haystack origin at sid None → (n : Occurrence) → Occurs p No haystack origin at n → ⊥
+nothing_stands p haystack origin at sid held lt within stands = subst (IsBestOrNone p.kind (Occurs p No haystack origin at)) stands.is (best_in_whole p No haystack origin at stands.part lt within stands.part_best)
+
 module _ (p : Patterns) (haystack : List ℕ) (start origin end : ℕ) (le : start ≤ origin) where
   -- what occurs from the origin on occurs from the start on
   occurs_sooner : (front : ℕ) (n : Occurrence) → Occurs p No haystack origin front n → Occurs p No haystack start front n
@@ -78,8 +83,5 @@ module _ (p : Patterns) (haystack : List ℕ) (start origin end : ℕ) (le : sta
       let late : origin ≤ n.start = none n o in
       elim (cases_lt at n.end) [
         | inl past ↦ candidate n (record { numbered = o.numbered; after_start = starts_past at lt in_span within apart n (occurs_later end n late o) past; before_end = o.before_end; sized = o.sized; same = o.same; admitted = λ x. cc })
-        | inr ge ↦ absurd (none_here at sid held lt (omega arith) stands n (record { numbered = o.numbered; after_start = late; before_end = ge; sized = o.sized; same = o.same; admitted = λ x. cc }))
+        | inr ge ↦ absurd (nothing_stands p haystack origin at sid held lt (omega arith) stands n (record { numbered = o.numbered; after_start = late; before_end = ge; sized = o.sized; same = o.same; admitted = λ x. cc }))
       ]
-    where
-      none_here : (at sid : ℕ) (held : Anchored → List ℕ → ℕ → Type 0) → origin ≤ at → at ≤ length haystack → Standing p held No haystack origin at sid None → (n : Occurrence) → Occurs p No haystack origin at n → ⊥
-      none_here at sid held lt within stands = subst (IsBestOrNone p.kind (Occurs p No haystack origin at)) stands.is (best_in_whole p No haystack origin at stands.part lt within stands.part_best)

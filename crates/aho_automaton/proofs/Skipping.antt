@@ -1,6 +1,7 @@
 -- What is known of a later part of a span is known of the whole span: what a search keeps that skips.
-use Rattle.std.proofs.Common.{◌≡◌, ℕ, ◌+◌, ◌≤◌, Bool, true, false, List, length, subst, arith}
+use Rattle.std.proofs.Common.{◌≡◌, ℕ, ◌+◌, ◌<◌, ◌≤◌, inl, inr, Bool, true, false, List, length, subst, arith}
 use Rattle.std.specs.Prelude.{Some, None, slice_range}
+use Rattle.std.proofs.lemmas.Bool.{cases_lt}
 use Rattle.aho_core.specs.declared.search.Anchored.{Anchored}
 use Rattle.aho_core.specs.declared.search.Anchored.TheVariants.{No}
 use Rattle.aho_core.specs.declared.search.MatchKind.{MatchKind}
@@ -11,8 +12,8 @@ use Rattle.aho_core.specs.Patterns.{Patterns}
 use Rattle.aho_prefilter.specs.Candidate.{IsCandidate, IsWholeMatch, NoneStartsBefore, NothingOccurs, place_of}
 use Rattle.aho_prefilter.specs.declared.prefilter.Candidate.{Candidate}
 use Rattle.aho_prefilter.proofs.Skips.{IsCandidate-place, IsCandidate-nothing, NoneStartsBefore-nothing, IsWholeMatch-sooner}
-use Rattle.aho_automaton.specs.WalkEnds.{Carries}
-use Rattle.aho_automaton.proofs.Origins.{skipped}
+use Rattle.aho_automaton.specs.WalkEnds.{Carries, NoneLonger}
+use Rattle.aho_automaton.proofs.Origins.{nothing_stands, skipped}
 use Rattle.aho_automaton.proofs.Walks.{Standing}
 
 -- nothing was found from the origin on, and the state is a start: the part from here on carries
@@ -54,6 +55,29 @@ pub waits_there : (p : Patterns) (kind : MatchKind) (lengths : List ℕ) (held :
 waits_there p kind lengths held list dead starts laws anchored unanchored haystack start at end sid lt in_span within stands is_start =
     Carries-skipped p haystack start end start at sid kind lengths held list dead starts laws (omega arith) lt in_span within (λ m o. o.after_start)
     (subst (λ (a : Anchored). Standing p held a haystack start at sid None) unanchored stands) is_start
+
+-- where all that starts at the last candidate or before has ended with nothing found, the search goes on behind it
+pub jumps_there : (p : Patterns) (held : Anchored → List ℕ → ℕ → Type 0) (anchored : Anchored) → anchored ≡ No
+    → (haystack : List ℕ) (start at end sid reach last next : ℕ) → start ≤ at → at ≤ end → end ≤ length haystack
+    → Standing p held anchored haystack start at sid None
+    → NoneLonger p haystack start end reach → last + reach ≤ at → NoneStartsBefore p haystack (last + 1) end next
+    → Carries p haystack start end next
+jumps_there p held anchored unanchored haystack start at end sid reach last next lt in_span within stands longest ended behind place candidate n o =
+    elim (cases_lt last n.start) [
+      | inl later ↦
+          let far : next ≤ n.start = behind n (record { numbered = o.numbered; after_start = omega arith; before_end = o.before_end; sized = o.sized; same = o.same; admitted = λ x. cc }) in
+          candidate n (record { numbered = o.numbered; after_start = far; before_end = o.before_end; sized = o.sized; same = o.same; admitted = λ x. cc })
+      | inr sooner ↦
+          let high : n.end ≤ n.start + reach = longest n o in
+          absurd
+          (nothing_stands p haystack start at sid held lt (omega arith) (subst (λ (a : Anchored). Standing p held a haystack start at sid None) unanchored stands) n
+          (record { numbered = o.numbered; after_start = o.after_start; before_end = omega arith; sized = o.sized; same = o.same; admitted = λ x. cc }))
+    ]
+
+-- what is not longer in a span is not longer in its later part
+pub NoneLonger-later : (p : Patterns) (haystack : List ℕ) (start origin end reach : ℕ) → start ≤ origin → NoneLonger p haystack start end reach → NoneLonger p haystack origin end reach
+NoneLonger-later p haystack start origin end reach le longest n o =
+    longest n (record { numbered = o.numbered; after_start = omega (arith, o.after_start); before_end = o.before_end; sized = o.sized; same = o.same; admitted = λ x. cc })
 
 -- from an origin on, and then from a later place
 pub carried_on : (p : Patterns) (haystack : List ℕ) (start origin end at : ℕ) → start ≤ origin → NoneStartsBefore p haystack start end origin → Carries p haystack origin end at → Carries p haystack start end at

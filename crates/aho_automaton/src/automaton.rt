@@ -39,7 +39,7 @@ mod with_prefilter;
 
 pub use crate::cover::CoverIter;
 use crate::cover::cover_bytes;
-pub use crate::find::find_in;
+pub use crate::find::{find_in, find_in_by};
 pub use crate::iter::FindIter;
 use crate::overlapping::find_overlapping;
 pub use crate::overlapping::{FindOverlappingIter, OverlappingState};
@@ -251,7 +251,7 @@ pub trait Automaton {
     /// The match that the input's search finds: the best by the automaton's match kind or, where the input asks for
     /// the earliest, the best of those that end first. None is found where nothing matches.
     ///
-    /// It is one call of `find_in`, so it reads each byte of the span at most once, and takes no memory.
+    /// It is one call of `find_in_by`, so it reads each byte of the span at most once, and takes no memory.
     ///
     /// # Errors
     ///
@@ -273,12 +273,14 @@ pub trait Automaton {
             start: input.start(),
             end: input.end(),
         };
-        find_in(
+        let reach = self.max_pattern_len();
+        find_in_by(
             &mut walk,
             &mut text,
             span,
             input.get_anchored(),
             input.get_earliest(),
+            reach,
         )
     }
 

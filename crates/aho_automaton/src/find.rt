@@ -28,7 +28,8 @@
 //! Unanchored, and where the automaton holds a prefilter, the search asks it for a candidate at its beginning. Nothing of
 //! the span starts before a candidate, so the walk begins there. Once it is led to a start with nothing found it waits:
 //! what ends later starts there or later, so a candidate of the rest is the next place to begin at. No other state says
-//! that, and none is skipped from. A candidate that is a whole match is the answer, unless the earliest is wanted: then the
+//! that, and none is skipped from but where nothing was found as far as the longest pattern from a candidate on: whatever starts
+//! there has ended, so the walk goes on at the next candidate, if that one lies further. A candidate that is a whole match is the answer, unless the earliest is wanted: then the
 //! walk begins where that match starts, since it need not end first.
 //!
 //! # What it costs
@@ -46,7 +47,7 @@ ghost use Rattle.aho_core.specs.declared.error.MatchErrorKind.{MatchErrorKind};
 ghost use Rattle.aho_core.specs.declared.search.Anchored.TheVariants.{No};
 ghost use Rattle.aho_prefilter.specs.Candidate.{IsCandidate};
 ghost use Rattle.aho_automaton.specs.Effects.{BeginsIn, Costs, CostsNothing, ReadsNoFurther, Untouched};
-ghost use Rattle.aho_automaton.specs.WalkEnds.{AnswersSearch, WaitsFor, WaitsOnlyIf, WaitsWithin};
+ghost use Rattle.aho_automaton.specs.WalkEnds.{AnswersSearch, NoneLonger, ResumesAt, WaitsFor, WaitsOnlyIf, WaitsWithin};
 ghost use Rattle.aho_automaton.specs.declared.find.WalkEnd.TheVariants.{Answer};
 
 use crate::patience::{PATIENCE, patience_after};
@@ -118,8 +119,8 @@ pub fn looks_at<W: Walk>(walk: &W, may_wait: bool, sid: StateID) -> bool
 enum WalkEnd {
     /// With the search's answer.
     Answer(Option<Match>),
-    /// At this place, where a start is held and nothing was found.
-    Waits(usize),
+    /// At the first of these places, with nothing found: no match starts before the second one.
+    Waits(usize, usize),
 }
 
 /// Whether a walk that may wait waits in a state.
@@ -131,10 +132,49 @@ fn waits_in<W: Walk>(walk: &W, may_wait: bool, best: &Option<Match>, sid: StateI
     may_wait && best.is_none() && walk.is_start(sid)
 }
 
+/// Where a walk goes on that has come to a place with nothing found and may wait: the first place behind `last` where a match may
+/// start, once all that starts there or before has ended. But it is a place that was walked over where it cannot skip any.
+#[inline(always)]
+fn resumes_at<W: Walk, T: Text>(
+    walk: &W,
+    text: &T,
+    may_wait: bool,
+    best: &Option<Match>,
+    reach: usize,
+    last: usize,
+    walked: Span,
+) -> usize
+    requires held { may_wait ≡ true → IsSome (W.Of.prefilter (W.of walk.now)) }
+    requires past { last < walked.start }
+    requires ordered { walked.start ≤ walked.end }
+    requires within { walked.end ≤ length (T.bytes text.now) }
+    ensures resumes { (p : Patterns) → W.Of.is_of (W.of walk.now) p →
+        ResumesAt p (T.bytes text.now) may_wait best.now reach last walked result }
+    ensures forward { (p : Patterns) → W.Of.is_of (W.of walk.now) p → last ≤ result }
+{
+    if !may_wait {
+        return last;
+    }
+    if best.is_some() {
+        return last;
+    }
+    if walked.start - last < reach {
+        return last;
+    }
+    let behind = Span {
+        start: last + 1,
+        end: walked.end,
+    };
+    match candidate_in(walk, text, behind).into_option() {
+        Some(place) => place.max(walked.start - 1),
+        None => walked.end,
+    }
+}
+
 /// The walk of a search from a state that is held after no byte, over the bytes of a span that is not done.
 ///
-/// Where it may wait, it ends in the first start that it is led to with nothing found. The clauses on its answer are those of
-/// `find_in`, which says what they mean.
+/// Where it may wait, it ends in the first start that it is led to with nothing found, or where `reach`, which no match is
+/// longer than, lets it go on at a later candidate. The clauses on its answer are those of `find_in`, which says what they mean.
 #[inline(always)]
 fn find_from<W: Walk, T: Text>(
     walk: &mut W,
@@ -143,6 +183,7 @@ fn find_from<W: Walk, T: Text>(
     anchored: Anchored,
     earliest: bool,
     may_wait: bool,
+    reach: usize,
     mut sid: StateID,
 ) -> WalkEnd
     requires within { span.end ≤ length (T.bytes text.old) }
@@ -152,6 +193,9 @@ fn find_from<W: Walk, T: Text>(
     requires of { (p : Patterns) × W.Of.is_of (W.of walk.old) p }
     requires begins { BeginsIn W.Of.Automaton (W.of walk.old) anchored sid }
     requires unanchored { may_wait ≡ true → anchored ≡ No }
+    requires held { may_wait ≡ true → IsSome (W.Of.prefilter (W.of walk.old)) }
+    requires reach { may_wait ≡ true → (p : Patterns) → W.Of.is_of (W.of walk.old) p →
+        NoneLonger p (T.bytes text.old) span.start span.end reach }
     ensures found { (p : Patterns) → W.Of.is_of (W.of walk.old) p →
         AnswersSearch p (search_of (T.bytes text.old) span anchored earliest) result }
     ensures may_wait { WaitsOnlyIf may_wait result }
@@ -169,6 +213,7 @@ fn find_from<W: Walk, T: Text>(
     if stops && best.is_some() {
         return WalkEnd::Answer(best);
     }
+    let mut last = start;
     for at in start..end {
         let byte = text.byte(at);
         sid = walk.step(anchored, sid, byte);
@@ -182,8 +227,13 @@ fn find_from<W: Walk, T: Text>(
                     return WalkEnd::Answer(best);
                 }
             } else if waits_in(walk, may_wait, &best, sid) {
-                return WalkEnd::Waits(at + 1);
+                return WalkEnd::Waits(at + 1, at + 1);
             }
+        }
+        let rest = Span { start: at + 1, end };
+        last = resumes_at(walk, text, may_wait, &best, reach, last, rest);
+        if last > at {
+            return WalkEnd::Waits(at + 1, last);
         }
     }
     WalkEnd::Answer(best)
@@ -214,9 +264,9 @@ fn find_to_end<W: Walk, T: Text>(
     ensures reads { ReadsNoFurther W.Of.Automaton (W.of walk.old) T.Text text.old text.new
         (search_of (T.bytes text.old) span anchored earliest) (λ m. result ≡ Some m) }
 {
-    match find_from(walk, text, span, anchored, earliest, false, sid) {
+    match find_from(walk, text, span, anchored, earliest, false, 0, sid) {
         WalkEnd::Answer(found) => found,
-        WalkEnd::Waits(_) => unreachable!(),
+        WalkEnd::Waits(_, _) => unreachable!(),
     }
 }
 
@@ -251,8 +301,11 @@ fn find_skipping<W: Walk, T: Text>(
     text: &mut T,
     span: Span,
     earliest: bool,
+    reach: usize,
     sid: StateID,
 ) -> Option<Match>
+    requires reach { (p : Patterns) → W.Of.is_of (W.of walk.old) p →
+        NoneLonger p (T.bytes text.old) span.start span.end reach }
     requires held { IsSome (W.Of.prefilter (W.of walk.old)) }
     requires within { span.end ≤ length (T.bytes text.old) }
     requires ordered { span.start ≤ span.end }
@@ -269,6 +322,7 @@ fn find_skipping<W: Walk, T: Text>(
 {
     let Span { start, end } = span;
     let mut at = start;
+    let mut walked = start;
     let mut patience = PATIENCE;
     'skips: loop {
         let candidate = candidate_in(walk, text, Span { start: at, end });
@@ -280,19 +334,84 @@ fn find_skipping<W: Walk, T: Text>(
         let Some(origin) = candidate.into_option() else {
             return None;
         };
-        patience = patience_after(patience, origin.wrapping_sub(at));
+        patience = patience_after(patience, origin.wrapping_sub(walked));
         let part = Span { start: origin, end };
         if patience == 0 {
             return find_to_end(walk, text, part, Anchored::No, earliest, sid);
         }
-        match find_from(walk, text, part, Anchored::No, earliest, true, sid) {
+        match find_from(walk, text, part, Anchored::No, earliest, true, reach, sid) {
             WalkEnd::Answer(found) => return found,
-            WalkEnd::Waits(place) => at = place,
+            WalkEnd::Waits(from, place) => {
+                walked = from;
+                at = place;
+            }
         }
     }
 }
 
 /// The match that the search of a span finds, by a walk that reads each byte at most once and takes no memory.
+///
+/// An unanchored search skips by the automaton's prefilter, where one is held. What the prefilter reads is not counted, and
+/// no answer depends on it.
+///
+/// No match of the span is longer than `reach`, so that the search may skip further once it has walked so far for nothing.
+///
+/// A span whose start is above its end is done: nothing is found, and nothing is read.
+///
+/// # Errors
+///
+/// It is refused exactly where `start_state` refuses `anchored` and the span is not done.
+pub fn find_in_by<W: Walk, T: Text>(
+    walk: &mut W,
+    text: &mut T,
+    span: Span,
+    anchored: Anchored,
+    earliest: bool,
+    reach: usize,
+) -> Result<Option<Match>, MatchError>
+    requires within { span.end ≤ length (T.bytes text.old) }
+    requires ordered { span.start ≤ span.end + 1 }
+    requires unread { T.next text.old ≤ span.start }
+    requires room { W.lookups walk.old + 2 * (span.end - span.start) < 2 ^ 128 }
+    requires of { (p : Patterns) × W.Of.is_of (W.of walk.old) p }
+    requires reach { (p : Patterns) → W.Of.is_of (W.of walk.old) p →
+        NoneLonger p (T.bytes text.old) span.start span.end reach }
+
+    // What it answers, and when it is refused.
+    ensures found { (p : Patterns) → W.Of.is_of (W.of walk.old) p →
+        IfOk result (IsAnswer p (search_of (T.bytes text.old) span anchored earliest)) }
+    ensures error { IfErr result (λ reason. W.Of.start (W.of walk.old) anchored ≡ Err reason) }
+    ensures ok { (sid : ℕ) → W.Of.start (W.of walk.old) anchored ≡ Ok sid → IsOk result }
+    ensures refused { (e : MatchErrorKind) → span.start ≤ span.end →
+        W.Of.start (W.of walk.old) anchored ≡ Err e → result ≡ Err e }
+    ensures done { span.end < span.start → result ≡ Ok None }
+
+    // What stays, and what it costs: at most two look-ups for each byte that it reads.
+    ensures untouched { Untouched W.Walk T.Text walk.old walk.new text.old text.new }
+    ensures costs { Costs W.Walk T.Text walk.old walk.new text.old text.new span.start }
+    ensures cost_of_span { W.lookups walk.new ≤ W.lookups walk.old + 2 * (span.end - span.start) }
+
+    // How far it reads: no byte comes again, and none is read far past what it finds.
+    ensures reads { ReadsNoFurther W.Of.Automaton (W.of walk.old) T.Text text.old text.new
+        (search_of (T.bytes text.old) span anchored earliest) (λ m. result ≡ Ok (Some m)) }
+
+    // A search that is refused or done reads nothing and looks nothing up.
+    ensures refused_free { IfErr result (λ _.
+        CostsNothing W.Walk T.Text walk.old walk.new text.old text.new) }
+    ensures done_free { span.end < span.start →
+        CostsNothing W.Walk T.Text walk.old walk.new text.old text.new }
+{
+    if span.start > span.end {
+        return Ok(None);
+    }
+    let sid = walk.start_state(anchored)?;
+    if skips(walk, anchored) {
+        return Ok(find_skipping(walk, text, span, earliest, reach, sid));
+    }
+    Ok(find_to_end(walk, text, span, anchored, earliest, sid))
+}
+
+/// The match that the search of a span finds: `find_in_by` where it is not known how long matches are.
 ///
 /// An unanchored search skips by the automaton's prefilter, where one is held. What the prefilter reads is not counted, and
 /// no answer depends on it.
@@ -339,12 +458,5 @@ pub fn find_in<W: Walk, T: Text>(
     ensures done_free { span.end < span.start →
         CostsNothing W.Walk T.Text walk.old walk.new text.old text.new }
 {
-    if span.start > span.end {
-        return Ok(None);
-    }
-    let sid = walk.start_state(anchored)?;
-    if skips(walk, anchored) {
-        return Ok(find_skipping(walk, text, span, earliest, sid));
-    }
-    Ok(find_to_end(walk, text, span, anchored, earliest, sid))
+    find_in_by(walk, text, span, anchored, earliest, usize::MAX)
 }

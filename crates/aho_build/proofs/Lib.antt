@@ -42,6 +42,7 @@ pub mod SizeChecks
 -- What a built table tells: its states step as the words do, and it has the laws of an automaton.
 pub mod AutomatonStates
 pub mod SoundAutomata
+pub mod ListLinks
 pub mod AutomatonLaws
 -- What is held is a prefilter of the patterns.
 pub mod HeldPrefilters

@@ -12,6 +12,7 @@ pub mod Starts
 pub mod FailureLinks
 pub mod Built
 pub mod Walking
+pub mod ListLinks
 -- the numbers that states keep
 pub mod Shuffled
 pub mod Automaton

@@ -26,5 +26,7 @@ pub use aho_devices::device::{Sink, Source};
 pub use aho_stream::chunks::{StreamChunk, StreamChunkIter};
 pub use aho_stream::finds::{StreamFindIter, try_stream_find_iter};
 pub use aho_stream::progress::StreamPiece;
-pub use aho_stream::replace::{try_stream_replace_all, try_stream_replace_all_with};
+pub use aho_stream::replace::{
+    try_stream_replace_all, try_stream_replace_all_with, try_stream_replace_all_with_mut,
+};
 pub use aho_table::{alphabet, links, remapper};

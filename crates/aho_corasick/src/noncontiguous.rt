@@ -4,6 +4,7 @@
 ghost use Rattle.std.specs.Prelude.{◌≡◌, ◌+◌, ◌<◌, ◌≤◌, ◌^◌, ℕ, length, IfOk, is_some};
 ghost use Rattle.aho_core.specs.Laws.{shortest, longest};
 ghost use Rattle.aho_core.specs.Numbers.{greatest_index};
+ghost use Rattle.aho_build.specs.ListLinks.{ListByLinks};
 ghost use Rattle.aho_build.specs.Shuffled.{AreNumbered};
 ghost use Rattle.aho_build.specs.Walking.{IsSound, AreStarts};
 ghost use Rattle.aho_prefilter.specs.Prefilter.{prefilter_bytes};
@@ -53,6 +54,7 @@ pub struct NFA {
     prefilter: Option<Prefilter>,
     ghost sound: { IsSound table.states },
     ghost starts: { AreStarts special table.states },
+    ghost listed: { ListByLinks table.states },
     ghost numbered: { AreNumbered (is_some prefilter) special table.states },
     ghost shortest: { min_pattern_len ≡ shortest pattern_lens.items },
     ghost longest: { max_pattern_len ≡ longest pattern_lens.items },

@@ -1,5 +1,5 @@
 -- A cover of a stream before the first byte.
-use Rattle.std.proofs.Common.{◌≡◌, ℕ, ◌+◌, ◌/◌, ◌≤◌, max, List, [], length, map, sym, ◌∙◌, ap, subst, arith}
+use Rattle.std.proofs.Common.{◌≡◌, ℕ, ◌+◌, ◌/◌, ◌≤◌, max, List, [], length, map, refl, sym, ◌∙◌, ap, subst, arith}
 use Rattle.std.specs.Prelude.{slice_range}
 use Rattle.aho_core.specs.Laws.{longest}
 use Rattle.aho_core.specs.Listing.{IsMember}
@@ -11,8 +11,11 @@ use Rattle.aho_devices.specs.Buffer.{Buffered}
 use Rattle.aho_automaton.specs.declared.automaton.Automaton.{Ghosts as Automata}
 use Rattle.aho_automaton.proofs.Places.{no_part}
 use Rattle.aho_cover.specs.declared.hand.Hand.{Hand}
+use Rattle.aho_cover.specs.declared.progress.CoverProgress.{CoverProgress}
+use Rattle.aho_cover.specs.Counting.{no_output}
 use Rattle.aho_cover.specs.Hand.{HasItsFirst, held_runs, room_in}
-use Rattle.aho_cover.specs.Progress.{HasCovered, IsSoundCover, unbegun_cover}
+use Rattle.aho_cover.specs.Covers.{IsUnbegunCover}
+use Rattle.aho_cover.specs.Progress.{HasCovered, IsSoundCover, KeepsRoom, unbegun_cover}
 
 none-there : (runs : List Occurrence) (P : Occurrence → Type 0) → runs ≡ [] → (x : Occurrence) → IsMember runs x → P x
 none-there runs P none x there = absurd (subst (λ (xs : List Occurrence). IsMember xs x) none there)
@@ -40,16 +43,39 @@ pub begun-held : {A : Type 0} (G : Automata A) (a : A) (p : Patterns) (haystack 
 begun-held G a p haystack sid held = subst (λ (w : List ℕ). G.held a p No w sid) (sym (no_part haystack 0)) held
 
 pub begun-covered : (p : Patterns) (pieces : List (List ℕ)) (haystack : List ℕ) (buffer : Buffered) (hand : Hand) (sid : ℕ) → buffer.bytes ≡ [] → held_runs hand ≡ [] → buffer.least ≡ max 1 (longest (map length p.words))
-    → HasCovered pieces (unbegun_cover buffer hand sid) 0 p haystack []
+    → HasCovered pieces (unbegun_cover buffer hand sid) 0 p haystack no_output
 begun-covered p pieces haystack buffer hand sid empty none least = record {
   given = record { within = omega arith; last = ([], no_part haystack 0 ∙ sym empty) };
   walked_within = omega arith;
   far = least;
   since_clear = λ m occurs later. omega arith;
-  front = [];
   runs = sym none;
   settled = λ x there. absurd there;
   before = λ x there. absurd there;
   clear = λ m occurs later. omega arith;
   written_is = sym (no_part haystack 0);
 }
+
+-- and before the first byte of the next stream, with the memory of the one before
+pub unbegun-again : {A : Type 0} (G : Automata A) (a : A) (s s' next : CoverProgress) → IsUnbegunCover G a s → KeepsRoom s s' → next.buffer ≡ record s'.buffer { bytes = [] } → held_runs next.hand ≡ [] → HasItsFirst next.hand → room_in next.hand ≡ room_in s'.hand
+    → next ≡ unbegun_cover next.buffer next.hand s.sid → IsUnbegunCover G a next
+unbegun-again G a s s' next unbegun keeps buffer none whole room made =
+    let empty : next.buffer.bytes ≡ [] = ap (λ (b : Buffered). b.bytes) buffer in
+    let least : next.buffer.least ≡ s.buffer.least = ap (λ (b : Buffered). b.least) buffer ∙ keeps.least in
+    subst (IsUnbegunCover G a) (sym made)
+    (record {
+      standard = unbegun.standard;
+      no_empty = unbegun.no_empty;
+      is_state = unbegun.is_state;
+      shallow = unbegun.shallow;
+      unread = refl;
+      sound = begun-sound next.buffer next.hand s.sid (omega (arith, least, unbegun.sound.some)) empty none whole
+          (room ∙ keeps.room ∙ unbegun.sound.room ∙ ap (λ (n : ℕ). n / 2 + 1) (sym least));
+      covers = λ p pieces haystack of.
+          let before = unbegun.covers p pieces haystack of in
+          record {
+            of = of;
+            is_held = before.is_held;
+            covered = begun-covered p pieces haystack next.buffer next.hand s.sid empty none (least ∙ before.covered.far);
+          };
+    })

@@ -1,7 +1,7 @@
 -- How far the cover of a stream has come, from one run that is written to the next, and from one byte to the next.
 use Rattle.aho_laws.proofs.TextRuns.{upto-covers}
 use Rattle.aho_cover.specs.Covers.{covered_up_to}
-use Rattle.std.proofs.Common.{◌≡◌, inl, inr, ℕ, zero, suc, ◌+◌, ◌-◌, ◌<◌, ◌≤◌, max, List, [], ◌∷◌, ◌++◌, length, refl, sym, ◌∙◌, ap, subst, arith, append_assoc, append-nil}
+use Rattle.std.proofs.Common.{◌≡◌, inl, inr, ℕ, zero, suc, ◌+◌, ◌-◌, ◌<◌, ◌≤◌, max, List, [], ◌∷◌, ◌++◌, length, take, refl, sym, ◌∙◌, ap, subst, arith, append_assoc, append-nil}
 use Rattle.std.specs.Prelude.{nat_lt, slice_range}
 use Rattle.std.specs.Io.{StartsWith}
 use Rattle.std.proofs.lemmas.Bool.{cases_lt, cond-true, cond-false, lt-ltb, le-ltb}
@@ -22,10 +22,11 @@ use Rattle.aho_automaton.specs.Covering.{cover_in, runs_in}
 use Rattle.aho_stream.specs.Replacing.{piece_for}
 use Rattle.aho_cover.specs.declared.hand.Hand.{Hand}
 use Rattle.aho_cover.specs.declared.progress.CoverProgress.{CoverProgress}
+use Rattle.aho_cover.specs.Counting.{Output, put_on}
 use Rattle.aho_cover.specs.Hand.{held_runs}
 use Rattle.aho_cover.specs.Progress.{HasCovered, IsAll, IsBeginning, copied_to, open_place}
 use Rattle.aho_cover.specs.Walks.{NoneReaches}
-use Rattle.aho_cover.proofs.Copied.{begins_with, copied-more, copied-rest, copied-run, nothing_between, covered-copied}
+use Rattle.aho_cover.proofs.Copied.{begins_shorter, begins_with, copied-more, copied-rest, copied-run, nothing_between, covered-copied}
 
 -- each begins at a place or behind it
 abbrev pub BeginBehind : List Occurrence → ℕ → Type 0
@@ -83,106 +84,117 @@ module _ (p : Patterns) (haystack : List ℕ) where
       ∙ still-runs n at (λ k low high. none k low (omega arith))
 
   module _ (pieces : List (List ℕ)) where
-    abbrev Has : CoverProgress → ℕ → List ℕ → Type 0
+    abbrev Has : CoverProgress → ℕ → Output → Type 0
     Has s at written = HasCovered pieces s at p haystack written
 
     -- the runs of the whole are those that were written, and others behind them
-    pub has-runs : (s : CoverProgress) (at : ℕ) (written : List ℕ) (has : Has s at written) → BeginBehind (held_runs s.hand) s.copied
-        → (later : List Occurrence) × (runs_in p haystack ≡ has.front ++ later) × BeginBehind later s.copied
+    pub has-runs : (s : CoverProgress) (at : ℕ) (written : Output) (has : Has s at written) → BeginBehind (held_runs s.hand) s.copied
+        → (later : List Occurrence) × (runs_in p haystack ≡ written.runs ++ later) × BeginBehind later s.copied
     has-runs s at written has behind =
         let within : at ≤ length haystack = omega (arith, has.walked_within, has.given.within) in
         let place : at + (length haystack - at) ≡ length haystack = omega arith in
-        let all = stays (length haystack - at) has.front (held_runs s.hand) at s.copied has.runs has.settled has.clear behind (omega arith) in
+        let all = stays (length haystack - at) written.runs (held_runs s.hand) at s.copied has.runs has.settled has.clear behind (omega arith) in
         (all.0, ap (runs_upto p haystack) (sym place) ∙ all.1, all.2)
 
     -- so what was written is the cover up to there
-    pub has-upto : (s : CoverProgress) (at : ℕ) (written : List ℕ) → Has s at written → BeginBehind (held_runs s.hand) s.copied → covered_up_to haystack s.copied 0 (runs_in p haystack) (piece_for pieces) ≡ written
+    pub has-upto : (s : CoverProgress) (at : ℕ) (written : Output) → Has s at written → BeginBehind (held_runs s.hand) s.copied → covered_up_to haystack s.copied 0 (runs_in p haystack) (piece_for pieces) ≡ written.bytes
     has-upto s at written has behind =
         let all = has-runs s at written has behind in
-        let ordered = in_order-last has.front all.0 (length haystack) (subst (λ (runs : List Occurrence). AreInOrder runs (length haystack)) all.1 (upto-covers p haystack (length haystack) (omega arith)).ordered) in
+        let ordered = in_order-last written.runs all.0 (length haystack) (subst (λ (runs : List Occurrence). AreInOrder runs (length haystack)) all.1 (upto-covers p haystack (length haystack) (omega arith)).ordered) in
         ap (λ (runs : List Occurrence). covered_up_to haystack s.copied 0 runs (piece_for pieces)) all.1
-        ∙ covered-copied haystack (piece_for pieces) 0 has.front all.0 s.copied has.before (λ x there. (all.2 x there, ordered.full x there))
+        ∙ covered-copied haystack (piece_for pieces) 0 written.runs all.0 s.copied has.before (λ x there. (all.2 x there, ordered.full x there))
         ∙ sym has.written_is
 
     -- what was written begins the cover
-    pub has-begun : (s : CoverProgress) (at : ℕ) (written : List ℕ) → Has s at written → BeginBehind (held_runs s.hand) s.copied → IsBeginning pieces p haystack written
+    pub has-begun : (s : CoverProgress) (at : ℕ) (written : Output) → Has s at written → BeginBehind (held_runs s.hand) s.copied → IsBeginning pieces p haystack written
     has-begun s at written has behind =
         let all = has-runs s at written has behind in
-        let cover : cover_in p haystack pieces ≡ written ++ replaced_from haystack s.copied all.0 (piece_for pieces) =
+        let cover : cover_in p haystack pieces ≡ written.bytes ++ replaced_from haystack s.copied all.0 (piece_for pieces) =
         ap (λ (runs : List Occurrence). replaced_from haystack 0 runs (piece_for pieces)) all.1
-        ∙ copied-rest haystack (piece_for pieces) 0 has.front all.0 s.copied (omega arith) has.before all.2
+        ∙ copied-rest haystack (piece_for pieces) 0 written.runs all.0 s.copied (omega arith) has.before all.2
         ∙ ap (λ (xs : List ℕ). xs ++ replaced_from haystack s.copied all.0 (piece_for pieces)) (sym has.written_is) in
-        subst (λ (xs : List ℕ). StartsWith xs written) (sym cover) (begins_with written (replaced_from haystack s.copied all.0 (piece_for pieces)))
+        (subst (λ (xs : List ℕ). StartsWith xs written.bytes) (sym cover) (begins_with written.bytes (replaced_from haystack s.copied all.0 (piece_for pieces))), (all.0, all.1))
+
+    -- a part of what begins it, without its runs
+    pub begins_before : (written : Output) (bytes : List ℕ) (runs : List Occurrence) (n : ℕ) → n ≤ length bytes → IsBeginning pieces p haystack (put_on written bytes runs) → IsBeginning pieces p haystack (put_on written (take n bytes) [])
+    begins_before written bytes runs n within begins = (
+      begins_shorter (cover_in p haystack pieces) written.bytes bytes n within begins.0,
+      (runs ++ begins.1.0, begins.1.1 ∙ append_assoc written.runs runs begins.1.0 ∙ ap (λ (xs : List Occurrence). xs ++ (runs ++ begins.1.0)) (sym (append-nil written.runs))),
+    )
 
     -- at the end, with none in hand and all copied, it is the cover
-    pub has-all : (s : CoverProgress) (written : List ℕ) → Has s s.read written → length haystack ≡ s.read → held_runs s.hand ≡ [] → s.copied ≡ s.read → IsAll pieces p haystack written
+    pub has-all : (s : CoverProgress) (written : Output) → Has s s.read written → length haystack ≡ s.read → held_runs s.hand ≡ [] → s.copied ≡ s.read → IsAll pieces p haystack written
     has-all s written has ended none all =
-        let whole : runs_in p haystack ≡ has.front ++ [] = ap (runs_upto p haystack) ended ∙ has.runs ∙ ap (λ (runs : List Occurrence). has.front ++ runs) none in
-        let nothing : replaced_from haystack s.copied [] (piece_for pieces) ≡ [] = drop_all s.copied haystack (omega (arith, ended, all)) in
-        sym (ap (λ (runs : List Occurrence). replaced_from haystack 0 runs (piece_for pieces)) whole
-        ∙ copied-rest haystack (piece_for pieces) 0 has.front [] s.copied (omega arith) has.before (λ x there. absurd there)
-        ∙ ap (λ (xs : List ℕ). copied_to haystack 0 has.front (piece_for pieces) s.copied ++ xs) nothing
-        ∙ append-nil (copied_to haystack 0 has.front (piece_for pieces) s.copied)
-        ∙ sym has.written_is)
+        let whole : runs_in p haystack ≡ written.runs ++ [] = ap (runs_upto p haystack) ended ∙ has.runs ∙ ap (λ (runs : List Occurrence). written.runs ++ runs) none in
+        let nothing : replaced_from haystack s.copied [] (piece_for pieces) ≡ [] = drop_all s.copied haystack (omega (arith, ended, all)) in (
+          sym (ap (λ (runs : List Occurrence). replaced_from haystack 0 runs (piece_for pieces)) whole
+              ∙ copied-rest haystack (piece_for pieces) 0 written.runs [] s.copied (omega arith) has.before (λ x there. absurd there)
+              ∙ ap (λ (xs : List ℕ). copied_to haystack 0 written.runs (piece_for pieces) s.copied ++ xs) nothing
+              ∙ append-nil (copied_to haystack 0 written.runs (piece_for pieces) s.copied)
+              ∙ sym has.written_is),
+          sym (whole ∙ append-nil written.runs),
+        )
 
     -- the first run in hand is written, and the bytes in front of it
-    pub has-settled : (s : CoverProgress) (at place : ℕ) (written : List ℕ) (x : Occurrence) (hand : Hand) (copied : ℕ) → Has s at written → held_runs s.hand ≡ x ∷ held_runs hand → copied ≡ x.end → x.end < place
+    pub has-settled : (s : CoverProgress) (at place : ℕ) (written : Output) (x : Occurrence) (hand : Hand) (copied : ℕ) → Has s at written → held_runs s.hand ≡ x ∷ held_runs hand → copied ≡ x.end → x.end < place
         → NoneReaches p haystack at place → s.copied ≤ x.start → x.start ≤ x.end
-        → Has (record s { copied = copied; hand = hand }) at (written ++ (slice_range haystack s.copied x.start ++ piece_for pieces x))
+        → Has (record s { copied = copied; hand = hand }) at (put_on written (slice_range haystack s.copied x.start ++ piece_for pieces x) (x ∷ []))
     has-settled s at place written x hand copied has first ends before clear behind ordered = record {
       given = record { within = has.given.within; last = has.given.last };
       walked_within = has.walked_within;
       far = has.far;
       since_clear = has.since_clear;
-      front = has.front ++ x ∷ [];
-      runs = has.runs ∙ ap (λ (runs : List Occurrence). has.front ++ runs) first ∙ sym (append_assoc has.front (x ∷ []) (held_runs hand));
-      settled = λ y there. elim (member-of_append has.front (x ∷ []) y there) [
+      runs = has.runs ∙ ap (λ (runs : List Occurrence). written.runs ++ runs) first ∙ sym (append_assoc written.runs (x ∷ []) (held_runs hand));
+      settled = λ y there. elim (member-of_append written.runs (x ∷ []) y there) [
         | inl early ↦ has.settled y early
         | inr here ↦ λ m occurs later. elim here [ inl e ↦ omega (arith, ap (λ (o : Occurrence). o.end) e, clear m occurs later) | inr none ↦ absurd none ]
       ];
-      before = λ y there. elim (member-of_append has.front (x ∷ []) y there) [
+      before = λ y there. elim (member-of_append written.runs (x ∷ []) y there) [
         | inl early ↦ omega (arith, has.before y early)
         | inr here ↦ elim here [ inl e ↦ omega (arith, ap (λ (o : Occurrence). o.end) e) | inr none ↦ absurd none ]
       ];
       clear = λ m occurs later. omega (arith, clear m occurs later);
       written_is = ap (λ (xs : List ℕ). xs ++ (slice_range haystack s.copied x.start ++ piece_for pieces x)) has.written_is
-          ∙ sym (copied-run haystack (piece_for pieces) 0 has.front x s.copied (omega arith) has.before behind)
-          ∙ ap (copied_to haystack 0 (has.front ++ x ∷ []) (piece_for pieces)) (sym ends);
+          ∙ sym (copied-run haystack (piece_for pieces) 0 written.runs x s.copied (omega arith) has.before behind)
+          ∙ ap (copied_to haystack 0 (written.runs ++ x ∷ []) (piece_for pieces)) (sym ends);
     }
 
     -- bytes are written that no run holds
-    pub has-copied : (s : CoverProgress) (at : ℕ) (written : List ℕ) (end copied : ℕ) → Has s at written → copied ≡ max s.copied end → NoneReaches p haystack at end
-        → Has (record s { copied = copied }) at (written ++ slice_range haystack s.copied end)
-    has-copied s at written end copied has most clear = record {
-      given = record { within = has.given.within; last = has.given.last };
-      walked_within = has.walked_within;
-      far = has.far;
-      since_clear = has.since_clear;
-      front = has.front;
-      runs = has.runs;
-      settled = has.settled;
-      before = λ y there. omega (arith, has.before y there);
-      clear = λ m occurs later. omega (arith, clear m occurs later, has.clear m occurs later);
-      written_is = ap (λ (xs : List ℕ). xs ++ slice_range haystack s.copied end) has.written_is
-          ∙ elim (cases_lt s.copied end) [
-            | inl behind ↦
-                (let all : copied ≡ end = omega arith in
-                sym (copied-more haystack (piece_for pieces) 0 has.front s.copied end (omega arith) has.before (omega arith))
-                ∙ ap (copied_to haystack 0 has.front (piece_for pieces)) (sym all))
-            | inr past ↦
-                (let all : copied ≡ s.copied = omega arith in
-                ap (λ (xs : List ℕ). copied_to haystack 0 has.front (piece_for pieces) s.copied ++ xs) (nothing_between haystack s.copied end past)
-                ∙ append-nil (copied_to haystack 0 has.front (piece_for pieces) s.copied)
-                ∙ ap (copied_to haystack 0 has.front (piece_for pieces)) (sym all))
-          ];
-    }
+    pub has-copied : (s : CoverProgress) (at : ℕ) (written : Output) (end copied : ℕ) → Has s at written → copied ≡ max s.copied end → NoneReaches p haystack at end
+        → Has (record s { copied = copied }) at (put_on written (slice_range haystack s.copied end) [])
+    has-copied s at written end copied has most clear =
+        let none : written.runs ++ [] ≡ written.runs = append-nil written.runs in
+        let bytes = written.bytes ++ slice_range haystack s.copied end in
+        subst (λ (runs : List Occurrence). Has (record s { copied = copied }) at (record { bytes = bytes; runs = runs })) (sym none)
+        (record {
+          given = record { within = has.given.within; last = has.given.last };
+          walked_within = has.walked_within;
+          far = has.far;
+          since_clear = has.since_clear;
+          runs = has.runs;
+          settled = has.settled;
+          before = λ y there. omega (arith, has.before y there);
+          clear = λ m occurs later. omega (arith, clear m occurs later, has.clear m occurs later);
+          written_is = ap (λ (xs : List ℕ). xs ++ slice_range haystack s.copied end) has.written_is
+              ∙ elim (cases_lt s.copied end) [
+                | inl behind ↦
+                    (let all : copied ≡ end = omega arith in
+                    sym (copied-more haystack (piece_for pieces) 0 written.runs s.copied end (omega arith) has.before (omega arith))
+                    ∙ ap (copied_to haystack 0 written.runs (piece_for pieces)) (sym all))
+                | inr past ↦
+                    (let all : copied ≡ s.copied = omega arith in
+                    ap (λ (xs : List ℕ). copied_to haystack 0 written.runs (piece_for pieces) s.copied ++ xs) (nothing_between haystack s.copied end past)
+                    ∙ append-nil (copied_to haystack 0 written.runs (piece_for pieces) s.copied)
+                    ∙ ap (copied_to haystack 0 written.runs (piece_for pieces)) (sym all))
+              ];
+        })
 
     -- what ends later begins behind the open place
-    pub has-open : (s : CoverProgress) (at : ℕ) (written : List ℕ) → Has s at written → NoneReaches p haystack at (open_place s at)
+    pub has-open : (s : CoverProgress) (at : ℕ) (written : Output) → Has s at written → NoneReaches p haystack at (open_place s at)
     has-open s at written has m occurs later = omega (arith, has.since_clear m occurs later, occurrence-near p haystack m 0 (length haystack) occurs, has.far)
 
     -- a match is joined, once its last byte was walked
-    pub has-joined : (s : CoverProgress) (m : Occurrence) (hand : Hand) (written : List ℕ) → Has s (m.end - 1) written → (others : List Occurrence) → occurrences_ending p haystack 0 m.end ≡ m ∷ others
+    pub has-joined : (s : CoverProgress) (m : Occurrence) (hand : Hand) (written : Output) → Has s (m.end - 1) written → (others : List Occurrence) → occurrences_ending p haystack 0 m.end ≡ m ∷ others
         → m.start < m.end → m.end ≤ s.read → held_runs hand ≡ joined_runs (held_runs s.hand) m → Has (record s { hand = hand }) m.end written
     has-joined s m hand written has others ends some within joined =
         let next : m.end ≡ suc (m.end - 1) = omega arith in
@@ -194,13 +206,12 @@ module _ (p : Patterns) (haystack : List ℕ) where
           walked_within = within;
           far = has.far;
           since_clear = λ n o later. has.since_clear n o (omega arith);
-          front = has.front;
           runs = ap (runs_upto p haystack) next
               ∙ ap (joined_first (runs_upto p haystack (m.end - 1))) (ap (occurrences_ending p haystack 0) (sym next) ∙ ends)
               ∙ cond-true (nat_lt m.start m.end) (joined_runs (runs_upto p haystack (m.end - 1)) m) (runs_upto p haystack (m.end - 1)) (lt-ltb m.start m.end some)
               ∙ ap (λ (runs : List Occurrence). joined_runs runs m) has.runs
-              ∙ joined-behind has.front (held_runs s.hand) m (λ x there. omega (arith, has.settled x there m occurs (omega arith)))
-              ∙ ap (λ (runs : List Occurrence). has.front ++ runs) (sym joined);
+              ∙ joined-behind written.runs (held_runs s.hand) m (λ x there. omega (arith, has.settled x there m occurs (omega arith)))
+              ∙ ap (λ (runs : List Occurrence). written.runs ++ runs) (sym joined);
           settled = λ x there n o later. has.settled x there n o (omega arith);
           before = has.before;
           clear = λ n o later. has.clear n o (omega arith);

@@ -12,7 +12,7 @@ use Rattle.std.proofs.KnownBytes.{Appends-kept, Appends-nil, Appends-trans, Cons
 use Rattle.std.proofs.lemmas.List.{take-append-le, take_all}
 use Rattle.aho_core.specs.declared.error.stream.StreamError.{StreamError}
 use Rattle.aho_core.specs.declared.error.stream.StreamError.TheVariants.{Match as Refused, Read, Write, WriteZero, Memory, PositionLimit}
-use Rattle.aho_core.specs.Cover.{IsCover, IsCovered}
+use Rattle.aho_core.specs.Cover.{AreRuns, IsCover, IsCovered}
 use Rattle.aho_core.specs.Occurrence.{Occurrence}
 use Rattle.aho_core.specs.Patterns.{Patterns}
 use Rattle.aho_core.specs.Replacement.{replaced}
@@ -27,11 +27,13 @@ use Rattle.aho_stream.specs.After.{EndsWith, greatest_position}
 use Rattle.aho_stream.specs.Refills.{is_limit}
 use Rattle.aho_stream.specs.Replacing.{GaveAsMany, IsMakingRefusal, SourceGave, piece_for}
 use Rattle.aho_cover.specs.declared.progress.CoverProgress.{CoverProgress}
-use Rattle.aho_cover.specs.Covers.{BeginsCovering, CoversStream, LeavesCovered, CoversStreamUpTo, covered_up_to}
+use Rattle.aho_cover.specs.Counting.{CountsThese, Output, no_output, put_on}
+use Rattle.aho_cover.specs.Covers.{BeginsCovering, CountsFirstRuns, CountsRuns, CoversStream, LeavesCounted, LeavesCovered, CoversStreamUpTo, covered_up_to}
 use Rattle.aho_cover.specs.Progress.{EndsHere, HasCovered, IsAll, IsBeginning, IsGiven, IsSoundCover}
 use Rattle.aho_cover.specs.Refilling.{TakesIn}
 use Rattle.aho_cover.specs.Steps.{CoversOn, MayRoll}
 use Rattle.aho_cover.specs.Writes.{WritesOn}
+use Rattle.aho_cover.proofs.Counted.{counts_none, counts_then}
 use Rattle.aho_cover.proofs.Covered.{has-begun, has-upto}
 
 -- a list of no length
@@ -48,8 +50,13 @@ err_passed (Err e) error is = ap Err is
 cover_is : (p : Patterns) (haystack output : List ℕ) (pieces : List (List ℕ)) → IsCover p haystack pieces output → output ≡ cover_in p haystack pieces
 cover_is p haystack output pieces (runs, are, is) = is ∙ ap (λ (xs : List Occurrence). replaced haystack xs pieces) (runs-are p haystack runs are)
 
-is_cover : (p : Patterns) (haystack output : List ℕ) (pieces : List (List ℕ)) → IsAll pieces p haystack output → IsCover p haystack pieces output
-is_cover p haystack output pieces all = (runs_in p haystack, runs-made p haystack, all)
+is_cover : (p : Patterns) (haystack : List ℕ) (written : Output) (pieces : List (List ℕ)) → IsAll pieces p haystack written → IsCover p haystack pieces written.bytes
+is_cover p haystack written pieces all = (runs_in p haystack, runs-made p haystack, all.0)
+
+-- runs that begin those of a text
+first_of : (pieces : List (List ℕ)) (p : Patterns) (bytes haystack : List ℕ) (runs : List Occurrence) (written : Output) → bytes ≡ haystack → AreRuns p bytes runs → IsBeginning pieces p haystack written
+    → (later : List Occurrence) × (runs ≡ written.runs ++ later)
+first_of pieces p bytes haystack runs written same are begins = (begins.1.0, runs-are p bytes runs are ∙ ap (λ (h : List ℕ). runs_in p h) same ∙ begins.1.1)
 
 -- the first bytes of a text that goes on
 first_part : (given more : List ℕ) (n : ℕ) → n ≡ length given → slice_range (given ++ more) 0 n ≡ given
@@ -57,57 +64,75 @@ first_part given more n long =
     let count : n - 0 ≡ length given = omega (arith, long) in
     ap (λ (k : ℕ). take k (given ++ more)) count ∙ take-append-le (length given) given more (omega arith) ∙ take_all (length given) given (omega arith)
 
-module _ {A R W : Type 0} (G : Automata A) (S : SourceGhosts R) (K : SinkGhosts W) (a : A) (pieces : List (List ℕ)) (first : R) (begun : W) where
-  -- so much was given and written
-  pub record Going (s : CoverProgress) (source : R) (sink : W) : Type 0 where
+module _ {A R W : Type 0} (G : Automata A) (S : SourceGhosts R) (K : SinkGhosts W) (a : A) (pieces : List (List ℕ)) (first : R) (begun : W) (zeros : List ℕ) where
+  -- so much was given, written and counted
+  pub record Going (s : CoverProgress) (source : R) (sink : W) (counts : List ℕ) : Type 0 where
     pub given : List ℕ
-    pub written : List ℕ
+    pub written : Output
     pub gives : SourceGave S first source given false
-    pub writes : Appends (K.taken begun) (K.taken sink) written
+    pub writes : Appends (K.taken begun) (K.taken sink) written.bytes
+    pub counted : CountsThese written.runs zeros counts
     pub count : s.read ≡ length given
     pub covers : (p : Patterns) (more : List ℕ) → G.is_of a p → CoversOn G a pieces s s.read p (given ++ more) written
 
   abbrev Begins : R → W → Type 0
   Begins source sink = BeginsCovering S K (G.is_of a) pieces first source begun sink
 
+  abbrev FirstRuns : R → List ℕ → Type 0
+  FirstRuns source counts = CountsFirstRuns S (G.is_of a) first source zeros counts
+
   -- nothing was given yet
-  pub going_first : (s : CoverProgress) → s.read ≡ 0 → ((p : Patterns) (haystack : List ℕ) → G.is_of a p → CoversOn G a pieces s 0 p haystack []) → Going s first begun
+  pub going_first : (s : CoverProgress) → s.read ≡ 0 → ((p : Patterns) (haystack : List ℕ) → G.is_of a p → CoversOn G a pieces s 0 p haystack no_output) → Going s first begun zeros
   going_first s unread covers = record {
     given = [];
-    written = [];
+    written = no_output;
     gives = record { bytes = Consumes-nil (S.remaining first); end = refl };
     writes = Appends-nil (K.taken begun);
+    counted = counts_none zeros;
     count = unread;
-    covers = λ p more of. subst (λ (n : ℕ). CoversOn G a pieces s n p more []) (sym unread) (covers p more of);
+    covers = λ p more of. subst (λ (n : ℕ). CoversOn G a pieces s n p more no_output) (sym unread) (covers p more of);
   }
 
   -- the sink has what it had
-  pub going_kept : (s : CoverProgress) (source : R) (sink sink' : W) → Going s source sink → Keeps (K.taken sink) (K.taken sink') → Going s source sink'
-  going_kept s source sink sink' going kept = record {
+  pub going_kept : (s : CoverProgress) (source : R) (sink sink' : W) (counts : List ℕ) → Going s source sink counts → Keeps (K.taken sink) (K.taken sink') → Going s source sink' counts
+  going_kept s source sink sink' counts going kept = record {
     given = going.given;
     written = going.written;
     gives = going.gives;
-    writes = Appends-kept (K.taken begun) (K.taken sink) (K.taken sink') going.written going.writes kept;
+    writes = Appends-kept (K.taken begun) (K.taken sink) (K.taken sink') going.written.bytes going.writes kept;
+    counted = going.counted;
     count = going.count;
     covers = going.covers;
   }
 
   -- what was written begins the cover
-  pub going_begins : (s : CoverProgress) (source : R) (sink : W) → Going s source sink → IsSoundCover s s.read → Begins source sink
-  going_begins s source sink going sound = record {
+  pub going_begins : (s : CoverProgress) (source : R) (sink : W) (counts : List ℕ) → Going s source sink counts → IsSoundCover s s.read → Begins source sink
+  going_begins s source sink counts going sound = record {
     given = going.given;
     ended = false;
     gives = going.gives;
-    written = going.written;
+    written = going.written.bytes;
     writes = going.writes;
     beginning = λ p bytes output of may cover.
         let whole : bytes ≡ going.given ++ may.0 = may.1 in
-        let starts = has-begun p (going.given ++ may.0) pieces s s.read going.written (going.covers p may.0 of).covered sound.behind in
-        subst (λ (xs : List ℕ). StartsWith xs going.written) (sym (cover_is p bytes output pieces cover ∙ ap (λ (h : List ℕ). cover_in p h pieces) whole)) starts;
+        let starts = (has-begun p (going.given ++ may.0) pieces s s.read going.written (going.covers p may.0 of).covered sound.behind).0 in
+        subst (λ (xs : List ℕ). StartsWith xs going.written.bytes) (sym (cover_is p bytes output pieces cover ∙ ap (λ (h : List ℕ). cover_in p h pieces) whole)) starts;
+  }
+
+  -- and its runs are the first
+  pub going_counts : (s : CoverProgress) (source : R) (sink : W) (counts : List ℕ) → Going s source sink counts → IsSoundCover s s.read → FirstRuns source counts
+  going_counts s source sink counts going sound = record {
+    given = going.given;
+    ended = false;
+    gives = going.gives;
+    first = going.written.runs;
+    counted = going.counted;
+    beginning = λ p bytes runs of may are.
+        first_of pieces p bytes (going.given ++ may.0) runs going.written may.1 are (has-begun p (going.given ++ may.0) pieces s s.read going.written (going.covers p may.0 of).covered sound.behind);
   }
 
   -- one read more, of a progress that takes in what it gives
-  module _ (s s' : CoverProgress) (source source' : R) (sink : W) (going : Going s source sink) (takes : TakesIn s s' (S.remaining source) (S.remaining source')) where
+  module _ (s s' : CoverProgress) (source source' : R) (sink : W) (old : List ℕ) (going : Going s source sink old) (takes : TakesIn s s' (S.remaining source) (S.remaining source')) where
     abbrev given_now : List ℕ
     given_now = going.given ++ takes.bytes
 
@@ -141,7 +166,6 @@ module _ {A R W : Type 0} (G : Automata A) (S : SourceGhosts R) (K : SinkGhosts 
             walked_within = omega (arith, takes.count);
             far = omega (arith, has.far, takes.least);
             since_clear = has.since_clear;
-            front = has.front;
             runs = has.runs;
             settled = has.settled;
             before = has.before;
@@ -151,42 +175,66 @@ module _ {A R W : Type 0} (G : Automata A) (S : SourceGhosts R) (K : SinkGhosts 
         })
 
     -- a call that reads fails: what was written before begins the cover
-    pub begins_more : (sink' : W) → Appends (K.taken begun) (K.taken sink') going.written → IsSoundCover s s.read → S.empty_reads source' ≡ counted false (S.empty_reads source) → Begins source' sink'
+    pub begins_more : (sink' : W) → Appends (K.taken begun) (K.taken sink') going.written.bytes → IsSoundCover s s.read → S.empty_reads source' ≡ counted false (S.empty_reads source) → Begins source' sink'
     begins_more sink' writes sound counts = record {
       given = given_now;
       ended = false;
       gives = gives_more false counts;
-      written = going.written;
+      written = going.written.bytes;
       writes = writes;
       beginning = λ p bytes output of may cover.
           let whole : bytes ≡ going.given ++ (takes.bytes ++ may.0) = may.1 ∙ append_assoc going.given takes.bytes may.0 in
-          let starts = has-begun p (going.given ++ (takes.bytes ++ may.0)) pieces s s.read going.written (going.covers p (takes.bytes ++ may.0) of).covered sound.behind in
-          subst (λ (xs : List ℕ). StartsWith xs going.written) (sym (cover_is p bytes output pieces cover ∙ ap (λ (h : List ℕ). cover_in p h pieces) whole)) starts;
+          let starts = (has-begun p (going.given ++ (takes.bytes ++ may.0)) pieces s s.read going.written (going.covers p (takes.bytes ++ may.0) of).covered sound.behind).0 in
+          subst (λ (xs : List ℕ). StartsWith xs going.written.bytes) (sym (cover_is p bytes output pieces cover ∙ ap (λ (h : List ℕ). cover_in p h pieces) whole)) starts;
     }
 
-    module _ (sink' : W) (s'' : CoverProgress) (writes : WritesOn K sink sink' (CoversOn G a pieces s' s.read) (CoversOn G a pieces s'' s''.read)) (read : s''.read ≡ s'.read) (counts : S.empty_reads source' ≡ counted false (S.empty_reads source)) where
+    pub counts_more : IsSoundCover s s.read → S.empty_reads source' ≡ counted false (S.empty_reads source) → FirstRuns source' old
+    counts_more sound counts = record {
+      given = given_now;
+      ended = false;
+      gives = gives_more false counts;
+      first = going.written.runs;
+      counted = going.counted;
+      beginning = λ p bytes runs of may are.
+          let whole : bytes ≡ going.given ++ (takes.bytes ++ may.0) = may.1 ∙ append_assoc going.given takes.bytes may.0 in
+          first_of pieces p bytes (going.given ++ (takes.bytes ++ may.0)) runs going.written whole are (has-begun p (going.given ++ (takes.bytes ++ may.0)) pieces s s.read going.written (going.covers p (takes.bytes ++ may.0) of).covered sound.behind);
+    }
+
+    module _ (sink' : W) (new : List ℕ) (s'' : CoverProgress) (writes : WritesOn K sink sink' old new (CoversOn G a pieces s' s.read) (CoversOn G a pieces s'' s''.read)) (read : s''.read ≡ s'.read) (counts : S.empty_reads source' ≡ counted false (S.empty_reads source)) where
       -- it was walked over
-      pub going_on : Going s'' source' sink'
+      pub going_on : Going s'' source' sink' new
       going_on = record {
         given = given_now;
-        written = going.written ++ writes.bytes;
+        written = put_on going.written writes.bytes writes.runs;
         gives = gives_more false counts;
-        writes = Appends-trans (K.taken begun) (K.taken sink) (K.taken sink') going.written writes.bytes going.writes writes.appends;
+        writes = Appends-trans (K.taken begun) (K.taken sink) (K.taken sink') going.written.bytes writes.bytes going.writes writes.appends;
+        counted = counts_then going.written.runs writes.runs zeros old new going.counted writes.counted;
         count = read ∙ count_more;
         covers = λ p more of. writes.follows p (given_now ++ more) going.written (covers_more p more of);
       }
 
     -- a write fails on the way
-    pub begins_on : (sink' : W) → WritesOn K sink sink' (CoversOn G a pieces s' s.read) (IsBeginning pieces) → S.empty_reads source' ≡ counted false (S.empty_reads source) → Begins source' sink'
-    begins_on sink' writes counts = record {
+    pub begins_on : (sink' : W) (new : List ℕ) → WritesOn K sink sink' old new (CoversOn G a pieces s' s.read) (IsBeginning pieces) → S.empty_reads source' ≡ counted false (S.empty_reads source) → Begins source' sink'
+    begins_on sink' new writes counts = record {
       given = given_now;
       ended = false;
       gives = gives_more false counts;
-      written = going.written ++ writes.bytes;
-      writes = Appends-trans (K.taken begun) (K.taken sink) (K.taken sink') going.written writes.bytes going.writes writes.appends;
+      written = going.written.bytes ++ writes.bytes;
+      writes = Appends-trans (K.taken begun) (K.taken sink) (K.taken sink') going.written.bytes writes.bytes going.writes writes.appends;
       beginning = λ p bytes output of may cover.
-          let starts = writes.follows p (given_now ++ may.0) going.written (covers_more p may.0 of) in
-          subst (λ (xs : List ℕ). StartsWith xs (going.written ++ writes.bytes)) (sym (cover_is p bytes output pieces cover ∙ ap (λ (h : List ℕ). cover_in p h pieces) may.1)) starts;
+          let starts = (writes.follows p (given_now ++ may.0) going.written (covers_more p may.0 of)).0 in
+          subst (λ (xs : List ℕ). StartsWith xs (going.written.bytes ++ writes.bytes)) (sym (cover_is p bytes output pieces cover ∙ ap (λ (h : List ℕ). cover_in p h pieces) may.1)) starts;
+    }
+
+    pub counts_on : (sink' : W) (new : List ℕ) → WritesOn K sink sink' old new (CoversOn G a pieces s' s.read) (IsBeginning pieces) → S.empty_reads source' ≡ counted false (S.empty_reads source) → FirstRuns source' new
+    counts_on sink' new writes counts = record {
+      given = given_now;
+      ended = false;
+      gives = gives_more false counts;
+      first = going.written.runs ++ writes.runs;
+      counted = counts_then going.written.runs writes.runs zeros old new going.counted writes.counted;
+      beginning = λ p bytes runs of may are.
+          first_of pieces p bytes (given_now ++ may.0) runs (put_on going.written writes.bytes writes.runs) may.1 are (writes.follows p (given_now ++ may.0) going.written (covers_more p may.0 of));
     }
 
     -- the end was seen
@@ -196,26 +244,47 @@ module _ {A R W : Type 0} (G : Automata A) (S : SourceGhosts R) (K : SinkGhosts 
           let covered = (subst (λ (h : List ℕ). CoversOn G a pieces s' s.read p h going.written) (append-nil given_now) (covers_more p [] of)).covered in
           (subst (λ (n : ℕ). HasCovered pieces s' n p given_now going.written) (sym same) covered, sym count_more)
 
-      pub covers_all : (sink' : W) → WritesOn K sink sink' (EndsHere pieces s') (IsAll pieces) → CoversStream S K (G.is_of a) pieces first source' begun sink'
-      covers_all sink' writes = record {
+      pub covers_all : (sink' : W) (new : List ℕ) → WritesOn K sink sink' old new (EndsHere pieces s') (IsAll pieces) → CoversStream S K (G.is_of a) pieces first source' begun sink'
+      covers_all sink' new writes = record {
         given = given_now;
         gives = gives_more true counts;
-        output = going.written ++ writes.bytes;
-        writes = Appends-trans (K.taken begun) (K.taken sink) (K.taken sink') going.written writes.bytes going.writes writes.appends;
-        covers = λ p of. is_cover p given_now (going.written ++ writes.bytes) pieces (writes.follows p given_now going.written (ends_here p of));
+        output = going.written.bytes ++ writes.bytes;
+        writes = Appends-trans (K.taken begun) (K.taken sink) (K.taken sink') going.written.bytes writes.bytes going.writes writes.appends;
+        covers = λ p of. is_cover p given_now (put_on going.written writes.bytes writes.runs) pieces (writes.follows p given_now going.written (ends_here p of));
       }
 
-      pub begins_end : (sink' : W) → WritesOn K sink sink' (EndsHere pieces s') (IsBeginning pieces) → Begins source' sink'
-      begins_end sink' writes = record {
+      pub counts_all : (sink' : W) (new : List ℕ) → WritesOn K sink sink' old new (EndsHere pieces s') (IsAll pieces) → CountsRuns S (G.is_of a) first source' zeros new
+      counts_all sink' new writes = record {
+        given = given_now;
+        gives = gives_more true counts;
+        counted = λ p runs of are.
+            let all = (writes.follows p given_now going.written (ends_here p of)).1 in
+            subst (λ (xs : List Occurrence). CountsThese xs zeros new) (all ∙ sym (runs-are p given_now runs are)) (counts_then going.written.runs writes.runs zeros old new going.counted writes.counted);
+      }
+
+      pub begins_end : (sink' : W) (new : List ℕ) → WritesOn K sink sink' old new (EndsHere pieces s') (IsBeginning pieces) → Begins source' sink'
+      begins_end sink' new writes = record {
         given = given_now;
         ended = true;
         gives = gives_more true counts;
-        written = going.written ++ writes.bytes;
-        writes = Appends-trans (K.taken begun) (K.taken sink) (K.taken sink') going.written writes.bytes going.writes writes.appends;
+        written = going.written.bytes ++ writes.bytes;
+        writes = Appends-trans (K.taken begun) (K.taken sink) (K.taken sink') going.written.bytes writes.bytes going.writes writes.appends;
         beginning = λ p bytes output of may cover.
             let whole : bytes ≡ given_now = may.1 ∙ ap (λ (xs : List ℕ). given_now ++ xs) may.2 ∙ append-nil given_now in
-            let starts = writes.follows p given_now going.written (ends_here p of) in
-            subst (λ (xs : List ℕ). StartsWith xs (going.written ++ writes.bytes)) (sym (cover_is p bytes output pieces cover ∙ ap (λ (h : List ℕ). cover_in p h pieces) whole)) starts;
+            let starts = (writes.follows p given_now going.written (ends_here p of)).0 in
+            subst (λ (xs : List ℕ). StartsWith xs (going.written.bytes ++ writes.bytes)) (sym (cover_is p bytes output pieces cover ∙ ap (λ (h : List ℕ). cover_in p h pieces) whole)) starts;
+      }
+
+      pub counts_end : (sink' : W) (new : List ℕ) → WritesOn K sink sink' old new (EndsHere pieces s') (IsBeginning pieces) → FirstRuns source' new
+      counts_end sink' new writes = record {
+        given = given_now;
+        ended = true;
+        gives = gives_more true counts;
+        first = going.written.runs ++ writes.runs;
+        counted = counts_then going.written.runs writes.runs zeros old new going.counted writes.counted;
+        beginning = λ p bytes runs of may are.
+            let whole : bytes ≡ given_now = may.1 ∙ ap (λ (xs : List ℕ). given_now ++ xs) may.2 ∙ append-nil given_now in
+            first_of pieces p bytes given_now runs (put_on going.written writes.bytes writes.runs) whole are (writes.follows p given_now going.written (ends_here p of));
       }
 
     -- nothing was given by a read that fails
@@ -223,7 +292,7 @@ module _ {A R W : Type 0} (G : Automata A) (S : SourceGhosts R) (K : SinkGhosts 
     given_same same = ap (λ (xs : List ℕ). going.given ++ xs) (no_items takes.bytes (omega (arith, takes.count, same))) ∙ append-nil going.given
 
     -- what was written then is the cover up to a place, and few bytes are left out that lie in no match
-    pub upto_more : (sink' : W) → Appends (K.taken begun) (K.taken sink') going.written → IsSoundCover s s.read → MayRoll s → s'.read ≡ s.read → S.empty_reads source' ≡ counted false (S.empty_reads source)
+    pub upto_more : (sink' : W) → Appends (K.taken begun) (K.taken sink') going.written.bytes → IsSoundCover s s.read → MayRoll s → s'.read ≡ s.read → S.empty_reads source' ≡ counted false (S.empty_reads source)
         → CoversStreamUpTo S K (G.is_of a) pieces first source' begun sink'
     upto_more sink' writes sound near same counts = record {
       given = given_now;
@@ -236,7 +305,7 @@ module _ {A R W : Type 0} (G : Automata A) (S : SourceGhosts R) (K : SinkGhosts 
           let runs = upto-covers p given_now s.read (omega (arith, count_more, same)) in
           let long : s.read ≡ length given_now = sym same ∙ count_more in
           let rolls = near at low (λ c.
-          let there = subst (λ (xs : List Occurrence). IsMember xs c.found) (sym has.runs) (member-right has.front (held_runs s.hand) c.found c.member) in
+          let there = subst (λ (xs : List Occurrence). IsMember xs c.found) (sym has.runs) (member-right going.written.runs (held_runs s.hand) c.found c.member) in
           bare (subst (λ (end : ℕ). IsCovered (λ m. Occurs p No given_now 0 end m) at) long (runs.only at (record { found = c.found; member = there; after_start = c.after_start; before_end = c.before_end })))) in
           omega (arith, rolls, has.far, long);
       writes = λ p bytes runs of may are.
@@ -301,3 +370,8 @@ module _ {R W : Type 0} (S : SourceGhosts R) (K : SinkGhosts W) (source : R) (si
       by_error WriteZero only = absurd only
       by_error Memory only = record { covered = tt; begun = nothing; near = λ fills. absurd fills; limit = λ met. cc }
       by_error PositionLimit only = absurd only
+
+-- what was counted, by how it ended
+pub leaves_counts : {R : Type 0} (S : SourceGhosts R) (AreSearched : Patterns → Type 0) (source source' : R) (counts counts' : List ℕ) (result : Result (Unit {0}) StreamError)
+    → OnOk result (CountsRuns S AreSearched source source' counts counts') → OnErr result (CountsFirstRuns S AreSearched source source' counts counts') → LeavesCounted S AreSearched source source' counts counts' result
+leaves_counts S AreSearched source source' counts counts' result all some = record { counted = all; begun = some }

@@ -1,6 +1,7 @@
 -- One byte more of a walk.
 pub mod Further
 -- What is written, and what it makes of the cover.
+pub mod Counted
 pub mod Written
 pub mod Copied
 pub mod Covered

@@ -19,6 +19,7 @@ use Rattle.aho_automaton.proofs.Endings.{lists_here}
 use Rattle.aho_automaton.proofs.Places.{length_part, part_join}
 use Rattle.aho_cover.specs.declared.progress.CoverProgress.{CoverProgress}
 use Rattle.aho_cover.specs.declared.walk.Reached.{Reached}
+use Rattle.aho_cover.specs.Counting.{Output}
 use Rattle.aho_cover.specs.Progress.{EndsNext, HasCovered, IsSoundCover, open_place}
 use Rattle.aho_cover.specs.Steps.{CoversOn}
 use Rattle.aho_cover.specs.Walks.{NoneReaches, Reaches, told_before, walked_before}
@@ -96,7 +97,7 @@ module _ {A : Type 0} (G : Automata A) (a : A) (p : Patterns) (standard : G.kind
         record { numbered = found.0.numbered; after_start = found.0.after_start; before_end = omega (arith, found.0.before_end); sized = found.0.sized; same = found.0.same; admitted = λ e. cc },
       )
 
-  module _ (pieces : List (List ℕ)) (s : CoverProgress) (at : ℕ) (written bytes : List ℕ) (covers : CoversOn G a pieces s at p haystack written) (reached : Reached)
+  module _ (pieces : List (List ℕ)) (s : CoverProgress) (at : ℕ) (written : Output) (bytes : List ℕ) (covers : CoversOn G a pieces s at p haystack written) (reached : Reached)
       (bytes_are : bytes ≡ slice_range haystack at s.read) (within : at + reached.count ≤ s.read) (reaches : Reaches G a p (slice_range haystack 0 at) bytes s.since reached) (counted : told_before reached ≤ reached.count) where
     read_within : s.read ≤ length haystack
     read_within = covers.covered.given.within
@@ -140,7 +141,6 @@ module _ {A : Type 0} (G : Automata A) (a : A) (p : Patterns) (standard : G.kind
           walked_within = omega (arith, counted);
           far = has.far;
           since_clear = clear has.since_clear;
-          front = has.front;
           runs = still-runs p haystack (told_before reached) at none_ends ∙ has.runs;
           settled = λ x there m occurs later. has.settled x there m occurs (omega arith);
           before = has.before;

@@ -20,6 +20,7 @@ use Rattle.aho_stream.specs.After.{greatest_position, kept_for}
 use Rattle.aho_stream.specs.Refills.{is_limit}
 use Rattle.aho_stream.specs.Replacing.{GaveAsMany, MayBe, SourceGave, piece_for}
 use Rattle.aho_cover.specs.declared.progress.CoverProgress.{CoverProgress}
+use Rattle.aho_cover.specs.Counting.{CountsThese, no_output}
 use Rattle.aho_cover.specs.Progress.{IsSoundCover}
 use Rattle.aho_cover.specs.Steps.{CoversOn}
 
@@ -70,6 +71,28 @@ module _ {R W : Type 0} (S : SourceGhosts R) (K : SinkGhosts W) (AreSearched : P
     pub near : IfErr result (λ error. IsFillRefusal error → CoversStreamUpTo)
     pub limit : is_limit result ≡ true → GaveAsMany S source source' greatest_position
 
+-- the runs that a cover counts, of the patterns that are searched for: from a source before a call to it after the call
+module _ {R : Type 0} (S : SourceGhosts R) (AreSearched : Patterns → Type 0) (source source' : R) (counts counts' : List ℕ) where
+  -- the stream has ended, and each run of all that was given was counted
+  pub record CountsRuns : Type 0 where
+    pub given : List ℕ
+    pub gives : SourceGave S source source' given true
+    pub counted : (p : Patterns) (runs : List Occurrence) → AreSearched p → AreRuns p given runs → CountsThese runs counts counts'
+
+  -- some first runs were counted, whatever bytes may follow
+  pub record CountsFirstRuns : Type 0 where
+    pub given : List ℕ
+    pub ended : Bool
+    pub gives : SourceGave S source source' given ended
+    pub first : List Occurrence
+    pub beginning : (p : Patterns) (bytes : List ℕ) (runs : List Occurrence) → AreSearched p → MayBe given ended bytes → AreRuns p bytes runs → (later : List Occurrence) × (runs ≡ first ++ later)
+    pub counted : CountsThese first counts counts'
+
+  -- what a cover counts that answers so
+  pub record LeavesCounted (result : Result (Unit {0}) StreamError) : Type 0 where
+    pub counted : OnOk result CountsRuns
+    pub begun : OnErr result CountsFirstRuns
+
 -- a cover of a stream is refused for this reason where there is one, and for no other
 pub record RefusesStreamCover {T : Type 0} (refusal : Option MatchErrorKind) (result : Result T StreamError) : Type 0 where
   pub refused : (reason : MatchErrorKind) → refusal ≡ Some reason → result ≡ Err (Match reason)
@@ -83,4 +106,4 @@ pub record IsUnbegunCover {A : Type 0} (G : Automata A) (a : A) (s : CoverProgre
   pub shallow : G.depth a s.sid ≡ 0
   pub unread : s.read ≡ 0
   pub sound : IsSoundCover s 0
-  pub covers : (p : Patterns) (pieces : List (List ℕ)) (haystack : List ℕ) → G.is_of a p → CoversOn G a pieces s 0 p haystack []
+  pub covers : (p : Patterns) (pieces : List (List ℕ)) (haystack : List ℕ) → G.is_of a p → CoversOn G a pieces s 0 p haystack no_output

@@ -1,5 +1,6 @@
 pub mod Hand
 pub mod Walks
+pub mod Counting
 pub mod Writes
 pub mod Progress
 pub mod Settling

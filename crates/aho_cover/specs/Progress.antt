@@ -8,12 +8,13 @@ use Rattle.aho_core.specs.Overlapping.{occurrences_ending}
 use Rattle.aho_core.specs.Patterns.{Patterns}
 use Rattle.aho_laws.specs.CoverLaws.{AreInOrder, runs_upto}
 use Rattle.aho_devices.specs.Buffer.{Buffered}
-use Rattle.aho_automaton.specs.Covering.{cover_in}
+use Rattle.aho_automaton.specs.Covering.{cover_in, runs_in}
 use Rattle.aho_stream.specs.After.{EndsWith, kept_for}
 use Rattle.aho_stream.specs.Replacing.{piece_for}
 use Rattle.aho_cover.specs.declared.hand.Hand.{Hand}
 use Rattle.aho_cover.specs.declared.progress.CoverProgress.{CoverProgress}
 use Rattle.aho_cover.specs.Hand.{HasItsFirst, first_start, held_runs, room_in}
+use Rattle.aho_cover.specs.Counting.{Output}
 use Rattle.aho_cover.specs.Walks.{NoneReaches}
 
 -- before the first byte
@@ -52,6 +53,11 @@ pub record IsSoundCover (s : CoverProgress) (at : ℕ) : Type 0 where
   pub whole : HasItsFirst s.hand
   pub room : room_in s.hand ≡ s.buffer.least / 2 + 1
 
+-- the memory is the same
+pub record KeepsRoom (s s' : CoverProgress) : Type 0 where
+  pub least : s'.buffer.least ≡ s.buffer.least
+  pub room : room_in s'.hand ≡ room_in s.hand
+
 -- the bytes given are the first of these, and the buffer holds the last of them
 pub record IsGiven (s : CoverProgress) (haystack : List ℕ) : Type 0 where
   pub within : s.read ≤ length haystack
@@ -64,35 +70,35 @@ copied_to haystack at (run ∷ runs) piece place = slice_range haystack at run.s
 
 -- of a stream that begins with the bytes given, so many bytes were walked. The runs of what ends there are some that were written,
 -- which nothing can touch that ends later, and those in hand
-pub record HasCovered (pieces : List (List ℕ)) (s : CoverProgress) (at : ℕ) (p : Patterns) (haystack written : List ℕ) : Type 0 where
+pub record HasCovered (pieces : List (List ℕ)) (s : CoverProgress) (at : ℕ) (p : Patterns) (haystack : List ℕ) (written : Output) : Type 0 where
   pub given : IsGiven s haystack
   pub walked_within : at ≤ s.read
   pub far : s.buffer.least ≡ kept_for (map length p.words)
   pub since_clear : NoneReaches p haystack at s.since
-  pub front : List Occurrence
-  pub runs : runs_upto p haystack at ≡ front ++ held_runs s.hand
-  pub settled : (x : Occurrence) → IsMember front x → NoneReaches p haystack at (x.end + 1)
-  pub before : (x : Occurrence) → IsMember front x → x.end ≤ s.copied
+  pub runs : runs_upto p haystack at ≡ written.runs ++ held_runs s.hand
+  pub settled : (x : Occurrence) → IsMember written.runs x → NoneReaches p haystack at (x.end + 1)
+  pub before : (x : Occurrence) → IsMember written.runs x → x.end ≤ s.copied
   pub clear : NoneReaches p haystack at s.copied
-  pub written_is : written ≡ copied_to haystack 0 front (piece_for pieces) s.copied
+  pub written_is : written.bytes ≡ copied_to haystack 0 written.runs (piece_for pieces) s.copied
 
 -- and nothing that ends later begins before a place
-abbrev pub ClearlyCovered : List (List ℕ) → CoverProgress → ℕ → ℕ → Patterns → List ℕ → List ℕ → Type 0
+abbrev pub ClearlyCovered : List (List ℕ) → CoverProgress → ℕ → ℕ → Patterns → List ℕ → Output → Type 0
 ClearlyCovered pieces s at place p haystack written = HasCovered pieces s at p haystack written × NoneReaches p haystack at place
 
--- what was written begins the cover of these bytes
-abbrev pub IsBeginning : List (List ℕ) → Patterns → List ℕ → List ℕ → Type 0
-IsBeginning pieces p haystack written = StartsWith (cover_in p haystack pieces) written
+-- what was written begins the cover of these bytes, and so do its runs
+abbrev pub IsBeginning : List (List ℕ) → Patterns → List ℕ → Output → Type 0
+IsBeginning pieces p haystack written = StartsWith (cover_in p haystack pieces) written.bytes
+    × ((later : List Occurrence) × (runs_in p haystack ≡ written.runs ++ later))
 
 -- it is the cover
-abbrev pub IsAll : List (List ℕ) → Patterns → List ℕ → List ℕ → Type 0
-IsAll pieces p haystack written = written ≡ cover_in p haystack pieces
+abbrev pub IsAll : List (List ℕ) → Patterns → List ℕ → Output → Type 0
+IsAll pieces p haystack written = (written.bytes ≡ cover_in p haystack pieces) × (written.runs ≡ runs_in p haystack)
 
 -- all but the last byte of a match was walked, and of what ends with it the match is the longest, and the first by number
-abbrev pub EndsNext : List (List ℕ) → CoverProgress → Occurrence → Patterns → List ℕ → List ℕ → Type 0
+abbrev pub EndsNext : List (List ℕ) → CoverProgress → Occurrence → Patterns → List ℕ → Output → Type 0
 EndsNext pieces s m p haystack written = HasCovered pieces s (m.end - 1) p haystack written
     × ((others : List Occurrence) × (occurrences_ending p haystack 0 m.end ≡ m ∷ others))
 
 -- all that was given was walked, and nothing follows
-abbrev pub EndsHere : List (List ℕ) → CoverProgress → Patterns → List ℕ → List ℕ → Type 0
+abbrev pub EndsHere : List (List ℕ) → CoverProgress → Patterns → List ℕ → Output → Type 0
 EndsHere pieces s p haystack written = HasCovered pieces s s.read p haystack written × (length haystack ≡ s.read)

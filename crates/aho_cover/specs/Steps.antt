@@ -7,14 +7,21 @@ use Rattle.aho_core.specs.declared.search.MatchKind.TheVariants.{Standard}
 use Rattle.aho_automaton.specs.declared.automaton.Automaton.{Ghosts as Automata}
 use Rattle.aho_automaton.specs.declared.walk.Counted.{Counted}
 use Rattle.aho_cover.specs.declared.progress.CoverProgress.{CoverProgress}
+use Rattle.aho_devices.specs.declared.device.Sink.{Ghosts as SinkGhosts}
+use Rattle.aho_cover.specs.Counting.{Output}
 use Rattle.aho_cover.specs.Hand.{held_runs}
 use Rattle.aho_cover.specs.Progress.{BareFrom, HasCovered}
+use Rattle.aho_cover.specs.Writes.{WritesOn}
 
 -- by an automaton of these patterns the state is held after the bytes that were walked, and so much was covered
-pub record CoversOn {A : Type 0} (G : Automata A) (a : A) (pieces : List (List ℕ)) (s : CoverProgress) (at : ℕ) (p : Patterns) (haystack written : List ℕ) : Type 0 where
+pub record CoversOn {A : Type 0} (G : Automata A) (a : A) (pieces : List (List ℕ)) (s : CoverProgress) (at : ℕ) (p : Patterns) (haystack : List ℕ) (written : Output) : Type 0 where
   pub of : G.is_of a p
   pub is_held : G.held a p No (slice_range haystack 0 at) s.sid
   pub covered : HasCovered pieces s at p haystack written
+
+-- a walk from one place to another writes and counts what settles on its way
+abbrev pub WalksAlong : {A W : Type 0} → Automata A → SinkGhosts W → A → List (List ℕ) → W → W → List ℕ → List ℕ → CoverProgress → ℕ → CoverProgress → ℕ → Type 0
+WalksAlong G K a pieces sink sink' counts counts' s at s' at' = WritesOn K sink sink' counts counts' (CoversOn G a pieces s at) (CoversOn G a pieces s' at')
 
 -- the walk may go on, with so many bytes walked
 pub record CanWalk {A : Type 0} (G : Automata A) (walk : Counted A) (pieces : List (List ℕ)) (s : CoverProgress) (at : ℕ) : Type 0 where
@@ -22,7 +29,7 @@ pub record CanWalk {A : Type 0} (G : Automata A) (walk : Counted A) (pieces : Li
   pub no_empty : 1 ≤ shortest (G.lengths walk.automaton.now)
   pub is_state : G.valid walk.automaton.now s.sid
   pub cheap : walk.work + G.depth walk.automaton.now s.sid ≤ 2 * at
-  pub stands : (p : Patterns) × (haystack written : List ℕ) × CoversOn G walk.automaton.now pieces s at p haystack written
+  pub stands : (p : Patterns) × (haystack : List ℕ) × (written : Output) × CoversOn G walk.automaton.now pieces s at p haystack written
 
 -- the buffer may be rolled: each byte that was not written and lies in no run in hand is among those that a roll keeps
 abbrev pub MayRoll : CoverProgress → Type 0

@@ -67,6 +67,16 @@ impl Hand {
         }
     }
 
+    /// Takes all runs, and keeps the room.
+    pub(crate) fn clear(&mut self)
+        ensures none { held_runs self.new ≡ [] }
+        ensures whole { HasItsFirst self.new }
+        ensures same_room { room_in self.new ≡ room_in self.old }
+    {
+        self.first = None;
+        clear(&mut self.rest);
+    }
+
     /// Takes the first run, where it ends before a place.
     pub(crate) fn take_before(&mut self, place: usize) -> Option<Match>
         requires whole { HasItsFirst self.old }

@@ -1,10 +1,11 @@
 //! What is written for a run: the bytes in front of it, and the piece of its pattern.
 
-ghost use Rattle.std.specs.Prelude.{◌≡◌, ◌++◌, OnErr, OnOk};
+ghost use Rattle.std.specs.Prelude.{◌≡◌, ◌++◌, [], ◌∷◌, OnErr, OnOk};
 ghost use Rattle.std.specs.Io.KnownBytes.{Appends};
 ghost use Rattle.aho_core.specs.Replacement.{pieces_of};
 ghost use Rattle.aho_devices.specs.Counts.{AppendsBeginning};
 ghost use Rattle.aho_stream.specs.Replacing.{piece_for};
+ghost use Rattle.aho_cover.specs.Counting.{CountsThese};
 ghost use Rattle.aho_cover.specs.Writes.{TellsWrites};
 
 use aho_core::error::StreamError;
@@ -19,6 +20,16 @@ pub(crate) fn piece_of<'b>(pieces: &[&'b [u8]], run: &Match) -> &'b [u8]
     match pieces.get(run.pattern().as_usize()) {
         Some(piece) => piece,
         None => &[],
+    }
+}
+
+/// Counts a run for its pattern, where there is a count for that. A count stops at the greatest number.
+pub(crate) fn count_run(counts: &mut [u64], run: &Match)
+    ensures counted { CountsThese (run.now ∷ []) counts.old counts.new }
+{
+    let number = run.pattern().as_usize();
+    if number < counts.len() {
+        counts[number] = counts[number].saturating_add(1);
     }
 }
 

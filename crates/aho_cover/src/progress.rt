@@ -1,14 +1,14 @@
 //! How far the cover of a stream has come: numbers, the last bytes, and the runs in hand.
 
-ghost use Rattle.std.specs.Prelude.{◌≡◌, ◌+◌, ◌-◌, ◌<◌, ◌≤◌, ◌^◌, ℕ, List, OnErr, OnOk, Ok, length, max, slice_range, true, false};
+ghost use Rattle.std.specs.Prelude.{◌≡◌, ◌+◌, ◌-◌, ◌<◌, ◌≤◌, ◌^◌, ℕ, List, [], OnErr, OnOk, Ok, length, max, slice_range, true, false};
 ghost use Rattle.aho_core.specs.Replacement.{pieces_of};
-ghost use Rattle.aho_cover.specs.Hand.{FirstEndsBehind, HasItsFirst, held_runs};
-ghost use Rattle.aho_cover.specs.Progress.{BareFrom, ClearlyCovered, EndsHere, EndsNext, HasCovered, IsAll, IsBeginning, IsGiven, IsSoundCover, open_place, outside_end, unbegun_cover};
+ghost use Rattle.aho_cover.specs.Hand.{FirstEndsBehind, HasItsFirst, held_runs, room_in};
+ghost use Rattle.aho_cover.specs.Progress.{BareFrom, ClearlyCovered, EndsHere, EndsNext, HasCovered, IsAll, IsBeginning, IsGiven, IsSoundCover, KeepsRoom, open_place, outside_end, unbegun_cover};
 ghost use Rattle.aho_cover.specs.Settling.{Settles, StopsAt, StopsOutside, StopsSettling, WritesOutside};
 ghost use Rattle.aho_cover.specs.Writes.{TellsWrites, WritesOn};
 
 use crate::hand::Hand;
-use crate::output::{piece_of, write_both};
+use crate::output::{count_run, piece_of, write_both};
 use aho_core::error::StreamError;
 use aho_core::search::{Match, StateID};
 use aho_devices::buffer::Buffer;
@@ -45,6 +45,22 @@ impl CoverProgress {
             sid,
             hand,
         }
+    }
+
+    /// Begins anew, in the state of a start. The memory stays.
+    pub(crate) fn begin_anew(&mut self, sid: StateID)
+        ensures buffer { self.new.buffer ≡ record self.old.buffer { bytes = [] } }
+        ensures none { held_runs self.new.hand ≡ [] }
+        ensures whole { HasItsFirst self.new.hand }
+        ensures same_room { room_in self.new.hand ≡ room_in self.old.hand }
+        ensures made { self.new ≡ unbegun_cover self.new.buffer self.new.hand sid }
+    {
+        self.buffer.clear();
+        self.hand.clear();
+        self.read = 0;
+        self.since = 0;
+        self.copied = 0;
+        self.sid = sid;
     }
 
     /// The place before which nothing begins that ends behind `at`, whatever follows.
@@ -85,11 +101,13 @@ impl CoverProgress {
         self.bytes(self.copied, end)
     }
 
-    /// Writes the first run in hand, where it ends before a place, and the bytes in front of it. Says whether there was one.
+    /// Writes the first run in hand, where it ends before a place, and the bytes in front of it, and counts it. Says whether there
+    /// was one.
     fn settle_one<W: Sink>(
         &mut self,
         sink: &mut W,
         pieces: &[&[u8]],
+        counts: &mut [u64],
         place: usize,
     ) -> Result<bool, StreamError>
         requires sound { (at : ℕ) × IsSoundCover self.old at }
@@ -100,10 +118,11 @@ impl CoverProgress {
         ensures fewer { result ≡ Ok true
             → length (held_runs self.new.hand) < length (held_runs self.old.hand) }
         ensures last { result ≡ Ok false → FirstEndsBehind place (held_runs self.new.hand) }
-        ensures writes { OnOk result (Settles W.Sink sink.old sink.new
+        ensures writes { OnOk result (Settles W.Sink sink.old sink.new counts.old counts.new
             (pieces_of pieces.now) place self.old self.new) }
         ensures begins { OnErr result (StopsSettling W.Sink sink.old sink.new
-            (pieces_of pieces.now) place self.old) }
+            counts.old counts.new (pieces_of pieces.now) place self.old) }
+        ensures room { KeepsRoom self.old self.new }
         ensures tells { TellsWrites W.Sink sink.old sink.new result }
     {
         let Some(run) = self.hand.take_before(place) else {
@@ -111,6 +130,7 @@ impl CoverProgress {
         };
         let gap = self.gap(run.start());
         write_both(sink, gap, piece_of(pieces, &run))?;
+        count_run(counts, &run);
         self.copied = run.end();
         Ok(true)
     }
@@ -120,6 +140,7 @@ impl CoverProgress {
         &mut self,
         sink: &mut W,
         pieces: &[&[u8]],
+        counts: &mut [u64],
         place: usize,
     ) -> Result<(), StreamError>
         requires sound { (at : ℕ) × IsSoundCover self.old at }
@@ -128,13 +149,14 @@ impl CoverProgress {
             (self.new ≡ record self.old { copied = self.new.copied; hand = self.new.hand }) }
         ensures copied { OnOk result (self.new.copied ≤ max self.old.copied place) }
         ensures last { OnOk result (FirstEndsBehind place (held_runs self.new.hand)) }
-        ensures writes { OnOk result (Settles W.Sink sink.old sink.new
+        ensures writes { OnOk result (Settles W.Sink sink.old sink.new counts.old counts.new
             (pieces_of pieces.now) place self.old self.new) }
         ensures begins { OnErr result (StopsSettling W.Sink sink.old sink.new
-            (pieces_of pieces.now) place self.old) }
+            counts.old counts.new (pieces_of pieces.now) place self.old) }
+        ensures room { KeepsRoom self.old self.new }
         ensures tells { TellsWrites W.Sink sink.old sink.new result }
     {
-        while self.settle_one(sink, &*pieces, place)? {}
+        while self.settle_one(sink, &*pieces, counts, place)? {}
         Ok(())
     }
 
@@ -159,6 +181,7 @@ impl CoverProgress {
             (WritesOutside W.Sink sink.old sink.new place self.old self.new) }
         ensures begins { OnErr result
             (StopsOutside W.Sink sink.old sink.new place self.old) }
+        ensures room { KeepsRoom self.old self.new }
         ensures tells { TellsWrites W.Sink sink.old sink.new result }
     {
         let end = self.outside_end(place);
@@ -172,6 +195,7 @@ impl CoverProgress {
         &mut self,
         sink: &mut W,
         pieces: &[&[u8]],
+        counts: &mut [u64],
         at: usize,
     ) -> Result<(), StreamError>
         requires sound { IsSoundCover self.old at }
@@ -180,15 +204,16 @@ impl CoverProgress {
             (self.new ≡ record self.old { copied = self.new.copied; hand = self.new.hand }) }
         ensures near { OnOk result (BareFrom self.new.copied (held_runs self.new.hand)
             (at + 1 - self.old.buffer.least)) }
-        ensures writes { OnOk result (WritesOn W.Sink sink.old sink.new
+        ensures writes { OnOk result (WritesOn W.Sink sink.old sink.new counts.old counts.new
             (HasCovered (pieces_of pieces.now) self.old at)
             (HasCovered (pieces_of pieces.now) self.new at)) }
         ensures begins { OnErr result (StopsAt W.Sink sink.old sink.new
-            (pieces_of pieces.now) self.old at) }
+            counts.old counts.new (pieces_of pieces.now) self.old at) }
+        ensures room { KeepsRoom self.old self.new }
         ensures tells { TellsWrites W.Sink sink.old sink.new result }
     {
         let open = self.open_place(at);
-        self.settle(sink, &*pieces, open)?;
+        self.settle(sink, &*pieces, counts, open)?;
         self.write_outside(sink, open)
     }
 
@@ -197,6 +222,7 @@ impl CoverProgress {
         &mut self,
         sink: &mut W,
         pieces: &[&[u8]],
+        counts: &mut [u64],
         m: Match,
     ) -> Result<(), StreamError>
         requires sound { IsSoundCover self.old (m.end - 1) }
@@ -206,15 +232,16 @@ impl CoverProgress {
         ensures sound { OnOk result (IsSoundCover self.new m.end) }
         ensures others { OnOk result
             (self.new ≡ record self.old { copied = self.new.copied; hand = self.new.hand }) }
-        ensures writes { OnOk result (WritesOn W.Sink sink.old sink.new
+        ensures writes { OnOk result (WritesOn W.Sink sink.old sink.new counts.old counts.new
             (EndsNext (pieces_of pieces.now) self.old m)
             (HasCovered (pieces_of pieces.now) self.new m.end)) }
         ensures begins { OnErr result (StopsAt W.Sink sink.old sink.new
-            (pieces_of pieces.now) self.old (m.end - 1)) }
+            counts.old counts.new (pieces_of pieces.now) self.old (m.end - 1)) }
+        ensures room { KeepsRoom self.old self.new }
         ensures tells { TellsWrites W.Sink sink.old sink.new result }
     {
         let open = self.open_place(m.end() - 1);
-        self.settle(sink, &*pieces, open)?;
+        self.settle(sink, &*pieces, counts, open)?;
         self.hand.add(m);
         Ok(())
     }
@@ -224,16 +251,18 @@ impl CoverProgress {
         &mut self,
         sink: &mut W,
         pieces: &[&[u8]],
+        counts: &mut [u64],
     ) -> Result<(), StreamError>
         requires sound { IsSoundCover self.old self.old.read }
-        ensures covers { OnOk result (WritesOn W.Sink sink.old sink.new
+        ensures covers { OnOk result (WritesOn W.Sink sink.old sink.new counts.old counts.new
             (EndsHere (pieces_of pieces.now) self.old) (IsAll (pieces_of pieces.now))) }
-        ensures begins { OnErr result (WritesOn W.Sink sink.old sink.new
+        ensures begins { OnErr result (WritesOn W.Sink sink.old sink.new counts.old counts.new
             (EndsHere (pieces_of pieces.now) self.old) (IsBeginning (pieces_of pieces.now))) }
+        ensures room { KeepsRoom self.old self.new }
         ensures tells { TellsWrites W.Sink sink.old sink.new result }
     {
         let end = self.read;
-        self.settle(sink, &*pieces, end + 1)?;
+        self.settle(sink, &*pieces, counts, end + 1)?;
         self.write_outside(sink, end)
     }
 }

@@ -5,7 +5,7 @@ ghost use Rattle.aho_devices.specs.Counts.{counted};
 ghost use Rattle.aho_devices.specs.Refusals.{IsFillRefusal, is_read_fault};
 ghost use Rattle.aho_stream.specs.After.{EndsWith, greatest_position};
 ghost use Rattle.aho_stream.specs.Refills.{is_limit};
-ghost use Rattle.aho_cover.specs.Progress.{IsSoundCover};
+ghost use Rattle.aho_cover.specs.Progress.{IsSoundCover, KeepsRoom};
 ghost use Rattle.aho_cover.specs.Refilling.{TakesIn, sees_end};
 ghost use Rattle.aho_cover.specs.Steps.{MayRoll};
 
@@ -43,6 +43,7 @@ pub(crate) fn refill<R: Source>(
     ensures more { result ≡ Ok false → progress.old.read < progress.new.read }
     ensures none { result ≡ Ok true → progress.new.read ≡ progress.old.read }
     ensures fails { OnErr result (progress.new.read ≡ progress.old.read) }
+    ensures room { KeepsRoom progress.old progress.new }
     ensures ended { R.empty_reads source.new
         ≡ counted (sees_end result) (R.empty_reads source.old) }
     ensures read_failed { R.failures source.new

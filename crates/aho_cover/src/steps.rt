@@ -2,8 +2,8 @@
 
 ghost use Rattle.std.specs.Prelude.{◌≡◌, ◌<◌, IfOk, OnErr, OnOk, Ok, IfErr, true, false};
 ghost use Rattle.aho_core.specs.Replacement.{pieces_of};
-ghost use Rattle.aho_cover.specs.Progress.{IsBeginning, IsSoundCover};
-ghost use Rattle.aho_cover.specs.Steps.{CanWalk, CoversOn, MayRoll, KeepsBytes};
+ghost use Rattle.aho_cover.specs.Progress.{IsBeginning, IsSoundCover, KeepsRoom};
+ghost use Rattle.aho_cover.specs.Steps.{CanWalk, CoversOn, MayRoll, KeepsBytes, WalksAlong};
 ghost use Rattle.aho_cover.specs.Writes.{TellsWrites, WritesOn};
 
 use crate::progress::CoverProgress;
@@ -20,6 +20,7 @@ fn walk_once<A: Automaton, W: Sink>(
     progress: &mut CoverProgress,
     sink: &mut W,
     pieces: &[&[u8]],
+    counts: &mut [u64],
     at: usize,
 ) -> Result<usize, StreamError>
     requires sound { IsSoundCover progress.old at }
@@ -30,12 +31,12 @@ fn walk_once<A: Automaton, W: Sink>(
     ensures further { IfOk result (λ next. at < next) }
     ensures bytes { OnOk result (KeepsBytes progress.old progress.new) }
     ensures same { walk.new.automaton.now ≡ walk.old.automaton.now }
-    ensures writes { IfOk result (λ next. WritesOn W.Sink sink.old sink.new
-        (CoversOn A.Automaton walk.old.automaton.now (pieces_of pieces.now) progress.old at)
-        (CoversOn A.Automaton walk.old.automaton.now (pieces_of pieces.now) progress.new next)) }
-    ensures begins { OnErr result (WritesOn W.Sink sink.old sink.new
+    ensures writes { IfOk result (WalksAlong A.Automaton W.Sink walk.old.automaton.now (pieces_of pieces.now)
+        sink.old sink.new counts.old counts.new progress.old at progress.new) }
+    ensures begins { OnErr result (WritesOn W.Sink sink.old sink.new counts.old counts.new
         (CoversOn A.Automaton walk.old.automaton.now (pieces_of pieces.now) progress.old at)
         (IsBeginning (pieces_of pieces.now))) }
+    ensures room { KeepsRoom progress.old progress.new }
     ensures tells { TellsWrites W.Sink sink.old sink.new result }
 {
     let bytes = progress.bytes(at, progress.read);
@@ -46,7 +47,7 @@ fn walk_once<A: Automaton, W: Sink>(
     let Some(m) = reached.found else {
         return Ok(next);
     };
-    progress.join(sink, &*pieces, m)?;
+    progress.join(sink, &*pieces, counts, m)?;
     Ok(next)
 }
 
@@ -56,6 +57,7 @@ pub(crate) fn walk_read<A: Automaton, W: Sink>(
     progress: &mut CoverProgress,
     sink: &mut W,
     pieces: &[&[u8]],
+    counts: &mut [u64],
     from: usize,
 ) -> Result<(), StreamError>
     requires sound { IsSoundCover progress.old from }
@@ -66,18 +68,17 @@ pub(crate) fn walk_read<A: Automaton, W: Sink>(
         (pieces_of pieces.now) progress.new progress.new.read) }
     ensures bytes { OnOk result (KeepsBytes progress.old progress.new) }
     ensures same { walk.new.automaton.now ≡ walk.old.automaton.now }
-    ensures writes { OnOk result (WritesOn W.Sink sink.old sink.new
-        (CoversOn A.Automaton walk.old.automaton.now (pieces_of pieces.now) progress.old from)
-        (CoversOn A.Automaton walk.old.automaton.now
-        (pieces_of pieces.now) progress.new progress.new.read)) }
-    ensures begins { OnErr result (WritesOn W.Sink sink.old sink.new
+    ensures writes { OnOk result (WalksAlong A.Automaton W.Sink walk.old.automaton.now (pieces_of pieces.now)
+        sink.old sink.new counts.old counts.new progress.old from progress.new progress.new.read) }
+    ensures begins { OnErr result (WritesOn W.Sink sink.old sink.new counts.old counts.new
         (CoversOn A.Automaton walk.old.automaton.now (pieces_of pieces.now) progress.old from)
         (IsBeginning (pieces_of pieces.now))) }
+    ensures room { KeepsRoom progress.old progress.new }
     ensures tells { TellsWrites W.Sink sink.old sink.new result }
 {
     let mut at = from;
     while at < progress.read {
-        at = walk_once(walk, progress, sink, &*pieces, at)?;
+        at = walk_once(walk, progress, sink, &*pieces, counts, at)?;
     }
-    progress.write_settled(sink, &*pieces, at)
+    progress.write_settled(sink, &*pieces, counts, at)
 }

@@ -17,7 +17,8 @@ ghost use Rattle.aho_core.specs.Replacement.{pieces_of};
 ghost use Rattle.aho_automaton.specs.CoverIters.{cover_refusal_of};
 ghost use Rattle.aho_devices.specs.Errors.{CountsErrors};
 ghost use Rattle.aho_stream.specs.Replacing.{IsMakingRefusal, IsStreamFault};
-ghost use Rattle.aho_cover.specs.Covers.{IsUnbegunCover, LeavesCovered, RefusesStreamCover};
+ghost use Rattle.aho_cover.specs.Progress.{KeepsRoom};
+ghost use Rattle.aho_cover.specs.Covers.{IsUnbegunCover, LeavesCounted, LeavesCovered, RefusesStreamCover};
 
 use crate::progress::CoverProgress;
 use crate::refill::refill;
@@ -36,6 +37,7 @@ fn cover_from<A: Automaton, R: Source, W: Sink>(
     source: &mut R,
     sink: &mut W,
     pieces: &[&[u8]],
+    counts: &mut [u64],
 ) -> Result<(), StreamError>
     requires some { (p : Patterns) × A.is_of walk.old.automaton.now p }
     requires unbegun { IsUnbegunCover A.Automaton walk.old.automaton.now progress.old }
@@ -45,15 +47,18 @@ fn cover_from<A: Automaton, R: Source, W: Sink>(
         source.old source.new sink.old sink.new result }
     ensures errors { CountsErrors R.Source W.Sink
         source.old source.new sink.old sink.new result }
+    ensures counted { LeavesCounted R.Source (A.is_of walk.old.automaton.now)
+        source.old source.new counts.old counts.new result }
+    ensures room { KeepsRoom progress.old progress.new }
     ensures only { IfErr result IsStreamFault }
 {
     loop {
         sink.flush()?;
         let from = progress.read;
         if refill(progress, source)? {
-            return progress.finish(sink, &*pieces);
+            return progress.finish(sink, &*pieces, counts);
         }
-        walk_read(walk, progress, sink, &*pieces, from)?;
+        walk_read(walk, progress, sink, &*pieces, counts, from)?;
     }
 }
 
@@ -87,9 +92,54 @@ pub fn cover_stream<'a, A: Automaton, R: Source, W: Sink>(
         source.old source.new sink.old sink.new result }
     ensures only { IfErr result IsStreamFault }
 {
+    let mut start = start;
+    cover_counted(&mut start, source, sink, replace_with, &mut [])
+}
+
+/// `cover_stream` for one stream of several: the runs are counted, and the memory of the start is used again. So any number of
+/// small streams takes one buffer.
+///
+/// Whatever it answers, the start is then as before: the next stream begins with nothing in hand.
+///
+/// `counts[p]` grows by the number of runs that were replaced by the piece of pattern `p`. So the automaton's patterns may be
+/// counted over many streams. A count stops at the greatest number of 64 bits. A pattern beyond the counts is not counted.
+///
+/// # Errors
+///
+/// As `cover_stream`. Some first runs of the cover were counted then: those whose pieces were written whole.
+pub fn cover_counted<A: Automaton, R: Source, W: Sink>(
+    start: &mut StreamCoverStart<'_, A>,
+    source: &mut R,
+    sink: &mut W,
+    replace_with: &[&[u8]],
+    counts: &mut [u64],
+) -> Result<(), StreamError>
+    requires of { (p : Patterns) × A.is_of start.old.automaton.now p }
+    requires unbegun { IsUnbegunCover A.Automaton start.old.automaton.now start.old.progress }
+    requires one_each { length replace_with.now ≡ length (A.lengths start.old.automaton.now) }
+    ensures leaves { LeavesCovered R.Source W.Sink
+        (A.is_of start.old.automaton.now) (pieces_of replace_with.now)
+        source.old source.new sink.old sink.new result }
+    ensures counted { LeavesCounted R.Source (A.is_of start.old.automaton.now)
+        source.old source.new counts.old counts.new result }
+    ensures same { start.new.automaton.now ≡ start.old.automaton.now }
+    ensures unbegun { IsUnbegunCover A.Automaton start.new.automaton.now start.new.progress }
+    ensures errors { CountsErrors R.Source W.Sink
+        source.old source.new sink.old sink.new result }
+    ensures only { IfErr result IsStreamFault }
+{
+    let begin = start.progress.sid;
     let mut walk = Counted::new(start.automaton);
-    let mut progress = start.progress;
-    cover_from(&mut walk, &mut progress, source, sink, replace_with)
+    let covered = cover_from(
+        &mut walk,
+        &mut start.progress,
+        source,
+        sink,
+        &*replace_with,
+        counts,
+    );
+    start.progress.begin_anew(begin);
+    covered
 }
 
 /// `StreamCoverStart::new` and `cover_stream` in one call. The source may give 2^63 - 1 bytes.

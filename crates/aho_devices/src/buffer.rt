@@ -1,6 +1,6 @@
 //! The buffer of fixed length between a source and a search of its stream.
 
-ghost use Rattle.std.specs.Prelude.{◌≡◌, ◌<◌, ◌≤◌, ◌+◌, ◌-◌, ◌↔◌, ◌⊎◌, ◌==◌, max, [], ℕ, length, take, drop, vec_len, vec_capacity, IfOk, IfErr, OnErr, MatchResult, IsTrue, is_err, true, false, Err};
+ghost use Rattle.std.specs.Prelude.{◌≡◌, ◌<◌, ◌≤◌, ◌+◌, ◌-◌, ◌++◌, ◌↔◌, ◌⊎◌, ◌==◌, max, [], ℕ, length, take, drop, vec_len, vec_capacity, IfOk, IfErr, OnErr, MatchResult, IsTrue, is_err, true, false, Err};
 ghost use Rattle.std.specs.Io.KnownBytes.{Consumes, Keeps};
 ghost use Rattle.aho_core.specs.Numbers.{greatest_index};
 ghost use Rattle.aho_devices.specs.Buffer.{Buffered, Gains, capacity_for, rolled, saw_end};
@@ -91,6 +91,30 @@ impl Buffer {
         let start = self.end - self.least;
         self.buf.copy_within(start..self.end, 0);
         self.end = self.least;
+    }
+
+    /// Lets go of all bytes. The buffer keeps its length.
+    pub fn clear(&mut self)
+        ensures cleared { self.new ≡ record self.old { bytes = [] } }
+    {
+        self.end = 0;
+    }
+
+    /// Puts bytes behind those that are held, from the front of `bytes` as many as there is room for, and says how many. The
+    /// buffer keeps its length.
+    pub fn push(&mut self, bytes: &[u8]) -> usize
+        ensures within { result ≤ length bytes.now }
+        ensures all { length bytes.now ≤ self.old.size - length self.old.bytes
+            → result ≡ length bytes.now }
+        ensures full { result < length bytes.now → length self.new.bytes ≡ self.old.size }
+        ensures held { self.new.bytes ≡ self.old.bytes ++ take result bytes.now }
+        ensures least { self.new.least ≡ self.old.least }
+        ensures size { self.new.size ≡ self.old.size }
+    {
+        let count = bytes.len().min(self.buf.len() - self.end);
+        self.buf[self.end..self.end + count].copy_from_slice(&bytes[..count]);
+        self.end += count;
+        count
     }
 
     /// Reads at least once, and on until `min_buffer_len` bytes are held, a read is empty or fails, or `room` bytes

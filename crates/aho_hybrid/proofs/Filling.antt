@@ -7,10 +7,10 @@ use Rattle.std.proofs.lemmas.Nat.{mul-add-lt}
 use Rattle.aho_core.specs.Numbers.{greatest_index}
 use Rattle.aho_table.specs.Alphabet.{class_count}
 use Rattle.aho_table.specs.Table.{IsRising, depth_in, fail_in, matches_in}
-use Rattle.aho_hybrid.specs.Filled.{AreRecords, AreRows, HasEntries, IsDeepState, IsListAt, IsPartAt, IsPlaced, IsRecord, IsShallow, IsStep, Parts, leads_in, moves_of, number_in, row_in, record_place, source_in, source_of, transitions_of}
+use Rattle.aho_hybrid.specs.Filled.{AreRecords, AreRows, HasEntries, IsDeepState, IsListAt, IsPartAt, IsRecord, IsShallow, IsStep, Parts, leads_in, moves_of, number_in, row_in, record_place, source_in, source_of, transitions_of}
 use Rattle.aho_hybrid.specs.Layout.{record_size, stride_of}
 use Rattle.aho_hybrid.proofs.Counting.{deep-before, deep-first, deep-more, deep_below, row-before, row-more, rows-first, rows_below}
-use Rattle.aho_hybrid.proofs.Listed.{list-grows, part-grows}
+use Rattle.aho_hybrid.proofs.Listed.{part-grows}
 
 -- what holds below a count and at it holds below the next
 pub below-or-last : (P : ℕ → Type 0) (count : ℕ) → ((i : ℕ) → i < count → P i) → P count → (i : ℕ) → i < count + 1 → P i
@@ -59,17 +59,13 @@ module _ (plan : Parts) where
   -- ---- rows
 
   -- the state after the rows of others has none
-  pub rows-passed : (count : ℕ) (entries lists lists' more : List ℕ) (low : ℕ) → count < length plan.states → IsDeepState plan count → lists' ≡ lists ++ more
-      → AreRows plan count entries lists low → AreRows plan (count + 1) entries lists' low
-  rows-passed count entries lists lists' more low within deep grown filled = record {
+  pub rows-passed : (count : ℕ) (entries : List ℕ) (low : ℕ) → count < length plan.states → IsDeepState plan count → AreRows plan count entries low → AreRows plan (count + 1) entries low
+  rows-passed count entries low within deep filled = record {
     sized = filled.sized ∙ ap (λ (n : ℕ). n * stride) (sym (deep-more plan.row_depth plan.states count within deep).0);
     entry = λ i class below shallow. filled.entry i class (less i below shallow) shallow;
     step = λ i class below shallow. filled.step i class (less i below shallow) shallow;
-    listed = λ i below shallow.
-        subst (λ (l : List ℕ). IsListAt l (get_or entries (row_in plan i + class_count plan.classes) 0) (matches_in plan.states (source_in plan.special i))) (sym grown)
-        (list-grows lists more (get_or entries (row_in plan i + class_count plan.classes) 0) (matches_in plan.states (source_in plan.special i)) (filled.listed i (less i below shallow) shallow));
+    listed = λ i below shallow. filled.listed i (less i below shallow) shallow;
     others = λ i below shallow past. filled.others i (less i below shallow) shallow past;
-    empty = subst (λ (l : List ℕ). IsListAt l 0 []) (sym grown) (list-grows lists more 0 [] filled.empty);
     some = filled.some;
   }
     where
@@ -81,15 +77,15 @@ module _ (plan : Parts) where
           ]
 
   -- one row more
-  module _ (count : ℕ) (entries lists : List ℕ) (low : ℕ) (filled : AreRows plan count entries lists low) where
+  module _ (count : ℕ) (entries : List ℕ) (low : ℕ) (filled : AreRows plan count entries low) where
     abbrev source : ℕ
     source = source_in plan.special count
 
-    pub row-added : (mid new lists' : List ℕ) (low' place : ℕ) → count < length plan.states → IsShallow plan count
+    pub row-added : (mid new : List ℕ) (low' place : ℕ) → count < length plan.states → IsShallow plan count
         → HasEntries plan source (class_count plan.classes) entries mid → new ≡ mid ++ place ∷ []
-        → IsPlaced (matches_in plan.states source) place lists lists' → low ≤ low' → (low' ≤ row_in plan count → matches_in plan.states source ≡ [])
-        → AreRows plan (count + 1) new lists' low'
-    row-added mid new lists' low' place here own has is placed higher none = record {
+        → IsListAt plan.lists place (matches_in plan.states source) → low ≤ low' → (low' ≤ row_in plan count → matches_in plan.states source ≡ [])
+        → AreRows plan (count + 1) new low'
+    row-added mid new low' place here own has is placed higher none = record {
       sized =
           ap (λ (l : List ℕ). length l) is ∙ length_push mid place ∙ omega (arith, has.sized, filled.sized, one_more)
           ∙ ap (λ (n : ℕ). n * stride) (sym (row-more plan.row_depth plan.states count here own).0);
@@ -102,15 +98,14 @@ module _ (plan : Parts) where
           below-or-last (λ (n : ℕ). IsShallow plan n → IsStep plan.states (source_in plan.special n) (get_or plan.firsts class 0)) count
           (λ n less is_row. filled.step n class less is_row within) (λ is_row. has.step class within) i below shallow;
       listed = λ i below shallow.
-          below-or-last (λ (n : ℕ). IsShallow plan n → IsListAt lists' (get_or new (row_in plan n + class_count plan.classes) 0) (matches_in plan.states (source_in plan.special n))) count
+          below-or-last (λ (n : ℕ). IsShallow plan n → IsListAt plan.lists (get_or new (row_in plan n + class_count plan.classes) 0) (matches_in plan.states (source_in plan.special n))) count
           (λ n less is_row.
-          subst (λ (m : ℕ). IsListAt lists' m (matches_in plan.states (source_in plan.special n))) (sym (old (row_in plan n + class_count plan.classes) (inside n (class_count plan.classes) less is_row (omega arith))))
-          (grown (get_or entries (row_in plan n + class_count plan.classes) 0) (matches_in plan.states (source_in plan.special n)) (filled.listed n less is_row)))
-          (λ is_row. subst (λ (m : ℕ). IsListAt lists' m (matches_in plan.states source)) (sym last) placed.listed) i below shallow;
+          subst (λ (m : ℕ). IsListAt plan.lists m (matches_in plan.states (source_in plan.special n))) (sym (old (row_in plan n + class_count plan.classes) (inside n (class_count plan.classes) less is_row (omega arith))))
+          (filled.listed n less is_row))
+          (λ is_row. subst (λ (m : ℕ). IsListAt plan.lists m (matches_in plan.states source)) (sym last) placed) i below shallow;
       others = λ i below shallow.
           below-or-last (λ (n : ℕ). IsShallow plan n → low' ≤ row_in plan n → matches_in plan.states (source_in plan.special n) ≡ []) count
           (λ n less is_row past. filled.others n less is_row (omega (arith, higher, past))) (λ is_row. none) i below shallow;
-      empty = grown 0 [] filled.empty;
       some = omega (arith, filled.some, higher);
     }
       where
@@ -131,9 +126,6 @@ module _ (plan : Parts) where
         last =
             ap (λ (l : List ℕ). get_or l (row_in plan count + class_count plan.classes) 0) is
             ∙ get_or_push mid place 0 (row_in plan count + class_count plan.classes) (has.sized ∙ ap (λ (n : ℕ). n + class_count plan.classes) filled.sized)
-
-        grown : (at : ℕ) (list : List ℕ) → IsListAt lists at list → IsListAt lists' at list
-        grown at list listed = subst (λ (l : List ℕ). IsListAt l at list) (sym placed.grown) (list-grows lists placed.more at list listed)
 
   -- ---- records
 
@@ -159,14 +151,13 @@ module _ (plan : Parts) where
           ∙ ap (λ (m : ℕ). get_or (a ∷ b ∷ c ∷ d ∷ e ∷ []) m 0) (shift (length old) n)
 
   -- a record stays where it is when more comes behind
-  record-grows : (i at : ℕ) (deep deep' moves moves' lists lists' : List ℕ) → at + record_size ≤ length deep
+  record-grows : (i at : ℕ) (deep deep' moves moves' : List ℕ) → at + record_size ≤ length deep
       → ((n : ℕ) → n < length deep → get_or deep' n 0 ≡ get_or deep n 0)
       → ((place : ℕ) (part : List ℕ) → IsPartAt moves place part → IsPartAt moves' place part)
-      → ((place : ℕ) (list : List ℕ) → IsListAt lists place list → IsListAt lists' place list)
-      → IsRecord plan i deep at moves lists → IsRecord plan i deep' at moves' lists'
-  record-grows i at deep deep' moves moves' lists lists' inside kept parts grown is = record {
+      → IsRecord plan i deep at moves → IsRecord plan i deep' at moves'
+  record-grows i at deep deep' moves moves' inside kept parts is = record {
     link = kept (at + 0) (omega (arith, inside)) ∙ is.link;
-    listed = subst (λ (n : ℕ). IsListAt lists' n (matches_in plan.states (source_of plan i))) (sym (kept (at + 1) (omega (arith, inside)))) (grown (get_or deep (at + 1) 0) (matches_in plan.states (source_of plan i)) is.listed);
+    listed = subst (λ (n : ℕ). IsListAt plan.lists n (matches_in plan.states (source_of plan i))) (sym (kept (at + 1) (omega (arith, inside)))) is.listed;
     height = ap (λ (n : ℕ). n + plan.row_depth) (kept (at + 2) (omega (arith, inside))) ∙ is.height;
     moves_at = subst (λ (n : ℕ). IsPartAt moves' n (moves_of plan i)) (sym (kept (at + 3) (omega (arith, inside)))) (parts (get_or deep (at + 3) 0) (moves_of plan i) is.moves_at);
     moves_size = kept (at + 4) (omega (arith, inside)) ∙ is.moves_size;
@@ -174,18 +165,15 @@ module _ (plan : Parts) where
     depth_small = is.depth_small;
   }
 
-  module _ (count : ℕ) (deep moves lists : List ℕ) (deep_low : ℕ) (filled : AreRecords plan count deep moves lists deep_low) where
+  module _ (count : ℕ) (deep moves : List ℕ) (deep_low : ℕ) (filled : AreRecords plan count deep moves deep_low) where
     inside : (i : ℕ) → i < count → count ≤ length plan.states → IsDeepState plan i → record_place plan.row_depth plan.states i + record_size ≤ length deep
     inside i less within is_deep = omega (arith, deep-before plan.row_depth plan.states i count less within is_deep, filled.sized)
 
     -- the state after the records of others has a row
-    pub records-passed : (lists' more : List ℕ) → count < length plan.states → IsShallow plan count → lists' ≡ lists ++ more → AreRecords plan (count + 1) deep moves lists' deep_low
-    records-passed lists' more within shallow grown = record {
+    pub records-passed : count < length plan.states → IsShallow plan count → AreRecords plan (count + 1) deep moves deep_low
+    records-passed within shallow = record {
       sized = filled.sized ∙ ap (λ (n : ℕ). n * record_size) (sym (row-more plan.row_depth plan.states count within shallow).1);
-      records = λ i below is_deep.
-          record-grows i (record_place plan.row_depth plan.states i) deep deep moves moves lists lists' (inside i (less i below is_deep) (omega (arith, within)) is_deep) (λ n small. refl) (λ place part at. at)
-          (λ place list at. subst (λ (l : List ℕ). IsListAt l place list) (sym grown) (list-grows lists more place list at))
-          (filled.records i (less i below is_deep) is_deep);
+      records = λ i below is_deep. filled.records i (less i below is_deep) is_deep;
       others = λ i below is_deep past. filled.others i (less i below is_deep) is_deep past;
     }
       where
@@ -197,22 +185,21 @@ module _ (plan : Parts) where
             ]
 
     -- one record more
-    pub record-added : (deep' moves' lists' : List ℕ) (deep_low' link list height place size : ℕ) → count < length plan.states → IsDeepState plan count
+    pub record-added : (deep' moves' : List ℕ) (deep_low' link list height place size : ℕ) → count < length plan.states → IsDeepState plan count
         → deep' ≡ deep ++ link ∷ list ∷ height ∷ place ∷ size ∷ [] → link ≡ number_in plan (fail_in plan.states (source_of plan count))
-        → IsPlaced (matches_in plan.states (source_of plan count)) list lists lists' → height + plan.row_depth ≡ depth_in plan.states count
+        → IsListAt plan.lists list (matches_in plan.states (source_of plan count)) → height + plan.row_depth ≡ depth_in plan.states count
         → moves' ≡ moves ++ moves_of plan count → place ≡ length moves → size ≡ length (moves_of plan count) → IsRising (transitions_of plan count) → depth_in plan.states count ≤ greatest_index
         → deep_low ≤ deep_low' → (deep_low' ≤ number_in plan count → matches_in plan.states (source_of plan count) ≡ [])
-        → AreRecords plan (count + 1) deep' moves' lists' deep_low'
-    record-added deep' moves' lists' deep_low' link list height place size here own is link_is placed height_is moved place_is size_is rising depth_small higher none = record {
+        → AreRecords plan (count + 1) deep' moves' deep_low'
+    record-added deep' moves' deep_low' link list height place size here own is link_is placed height_is moved place_is size_is rising depth_small higher none = record {
       sized =
           ap (λ (l : List ℕ). length l) is ∙ length-append deep (link ∷ list ∷ height ∷ place ∷ size ∷ []) ∙ omega (arith, filled.sized)
           ∙ ap (λ (n : ℕ). n * record_size) (sym (deep-more plan.row_depth plan.states count here own).1);
       records = λ i below is_deep.
-          below-or-last (λ (n : ℕ). IsDeepState plan n → IsRecord plan n deep' (record_place plan.row_depth plan.states n) moves' lists') count
+          below-or-last (λ (n : ℕ). IsDeepState plan n → IsRecord plan n deep' (record_place plan.row_depth plan.states n) moves') count
           (λ n less deep_too.
-          record-grows n (record_place plan.row_depth plan.states n) deep deep' moves moves' lists lists' (inside n less (omega (arith, here)) deep_too) kept
+          record-grows n (record_place plan.row_depth plan.states n) deep deep' moves moves' (inside n less (omega (arith, here)) deep_too) kept
           (λ place part at. subst (λ (l : List ℕ). IsPartAt l place part) (sym moved) (part-grows moves (moves_of plan count) place part at))
-          (λ place list at. subst (λ (l : List ℕ). IsListAt l place list) (sym placed.grown) (list-grows lists placed.more place list at))
           (filled.records n less deep_too))
           (λ deep_too. last) i below is_deep;
       others = λ i below is_deep.
@@ -223,12 +210,12 @@ module _ (plan : Parts) where
         kept : (n : ℕ) → n < length deep → get_or deep' n 0 ≡ get_or deep n 0
         kept n below = ap (λ (l : List ℕ). get_or l n 0) is ∙ get_or_append_left deep (link ∷ list ∷ height ∷ place ∷ size ∷ []) 0 n below
 
-        last : IsRecord plan count deep' (record_place plan.row_depth plan.states count) moves' lists'
+        last : IsRecord plan count deep' (record_place plan.row_depth plan.states count) moves'
         last =
             let words = last-words deep (record_place plan.row_depth plan.states count) link list height place size deep' filled.sized is in
             record {
               link = words.0 ∙ link_is;
-              listed = subst (λ (n : ℕ). IsListAt lists' n (matches_in plan.states (source_of plan count))) (sym words.1) placed.listed;
+              listed = subst (λ (n : ℕ). IsListAt plan.lists n (matches_in plan.states (source_of plan count))) (sym words.1) placed;
               height = ap (λ (n : ℕ). n + plan.row_depth) words.2 ∙ height_is;
               moves_at = subst (λ (n : ℕ). IsPartAt moves' n (moves_of plan count)) (sym words.3)
                   (record { before = moves; after = []; whole = moved ∙ ap (λ (l : List ℕ). moves ++ l) (sym (append-nil (moves_of plan count))); place_is = sym place_is });
@@ -239,22 +226,21 @@ module _ (plan : Parts) where
 
   -- ---- before the first
 
-  pub rows-none : (low : ℕ) → 0 < low → AreRows plan 0 [] (0 ∷ []) low
+  pub rows-none : (low : ℕ) → 0 < low → AreRows plan 0 [] low
   rows-none low some = record {
     sized = sym (ap (λ (n : ℕ). n * stride) (rows-first plan.row_depth plan.states) ∙ nothing);
     entry = λ i class below. absurd (omega (arith, below));
     step = λ i class below. absurd (omega (arith, below));
     listed = λ i below. absurd (omega (arith, below));
     others = λ i below. absurd (omega (arith, below));
-    empty = record { before = []; after = []; whole = refl; place_is = refl };
     some = some;
   }
     where
       nothing : 0 * stride ≡ 0
       nothing = omega arith
 
-  pub records-none : (lists : List ℕ) → AreRecords plan 0 [] [] lists 0
-  records-none lists = record {
+  pub records-none : AreRecords plan 0 [] [] 0
+  records-none = record {
     sized = sym (ap (λ (n : ℕ). n * record_size) (deep-first plan.row_depth plan.states));
     records = λ i below. absurd (omega (arith, below));
     others = λ i below. absurd (omega (arith, below));

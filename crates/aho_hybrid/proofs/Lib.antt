@@ -6,6 +6,7 @@ pub mod Counting
 pub mod Stepping
 pub mod Sizes
 pub mod Filling
+pub mod Shared
 pub mod Near
 pub mod Lows
 pub mod Numbering

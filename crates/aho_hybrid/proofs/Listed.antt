@@ -2,7 +2,7 @@
 use Rattle.std.proofs.Common.{◌≡◌, ℕ, ◌+◌, ◌<◌, ◌≤◌, List, [], ◌∷◌, ◌++◌, length, get_or, take, drop, sym, ap, ◌∙◌, arith}
 use Rattle.std.proofs.Math.Seq.{drop-append-add, drop-append_seam, get_or-append_seam, take-append_seam}
 use Rattle.std.proofs.lemmas.List.{append-nil, append_assoc, length-append}
-use Rattle.aho_hybrid.specs.Filled.{IsListAt, IsPartAt, IsPlaced}
+use Rattle.aho_hybrid.specs.Filled.{IsListAt, IsPartAt}
 use Rattle.aho_hybrid.specs.Layout.{list_from}
 
 -- a list stays where it is when more comes behind
@@ -15,18 +15,13 @@ list-grows lists more place list at = record {
 }
 
 -- a list that is added stands at the end
-pub list-placed : (old mid new list : List ℕ) (place len : ℕ) → place ≡ length old → len ≡ length list → mid ≡ old ++ len ∷ [] → new ≡ mid ++ list → IsPlaced list place old new
-list-placed old mid new list place len place_is len_is mid_is new_is = record {
-  more = length list ∷ list;
-  grown = whole;
-  listed = record { before = old; after = []; whole = whole ∙ ap (λ (l : List ℕ). old ++ length list ∷ l) (sym (append-nil list)); place_is = sym place_is };
+pub list-placed : (old new list : List ℕ) (place : ℕ) → place ≡ length old → new ≡ old ++ length list ∷ list → IsListAt new place list
+list-placed old new list place place_is new_is = record {
+  before = old;
+  after = [];
+  whole = new_is ∙ ap (λ (l : List ℕ). old ++ length list ∷ l) (sym (append-nil list));
+  place_is = sym place_is;
 }
-  where
-    whole : new ≡ old ++ length list ∷ list
-    whole =
-        new_is
-        ∙ ap (λ (l : List ℕ). l ++ list) (mid_is ∙ ap (λ (n : ℕ). old ++ n ∷ []) len_is)
-        ∙ append_assoc old (length list ∷ []) list
 
 module _ (lists : List ℕ) (place : ℕ) (list : List ℕ) (at : IsListAt lists place list) where
   -- what is read there

@@ -34,7 +34,7 @@ module _ (plan : Parts) (words : ℕ) (planned : IsPlan plan words) (filled : Fi
     rows = filled.entries.items;
     deep = filled.deep.items;
     moves = filled.moves.items;
-    lists = filled.lists.items;
+    lists = plan.lists;
     classes = plan.classes;
     start = number_in plan root;
     low = filled.low;
@@ -134,7 +134,7 @@ module _ (plan : Parts) (words : ℕ) (planned : IsPlan plan words) (filled : Fi
   word-of : (i index : ℕ) → i < count → IsDeepState plan i → record_word layout (number_in plan i) index ≡ get_or layout.deep (record_place plan.row_depth plan.states i + index) 0
   word-of i index below deep = ap (λ (m : ℕ). get_or layout.deep (m + index) 0) (place-deep i below deep)
 
-  record-of : (i : ℕ) → i < count → IsDeepState plan i → IsRecord plan i layout.deep (record_place plan.row_depth plan.states i) layout.moves layout.lists
+  record-of : (i : ℕ) → i < count → IsDeepState plan i → IsRecord plan i layout.deep (record_place plan.row_depth plan.states i) layout.moves
   record-of i below deep = done.records.records i below deep
 
   pub height-row : (i : ℕ) → i < count → IsShallow plan i → depth_below_rows layout (number_in plan i) ≡ 0

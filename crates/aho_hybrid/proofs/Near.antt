@@ -77,7 +77,7 @@ module _ (states : List State) (sound : IsSound states) where
     dead_stays = λ dead. eqb-true (step_in states No sid byte) 0 (dead-stays states byte No sid sound step.small (eq-eqb sid 0 dead));
   }
 
-module _ (plan : Parts) (words : ℕ) (planned : IsPlan plan words) (sound : IsSound plan.states) (index : ℕ) (entries lists : List ℕ) (low : ℕ) (rows : AreRows plan index entries lists low)
+module _ (plan : Parts) (words : ℕ) (planned : IsPlan plan words) (sound : IsSound plan.states) (index : ℕ) (entries : List ℕ) (low : ℕ) (rows : AreRows plan index entries low)
     (here : index < length plan.states) (base : ℕ) (has : HasRowBefore plan index base) where
   pub row-is : number_in plan base ≡ row_in plan base
   row-is =

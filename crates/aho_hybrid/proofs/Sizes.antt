@@ -1,5 +1,5 @@
 -- The sizes of what is laid out, and which refusal they come to.
-use Rattle.std.proofs.Common.{◌≡◌, ◌≢◌, ℕ, zero, suc, ◌+◌, ◌-◌, ◌^◌, ◌<◌, ◌≤◌, true, false, List, [], ◌∷◌, length, map, nat_eq, refl, sym, ap, ◌∙◌, inl, inr, arith}
+use Rattle.std.proofs.Common.{◌≡◌, ℕ, zero, suc, ◌+◌, ◌-◌, ◌^◌, ◌<◌, ◌≤◌, true, false, List, [], ◌∷◌, length, map, nat_eq, refl, sym, ap, ◌∙◌, inl, inr, arith}
 use Rattle.std.proofs.Math.Nat.{min-eq_left, min-eq_right}
 use Rattle.std.proofs.lemmas.Bool.{cases_eq, cases_lt, cond-false, cond-true, eq-eqb, le-ltb, lt-ltb, ne_eqb}
 use Rattle.std.proofs.lemmas.List.FromFn.{map-range_with_len_more}
@@ -13,7 +13,7 @@ use Rattle.aho_build.specs.declared.special.Special.{Special}
 use Rattle.aho_corasick.specs.ReadOut.{classes_of, states_of}
 use Rattle.aho_corasick.specs.declared.noncontiguous.NFA.{NFA}
 use Rattle.aho_table.specs.Table.{State, matches_in}
-use Rattle.aho_hybrid.specs.Filled.{FitIndexes, flat, list_words, lists_below, lists_size, moves_below, moves_size, moves_words, number_or_zero, rows_refusal, source_in, state_words, told_size, transition_words}
+use Rattle.aho_hybrid.specs.Filled.{FitIndexes, flat, has_own_list, list_words, lists_below, lists_size, moves_below, moves_size, moves_words, number_or_zero, rows_refusal, state_words, told_size, transition_words}
 
 -- ---- sums over the states below a count
 
@@ -39,41 +39,38 @@ module _ (words : ℕ → ℕ) where
       let whole : one + (other - one) ≡ other = omega (arith, order) in
       omega (arith, further (other - one) one, ap below whole)
 
-module _ (special : Special) (states : List State) where
-  abbrev list_of : ℕ → List ℕ
-  list_of sid = matches_in states (source_in special sid)
-
-  pub lists-first : lists_below special states 0 ≡ 0
+module _ (states : List State) where
+  pub lists-first : lists_below states 0 ≡ 0
   unfolding lists_below
   lists-first = refl
 
-  pub lists-more : (count : ℕ) → lists_below special states (count + 1) ≡ lists_below special states count + list_words (list_of count)
+  pub lists-more : (count : ℕ) → lists_below states (count + 1) ≡ lists_below states count + list_words states count
   unfolding lists_below
-  lists-more count = more (λ sid. list_words (list_of sid)) count
+  lists-more count = more (list_words states) count
 
-  pub lists-grow : (one other : ℕ) → one ≤ other → lists_below special states one ≤ lists_below special states other
+  pub lists-grow : (one other : ℕ) → one ≤ other → lists_below states one ≤ lists_below states other
   unfolding lists_below
-  lists-grow one other order = grows (λ sid. list_words (list_of sid)) one other order
+  lists-grow one other order = grows (list_words states) one other order
 
-  module _ (row_depth : ℕ) where
-    pub moves-first : moves_below row_depth special states 0 ≡ 0
-    unfolding moves_below
-    moves-first = refl
+  -- the words of a list that is its state's own, and of one that is not
+  pub words-own : (sid : ℕ) → has_own_list states sid ≡ true → list_words states sid ≡ length (matches_in states sid) + 1
+  words-own sid own = cond-true (has_own_list states sid) (length (matches_in states sid) + 1) 0 own
 
-    pub moves-more : (count : ℕ) → moves_below row_depth special states (count + 1) ≡ moves_below row_depth special states count + moves_words row_depth special states count
-    unfolding moves_below
-    moves-more count = more (moves_words row_depth special states) count
+  pub words-shared : (sid : ℕ) → has_own_list states sid ≡ false → list_words states sid ≡ 0
+  words-shared sid shared = cond-false (has_own_list states sid) (length (matches_in states sid) + 1) 0 shared
 
-    pub moves-grow : (one other : ℕ) → one ≤ other → moves_below row_depth special states one ≤ moves_below row_depth special states other
-    unfolding moves_below
-    moves-grow one other order = grows (moves_words row_depth special states) one other order
+module _ (special : Special) (states : List State) (row_depth : ℕ) where
+  pub moves-first : moves_below row_depth special states 0 ≡ 0
+  unfolding moves_below
+  moves-first = refl
 
--- the words of a list, by its length
-pub words-none : (list : List ℕ) → length list ≡ 0 → list_words list ≡ 0
-words-none list empty = cond-true (nat_eq (length list) 0) 0 (length list + 1) (eq-eqb (length list) 0 empty)
+  pub moves-more : (count : ℕ) → moves_below row_depth special states (count + 1) ≡ moves_below row_depth special states count + moves_words row_depth special states count
+  unfolding moves_below
+  moves-more count = more (moves_words row_depth special states) count
 
-pub words-some : (list : List ℕ) → length list ≢ 0 → list_words list ≡ length list + 1
-words-some list some = cond-false (nat_eq (length list) 0) 0 (length list + 1) (ne_eqb (length list) 0 some)
+  pub moves-grow : (one other : ℕ) → one ≤ other → moves_below row_depth special states one ≤ moves_below row_depth special states other
+  unfolding moves_below
+  moves-grow one other order = grows (moves_words row_depth special states) one other order
 
 -- transitions have the words that are counted
 pub flat-size : (numbers : List ℕ) (transitions : List (ℕ × ℕ)) → length (flat numbers transitions) ≡ sum_by transition_words transitions

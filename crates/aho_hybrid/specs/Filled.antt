@@ -14,6 +14,7 @@ use Rattle.aho_corasick.specs.declared.noncontiguous.NFA.{NFA}
 use Rattle.aho_hybrid.specs.declared.fill.Filled.{Filled}
 use Rattle.aho_hybrid.specs.declared.fill.Near.{Near}
 use Rattle.aho_hybrid.specs.declared.fill.Plan.{Plan}
+use Rattle.aho_hybrid.specs.declared.lists.Lists.{Lists}
 use Rattle.aho_hybrid.specs.Layout.{Layout, stride_of, record_size}
 
 -- ---- which states have rows, and how the states are numbered
@@ -72,17 +73,57 @@ pub record AreStateNumbers (row_depth : ℕ) (states : List State) (classes : Li
 abbrev pub source_in : Special → ℕ → ℕ
 source_in special index = if nat_eq index dead_id then dead_id else if nat_eq index fail_id || nat_eq index special.start_anchored_id then special.start_unanchored_id else index
 
--- the words of a list: its length and its patterns; all empty lists are one word
-abbrev pub list_words : List ℕ → ℕ
-list_words list = if nat_eq (length list) 0 then 0 else length list + 1
+-- whether the list of a state is its own: it has more patterns than that of the state's link. Any other is the link's
+abbrev pub has_own_list : List State → ℕ → Bool
+has_own_list states sid = nat_lt (length (matches_in states (fail_in states sid))) (length (matches_in states sid))
+
+-- the words of a list of its own: its length and its patterns
+abbrev pub list_words : List State → ℕ → ℕ
+list_words states sid = if has_own_list states sid then length (matches_in states sid) + 1 else 0
 
 -- the words of the lists of the states below the count
-unfoldable pub lists_below : Special → List State → ℕ → ℕ
-lists_below special states count = sum (map (λ sid. list_words (matches_in states (source_in special sid))) (range_with_len 0 count))
+unfoldable pub lists_below : List State → ℕ → ℕ
+lists_below states count = sum (map (list_words states) (range_with_len 0 count))
 
--- the words of all lists
+-- the words of all lists: all empty lists are one word
 abbrev pub lists_size : NFA → ℕ
-lists_size nfa = 1 + lists_below (special_of nfa) (states_of nfa) (length (states_of nfa))
+lists_size nfa = 1 + lists_below (states_of nfa) (length (states_of nfa))
+
+-- at this place the list stands: its length, and then its patterns
+pub record IsListAt (lists : List ℕ) (place : ℕ) (list : List ℕ) : Type 0 where
+  pub before : List ℕ
+  pub after : List ℕ
+  pub whole : lists ≡ before ++ length list ∷ (list ++ after)
+  pub place_is : length before ≡ place
+
+-- the list of each state stands at its place
+pub record AreListPlaces (states : List State) (lists places : List ℕ) : Type 0 where
+  pub sized : length places ≡ length states
+  pub listed : (sid : ℕ) → sid < length states → IsListAt lists (slice_index_or places sid 0) (matches_in states sid)
+
+-- of the states below the count each list of its own stands at its place, and whatever other place is set is that of the state's list
+pub record AreOwnPlaces (states : List State) (count : ℕ) (lists places : List ℕ) : Type 0 where
+  pub sized : length places ≡ count
+  pub empty : IsListAt lists 0 []
+  pub listed : (sid : ℕ) → sid < count → 0 < slice_index_or places sid 0 → IsListAt lists (slice_index_or places sid 0) (matches_in states sid)
+  pub own : (sid : ℕ) → sid < count → has_own_list states sid ≡ true → 0 < slice_index_or places sid 0
+
+-- so do the lists of their own of the states below the count, which take so many words
+pub record AreOwnLists (states : List State) (count : ℕ) (lists : Lists) : Type 0 where
+  pub places : AreOwnPlaces states count lists.words.items lists.places.items
+  pub sized : length lists.words.items ≡ 1 + lists_below states count
+
+-- and the states below the count that list a pattern have a place
+pub record AreShared (states : List State) (count : ℕ) (lists : Lists) : Type 0 where
+  pub places : AreOwnPlaces states (length states) lists.words.items lists.places.items
+  pub set : (sid : ℕ) → sid < count → 0 < length (matches_in states sid) → 0 < slice_index_or lists.places.items sid 0
+
+-- a state has a place now, and whatever has had one has one; the lists stay
+pub record IsSharedDown (states : List State) (sid : ℕ) (old new : Lists) : Type 0 where
+  pub words : new.words.items ≡ old.words.items
+  pub places : AreOwnPlaces states (length states) new.words.items new.places.items
+  pub kept : (other : ℕ) → 0 < slice_index_or old.places.items other 0 → 0 < slice_index_or new.places.items other 0
+  pub set : 0 < length (matches_in states sid) → 0 < slice_index_or new.places.items sid 0
 
 -- the words of a transition: its byte and where it leads, if it leads on
 abbrev pub transition_words : ℕ × ℕ → ℕ
@@ -146,37 +187,43 @@ pub record AreFirstBytes (classes : List Bool) (firsts : List ℕ) : Type 0 wher
   pub sized : length firsts ≡ 256
   pub of_class : (byte : ℕ) → byte < 256 → class_of classes (slice_index_or firsts (class_of classes byte) 0) ≡ class_of classes byte
 
--- what the states are made of: the states that are read out, the borders, a byte for each class, the number of each state, how deep
--- states have rows, and whether a search may skip from the start
+-- what the states are made of: the states that are read out, the borders, a byte for each class, the number of each state, the lists
+-- and where that of each state stands, how deep states have rows, and whether a search may skip from the start
 pub record Parts : Type 0 where
   pub special : Special
   pub states : List State
   pub classes : List Bool
   pub firsts : List ℕ
   pub numbers : List ℕ
+  pub lists : List ℕ
+  pub places : List ℕ
   pub row_depth : ℕ
   pub skips : Bool
 
-abbrev pub parts_of : NFA → List ℕ → List ℕ → ℕ → Bool → Parts
-parts_of nfa firsts numbers row_depth skips = record {
+abbrev pub parts_of : NFA → List ℕ → List ℕ → List ℕ → List ℕ → ℕ → Bool → Parts
+parts_of nfa firsts numbers lists places row_depth skips = record {
   special = special_of nfa;
   states = states_of nfa;
   classes = classes_of nfa;
   firsts = firsts;
   numbers = numbers;
+  lists = lists;
+  places = places;
   row_depth = row_depth;
   skips = skips;
 }
 
 abbrev pub plan_of : NFA → Plan → Parts
-plan_of nfa plan = parts_of nfa plan.firsts plan.numbers.items plan.row_depth plan.skips
+plan_of nfa plan = parts_of nfa plan.firsts plan.numbers.items plan.lists.items plan.places.items plan.row_depth plan.skips
 
--- the numbers are those of the states, and the entries of a row are as many as there are classes, and one
+-- the numbers are those of the states, the places those of their lists, and the entries of a row are as many as there are classes, and
+-- one
 pub record IsPlan (plan : Parts) (stride : ℕ) : Type 0 where
   pub stride_is : stride ≡ stride_of plan.classes
   pub bounded : stride ≤ 257
   pub sized : length plan.firsts ≡ 256
   pub numbered : AreStateNumbers plan.row_depth plan.states plan.classes (length plan.states) plan.numbers
+  pub placed : AreListPlaces plan.states plan.lists plan.places
 
 -- the number of a state, and 0 where there is none
 abbrev pub number_or_zero : List ℕ → ℕ → ℕ
@@ -202,19 +249,6 @@ pub record HasEntries (plan : Parts) (sid count : ℕ) (old new : List ℕ) : Ty
   pub entry : (class : ℕ) → class < count → slice_index_or new (length old + class) 0 ≡ number_in plan (leads_in plan sid class)
   pub step : (class : ℕ) → class < count → IsStep plan.states sid (slice_index_or plan.firsts class 0)
 
--- at this place the list stands: its length, and then its patterns
-pub record IsListAt (lists : List ℕ) (place : ℕ) (list : List ℕ) : Type 0 where
-  pub before : List ℕ
-  pub after : List ℕ
-  pub whole : lists ≡ before ++ length list ∷ (list ++ after)
-  pub place_is : length before ≡ place
-
--- the list stands there now, and the others stand where they stood
-pub record IsPlaced (list : List ℕ) (place : ℕ) (old new : List ℕ) : Type 0 where
-  pub more : List ℕ
-  pub grown : new ≡ old ++ more
-  pub listed : IsListAt new place list
-
 abbrev pub row_in : Parts → ℕ → ℕ
 row_in plan sid = row_at plan.row_depth plan.states plan.classes sid
 
@@ -225,14 +259,13 @@ abbrev pub IsDeepState : Parts → ℕ → Type 0
 IsDeepState plan sid = is_deep plan.row_depth (state_at plan.states sid) ≡ true
 
 -- the rows of the states below the count
-pub record AreRows (plan : Parts) (count : ℕ) (entries lists : List ℕ) (low : ℕ) : Type 0 where
+pub record AreRows (plan : Parts) (count : ℕ) (entries : List ℕ) (low : ℕ) : Type 0 where
   pub sized : length entries ≡ row_in plan count
   pub entry : (i class : ℕ) → i < count → IsShallow plan i → class < class_count plan.classes
       → slice_index_or entries (row_in plan i + class) 0 ≡ number_in plan (leads_in plan (source_in plan.special i) class)
   pub step : (i class : ℕ) → i < count → IsShallow plan i → class < class_count plan.classes → IsStep plan.states (source_in plan.special i) (slice_index_or plan.firsts class 0)
-  pub listed : (i : ℕ) → i < count → IsShallow plan i → IsListAt lists (slice_index_or entries (row_in plan i + class_count plan.classes) 0) (matches_in plan.states (source_in plan.special i))
+  pub listed : (i : ℕ) → i < count → IsShallow plan i → IsListAt plan.lists (slice_index_or entries (row_in plan i + class_count plan.classes) 0) (matches_in plan.states (source_in plan.special i))
   pub others : (i : ℕ) → i < count → IsShallow plan i → low ≤ row_in plan i → matches_in plan.states (source_in plan.special i) ≡ []
-  pub empty : IsListAt lists 0 []
   pub some : 0 < low
 
 -- ---- rows that are near
@@ -290,9 +323,9 @@ abbrev pub moves_of : Parts → ℕ → List ℕ
 moves_of plan sid = flat plan.numbers (transitions_of plan sid)
 
 -- the record of a deep state: its words, where they begin
-pub record IsRecord (plan : Parts) (sid : ℕ) (deep : List ℕ) (at : ℕ) (moves lists : List ℕ) : Type 0 where
+pub record IsRecord (plan : Parts) (sid : ℕ) (deep : List ℕ) (at : ℕ) (moves : List ℕ) : Type 0 where
   pub link : slice_index_or deep (at + 0) 0 ≡ number_in plan (fail_in plan.states (source_of plan sid))
-  pub listed : IsListAt lists (slice_index_or deep (at + 1) 0) (matches_in plan.states (source_of plan sid))
+  pub listed : IsListAt plan.lists (slice_index_or deep (at + 1) 0) (matches_in plan.states (source_of plan sid))
   pub height : slice_index_or deep (at + 2) 0 + plan.row_depth ≡ depth_in plan.states sid
   pub moves_at : IsPartAt moves (slice_index_or deep (at + 3) 0) (moves_of plan sid)
   pub moves_size : slice_index_or deep (at + 4) 0 ≡ length (moves_of plan sid)
@@ -300,9 +333,9 @@ pub record IsRecord (plan : Parts) (sid : ℕ) (deep : List ℕ) (at : ℕ) (mov
   pub depth_small : depth_in plan.states sid ≤ greatest_index
 
 -- the records of the states below the count
-pub record AreRecords (plan : Parts) (count : ℕ) (deep moves lists : List ℕ) (deep_low : ℕ) : Type 0 where
+pub record AreRecords (plan : Parts) (count : ℕ) (deep moves : List ℕ) (deep_low : ℕ) : Type 0 where
   pub sized : length deep ≡ record_place plan.row_depth plan.states count
-  pub records : (i : ℕ) → i < count → IsDeepState plan i → IsRecord plan i deep (record_place plan.row_depth plan.states i) moves lists
+  pub records : (i : ℕ) → i < count → IsDeepState plan i → IsRecord plan i deep (record_place plan.row_depth plan.states i) moves
   pub others : (i : ℕ) → i < count → IsDeepState plan i → deep_low ≤ number_in plan i → matches_in plan.states (source_of plan i) ≡ []
 
 -- the number below which states with rows are special whatever they list: past DEAD and, where a search may skip from it, past the start
@@ -331,9 +364,8 @@ pub record AreLow (plan : Parts) (count : ℕ) (filled : Filled) : Type 0 where
 
 -- the states below the count
 pub record AreLaidOut (plan : Parts) (count : ℕ) (filled : Filled) : Type 0 where
-  pub rows : AreRows plan count filled.entries.items filled.lists.items filled.list_low
-  pub records : AreRecords plan count filled.deep.items filled.moves.items filled.lists.items filled.deep_low
+  pub rows : AreRows plan count filled.entries.items filled.list_low
+  pub records : AreRecords plan count filled.deep.items filled.moves.items filled.deep_low
   pub special : filled.list_low ≤ filled.low
   pub lows : AreLow plan count filled
-  pub lists_sized : length filled.lists.items ≡ 1 + lists_below plan.special plan.states count
   pub moves_sized : length filled.moves.items ≡ moves_below plan.row_depth plan.special plan.states count

@@ -7,8 +7,11 @@ ghost use Rattle.aho_core.specs.Overlapping.{all_occurrences};
 ghost use Rattle.aho_core.specs.Patterns.{Patterns};
 ghost use Rattle.aho_core.specs.declared.search.Anchored.TheVariants.{No};
 ghost use Rattle.aho_core.specs.declared.search.MatchKind.TheVariants.{Standard};
+ghost use Rattle.aho_stream.specs.FindRuns.{FindsAlong};
+ghost use Rattle.aho_stream.specs.Finds.{FindsNextInStream};
+ghost use Rattle.aho_stream.specs.Iterators.{automaton_of};
 ghost use Rattle.aho_stream.specs.Starts.{IsFreshStart};
-ghost use Rattle.aho_hybrid.specs.Alike.{ReplacesAlike};
+ghost use Rattle.aho_hybrid.specs.Alike.{AreFindsGiven, FindsAlike, ReplacesAlike};
 
 use crate::hybrid::Hybrid;
 use aho_automaton::automaton::Automaton;
@@ -17,6 +20,7 @@ use aho_corasick::noncontiguous::NFA;
 use aho_core::error::StreamError;
 use aho_core::search::{Input, Match};
 use aho_devices::device::{Sink, Source};
+use aho_stream::finds::{StreamFindIter, try_stream_find_iter};
 use aho_stream::replace::replace_stream;
 use aho_stream::start::StreamStart;
 use std::alloc::{AllocError, Global};
@@ -97,6 +101,85 @@ pub fn rows_do_not_change_overlapping_finds(
     let by_nfa = overlapping_finds_of(alloc, nfa, haystack)?;
     let by_rows = overlapping_finds_of(alloc, hybrid, haystack)?;
     Ok((by_nfa, by_rows))
+}
+
+/// The matches of two streams, over an `NFA` and over a `Hybrid` of the same patterns: where both sources give the same bytes, the
+/// same.
+///
+/// # Errors
+///
+/// As those of `try_stream_find_iter`, for the first stream that fails: `Read` where a read fails, `PositionLimit` where 2^63 - 1
+/// bytes were given and the end was not seen, and `Memory` where an allocation fails.
+pub fn rows_do_not_change_stream_finds<R: Source>(
+    alloc: Global,
+    nfa: &NFA,
+    hybrid: &Hybrid,
+    source: &mut R,
+    other: &mut R,
+) -> Result<(Vec<Match>, Vec<Match>), StreamError>
+    requires of { (p : Patterns) × ⟦<NFA as Automaton>⟧.is_of nfa.now p
+        × ⟦<Hybrid as Automaton>⟧.is_of hybrid.now p }
+    ensures alike { IfOk result (λ both. FindsAlike R.Source
+        source.old source.new other.old other.new both.0.items both.1.items) }
+    ensures finds { (p : Patterns) → ⟦<Hybrid as Automaton>⟧.is_of hybrid.now p →
+        IfOk result (λ both. AreFindsGiven R.Source p other.old other.new both.1.items) }
+{
+    let by_nfa = stream_finds_of(alloc, nfa, source)?;
+    let by_rows = stream_finds_of(alloc, hybrid, other)?;
+    Ok((by_nfa, by_rows))
+}
+
+/// All matches of what a source gives, up to its end.
+fn stream_finds_of<A: Automaton, R: Source>(
+    alloc: Global,
+    automaton: &A,
+    source: &mut R,
+) -> Result<Vec<Match>, StreamError>
+    requires of { (p : Patterns) × A.is_of automaton.now p }
+    ensures finds { (p : Patterns) → A.is_of automaton.now p →
+        IfOk result (λ found. AreFindsGiven R.Source p source.old source.new found.items) }
+{
+    let mut found = try_stream_find_iter(alloc, automaton, source)?;
+    let matches = collect_matches(alloc, &mut found);
+    let _source = found.into_source();
+    matches
+}
+
+/// The matches that the iterator gives, up to its end.
+fn collect_matches<'a, 'r, A: Automaton, R: Source>(
+    alloc: Global,
+    found: &mut StreamFindIter<'a, 'r, A, R>,
+) -> Result<Vec<Match>, StreamError>
+    requires ready { ⟦<StreamFindIter<'a, 'r, A, R> as Iterator>⟧.can_next found.old }
+    requires along { (p : Patterns) → A.is_of (automaton_of found.old.chunks) p → FindsAlong R.Source
+        ⟦<StreamFindIter<'a, 'r, A, R> as Iterator>⟧.next_gives p found.old }
+    ensures same_source { found.new.chunks.source.ghost_name ≡ found.old.chunks.source.ghost_name }
+    ensures finds { (p : Patterns) → A.is_of (automaton_of found.old.chunks) p →
+        IfOk result (λ matches. AreFindsGiven R.Source p
+        found.old.chunks.source.now found.new.chunks.source.now matches.items) }
+{
+    let mut matches = Vec::new(alloc);
+    loop {
+        match next_of(found) {
+            None => return Ok(matches),
+            Some(Err(error)) => return Err(error),
+            Some(Ok(m)) => {
+                let Ok(()) = matches.push(m) else {
+                    return Err(StreamError::Memory);
+                };
+            }
+        }
+    }
+}
+
+/// The next item of the iterator.
+fn next_of<'a, 'r, A: Automaton, R: Source>(
+    found: &mut StreamFindIter<'a, 'r, A, R>,
+) -> Option<Result<Match, StreamError>>
+    requires ready { ⟦<StreamFindIter<'a, 'r, A, R> as Iterator>⟧.can_next found.old }
+    ensures gives { FindsNextInStream A.Automaton R.Source found.old.chunks found.new.chunks result }
+{
+    found.next()
 }
 
 /// Replacement of two streams, over an `NFA` and over a `Hybrid` of the same patterns: where both sources give the same bytes, both

@@ -5,7 +5,7 @@ ghost use Rattle.aho_core.specs.Numbers.{greatest_index};
 ghost use Rattle.aho_corasick.specs.ReadOut.{states_of, special_of, classes_of};
 ghost use Rattle.aho_table.specs.Table.{fail_id, matches_in, state_at};
 ghost use Rattle.aho_hybrid.specs.Layout.{stride_of};
-ghost use Rattle.aho_hybrid.specs.Filled.{FitIndexes, IsRowDepth, IsTooLarge, deep_count, is_deep, list_words, lists_size, moves_size, moves_words, rows_refusal, rows_count, row_entries, source_in, told_size, transition_words};
+ghost use Rattle.aho_hybrid.specs.Filled.{FitIndexes, IsRowDepth, IsTooLarge, deep_count, has_own_list, is_deep, list_words, lists_size, moves_size, moves_words, rows_refusal, rows_count, row_entries, source_in, told_size, transition_words};
 
 use aho_automaton::automaton::Automaton;
 use aho_build::special::Special;
@@ -17,22 +17,40 @@ use aho_table::links::{DEAD, FAIL, Transitions};
 /// The words of a deep state's record.
 pub const RECORD_SIZE: usize = 5;
 
-/// How many entries all rows have, where all that is laid out fits.
-pub fn dense_size(nfa: &NFA, stride: usize, row_depth: usize) -> Result<usize, BuildError>
+/// How many words the parts of a `Hybrid` have.
+#[derive(Clone, Copy)]
+pub struct Sizes {
+    /// Those of all rows.
+    pub dense: usize,
+    /// Those of all records.
+    pub deep: usize,
+    pub lists: usize,
+    pub moves: usize,
+}
+
+/// How many words all parts have, where they fit.
+pub fn sizes_of(nfa: &NFA, stride: usize, row_depth: usize) -> Result<Sizes, BuildError>
     requires stride { stride ≡ stride_of (classes_of nfa.now) }
     requires bounded { stride ≤ 257 }
-    ensures dense { IfOk result (λ dense.
-        dense ≡ row_entries row_depth (states_of nfa.now) (classes_of nfa.now)) }
-    ensures fits { IfOk result (λ dense. FitIndexes nfa.now row_depth) }
+    ensures dense { IfOk result (λ sizes.
+        sizes.dense ≡ row_entries row_depth (states_of nfa.now) (classes_of nfa.now)) }
+    ensures fits { IfOk result (λ sizes. FitIndexes nfa.now row_depth) }
     ensures refused { IfErr result (λ error. error ≡ rows_refusal nfa.now row_depth) }
 {
     let with_rows = rows_count(nfa, row_depth);
     let dense = with_rows * stride;
-    let size = dense + (nfa.states_len() - with_rows) * RECORD_SIZE;
-    fit(size)?;
-    fit(lists_size(nfa))?;
-    fit(moves_size(nfa, row_depth))?;
-    Ok(dense)
+    let deep = (nfa.states_len() - with_rows) * RECORD_SIZE;
+    fit(dense + deep)?;
+    let lists = lists_size(nfa);
+    fit(lists)?;
+    let moves = moves_size(nfa, row_depth);
+    fit(moves)?;
+    Ok(Sizes {
+        dense,
+        deep,
+        lists,
+        moves,
+    })
 }
 
 /// Refuses a size that is above the greatest index.
@@ -60,18 +78,41 @@ fn lists_size(nfa: &NFA) -> usize
     size
 }
 
-/// How many words the list of a state has, or the greatest `usize`.
+/// How many words the list of a state has, if it is its own, or the greatest `usize`.
 fn list_words(nfa: &NFA, index: usize) -> usize
     requires within { index < length (states_of nfa.now) }
     requires small { index ≤ greatest_index }
-    ensures words { result ≡ told_size (list_words
-        (matches_in (states_of nfa.now) (source_in (special_of nfa.now) index))) }
+    ensures words { result ≡ told_size (list_words (states_of nfa.now) index) }
 {
-    let len = nfa.match_len(source_of(nfa.special(), index));
-    if len == 0 {
+    if !has_own_list(nfa, index) {
         return 0;
     }
-    len.saturating_add(1)
+    list_len(nfa, index).saturating_add(1)
+}
+
+/// Whether the list of a state is its own: it has more patterns than that of the state's link. Any other is the link's.
+pub fn has_own_list(nfa: &NFA, index: usize) -> bool
+    requires within { index < length (states_of nfa.now) }
+    requires small { index ≤ greatest_index }
+    ensures own { result ≡ has_own_list (states_of nfa.now) index }
+{
+    if index == FAIL.as_usize() {
+        return false;
+    }
+    let sid = StateID::new_unchecked(index);
+    nfa.match_len(nfa.fail(sid)) < nfa.match_len(sid)
+}
+
+/// How many patterns a state lists.
+pub fn list_len(nfa: &NFA, index: usize) -> usize
+    requires within { index < length (states_of nfa.now) }
+    requires small { index ≤ greatest_index }
+    ensures len { result ≡ length (matches_in (states_of nfa.now) index) }
+{
+    if index == FAIL.as_usize() {
+        return 0;
+    }
+    nfa.match_len(StateID::new_unchecked(index))
 }
 
 /// How many words the transitions of all states without rows have, or the greatest `usize`.
@@ -136,7 +177,7 @@ pub fn either(first: bool, one: usize, other: usize) -> usize
 fn deepest(nfa: &NFA) -> usize
     ensures deepest { deep_count result (states_of nfa.now) ≡ 0 }
 {
-    let mut most = 0;
+    let mut most: usize = 0;
     for index in 0..nfa.states_len() {
         most = most.max(nfa.depth(StateID::new_unchecked(index)));
     }

@@ -11,16 +11,17 @@ ghost use Rattle.aho_table.specs.Table.{matches_in};
 ghost use Rattle.aho_hybrid.specs.Layout.{IsSoundLayout, stride_of};
 ghost use Rattle.aho_hybrid.specs.Reading.{IsLayoutOf};
 ghost use Rattle.aho_hybrid.specs.Made.{AreMarkedIn, IsLaidOutOf};
-ghost use Rattle.aho_hybrid.specs.Filled.{AreFirstBytes, AreMarked, AreStateNumbers, AreRows, HasEntries, HasRowBefore, FitIndexes, IsDeepState, AreLaidOut, IsListAt, IsNear, IsOutOfMemory, IsPlaced, IsPlan, IsRowsRefusal, IsShallow, IsStep, IsToldBy, first_low, flat, is_deep, leads_in, list_words, number_or_zero, number_in, plan_of, row_entries, state_words};
+ghost use Rattle.aho_hybrid.specs.Filled.{AreFirstBytes, AreMarked, AreStateNumbers, AreRows, HasEntries, HasRowBefore, FitIndexes, IsDeepState, AreLaidOut, IsNear, IsOutOfMemory, IsPlan, IsRowsRefusal, IsShallow, IsStep, IsToldBy, first_low, flat, is_deep, leads_in, number_or_zero, number_in, plan_of, row_entries, state_words};
 
-use crate::budget::{RECORD_SIZE, dense_size, either, is_deep, row_depth, source_of};
+use crate::budget::{RECORD_SIZE, Sizes, either, is_deep, row_depth, sizes_of, source_of};
+use crate::lists::lists_of;
 use crate::rows::Rows;
 use aho_automaton::automaton::Automaton;
 use aho_corasick::noncontiguous::NFA;
 use aho_core::error::BuildError;
 use aho_core::search::{Anchored, SmallIndex, StateID};
 use aho_table::alphabet::ByteClasses;
-use aho_table::links::{DEAD, FAIL, Matches, Transitions};
+use aho_table::links::{FAIL, Transitions};
 use std::alloc::Global;
 
 /// How the states of an `NFA` are laid out.
@@ -34,6 +35,10 @@ struct Plan {
     firsts: [u8; 256],
     /// The number of each state, by that which the `NFA` knows it by.
     numbers: Vec<SmallIndex>,
+    /// For each list its length, and then its patterns.
+    lists: Vec<SmallIndex>,
+    /// Where the list of each state stands, by the number that the `NFA` knows the state by.
+    places: Vec<SmallIndex>,
     /// Whether a search may skip from the start.
     skips: bool,
 }
@@ -44,7 +49,6 @@ struct Filled {
     entries: Vec<SmallIndex>,
     deep: Vec<SmallIndex>,
     moves: Vec<SmallIndex>,
-    lists: Vec<SmallIndex>,
     /// The states with rows are special below this number.
     low: usize,
     /// A state with a row is below this number if it is dead or lists a pattern.
@@ -72,22 +76,26 @@ pub fn rows_of(alloc: Global, nfa: &NFA, budget: usize, skips: bool) -> Result<R
 {
     let stride = nfa.byte_classes().alphabet_len() + 1;
     let row_depth = row_depth(nfa, stride, budget);
-    let dense = dense_size(nfa, stride, row_depth)?;
+    let sizes = sizes_of(nfa, stride, row_depth)?;
+    let numbers = numbers_of(alloc, nfa, stride, row_depth, sizes.dense)?;
+    let lists = lists_of(alloc, nfa, sizes.lists)?;
     let plan = Plan {
         stride,
         row_depth,
         firsts: first_bytes(nfa.byte_classes()),
-        numbers: numbers_of(alloc, nfa, stride, row_depth, dense)?,
+        numbers,
+        lists: lists.words,
+        places: lists.places,
         skips,
     };
-    let filled = filled_states(alloc, nfa, &plan)?;
+    let filled = filled_states(alloc, nfa, &plan, sizes)?;
     let start = number_or_zero(&plan.numbers, nfa.special().start_unanchored_id);
     Ok(Rows {
         classes: nfa.byte_classes().copy(),
         entries: filled.entries,
         deep: filled.deep,
         moves: filled.moves,
-        lists: filled.lists,
+        lists: plan.lists,
         start: StateID::new_unchecked(start.as_usize()),
         low: filled.low,
         list_low: filled.list_low,
@@ -111,7 +119,7 @@ fn numbers_of(
         (classes_of nfa.now) (length (states_of nfa.now)) numbers.items) }
     ensures refused { IfErr result IsOutOfMemory }
 {
-    let mut numbers = Vec::new(alloc);
+    let mut numbers = vec_of(alloc, nfa.states_len())?;
     let mut row = 0;
     let mut record = dense;
     for index in 0..nfa.states_len() {
@@ -125,22 +133,20 @@ fn numbers_of(
 }
 
 /// All states.
-fn filled_states(alloc: Global, nfa: &NFA, plan: &Plan) -> Result<Filled, BuildError>
+fn filled_states(alloc: Global, nfa: &NFA, plan: &Plan, sizes: Sizes) -> Result<Filled, BuildError>
     requires plan { IsPlan (plan_of nfa.now plan.now) plan.now.stride }
     requires fits { FitIndexes nfa.now plan.now.row_depth }
     ensures filled { IfOk result (AreLaidOut (plan_of nfa.now plan.now) (length (states_of nfa.now))) }
     ensures refused { IfErr result IsOutOfMemory }
 {
     let mut filled = Filled {
-        entries: Vec::new(alloc),
-        deep: Vec::new(alloc),
-        moves: Vec::new(alloc),
-        lists: Vec::new(alloc),
+        entries: vec_of(alloc, sizes.dense)?,
+        deep: vec_of(alloc, sizes.deep)?,
+        moves: vec_of(alloc, sizes.moves)?,
         low: first_low(nfa, plan),
         list_low: 1,
         deep_low: 0,
     };
-    push(&mut filled.lists, SmallIndex::new_unchecked(0))?;
     for index in 0..nfa.states_len() {
         add_state(&mut filled, nfa, plan, index)?;
     }
@@ -192,8 +198,7 @@ fn add_row(filled: &mut Filled, nfa: &NFA, plan: &Plan, index: usize) -> Result<
     let sid = source_of(nfa.special(), index);
     let near = nearest_row(&filled.entries, nfa, plan, index, sid);
     push_entries(&mut filled.entries, nfa, plan, sid, &near)?;
-    let place = push_list(&mut filled.lists, nfa, sid)?;
-    push(&mut filled.entries, place)?;
+    push(&mut filled.entries, entry_at(&plan.places, sid.as_usize()))?;
     filled.list_low = low_with(filled.list_low, filled.entries.len(), nfa.match_len(sid));
     filled.low = filled.low.max(filled.list_low);
     Ok(())
@@ -212,12 +217,11 @@ fn add_record(filled: &mut Filled, nfa: &NFA, plan: &Plan, index: usize) -> Resu
 {
     let own = StateID::new_unchecked(index);
     let sid = source_of(nfa.special(), index);
-    let list = push_list(&mut filled.lists, nfa, sid)?;
     let place = filled.moves.len();
     push_moves(&mut filled.moves, nfa.transitions(sid), &plan.numbers)?;
     let record = Record {
         link: number_or_zero(&plan.numbers, nfa.fail(sid)),
-        list,
+        list: entry_at(&plan.places, sid.as_usize()),
         height: SmallIndex::new_unchecked(nfa.depth(own) - plan.row_depth),
         place: SmallIndex::new_unchecked(place),
         count: SmallIndex::new_unchecked(filled.moves.len() - place),
@@ -294,8 +298,19 @@ fn push_move(
     push(moves, number_or_zero(numbers, next))
 }
 
+/// A vector with room for so many.
+pub fn vec_of(alloc: Global, size: usize) -> Result<Vec<SmallIndex>, BuildError>
+    ensures empty { IfOk result (λ list. list.items ≡ []) }
+    ensures refused { IfErr result IsOutOfMemory }
+{
+    match Vec::with_capacity(alloc, size) {
+        Ok(list) => Ok(list),
+        Err(_) => Err(BuildError::OutOfMemory),
+    }
+}
+
 /// One more at the end.
-fn push(list: &mut Vec<SmallIndex>, index: SmallIndex) -> Result<(), BuildError>
+pub fn push(list: &mut Vec<SmallIndex>, index: SmallIndex) -> Result<(), BuildError>
     ensures pushed { OnOk result (list.new.items ≡ list.old.items ++ index ∷ []) }
     ensures refused { IfErr result IsOutOfMemory }
 {
@@ -342,8 +357,7 @@ fn nearest_row(entries: &[SmallIndex], nfa: &NFA, plan: &Plan, index: usize, sid
     requires state { IsState (states_of nfa.now) sid }
     requires within { index < length (states_of nfa.now) }
     requires small { index ≤ greatest_index }
-    requires rows { (lists : List ℕ) × (low : ℕ)
-        × AreRows (plan_of nfa.now plan.now) index entries.now lists low }
+    requires rows { (low : ℕ) × AreRows (plan_of nfa.now plan.now) index entries.now low }
     ensures near { IsNear (plan_of nfa.now plan.now) sid entries.now result }
 {
     let len = nfa.states_len();
@@ -448,36 +462,4 @@ fn entry_at(entries: &[SmallIndex], place: usize) -> SmallIndex
         Some(entry) => *entry,
         None => SmallIndex::new_unchecked(0),
     }
-}
-
-/// The list of a state at the end of the lists, its length first; an empty one stands at the front. Answers where it stands.
-fn push_list(lists: &mut Vec<SmallIndex>, nfa: &NFA, sid: StateID) -> Result<SmallIndex, BuildError>
-    requires state { IsState (states_of nfa.now) sid }
-    requires empty { IsListAt lists.old.items 0 [] }
-    requires room { length lists.old.items + list_words (matches_in (states_of nfa.now) sid) ≤ greatest_index }
-    ensures placed { IfOk result (λ place.
-        IsPlaced (matches_in (states_of nfa.now) sid) place lists.old.items lists.new.items) }
-    ensures grown { OnOk result (length lists.new.items
-        ≡ length lists.old.items + list_words (matches_in (states_of nfa.now) sid)) }
-    ensures refused { IfErr result IsOutOfMemory }
-{
-    let len = nfa.match_len(sid);
-    if len == 0 {
-        return Ok(SmallIndex::new_unchecked(0));
-    }
-    let place = lists.len();
-    push(lists, SmallIndex::new_unchecked(len))?;
-    push_patterns(lists, nfa.matches(sid))?;
-    Ok(SmallIndex::new_unchecked(place))
-}
-
-/// These patterns at the end of the lists.
-fn push_patterns(lists: &mut Vec<SmallIndex>, matches: Matches<'_>) -> Result<(), BuildError>
-    ensures pushed { OnOk result (lists.new.items ≡ lists.old.items ++ matches.entry) }
-    ensures refused { IfErr result IsOutOfMemory }
-{
-    for pattern in matches {
-        push(lists, SmallIndex::new_unchecked(pattern.as_usize()))?;
-    }
-    Ok(())
 }

@@ -5,4 +5,5 @@ pub mod answers;
 mod budget;
 mod fill;
 pub mod hybrid;
+mod lists;
 mod rows;

@@ -1,45 +1,45 @@
 -- A hash of bytes is the same wherever the same bytes stand, and a whole word tells it.
-use Rattle.std.proofs.Common.{◌≡◌, ℕ, ◌+◌, ◌-◌, ◌*◌, ◌%◌, ◌^◌, ◌<◌, ◌≤◌, zero, suc, List, get_or, refl, sym, ap, ◌∙◌, arith}
+use Rattle.std.proofs.Common.{◌≡◌, ℕ, ◌+◌, ◌-◌, ◌*◌, ◌%◌, ◌^◌, ◌<◌, ◌≤◌, zero, suc, Bool, List, get_or, refl, sym, ap, ◌∙◌, arith}
 use Rattle.std.proofs.Math.Nat.{add-mul-mod_self_right, pow-suc}
 use Rattle.std.proofs.lemmas.Nat.{mul-mod_second, pow-add}
-use Rattle.aho_prefilter.specs.Strided.{factor_for, gram_hash, half_of, hash_at, head_hash, number_of_bytes}
+use Rattle.aho_prefilter.specs.Strided.{caseless, factor_for, gram_hash, half_of, hash_at, head_hash, number_of_bytes}
 use Rattle.aho_prefilter.specs.declared.strided.sizes.Sizes.{Sizes}
 
--- so many bytes of one list from i on are those of another from j on
-abbrev pub AreSame : ℕ → List ℕ → ℕ → List ℕ → ℕ → Type 0
-AreSame count xs i ys j = (k : ℕ) → k < count → get_or xs (i + k) 0 ≡ get_or ys (j + k) 0
+-- so many bytes of one list from i on are hashed as those of another from j on
+abbrev pub AreSame : Bool → ℕ → List ℕ → ℕ → List ℕ → ℕ → Type 0
+AreSame rule count xs i ys j = (k : ℕ) → k < count → caseless rule (get_or xs (i + k) 0) ≡ caseless rule (get_or ys (j + k) 0)
 
-pub number_of_bytes-same : (count : ℕ) (xs : List ℕ) (i : ℕ) (ys : List ℕ) (j : ℕ) → AreSame count xs i ys j → number_of_bytes count xs i ≡ number_of_bytes count ys j
-number_of_bytes-same zero xs i ys j same = refl
-number_of_bytes-same (suc count) xs i ys j same =
+pub number_of_bytes-same : (count : ℕ) (rule : Bool) (xs : List ℕ) (i : ℕ) (ys : List ℕ) (j : ℕ) → AreSame rule count xs i ys j → number_of_bytes rule count xs i ≡ number_of_bytes rule count ys j
+number_of_bytes-same zero rule xs i ys j same = refl
+number_of_bytes-same (suc count) rule xs i ys j same =
     let here : i + 0 ≡ i = omega arith in
     let there : j + 0 ≡ j = omega arith in
-    let first : get_or xs i 0 ≡ get_or ys j 0 = ap (λ n. get_or xs n 0) (sym here) ∙ same 0 (omega arith) ∙ ap (λ n. get_or ys n 0) there in
-    let rest : number_of_bytes count xs (i + 1) ≡ number_of_bytes count ys (j + 1) =
-    number_of_bytes-same count xs (i + 1) ys (j + 1)
+    let first : caseless rule (get_or xs i 0) ≡ caseless rule (get_or ys j 0) = ap (λ n. caseless rule (get_or xs n 0)) (sym here) ∙ same 0 (omega arith) ∙ ap (λ n. caseless rule (get_or ys n 0)) there in
+    let rest : number_of_bytes rule count xs (i + 1) ≡ number_of_bytes rule count ys (j + 1) =
+    number_of_bytes-same count rule xs (i + 1) ys (j + 1)
     (λ k below.
     let next : i + 1 + k ≡ i + (k + 1) = omega arith in
     let also : j + (k + 1) ≡ j + 1 + k = omega arith in
-    ap (λ n. get_or xs n 0) next ∙ same (k + 1) (omega arith) ∙ ap (λ n. get_or ys n 0) also) in
+    ap (λ n. caseless rule (get_or xs n 0)) next ∙ same (k + 1) (omega arith) ∙ ap (λ n. caseless rule (get_or ys n 0)) also) in
     omega (arith, first, rest)
 
-pub hash_at-same : (number count : ℕ) (xs : List ℕ) (i : ℕ) (ys : List ℕ) (j : ℕ) → AreSame count xs i ys j → hash_at number count xs i ≡ hash_at number count ys j
-hash_at-same number count xs i ys j same = ap (λ n. n * factor_for number count % 2 ^ 64) (number_of_bytes-same count xs i ys j same)
+pub hash_at-same : (rule : Bool) (number count : ℕ) (xs : List ℕ) (i : ℕ) (ys : List ℕ) (j : ℕ) → AreSame rule count xs i ys j → hash_at rule number count xs i ≡ hash_at rule number count ys j
+hash_at-same rule number count xs i ys j same = ap (λ n. n * factor_for number count % 2 ^ 64) (number_of_bytes-same count rule xs i ys j same)
 
 -- the number of more bytes
-number_of_bytes-more : (count more all : ℕ) (bytes : List ℕ) (at : ℕ) → all ≡ count + more
-    → number_of_bytes all bytes at ≡ number_of_bytes count bytes at + 256 ^ count * number_of_bytes more bytes (at + count)
-number_of_bytes-more zero more all bytes at is =
+number_of_bytes-more : (count : ℕ) (rule : Bool) (more all : ℕ) (bytes : List ℕ) (at : ℕ) → all ≡ count + more
+    → number_of_bytes rule all bytes at ≡ number_of_bytes rule count bytes at + 256 ^ count * number_of_bytes rule more bytes (at + count)
+number_of_bytes-more zero rule more all bytes at is =
     let whole : all ≡ more = omega arith in
-    let moved : number_of_bytes more bytes at ≡ number_of_bytes more bytes (at + 0) = ap (λ n. number_of_bytes more bytes n) (omega arith) in
-    omega (arith, ap (λ n. number_of_bytes n bytes at) whole, moved)
-number_of_bytes-more (suc count) more all bytes at is =
-    let rest = number_of_bytes-more count more (count + more) bytes (at + 1) refl in
-    let moved : number_of_bytes more bytes (at + 1 + count) ≡ number_of_bytes more bytes (at + suc count) = ap (λ n. number_of_bytes more bytes n) (omega arith) in
+    let moved : number_of_bytes rule more bytes at ≡ number_of_bytes rule more bytes (at + 0) = ap (λ n. number_of_bytes rule more bytes n) (omega arith) in
+    omega (arith, ap (λ n. number_of_bytes rule n bytes at) whole, moved)
+number_of_bytes-more (suc count) rule more all bytes at is =
+    let rest = number_of_bytes-more count rule more (count + more) bytes (at + 1) refl in
+    let moved : number_of_bytes rule more bytes (at + 1 + count) ≡ number_of_bytes rule more bytes (at + suc count) = ap (λ n. number_of_bytes rule more bytes n) (omega arith) in
     let whole : all ≡ suc (count + more) = omega arith in
-    let product : 256 ^ suc count * number_of_bytes more bytes (at + suc count) ≡ 256 ^ count * 256 * number_of_bytes more bytes (at + suc count) =
-    ap (λ n. n * number_of_bytes more bytes (at + suc count)) (pow-suc 256 count) in
-    omega (arith, ap (λ n. number_of_bytes n bytes at) whole, rest, ap (λ n. 256 ^ count * n) moved, product)
+    let product : 256 ^ suc count * number_of_bytes rule more bytes (at + suc count) ≡ 256 ^ count * 256 * number_of_bytes rule more bytes (at + suc count) =
+    ap (λ n. n * number_of_bytes rule more bytes (at + suc count)) (pow-suc 256 count) in
+    omega (arith, ap (λ n. number_of_bytes rule n bytes at) whole, rest, ap (λ n. 256 ^ count * n) moved, product)
 
 -- the bytes behind those that a hash is of are multiplied away
 pow-bytes : (count : ℕ) → 256 ^ count ≡ 2 ^ (8 * count)
@@ -59,13 +59,13 @@ away count few =
 product-more : (low high part shift number whole : ℕ) → part * shift ≡ whole → (low + part * high) * (number * shift) ≡ low * (number * shift) + high * number * whole
 product-more low high part shift number whole is = omega (arith, ap (λ n. high * number * n) is)
 
-pub hash_at-word : (number count : ℕ) (bytes : List ℕ) (at : ℕ) → count ≤ 8 → number_of_bytes 8 bytes at * factor_for number count % 2 ^ 64 ≡ hash_at number count bytes at
-hash_at-word number count bytes at few =
-    let low = number_of_bytes count bytes at in
-    let high = number_of_bytes (8 - count) bytes (at + count) in
+pub hash_at-word : (rule : Bool) (number count : ℕ) (bytes : List ℕ) (at : ℕ) → count ≤ 8 → number_of_bytes rule 8 bytes at * factor_for number count % 2 ^ 64 ≡ hash_at rule number count bytes at
+hash_at-word rule number count bytes at few =
+    let low = number_of_bytes rule count bytes at in
+    let high = number_of_bytes rule (8 - count) bytes (at + count) in
     let shift = 2 ^ (64 - 8 * count) in
-    let word : number_of_bytes 8 bytes at ≡ low + 256 ^ count * high = number_of_bytes-more count (8 - count) 8 bytes at (omega arith) in
-    mul-mod_second (number_of_bytes 8 bytes at) (number * shift) (2 ^ 64)
+    let word : number_of_bytes rule 8 bytes at ≡ low + 256 ^ count * high = number_of_bytes-more count rule (8 - count) 8 bytes at (omega arith) in
+    mul-mod_second (number_of_bytes rule 8 bytes at) (number * shift) (2 ^ 64)
     ∙ ap (λ n. n * (number * shift) % 2 ^ 64) word
     ∙ ap (λ n. n % 2 ^ 64) (product-more low high (256 ^ count) shift number (2 ^ 64) (away count few))
     ∙ add-mul-mod_self_right (low * (number * shift)) (high * number) (2 ^ 64)
@@ -73,20 +73,20 @@ hash_at-word number count bytes at few =
 
 -- the hash of a head, by its two words
 pub head_hash-words : (sizes : Sizes) (bytes : List ℕ) (at first low last high : ℕ)
-    → first ≡ number_of_bytes 8 bytes at → low ≡ factor_for 0xD6E8_FEB8_6659_FD93 (half_of sizes)
-    → last ≡ number_of_bytes 8 bytes (at + (sizes.head - half_of sizes)) → high ≡ factor_for 0xA076_1D64_78BD_642F (half_of sizes)
+    → first ≡ number_of_bytes sizes.ignore_case 8 bytes at → low ≡ factor_for 0xD6E8_FEB8_6659_FD93 (half_of sizes)
+    → last ≡ number_of_bytes sizes.ignore_case 8 bytes (at + (sizes.head - half_of sizes)) → high ≡ factor_for 0xA076_1D64_78BD_642F (half_of sizes)
     → (first * low % 2 ^ 64 + last * high % 2 ^ 64) % 2 ^ 64 ≡ head_hash sizes bytes at
 head_hash-words sizes bytes at first low last high first_is low_is last_is high_is =
-    let front : first * low % 2 ^ 64 ≡ hash_at 0xD6E8_FEB8_6659_FD93 (half_of sizes) bytes at =
-    ap (λ n. n * low % 2 ^ 64) first_is ∙ ap (λ n. number_of_bytes 8 bytes at * n % 2 ^ 64) low_is ∙ hash_at-word 0xD6E8_FEB8_6659_FD93 (half_of sizes) bytes at (omega arith) in
-    let back : last * high % 2 ^ 64 ≡ hash_at 0xA076_1D64_78BD_642F (half_of sizes) bytes (at + (sizes.head - half_of sizes)) =
-    ap (λ n. n * high % 2 ^ 64) last_is ∙ ap (λ n. number_of_bytes 8 bytes (at + (sizes.head - half_of sizes)) * n % 2 ^ 64) high_is ∙ hash_at-word 0xA076_1D64_78BD_642F (half_of sizes) bytes (at + (sizes.head - half_of sizes)) (omega arith) in
-    ap (λ n. (n + last * high % 2 ^ 64) % 2 ^ 64) front ∙ ap (λ n. (hash_at 0xD6E8_FEB8_6659_FD93 (half_of sizes) bytes at + n) % 2 ^ 64) back
+    let front : first * low % 2 ^ 64 ≡ hash_at sizes.ignore_case 0xD6E8_FEB8_6659_FD93 (half_of sizes) bytes at =
+    ap (λ n. n * low % 2 ^ 64) first_is ∙ ap (λ n. number_of_bytes sizes.ignore_case 8 bytes at * n % 2 ^ 64) low_is ∙ hash_at-word sizes.ignore_case 0xD6E8_FEB8_6659_FD93 (half_of sizes) bytes at (omega arith) in
+    let back : last * high % 2 ^ 64 ≡ hash_at sizes.ignore_case 0xA076_1D64_78BD_642F (half_of sizes) bytes (at + (sizes.head - half_of sizes)) =
+    ap (λ n. n * high % 2 ^ 64) last_is ∙ ap (λ n. number_of_bytes sizes.ignore_case 8 bytes (at + (sizes.head - half_of sizes)) * n % 2 ^ 64) high_is ∙ hash_at-word sizes.ignore_case 0xA076_1D64_78BD_642F (half_of sizes) bytes (at + (sizes.head - half_of sizes)) (omega arith) in
+    ap (λ n. (n + last * high % 2 ^ 64) % 2 ^ 64) front ∙ ap (λ n. (hash_at sizes.ignore_case 0xD6E8_FEB8_6659_FD93 (half_of sizes) bytes at + n) % 2 ^ 64) back
 
 -- and that of a gram, by one word
-pub gram_hash-word : (sizes : Sizes) (bytes : List ℕ) (at word factor : ℕ) → sizes.gram ≤ 8 → word ≡ number_of_bytes 8 bytes at → factor ≡ factor_for 0x9E37_79B9_7F4A_7C15 sizes.gram
+pub gram_hash-word : (sizes : Sizes) (bytes : List ℕ) (at word factor : ℕ) → sizes.gram ≤ 8 → word ≡ number_of_bytes sizes.ignore_case 8 bytes at → factor ≡ factor_for 0x9E37_79B9_7F4A_7C15 sizes.gram
     → word * factor % 2 ^ 64 ≡ gram_hash sizes bytes at
 gram_hash-word sizes bytes at word factor short word_is factor_is =
     ap (λ n. n * factor % 2 ^ 64) word_is
-    ∙ ap (λ n. number_of_bytes 8 bytes at * n % 2 ^ 64) factor_is
-    ∙ hash_at-word 0x9E37_79B9_7F4A_7C15 sizes.gram bytes at short
+    ∙ ap (λ n. number_of_bytes sizes.ignore_case 8 bytes at * n % 2 ^ 64) factor_is
+    ∙ hash_at-word sizes.ignore_case 0x9E37_79B9_7F4A_7C15 sizes.gram bytes at short

@@ -34,10 +34,10 @@ pub least_head-each : (words : List (List ℕ)) (k : ℕ) → k < length words �
 least_head-each words k below = least-each words 16 k below
 
 -- the sizes fit
-pub sizes_for-sized : (s : Shape) (sizes : Sizes) → s.head ≤ 16 → sizes_for s ≡ Some sizes → AreStrideSizes sizes × (sizes.head ≡ s.head)
+pub sizes_for-sized : (s : Shape) (sizes : Sizes) → s.head ≤ 16 → sizes_for s ≡ Some sizes → AreStrideSizes sizes × (sizes.head ≡ s.head) × (sizes.ignore_case ≡ s.ignore_case)
 sizes_for-sized s sizes few held = by_tests (is_small s) (is_crowded s) refl held
   where
-    made : 5 ≤ s.head → AreStrideSizes (record { gram = gram_for s; stride = stride_for s; head = s.head })
+    made : 5 ≤ s.head → AreStrideSizes (record { gram = gram_for s; stride = stride_for s; head = s.head; ignore_case = s.ignore_case })
     made long = record {
       some = omega arith;
       gram = omega arith;
@@ -48,28 +48,27 @@ sizes_for-sized s sizes few held = by_tests (is_small s) (is_crowded s) refl hel
     }
 
     by_tests : (small crowded : Bool) → is_small s ≡ small
-        → (if small then Nothing else if crowded then Nothing else Some (record { gram = gram_for s; stride = stride_for s; head = s.head })) ≡ Some sizes
-        → AreStrideSizes sizes × (sizes.head ≡ s.head)
+        → (if small then Nothing else if crowded then Nothing else Some (record { gram = gram_for s; stride = stride_for s; head = s.head; ignore_case = s.ignore_case })) ≡ Some sizes
+        → AreStrideSizes sizes × (sizes.head ≡ s.head) × (sizes.ignore_case ≡ s.ignore_case)
     by_tests true crowded is other = cc
     by_tests false true is other = cc
     by_tests false false is other =
-        let e : sizes ≡ record { gram = gram_for s; stride = stride_for s; head = s.head } = cc in
+        let e : sizes ≡ record { gram = gram_for s; stride = stride_for s; head = s.head; ignore_case = s.ignore_case } = cc in
         let long : 5 ≤ s.head = grind (arith, nat_tests, is) in
-        (subst AreStrideSizes (sym e) (made long), ap (λ (t : Sizes). t.head) e)
+        (subst AreStrideSizes (sym e) (made long), ap (λ (t : Sizes). t.head) e, ap (λ (t : Sizes). t.ignore_case) e)
 
 pub strided_for-of : (p : Patterns) (searcher : Searcher) → strided_for p ≡ Some searcher → IsPrefilterOf searcher p
-strided_for-of p searcher held = by_rule p.ignore_case (sizes_for (shape_of p.words)) refl refl held
+strided_for-of p searcher held = by_sizes (sizes_for (shape_of p.ignore_case p.words)) refl held
   where
-    by_rule : (ignore_case : Bool) (found : Option Sizes) → p.ignore_case ≡ ignore_case → sizes_for (shape_of p.words) ≡ found
-        → (if ignore_case then Nothing else option_map (λ (sizes : Sizes). Strided (marks_of sizes p.words)) found) ≡ Some searcher → IsPrefilterOf searcher p
-    by_rule true found rule are is = cc
-    by_rule false Nothing rule are is = cc
-    by_rule false (Some sizes) rule are is =
+    by_sizes : (found : Option Sizes) → sizes_for (shape_of p.ignore_case p.words) ≡ found
+        → option_map (λ (sizes : Sizes). Strided (marks_of sizes p.words)) found ≡ Some searcher → IsPrefilterOf searcher p
+    by_sizes Nothing are is = cc
+    by_sizes (Some sizes) are is =
         let e : searcher ≡ Strided (marks_of sizes p.words) = cc in
-        let sized = sizes_for-sized (shape_of p.words) sizes (least_head-few p.words) are in
+        let sized = sizes_for-sized (shape_of p.ignore_case p.words) sizes (least_head-few p.words) are in
         let same : (marks_of sizes p.words).sizes ≡ sizes = fold-sizes p.words (no_marks sizes (length p.words)) in
         let made : AreMarksOf p (marks_of sizes p.words) = record {
-          exact = rule;
+          rule = ap (λ (t : Sizes). t.ignore_case) same ∙ sized.2;
           sizes = subst AreStrideSizes (sym same) sized.0;
           each = λ k below. HasMarksOf-all sizes p.words k sized.0 below (omega (arith, sized.1, least_head-each p.words k below));
         } in
@@ -97,12 +96,11 @@ held_or_packed-held p Nothing is = tt
 held_or_packed-held p (Some searcher) is = held_or_packed-of p searcher (sym is)
 
 -- where a strided search is better and has its sizes, it is held
-pub quickest_for-strided : (p : Patterns) (other : Option Searcher) (sizes : Sizes) → p.ignore_case ≡ false → other ≡ held_or_packed p → yields other ≡ true
-    → sizes_for (shape_of p.words) ≡ Some sizes → Some (Strided (marks_of sizes p.words)) ≡ quickest_for p
-quickest_for-strided p other sizes rule is better found =
+pub quickest_for-strided : (p : Patterns) (other : Option Searcher) (sizes : Sizes) → other ≡ held_or_packed p → yields other ≡ true
+    → sizes_for (shape_of p.ignore_case p.words) ≡ Some sizes → Some (Strided (marks_of sizes p.words)) ≡ quickest_for p
+quickest_for-strided p other sizes is better found =
     let there : strided_for p ≡ Some (Strided (marks_of sizes p.words)) =
-    ap (λ (b : Bool). if b then Nothing else option_map (λ (t : Sizes). Strided (marks_of t p.words)) (sizes_for (shape_of p.words))) rule
-    ∙ ap (λ (o : Option Sizes). option_map (λ (t : Sizes). Strided (marks_of t p.words)) o) found in
+    ap (λ (o : Option Sizes). option_map (λ (t : Sizes). Strided (marks_of t p.words)) o) found in
     let way : yields (held_or_packed p) ≡ true = ap yields (sym is) ∙ better in
     sym
     (ap (λ (b : Bool). if b then option_or (strided_for p) (held_or_packed p) else held_or_packed p) way

@@ -32,3 +32,5 @@ pub mod StridedSound
 pub mod StridedFinds
 -- that a strided search that is held is a prefilter of the patterns
 pub mod HeldStrided
+-- bytes that are the same by the case rule are hashed alike
+pub mod Caseless

@@ -1,5 +1,5 @@
 -- The strided search for the patterns stops no later than where the first one occurs.
-use Rattle.std.proofs.Common.{◌≡◌, ℕ, ◌+◌, ◌-◌, ◌<◌, ◌≤◌, inl, inr, Bool, List, length, subst, arith}
+use Rattle.std.proofs.Common.{◌≡◌, ℕ, ◌+◌, ◌-◌, ◌<◌, ◌≤◌, inl, inr, Bool, List, length, sym, subst, arith}
 use Rattle.std.specs.Prelude.{None, Some, slice_range}
 use Rattle.std.proofs.lemmas.Bool.{cases_lt}
 use Rattle.aho_core.specs.declared.search.Anchored.TheVariants.{No}
@@ -9,6 +9,7 @@ use Rattle.aho_core.specs.Patterns.{Patterns, pattern_at}
 use Rattle.aho_prefilter.specs.Candidate.{IsPossibleStart, NothingOccurs}
 use Rattle.aho_prefilter.specs.Prefilter.{AreMarksOf}
 use Rattle.aho_prefilter.specs.Strided.{IsFirstMarked, Marks, MayStartAt}
+use Rattle.aho_prefilter.proofs.Caseless.{caseless-same}
 use Rattle.aho_prefilter.proofs.PackedFinds.{inside, stands}
 use Rattle.aho_prefilter.proofs.PackedSound.{StandsAt}
 use Rattle.aho_prefilter.proofs.Parts.{length_part}
@@ -25,8 +26,8 @@ module _ (p : Patterns) (marks : Marks) (are : AreMarksOf p marks) where
         let low : start ≤ m.start = o.after_start in
         let long : m.start + length (pattern_at p m.pattern) ≡ m.end = o.sized in
         let high : m.end ≤ end = o.before_end in
-        let exact = subst (λ (rule : Bool). StandsAt rule (pattern_at p m.pattern) (slice_range haystack start end) (m.start - start)) are.exact (stands p some haystack start end ordered within m o) in
-        MayStartAt-stands marks (slice_range haystack start end) (pattern_at p m.pattern) (m.start - start) are.sizes (are.each m.pattern o.numbered) exact
+        let there = subst (λ (rule : Bool). StandsAt rule (pattern_at p m.pattern) (slice_range haystack start end) (m.start - start)) (sym are.rule) (stands p some haystack start end ordered within m o) in
+        MayStartAt-stands marks (slice_range haystack start end) (pattern_at p m.pattern) (m.start - start) are.sizes (are.each m.pattern o.numbered) (λ k below. caseless-same marks.sizes.ignore_case _ _ (there k below))
         (omega (arith, length_part haystack start end within))
 
     -- where the search finds no place nothing occurs

@@ -1,12 +1,12 @@
 -- The bits of words that were added to a strided search are set, so it stops wherever one of them stands.
-use Rattle.std.proofs.Common.{◌≡◌, ℕ, ◌+◌, ◌-◌, ◌*◌, ◌/◌, ◌%◌, ◌^◌, ◌<◌, ◌≤◌, zero, suc, inl, inr, List, [], ◌∷◌, get_or, length, refl, sym, ap, subst, ◌∙◌, arith, min, max}
+use Rattle.std.proofs.Common.{◌≡◌, ℕ, ◌+◌, ◌-◌, ◌*◌, ◌/◌, ◌%◌, ◌^◌, ◌<◌, ◌≤◌, zero, suc, inl, inr, Bool, List, [], ◌∷◌, get_or, length, refl, sym, ap, subst, ◌∙◌, arith, min, max}
 use Rattle.std.specs.List.{fold}
 use Rattle.std.proofs.Math.Nat.{mul-lt-mul_of_pos_right}
 use Rattle.std.proofs.lemmas.Bool.{cases_eq}
 use Rattle.std.proofs.lemmas.List.{length-replicate}
 use Rattle.std.proofs.lemmas.Nat.{div-add-mod', div_below, mod_below}
 use Rattle.std.proofs.lemmas.Nat.Bits.{bit_at-pow_same}
-use Rattle.aho_prefilter.specs.Strided.{HasMark, HasMarksOf, AreStrideSizes, AreSoundMarks, IsTable, Marks, MayStartAt, empty_table, gram_hash, hash_at, head_hash, last_of_stride, marks_of, marks_with, no_marks, place_in, with_grams, with_mark}
+use Rattle.aho_prefilter.specs.Strided.{HasMark, HasMarksOf, AreStrideSizes, AreSoundMarks, IsTable, Marks, MayStartAt, caseless, empty_table, gram_hash, hash_at, head_hash, last_of_stride, marks_of, marks_with, no_marks, place_in, with_grams, with_mark}
 use Rattle.aho_prefilter.specs.declared.strided.sizes.Sizes.{Sizes}
 use Rattle.aho_prefilter.proofs.Hashes.{hash_at-same}
 use Rattle.aho_prefilter.proofs.PackedSound.{HasBit, Keeps, Keeps-set, Keeps-then, set-has}
@@ -45,8 +45,8 @@ HasMark-with table hash some small =
     subst (λ n. HasBit (get_or (with_mark table hash) (place_in n hash / 64) 0) (place_in n hash % 64)) (sym (length-with_mark table hash))
     (set-has table j (2 ^ i) i (place_within (length table) hash some small) (bit_at-pow_same i))
 
-hash_small : (number count : ℕ) (bytes : List ℕ) (at : ℕ) → hash_at number count bytes at < 2 ^ 64
-hash_small number count bytes at = mod_below _ (2 ^ 64) (omega arith)
+hash_small : (rule : Bool) (number count : ℕ) (bytes : List ℕ) (at : ℕ) → hash_at rule number count bytes at < 2 ^ 64
+hash_small rule number count bytes at = mod_below _ (2 ^ 64) (omega arith)
 
 -- the bits of all grams of a word
 HasMark-with_grams : (sizes : Sizes) (word : List ℕ) (count : ℕ) (grams : List ℕ) → 0 < length grams → (offset : ℕ) → offset < count → HasMark (with_grams sizes word count grams) (gram_hash sizes word offset)
@@ -56,7 +56,7 @@ HasMark-with_grams sizes word (suc count) grams some offset below =
     elim (cases_eq offset count) [
       | inl last ↦
           subst (λ n. HasMark (with_mark before (gram_hash sizes word count)) (gram_hash sizes word n)) (sym last)
-          (HasMark-with before (gram_hash sizes word count) (omega (arith, length-with_grams sizes word count grams)) (hash_small 0x9E37_79B9_7F4A_7C15 sizes.gram word count))
+          (HasMark-with before (gram_hash sizes word count) (omega (arith, length-with_grams sizes word count grams)) (hash_small sizes.ignore_case 0x9E37_79B9_7F4A_7C15 sizes.gram word count))
       | inr other ↦
           HasMark-keeps before (with_mark before (gram_hash sizes word count)) (gram_hash sizes word offset) (Keeps-with_mark before (gram_hash sizes word count))
           (HasMark-with_grams sizes word count grams some offset (omega arith))
@@ -115,7 +115,7 @@ HasMarksOf-all sizes words k sized below long = HasMarksOf-added words (no_marks
 
 -- a word whose bits are set may start where it stands
 pub MayStartAt-stands : (marks : Marks) (bytes word : List ℕ) (at : ℕ) → AreStrideSizes marks.sizes → HasMarksOf marks word
-    → ((k : ℕ) → k < length word → get_or word k 0 ≡ get_or bytes (at + k) 0) → at + length word ≤ length bytes → MayStartAt marks bytes at
+    → ((k : ℕ) → k < length word → caseless marks.sizes.ignore_case (get_or word k 0) ≡ caseless marks.sizes.ignore_case (get_or bytes (at + k) 0)) → at + length word ≤ length bytes → MayStartAt marks bytes at
 MayStartAt-stands marks bytes word at sized has same within =
     let sizes = marks.sizes in
     let long : sizes.head ≤ length word = has.long in
@@ -125,15 +125,15 @@ MayStartAt-stands marks bytes word at sized has same within =
     let offset = sizes.stride - 1 - at % sizes.stride in
     let last : last_of_stride sizes.stride at ≡ at + offset = omega arith in
     let gram : gram_hash sizes word offset ≡ gram_hash sizes bytes (at + offset) =
-    hash_at-same 0x9E37_79B9_7F4A_7C15 sizes.gram word offset bytes (at + offset)
+    hash_at-same sizes.ignore_case 0x9E37_79B9_7F4A_7C15 sizes.gram word offset bytes (at + offset)
     (λ k below.
     let moved : at + (offset + k) ≡ at + offset + k = omega arith in
-    same (offset + k) (omega arith) ∙ ap (λ n. get_or bytes n 0) moved) in
+    same (offset + k) (omega arith) ∙ ap (λ n. caseless sizes.ignore_case (get_or bytes n 0)) moved) in
     let head : head_hash sizes word 0 ≡ head_hash sizes bytes at =
     head_hash-same sizes word 0 bytes at
     (λ k below.
     let moved : 0 + k ≡ k = omega arith in
-    ap (λ n. get_or word n 0) moved ∙ same k (omega arith)) in
+    ap (λ n. caseless sizes.ignore_case (get_or word n 0)) moved ∙ same k (omega arith)) in
     record {
       marked = record {
         gram = subst (HasMark marks.grams) (gram ∙ ap (λ n. gram_hash sizes bytes n) (sym last)) (has.grams offset (omega arith));

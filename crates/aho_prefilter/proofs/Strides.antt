@@ -3,7 +3,7 @@ use Rattle.std.proofs.Common.{◌≡◌, ℕ, ◌+◌, ◌-◌, ◌*◌, ◌/◌
 use Rattle.std.specs.Prelude.{Option, Some, None}
 use Rattle.std.proofs.lemmas.Nat.{div-add-mod', div-mul-add, mod_below}
 use Rattle.memchr.specs.Find.{IsFirst, Nowhere}
-use Rattle.aho_prefilter.specs.Strided.{HasMark, IsMarkedAt, AreStrideSizes, Marks, MayStartAt, gram_hash, half_of, hash_at, head_hash, last_of_stride}
+use Rattle.aho_prefilter.specs.Strided.{HasMark, IsMarkedAt, AreStrideSizes, Marks, MayStartAt, caseless, gram_hash, half_of, hash_at, head_hash, last_of_stride}
 use Rattle.aho_prefilter.specs.declared.strided.sizes.Sizes.{Sizes}
 use Rattle.aho_prefilter.proofs.Hashes.{AreSame, hash_at-same}
 
@@ -37,28 +37,28 @@ module _ (marks : Marks) (bytes : List ℕ) (turn : ℕ) where
       not (subst (λ n. HasMark marks.grams (gram_hash marks.sizes bytes n)) (last_of_stride-in marks.sizes.stride turn k low high) marked.gram)
 
 -- the hash of a head is the same wherever the same bytes stand
-pub head_hash-same : (sizes : Sizes) (xs : List ℕ) (i : ℕ) (ys : List ℕ) (j : ℕ) → AreSame sizes.head xs i ys j → head_hash sizes xs i ≡ head_hash sizes ys j
+pub head_hash-same : (sizes : Sizes) (xs : List ℕ) (i : ℕ) (ys : List ℕ) (j : ℕ) → AreSame sizes.ignore_case sizes.head xs i ys j → head_hash sizes xs i ≡ head_hash sizes ys j
 head_hash-same sizes xs i ys j same =
     let half = half_of sizes in
     let later = sizes.head - half in
-    let front : hash_at 0xD6E8_FEB8_6659_FD93 half xs i ≡ hash_at 0xD6E8_FEB8_6659_FD93 half ys j =
-    hash_at-same 0xD6E8_FEB8_6659_FD93 half xs i ys j (λ k below. same k (omega arith)) in
-    let back : hash_at 0xA076_1D64_78BD_642F half xs (i + later) ≡ hash_at 0xA076_1D64_78BD_642F half ys (j + later) =
-    hash_at-same 0xA076_1D64_78BD_642F half xs (i + later) ys (j + later)
+    let front : hash_at sizes.ignore_case 0xD6E8_FEB8_6659_FD93 half xs i ≡ hash_at sizes.ignore_case 0xD6E8_FEB8_6659_FD93 half ys j =
+    hash_at-same sizes.ignore_case 0xD6E8_FEB8_6659_FD93 half xs i ys j (λ k below. same k (omega arith)) in
+    let back : hash_at sizes.ignore_case 0xA076_1D64_78BD_642F half xs (i + later) ≡ hash_at sizes.ignore_case 0xA076_1D64_78BD_642F half ys (j + later) =
+    hash_at-same sizes.ignore_case 0xA076_1D64_78BD_642F half xs (i + later) ys (j + later)
     (λ k below.
     let here : i + later + k ≡ i + (later + k) = omega arith in
     let there : j + (later + k) ≡ j + later + k = omega arith in
-    ap (λ n. get_or xs n 0) here ∙ same (later + k) (omega arith) ∙ ap (λ n. get_or ys n 0) there) in
-    ap (λ n. (n + hash_at 0xA076_1D64_78BD_642F half xs (i + later)) % 2 ^ 64) front
-    ∙ ap (λ n. (hash_at 0xD6E8_FEB8_6659_FD93 half ys j + n) % 2 ^ 64) back
+    ap (λ n. caseless sizes.ignore_case (get_or xs n 0)) here ∙ same (later + k) (omega arith) ∙ ap (λ n. caseless sizes.ignore_case (get_or ys n 0)) there) in
+    ap (λ n. (n + hash_at sizes.ignore_case 0xA076_1D64_78BD_642F half xs (i + later)) % 2 ^ 64) front
+    ∙ ap (λ n. (hash_at sizes.ignore_case 0xD6E8_FEB8_6659_FD93 half ys j + n) % 2 ^ 64) back
 
 -- a copy of the bytes from a turn on
 module _ (marks : Marks) (bytes rest : List ℕ) (turn : ℕ) (some : 0 < marks.sizes.stride) (same : (k : ℕ) → get_or rest k 0 ≡ get_or bytes (turn * marks.sizes.stride + k) 0) where
   -- all of its bytes are the same
-  all_same : (count at : ℕ) → AreSame count rest at bytes (turn * marks.sizes.stride + at)
+  all_same : (count at : ℕ) → AreSame marks.sizes.ignore_case count rest at bytes (turn * marks.sizes.stride + at)
   all_same count at k below =
       let moved : turn * marks.sizes.stride + (at + k) ≡ turn * marks.sizes.stride + at + k = omega arith in
-      same (at + k) ∙ ap (λ n. get_or bytes n 0) moved
+      ap (λ byte. caseless marks.sizes.ignore_case byte) (same (at + k) ∙ ap (λ n. get_or bytes n 0) moved)
 
   same_last : (k : ℕ) → turn * marks.sizes.stride + last_of_stride marks.sizes.stride k ≡ last_of_stride marks.sizes.stride (turn * marks.sizes.stride + k)
   same_last k =
@@ -70,7 +70,7 @@ module _ (marks : Marks) (bytes rest : List ℕ) (turn : ℕ) (some : 0 < marks.
 
   same_gram : (k : ℕ) → gram_hash marks.sizes rest (last_of_stride marks.sizes.stride k) ≡ gram_hash marks.sizes bytes (last_of_stride marks.sizes.stride (turn * marks.sizes.stride + k))
   same_gram k =
-      hash_at-same 0x9E37_79B9_7F4A_7C15 marks.sizes.gram rest (last_of_stride marks.sizes.stride k) bytes (turn * marks.sizes.stride + last_of_stride marks.sizes.stride k) (all_same marks.sizes.gram (last_of_stride marks.sizes.stride k))
+      hash_at-same marks.sizes.ignore_case 0x9E37_79B9_7F4A_7C15 marks.sizes.gram rest (last_of_stride marks.sizes.stride k) bytes (turn * marks.sizes.stride + last_of_stride marks.sizes.stride k) (all_same marks.sizes.gram (last_of_stride marks.sizes.stride k))
       ∙ ap (λ n. gram_hash marks.sizes bytes n) (same_last k)
 
   same_head : (k : ℕ) → head_hash marks.sizes rest k ≡ head_hash marks.sizes bytes (turn * marks.sizes.stride + k)

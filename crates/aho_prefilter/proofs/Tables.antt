@@ -2,7 +2,7 @@
 use Rattle.std.proofs.Common.{◌≡◌, ℕ, ◌+◌, ◌<◌, ◌≤◌, zero, suc, List, [], ◌∷◌, get_or, length, refl, ap, ◌∙◌, arith}
 use Rattle.std.specs.List.{fold}
 use Rattle.std.proofs.lemmas.List.{length-set}
-use Rattle.aho_prefilter.specs.Strided.{AreStrideSizes, IsTable, Marks, gram_hash, head_hash, marks_with, with_grams, with_mark}
+use Rattle.aho_prefilter.specs.Strided.{AreStrideSizes, IsTable, Marks, caseless, gram_hash, head_hash, marks_with, with_grams, with_mark}
 use Rattle.aho_prefilter.specs.declared.strided.sizes.Sizes.{Sizes}
 use Rattle.aho_prefilter.proofs.Hashes.{hash_at-same}
 use Rattle.aho_prefilter.proofs.Strides.{head_hash-same}
@@ -23,7 +23,7 @@ pub with_grams-same : (sizes : Sizes) (xs ys : List ℕ) (count : ℕ) (grams : 
 with_grams-same sizes xs ys zero grams within same = refl
 with_grams-same sizes xs ys (suc count) grams within same =
     ap (λ (table : List ℕ). with_mark table (gram_hash sizes xs count)) (with_grams-same sizes xs ys count grams (omega arith) same)
-    ∙ ap (λ n. with_mark (with_grams sizes ys count grams) n) (hash_at-same 0x9E37_79B9_7F4A_7C15 sizes.gram xs count ys count (λ k below. same (count + k) (omega arith)))
+    ∙ ap (λ n. with_mark (with_grams sizes ys count grams) n) (hash_at-same sizes.ignore_case 0x9E37_79B9_7F4A_7C15 sizes.gram xs count ys count (λ k below. ap (λ byte. caseless sizes.ignore_case byte) (same (count + k) (omega arith))))
 
 -- the grams at one place more
 pub with_grams-more : (sizes : Sizes) (word : List ℕ) (count : ℕ) (grams : List ℕ) → with_grams sizes word (count + 1) grams ≡ with_mark (with_grams sizes word count grams) (gram_hash sizes word count)
@@ -45,7 +45,7 @@ module _ (sizes : Sizes) (grams heads start pattern : List ℕ) (sized : AreStri
       is
       ∙ made
       ∙ ap (λ (table : List ℕ). with_mark table hash) was
-      ∙ ap (λ n. with_mark heads n) (hashed ∙ head_hash-same sizes start 0 pattern 0 (λ k below. same (0 + k) (omega arith)))
+      ∙ ap (λ n. with_mark heads n) (hashed ∙ head_hash-same sizes start 0 pattern 0 (λ k below. ap (λ byte. caseless sizes.ignore_case byte) (same (0 + k) (omega arith))))
 
   pub marks-added : (new_grams new_heads : List ℕ) → new_grams ≡ with_grams sizes pattern sizes.stride grams → new_heads ≡ with_mark heads (head_hash sizes pattern 0)
       → ◌≡◌ {A = Marks} (record { sizes = sizes; grams = new_grams; heads = new_heads }) (marks_with (record { sizes = sizes; grams = grams; heads = heads }) pattern)

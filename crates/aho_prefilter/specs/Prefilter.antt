@@ -34,9 +34,9 @@ pub record AreFingerprintsOf (p : Patterns) (packed : Fingerprints) : Type 0 whe
   pub some : (k : ℕ) → k < length p.words → 0 < length (pattern_at p k)
   pub made : packed ≡ packed_of p.ignore_case p.words
 
--- bytes are compared as they are, and the bits of each pattern are set
+-- the case rule is that of the patterns, and the bits of each pattern are set
 pub record AreMarksOf (p : Patterns) (marks : Marks) : Type 0 where
-  pub exact : p.ignore_case ≡ false
+  pub rule : marks.sizes.ignore_case ≡ p.ignore_case
   pub sizes : AreStrideSizes marks.sizes
   pub each : (k : ℕ) → k < length p.words → HasMarksOf marks (pattern_at p k)
 
@@ -136,11 +136,9 @@ gives_way (Some searcher) = stops_in_words searcher
 abbrev pub held_or_packed : Patterns → Option Searcher
 held_or_packed p = if gives_way (held_for p) then option_or (packed_for p) (held_for p) else held_for p
 
--- the strided search, if there is one for patterns of their shape; under the case rule there is none
+-- the strided search, if there is one for patterns of their shape
 abbrev pub strided_for : Patterns → Option Searcher
-strided_for p =
-    if p.ignore_case then None
-    else option_map (λ sizes. Strided (marks_of sizes p.words)) (sizes_for (shape_of p.words))
+strided_for p = option_map (λ sizes. Strided (marks_of sizes p.words)) (sizes_for (shape_of p.ignore_case p.words))
 
 -- whether a strided search is better than a search
 abbrev pub is_passed_by : Searcher → Bool

@@ -18,9 +18,14 @@ unfoldable pub used_below : List (List ℕ) → ℕ → ℕ
 used_below words zero = 0
 used_below words (suc byte) = used_below words byte + (if is_used words byte then 1 else 0)
 
--- how many words there are, the least length, and of how many bytes they are made
-abbrev pub shape_of : List (List ℕ) → Shape
-shape_of words = record { count = length words; head = least_head words; letters = used_below words 256 }
+-- how many words there are, the least length, of how many bytes they are made, and the case rule
+abbrev pub shape_of : Bool → List (List ℕ) → Shape
+shape_of ignore_case words = record {
+  count = length words;
+  head = least_head words;
+  letters = used_below words 256;
+  ignore_case = ignore_case;
+}
 
 -- whether there are too few patterns, or they are too short
 abbrev pub is_small : Shape → Bool
@@ -52,4 +57,4 @@ abbrev pub sizes_for : Shape → Option Sizes
 sizes_for s =
     if is_small s then None
     else if is_crowded s then None
-    else Some (record { gram = gram_for s; stride = stride_for s; head = s.head })
+    else Some (record { gram = gram_for s; stride = stride_for s; head = s.head; ignore_case = s.ignore_case })

@@ -1,5 +1,5 @@
 -- What a strided search looks for: places where the bits of some pattern are set.
-use Rattle.std.specs.Prelude.{◌≡◌, ℕ, zero, suc, ◌+◌, ◌-◌, ◌*◌, ◌/◌, ◌%◌, ◌^◌, ◌<◌, ◌≤◌, min, max, List, [], length, replicate, slice_index, slice_index_or, slice_set, bit_or, Option}
+use Rattle.std.specs.Prelude.{◌≡◌, ℕ, zero, suc, ◌+◌, ◌-◌, ◌*◌, ◌/◌, ◌%◌, ◌^◌, ◌<◌, ◌≤◌, min, max, Bool, if◌then◌else◌, List, [], length, replicate, slice_index, slice_index_or, slice_set, bit_and, bit_or, Option}
 use Rattle.std.specs.Int.{bit_at}
 use Rattle.std.specs.List.{fold}
 use Rattle.memchr.specs.Find.{IsFirst}
@@ -11,22 +11,32 @@ pub record Marks : Type 0 where
   pub grams : List ℕ
   pub heads : List ℕ
 
+-- a byte as it is hashed: under the case rule without the bit in which the two cases of a letter differ
+abbrev pub caseless : Bool → ℕ → ℕ
+caseless ignore_case byte = if ignore_case then bit_and byte 0xDF else byte
+
 -- the number that so many bytes from a place on make, the first one lowest; past the end zeros stand
-abbrev pub number_of_bytes : ℕ → List ℕ → ℕ → ℕ
-number_of_bytes zero bytes at = 0
-number_of_bytes (suc count) bytes at = slice_index bytes at + 256 * number_of_bytes count bytes (at + 1)
+abbrev pub number_of_bytes : Bool → ℕ → List ℕ → ℕ → ℕ
+number_of_bytes ignore_case zero bytes at = 0
+number_of_bytes ignore_case (suc count) bytes at =
+    caseless ignore_case (slice_index bytes at) + 256 * number_of_bytes ignore_case count bytes (at + 1)
+
+-- the bits of eight bytes that are hashed
+abbrev pub bits_kept : Bool → ℕ
+bits_kept ignore_case = if ignore_case then 0xDFDF_DFDF_DFDF_DFDF else 2 ^ 64 - 1
 
 -- what the number of so many bytes is multiplied by, so that it fills 64 bits
 abbrev pub factor_for : ℕ → ℕ → ℕ
 factor_for number count = number * 2 ^ (64 - 8 * count) % 2 ^ 64
 
 -- a hash of so many bytes from a place on
-abbrev pub hash_at : ℕ → ℕ → List ℕ → ℕ → ℕ
-hash_at number count bytes at = number_of_bytes count bytes at * factor_for number count % 2 ^ 64
+abbrev pub hash_at : Bool → ℕ → ℕ → List ℕ → ℕ → ℕ
+hash_at ignore_case number count bytes at =
+    number_of_bytes ignore_case count bytes at * factor_for number count % 2 ^ 64
 
 -- the hash of the gram at a place
 abbrev pub gram_hash : Sizes → List ℕ → ℕ → ℕ
-gram_hash sizes bytes at = hash_at 0x9E37_79B9_7F4A_7C15 sizes.gram bytes at
+gram_hash sizes bytes at = hash_at sizes.ignore_case 0x9E37_79B9_7F4A_7C15 sizes.gram bytes at
 
 -- how many bytes of a head one hash is of: there is one of its first bytes, and one of its last
 abbrev pub half_of : Sizes → ℕ
@@ -35,8 +45,8 @@ half_of sizes = min sizes.head 8
 -- the hash of the head at a place
 abbrev pub head_hash : Sizes → List ℕ → ℕ → ℕ
 head_hash sizes bytes at =
-    (hash_at 0xD6E8_FEB8_6659_FD93 (half_of sizes) bytes at
-    + hash_at 0xA076_1D64_78BD_642F (half_of sizes) bytes (at + (sizes.head - half_of sizes))) % 2 ^ 64
+    (hash_at sizes.ignore_case 0xD6E8_FEB8_6659_FD93 (half_of sizes) bytes at
+    + hash_at sizes.ignore_case 0xA076_1D64_78BD_642F (half_of sizes) bytes (at + (sizes.head - half_of sizes))) % 2 ^ 64
 
 -- the place of a hash's bit among those of so many words
 abbrev pub place_in : ℕ → ℕ → ℕ

@@ -13,10 +13,10 @@
 //! pattern, since different bytes may have the same bit. The last places, behind which too few bytes stand, are copied in front
 //! of zeros, so nothing is read past the end.
 
-ghost use Rattle.std.specs.Prelude.{◌≡◌, ◌↔◌, ℕ, ◌+◌, ◌-◌, ◌*◌, ◌<◌, ◌≤◌, ◌^◌, length, IfOk, IsTrue};
+ghost use Rattle.std.specs.Prelude.{◌≡◌, ◌↔◌, ℕ, ◌+◌, ◌-◌, ◌*◌, ◌<◌, ◌≤◌, ◌^◌, Bool, length, IfOk, IsTrue};
 ghost use Rattle.memchr.specs.Find.{IsFirst};
 ghost use Rattle.aho_core.specs.Replacement.{pieces_of};
-ghost use Rattle.aho_prefilter.specs.Strided.{HasHead, HasMark, HaveHeads, IsFirstMarked, IsMarkedAt, AreStrideSizes, IsTable, MayStartAt, empty_table, end_of, factor_for, gram_factor, head_hash, marks_of, marks_with, number_of_bytes, place_in, with_grams, with_mark};
+ghost use Rattle.aho_prefilter.specs.Strided.{HasHead, HasMark, HaveHeads, IsFirstMarked, IsMarkedAt, AreStrideSizes, IsTable, MayStartAt, bits_kept, empty_table, end_of, factor_for, gram_factor, head_hash, marks_of, marks_with, number_of_bytes, place_in, with_grams, with_mark};
 
 pub(crate) mod sizes;
 
@@ -31,6 +31,9 @@ const GRAM: u64 = 0x9E37_79B9_7F4A_7C15;
 const LOW: u64 = 0xD6E8_FEB8_6659_FD93;
 
 const HIGH: u64 = 0xA076_1D64_78BD_642F;
+
+/// In each byte all bits but the one in which the two cases of a letter differ.
+const CASELESS: u64 = 0xDFDF_DFDF_DFDF_DFDF;
 
 /// How many words of 64 bits a table has at most.
 const MOST: usize = 1 << 16;
@@ -58,13 +61,22 @@ impl Model for Strided {
     ghost invariant = { λ s. AreSoundMarks (record { sizes = s.sizes; grams = s.grams.items; heads = s.heads.items }) };
 }
 
-/// The eight bytes from a place on, as a number.
+/// The bits of each word that are hashed: under the case rule not those in which the two cases of a letter differ.
 #[inline(always)]
-fn word_at(bytes: &[u8], at: usize) -> u64
-    requires within { at + 8 ≤ length bytes.now }
-    ensures word { result ≡ number_of_bytes 8 bytes.now at }
+fn bits_kept(ignore_case: bool) -> u64
+    ensures kept { result ≡ bits_kept ignore_case }
 {
-    u64::from_le_bytes([
+    if ignore_case { CASELESS } else { u64::MAX }
+}
+
+/// The eight bytes from a place on, as a number, with these bits of it alone.
+#[inline(always)]
+fn word_at(bytes: &[u8], at: usize, bits: u64) -> u64
+    requires within { at + 8 ≤ length bytes.now }
+    ensures word { (ignore_case : Bool) → bits ≡ bits_kept ignore_case
+        → result ≡ number_of_bytes ignore_case 8 bytes.now at }
+{
+    let word = u64::from_le_bytes([
         bytes[at],
         bytes[at + 1],
         bytes[at + 2],
@@ -73,7 +85,8 @@ fn word_at(bytes: &[u8], at: usize) -> u64
         bytes[at + 5],
         bytes[at + 6],
         bytes[at + 7],
-    ])
+    ]);
+    word & bits
 }
 
 /// What a word is multiplied by, so that its first bytes alone tell the hash.
@@ -131,9 +144,10 @@ impl Sizes {
         requires within { 15 ≤ length bytes.now }
         ensures marked { grams.new ≡ with_grams self bytes.now self.stride grams.old }
     {
+        let bits = bits_kept(self.ignore_case);
         let factor = factor_for(GRAM, self.gram);
         for offset in 0..self.stride {
-            mark(grams, word_at(bytes, offset).wrapping_mul(factor));
+            mark(grams, word_at(bytes, offset, bits).wrapping_mul(factor));
         }
     }
 
@@ -144,9 +158,11 @@ impl Sizes {
         requires within { at + 16 ≤ length bytes.now }
         ensures hash { result ≡ head_hash self bytes.now at }
     {
+        let bits = bits_kept(self.ignore_case);
         let count = self.head.min(8);
-        let first = word_at(bytes, at).wrapping_mul(factor_for(LOW, count));
-        let last = word_at(bytes, at + (self.head - count)).wrapping_mul(factor_for(HIGH, count));
+        let first = word_at(bytes, at, bits).wrapping_mul(factor_for(LOW, count));
+        let later = at + (self.head - count);
+        let last = word_at(bytes, later, bits).wrapping_mul(factor_for(HIGH, count));
         first.wrapping_add(last)
     }
 }
@@ -207,9 +223,10 @@ impl Strided {
         ensures first { IsFirst (IsMarkedAt self.now bytes.now) 0 (end_of self.now turns) result }
     {
         let grams = self.grams.as_slice();
+        let bits = bits_kept(self.sizes.ignore_case);
         let factor = factor_for(GRAM, self.sizes.gram);
         for turn in 0..turns {
-            if let Some(place) = self.find_in_stride(grams, factor, bytes, turn) {
+            if let Some(place) = self.find_in_stride(grams, bits, factor, bytes, turn) {
                 return Some(place);
             }
         }
@@ -218,8 +235,16 @@ impl Strided {
 
     /// The same of one stride.
     #[inline(always)]
-    fn find_in_stride(&self, grams: &[u64], factor: u64, bytes: &[u8], turn: usize) -> Option<usize>
+    fn find_in_stride(
+        &self,
+        grams: &[u64],
+        bits: u64,
+        factor: u64,
+        bytes: &[u8],
+        turn: usize,
+    ) -> Option<usize>
         requires grams { grams.now ≡ self.now.grams }
+        requires bits { bits ≡ bits_kept self.now.sizes.ignore_case }
         requires factor { factor ≡ gram_factor self.now.sizes }
         requires within { end_of self.now (turn + 1) + 15 ≤ length bytes.now }
         ensures first { IsFirst (IsMarkedAt self.now bytes.now)
@@ -227,7 +252,7 @@ impl Strided {
     {
         let from = turn * self.sizes.stride;
         let last = from + (self.sizes.stride - 1);
-        if is_marked(grams, word_at(bytes, last).wrapping_mul(factor)) {
+        if is_marked(grams, word_at(bytes, last, bits).wrapping_mul(factor)) {
             self.find_head(bytes, from)
         } else {
             None

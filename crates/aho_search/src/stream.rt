@@ -6,4 +6,6 @@ pub use aho_devices::write::write_whole;
 pub use aho_stream::chunks::{StreamChunk, StreamChunkIter};
 pub use aho_stream::finds::{StreamFindIter, try_stream_find_iter};
 pub use aho_stream::progress::StreamPiece;
-pub use aho_stream::replace::{try_stream_replace_all, try_stream_replace_all_with};
+pub use aho_stream::replace::{
+    try_stream_replace_all, try_stream_replace_all_with, try_stream_replace_all_with_mut,
+};

@@ -174,7 +174,7 @@ module _ {S : Type 0} (A : Ghosts S) (automaton : S) where
       }
 
 -- where all was walked, the best of it is the answer from the end of the last match on
-all_answered : {S : Type 0} (A : Ghosts S) (automaton : S) (p : Patterns) (lookups : ℕ) (s : StreamProgress) (given : List ℕ) → IsAfter A automaton p lookups s given → s.walked ≡ length given
+pub all_answered : {S : Type 0} (A : Ghosts S) (automaton : S) (p : Patterns) (lookups : ℕ) (s : StreamProgress) (given : List ℕ) → IsAfter A automaton p lookups s given → s.walked ≡ length given
     → (found : Option Occurrence) → BestAfter p No (word_of s given) found → IsAnswer p (search_from s.from given) (moved_option s.origin found)
 all_answered A automaton p lookups s given a all found best =
     let same = append-nil given in

@@ -50,7 +50,7 @@ module _ {S : Type 0} (A : Ghosts S) (automaton : S) (p : Patterns) where
   After lookups s given = IsAfter A automaton p lookups s given
 
   -- a match stays in hand where the walk stays
-  in_hand_same : (s t : StreamProgress) → t.origin ≡ s.origin → t.walked ≡ s.walked → (found : Option Occurrence) → IsInHand p.kind (longest lengths) s found → IsInHand p.kind (longest lengths) t found
+  pub in_hand_same : (s t : StreamProgress) → t.origin ≡ s.origin → t.walked ≡ s.walked → (found : Option Occurrence) → IsInHand p.kind (longest lengths) s found → IsInHand p.kind (longest lengths) t found
   in_hand_same s t origin walked None i = tt
   in_hand_same s t origin walked (Some m) i = (omega (arith, i.0, origin, walked), omega (arith, i.1, origin, walked), λ standard. omega (arith, i.2 standard, origin, walked))
 

@@ -12,6 +12,8 @@ mod Afters
 mod Reported
 mod Advanced
 mod Found
+-- Streams whose bytes are pushed.
+pub mod Pushings
 -- Many calls: the finds of a stream, their number, and replacements.
 mod StreamFinds
 mod Countings
@@ -20,3 +22,4 @@ pub mod FindRuns
 pub mod Collected
 mod StreamRuns
 mod Runnings
+pub mod Called

@@ -24,7 +24,7 @@ use Rattle.aho_automaton.specs.declared.automaton.Automaton.{Ghosts}
 use Rattle.aho_stream.specs.After.{IsAfter, MayFollow, greatest_position, kept_for, search_from}
 use Rattle.aho_stream.specs.Chunks.{Advances, AnswerTells, TellsError, TellsFault, TellsMatch, TellsPlain, ends_between, tells_read_fault}
 use Rattle.aho_stream.specs.Replacing.{MayBe, SourceGave}
-use Rattle.aho_stream.specs.StreamRun.{RunsOver}
+use Rattle.aho_stream.specs.StreamRun.{RunsAndLeaves, RunsOver}
 use Rattle.aho_stream.specs.declared.progress.StreamProgress.{StreamProgress}
 use Rattle.aho_stream.specs.declared.progress.StreamPiece.{StreamPiece}
 use Rattle.aho_stream.specs.declared.progress.StreamPiece.TheVariants.{NonMatch, Match}
@@ -98,9 +98,9 @@ module _ {A R F W : Type 0} (G : Ghosts A) (S : SourceGhosts R) (K : SinkGhosts 
     tells_of : (p : Patterns) → IsOf p → (told : Option (Result StreamPiece StreamError)) → answer ≡ told → AnswerTells p s s' given told
     tells_of p of told is = subst (AnswerTells p s s' given) is (advance.tells p running.given of (running.after p of))
 
-    -- the whole run ends so
-    abbrev pub Over : Result (Unit {0}) StreamError → W → Type 0
-    Over result new = RunsOver S K IsOf calls first source' closure begun result new
+    -- the whole run ends so, and leaves this closure
+    abbrev pub Over : Result (Unit {0}) StreamError → F → W → Type 0
+    Over result last new = RunsAndLeaves S K IsOf calls first source' closure begun result last new
 
     module _ (p : Patterns) (of : IsOf p) (bytes : List ℕ) (ms : List Occurrence) (may : MayBe given s'.ended bytes) (finds : AreFinds p (plain_search bytes) None ms) where
       abbrev WasLeft : Type 0
@@ -166,7 +166,7 @@ module _ {A R F W : Type 0} (G : Ghosts A) (S : SourceGhosts R) (K : SinkGhosts 
             let nothing : may.0 ≡ [] = subst (λ (b : Bool). MayFollow b may.0) over.0 may.2 in
             may.1 ∙ ap (λ (xs : List ℕ). given ++ xs) nothing ∙ append-nil given
 
-        pub over_end : Over (Ok tt) sink
+        pub over_end : Over (Ok tt) now sink
         over_end = record {
           given = given;
           ended = s'.ended;
@@ -181,11 +181,9 @@ module _ {A R F W : Type 0} (G : Ghosts A) (S : SourceGhosts R) (K : SinkGhosts 
               let same = bytes_given bytes may in
               let none : IsAnswer p (search_from s.from bytes) None =
               subst (λ (xs : List ℕ). IsAnswer p (search_from s.from xs) None) (sym same)
-              (subst (λ (k : ℕ). IsAnswer p (search_from k given) None) tells.still.from (tells.none (inr over.0))) in (
-                now,
-                runs_to_end K calls closure begun p bytes ms lengths (are p of) ((now_after p of).no_empty) s.from s.reported ((running.after p of).from_reported) now sink
-                    (was p of bytes ms may finds) false none (ap (λ (xs : List ℕ). length xs) same ∙ sym over.1 ∙ tells.still.reported),
-              );
+              (subst (λ (k : ℕ). IsAnswer p (search_from k given) None) tells.still.from (tells.none (inr over.0))) in
+              runs_to_end K calls closure begun p bytes ms lengths (are p of) ((now_after p of).no_empty) s.from s.reported ((running.after p of).from_reported) now sink
+              (was p of bytes ms may finds) false none (ap (λ (xs : List ℕ). length xs) same ∙ sym over.1 ∙ tells.still.reported);
         }
 
       -- an error was answered
@@ -205,7 +203,7 @@ module _ {A R F W : Type 0} (G : Ghosts A) (S : SourceGhosts R) (K : SinkGhosts 
             (now_after p of).clear may.0 m may.2 (subst (λ (k : ℕ). IsAnswer p (search_from k (given ++ may.0)) (Some m)) (sym fault.still.from)
             (subst (λ (xs : List ℕ). IsAnswer p (search_from s.from xs) (Some m)) may.1 found))
 
-        pub over_error : s.limit ≡ greatest_position → Over (Err error) sink
+        pub over_error : s.limit ≡ greatest_position → Over (Err error) now sink
         over_error greatest = record {
           given = given;
           ended = s'.ended;
@@ -219,26 +217,22 @@ module _ {A R F W : Type 0} (G : Ghosts A) (S : SourceGhosts R) (K : SinkGhosts 
                 s.reported,
                 omega (arith, fault.still.reported, a'.reported_walked, a'.walked_read, a'.count),
                 λ p of. subst (λ (ns : List ℕ). length given ≤ s.reported + kept_for ns) (are p of) (omega (arith, fault.still.reported, fault.near, a'.least)),
-                λ p bytes ms of may finds. (
-                  now,
-                  runs_up_to K calls closure begun p bytes ms lengths (are p of) (now_after p of).no_empty s.from s.reported ((running.after p of).from_reported) now sink
-                      (was p of bytes ms may finds) true (λ m found. omega (arith, still_clear p of bytes ms may finds m found, fault.still.reported)),
-                ),
+                λ p bytes ms of may finds.
+                    runs_up_to K calls closure begun p bytes ms lengths (are p of) (now_after p of).no_empty s.from s.reported ((running.after p of).from_reported) now sink
+                    (was p of bytes ms may finds) true (λ m found. omega (arith, still_clear p of bytes ms may finds m found, fault.still.reported)),
               );
           run = λ p bytes ms of may finds.
               let left = was p of bytes ms may finds in
               let a = running.after p of in
               let a' = now_after p of in
-              let clear = still_clear p of bytes ms may finds in (
-                now,
-                runs_to_stop K calls closure begun p bytes ms lengths (are p of) a'.no_empty s.from s.reported a.from_reported now sink left
-                    true s'.reported (omega (arith, fits p of bytes ms may finds, a'.reported_walked, a'.walked_read, a'.count)) clear
-                    (s.reported - s.from) (omega (arith, a.from_reported, fault.still.reported)) error sink
-                    left.gap.bytes_are
-                    (left.gap.no_failure ∙ ap (λ (b : Bool). counted b (K.failures left.lent)) (sym (no_write error fills).0))
-                    (left.gap.no_empty_write ∙ ap (λ (b : Bool). counted b (K.empty_writes left.lent)) (sym (no_write error fills).1))
-                    fills,
-              );
+              let clear = still_clear p of bytes ms may finds in
+              runs_to_stop K calls closure begun p bytes ms lengths (are p of) a'.no_empty s.from s.reported a.from_reported now sink left
+              true s'.reported (omega (arith, fits p of bytes ms may finds, a'.reported_walked, a'.walked_read, a'.count)) clear
+              (s.reported - s.from) (omega (arith, a.from_reported, fault.still.reported)) error sink
+              left.gap.bytes_are
+              (left.gap.no_failure ∙ ap (λ (b : Bool). counted b (K.failures left.lent)) (sym (no_write error fills).0))
+              (left.gap.no_empty_write ∙ ap (λ (b : Bool). counted b (K.empty_writes left.lent)) (sym (no_write error fills).1))
+              fills;
         }
 
       -- a write of bytes outside of every match was refused
@@ -247,7 +241,7 @@ module _ {A R F W : Type 0} (G : Ghosts A) (S : SourceGhosts R) (K : SinkGhosts 
           (failing : K.failures sink' ≡ counted (is_write_fault {A = Unit {0}} (Err error)) (K.failures sink))
           (nothing : K.empty_writes sink' ≡ counted (is_write_of_nothing {A = Unit {0}} (Err error)) (K.empty_writes sink))
           (only : IsWriteRefusal error) where
-        pub over_write : Over (Err error) sink'
+        pub over_write : Over (Err error) now sink'
         over_write = record {
           given = given;
           ended = s'.ended;
@@ -268,23 +262,21 @@ module _ {A R F W : Type 0} (G : Ghosts A) (S : SourceGhosts R) (K : SinkGhosts 
                 arith,
                 subst (λ (xs : List ℕ). wrote.0 ≤ length xs) (plain_part p of bytes ms may finds tells) wrote.1,
                 length_part bytes s.reported s'.reported (omega (arith, tells.read, fits p of bytes ms may finds)),
-              ) in (
-                now,
-                runs_to_stop K calls closure begun p bytes ms lengths (are p of) a.no_empty s.from s.reported a.from_reported now sink left
-                    false s'.reported (omega (arith, fits p of bytes ms may finds, tells.read)) clear
-                    ((s.reported - s.from) + wrote.0) (omega (arith, a.from_reported, short, tells.some)) error sink'
-                    (subst (Appends (K.taken left.lent) (K.taken sink')) (sym (take_behind bytes s.from s.reported s'.reported wrote.0 a.from_reported short))
-                    (Appends-trans (K.taken left.lent) (K.taken sink) (K.taken sink') (slice_range bytes s.from s.reported) (take wrote.0 (slice_range bytes s.reported s'.reported)) left.gap.bytes_are
-                    (subst (λ (xs : List ℕ). Appends (K.taken sink) (K.taken sink') (take wrote.0 xs)) (plain_part p of bytes ms may finds tells) wrote.2)))
-                    (failing ∙ ap (counted (is_write_fault {A = Unit {0}} (Err error))) left.gap.no_failure)
-                    (nothing ∙ ap (counted (is_write_of_nothing {A = Unit {0}} (Err error))) left.gap.no_empty_write)
-                    only,
-              );
+              ) in
+              runs_to_stop K calls closure begun p bytes ms lengths (are p of) a.no_empty s.from s.reported a.from_reported now sink left
+              false s'.reported (omega (arith, fits p of bytes ms may finds, tells.read)) clear
+              ((s.reported - s.from) + wrote.0) (omega (arith, a.from_reported, short, tells.some)) error sink'
+              (subst (Appends (K.taken left.lent) (K.taken sink')) (sym (take_behind bytes s.from s.reported s'.reported wrote.0 a.from_reported short))
+              (Appends-trans (K.taken left.lent) (K.taken sink) (K.taken sink') (slice_range bytes s.from s.reported) (take wrote.0 (slice_range bytes s.reported s'.reported)) left.gap.bytes_are
+              (subst (λ (xs : List ℕ). Appends (K.taken sink) (K.taken sink') (take wrote.0 xs)) (plain_part p of bytes ms may finds tells) wrote.2)))
+              (failing ∙ ap (counted (is_write_fault {A = Unit {0}} (Err error))) left.gap.no_failure)
+              (nothing ∙ ap (counted (is_write_of_nothing {A = Unit {0}} (Err error))) left.gap.no_empty_write)
+              only;
         }
 
       -- or the closure refused
       pub over_refusal : (m : Occurrence) → answer ≡ Some (Ok (Match m)) → (error : StreamError) (next : F) (sink' : W)
-          → CalledOn calls now m (slice_range given s'.told s'.reported) sink (Err error) next sink' → Over (Err error) sink'
+          → CalledOn calls now m (slice_range given s'.told s'.reported) sink (Err error) next sink' → Over (Err error) next sink'
       over_refusal m is error next sink' called = record {
         given = given;
         ended = s'.ended;
@@ -296,10 +288,25 @@ module _ {A R F W : Type 0} (G : Ghosts A) (S : SourceGhosts R) (K : SinkGhosts 
         near = λ stopped. cc;
         run = λ p bytes ms of may finds.
             let tells = tells_of p of (Some (Ok (Match m))) is in
-            let a = running.after p of in (
-              next,
-              runs_to_refusal K calls closure begun p bytes ms lengths (are p of) a.no_empty s.from s.reported a.from_reported now sink (was p of bytes ms may finds)
-                  m (match_answer p of bytes ms may finds m tells) tells.starts false error next sink'
-                  (subst (λ (xs : List ℕ). CalledOn calls now m xs sink (Err error) next sink') (match_part p of bytes ms may finds m tells) called),
-            );
+            let a = running.after p of in
+            runs_to_refusal K calls closure begun p bytes ms lengths (are p of) a.no_empty s.from s.reported a.from_reported now sink (was p of bytes ms may finds)
+            m (match_answer p of bytes ms may finds m tells) tells.starts false error next sink'
+            (subst (λ (xs : List ℕ). CalledOn calls now m xs sink (Err error) next sink') (match_part p of bytes ms may finds m tells) called);
       }
+
+-- what is said of a closure that is left is said without it
+pub over_any : {R F W : Type 0} (S : SourceGhosts R) (K : SinkGhosts W) (IsOf : Patterns → Type 0)
+    (calls : Mut F (Bor Occurrence × (Bor (List ℕ) × (MutBor W × Unit {0}))) (Result (Unit {0}) StreamError × (MutBor W × Unit {0})))
+    (source source' : R) (closure : F) (sink : W) (result : Result (Unit {0}) StreamError) (last : F) (sink' : W)
+    → RunsAndLeaves S K IsOf calls source source' closure sink result last sink' → RunsOver S K IsOf calls source source' closure sink result sink'
+over_any S K IsOf calls source source' closure sink result last sink' over = record {
+  given = over.given;
+  ended = over.ended;
+  stopped = over.stopped;
+  gives = over.gives;
+  whole = over.whole;
+  read_failed = over.read_failed;
+  limit = over.limit;
+  run = λ p bytes ms of may finds. (last, over.run p bytes ms of may finds);
+  near = λ stopped. let near = over.near stopped in (near.0, near.1, near.2, λ p bytes ms of may finds. (last, near.3 p bytes ms of may finds));
+}

@@ -4,6 +4,7 @@ pub mod Refills
 pub mod Chunks
 pub mod Iterators
 pub mod Finds
+pub mod Pushing
 pub mod Starts
 pub mod Replacing
 pub mod FindRuns

@@ -7,6 +7,7 @@ pub mod finds;
 pub mod impls;
 mod pieces;
 pub mod progress;
+pub mod push;
 pub mod replace;
 mod settle;
 mod skip;

@@ -212,7 +212,7 @@ fn is_position_limit(error: &StreamError) -> bool
 }
 
 /// Lets go of all but the last bytes of a buffer, where it holds more than it has to keep.
-fn make_room(buffer: &mut Buffer)
+pub(crate) fn make_room(buffer: &mut Buffer)
     ensures free { length buffer.new.bytes < buffer.new.size }
     ensures last { (given : List ℕ) → EndsWith given buffer.old.bytes → EndsWith given buffer.new.bytes }
     ensures kept { length buffer.new.bytes ≡ min buffer.old.least (length buffer.old.bytes) }

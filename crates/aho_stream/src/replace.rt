@@ -11,7 +11,7 @@ ghost use Rattle.aho_devices.specs.Errors.{CountsErrors};
 ghost use Rattle.aho_stream.specs.After.{greatest_position};
 ghost use Rattle.aho_stream.specs.Iterators.{HasNotBegun, automaton_of};
 ghost use Rattle.aho_stream.specs.Starts.{IsFreshStart};
-ghost use Rattle.aho_stream.specs.StreamRun.{CanBegin, RefusesUntouched, RunsOver};
+ghost use Rattle.aho_stream.specs.StreamRun.{CanBegin, RefusesAllUntouched, RefusesUntouched, RunsAndLeaves, RunsLent, RunsOver};
 ghost use Rattle.aho_stream.specs.Replacing.{IsMakingRefusal, IsStreamFault, LeavesReplaced, chunk_bytes};
 
 use crate::chunks::StreamChunkIter;
@@ -138,7 +138,7 @@ pub fn try_stream_replace_all<A: Automaton, R: Source, W: Sink>(
 fn replace_chunks_with<'a, 'r, A: Automaton, R: Source, W: Sink, F>(
     chunks: &mut StreamChunkIter<'a, 'r, A, R>,
     sink: &mut W,
-    mut replace_with: F,
+    replace_with: &mut F,
 ) -> Result<(), StreamError>
 where
     F: FnMut(&Match, &[u8], &mut W) -> Result<(), StreamError>,
@@ -147,10 +147,12 @@ where
     requires open { chunks.old.progress.ended ≡ false }
     requires below { chunks.old.progress.refused ≡ false }
     requires limit { chunks.old.progress.limit ≡ greatest_position }
-    requires callable { F.IsAlwaysCallable replace_with }
+    requires callable { F.IsAlwaysCallable replace_with.old }
     ensures same_source { chunks.new.source.ghost_name ≡ chunks.old.source.ghost_name }
-    ensures runs { RunsOver R.Source W.Sink (A.is_of (automaton_of chunks.old)) F.FnMut
-        chunks.old.source.now chunks.new.source.now replace_with sink.old result sink.new }
+    ensures runs { RunsAndLeaves R.Source W.Sink (A.is_of (automaton_of chunks.old)) F.FnMut
+        chunks.old.source.now chunks.new.source.now
+        replace_with.old sink.old result replace_with.new sink.new }
+    ensures callable { F.IsAlwaysCallable replace_with.new }
 {
     while let Some(answer) = chunks.advance() {
         match answer? {
@@ -165,7 +167,8 @@ where
 /// the sink.
 ///
 /// It ends where the source's end is seen. The matches are those that replacement in memory of the same bytes finds,
-/// whatever the pieces in which they are read.
+/// whatever the pieces in which they are read. The closure is lent: afterwards it is what its calls made of it, so what it
+/// counted is known.
 ///
 /// # Errors
 ///
@@ -175,12 +178,46 @@ where
 /// seen. Nothing is tried again, and of the bytes behind the last match a beginning was written then. After a
 /// failed read, and at the limit, every match was passed on and all was written up to a place that is as far from the
 /// last byte given as the longest pattern is long, at most.
+pub fn try_stream_replace_all_with_mut<A: Automaton, R: Source, W: Sink, F>(
+    alloc: Global,
+    automaton: &A,
+    source: &mut R,
+    sink: &mut W,
+    replace_with: &mut F,
+) -> Result<(), StreamError>
+where
+    F: FnMut(&Match, &[u8], &mut W) -> Result<(), StreamError>,
+    requires of { (p : Patterns) × A.is_of automaton.now p }
+    requires callable { F.IsAlwaysCallable replace_with.old }
+    ensures runs { CanBegin A.Automaton automaton.now
+        → RunsLent R.Source W.Sink (A.is_of automaton.now) F.FnMut
+        source.old source.new replace_with.old sink.old result replace_with.new sink.new }
+    ensures empty { shortest (A.lengths automaton.now) ≡ 0
+        → RefusesAllUntouched result (StreamError.Match UnsupportedEmpty)
+        source.old source.new replace_with.old replace_with.new sink.old sink.new }
+    ensures refused { (reason : MatchErrorKind)
+        → 1 ≤ shortest (A.lengths automaton.now) → A.start automaton.now No ≡ Err reason
+        → RefusesAllUntouched result (StreamError.Match reason)
+        source.old source.new replace_with.old replace_with.new sink.old sink.new }
+    ensures callable { F.IsAlwaysCallable replace_with.new }
+{
+    let mut chunks = StreamStart::new(alloc, automaton)?.over(source);
+    let answer = replace_chunks_with(&mut chunks, sink, replace_with);
+    let _source = chunks.into_source();
+    answer
+}
+
+/// The same with a closure of its own, of which nothing is known afterwards.
+///
+/// # Errors
+///
+/// As those of `try_stream_replace_all_with_mut`.
 pub fn try_stream_replace_all_with<A: Automaton, R: Source, W: Sink, F>(
     alloc: Global,
     automaton: &A,
     source: &mut R,
     sink: &mut W,
-    replace_with: F,
+    mut replace_with: F,
 ) -> Result<(), StreamError>
 where
     F: FnMut(&Match, &[u8], &mut W) -> Result<(), StreamError>,
@@ -198,8 +235,5 @@ where
         → RefusesUntouched result (StreamError.Match reason)
         source.old source.new sink.old sink.new }
 {
-    let mut chunks = StreamStart::new(alloc, automaton)?.over(source);
-    let answer = replace_chunks_with(&mut chunks, sink, replace_with);
-    let _source = chunks.into_source();
-    answer
+    try_stream_replace_all_with_mut(alloc, automaton, source, sink, &mut replace_with)
 }

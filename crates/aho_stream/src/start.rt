@@ -85,6 +85,13 @@ impl<'a, A: Automaton> StreamStart<'a, A> {
         })
     }
 
+    /// How far the search has come, apart from its automaton: for a stream whose bytes are pushed.
+    pub fn into_progress(self) -> StreamProgress
+        ensures same { result ≡ self.entry.progress }
+    {
+        self.progress
+    }
+
     /// The chunks of what this source gives. It reads nothing and cannot fail: all that could be refused was refused before
     /// there was a source.
     pub fn over<'r, R: Source>(self, source: &'r mut R) -> StreamChunkIter<'a, 'r, A, R>

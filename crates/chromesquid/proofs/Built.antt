@@ -152,10 +152,14 @@ ok_value : {A E : Type 0} (r : Result A E) → IsOk r → (x : A) × (r ≡ Ok x
 ok_value (Ok x) ok = (x, refl)
 ok_value (Err e) ok = absurd (both_ways false refl ok)
 
+-- the automaton has a start for each search that is answered
+pub engine_start : (anchored : Anchored) (searcher : Searcher) → (p : Patterns) × IsBuiltFrom searcher p → Answers searcher anchored → (sid : ℕ) × (ghosts.start searcher.automaton anchored ≡ Ok sid)
+engine_start anchored searcher built answers = ok_value (ghosts.start searcher.automaton anchored) (built.1.starts anchored answers)
+
 -- and one where it is answered
 pub start_of : (anchored : Anchored) (searcher : Searcher) → (p : Patterns) × IsBuiltFrom searcher p → Answers searcher anchored → (sid : ℕ) × (start_by searcher anchored ≡ Ok sid)
 start_of anchored searcher built answers =
-    let start = ok_value (ghosts.start searcher.automaton anchored) (built.1.starts anchored answers) in
+    let start = engine_start anchored searcher built answers in
     (start.0, ap (λ (b : Bool). if b then ghosts.start searcher.automaton anchored else Err (why_refused anchored)) answers ∙ start.1)
 
 -- a searcher that was built from a list of byte strings has as many patterns

@@ -4,6 +4,8 @@ pub mod Begun
 pub mod Built
 -- what the searcher of a slice is of, and why its build fails
 pub mod Builds
+-- what a cover of a stream is of, and which searcher covers
+pub mod Covered
 -- where the position limit of a stream was answered
 pub mod PastLimit
 -- what a replacement of a stream is of

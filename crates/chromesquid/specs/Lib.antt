@@ -1,5 +1,7 @@
 -- what a build makes, and why it fails
 pub mod Building
+-- what covers give and leave
+pub mod Covers
 -- the automaton that searches, of one of several kinds
 pub mod Engine
 -- what a search answers that may be refused

@@ -1,6 +1,7 @@
 -- The definitions that a caller's contract names, from one place.
 pub use Rattle.aho_core.specs.Answer.{IsAnswer}
 pub use Rattle.aho_core.specs.ClosureRun.{RunsInMemory}
+pub use Rattle.aho_core.specs.Cover.{AreRuns, IsCover}
 pub use Rattle.aho_core.specs.Iteration.{AreFinds}
 pub use Rattle.aho_core.specs.Laws.{longest, shortest}
 pub use Rattle.aho_core.specs.Occurrence.{Occurrence}
@@ -18,6 +19,7 @@ pub use Rattle.aho_automaton.specs.Finding.{AreFirstFinds, HoldsOfFinds}
 pub use Rattle.aho_stream.specs.FindRuns.{is_limit_among}
 pub use Rattle.aho_stream.specs.StreamRun.{RefusesUntouched}
 pub use Rattle.chromesquid.specs.Building.{Accepts, FailsFor, HasCount, HasLengths, HasMatchKind, HasMemory, HasStartKind, HasTrie, IsBuiltWithMemory, IsFailureOf, SearchesBy, kind_to_make}
+pub use Rattle.chromesquid.specs.Covers.{CanCoverAll, CoversBeginning, CoversBytes, CoversNearly, CoversWhole, IsCoverBegun, IsCoveredUpTo, IsStreamCovered, why_not_covered}
 pub use Rattle.chromesquid.specs.Engine.{HasKind}
 pub use Rattle.chromesquid.specs.InMemory.{EndsOverBytes, EndsOverText, ReplacesBytes, ReplacesText, RunsOverBytes, RunsOverText, StopsOverBytes, StopsOverText}
 pub use Rattle.chromesquid.specs.Searcher.{Answers, ForItsPatterns, HasEmpty, HasNoEmpty, IsBuiltFrom, IsBuiltFromSome, RefusesSearch, TellsIfFound, automaton_kind_of, kind_for, match_kind_of, memory_usage_of, patterns_len_of}

@@ -3,6 +3,7 @@
 
 pub mod automaton;
 pub mod builder;
+pub mod cover;
 mod engine;
 pub mod find;
 pub mod impls;
@@ -25,6 +26,7 @@ pub use aho_devices::write::write_whole;
 pub use aho_prefilter::text::{Bytes, Text};
 pub use aho_stream::start::StreamStart;
 pub use builder::AhoCorasickBuilder;
+pub use cover::CoverIter;
 pub use find::{FindIter, FindOverlappingIter};
 pub use input::Searchable;
 pub use kinds::{AhoCorasickKind, StartKind};

@@ -24,7 +24,7 @@ extern "C" {
 enum {
     CS_DONE = 0,              /* all is done; a search found nothing */
     CS_FOUND = 1,             /* a search found a match */
-    CS_NO_SEARCHER = 2,       /* the handle has no searcher */
+    CS_NO_SEARCHER = 2,       /* the handle has no searcher, or no stream */
     CS_REFUSED = 3,           /* the searcher was not built for such a search */
     CS_NO_SPAN = 4,           /* the haystack has no such span */
     CS_NO_MEMORY = 5,         /* memory ran out */
@@ -33,7 +33,10 @@ enum {
     CS_TOO_MANY_PATTERNS = 8, /* there are more than 2^31 - 1 patterns */
     CS_TOO_LONG = 9,          /* a pattern has more than 2^31 - 2 bytes */
     CS_NOT_ONE_EACH = 10,     /* there is not one replacement for each pattern */
-    CS_NO_ROOM = 11           /* the room is too small */
+    CS_NO_ROOM = 11,          /* the room is too small */
+    CS_ENDED = 12,            /* the stream has ended */
+    CS_TOO_MANY_BYTES = 13,   /* 2^63 - 1 bytes were pushed */
+    CS_EMPTY_PATTERN = 14     /* a pattern is empty: streams are not searched for it */
 };
 
 /* Which of several matches is found. */
@@ -56,6 +59,14 @@ typedef struct cs_searcher {
 } cs_searcher;
 
 #define CS_SEARCHER_INIT { false, NULL }
+
+/* A stream's handle. What is said of the other one goes for it too. */
+typedef struct cs_stream {
+    bool full;
+    void *at;
+} cs_stream;
+
+#define CS_STREAM_INIT { false, NULL }
 
 typedef struct cs_slice {
     const uint8_t *at;
@@ -131,6 +142,29 @@ uint32_t cs_replace_all(cs_searcher *searcher, const uint8_t *haystack, size_t h
 
 /* What is known of the searcher: CS_DONE. Else CS_NO_SEARCHER: `out` is as it was. */
 uint32_t cs_info(cs_searcher *searcher, cs_facts *out);
+
+/* Begins a stream, whose bytes are pushed: it has a share of the searcher, and takes as much memory as 8 of the longest pattern,
+ * and 65536 bytes at least. What `out` had is let go.
+ * CS_DONE; CS_NO_SEARCHER; CS_EMPTY_PATTERN; CS_REFUSED as cs_is_match; CS_NO_MEMORY: `out` is as it was. */
+uint32_t cs_stream_new(cs_searcher *searcher, cs_stream *out);
+
+/* Pushes bytes behind those that were pushed, from the front as many as there is room for: CS_DONE, and in `taken` how many. After a
+ * cs_stream_next that answered CS_DONE it takes one at least; else it may take none. Push the rest once cs_stream_next answers
+ * CS_DONE again.
+ * Else CS_NO_SEARCHER, CS_ENDED, CS_TOO_MANY_BYTES: `taken` is as it was. */
+uint32_t cs_stream_push(cs_stream *stream, const uint8_t *bytes, size_t bytes_len, size_t *taken);
+
+/* The next match of all bytes pushed so far, searched for from the end of the one before: CS_FOUND, and the match by its place in the
+ * stream. CS_DONE where no match is certain yet, or none is left: `found` is as it was.
+ * A match is certain where no byte that follows can change it: with CS_STANDARD once it ends, else once no longer one can follow.
+ * Else CS_NO_SEARCHER. */
+uint32_t cs_stream_next(cs_stream *stream, cs_match *found);
+
+/* Says that no more is pushed, so that every match left is certain: CS_DONE. Else CS_NO_SEARCHER. */
+uint32_t cs_stream_end(cs_stream *stream);
+
+/* Lets go what the handle has: it has none then. */
+void cs_stream_free(cs_stream *stream);
 
 #ifdef __cplusplus
 }

@@ -1,4 +1,5 @@
 pub mod Evidence
+pub mod HeldStreams
 pub mod Helds
 pub mod Listing
 pub mod Values

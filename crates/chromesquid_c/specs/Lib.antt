@@ -1,9 +1,12 @@
 pub mod Building
 pub mod Evidence
 pub mod Holding
+pub mod HoldingStream
 pub mod Lending
 pub mod Matches
 pub mod Owned
 pub mod Replacing
+pub mod StreamLending
+pub mod Streaming
 pub mod Telling
 pub mod Told

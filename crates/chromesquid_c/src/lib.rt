@@ -4,14 +4,19 @@
 pub mod build;
 mod handle;
 mod held;
+mod held_stream;
 mod inner;
 pub mod list;
 mod loose;
 pub mod options;
+mod pushed;
 pub mod replace;
 pub mod search;
 pub mod status;
+pub mod stream;
+mod stream_handle;
 pub mod told;
 
 pub use handle::CsSearcher;
 pub use options::{CsFacts, CsMatch, CsOptions};
+pub use stream_handle::CsStream;

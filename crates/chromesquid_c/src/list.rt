@@ -88,7 +88,7 @@ fn list_finds(searcher: &AhoCorasick, haystack: &[u8], room: &mut [CsMatch]) -> 
 }
 
 /// Whether the searcher answers searches that are not anchored.
-fn is_unanchored(searcher: &AhoCorasick) -> bool
+pub(crate) fn is_unanchored(searcher: &AhoCorasick) -> bool
     ensures is { result ≡ allows searcher.now.start_kind No }
 {
     match searcher.start_kind() {

@@ -35,3 +35,12 @@ pub const NOT_ONE_EACH: u32 = 10;
 
 /// The room is too small.
 pub const NO_ROOM: u32 = 11;
+
+/// The stream has ended.
+pub const ENDED: u32 = 12;
+
+/// As many bytes were pushed as may be.
+pub const TOO_MANY_BYTES: u32 = 13;
+
+/// A pattern is empty.
+pub const EMPTY_PATTERN: u32 = 14;

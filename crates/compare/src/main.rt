@@ -12,6 +12,7 @@ mod automata;
 mod candidates;
 mod case;
 mod count;
+mod covers;
 mod fixed;
 mod memory;
 mod parts;

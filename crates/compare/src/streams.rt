@@ -3,6 +3,7 @@
 ghost use Rattle.aho_core.specs.Patterns.{Patterns};
 
 use crate::count::Count;
+use crate::covers::compare_covers;
 use crate::memory::{MANY, finds_in};
 use crate::pieces::{bracketed, replaced};
 use crate::turns::{answer_of, failed, last, turns};
@@ -86,7 +87,7 @@ fn told_under<A: Automaton>(
 }
 
 /// The bytes that a source has given.
-fn given<'t>(text: &'t [u8], source: &ScriptedSource<'_>) -> &'t [u8] {
+pub(crate) fn given<'t>(text: &'t [u8], source: &ScriptedSource<'_>) -> &'t [u8] {
     let count = text.len().saturating_sub(source.rest().len());
     text.get(..count).unwrap_or(text)
 }
@@ -278,7 +279,7 @@ fn found<A: Automaton>(
 
 /// Compares what was written and answered: all that is wanted of the given bytes, or where a device failed a beginning of
 /// what is wanted of the text, or of the given bytes where they had ended.
-fn judged(
+pub(crate) fn judged(
     call: &str,
     answer: &Result<(), StreamError>,
     wanted: &Result<(), StreamError>,
@@ -384,6 +385,7 @@ pub(crate) fn compare_streams<A: Automaton>(
 ) -> Result<()>
     requires of { (p : Patterns) × A.is_of automaton.now p }
 {
+    compare_covers(alloc, automaton, text, pieces, numbers, count)?;
     if automaton.min_pattern_len() == 0 {
         return refused(alloc, automaton, text, count);
     }

@@ -4,6 +4,8 @@ pub mod builders;
 pub mod builds;
 pub mod conditions;
 pub mod copies;
+pub mod cover_stream;
+pub mod covers;
 pub mod earliest;
 pub mod first_items;
 pub mod kinds;

@@ -20,7 +20,8 @@ pub use aho_search::automaton::{
 pub use aho_search::buffer::{Buffer, Filled};
 pub use aho_search::stream::{
     FromRead, FromWrite, Sink, Source, StreamChunk, StreamChunkIter, StreamFindIter,
-    try_stream_find_iter, try_stream_replace_all, try_stream_replace_all_with, write_whole,
+    try_stream_find_iter, try_stream_replace_all, try_stream_replace_all_with,
+    try_stream_replace_all_with_mut, write_whole,
 };
 
 fn main(rt: HostRuntime) -> Result<(), std::io::Error> {

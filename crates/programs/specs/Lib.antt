@@ -7,3 +7,4 @@ pub mod Arguments
 pub mod Names
 pub mod Messages
 pub mod Telling
+pub mod Reasons

@@ -1,7 +1,7 @@
 //! The arguments of a process, for both programs.
 
 ghost use Rattle.std.specs.IoError.{error_kind};
-ghost use Rattle.std.specs.Prelude.{◌≢◌, ◌≡◌};
+ghost use Rattle.std.specs.Prelude.{◌≢◌, ◌≡◌, ◌⊎◌, IfErr};
 ghost use Rattle.std.specs.declared.io.ErrorKind.TheVariants.{OutOfMemory as NoMemory};
 ghost use Rattle.programs.specs.declared.failure.Failure.TheVariants.{OutOfMemory, Usage};
 
@@ -13,7 +13,13 @@ use std::{env, io};
 
 /// The arguments after the program's name, in order. `collect` goes on where its first allocation is refused, so they are
 /// put one after another.
-pub fn arguments<R: Env + Alloc<A = Global>>(rt: &R) -> Result<Vec<String>, Failure> {
+///
+/// # Errors
+///
+/// `OutOfMemory` where memory runs out, and `Usage` where an argument is not UTF-8.
+pub fn arguments<R: Env + Alloc<A = Global>>(rt: &R) -> Result<Vec<String>, Failure>
+    ensures fails { IfErr result (λ failure. (failure ≡ OutOfMemory) ⊎ (failure ≡ Usage)) }
+{
     match env::args(rt) {
         Ok(given) => {
             let mut arguments = Vec::new(rt.alloc());

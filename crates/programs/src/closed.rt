@@ -1,6 +1,8 @@
 //! Why a call of the output failed, and a closed pipe: where nobody reads the output any more, nothing is told of that. A
 //! program that is ended by the signal for it says nothing either.
 
+ghost use Rattle.std.specs.Prelude.{◌≡◌};
+
 use crate::reason::Reason;
 use std::cell::Cell;
 use std::io;
@@ -15,7 +17,10 @@ pub struct Noted<'c, W> {
 
 impl<'c, W> Noted<'c, W> {
     /// The writer over this one, which notes it there.
-    pub fn new(writer: W, reason: &'c Cell<Option<Reason>>) -> Noted<'c, W> {
+    pub fn new(writer: W, reason: &'c Cell<Option<Reason>>) -> Noted<'c, W>
+        ensures writer { result.writer ≡ writer }
+        ensures noted { result.reason ≡ reason.entry }
+    {
         Noted { writer, reason }
     }
 
@@ -52,7 +57,10 @@ pub struct Quiet<'c, E> {
 
 impl<'c, E> Quiet<'c, E> {
     /// The writer over this one, by what is noted there.
-    pub fn new(writer: E, reason: &'c Cell<Option<Reason>>) -> Quiet<'c, E> {
+    pub fn new(writer: E, reason: &'c Cell<Option<Reason>>) -> Quiet<'c, E>
+        ensures writer { result.writer ≡ writer }
+        ensures noted { result.reason ≡ reason.entry }
+    {
         Quiet { writer, reason }
     }
 }

@@ -1,7 +1,9 @@
 //! Why a call of the system failed, as the programs tell it.
 
+ghost use Rattle.std.specs.IoError.{error_kind};
 ghost use Rattle.std.specs.Prelude.{◌≡◌};
 ghost use Rattle.programs.specs.Messages.{reason_text};
+ghost use Rattle.programs.specs.Reasons.{reason_of};
 
 use std::io;
 use std::io::ErrorKind;
@@ -47,7 +49,9 @@ pub enum Reason {
 
 impl Reason {
     /// The reason of an error of the system.
-    pub fn of(error: &io::Error) -> Reason {
+    pub fn of(error: &io::Error) -> Reason
+        ensures of { result ≡ reason_of (error_kind error.now) }
+    {
         match error.kind() {
             ErrorKind::NotFound => Reason::NotFound,
             ErrorKind::PermissionDenied => Reason::Denied,

@@ -15,9 +15,9 @@ impl Prefilter {
     /// The prefilter for these patterns where it may be of each kind, or none. `ignore_case` makes an ASCII letter the same in
     /// both cases.
     ///
-    /// It is a strided search, if bytes are compared as they are, there are more than thirty-two patterns, and each has five
-    /// bytes or more (six, for up to a hundred and for more than 8,192 patterns). But it is the one of a `PackedBuilder` where
-    /// that one searches for first bytes of which words are not made, or where too many grams of a few letters would be marked.
+    /// It is a strided search, if there are more than thirty-two patterns, and each has five bytes or more (six, for up to a
+    /// hundred and for more than 8,192 patterns). But it is the one of a `PackedBuilder` where that one searches for first bytes
+    /// of which words are not made, or where too many grams of a few letters would be marked.
     ///
     /// # Errors
     ///
@@ -31,14 +31,13 @@ impl Prefilter {
             held ≡ quickest_for (patterns_from kind ignore_case (pieces_of patterns.now))) }
         ensures of { (kind : MatchKind) → IfOk result (λ held. IfSome held (λ prefilter.
             IsPrefilterOf prefilter (patterns_from kind ignore_case (pieces_of patterns.now)))) }
-        ensures exact { IfErr result (λ _. ignore_case ≡ false) }
         ensures some { IfErr result (λ _. 0 < length patterns.now) }
     {
         let other = packed_or_other(alloc, ignore_case, patterns)?;
-        if ignore_case || !yields(&other) {
+        if !yields(&other) {
             return Ok(other);
         }
-        let Some(sizes) = Shape::of(patterns).sizes() else {
+        let Some(sizes) = Shape::of(ignore_case, patterns).sizes() else {
             return Ok(other);
         };
         let strided = Strided::new(alloc, sizes, patterns)?;

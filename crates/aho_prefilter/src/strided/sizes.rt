@@ -14,6 +14,8 @@ pub(crate) struct Sizes {
     pub(super) stride: usize,
     /// How many of the first bytes of each pattern are looked at.
     pub(super) head: usize,
+    /// Whether ASCII letters are the same in both cases.
+    pub(super) ignore_case: bool,
 }
 
 /// What the sizes for some patterns depend on.
@@ -25,17 +27,20 @@ pub(crate) struct Shape {
     head: usize,
     /// How many different bytes they are made of.
     letters: usize,
+    /// Whether ASCII letters are the same in both cases.
+    ignore_case: bool,
 }
 
 impl Shape {
     /// The shape of these patterns.
-    pub(crate) fn of(patterns: &[&[u8]]) -> Shape
-        ensures of { result ≡ shape_of (pieces_of patterns.now) }
+    pub(crate) fn of(ignore_case: bool, patterns: &[&[u8]]) -> Shape
+        ensures of { result ≡ shape_of ignore_case (pieces_of patterns.now) }
     {
         Shape {
             count: patterns.len(),
             head: least_head(patterns),
             letters: letters_of(patterns),
+            ignore_case,
         }
     }
 
@@ -56,6 +61,7 @@ impl Shape {
             gram,
             stride,
             head: self.head,
+            ignore_case: self.ignore_case,
         })
     }
 

@@ -13,5 +13,5 @@ pub fn all_in(alloc: Global, searcher: &AhoCorasick, text: &[u8]) -> Result<Vec<
     ensures all { (p : Patterns) → IsBuiltFrom searcher.now p → IfOk result (λ found.
         found.items ≡ all_occurrences p text.now 0 (length text.now)) }
 {
-    searcher.find_overlapping_iter(text).collect(alloc)
+    Ok(searcher.find_overlapping_iter(text).collect(alloc)?)
 }

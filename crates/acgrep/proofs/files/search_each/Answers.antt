@@ -8,7 +8,7 @@ use Rattle.acgrep.proofs.NamesSearched.{SoFar, ends_by, names_cut, so_far_end, s
 use Rattle.acgrep.specs.Files.{shown_name}
 use Rattle.acgrep.specs.Told.{IsMessage, TellsIf, shown_names}
 use Rattle.acgrep.specs.declared.files.Seen.{Seen}
-use Rattle.acgrep.proofs.Told.{AreWithin, if-more, within-cut}
+use Rattle.acgrep.proofs.Told.{if-more, within-cut}
 use Rattle.acgrep.proofs.files.search_each.Goals as goal
 
 pub loop-rest-init : goal.loop-rest-init

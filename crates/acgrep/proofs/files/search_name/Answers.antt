@@ -1,5 +1,5 @@
 -- The name that is told is that of the file.
-use Rattle.std.proofs.Common.{◌≡◌, ℕ, List, true, false, codes, refl, sym, subst, ap, ◌∙◌}
+use Rattle.std.proofs.Common.{◌≡◌, ℕ, List, true, false, codes, refl, sym, subst, ◌∙◌}
 use Rattle.programs.specs.Names.{IsAmong, is_input}
 use Rattle.acgrep.specs.Files.{shown_name}
 use Rattle.acgrep.proofs.files.search_name.Goals as goal

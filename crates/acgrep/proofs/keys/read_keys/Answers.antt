@@ -1,5 +1,5 @@
 -- The patterns of a source more were read.
-use Rattle.std.proofs.Common.{rules, ◌≡◌, ◌<◌, ◌≤◌, length, arith, [], subst}
+use Rattle.std.proofs.Common.{rules, ◌≡◌, ◌<◌, length, arith, [], subst}
 use Rattle.std.proofs.lemmas.Grind.{common_steps}
 use Rattle.acgrep.specs.Runs.{origins_of}
 use Rattle.programs.specs.Telling.{TellsSome}

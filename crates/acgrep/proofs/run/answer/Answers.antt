@@ -1,7 +1,9 @@
--- A text is written, or why not is told.
-use Rattle.std.proofs.Common.{Some}
+-- A text is written, or a search is made, and its status told.
+use Rattle.std.proofs.Common.{◌<◌, ◌∙◌, ℕ, Some, subst, sym}
+use Rattle.std.proofs.lemmas.Bool.{true≢false}
 use Rattle.acgrep.specs.Arguments.{said, shown_by}
-use Rattle.acgrep.specs.Told.{names_said}
+use Rattle.acgrep.specs.Told.{MayTell, TellsOfCall, names_said}
+use Rattle.acgrep.proofs.Statuses.{told-low, told-status}
 use Rattle.acgrep.proofs.run.answer.Goals as goal
 
 pub returns-then-given-clause-told : goal.returns-then-given-clause-told
@@ -9,3 +11,25 @@ returns-then-given-clause-told g c = c.write_text.ensures.told (shown_by c.args.
 
 pub returns-then-given-2-clause-told : goal.returns-then-given-2-clause-told
 returns-then-given-2-clause-told g c = c.write_text-then-given-2.ensures.told (shown_by c.args.given.now.flags) (names_said (Some (said c.args.given.now)))
+
+pub returns-then-given-clause-searches : goal.returns-then-given-clause-searches
+returns-then-given-clause-searches g c = λ asks low. absurd (true≢false (sym c.if-given.true ∙ asks.no_version))
+
+pub returns-then-given-2-clause-searches : goal.returns-then-given-2-clause-searches
+returns-then-given-2-clause-searches g c = λ asks low. absurd (true≢false (sym c.if-given-2.true ∙ asks.no_help))
+
+pub returns-clause-searches : goal.returns-clause-searches
+returns-clause-searches g c = λ asks low.
+    let found = c.search_asked-status.result in
+    let ok = c.args.given.now.flags.no_match_ok in (
+      found,
+      c.search_asked-status.ensures.searches (told-low ok found (subst (λ (n : ℕ). n < 2) c.status_told.ensures.told low)),
+      c.status_told.ensures.told,
+    )
+
+pub returns-clause-told : goal.returns-clause-told
+returns-clause-told g c =
+    let given = said c.args.given.now in
+    subst (λ (n : ℕ). TellsOfCall g.E.Sink given n c.args.errors.now c.search_asked-status.new.errors) (sym c.status_told.ensures.told)
+    (told-status g.E.Sink (MayTell (names_said (Some given))) (shown_by given.flags) given.flags.no_match_ok c.search_asked-status.result
+    c.args.errors.now c.search_asked-status.new.errors c.search_asked-status.ensures.told)

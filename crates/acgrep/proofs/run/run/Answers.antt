@@ -24,9 +24,12 @@ returns-in-Ok-clause-searches g c given is asks low =
     let done : Searches holds terminal (said c.in-Ok.given) left left' held held' c.answer-status.result =
     c.answer-status.ensures.searches (subst (λ (s : Said). AsksToSearch s.flags) (sym same) asks) (subst (λ (n : ℕ). n < 2) status low) in
     let kept : Searches holds terminal (said c.in-Ok.given) left left' held held'' c.answer-status.result =
-    searches_kept held' held'' c.finish.ensures.kept holds terminal _ _ _ left left' held c.answer-status.result done in
+    (done.0, searches_kept held' held'' c.finish.ensures.kept holds terminal _ _ _ left left' held done.0 done.1, done.2) in
     subst (λ (n : ℕ). Searches holds terminal given left left' held held'' n) (sym status)
     (subst (λ (s : Said). Searches holds terminal s left left' held held'' c.answer-status.result) same kept)
+
+pub returns-in-Err-clause-searches : goal.returns-in-Err-clause-searches
+returns-in-Err-clause-searches g c given is asks low = elim c.finish-in-Err.ensures.status [ inl two ↦ absurd (omega (arith, low, two)) | inr two ↦ absurd (omega (arith, low, two)) ]
 
 pub returns-in-Ok-clause-begins : goal.returns-in-Ok-clause-begins
 returns-in-Ok-clause-begins g c given is asks =
@@ -68,7 +71,7 @@ returns-in-Ok-clause-silent g c given is loud low =
     c.answer-status.ensures.bound bound c.finish.ensures.status c.answer-status.ensures.told c.finish.ensures.silent c.finish.ensures.told_before (λ low two. c.finish.ensures.told low two names) in
     let same : said c.in-Ok.given ≡ given = same_said (said_by (texts c.args.arguments.now)) given (said c.in-Ok.given) is c.in-Ok.ensures.read in
     let flags = c.in-Ok.given.flags in
-    told.silent low (λ quiet. not-quiet flags.quiet flags.names flags.count flags.json flags.only_matching quiet (ap (λ (s : Said). s.flags.quiet) same ∙ loud))
+    told.silent low (λ quiet. not-quiet flags.quiet flags.names flags.lacking flags.count flags.json flags.only_matching quiet (ap (λ (s : Said). s.flags.quiet) same ∙ loud))
 
 pub returns-in-Err-clause-tells : goal.returns-in-Err-clause-tells
 returns-in-Err-clause-tells g c =

@@ -1,10 +1,11 @@
 -- The automaton was built of the lines that were read.
 use Rattle.std.proofs.Common.{◌≡◌, ◌∙◌, ◌++◌, arith, List, ℕ, false, true, ap, inl, inr, refl, subst, sym}
 use Rattle.std.proofs.KnownBytes.{Keeps-refl}
+use Rattle.std.proofs.lemmas.Bool.{and_parts}
 use Rattle.std.proofs.lemmas.List.{length-map}
 use Rattle.aho_core.specs.Replacement.{pieces_of}
 use Rattle.acgrep.specs.Lines.{lines}
-use Rattle.acgrep.specs.Runs.{IsJob, origins_of, selects_none}
+use Rattle.acgrep.specs.Runs.{IsJob, knows_none, origins_of}
 use Rattle.acgrep.specs.Searchers.{patterns_asked}
 use Rattle.acgrep.proofs.Unselected.{none_selected}
 use Rattle.acgrep.proofs.WordLists.{lines_plain}
@@ -29,7 +30,7 @@ returns-in-Ok-build-clause-searches g c low =
     let text = c.in-Some.keys.text.items in
     let same : pieces_of c.as_slice-words.result.now ≡ lines text = ap pieces_of c.as_slice-words.ensures.value ∙ c.in-Ok.ensures.lines ∙ ap lines c.as_slice.ensures.value in
     let asked = patterns_asked flags.kind flags.ignore_case (lines text) in
-    let some : selects_none flags.invert (lines text) ≡ false = ap (selects_none flags.invert) (sym same) ∙ sym c.selects_none.ensures ∙ c.if-selects_none.false in
+    let some : knows_none flags (lines text) ≡ false = ap (knows_none flags) (sym same) ∙ sym c.knows_none.ensures ∙ c.if-knows_none.false in
     record {
       words = lines text;
       between = g.R.Read.remaining c.read_keys.new.input;
@@ -41,18 +42,18 @@ returns-in-Ok-build-clause-searches g c low =
       });
     }
 
-pub returns-then-selects_none-clause-searches : goal.returns-then-selects_none-clause-searches
-returns-then-selects_none-clause-searches g c low =
+pub returns-then-knows_none-clause-searches : goal.returns-then-knows_none-clause-searches
+returns-then-knows_none-clause-searches g c low =
     let flags = c.args.flags.now in
     let text = c.in-Some.keys.text.items in
     let same : pieces_of c.as_slice-words.result.now ≡ lines text = ap pieces_of c.as_slice-words.ensures.value ∙ c.in-Ok.ensures.lines ∙ ap lines c.as_slice.ensures.value in
-    let none : selects_none flags.invert (lines text) ≡ true = ap (selects_none flags.invert) (sym same) ∙ sym c.selects_none.ensures ∙ c.if-selects_none.true in
+    let none : knows_none flags (lines text) ≡ true = ap (knows_none flags) (sym same) ∙ sym c.knows_none.ensures ∙ c.if-knows_none.true in
     record {
       words = lines text;
       between = g.R.Read.remaining c.read_keys.new.input;
       read = c.in-Some.ensures.words;
       searched = rw none (record {
-        passed = none_selected (patterns_asked flags.kind flags.ignore_case (lines text)) flags.invert (lines text) refl none;
+        passed = none_selected (patterns_asked flags.kind flags.ignore_case (lines text)) flags.invert (lines text) refl (and_parts _ _ none).1;
         unread = refl;
         unwritten = Keeps-refl (g.W.Sink.taken c.args.output.now);
         none = refl;
@@ -80,8 +81,8 @@ returns-in_default-clause-begins g c = inl (Keeps-refl (g.W.Sink.taken c.args.ou
 pub returns-in_default-lines_of-clause-begins : goal.returns-in_default-lines_of-clause-begins
 returns-in_default-lines_of-clause-begins g c = inl (Keeps-refl (g.W.Sink.taken c.args.output.now))
 
-pub returns-then-selects_none-clause-begins : goal.returns-then-selects_none-clause-begins
-returns-then-selects_none-clause-begins g c = inl (Keeps-refl (g.W.Sink.taken c.args.output.now))
+pub returns-then-knows_none-clause-begins : goal.returns-then-knows_none-clause-begins
+returns-then-knows_none-clause-begins g c = inl (Keeps-refl (g.W.Sink.taken c.args.output.now))
 
 pub returns-clause-begins : goal.returns-clause-begins
 returns-clause-begins g c = inl (Keeps-refl (g.W.Sink.taken c.args.output.now))
@@ -100,8 +101,8 @@ returns-in_default-lines_of-clause-told g c =
     subst (λ (e : Errors g.row.E.Denot). TellsStatus g.E.Sink (MayTell names) (shown_by c.args.flags.now) 2 e c.tell_memory.new.errors) (c.in-Some.ensures.silent refl)
     (status-some g.E.Sink (MayTell names) (shown_by c.args.flags.now) c.read_keys.new.errors c.tell_memory.new.errors (some-weaker g.E.Sink (IsMessage names) (MayTell names) c.read_keys.new.errors c.tell_memory.new.errors (λ line is. inl is) (c.tell_memory.ensures.told names)))
 
-pub returns-then-selects_none-clause-told : goal.returns-then-selects_none-clause-told
-returns-then-selects_none-clause-told g c =
+pub returns-then-knows_none-clause-told : goal.returns-then-knows_none-clause-told
+returns-then-knows_none-clause-told g c =
     let names = names_told (origins_of c.args.sources.now) (name_bytes c.args.names.now) in
     subst (λ (e : Errors g.row.E.Denot). TellsStatus g.E.Sink (MayTell names) (shown_by c.args.flags.now) 1 c.args.errors.now e) (sym (c.in-Some.ensures.silent refl))
     (status-none g.E.Sink (MayTell names) (shown_by c.args.flags.now) 1 c.args.errors.now (omega arith))

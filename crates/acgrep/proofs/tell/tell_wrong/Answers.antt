@@ -1,8 +1,8 @@
 -- The parts are those of what is told.
-use Rattle.std.proofs.Common.{sym, subst}
+use Rattle.std.proofs.Common.{List, ℕ, sym, subst}
 use Rattle.std.specs.List.{concat}
 use Rattle.programs.specs.Telling.{TellsBytes}
-use Rattle.acgrep.specs.Told.{wrong_parts}
+use Rattle.acgrep.specs.Told.{number_parts, unargued_parts, wrong_parts}
 use Rattle.acgrep.specs.declared.arguments.Wrong.{Wrong}
 use Rattle.acgrep.proofs.tell.tell_wrong.Goals as goal
 
@@ -11,14 +11,22 @@ returns-in-UnknownName g c = record {
   told = subst (λ (wrong : Wrong). TellsBytes g.E.Sink c.args.errors.now c.write-in-UnknownName.new.self (concat (wrong_parts wrong))) (sym c.in-UnknownName.is) c.write-in-UnknownName.ensures.told;
 }
 
-pub returns-in-NoArgument : goal.returns-in-NoArgument
-returns-in-NoArgument g c = record {
-  told = subst (λ (wrong : Wrong). TellsBytes g.E.Sink c.args.errors.now c.write-in-NoArgument.new.self (concat (wrong_parts wrong))) (sym c.in-NoArgument.is) c.write-in-NoArgument.ensures.told;
+pub returns-in-Ambiguous : goal.returns-in-Ambiguous
+returns-in-Ambiguous g c = record {
+  told = subst (λ (wrong : Wrong). TellsBytes g.E.Sink c.args.errors.now c.write-in-Ambiguous.new.self (concat (wrong_parts wrong))) (sym c.in-Ambiguous.is) c.write-in-Ambiguous.ensures.told;
 }
 
-pub returns-in-NoKind : goal.returns-in-NoKind
-returns-in-NoKind g c = record {
-  told = subst (λ (wrong : Wrong). TellsBytes g.E.Sink c.args.errors.now c.write-in-NoKind.new.self (concat (wrong_parts wrong))) (sym c.in-NoKind.is) c.write-in-NoKind.ensures.told;
+pub returns-in-NoArgument : goal.returns-in-NoArgument
+returns-in-NoArgument g c =
+    let new = c.tell_unargued.new.errors in
+    record {
+      told = subst (λ (wrong : Wrong). TellsBytes g.E.Sink c.args.errors.now new (concat (wrong_parts wrong))) (sym c.in-NoArgument.is)
+          (subst (λ (name : List ℕ). TellsBytes g.E.Sink c.args.errors.now new (concat (unargued_parts name))) c.valued_name-name.ensures.name c.tell_unargued.ensures.told);
+    }
+
+pub returns-in-TakesNone : goal.returns-in-TakesNone
+returns-in-TakesNone g c = record {
+  told = subst (λ (wrong : Wrong). TellsBytes g.E.Sink c.args.errors.now c.write-in-TakesNone.new.self (concat (wrong_parts wrong))) (sym c.in-TakesNone.is) c.write-in-TakesNone.ensures.told;
 }
 
 pub returns-in-UnknownKind : goal.returns-in-UnknownKind
@@ -31,12 +39,11 @@ returns-in-UnknownColor g c = record {
   told = subst (λ (wrong : Wrong). TellsBytes g.E.Sink c.args.errors.now c.write-in-UnknownColor.new.self (concat (wrong_parts wrong))) (sym c.in-UnknownColor.is) c.write-in-UnknownColor.ensures.told;
 }
 
-pub returns-in-NoOffset : goal.returns-in-NoOffset
-returns-in-NoOffset g c = record {
-  told = subst (λ (wrong : Wrong). TellsBytes g.E.Sink c.args.errors.now c.write-in-NoOffset.new.self (concat (wrong_parts wrong))) (sym c.in-NoOffset.is) c.write-in-NoOffset.ensures.told;
-}
-
 pub returns-in-NoNumber : goal.returns-in-NoNumber
-returns-in-NoNumber g c = record {
-  told = subst (λ (wrong : Wrong). TellsBytes g.E.Sink c.args.errors.now c.write-in-NoNumber.new.self (concat (wrong_parts wrong))) (sym c.in-NoNumber.is) c.write-in-NoNumber.ensures.told;
-}
+returns-in-NoNumber g c =
+    let new = c.tell_number.new.errors in
+    record {
+      told = subst (λ (wrong : Wrong). TellsBytes g.E.Sink c.args.errors.now new (concat (wrong_parts wrong))) (sym c.in-NoNumber.is)
+          (subst (λ (name : List ℕ). TellsBytes g.E.Sink c.args.errors.now new (concat (number_parts name c.in-NoNumber.number.now))) c.name_beside-name.ensures.name
+          c.tell_number.ensures.told);
+    }

@@ -1,11 +1,12 @@
 -- Both automata are of the patterns that are asked for, and there is a replacement for each.
-use Rattle.std.proofs.Common.{rules, ◌≡◌, ◌≤◌, ◌∙◌, ap, sym, subst, length, map, List, ℕ, refl}
+use Rattle.std.proofs.Common.{rules, ◌≡◌, ◌≤◌, ◌∙◌, ap, sym, subst, length, map, true, List, ℕ, refl}
 use Rattle.std.specs.Prelude.{Bool, IfSome, IsOk, None, Ok, Option, Some, Err, Result}
 use Rattle.std.specs.Borrow.{Bor}
 use Rattle.std.proofs.lemmas.List.{length-map}
 use Rattle.aho_core.specs.Laws.{shortest}
 use Rattle.aho_core.specs.Patterns.{Patterns}
 use Rattle.aho_core.specs.declared.search.Anchored.TheVariants.{No}
+use Rattle.aho_core.specs.declared.search.MatchKind.TheVariants.{Standard}
 use Rattle.aho_core.specs.Replacement.{pieces_of}
 use Rattle.aho_corasick.specs.contracts.noncontiguous.NFAAutomaton.TheImpl.{ghosts as NFAGhosts}
 use Rattle.aho_hybrid.specs.contracts.hybrid.HybridAutomaton.TheImpl.{ghosts as HybridGhosts}
@@ -14,7 +15,7 @@ use Rattle.aho_hybrid.specs.contracts.hybrid.HybridAutomaton.TheImpl.Laws.{laws-
 use Rattle.aho_hybrid.specs.declared.hybrid.Hybrid.{Hybrid}
 use Rattle.programs.specs.Failures.{failure_of_stream}
 use Rattle.programs.specs.Names.{name_bytes}
-use Rattle.acredact.specs.Arguments.{all_given}
+use Rattle.acredact.specs.Arguments.{all_given, covers_asked}
 use Rattle.acredact.specs.Builds.{patterns_by_given}
 use Rattle.acredact.specs.Calls.{RunOutcome, call_of, names_asked, pieces_asked, work_by}
 use Rattle.acredact.specs.Files.{FilesOutcome}
@@ -23,7 +24,7 @@ use Rattle.acredact.specs.Tables.{patterns_in, piece_by, secrets_of}
 use Rattle.acredact.specs.declared.failure.Failure.{Failure}
 use Rattle.acredact.specs.declared.failure.Failure.TheVariants.{Other}
 use Rattle.programs.proofs.Lent.{lent}
-use Rattle.acredact.proofs.Ready.{ready_of, some_shortest}
+use Rattle.acredact.proofs.Ready.{covers_standard, ready_of, some_shortest}
 use Rattle.acredact.proofs.Calls.{run_done, run_fails, run_memory, run_refused, work_as}
 use Rattle.acredact.proofs.run.redact_all.Goals.{After-as_ref}
 use Rattle.acredact.proofs.run.redact_all.Given.{Over}
@@ -38,6 +39,9 @@ pieces_are g c = ap pieces_of c.as_slice-2.ensures.value ∙ c.in_ok-replacement
 names_are : (g : Over) (c : After-as_ref g) → name_bytes c.as_slice.result.now ≡ names_asked (all_given c.args.given.now)
 names_are g c = ap name_bytes c.as_slice.ensures.value ∙ c.in_ok-names.ensures.names
 
+covers_are : (g : Over) (c : After-as_ref g) → c.covers.result ≡ covers_asked (all_given c.args.given.now)
+covers_are g c = c.covers.ensures.covers
+
 nfa_is : (g : Over) (c : After-as_ref g) → NFAGhosts.is_of c.in_ok-nfa.nfa (patterns_by_given (all_given c.args.given.now) (patterns_in (secrets_of c.args.rules.now)))
 nfa_is g c = subst (λ (words : List (List ℕ)). NFAGhosts.is_of c.in_ok-nfa.nfa (patterns_by_given (all_given c.args.given.now) words)) (words_are g c) c.in_ok-nfa.ensures.of
 
@@ -49,9 +53,11 @@ rows_are g c =
     (c.in_ok-rows.ensures.of p (record { words_are = sym (words_are g c); rule = sym c.has.ensures.has }) (nfa_is g c))
 
 rows_ready : (rows : Option (Bor Hybrid)) (p : Patterns) (replacements : List (Bor (List ℕ))) → IfSome rows (λ rows. HybridGhosts.is_of rows.now p) → IfSome rows (λ rows. IsOk (HybridGhosts.start rows.now No))
-    → 1 ≤ shortest (map length p.words) → length replacements ≡ length p.words → IfSome rows (λ rows. CanRedact HybridGhosts rows.now replacements)
-rows_ready None p replacements of starts some one = tt
-rows_ready (Some rows) p replacements of starts some one = ready_of HybridGhosts rows.now p replacements of (rows-laws rows.now p of).lengths_are starts some one
+    → (covers : Bool) → (covers ≡ true → p.kind ≡ Standard) → 1 ≤ shortest (map length p.words) → length replacements ≡ length p.words → IfSome rows (λ rows. CanRedact HybridGhosts rows.now covers replacements)
+rows_ready None p replacements of starts covers standard some one = tt
+rows_ready (Some rows) p replacements of starts covers standard some one =
+    let laws = rows-laws rows.now p of in
+    ready_of HybridGhosts rows.now p covers replacements of laws.lengths_are laws.kind_is standard starts some one
 
 pub redact_by-requires : goal.redact_by-requires
 redact_by-requires g c =
@@ -61,9 +67,11 @@ redact_by-requires g c =
     let one : length c.as_slice-2.result.now ≡ length (patterns_in (secrets_of c.args.rules.now)) =
     sym (length-map c.as_slice-2.result.now (λ piece. piece.now)) ∙ ap length (pieces_are g after) ∙ length-map (secrets_of c.args.rules.now) _ ∙ sym (length-map (secrets_of c.args.rules.now) _) in
     let starts = lent c.in_ok-rows.rows c.as_ref.result (λ rows. IsOk (HybridGhosts.start rows No)) c.as_ref.ensures.value c.in_ok-rows.ensures.starts in
+    let laws = nfa-laws c.in_ok-nfa.nfa p (nfa_is g after) in
+    let standard : c.covers.result ≡ true → p.kind ≡ Standard = λ is. covers_standard (all_given c.args.given.now) (sym c.covers.ensures.covers ∙ is) in
     record {
-      ready = ready_of NFAGhosts c.in_ok-nfa.nfa p _ (nfa_is g after) (nfa-laws c.in_ok-nfa.nfa p (nfa_is g after)).lengths_are c.in_ok-nfa.ensures.starts some one;
-      rows = rows_ready c.as_ref.result p _ (rows_are g after) starts some one;
+      ready = ready_of NFAGhosts c.in_ok-nfa.nfa p c.covers.result _ (nfa_is g after) laws.lengths_are laws.kind_is standard c.in_ok-nfa.ensures.starts some one;
+      rows = rows_ready c.as_ref.result p _ (rows_are g after) starts c.covers.result standard some one;
     }
 
 pub returns-in_err-redact_by-clause-outcome : goal.returns-in_err-redact_by-clause-outcome
@@ -74,7 +82,7 @@ returns-in_err-redact_by-clause-outcome g c =
     let is : c.from_residual-in_err-redact_by.result ≡ Err (Other (failure_of_stream c.in_err-redact_by.field-0.0)) = search rules in
     subst (λ (r : Result Bool Failure). RunOutcome g.W.Write g.E.Sink work r c.args.streams.now c.redact_by.new.streams) (sym is)
     (run_fails g.W.Write g.E.Sink work _ _ _
-    (work_as (g.F.Folder.holds c.args.folder.now) (g.F.Folder.refuses c.args.folder.now) p _ _ _ _ (names_are g after) (pieces_are g after)
+    (work_as (g.F.Folder.holds c.args.folder.now) (g.F.Folder.refuses c.args.folder.now) p _ _ _ _ _ _ (names_are g after) (covers_are g after) (pieces_are g after)
     (λ w. FilesOutcome g.W.Write g.E.Sink w (Err c.in_err-redact_by.field-0.0) c.args.streams.now c.redact_by.new.streams) (c.in_err-redact_by.ensures.outcome p (nfa_is g after) (rows_are g after))))
 
 pub returns-clause-outcome : goal.returns-clause-outcome
@@ -83,5 +91,5 @@ returns-clause-outcome g c =
     let after = (goal.at.returns-clause-outcome g c).After-as_ref in
     let work = work_by (call_of g.F.Folder c.args.folder.now (all_given c.args.given.now)) (secrets_of c.args.rules.now) in
     run_done g.W.Write g.E.Sink work _ _ _
-    (work_as (g.F.Folder.holds c.args.folder.now) (g.F.Folder.refuses c.args.folder.now) p _ _ _ _ (names_are g after) (pieces_are g after)
+    (work_as (g.F.Folder.holds c.args.folder.now) (g.F.Folder.refuses c.args.folder.now) p _ _ _ _ _ _ (names_are g after) (covers_are g after) (pieces_are g after)
     (λ w. FilesOutcome g.W.Write g.E.Sink w (Ok c.in_ok-redact_by.field-0) c.args.streams.now c.redact_by.new.streams) (c.in_ok-redact_by.ensures.outcome p (nfa_is g after) (rows_are g after)))

@@ -5,7 +5,7 @@ use Rattle.aho_core.specs.Laws.{first_is_answer}
 use Rattle.aho_core.specs.Patterns.{Patterns}
 use Rattle.aho_automaton.proofs.Told.{is_none}
 use Rattle.aho_automaton.proofs.Walks.{Standing, stands_at_start, stands_silent, stands_unlisted, stands_first, stands_last, answer_at_end, answer_when_dead, answer_found, not_before, later, near_at_start, near_further, anchored_near_further}
-use Rattle.aho_automaton.proofs.Skipping.{waits_there}
+use Rattle.aho_automaton.proofs.Skipping.{jumps_there, waits_there}
 use Rattle.aho_automaton.proofs.find.find_from.Given.{Over}
 use Rattle.aho_automaton.proofs.find.find_from.Goals.{After-step-sid, Joined-else-stops, Joined-looks_at, then-looks_at+else-is_dead+in-Some+else-stops-2, then-looks_at+else-is_dead+in_default+else-waits_in, else-looks_at, else-stops-via-then-stops+else-is_some, else-stops-via-else-stops}
 use Rattle.aho_automaton.proofs.find.find_from.Goals as goal
@@ -36,6 +36,8 @@ loop-at-init g c = record {
   quiet = λ stops. elim c.else-stops.branch [ else-stops-via-then-stops+else-is_some w ↦ is_none _ w.if-is_some.ensures | else-stops-via-else-stops w ↦ cc (c.stops_at_first-stops.ensures.first, w.if-stops.false, stops) ];
   near = λ unanchored leftmost m e. near_at_start (g.met.W.Of.Automaton.laws _ _ c.requires.of.1) _ _ _ _ _ m (omega arith) (begun g c _ c.requires.of.1) e;
   anchored_near = λ is_anchored. omega arith;
+  low = omega arith;
+  here = omega arith;
   stands = begun g c;
 }
 
@@ -47,6 +49,17 @@ same_walk g c = c.step-sid.ensures.same ∙ c.loop-at.invariant.same_walk
 held_after : (g : Over) (c : After-step-sid g) (p : Patterns) → g.W.Of.Automaton.is_of (g.W.Walk.of c.args.walk.now) p
     → g.W.Of.Automaton.held (g.W.Walk.of c.args.walk.now) p c.args.anchored (slice_range (g.T.Text.bytes c.args.text.now) c.args.span.start c.loop-at.at ++ get_or (g.T.Text.bytes c.args.text.now) c.loop-at.at 0 ∷ []) c.step-sid.result
 held_after g c p of =
+    let read : c.byte-byte.result ≡ get_or (g.T.Text.bytes c.args.text.now) c.loop-at.at 0 = c.byte-byte.ensures.read ∙ ap (λ xs. get_or xs c.loop-at.at 0) c.loop-at.invariant.same_text in
+    subst (λ (x : ℕ). g.W.Of.Automaton.held (g.W.Walk.of c.args.walk.now) p c.args.anchored (slice_range (g.T.Text.bytes c.args.text.now) c.args.span.start c.loop-at.at ++ x ∷ []) c.step-sid.result) read
+    ((rw c.loop-at.invariant.same_walk at c.step-sid.ensures.goes_on) p of _ (c.loop-at.invariant.stands p of).held_now)
+
+-- the same of what follows a look at the state
+same_joined : (g : Over) (c : Joined-looks_at g) → g.W.Walk.of c.step-sid.new.self ≡ g.W.Walk.of c.args.walk.now
+same_joined g c = c.step-sid.ensures.same ∙ c.loop-at.invariant.same_walk
+
+held_joined : (g : Over) (c : Joined-looks_at g) (p : Patterns) → g.W.Of.Automaton.is_of (g.W.Walk.of c.args.walk.now) p
+    → g.W.Of.Automaton.held (g.W.Walk.of c.args.walk.now) p c.args.anchored (slice_range (g.T.Text.bytes c.args.text.now) c.args.span.start c.loop-at.at ++ get_or (g.T.Text.bytes c.args.text.now) c.loop-at.at 0 ∷ []) c.step-sid.result
+held_joined g c p of =
     let read : c.byte-byte.result ≡ get_or (g.T.Text.bytes c.args.text.now) c.loop-at.at 0 = c.byte-byte.ensures.read ∙ ap (λ xs. get_or xs c.loop-at.at 0) c.loop-at.invariant.same_text in
     subst (λ (x : ℕ). g.W.Of.Automaton.held (g.W.Walk.of c.args.walk.now) p c.args.anchored (slice_range (g.T.Text.bytes c.args.text.now) c.args.span.start c.loop-at.at ++ x ∷ []) c.step-sid.result) read
     ((rw c.loop-at.invariant.same_walk at c.step-sid.ensures.goes_on) p of _ (c.loop-at.invariant.stands p of).held_now)
@@ -73,32 +86,31 @@ returns-then-stops-2-clause-found g c p of =
 stood : (g : Over) (c : Joined-looks_at g) (p : Patterns) → g.W.Of.Automaton.is_of (g.W.Walk.of c.args.walk.now) p
     → Standing p (g.W.Of.Automaton.held (g.W.Walk.of c.args.walk.now) p) c.args.anchored (g.T.Text.bytes c.args.text.now) c.args.span.start (c.loop-at.at + 1) c.step-sid.result c.if-looks_at.best
 stood g c p of =
-    let d = (goal.at.loop-at-preserved g c).After-step-sid in
     let laws = g.met.W.Of.Automaton.laws (g.W.Walk.of c.args.walk.now) p of in
     let stands = c.loop-at.invariant.stands p of in
-    let held = held_after g d p of in
+    let held = held_joined g c p of in
     elim c.if-looks_at.branch [
       | then-looks_at+else-is_dead+in-Some+else-stops-2 w ↦
-          stands_last laws _ _ _ c.args.earliest _ _ _ _ _ _ (cc (c.stops_at_first-stops.ensures.first, w.if-stops-2.false)) (omega arith) (omega arith) held (rw (same_walk g d) at w.in-Some.ensures.told) stands w.best-is
+          stands_last laws _ _ _ c.args.earliest _ _ _ _ _ _ (cc (c.stops_at_first-stops.ensures.first, w.if-stops-2.false)) (omega arith) (omega arith) held (rw (same_joined g c) at w.in-Some.ensures.told) stands w.best-is
       | then-looks_at+else-is_dead+in_default+else-waits_in w ↦
-          stands_silent laws _ _ _ _ _ _ _ _ (omega arith) (omega arith) held (rw (same_walk g d) at w.in_default.ensures.told) stands w.best-is
+          stands_silent laws _ _ _ _ _ _ _ _ (omega arith) (omega arith) held (rw (same_joined g c) at w.in_default.ensures.told) stands w.best-is
       | else-looks_at w ↦
-          stands_unlisted laws _ _ _ _ _ _ _ _ (omega arith) (omega arith) held (rw (same_walk g d) at (w.if-looks_at.ensures.plain refl)).1 stands w.best-is
+          stands_unlisted laws _ _ _ _ _ _ _ _ (omega arith) (omega arith) held (rw (same_joined g c) at (w.if-looks_at.ensures.plain refl)).1 stands w.best-is
     ]
 
 -- a search that goes on is not at a dead state
 alive : (g : Over) (c : Joined-looks_at g) → g.W.Of.Automaton.dead (g.W.Walk.of c.args.walk.now) c.step-sid.result ≡ false
 alive g c =
-    let d = (goal.at.loop-at-preserved g c).After-step-sid in
     elim c.if-looks_at.branch [
-      | then-looks_at+else-is_dead+in-Some+else-stops-2 w ↦ sym (rw (same_walk g d) at w.if-is_dead.ensures.dead)
-      | then-looks_at+else-is_dead+in_default+else-waits_in w ↦ sym (rw (same_walk g d) at w.if-is_dead.ensures.dead)
-      | else-looks_at w ↦ (rw (same_walk g d) at (w.if-looks_at.ensures.plain refl)).0
+      | then-looks_at+else-is_dead+in-Some+else-stops-2 w ↦ sym (rw (same_joined g c) at w.if-is_dead.ensures.dead)
+      | then-looks_at+else-is_dead+in_default+else-waits_in w ↦ sym (rw (same_joined g c) at w.if-is_dead.ensures.dead)
+      | else-looks_at w ↦ (rw (same_joined g c) at (w.if-looks_at.ensures.plain refl)).0
     ]
 
 pub loop-at-preserved : goal.loop-at-preserved
 loop-at-preserved g c =
     let d = (goal.at.loop-at-preserved g c).After-step-sid in
+    let e = (goal.at.loop-at-preserved g c).Joined-looks_at in
     record {
       same_walk = same_walk g d;
       same_text = c.byte-byte.ensures.same ∙ c.loop-at.invariant.same_text;
@@ -114,9 +126,11 @@ loop-at-preserved g c =
         | then-looks_at+else-is_dead+in_default+else-waits_in w ↦ w.best-is ∙ c.loop-at.invariant.quiet stops
         | else-looks_at w ↦ w.best-is ∙ c.loop-at.invariant.quiet stops
       ];
-      near = λ unanchored leftmost m e. near_further (g.met.W.Of.Automaton.laws _ _ c.requires.of.1) _ _ _ (c.loop-at.at + 1) _ _ m unanchored leftmost (omega arith) (alive g c) (stood g c _ c.requires.of.1) e;
-      anchored_near = λ is_anchored. anchored_near_further (g.met.W.Of.Automaton.laws _ _ c.requires.of.1) _ _ _ (c.loop-at.at + 1) _ _ is_anchored (omega arith) (omega arith) (alive g c) (stood g c _ c.requires.of.1);
-      stands = stood g c;
+      near = λ unanchored leftmost m is. near_further (g.met.W.Of.Automaton.laws _ _ c.requires.of.1) _ _ _ (c.loop-at.at + 1) _ _ m unanchored leftmost (omega arith) (alive g e) (stood g e _ c.requires.of.1) is;
+      anchored_near = λ is_anchored. anchored_near_further (g.met.W.Of.Automaton.laws _ _ c.requires.of.1) _ _ _ (c.loop-at.at + 1) _ _ is_anchored (omega arith) (omega arith) (alive g e) (stood g e _ c.requires.of.1);
+      low = omega (arith, c.resumes_at-last.ensures.forward c.requires.of.0 (rw (sym (same_walk g d)) at c.requires.of.1), c.loop-at.invariant.low);
+      here = omega (arith, c.if-last-at.false);
+      stands = stood g e;
     }
 
 -- what is held at the end of the span is the answer
@@ -133,3 +147,20 @@ returns-then-waits_in-clause-waits_for g c p of =
     let stands = stands_silent laws _ _ _ _ _ _ _ _ (omega arith) (omega arith) (held_after g d p of) (rw (same_walk g d) at c.in_default.ensures.told) (c.loop-at.invariant.stands p of) refl in
     waits_there p _ _ _ _ _ _ laws _ (c.requires.unanchored waits.0) _ _ _ _ _ (omega arith) (omega arith) (omega arith)
     (rw waits.1 at stands) (rw (same_walk g d) at waits.2)
+
+-- where it goes on behind the last candidate, all that starts there has ended with nothing found
+pub returns-then-last-at-clause-waits_within : goal.returns-then-last-at-clause-waits_within
+returns-then-last-at-clause-waits_within g c =
+    let d = (goal.at.returns-then-last-at-clause-waits_within g c).After-step-sid in
+    let of = rw (sym (same_walk g d)) at c.requires.of.1 in
+    let resumes = c.resumes_at-last.ensures.resumes c.requires.of.0 of (omega (arith, c.if-last-at.true)) in
+    (omega (arith, c.loop-at.invariant.low, c.loop-at.invariant.here, c.if-last-at.true), resumes.within, omega (arith, c.byte-byte.ensures.passed, c.if-last-at.true))
+
+pub returns-then-last-at-clause-waits_for : goal.returns-then-last-at-clause-waits_for
+returns-then-last-at-clause-waits_for g c p of =
+    let d = (goal.at.returns-then-last-at-clause-waits_for g c).After-step-sid in
+    let e = (goal.at.returns-then-last-at-clause-waits_for g c).Joined-looks_at in
+    let resumes = (rw (same_walk g d) at c.resumes_at-last.ensures.resumes) p of (omega (arith, c.if-last-at.true)) in
+    let stands = stood g e p of in
+    jumps_there p _ _ (c.requires.unanchored resumes.waits) _ _ _ _ _ _ _ _ (omega arith) (omega arith) (omega arith)
+    (rw resumes.none at stands) (c.requires.reach resumes.waits p of) resumes.ended (rw (c.byte-byte.ensures.same ∙ c.loop-at.invariant.same_text) at resumes.behind)

@@ -15,6 +15,7 @@ use Rattle.aho_automaton.proofs.find.find_from.Given as goal
 -- `quiet`: a search that stops at its first match has none yet;
 -- `near`: a leftmost search is not far past the start of the match that it holds;
 -- `anchored_near`: an anchored search has not read more than the longest pattern;
+-- `low`, `here`: the place behind which it may go on is one of those so far;
 -- `stands`: the state is held after the bytes that were read, and the best so far is theirs.
 abbrev pub invariant-loop-at : goal.invariant-loop-at
 invariant-loop-at g l =
@@ -32,5 +33,7 @@ invariant-loop-at g l =
       quiet : first_is_answer (g.W.Of.Automaton.kind automaton) l.earliest ≡ true → l.best ≡ None;
       near : l.anchored ≡ No → g.W.Of.Automaton.kind automaton ≢ Standard → (m : Occurrence) → l.best ≡ Some m → l.at ≤ m.start + longest (g.W.Of.Automaton.lengths automaton);
       anchored_near : l.anchored ≡ Yes → l.at ≤ l.start + longest (g.W.Of.Automaton.lengths automaton);
+      low : l.start ≤ l.last;
+      here : l.last ≤ l.at;
       stands : (p : Patterns) → g.W.Of.Automaton.is_of automaton p → Standing p (g.W.Of.Automaton.held automaton p) l.anchored (g.T.Text.bytes l.initial.text) l.start l.at l.sid l.best;
     }

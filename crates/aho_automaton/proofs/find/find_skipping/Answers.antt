@@ -4,7 +4,7 @@ use Rattle.aho_core.specs.Patterns.{Patterns}
 use Rattle.aho_prefilter.specs.Candidate.{NoneStartsBefore}
 use Rattle.aho_prefilter.proofs.Skips.{NothingOccurs-answer}
 use Rattle.aho_automaton.proofs.Origins.{answer_from_origin}
-use Rattle.aho_automaton.proofs.Skipping.{carried_on, no_candidate, origin_of, whole_answers}
+use Rattle.aho_automaton.proofs.Skipping.{NoneLonger-later, carried_on, no_candidate, origin_of, whole_answers}
 use Rattle.aho_automaton.proofs.find.find_skipping.Goals as goal
 
 pub returns-in_default-into_option-clause-found : goal.returns-in_default-into_option-clause-found
@@ -56,3 +56,11 @@ returns-then-not-earliest-clause-found g c p of =
     let is = rw (c.skips.invariant.same_walk, c.skips.invariant.same_text) at c.candidate_in-candidate.ensures.candidate in
     whole_answers p (g.T.Text.bytes c.args.text.now) c.args.span.start c.args.span.end c.skips.at c.args.earliest _ c.if-not-earliest.true (omega (arith, c.skips.invariant.after_start)) (c.skips.invariant.carries p of)
     (rw c.in-Match.is at (is p of))
+
+pub find_from-requires-clause-reach : goal.find_from-requires-clause-reach
+find_from-requires-clause-reach g c may p of =
+    let is = rw (c.skips.invariant.same_walk, c.skips.invariant.same_text) at c.candidate_in-candidate.ensures.candidate in
+    let of_first = rw c.skips.invariant.same_walk at of in
+    let told = origin_of p (g.T.Text.bytes c.args.text.now) c.args.span.start c.args.span.end c.skips.at c.in-Some.origin c.candidate_in-candidate.result (c.skips.invariant.carries p of_first) (is p of_first) (sym c.into_option.ensures.place ∙ c.in-Some.is) in
+    let longest = NoneLonger-later p (g.T.Text.bytes c.args.text.now) c.args.span.start c.in-Some.origin c.args.span.end c.args.reach (omega (arith, told.0, c.skips.invariant.after_start)) (c.requires.reach p of_first) in
+    rw (sym c.skips.invariant.same_text) at longest

@@ -1,5 +1,5 @@
 -- To the next match, or to the end of the bytes.
-use Rattle.std.proofs.Common.{◌≡◌, ℕ, ◌+◌, ◌-◌, ◌*◌, ◌<◌, ◌≤◌, max, List, ◌++◌, length, sym, ap, subst, arith}
+use Rattle.std.proofs.Common.{◌≡◌, ℕ, ◌+◌, ◌-◌, ◌*◌, ◌<◌, ◌≤◌, max, List, length, sym, ap, subst, arith}
 use Rattle.std.specs.Prelude.{Option, None, Some, slice_range}
 use Rattle.aho_core.specs.Laws.{shortest}
 use Rattle.aho_core.specs.Occurrence.{Occurrence}
@@ -9,6 +9,7 @@ use Rattle.aho_core.specs.declared.search.Anchored.TheVariants.{No}
 use Rattle.aho_core.specs.declared.search.MatchKind.TheVariants.{Standard}
 use Rattle.aho_automaton.proofs.Places.{length_part}
 use Rattle.aho_cover.specs.declared.progress.CoverProgress.{CoverProgress}
+use Rattle.aho_cover.specs.Counting.{Output, put_on}
 use Rattle.aho_cover.specs.Progress.{EndsNext, HasCovered, IsBeginning, IsSoundCover, open_place}
 use Rattle.aho_cover.specs.Steps.{CoversOn}
 use Rattle.aho_cover.specs.Walks.{Reaches, told_before, walked_before}
@@ -26,14 +27,14 @@ walk_to_match-reached-requires-clause-held g c =
     (p, slice_range haystack 0 c.args.at, covers.of, omega (arith, length_part haystack 0 c.args.at (omega (arith, has.walked_within, has.given.within))), covers.is_held)
 
 -- so much was covered before the walk
-abbrev Before : (g : Over) (c : After-walk_to_match-reached g) → Patterns → List ℕ → List ℕ → Type 0
+abbrev Before : (g : Over) (c : After-walk_to_match-reached g) → Patterns → List ℕ → Output → Type 0
 Before g c p haystack written = CoversOn g.A.Automaton c.args.walk.now.automaton.now (pieces_of c.args.pieces.now) c.args.progress.now c.args.at p haystack written
 
 -- the progress with what was reached
 abbrev reached_by : (g : Over) (c : After-walk_to_match-reached g) → CoverProgress
 reached_by g c = record c.args.progress.now { sid = c.walk_to_match-reached.result.sid; since = c.walk_to_match-reached.result.since }
 
-module _ (g : Over) (c : After-walk_to_match-reached g) (p : Patterns) (haystack written : List ℕ) (covers : Before g c p haystack written) where
+module _ (g : Over) (c : After-walk_to_match-reached g) (p : Patterns) (haystack : List ℕ) (written : Output) (covers : Before g c p haystack written) where
   -- what the bytes are, how many were walked, and what was reached
   bytes_are : c.bytes-bytes.result.now ≡ slice_range haystack c.args.at c.args.progress.now.read
   bytes_are = c.bytes-bytes.ensures.part haystack covers.covered.given
@@ -100,7 +101,7 @@ returns-in_default-clause-can g c =
 pub returns-in_default-clause-writes : goal.returns-in_default-clause-writes
 returns-in_default-clause-writes g c =
     let d = (goal.at.returns-in_default-clause-writes g c).After-walk_to_match-reached in
-    writes_nothing g.W.Sink c.args.sink.now _ _ (λ p haystack written covers. to_end g d p haystack written covers c.in_default.is)
+    writes_nothing g.W.Sink c.args.sink.now c.args.counts.now _ _ (λ p haystack written covers. to_end g d p haystack written covers c.in_default.is)
 
 pub join-requires-clause-sound : goal.join-requires-clause-sound
 join-requires-clause-sound g c =
@@ -137,7 +138,7 @@ returns-in_err-join-clause-begins g c =
     (writes_still (Before g d) (IsBeginning pieces) (λ p haystack written covers. (next_match g d p haystack written covers c.in-Some.m c.in-Some.is).0.0) (λ p haystack written begins. begins) c.in_err-join.ensures.begins)
 
 -- the match was joined
-wrote : (g : Over) (c : In_ok-join g) → WritesOn g.W.Sink c.args.sink.now c.join.new.sink (CoversOn g.A.Automaton c.args.walk.now.automaton.now (pieces_of c.args.pieces.now) c.args.progress.now c.args.at)
+wrote : (g : Over) (c : In_ok-join g) → WritesOn g.W.Sink c.args.sink.now c.join.new.sink c.args.counts.now c.join.new.counts (CoversOn g.A.Automaton c.args.walk.now.automaton.now (pieces_of c.args.pieces.now) c.args.progress.now c.args.at)
     (CoversOn g.A.Automaton c.args.walk.now.automaton.now (pieces_of c.args.pieces.now) c.join.new.self (c.args.at + c.walk_to_match-reached.result.count))
 wrote g c =
     let d = (goal.at.returns-clause-writes g c).After-walk_to_match-reached in
@@ -184,5 +185,5 @@ returns-clause-can g c =
       is_state = subst (λ x. a.valid x new.sid) back (subst (a.valid c.args.walk.now.automaton.now) sid c.walk_to_match-reached.ensures.valid);
       cheap = subst (λ x. c.walk_to_match-reached.new.walk.work + a.depth x new.sid ≤ 2 * (c.args.at + r.count)) back
           (subst (λ (n : ℕ). c.walk_to_match-reached.new.walk.work + a.depth c.args.walk.now.automaton.now n ≤ 2 * (c.args.at + r.count)) sid (omega (arith, c.walk_to_match-reached.ensures.cost, c.requires.can.cheap)));
-      stands = (p, haystack, written ++ writes.bytes, subst (λ x. CoversOn a x pieces new (c.args.at + r.count) p haystack (written ++ writes.bytes)) back (writes.follows p haystack written covers));
+      stands = (p, haystack, put_on written writes.bytes writes.runs, subst (λ x. CoversOn a x pieces new (c.args.at + r.count) p haystack (put_on written writes.bytes writes.runs)) back (writes.follows p haystack written covers));
     }

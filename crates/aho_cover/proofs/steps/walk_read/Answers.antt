@@ -1,9 +1,10 @@
 -- One match after another, and then what is settled.
-use Rattle.std.proofs.Common.{◌≡◌, ℕ, ◌+◌, ◌*◌, ◌≤◌, ◌++◌, refl, sym, ◌∙◌, ap, subst, arith}
+use Rattle.std.proofs.Common.{◌≡◌, ℕ, ◌+◌, ◌*◌, ◌≤◌, refl, sym, ◌∙◌, ap, subst, arith}
 use Rattle.std.specs.Prelude.{slice_range}
 use Rattle.aho_core.specs.Replacement.{pieces_of}
 use Rattle.aho_core.specs.declared.search.Anchored.TheVariants.{No}
 use Rattle.aho_cover.specs.declared.progress.CoverProgress.{CoverProgress}
+use Rattle.aho_cover.specs.Counting.{put_on}
 use Rattle.aho_cover.specs.Progress.{HasCovered, IsBeginning}
 use Rattle.aho_cover.specs.Steps.{CoversOn}
 use Rattle.aho_cover.specs.Writes.{WritesOn}
@@ -18,7 +19,8 @@ loop-at-init g c = record {
   can = c.requires.can;
   same = refl;
   bytes = record { read = refl; buffer = refl };
-  writes = writes_nothing g.W.Sink c.args.sink.now _ _ (λ p haystack written covers. covers);
+  room = record { least = refl; room = refl };
+  writes = writes_nothing g.W.Sink c.args.sink.now c.args.counts.now _ _ (λ p haystack written covers. covers);
   failures = refl;
   empty_writes = refl;
 }
@@ -32,6 +34,7 @@ loop-at-preserved g c =
       can = one.can;
       same = one.same ∙ inv.same;
       bytes = record { read = one.bytes.read ∙ inv.bytes.read; buffer = one.bytes.buffer ∙ inv.bytes.buffer };
+      room = record { least = one.room.least ∙ inv.room.least; room = one.room.room ∙ inv.room.room };
       writes = writes_then inv.writes (rw inv.same at one.writes);
       failures = one.tells.write_failed ∙ inv.failures;
       empty_writes = one.tells.took_nothing ∙ inv.empty_writes;
@@ -47,8 +50,8 @@ all_walked g c = omega (arith, c.loop-at.invariant.sound.walked, c.loop-at-test.
 
 -- what was written of the bytes that are settled
 wrote : (g : Over) (c : After-write_settled g) → c.write_settled.new.self ≡ record c.loop-at.progress { copied = c.write_settled.new.self.copied; hand = c.write_settled.new.self.hand }
-    → WritesOn g.W.Sink c.loop-at.sink c.write_settled.new.sink (HasCovered (pieces_of c.args.pieces.now) c.loop-at.progress c.loop-at.at) (HasCovered (pieces_of c.args.pieces.now) c.write_settled.new.self c.loop-at.at)
-    → WritesOn g.W.Sink c.loop-at.sink c.write_settled.new.sink (CoversOn g.A.Automaton c.args.walk.now.automaton.now (pieces_of c.args.pieces.now) c.loop-at.progress c.loop-at.at)
+    → WritesOn g.W.Sink c.loop-at.sink c.write_settled.new.sink c.loop-at.counts c.write_settled.new.counts (HasCovered (pieces_of c.args.pieces.now) c.loop-at.progress c.loop-at.at) (HasCovered (pieces_of c.args.pieces.now) c.write_settled.new.self c.loop-at.at)
+    → WritesOn g.W.Sink c.loop-at.sink c.write_settled.new.sink c.loop-at.counts c.write_settled.new.counts (CoversOn g.A.Automaton c.args.walk.now.automaton.now (pieces_of c.args.pieces.now) c.loop-at.progress c.loop-at.at)
     (CoversOn g.A.Automaton c.args.walk.now.automaton.now (pieces_of c.args.pieces.now) c.write_settled.new.self c.write_settled.new.self.read)
 wrote g c others writes =
     let a = g.A.Automaton in
@@ -97,8 +100,8 @@ returns-clause-can g c =
       stands = (
         p,
         haystack,
-        written ++ writes.bytes,
-        subst (λ x. CoversOn a x pieces new new.read p haystack (written ++ writes.bytes)) (sym inv.same)
+        put_on written writes.bytes writes.runs,
+        subst (λ x. CoversOn a x pieces new new.read p haystack (put_on written writes.bytes writes.runs)) (sym inv.same)
             (writes.follows p haystack written (subst (λ x. CoversOn a x pieces c.loop-at.progress c.loop-at.at p haystack written) inv.same covers)),
       );
     }) c.write_settled.ensures.others c.write_settled.ensures.writes

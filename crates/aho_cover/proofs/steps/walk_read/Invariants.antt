@@ -1,7 +1,7 @@
 -- What the loop keeps: the walk has come to a place, and what was written leads there. No write has failed.
 use Rattle.std.proofs.Common.{◌≡◌, ◌-◌}
 use Rattle.aho_core.specs.Replacement.{pieces_of}
-use Rattle.aho_cover.specs.Progress.{IsSoundCover}
+use Rattle.aho_cover.specs.Progress.{IsSoundCover, KeepsRoom}
 use Rattle.aho_cover.specs.Steps.{CanWalk, CoversOn, KeepsBytes}
 use Rattle.aho_cover.specs.Writes.{WritesOn}
 use Rattle.aho_cover.proofs.steps.walk_read.Given as goal
@@ -14,7 +14,8 @@ invariant-loop-at g l =
       can : CanWalk g.A.Automaton l.walk (pieces_of l.pieces) l.progress l.at;
       same : l.walk.automaton.now ≡ automaton;
       bytes : KeepsBytes l.initial.progress l.progress;
-      writes : WritesOn g.W.Sink l.initial.sink l.sink (CoversOn g.A.Automaton automaton (pieces_of l.pieces) l.initial.progress l.from) (CoversOn g.A.Automaton automaton (pieces_of l.pieces) l.progress l.at);
+      room : KeepsRoom l.initial.progress l.progress;
+      writes : WritesOn g.W.Sink l.initial.sink l.sink l.initial.counts l.counts (CoversOn g.A.Automaton automaton (pieces_of l.pieces) l.initial.progress l.from) (CoversOn g.A.Automaton automaton (pieces_of l.pieces) l.progress l.at);
       failures : g.W.Sink.failures l.sink ≡ g.W.Sink.failures l.initial.sink;
       empty_writes : g.W.Sink.empty_writes l.sink ≡ g.W.Sink.empty_writes l.initial.sink;
     }

@@ -1,7 +1,7 @@
 -- What the loop keeps: so much was given and written, all of it was walked, and no device has failed.
 use Rattle.std.proofs.Common.{◌≡◌, ◌-◌}
 use Rattle.aho_core.specs.Replacement.{pieces_of}
-use Rattle.aho_cover.specs.Progress.{IsSoundCover}
+use Rattle.aho_cover.specs.Progress.{IsSoundCover, KeepsRoom}
 use Rattle.aho_cover.specs.Steps.{CanWalk, MayRoll}
 use Rattle.aho_cover.proofs.Going.{Going}
 use Rattle.aho_cover.proofs.stream.cover_from.Given as goal
@@ -10,7 +10,8 @@ abbrev pub invariant-loop-from : goal.invariant-loop-from
 invariant-loop-from g l =
     let automaton = l.initial.walk.automaton.now in
     record {
-      going : Going g.A.Automaton g.R.Source g.W.Sink automaton (pieces_of l.pieces) l.initial.source l.initial.sink l.progress l.source l.sink;
+      going : Going g.A.Automaton g.R.Source g.W.Sink automaton (pieces_of l.pieces) l.initial.source l.initial.sink l.initial.counts l.progress l.source l.sink l.counts;
+      room : KeepsRoom l.initial.progress l.progress;
       sound : IsSoundCover l.progress l.progress.read;
       near : MayRoll l.progress;
       can : CanWalk g.A.Automaton l.walk (pieces_of l.pieces) l.progress l.progress.read;

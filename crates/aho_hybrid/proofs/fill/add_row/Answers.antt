@@ -1,54 +1,46 @@
-use Rattle.std.proofs.Common.{◌≡◌, ◌+◌, ◌∙◌, ℕ, List, [], ◌∷◌, ◌++◌, inl, inr, length, arith, ap, subst, sym}
+use Rattle.std.proofs.Common.{◌≡◌, ◌+◌, ◌∙◌, ℕ, List, [], ◌∷◌, ◌++◌, ◌<◌, get_or, inl, inr, length, arith, ap, subst, sym}
 use Rattle.std.proofs.lemmas.List.{length_push, nil_from_length}
 use Rattle.aho_build.specs.declared.special.Special.{Special}
 use Rattle.aho_table.specs.Alphabet.{class_count}
 use Rattle.aho_table.specs.Table.{matches_in, state_at}
 use Rattle.std.proofs.lemmas.Bool.{cond-false}
 use Rattle.std.specs.List.{sum_by}
-use Rattle.aho_hybrid.proofs.Sizes.{lists-grow, lists-more, moves-more}
-use Rattle.aho_hybrid.specs.Filled.{HasEntries, IsPlaced, Parts, first_low, is_deep, list_words, moves_words, parts_of, row_in, source_in, source_of, transition_words}
+use Rattle.aho_hybrid.proofs.Sizes.{moves-more}
+use Rattle.aho_hybrid.specs.Filled.{HasEntries, IsListAt, Parts, first_low, is_deep, moves_words, parts_of, row_in, source_in, source_of, transition_words}
 use Rattle.aho_hybrid.proofs.Filling.{records-passed, row-added}
+use Rattle.aho_hybrid.proofs.Shared.{source-below}
 use Rattle.aho_hybrid.proofs.Lows.{low-more, records-low-kept, rows-low-more}
 use Rattle.aho_hybrid.proofs.fill.add_row.Goals as goal
-
-pub push_list-requires-clause-room : goal.push_list-requires-clause-room
-push_list-requires-clause-room c =
-    let nfa = c.args.nfa.now in
-    let plan : Parts = parts_of nfa c.args.plan.now.firsts c.args.plan.now.numbers.items c.args.plan.now.row_depth c.args.plan.now.skips in
-    let index = c.args.index in
-    let source : c.source_of-sid.result ≡ source_of plan index = c.source_of-sid.ensures.source ∙ ap (λ (s : Special). source_in s index) c.special.ensures.special in
-    omega
-    (arith, ap (λ (n : ℕ). list_words (matches_in plan.states n)) source, c.requires.filled.lists_sized, lists-more plan.special plan.states index, lists-grow plan.special plan.states (index + 1) (length plan.states) (omega (arith, c.requires.within)), c.requires.fits.lists)
 
 pub returns-clause-filled : goal.returns-clause-filled
 returns-clause-filled c =
     let nfa = c.args.nfa.now in
-    let plan : Parts = parts_of nfa c.args.plan.now.firsts c.args.plan.now.numbers.items c.args.plan.now.row_depth c.args.plan.now.skips in
+    let plan : Parts = parts_of nfa c.args.plan.now.firsts c.args.plan.now.numbers.items c.args.plan.now.lists.items c.args.plan.now.places.items c.args.plan.now.row_depth c.args.plan.now.skips in
     let index = c.args.index in
     let old = c.args.filled.now in
     let mid = c.push_entries.new.entries.items in
     let new = c.push.new.list.items in
-    let place = c.in_ok-place.place in
+    let place = c.entry_at.result in
     let source : c.source_of-sid.result ≡ source_of plan index = c.source_of-sid.ensures.source ∙ ap (λ (s : Special). source_in s index) c.special.ensures.special in
     let has : HasEntries plan (source_of plan index) (class_count plan.classes) old.entries.items mid =
     subst (λ (n : ℕ). HasEntries plan n (class_count plan.classes) old.entries.items mid) source c.in_ok-push_entries.ensures.entries in
-    let placed : IsPlaced (matches_in plan.states (source_of plan index)) place old.lists.items c.push_list.new.lists.items =
-    subst (λ (n : ℕ). IsPlaced (matches_in plan.states n) place old.lists.items c.push_list.new.lists.items) source c.in_ok-place.ensures.placed in
+    let place_is : place ≡ get_or plan.places (source_of plan index) 0 =
+    c.entry_at.ensures.entry ∙ ap (λ (l : List ℕ). get_or l c.as_usize.result 0) c.deref-2.ensures.value ∙ ap (λ (n : ℕ). get_or plan.places n 0) (c.as_usize.ensures.value ∙ source) in
+    let below : source_of plan index < length plan.states = source-below plan.special plan.states c.special.ensures.starts index c.requires.within in
+    let placed : IsListAt plan.lists place (matches_in plan.states (source_of plan index)) =
+    subst (λ (n : ℕ). IsListAt plan.lists n (matches_in plan.states (source_of plan index))) (sym place_is) (c.requires.plan.placed.listed (source_of plan index) below) in
     let pushed : new ≡ mid ++ place ∷ [] = c.in_ok-push.ensures.pushed in
     let end : length new ≡ row_in plan index + class_count plan.classes + 1 =
     ap (λ (l : List ℕ). length l) pushed ∙ length_push mid place ∙ ap (λ (n : ℕ). n + 1) (has.sized ∙ ap (λ (n : ℕ). n + class_count plan.classes) c.requires.filled.rows.sized) in
-    let grown : length c.push_list.new.lists.items ≡ length old.lists.items + list_words (matches_in plan.states (source_of plan index)) =
-    c.in_ok-place.ensures.grown ∙ ap (λ (n : ℕ). length old.lists.items + list_words (matches_in plan.states n)) source in
     let words : moves_words plan.row_depth plan.special plan.states index ≡ 0 =
     cond-false (is_deep plan.row_depth (state_at plan.states index)) (sum_by transition_words (state_at plan.states (source_of plan index)).transitions) 0 c.requires.shallow in
     record {
-      rows = row-added plan index old.entries.items old.lists.items old.list_low c.requires.filled.rows mid new c.push_list.new.lists.items c.low_with-filled.result place
+      rows = row-added plan index old.entries.items old.list_low c.requires.filled.rows mid new c.low_with-filled.result place
           c.requires.within c.requires.shallow has pushed placed c.low_with-filled.ensures.higher
           (λ past.
           ap (matches_in plan.states) (sym source)
           ∙ nil_from_length (matches_in plan.states c.source_of-sid.result) (sym c.match_len.ensures.len ∙ c.low_with-filled.ensures.past (omega (arith, past, end, c.len.ensures, c.push.new.list.ok.0))));
-      records = records-passed plan index old.deep.items old.moves.items old.lists.items old.deep_low c.requires.filled.records c.push_list.new.lists.items placed.more
-          c.requires.within c.requires.shallow placed.grown;
+      records = records-passed plan index old.deep.items old.moves.items old.deep_low c.requires.filled.records c.requires.within c.requires.shallow;
       special = omega (arith, c.max-filled.ensures);
       lows = record {
         first = omega (arith, c.max-filled.ensures, c.requires.filled.lows.first);
@@ -63,6 +55,5 @@ returns-clause-filled c =
             ]);
         deep_low = records-low-kept plan index old.deep_low c.requires.filled.lows.deep_low;
       };
-      lists_sized = omega (arith, grown, c.requires.filled.lists_sized, lists-more plan.special plan.states index);
       moves_sized = omega (arith, c.requires.filled.moves_sized, moves-more plan.special plan.states plan.row_depth index, words);
     }

@@ -15,7 +15,7 @@ loop-index-init c =
     let classes = classes_of c.args.nfa.now in
     let nothing : 0 * stride_of classes ≡ 0 = omega arith in
     record {
-      numbers = subst (AreStateNumbers c.args.row_depth states classes 0) (sym c.new-numbers.ensures.items) (numbers-none c.args.row_depth states classes);
+      numbers = subst (AreStateNumbers c.args.row_depth states classes 0) (sym c.in_ok-numbers.ensures.empty) (numbers-none c.args.row_depth states classes);
       row = sym (ap (λ (n : ℕ). n * stride_of classes) (rows-first c.args.row_depth states) ∙ nothing);
       deep = omega (arith, ap (λ (n : ℕ). n * record_size) (deep-first c.args.row_depth states));
     }

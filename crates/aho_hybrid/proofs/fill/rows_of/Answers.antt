@@ -17,28 +17,29 @@ returns-clause-sound c =
     let nfa = c.args.nfa.now in
     let filled = c.in_ok-filled.filled in
     let stride : c.alphabet_len-stride.result + 1 ≡ stride_of (classes_of nfa) = ap (λ (n : ℕ). n + 1) (c.alphabet_len-stride.ensures.len ∙ ap class_count c.byte_classes.ensures.classes) in
-    let plan : Parts = parts_of nfa c.first_bytes.result c.in_ok-numbers_of.field-0.items c.row_depth-row_depth.result c.args.skips in
+    let plan : Parts = parts_of nfa c.first_bytes.result c.in_ok-numbers.numbers.items c.in_ok-lists.lists.words.items c.in_ok-lists.lists.places.items c.row_depth-row_depth.result c.args.skips in
     let planned : IsPlan plan (c.alphabet_len-stride.result + 1) = record {
       stride_is = stride;
       bounded = omega (arith, c.alphabet_len-stride.ensures.bound);
       sized = c.first_bytes.ensures.first.sized;
-      numbered = c.in_ok-numbers_of.ensures.numbers;
+      numbered = c.in_ok-numbers.ensures.numbers;
+      placed = c.in_ok-lists.ensures.placed;
     } in
     let start : c.new_unchecked.result ≡ number_in plan (special_of nfa).start_unanchored_id =
     c.new_unchecked.ensures.value ∙ c.as_usize.ensures.value ∙ c.number_or_zero-start.ensures.number
     ∙ ap (λ (l : List ℕ). number_or_zero l c.special.result.now.start_unanchored_id) c.deref.ensures.value
     ∙ ap (λ (s : Special). number_in plan s.start_unanchored_id) c.special.ensures.special in
     let done = c.in_ok-filled.ensures.filled in
-    let fits = c.in_ok-dense.ensures.fits in
+    let fits = c.in_ok-sizes.ensures.fits in
     let are = c.special.ensures.starts in
     let sound = nfa.sound in
     subst IsSoundLayout
-    (same-layout filled.entries.items filled.deep.items filled.moves.items filled.lists.items (classes_of nfa) c.copy.result _ c.new_unchecked.result filled.low filled.list_low filled.deep_low
+    (same-layout filled.entries.items filled.deep.items filled.moves.items c.in_ok-lists.lists.words.items (classes_of nfa) c.copy.result _ c.new_unchecked.result filled.low filled.list_low filled.deep_low
     (sym (c.copy.ensures.same ∙ c.byte_classes-3.ensures.classes)) (sym start))
     (sound-layout plan (c.alphabet_len-stride.result + 1) planned filled done are sound
     (omega
     (arith, dense plan (c.alphabet_len-stride.result + 1) planned filled done are sound, deep-size plan (c.alphabet_len-stride.result + 1) planned filled done are sound, fits.states))
-    (omega (arith, done.lists_sized, fits.lists))
+    (omega (arith, c.in_ok-lists.ensures.sized, fits.lists))
     (omega (arith, done.moves_sized, fits.moves)))
 
 pub returns-clause-of : goal.returns-clause-of
@@ -46,19 +47,20 @@ returns-clause-of c p is =
     let nfa = c.args.nfa.now in
     let filled = c.in_ok-filled.filled in
     let stride : c.alphabet_len-stride.result + 1 ≡ stride_of (classes_of nfa) = ap (λ (n : ℕ). n + 1) (c.alphabet_len-stride.ensures.len ∙ ap class_count c.byte_classes.ensures.classes) in
-    let plan : Parts = parts_of nfa c.first_bytes.result c.in_ok-numbers_of.field-0.items c.row_depth-row_depth.result c.args.skips in
+    let plan : Parts = parts_of nfa c.first_bytes.result c.in_ok-numbers.numbers.items c.in_ok-lists.lists.words.items c.in_ok-lists.lists.places.items c.row_depth-row_depth.result c.args.skips in
     let planned : IsPlan plan (c.alphabet_len-stride.result + 1) = record {
       stride_is = stride;
       bounded = omega (arith, c.alphabet_len-stride.ensures.bound);
       sized = c.first_bytes.ensures.first.sized;
-      numbered = c.in_ok-numbers_of.ensures.numbers;
+      numbered = c.in_ok-numbers.ensures.numbers;
+      placed = c.in_ok-lists.ensures.placed;
     } in
     let start : c.new_unchecked.result ≡ number_in plan (special_of nfa).start_unanchored_id =
     c.new_unchecked.ensures.value ∙ c.as_usize.ensures.value ∙ c.number_or_zero-start.ensures.number
     ∙ ap (λ (l : List ℕ). number_or_zero l c.special.result.now.start_unanchored_id) c.deref.ensures.value
     ∙ ap (λ (s : Special). number_in plan s.start_unanchored_id) c.special.ensures.special in
     let done = c.in_ok-filled.ensures.filled in
-    let fits = c.in_ok-dense.ensures.fits in
+    let fits = c.in_ok-sizes.ensures.fits in
     let are = c.special.ensures.starts in
     let sound = nfa.sound in
     let first : AreFirstBytes (classes_of nfa) c.first_bytes.result = subst (λ (cs : List Bool). AreFirstBytes cs c.first_bytes.result) c.byte_classes-2.ensures.classes c.first_bytes.ensures.first in
@@ -66,10 +68,10 @@ returns-clause-of c p is =
     sound-layout plan (c.alphabet_len-stride.result + 1) planned filled done are sound
     (omega
     (arith, dense plan (c.alphabet_len-stride.result + 1) planned filled done are sound, deep-size plan (c.alphabet_len-stride.result + 1) planned filled done are sound, fits.states))
-    (omega (arith, done.lists_sized, fits.lists))
+    (omega (arith, c.in_ok-lists.ensures.sized, fits.lists))
     (omega (arith, done.moves_sized, fits.moves)) in
     subst (λ (t : Layout). IsLayoutOf t p nfa.match_kind nfa.pattern_lens.items)
-    (same-layout filled.entries.items filled.deep.items filled.moves.items filled.lists.items (classes_of nfa) c.copy.result _ c.new_unchecked.result filled.low filled.list_low filled.deep_low
+    (same-layout filled.entries.items filled.deep.items filled.moves.items c.in_ok-lists.lists.words.items (classes_of nfa) c.copy.result _ c.new_unchecked.result filled.low filled.list_low filled.deep_low
     (sym (c.copy.ensures.same ∙ c.byte_classes-3.ensures.classes)) (sym start))
     (layout-of plan (c.alphabet_len-stride.result + 1) planned filled done are sound soundly first p is.0.names is.0.automaton is.2
     nfa.match_kind nfa.pattern_lens.items is.0.kind_is is.0.lengths_are)
@@ -79,12 +81,13 @@ returns-clause-laid_out c =
     let nfa = c.args.nfa.now in
     let filled = c.in_ok-filled.filled in
     let stride : c.alphabet_len-stride.result + 1 ≡ stride_of (classes_of nfa) = ap (λ (n : ℕ). n + 1) (c.alphabet_len-stride.ensures.len ∙ ap class_count c.byte_classes.ensures.classes) in
-    let plan : Parts = parts_of nfa c.first_bytes.result c.in_ok-numbers_of.field-0.items c.row_depth-row_depth.result c.args.skips in
+    let plan : Parts = parts_of nfa c.first_bytes.result c.in_ok-numbers.numbers.items c.in_ok-lists.lists.words.items c.in_ok-lists.lists.places.items c.row_depth-row_depth.result c.args.skips in
     let planned : IsPlan plan (c.alphabet_len-stride.result + 1) = record {
       stride_is = stride;
       bounded = omega (arith, c.alphabet_len-stride.ensures.bound);
       sized = c.first_bytes.ensures.first.sized;
-      numbered = c.in_ok-numbers_of.ensures.numbers;
+      numbered = c.in_ok-numbers.ensures.numbers;
+      placed = c.in_ok-lists.ensures.placed;
     } in
     let done = c.in_ok-filled.ensures.filled in
     let are = c.special.ensures.starts in
@@ -93,13 +96,13 @@ returns-clause-laid_out c =
     c.new_unchecked.ensures.value ∙ c.as_usize.ensures.value ∙ c.number_or_zero-start.ensures.number
     ∙ ap (λ (l : List ℕ). number_or_zero l c.special.result.now.start_unanchored_id) c.deref.ensures.value
     ∙ ap (λ (s : Special). number_in plan s.start_unanchored_id) c.special.ensures.special in
-    let fits = c.in_ok-dense.ensures.fits in
+    let fits = c.in_ok-sizes.ensures.fits in
     let first : AreFirstBytes (classes_of nfa) c.first_bytes.result = subst (λ (cs : List Bool). AreFirstBytes cs c.first_bytes.result) c.byte_classes-2.ensures.classes c.first_bytes.ensures.first in
     let soundly =
     sound-layout plan (c.alphabet_len-stride.result + 1) planned filled done are sound
     (omega
     (arith, dense plan (c.alphabet_len-stride.result + 1) planned filled done are sound, deep-size plan (c.alphabet_len-stride.result + 1) planned filled done are sound, fits.states))
-    (omega (arith, done.lists_sized, fits.lists))
+    (omega (arith, c.in_ok-lists.ensures.sized, fits.lists))
     (omega (arith, done.moves_sized, fits.moves)) in
     record {
       row_depth = c.row_depth-row_depth.result;
@@ -109,11 +112,11 @@ returns-clause-laid_out c =
         rows = dense plan (c.alphabet_len-stride.result + 1) planned filled done are sound;
         deep = deep-size plan (c.alphabet_len-stride.result + 1) planned filled done are sound;
         moves = done.moves_sized;
-        lists = done.lists_sized;
+        lists = c.in_ok-lists.ensures.sized;
       };
       rows = λ p is.
           subst (HasRowsDownTo p c.row_depth-row_depth.result)
-          (same-layout filled.entries.items filled.deep.items filled.moves.items filled.lists.items (classes_of nfa) c.copy.result _ c.new_unchecked.result filled.low filled.list_low filled.deep_low
+          (same-layout filled.entries.items filled.deep.items filled.moves.items c.in_ok-lists.lists.words.items (classes_of nfa) c.copy.result _ c.new_unchecked.result filled.low filled.list_low filled.deep_low
           (sym (c.copy.ensures.same ∙ c.byte_classes-3.ensures.classes)) (sym start))
           (rows-down_to plan (c.alphabet_len-stride.result + 1) planned filled done are sound soundly first p is.0.names is.0.automaton is.2);
     }
@@ -123,19 +126,20 @@ returns-clause-marked c p is =
     let nfa = c.args.nfa.now in
     let filled = c.in_ok-filled.filled in
     let stride : c.alphabet_len-stride.result + 1 ≡ stride_of (classes_of nfa) = ap (λ (n : ℕ). n + 1) (c.alphabet_len-stride.ensures.len ∙ ap class_count c.byte_classes.ensures.classes) in
-    let plan : Parts = parts_of nfa c.first_bytes.result c.in_ok-numbers_of.field-0.items c.row_depth-row_depth.result c.args.skips in
+    let plan : Parts = parts_of nfa c.first_bytes.result c.in_ok-numbers.numbers.items c.in_ok-lists.lists.words.items c.in_ok-lists.lists.places.items c.row_depth-row_depth.result c.args.skips in
     let planned : IsPlan plan (c.alphabet_len-stride.result + 1) = record {
       stride_is = stride;
       bounded = omega (arith, c.alphabet_len-stride.ensures.bound);
       sized = c.first_bytes.ensures.first.sized;
-      numbered = c.in_ok-numbers_of.ensures.numbers;
+      numbered = c.in_ok-numbers.ensures.numbers;
+      placed = c.in_ok-lists.ensures.placed;
     } in
     let start : c.new_unchecked.result ≡ number_in plan (special_of nfa).start_unanchored_id =
     c.new_unchecked.ensures.value ∙ c.as_usize.ensures.value ∙ c.number_or_zero-start.ensures.number
     ∙ ap (λ (l : List ℕ). number_or_zero l c.special.result.now.start_unanchored_id) c.deref.ensures.value
     ∙ ap (λ (s : Special). number_in plan s.start_unanchored_id) c.special.ensures.special in
     let done = c.in_ok-filled.ensures.filled in
-    let fits = c.in_ok-dense.ensures.fits in
+    let fits = c.in_ok-sizes.ensures.fits in
     let are = c.special.ensures.starts in
     let sound = nfa.sound in
     let first : AreFirstBytes (classes_of nfa) c.first_bytes.result = subst (λ (cs : List Bool). AreFirstBytes cs c.first_bytes.result) c.byte_classes-2.ensures.classes c.first_bytes.ensures.first in
@@ -143,19 +147,19 @@ returns-clause-marked c p is =
     sound-layout plan (c.alphabet_len-stride.result + 1) planned filled done are sound
     (omega
     (arith, dense plan (c.alphabet_len-stride.result + 1) planned filled done are sound, deep-size plan (c.alphabet_len-stride.result + 1) planned filled done are sound, fits.states))
-    (omega (arith, done.lists_sized, fits.lists))
+    (omega (arith, c.in_ok-lists.ensures.sized, fits.lists))
     (omega (arith, done.moves_sized, fits.moves)) in
     subst (AreMarkedIn c.args.skips p)
-    (same-layout filled.entries.items filled.deep.items filled.moves.items filled.lists.items (classes_of nfa) c.copy.result _ c.new_unchecked.result filled.low filled.list_low filled.deep_low
+    (same-layout filled.entries.items filled.deep.items filled.moves.items c.in_ok-lists.lists.words.items (classes_of nfa) c.copy.result _ c.new_unchecked.result filled.low filled.list_low filled.deep_low
     (sym (c.copy.ensures.same ∙ c.byte_classes-3.ensures.classes)) (sym start))
     (marked-in plan (c.alphabet_len-stride.result + 1) planned filled done are sound soundly first p is.0.names is.0.automaton is.2 _ _ nfa.numbered.order nfa.numbered.dead)
 
-pub returns-in_err-numbers_of-clause-refused : goal.returns-in_err-numbers_of-clause-refused
-returns-in_err-numbers_of-clause-refused c =
-    IfErr-given (IsRowsRefusal c.args.nfa.now c.args.budget) c.from_residual-in_err-numbers_of.result c.in_err-numbers_of.field-0.0 c.from_residual-in_err-numbers_of.ensures.1 (
+pub returns-in_err-numbers-clause-refused : goal.returns-in_err-numbers-clause-refused
+returns-in_err-numbers-clause-refused c =
+    IfErr-given (IsRowsRefusal c.args.nfa.now c.args.budget) c.from_residual-in_err-numbers.result c.in_err-numbers.field-0.0 c.from_residual-in_err-numbers.ensures.1 (
       c.row_depth-row_depth.result,
       c.row_depth-row_depth.ensures.depth,
-      c.in_err-numbers_of.ensures.refused ∙ sym (memory-wanted c.args.nfa.now c.row_depth-row_depth.result c.in_ok-dense.ensures.fits),
+      c.in_err-numbers.ensures.refused ∙ sym (memory-wanted c.args.nfa.now c.row_depth-row_depth.result c.in_ok-sizes.ensures.fits),
     )
 
 pub returns-in_err-filled-clause-refused : goal.returns-in_err-filled-clause-refused
@@ -163,5 +167,13 @@ returns-in_err-filled-clause-refused c =
     IfErr-given (IsRowsRefusal c.args.nfa.now c.args.budget) c.from_residual-in_err-filled.result c.in_err-filled.field-0.0 c.from_residual-in_err-filled.ensures.1 (
       c.row_depth-row_depth.result,
       c.row_depth-row_depth.ensures.depth,
-      c.in_err-filled.ensures.refused ∙ sym (memory-wanted c.args.nfa.now c.row_depth-row_depth.result c.in_ok-dense.ensures.fits),
+      c.in_err-filled.ensures.refused ∙ sym (memory-wanted c.args.nfa.now c.row_depth-row_depth.result c.in_ok-sizes.ensures.fits),
+    )
+
+pub returns-in_err-lists-clause-refused : goal.returns-in_err-lists-clause-refused
+returns-in_err-lists-clause-refused c =
+    IfErr-given (IsRowsRefusal c.args.nfa.now c.args.budget) c.from_residual-in_err-lists.result c.in_err-lists.field-0.0 c.from_residual-in_err-lists.ensures.1 (
+      c.row_depth-row_depth.result,
+      c.row_depth-row_depth.ensures.depth,
+      c.in_err-lists.ensures.refused ∙ sym (memory-wanted c.args.nfa.now c.row_depth-row_depth.result c.in_ok-sizes.ensures.fits),
     )

@@ -37,7 +37,7 @@ loop-answer-preserved-in-Continue-branch-3 g c =
     let given = inv.running.given ++ advance.reads.bytes in
     let bytes = (rw same at c.bytes.ensures.bytes) p given of (advance.reads.is_after p inv.running.given of (inv.running.after p of)) in
     let wrote = c.in_ok-write_whole-in-NonMatch.ensures in
-    let took : Took g.W.Sink g.F.FnMut c.args.replace_with c.args.sink.now c.loop-answer.sink c.bytes.result.now c.write_whole.new.sink =
+    let took : Took g.W.Sink g.F.FnMut c.args.replace_with.now c.args.sink.now c.loop-answer.sink c.bytes.result.now c.write_whole.new.sink =
     record { bytes_are = wrote.whole; no_failure = wrote.write_failed; no_empty_write = wrote.took_nothing } in
     record {
       callable = inv.callable;

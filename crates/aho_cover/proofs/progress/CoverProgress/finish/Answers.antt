@@ -3,6 +3,7 @@ use Rattle.std.proofs.Common.{◌≡◌, ℕ, ◌+◌, max, List, length, sym, �
 use Rattle.aho_core.specs.Patterns.{Patterns}
 use Rattle.aho_core.specs.Replacement.{pieces_of}
 use Rattle.aho_cover.specs.declared.progress.CoverProgress.{CoverProgress}
+use Rattle.aho_cover.specs.Counting.{Output}
 use Rattle.aho_cover.specs.Hand.{held_runs}
 use Rattle.aho_cover.specs.Progress.{ClearlyCovered, EndsHere, HasCovered, IsAll, IsBeginning, outside_end}
 use Rattle.aho_cover.specs.Walks.{NoneReaches}
@@ -30,7 +31,7 @@ write_outside-requires g c = record { sound = (c.args.self.now.read, c.in_ok-set
 
 -- what was written of the runs
 first : (g : Over) (c : After-write_outside g)
-    → WritesOn g.W.Sink c.args.sink.now c.settle.new.sink (EndsHere (pieces_of c.args.pieces.now) c.args.self.now)
+    → WritesOn g.W.Sink c.args.sink.now c.settle.new.sink c.args.counts.now c.settle.new.counts (EndsHere (pieces_of c.args.pieces.now) c.args.self.now)
     (λ p haystack written. ClearlyCovered (pieces_of c.args.pieces.now) c.settle.new.self c.args.self.now.read c.args.self.now.read p haystack written × (length haystack ≡ c.args.self.now.read))
 first g c =
     let s = c.args.self.now in
@@ -42,7 +43,7 @@ first g c =
 
 -- and then it is all
 all : (g : Over) (c : After-write_outside g) → c.write_outside.new.self ≡ record c.settle.new.self { copied = max c.settle.new.self.copied (outside_end c.args.self.now.read (held_runs c.settle.new.self.hand)) }
-    → (p : Patterns) (haystack written : List ℕ) → HasCovered (pieces_of c.args.pieces.now) c.write_outside.new.self c.args.self.now.read p haystack written × (length haystack ≡ c.args.self.now.read) → IsAll (pieces_of c.args.pieces.now) p haystack written
+    → (p : Patterns) (haystack : List ℕ) (written : Output) → HasCovered (pieces_of c.args.pieces.now) c.write_outside.new.self c.args.self.now.read p haystack written × (length haystack ≡ c.args.self.now.read) → IsAll (pieces_of c.args.pieces.now) p haystack written
 all g c is p haystack written h =
     let s = c.settle.new.self in
     let read = c.args.self.now.read in
@@ -62,7 +63,7 @@ returns-clause-covers g c =
     let s = c.args.self.now in
     let pieces = pieces_of c.args.pieces.now in
     if_both c.write_outside.result _ _ _ (λ is more.
-    writes_still (EndsHere pieces s) (IsAll pieces) (λ p haystack written h. h) (all g d is) (writes_then (first g d) (writes_with (λ p haystack. length haystack ≡ s.read) (more s.read pieces))))
+    writes_still (EndsHere pieces s) (IsAll pieces) (λ p haystack written h. h) (all g d is) (writes_then (first g d) (writes_with (λ p haystack. length haystack ≡ s.read) (more s.read pieces c.settle.new.counts))))
     c.write_outside.ensures.copied c.write_outside.ensures.writes
 
 pub returns-clause-begins : goal.returns-clause-begins
@@ -71,5 +72,5 @@ returns-clause-begins g c =
     let s = c.args.self.now in
     let pieces = pieces_of c.args.pieces.now in
     if_err c.write_outside.result _ _ (λ more.
-    writes_still (EndsHere pieces s) (IsBeginning pieces) (λ p haystack written h. h) (λ p haystack written h. h.0) (writes_then (first g d) (writes_with (λ p haystack. length haystack ≡ s.read) (more s.read pieces))))
+    writes_still (EndsHere pieces s) (IsBeginning pieces) (λ p haystack written h. h) (λ p haystack written h. h.0) (writes_then (first g d) (writes_with (λ p haystack. length haystack ≡ s.read) (more s.read pieces c.settle.new.counts))))
     c.write_outside.ensures.begins

@@ -5,6 +5,7 @@ use Rattle.aho_core.specs.Overlapping.{occurrences_ending}
 use Rattle.aho_core.specs.Patterns.{Patterns}
 use Rattle.aho_core.specs.Replacement.{pieces_of}
 use Rattle.aho_cover.specs.declared.progress.CoverProgress.{CoverProgress}
+use Rattle.aho_cover.specs.Counting.{Output}
 use Rattle.aho_cover.specs.Progress.{ClearlyCovered, EndsNext, HasCovered, IsBeginning}
 use Rattle.aho_cover.proofs.Covered.{has-joined, has-open}
 use Rattle.aho_cover.proofs.Sound.{order-joined, room-joined, sound-joined}
@@ -14,7 +15,7 @@ use Rattle.aho_cover.proofs.progress.CoverProgress.join.Goals.{After-open_place-
 use Rattle.aho_cover.proofs.progress.CoverProgress.join.Goals as goal
 
 -- what ends later begins behind the open place
-clearly : (g : Over) (c : After-open_place-open g) (p : Patterns) (haystack written : List ℕ) → HasCovered (pieces_of c.args.pieces.now) c.args.self.now (c.args.m.end - 1) p haystack written
+clearly : (g : Over) (c : After-open_place-open g) (p : Patterns) (haystack : List ℕ) (written : Output) → HasCovered (pieces_of c.args.pieces.now) c.args.self.now (c.args.m.end - 1) p haystack written
     → ClearlyCovered (pieces_of c.args.pieces.now) c.args.self.now (c.args.m.end - 1) c.open_place-open.result p haystack written
 clearly g c p haystack written has =
     (has, λ m occurs later. omega (arith, has-open p haystack (pieces_of c.args.pieces.now) c.args.self.now (c.args.m.end - 1) written has m occurs later, c.open_place-open.ensures.place, c.end.ensures.end))

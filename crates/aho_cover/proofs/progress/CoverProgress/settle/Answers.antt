@@ -10,8 +10,9 @@ pub loop-init : goal.loop-init
 loop-init g c = record {
   sound = λ at sound. sound;
   others = refl;
+  room = record { least = refl; room = refl };
   copied = omega arith;
-  writes = λ at. writes_nothing g.W.Sink c.args.sink.now _ (ClearlyCovered (pieces_of c.args.pieces.now) c.args.self.now at c.args.place) (λ p haystack written before. before);
+  writes = λ at. writes_nothing g.W.Sink c.args.sink.now c.args.counts.now _ (ClearlyCovered (pieces_of c.args.pieces.now) c.args.self.now at c.args.place) (λ p haystack written before. before);
   failures = refl;
   empty_writes = refl;
 }
@@ -31,6 +32,7 @@ loop-preserved g c =
     record {
       sound = λ at sound. one.sound at (inv.sound at sound);
       others = one.others ∙ ap (λ (s : CoverProgress). record s { copied = next.copied; hand = next.hand }) inv.others;
+      room = record { least = one.room.least ∙ inv.room.least; room = one.room.room ∙ inv.room.room };
       copied = omega (arith, one.copied, inv.copied);
       writes = λ at. writes_then (inv.writes at) (one.writes at);
       failures = one.tells.write_failed ∙ inv.failures;

@@ -2,7 +2,7 @@
 use Rattle.std.proofs.Common.{◌≡◌, ℕ, ◌≤◌, max, length}
 use Rattle.aho_core.specs.Replacement.{pieces_of}
 use Rattle.aho_cover.specs.Hand.{held_runs}
-use Rattle.aho_cover.specs.Progress.{ClearlyCovered, IsSoundCover}
+use Rattle.aho_cover.specs.Progress.{ClearlyCovered, IsSoundCover, KeepsRoom}
 use Rattle.aho_cover.specs.Writes.{WritesOn}
 use Rattle.aho_cover.proofs.progress.CoverProgress.settle.Given as goal
 
@@ -10,8 +10,9 @@ abbrev pub invariant-loop : goal.invariant-loop
 invariant-loop g l = record {
   sound : (at : ℕ) → IsSoundCover l.initial.self at → IsSoundCover l.self at;
   others : l.self ≡ record l.initial.self { copied = l.self.copied; hand = l.self.hand };
+  room : KeepsRoom l.initial.self l.self;
   copied : l.self.copied ≤ max l.initial.self.copied l.place;
-  writes : (at : ℕ) → WritesOn g.W.Sink l.initial.sink l.sink (ClearlyCovered (pieces_of l.pieces) l.initial.self at l.place) (ClearlyCovered (pieces_of l.pieces) l.self at l.place);
+  writes : (at : ℕ) → WritesOn g.W.Sink l.initial.sink l.sink l.initial.counts l.counts (ClearlyCovered (pieces_of l.pieces) l.initial.self at l.place) (ClearlyCovered (pieces_of l.pieces) l.self at l.place);
   failures : g.W.Sink.failures l.sink ≡ g.W.Sink.failures l.initial.sink;
   empty_writes : g.W.Sink.empty_writes l.sink ≡ g.W.Sink.empty_writes l.initial.sink;
 }

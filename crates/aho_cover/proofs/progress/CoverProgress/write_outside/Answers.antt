@@ -1,10 +1,11 @@
 -- The bytes that no run holds.
-use Rattle.std.proofs.Common.{ℕ, max, List, ◌++◌, take, refl, sym, ap, subst, arith}
+use Rattle.std.proofs.Common.{ℕ, max, List, [], take, refl, sym, ap, subst, arith}
 use Rattle.aho_core.specs.Patterns.{Patterns}
+use Rattle.aho_cover.specs.Counting.{put_on}
 use Rattle.aho_cover.specs.Progress.{HasCovered, IsBeginning}
 use Rattle.aho_cover.specs.Walks.{NoneReaches}
-use Rattle.aho_cover.proofs.Copied.{begins_shorter}
-use Rattle.aho_cover.proofs.Covered.{has-begun, has-copied}
+use Rattle.aho_cover.proofs.Counted.{counts_none}
+use Rattle.aho_cover.proofs.Covered.{begins_before, has-begun, has-copied}
 use Rattle.aho_cover.proofs.Sound.{outside-held, outside-within, sound-outside}
 use Rattle.aho_cover.proofs.Written.{on_err}
 use Rattle.aho_cover.proofs.progress.CoverProgress.write_outside.Given.{Over}
@@ -31,18 +32,20 @@ returns-in_err-write_whole-clause-begins g c =
     let sound = c.requires.sound in
     let copied = max s.copied end in
     let after = sound-outside s sound.0 sound.1 c.args.place copied sound.2 (ap (max s.copied) c.outside_end-end.ensures.end) in
-    on_err c.from_residual.result _ (λ at pieces. record {
+    on_err c.from_residual.result _ (λ at pieces counts. record {
       bytes = take some.0 c.gap.result.now;
       appends = some.2;
+      runs = [];
+      counted = counts_none counts;
       follows = λ p haystack written before.
           let bytes = c.gap.ensures.part haystack before.0.given in
           let next = has-copied p haystack pieces s at written end copied before.0 refl (clear_end g d at p haystack before.1) in
-          begins_shorter _ written c.gap.result.now some.0 some.1
-          (subst (λ (xs : List ℕ). IsBeginning pieces p haystack (written ++ xs)) (sym bytes) (has-begun p haystack pieces (record s { copied = copied }) at _ next after.behind));
+          begins_before p haystack pieces written c.gap.result.now [] some.0 some.1
+          (subst (λ (xs : List ℕ). IsBeginning pieces p haystack (put_on written xs [])) (sym bytes) (has-begun p haystack pieces (record s { copied = copied }) at _ next after.behind));
     })
 
 pub returns-clause-writes : goal.returns-clause-writes
-returns-clause-writes g c = λ at pieces.
+returns-clause-writes g c = λ at pieces counts.
     let d = (goal.at.returns-clause-writes g c).After-outside_end-end in
     let s = c.args.self.now in
     let end = c.outside_end-end.result in
@@ -50,8 +53,10 @@ returns-clause-writes g c = λ at pieces.
     record {
       bytes = c.gap.result.now;
       appends = c.in_ok-write_whole.ensures.whole;
+      runs = [];
+      counted = counts_none counts;
       follows = λ p haystack written before.
           let bytes = c.gap.ensures.part haystack before.0.given in
           let next = has-copied p haystack pieces s at written end copied before.0 (omega (arith, c.max-self.ensures)) (clear_end g d at p haystack before.1) in
-          subst (λ (xs : List ℕ). HasCovered pieces (record s { copied = copied }) at p haystack (written ++ xs)) (sym bytes) next;
+          subst (λ (xs : List ℕ). HasCovered pieces (record s { copied = copied }) at p haystack (put_on written xs [])) (sym bytes) next;
     }

@@ -3,6 +3,7 @@ use Rattle.std.proofs.Common.{◌≡◌, ℕ, ◌+◌, ◌-◌, ◌≤◌, max, 
 use Rattle.aho_core.specs.Patterns.{Patterns}
 use Rattle.aho_core.specs.Replacement.{pieces_of}
 use Rattle.aho_cover.specs.declared.progress.CoverProgress.{CoverProgress}
+use Rattle.aho_cover.specs.Counting.{Output}
 use Rattle.aho_cover.specs.Hand.{held_runs}
 use Rattle.aho_cover.specs.Progress.{BareFrom, ClearlyCovered, HasCovered, IsBeginning, IsSoundCover, outside_end}
 use Rattle.aho_cover.specs.Writes.{WritesOn}
@@ -14,7 +15,7 @@ use Rattle.aho_cover.proofs.progress.CoverProgress.write_settled.Goals.{After-op
 use Rattle.aho_cover.proofs.progress.CoverProgress.write_settled.Goals as goal
 
 -- what ends later begins behind the open place
-clearly : (g : Over) (c : After-open_place-open g) (p : Patterns) (haystack written : List ℕ) → HasCovered (pieces_of c.args.pieces.now) c.args.self.now c.args.at p haystack written
+clearly : (g : Over) (c : After-open_place-open g) (p : Patterns) (haystack : List ℕ) (written : Output) → HasCovered (pieces_of c.args.pieces.now) c.args.self.now c.args.at p haystack written
     → ClearlyCovered (pieces_of c.args.pieces.now) c.args.self.now c.args.at c.open_place-open.result p haystack written
 clearly g c p haystack written has =
     (has, λ m occurs later. omega (arith, has-open p haystack (pieces_of c.args.pieces.now) c.args.self.now c.args.at written has m occurs later, c.open_place-open.ensures.place))
@@ -63,7 +64,7 @@ returns-clause-near g c =
 
 -- what was written of the runs
 first : (g : Over) (c : After-write_outside g)
-    → WritesOn g.W.Sink c.args.sink.now c.settle.new.sink (HasCovered (pieces_of c.args.pieces.now) c.args.self.now c.args.at) (ClearlyCovered (pieces_of c.args.pieces.now) c.settle.new.self c.args.at c.open_place-open.result)
+    → WritesOn g.W.Sink c.args.sink.now c.settle.new.sink c.args.counts.now c.settle.new.counts (HasCovered (pieces_of c.args.pieces.now) c.args.self.now c.args.at) (ClearlyCovered (pieces_of c.args.pieces.now) c.settle.new.self c.args.at c.open_place-open.result)
 first g c =
     let d = (goal.at.returns-clause-writes g c).After-open_place-open in
     let pieces = pieces_of c.args.pieces.now in
@@ -72,9 +73,9 @@ first g c =
 pub returns-clause-writes : goal.returns-clause-writes
 returns-clause-writes g c =
     let d = (goal.at.returns-clause-writes g c).After-write_outside in
-    if_ok c.write_outside.result _ _ (λ more. writes_then (first g d) (more c.args.at (pieces_of c.args.pieces.now))) c.write_outside.ensures.writes
+    if_ok c.write_outside.result _ _ (λ more. writes_then (first g d) (more c.args.at (pieces_of c.args.pieces.now) c.settle.new.counts)) c.write_outside.ensures.writes
 
 pub returns-clause-begins : goal.returns-clause-begins
 returns-clause-begins g c =
     let d = (goal.at.returns-clause-begins g c).After-write_outside in
-    if_err c.write_outside.result _ _ (λ more. writes_then (first g d) (more c.args.at (pieces_of c.args.pieces.now))) c.write_outside.ensures.begins
+    if_err c.write_outside.result _ _ (λ more. writes_then (first g d) (more c.args.at (pieces_of c.args.pieces.now) c.settle.new.counts)) c.write_outside.ensures.begins

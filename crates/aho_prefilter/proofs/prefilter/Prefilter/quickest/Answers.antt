@@ -10,8 +10,8 @@ use Rattle.aho_prefilter.specs.declared.strided.sizes.Shape.{Shape}
 use Rattle.aho_prefilter.proofs.HeldStrided.{least_head-each, least_head-few, held_or_packed-held, quickest_for-of, quickest_for-strided, sizes_for-sized}
 use Rattle.aho_prefilter.proofs.prefilter.Prefilter.quickest.Goals as goal
 
-pub returns-then-ignore_case-clause-of : goal.returns-then-ignore_case-clause-of
-returns-then-ignore_case-clause-of c = λ kind. held_or_packed-held (patterns_from kind c.args.ignore_case (pieces_of c.args.patterns.now)) c.in_ok-other.other (c.in_ok-other.ensures.held kind)
+pub returns-then-not-yields-clause-of : goal.returns-then-not-yields-clause-of
+returns-then-not-yields-clause-of c = λ kind. held_or_packed-held (patterns_from kind c.args.ignore_case (pieces_of c.args.patterns.now)) c.in_ok-other.other (c.in_ok-other.ensures.held kind)
 
 pub sizes-requires : goal.sizes-requires
 sizes-requires c = record { short = subst (λ (s : Shape). s.head ≤ 16) (sym c.of.ensures.of) (least_head-few (pieces_of c.args.patterns.now)) }
@@ -23,13 +23,13 @@ pub new-requires-clause-sized : goal.new-requires-clause-sized
 new-requires-clause-sized c =
     let words = pieces_of c.args.patterns.now in
     let found = sym (ap sizes_for c.of.ensures.of) ∙ sym c.sizes.ensures.sizes ∙ c.in-Some.is in
-    (sizes_for-sized (shape_of words) c.in-Some.sizes (least_head-few words) found).0
+    (sizes_for-sized (shape_of c.args.ignore_case words) c.in-Some.sizes (least_head-few words) found).0
 
 pub new-requires-clause-heads : goal.new-requires-clause-heads
 new-requires-clause-heads c = λ k below.
     let words = pieces_of c.args.patterns.now in
     let found = sym (ap sizes_for c.of.ensures.of) ∙ sym c.sizes.ensures.sizes ∙ c.in-Some.is in
-    let head = (sizes_for-sized (shape_of words) c.in-Some.sizes (least_head-few words) found).1 in
+    let head = (sizes_for-sized (shape_of c.args.ignore_case words) c.in-Some.sizes (least_head-few words) found).1 in
     let count : length words ≡ length c.args.patterns.now = length-map c.args.patterns.now (λ piece. piece.now) in
     omega (arith, head, least_head-each words k (omega arith))
 
@@ -38,7 +38,7 @@ returns-clause-held c = λ kind.
     let p = patterns_from kind c.args.ignore_case (pieces_of c.args.patterns.now) in
     let found = sym (ap sizes_for c.of.ensures.of) ∙ sym c.sizes.ensures.sizes ∙ c.in-Some.is in
     ap (λ (marks : Marks). Some (Strided marks)) c.in_ok-strided.ensures.made
-    ∙ quickest_for-strided p c.in_ok-other.other c.in-Some.sizes c.if-ignore_case.false (c.in_ok-other.ensures.held kind) (sym c.yields.ensures.yields ∙ c.if-not-yields.false) found
+    ∙ quickest_for-strided p c.in_ok-other.other c.in-Some.sizes (c.in_ok-other.ensures.held kind) (sym c.yields.ensures.yields ∙ c.if-not-yields.false) found
 
 pub returns-clause-of : goal.returns-clause-of
 returns-clause-of c = λ kind.
@@ -47,4 +47,4 @@ returns-clause-of c = λ kind.
     quickest_for-of p (Strided c.in_ok-strided.strided)
     (sym
     (ap (λ (marks : Marks). Some (Strided marks)) c.in_ok-strided.ensures.made
-    ∙ quickest_for-strided p c.in_ok-other.other c.in-Some.sizes c.if-ignore_case.false (c.in_ok-other.ensures.held kind) (sym c.yields.ensures.yields ∙ c.if-not-yields.false) found))
+    ∙ quickest_for-strided p c.in_ok-other.other c.in-Some.sizes (c.in_ok-other.ensures.held kind) (sym c.yields.ensures.yields ∙ c.if-not-yields.false) found))

@@ -14,7 +14,7 @@ returns-then-is_marked c =
     let sound = subst AreSoundMarks c.self.view_is c.self.invariant in
     let hash =
     gram_hash-word marks.sizes bytes (c.args.turn * marks.sizes.stride + (marks.sizes.stride - 1)) c.word_at.result c.args.factor sound.sizes.gram
-    (c.word_at.ensures.word ∙ ap (λ (s : Sizes). number_of_bytes 8 bytes (c.args.turn * s.stride + (s.stride - 1))) sizes)
+    (c.word_at.ensures.word marks.sizes.ignore_case c.requires.bits ∙ ap (λ (s : Sizes). number_of_bytes marks.sizes.ignore_case 8 bytes (c.args.turn * s.stride + (s.stride - 1))) sizes)
     c.requires.factor in
     let gram = subst (λ (table : List ℕ). HasMark table (gram_hash marks.sizes bytes (c.args.turn * marks.sizes.stride + (marks.sizes.stride - 1)))) c.requires.grams (subst (HasMark c.args.grams.now) hash (c.if-is_marked.ensures.marked.0 refl)) in
     let first = subst (λ (s : Sizes). IsFirst (λ at. HasMark marks.heads (head_hash marks.sizes bytes at)) (c.args.turn * s.stride) (c.args.turn * s.stride + marks.sizes.stride) c.find_head.result) sizes c.find_head.ensures.first in
@@ -28,7 +28,7 @@ returns-else-is_marked c =
     let sound = subst AreSoundMarks c.self.view_is c.self.invariant in
     let hash =
     gram_hash-word marks.sizes bytes (c.args.turn * marks.sizes.stride + (marks.sizes.stride - 1)) c.word_at.result c.args.factor sound.sizes.gram
-    (c.word_at.ensures.word ∙ ap (λ (s : Sizes). number_of_bytes 8 bytes (c.args.turn * s.stride + (s.stride - 1))) sizes)
+    (c.word_at.ensures.word marks.sizes.ignore_case c.requires.bits ∙ ap (λ (s : Sizes). number_of_bytes marks.sizes.ignore_case 8 bytes (c.args.turn * s.stride + (s.stride - 1))) sizes)
     c.requires.factor in
     record {
       first = Nowhere-marked marks bytes c.args.turn

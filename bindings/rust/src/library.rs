@@ -1,0 +1,270 @@
+//! The functions of the C library, as safe calls. This is the only file with code that is not safe.
+use crate::search::{Anchored, Input, Match, MatchKind, PatternID, StartKind};
+use std::{ffi::c_void, ptr};
+
+#[repr(C)]
+struct CsSearcher {
+    full: bool,
+    at: *mut c_void,
+}
+
+#[repr(C)]
+struct CsStream {
+    full: bool,
+    at: *mut c_void,
+}
+
+#[repr(C)]
+struct CsSlice {
+    at: *const u8,
+    len: usize,
+}
+
+#[repr(C)]
+struct CsOptions {
+    match_kind: u32,
+    start_kind: u32,
+    ignore_case: bool,
+    prefilter: bool,
+}
+
+#[repr(C)]
+#[derive(Clone, Copy, Default)]
+struct CsMatch {
+    pattern: usize,
+    start: usize,
+    end: usize,
+}
+
+/// What is known of a searcher: how many patterns it has, the lengths of the shortest and of the longest, and its memory in bytes.
+#[repr(C)]
+#[derive(Clone, Copy, Debug, Default)]
+pub(crate) struct Facts {
+    pub(crate) patterns: usize,
+    pub(crate) min_len: usize,
+    pub(crate) max_len: usize,
+    pub(crate) memory: usize,
+}
+
+#[rustfmt::skip]
+extern "C" {
+    fn cs_version() -> u32;
+    fn cs_build(patterns: *const CsSlice, patterns_len: usize, options: *const CsOptions, out: *mut CsSearcher) -> u32;
+    fn cs_free(searcher: *mut CsSearcher);
+    fn cs_share(searcher: *mut CsSearcher, out: *mut CsSearcher) -> u32;
+    fn cs_is_match(searcher: *mut CsSearcher, haystack: *const u8, haystack_len: usize) -> u32;
+    fn cs_search(searcher: *mut CsSearcher, haystack: *const u8, haystack_len: usize, start: usize, end: usize, anchored: bool,
+        earliest: bool, found: *mut CsMatch) -> u32;
+    fn cs_overlapping(searcher: *mut CsSearcher, haystack: *const u8, haystack_len: usize, room: *mut CsMatch, room_len: usize,
+        count: *mut usize) -> u32;
+    fn cs_replace_all(searcher: *mut CsSearcher, haystack: *const u8, haystack_len: usize, replace_with: *const CsSlice,
+        replace_with_len: usize, room: *mut u8, room_len: usize, len: *mut usize) -> u32;
+    fn cs_info(searcher: *mut CsSearcher, out: *mut Facts) -> u32;
+    fn cs_stream_new(searcher: *mut CsSearcher, out: *mut CsStream) -> u32;
+    fn cs_stream_push(stream: *mut CsStream, bytes: *const u8, bytes_len: usize, taken: *mut usize) -> u32;
+    fn cs_stream_next(stream: *mut CsStream, found: *mut CsMatch) -> u32;
+    fn cs_stream_end(stream: *mut CsStream) -> u32;
+    fn cs_stream_free(stream: *mut CsStream);
+}
+
+const DONE: u32 = 0;
+const FOUND: u32 = 1;
+const NO_MEMORY: u32 = 5;
+const NO_ROOM: u32 = 11;
+
+pub(crate) fn version() -> u32 {
+    // SAFETY: it takes nothing.
+    unsafe { cs_version() }
+}
+
+/// The byte strings as the library takes them, as long as these are lent.
+fn slices<B: AsRef<[u8]>>(items: &[B]) -> Vec<CsSlice> {
+    items.iter().map(|item| CsSlice { at: item.as_ref().as_ptr(), len: item.as_ref().len() }).collect()
+}
+
+fn match_of(found: CsMatch, offset: usize) -> Match {
+    Match::new(PatternID::of(found.pattern), offset + found.start..offset + found.end)
+}
+
+/// One share of a searcher. Each call has it alone.
+pub(crate) struct Handle(CsSearcher);
+
+// SAFETY: a handle may be used by any thread, by one call at a time; each call takes it by `&mut`.
+unsafe impl Send for Handle {}
+
+impl Drop for Handle {
+    fn drop(&mut self) {
+        // SAFETY: the handle is one that the library has made, and nobody uses it any more.
+        unsafe { cs_free(&mut self.0) }
+    }
+}
+
+impl Handle {
+    fn none() -> Handle {
+        Handle(CsSearcher { full: false, at: ptr::null_mut() })
+    }
+
+    /// A searcher for the patterns, or the status that says why there is none.
+    pub(crate) fn build<B: AsRef<[u8]>>(
+        patterns: &[B],
+        match_kind: MatchKind,
+        start_kind: StartKind,
+        ignore_case: bool,
+        prefilter: bool,
+    ) -> Result<Handle, u32> {
+        let patterns = slices(patterns);
+        let match_kind = match match_kind {
+            MatchKind::Standard => 0,
+            MatchKind::LeftmostFirst => 1,
+            MatchKind::LeftmostLongest => 2,
+        };
+        let start_kind = match start_kind {
+            StartKind::Unanchored => 0,
+            StartKind::Anchored => 1,
+            StartKind::Both => 2,
+        };
+        let options = CsOptions { match_kind, start_kind, ignore_case, prefilter };
+        let mut handle = Handle::none();
+        // SAFETY: the slices are lent for the call, which keeps none of them; the handle is one that was started.
+        match unsafe { cs_build(patterns.as_ptr(), patterns.len(), &options, &mut handle.0) } {
+            DONE => Ok(handle),
+            status => Err(status),
+        }
+    }
+
+    /// Another handle of the same searcher, or none where memory ran out.
+    pub(crate) fn share(&mut self) -> Option<Handle> {
+        let mut other = Handle::none();
+        // SAFETY: both are handles, and two different ones.
+        (unsafe { cs_share(&mut self.0, &mut other.0) } == DONE).then_some(other)
+    }
+
+    /// Whether a pattern occurs in the haystack. The searcher answers unanchored searches.
+    pub(crate) fn is_match(&mut self, haystack: &[u8]) -> bool {
+        // SAFETY: the haystack is lent for the call.
+        unsafe { cs_is_match(&mut self.0, haystack.as_ptr(), haystack.len()) == FOUND }
+    }
+
+    /// The answer of a search that the searcher was built for, and whose span does not start behind its end.
+    pub(crate) fn search(&mut self, input: &Input<'_>) -> Option<Match> {
+        let (haystack, mut found) = (input.haystack(), CsMatch::default());
+        let anchored = input.get_anchored() == Anchored::Yes;
+        // SAFETY: the haystack is lent for the call; the library looks whether it has the span.
+        let status = unsafe {
+            cs_search(
+                &mut self.0,
+                haystack.as_ptr(),
+                haystack.len(),
+                input.start(),
+                input.end(),
+                anchored,
+                input.get_earliest(),
+                &mut found,
+            )
+        };
+        (status == FOUND).then(|| match_of(found, 0))
+    }
+
+    /// All matches of the haystack, those that overlap too, each moved on by the offset. The searcher is of kind Standard and answers
+    /// unanchored searches.
+    pub(crate) fn overlapping(&mut self, haystack: &[u8], offset: usize) -> Vec<Match> {
+        let mut room = vec![CsMatch::default(); 64 + haystack.len() / 256];
+        loop {
+            let mut count = 0;
+            // SAFETY: the room has as many places as is said, and they are written.
+            let status =
+                unsafe { cs_overlapping(&mut self.0, haystack.as_ptr(), haystack.len(), room.as_mut_ptr(), room.len(), &mut count) };
+            assert_eq!(status, DONE, "the library answered {status} to an overlapping search");
+            if count <= room.len() {
+                return room[..count].iter().map(|&found| match_of(found, offset)).collect();
+            }
+            room = vec![CsMatch::default(); count];
+        }
+    }
+
+    /// The haystack with each match replaced, or none where memory ran out. There is one piece for each pattern, and the searcher
+    /// answers unanchored searches.
+    pub(crate) fn replace_all<B: AsRef<[u8]>>(&mut self, haystack: &[u8], replace_with: &[B]) -> Option<Vec<u8>> {
+        let pieces = slices(replace_with);
+        let mut room = vec![0; haystack.len()];
+        loop {
+            let mut len = 0;
+            // SAFETY: haystack and pieces are lent for the call; the room has as many bytes as is said.
+            let status = unsafe {
+                cs_replace_all(
+                    &mut self.0,
+                    haystack.as_ptr(),
+                    haystack.len(),
+                    pieces.as_ptr(),
+                    pieces.len(),
+                    room.as_mut_ptr(),
+                    room.len(),
+                    &mut len,
+                )
+            };
+            match status {
+                DONE => {
+                    room.truncate(len);
+                    return Some(room);
+                }
+                NO_ROOM => room = vec![0; len],
+                NO_MEMORY => return None,
+                status => panic!("the library answered {status} to a replacement"),
+            }
+        }
+    }
+
+    /// What is known of the searcher.
+    pub(crate) fn facts(&mut self) -> Facts {
+        let mut facts = Facts::default();
+        // SAFETY: it writes the facts alone.
+        let status = unsafe { cs_info(&mut self.0, &mut facts) };
+        assert_eq!(status, DONE, "the library answered {status} to a question");
+        facts
+    }
+
+    /// A stream with a share of the searcher, or the status that says why there is none.
+    pub(crate) fn stream(&mut self) -> Result<Stream, u32> {
+        let mut stream = Stream(CsStream { full: false, at: ptr::null_mut() });
+        // SAFETY: both are handles.
+        match unsafe { cs_stream_new(&mut self.0, &mut stream.0) } {
+            DONE => Ok(stream),
+            status => Err(status),
+        }
+    }
+}
+
+/// A stream whose bytes are pushed.
+pub(crate) struct Stream(CsStream);
+
+// SAFETY: as of a `Handle`.
+unsafe impl Send for Stream {}
+
+impl Drop for Stream {
+    fn drop(&mut self) {
+        // SAFETY: the handle is one that the library has made, and nobody uses it any more.
+        unsafe { cs_stream_free(&mut self.0) }
+    }
+}
+
+impl Stream {
+    /// Pushes bytes from the front, and answers how many; none where the stream has ended or is too long.
+    pub(crate) fn push(&mut self, bytes: &[u8]) -> Option<usize> {
+        let mut taken = 0;
+        // SAFETY: the bytes are lent for the call.
+        (unsafe { cs_stream_push(&mut self.0, bytes.as_ptr(), bytes.len(), &mut taken) } == DONE).then_some(taken)
+    }
+
+    /// The next match that is certain, by its place in the stream.
+    pub(crate) fn next_match(&mut self) -> Option<Match> {
+        let mut found = CsMatch::default();
+        // SAFETY: it writes the match alone.
+        (unsafe { cs_stream_next(&mut self.0, &mut found) } == FOUND).then(|| match_of(found, 0))
+    }
+
+    /// Says that no more is pushed.
+    pub(crate) fn end(&mut self) {
+        // SAFETY: the handle is one that the library has made.
+        unsafe { cs_stream_end(&mut self.0) };
+    }
+}

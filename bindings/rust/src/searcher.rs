@@ -1,0 +1,358 @@
+//! The searcher, its builder and its iterators.
+use crate::error::{BuildError, MatchError, MatchErrorKind};
+use crate::library::{Facts, Handle, Stream};
+use crate::search::{Anchored, Input, Match, MatchKind, StartKind};
+use crate::shares::{Share, Shares};
+use std::{fmt, sync::Arc};
+
+/// A searcher for some patterns. A clone is the same searcher. Any threads may search by one at the same time.
+#[derive(Clone)]
+pub struct AhoCorasick {
+    shares: Arc<Shares>,
+    facts: Facts,
+    match_kind: MatchKind,
+    start_kind: StartKind,
+}
+
+/// Builds searchers.
+#[derive(Clone, Debug)]
+pub struct AhoCorasickBuilder {
+    match_kind: MatchKind,
+    start_kind: StartKind,
+    ascii_case_insensitive: bool,
+    prefilter: bool,
+}
+
+impl Default for AhoCorasickBuilder {
+    fn default() -> AhoCorasickBuilder {
+        AhoCorasickBuilder::new()
+    }
+}
+
+impl AhoCorasickBuilder {
+    /// Of kind Standard, for unanchored searches, with regard to case, and with a prefilter.
+    pub fn new() -> AhoCorasickBuilder {
+        let (match_kind, start_kind) = (MatchKind::Standard, StartKind::Unanchored);
+        AhoCorasickBuilder { match_kind, start_kind, ascii_case_insensitive: false, prefilter: true }
+    }
+
+    /// A searcher for the patterns, or why there is none.
+    pub fn build<I, P>(&self, patterns: I) -> Result<AhoCorasick, BuildError>
+    where
+        I: IntoIterator<Item = P>,
+        P: AsRef<[u8]>,
+    {
+        let patterns: Vec<P> = patterns.into_iter().collect();
+        let mut handle = Handle::build(&patterns, self.match_kind, self.start_kind, self.ascii_case_insensitive, self.prefilter)
+            .map_err(BuildError::of)?;
+        let facts = handle.facts();
+        Ok(AhoCorasick { shares: Arc::new(Shares::new(handle)), facts, match_kind: self.match_kind, start_kind: self.start_kind })
+    }
+
+    /// Sets which of several matches is found.
+    pub fn match_kind(&mut self, kind: MatchKind) -> &mut AhoCorasickBuilder {
+        self.match_kind = kind;
+        self
+    }
+
+    /// Sets which searches are answered.
+    pub fn start_kind(&mut self, kind: StartKind) -> &mut AhoCorasickBuilder {
+        self.start_kind = kind;
+        self
+    }
+
+    /// Sets whether ASCII letters are the same in both cases.
+    pub fn ascii_case_insensitive(&mut self, yes: bool) -> &mut AhoCorasickBuilder {
+        self.ascii_case_insensitive = yes;
+        self
+    }
+
+    /// Sets whether it may search by a prefilter, on which no answer depends.
+    pub fn prefilter(&mut self, yes: bool) -> &mut AhoCorasickBuilder {
+        self.prefilter = yes;
+        self
+    }
+}
+
+/// What a call without `try_` does with a refusal.
+fn or_panic<T>(answer: Result<T, MatchError>) -> T {
+    answer.unwrap_or_else(|error| panic!("{error}; a call that begins with try_ tells this as an error"))
+}
+
+impl AhoCorasick {
+    /// A searcher of kind Standard for the patterns, or why there is none.
+    pub fn new<I, P>(patterns: I) -> Result<AhoCorasick, BuildError>
+    where
+        I: IntoIterator<Item = P>,
+        P: AsRef<[u8]>,
+    {
+        AhoCorasickBuilder::new().build(patterns)
+    }
+
+    /// A builder.
+    pub fn builder() -> AhoCorasickBuilder {
+        AhoCorasickBuilder::new()
+    }
+
+    /// Whether a pattern occurs. Panics as `find` does.
+    pub fn is_match<'h, I: Into<Input<'h>>>(&self, input: I) -> bool {
+        let input = input.into();
+        or_panic(self.refusal(&input));
+        if input.get_anchored() == Anchored::No {
+            let haystack = input.haystack().get(input.get_range());
+            return haystack.map_or(false, |haystack| self.shares.share().with(|handle| handle.is_match(haystack)));
+        }
+        searched(&mut self.shares.share(), &input.earliest(true)).is_some()
+    }
+
+    /// The first match. Panics where the searcher was not built for such a search.
+    pub fn find<'h, I: Into<Input<'h>>>(&self, input: I) -> Option<Match> {
+        or_panic(self.try_find(input))
+    }
+
+    /// The matches, each searched for from the end of the one before. Panics as `find` does.
+    pub fn find_iter<'a, 'h, I: Into<Input<'h>>>(&'a self, input: I) -> FindIter<'a, 'h> {
+        or_panic(self.try_find_iter(input))
+    }
+
+    /// All matches, those that overlap too: by end, then start, then number. They are searched for at once, and take 24 bytes each.
+    /// Panics where the kind is not Standard, where the searcher was built for anchored searches alone, and for an anchored search.
+    pub fn find_overlapping_iter<'a, 'h, I: Into<Input<'h>>>(&'a self, input: I) -> FindOverlappingIter<'a, 'h> {
+        or_panic(self.try_find_overlapping_iter(input))
+    }
+
+    /// The text with each match replaced by the piece of its pattern. A match that starts or ends inside a character stays.
+    /// Panics where there is not one piece for each pattern, and as `find` does.
+    pub fn replace_all<B: AsRef<str>>(&self, haystack: &str, replace_with: &[B]) -> String {
+        or_panic(self.try_replace_all(haystack, replace_with))
+    }
+
+    /// The bytes with each match replaced by the piece of its pattern. Panics as `replace_all` does.
+    pub fn replace_all_bytes<B: AsRef<[u8]>>(&self, haystack: &[u8], replace_with: &[B]) -> Vec<u8> {
+        or_panic(self.try_replace_all_bytes(haystack, replace_with))
+    }
+
+    /// Appends the text to `dst`, where for each match the closure is called, which appends what it likes. Once it answers false the rest
+    /// is appended as it is. A match that starts or ends inside a character stays. Panics as `find` does.
+    pub fn replace_all_with<F>(&self, haystack: &str, dst: &mut String, replace_with: F)
+    where
+        F: FnMut(&Match, &str, &mut String) -> bool,
+    {
+        or_panic(self.try_replace_all_with(haystack, dst, replace_with))
+    }
+
+    /// The same of bytes, and of each match.
+    pub fn replace_all_with_bytes<F>(&self, haystack: &[u8], dst: &mut Vec<u8>, replace_with: F)
+    where
+        F: FnMut(&Match, &[u8], &mut Vec<u8>) -> bool,
+    {
+        or_panic(self.try_replace_all_with_bytes(haystack, dst, replace_with))
+    }
+
+    /// As `find`, with an error in place of a panic.
+    pub fn try_find<'h, I: Into<Input<'h>>>(&self, input: I) -> Result<Option<Match>, MatchError> {
+        let input = input.into();
+        self.refusal(&input)?;
+        Ok(searched(&mut self.shares.share(), &input))
+    }
+
+    /// As `find_iter`, with an error in place of a panic.
+    pub fn try_find_iter<'a, 'h, I: Into<Input<'h>>>(&'a self, input: I) -> Result<FindIter<'a, 'h>, MatchError> {
+        let input = input.into();
+        self.refusal(&input)?;
+        Ok(FindIter { share: self.shares.share(), input, last_end: None })
+    }
+
+    /// As `find_overlapping_iter`, with an error in place of a panic.
+    pub fn try_find_overlapping_iter<'a, 'h, I: Into<Input<'h>>>(&'a self, input: I) -> Result<FindOverlappingIter<'a, 'h>, MatchError> {
+        let input = input.into();
+        if self.match_kind != MatchKind::Standard {
+            return Err(MatchError::of(MatchErrorKind::UnsupportedOverlapping { got: self.match_kind }));
+        }
+        self.refusal(&input)?;
+        if input.get_anchored() == Anchored::Yes {
+            return Err(MatchError::of(MatchErrorKind::InvalidInputAnchored));
+        }
+        let found = match input.haystack().get(input.get_range()) {
+            Some(haystack) => self.shares.share().with(|handle| handle.overlapping(haystack, input.start())),
+            None => Vec::new(),
+        };
+        Ok(FindOverlappingIter { found: found.into_iter(), of: std::marker::PhantomData })
+    }
+
+    /// As `replace_all`, with an error in place of a panic where the searcher was not built for such a search.
+    pub fn try_replace_all<B: AsRef<str>>(&self, haystack: &str, replace_with: &[B]) -> Result<String, MatchError> {
+        self.want_one_each(replace_with.len());
+        let mut dst = String::with_capacity(haystack.len());
+        self.try_replace_all_with(haystack, &mut dst, |found, _, dst| {
+            dst.push_str(replace_with[found.pattern().as_usize()].as_ref());
+            true
+        })?;
+        Ok(dst)
+    }
+
+    /// As `replace_all_bytes`, with an error in place of a panic where the searcher was not built for such a search.
+    pub fn try_replace_all_bytes<B: AsRef<[u8]>>(&self, haystack: &[u8], replace_with: &[B]) -> Result<Vec<u8>, MatchError> {
+        self.want_one_each(replace_with.len());
+        self.refusal(&Input::new(haystack))?;
+        match self.shares.share().with(|handle| handle.replace_all(haystack, replace_with)) {
+            Some(replaced) => Ok(replaced),
+            None => std::alloc::handle_alloc_error(std::alloc::Layout::for_value(haystack)),
+        }
+    }
+
+    /// As `replace_all_with`, with an error in place of a panic.
+    pub fn try_replace_all_with<F>(&self, haystack: &str, dst: &mut String, mut replace_with: F) -> Result<(), MatchError>
+    where
+        F: FnMut(&Match, &str, &mut String) -> bool,
+    {
+        let mut copied = 0;
+        for found in self.try_find_iter(haystack)? {
+            let Some(text) = haystack.get(found.range()) else { continue };
+            dst.push_str(&haystack[copied..found.start()]);
+            copied = found.end();
+            if !replace_with(&found, text, dst) {
+                break;
+            }
+        }
+        dst.push_str(&haystack[copied..]);
+        Ok(())
+    }
+
+    /// As `replace_all_with_bytes`, with an error in place of a panic.
+    pub fn try_replace_all_with_bytes<F>(&self, haystack: &[u8], dst: &mut Vec<u8>, mut replace_with: F) -> Result<(), MatchError>
+    where
+        F: FnMut(&Match, &[u8], &mut Vec<u8>) -> bool,
+    {
+        let mut copied = 0;
+        for found in self.try_find_iter(haystack)? {
+            dst.extend_from_slice(&haystack[copied..found.start()]);
+            copied = found.end();
+            if !replace_with(&found, &haystack[found.range()], dst) {
+                break;
+            }
+        }
+        dst.extend_from_slice(&haystack[copied..]);
+        Ok(())
+    }
+
+    /// Which of several matches is found.
+    pub fn match_kind(&self) -> MatchKind {
+        self.match_kind
+    }
+
+    /// Which searches are answered.
+    pub fn start_kind(&self) -> StartKind {
+        self.start_kind
+    }
+
+    /// How many patterns there are.
+    pub fn patterns_len(&self) -> usize {
+        self.facts.patterns
+    }
+
+    /// The length of the shortest pattern in bytes; `usize::MAX` where there is none.
+    pub fn min_pattern_len(&self) -> usize {
+        self.facts.min_len
+    }
+
+    /// The length of the longest pattern in bytes; 0 where there is none.
+    pub fn max_pattern_len(&self) -> usize {
+        self.facts.max_len
+    }
+
+    /// How many bytes the searcher holds.
+    pub fn memory_usage(&self) -> usize {
+        self.facts.memory
+    }
+
+    /// Refuses what the searcher was not built for.
+    fn refusal(&self, input: &Input<'_>) -> Result<(), MatchError> {
+        match (self.start_kind, input.get_anchored()) {
+            (StartKind::Unanchored, Anchored::Yes) => Err(MatchError::of(MatchErrorKind::InvalidInputAnchored)),
+            (StartKind::Anchored, Anchored::No) => Err(MatchError::of(MatchErrorKind::InvalidInputUnanchored)),
+            _ => Ok(()),
+        }
+    }
+
+    /// A stream, if streams are searched for these patterns.
+    pub(crate) fn stream(&self) -> Result<Stream, MatchError> {
+        if self.min_pattern_len() == 0 {
+            return Err(MatchError::of(MatchErrorKind::UnsupportedEmpty));
+        }
+        self.refusal(&Input::new(""))?;
+        let made = self.shares.share().with(|handle| handle.stream());
+        Ok(made.unwrap_or_else(|_| std::alloc::handle_alloc_error(std::alloc::Layout::new::<[u8; 65536]>())))
+    }
+
+    pub(crate) fn want_one_each(&self, pieces: usize) {
+        assert_eq!(pieces, self.patterns_len(), "there have to be as many replacements as patterns");
+    }
+}
+
+impl fmt::Debug for AhoCorasick {
+    fn fmt(&self, to: &mut fmt::Formatter<'_>) -> fmt::Result {
+        to.debug_struct("AhoCorasick")
+            .field("patterns_len", &self.facts.patterns)
+            .field("match_kind", &self.match_kind)
+            .field("start_kind", &self.start_kind)
+            .field("memory_usage", &self.facts.memory)
+            .finish()
+    }
+}
+
+/// The answer of a search that is not refused.
+fn searched(share: &mut Share<'_>, input: &Input<'_>) -> Option<Match> {
+    if input.is_done() {
+        return None;
+    }
+    share.with(|handle| handle.search(input))
+}
+
+/// Matches, each searched for as it is asked for. It has a share of the searcher.
+pub struct FindIter<'a, 'h> {
+    share: Share<'a>,
+    input: Input<'h>,
+    last_end: Option<usize>,
+}
+
+impl Iterator for FindIter<'_, '_> {
+    type Item = Match;
+
+    fn next(&mut self) -> Option<Match> {
+        let mut found = searched(&mut self.share, &self.input)?;
+        if found.is_empty() && self.last_end == Some(found.end()) {
+            // An empty match right where the last one ended is dropped.
+            self.input.set_start(self.input.start() + 1);
+            found = searched(&mut self.share, &self.input)?;
+        }
+        self.input.set_start(found.end());
+        self.last_end = Some(found.end());
+        Some(found)
+    }
+}
+
+impl fmt::Debug for FindIter<'_, '_> {
+    fn fmt(&self, to: &mut fmt::Formatter<'_>) -> fmt::Result {
+        to.debug_struct("FindIter").field("input", &self.input).finish_non_exhaustive()
+    }
+}
+
+/// All matches, those that overlap too.
+#[derive(Debug)]
+pub struct FindOverlappingIter<'a, 'h> {
+    found: std::vec::IntoIter<Match>,
+    of: std::marker::PhantomData<(&'a AhoCorasick, &'h [u8])>,
+}
+
+impl Iterator for FindOverlappingIter<'_, '_> {
+    type Item = Match;
+
+    fn next(&mut self) -> Option<Match> {
+        self.found.next()
+    }
+
+    fn size_hint(&self) -> (usize, Option<usize>) {
+        self.found.size_hint()
+    }
+}

@@ -1,0 +1,50 @@
+//! One searcher for any threads: each call has a share of its own, which is kept for a later one.
+use crate::library::Handle;
+use std::sync::{Mutex, MutexGuard, PoisonError};
+
+/// A searcher and the shares of it that nobody uses now: at most as many as calls and iterators have run at the same time.
+pub(crate) struct Shares {
+    first: Mutex<Handle>,
+    free: Mutex<Vec<Handle>>,
+}
+
+/// A share, for one call or one iterator. It is given back as it goes.
+pub(crate) struct Share<'a> {
+    shares: &'a Shares,
+    /// None where no memory was left for a share: then each call waits for the first one.
+    handle: Option<Handle>,
+}
+
+/// A lock whose holder panicked is taken as well: no call leaves anything half done.
+fn locked<T>(mutex: &Mutex<T>) -> MutexGuard<'_, T> {
+    mutex.lock().unwrap_or_else(PoisonError::into_inner)
+}
+
+impl Shares {
+    pub(crate) fn new(first: Handle) -> Shares {
+        Shares { first: Mutex::new(first), free: Mutex::new(Vec::new()) }
+    }
+
+    pub(crate) fn share(&self) -> Share<'_> {
+        let free = locked(&self.free).pop();
+        Share { shares: self, handle: free.or_else(|| locked(&self.first).share()) }
+    }
+}
+
+impl Share<'_> {
+    /// Calls with the handle.
+    pub(crate) fn with<T>(&mut self, call: impl FnOnce(&mut Handle) -> T) -> T {
+        match &mut self.handle {
+            Some(handle) => call(handle),
+            None => call(&mut locked(&self.shares.first)),
+        }
+    }
+}
+
+impl Drop for Share<'_> {
+    fn drop(&mut self) {
+        if let Some(handle) = self.handle.take() {
+            locked(&self.shares.free).push(handle);
+        }
+    }
+}

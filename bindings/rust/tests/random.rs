@@ -1,0 +1,194 @@
+//! Random calls beside a plain search, which looks at each place.
+use chromesquid::{AhoCorasick, Anchored, Input, MatchKind, StartKind};
+use MatchKind::{LeftmostFirst, LeftmostLongest, Standard};
+
+struct Dice(u64);
+
+impl Dice {
+    fn below(&mut self, bound: usize) -> usize {
+        self.0 ^= self.0 << 13;
+        self.0 ^= self.0 >> 7;
+        self.0 ^= self.0 << 17;
+        (self.0 >> 11) as usize % bound
+    }
+
+    fn bytes(&mut self, letters: &[u8], most: usize) -> Vec<u8> {
+        (0..self.below(most + 1)).map(|_| letters[self.below(letters.len())]).collect()
+    }
+
+    fn yes(&mut self) -> bool {
+        self.below(2) == 0
+    }
+}
+
+type Found = (usize, usize, usize);
+
+struct Plain<'a> {
+    patterns: &'a [Vec<u8>],
+    kind: MatchKind,
+    ignore_case: bool,
+}
+
+impl Plain<'_> {
+    /// All that occurs in the span, by end, then start, then number.
+    fn occurrences(&self, haystack: &[u8], start: usize, end: usize, anchored: bool) -> Vec<Found> {
+        let mut found = vec![];
+        for (number, pattern) in self.patterns.iter().enumerate() {
+            for at in start..(end + 1).saturating_sub(pattern.len()) {
+                let there = &haystack[at..at + pattern.len()];
+                let same = if self.ignore_case { there.eq_ignore_ascii_case(pattern) } else { there == &pattern[..] };
+                if same && (!anchored || at == start) {
+                    found.push((number, at, at + pattern.len()));
+                }
+            }
+        }
+        found.sort_by_key(|&(number, start, end)| (end, start, number));
+        found
+    }
+
+    fn best(&self, haystack: &[u8], start: usize, end: usize, anchored: bool, earliest: bool) -> Option<Found> {
+        let mut found = self.occurrences(haystack, start, end, anchored);
+        if earliest {
+            let first = found.first()?.2;
+            found.retain(|it| it.2 == first);
+        }
+        match self.kind {
+            Standard => found.into_iter().next(),
+            LeftmostFirst => found.into_iter().min_by_key(|&(number, start, _)| (start, number)),
+            _ => found.into_iter().min_by_key(|&(number, start, end)| (start, usize::MAX - end, number)),
+        }
+    }
+
+    fn finds(&self, haystack: &[u8], mut start: usize, end: usize, anchored: bool, earliest: bool) -> Vec<Found> {
+        let (mut found, mut last) = (vec![], None);
+        while let Some(mut it) = self.best(haystack, start, end, anchored, earliest) {
+            if it.1 == it.2 && last == Some(it.2) {
+                match self.best(haystack, start + 1, end, anchored, earliest) {
+                    Some(other) => it = other,
+                    None => break,
+                }
+            }
+            found.push(it);
+            start = it.2;
+            last = Some(it.2);
+        }
+        found
+    }
+}
+
+fn replaced(haystack: &[u8], found: &[Found], pieces: &[Vec<u8>]) -> Vec<u8> {
+    let (mut all, mut at) = (vec![], 0);
+    for &(number, start, end) in found {
+        all.extend_from_slice(&haystack[at..start]);
+        all.extend_from_slice(&pieces[number]);
+        at = end;
+    }
+    all.extend_from_slice(&haystack[at..]);
+    all
+}
+
+fn compare(dice: &mut Dice, letters: &[u8], most: usize) {
+    let count = dice.below(7);
+    let patterns: Vec<_> = (0..count).map(|_| dice.bytes(letters, 4)).collect();
+    let haystack = dice.bytes(letters, most);
+    let plain = Plain { patterns: &patterns, kind: [Standard, LeftmostFirst, LeftmostLongest][dice.below(3)], ignore_case: dice.yes() };
+    let searcher = AhoCorasick::builder()
+        .match_kind(plain.kind)
+        .start_kind(StartKind::Both)
+        .ascii_case_insensitive(plain.ignore_case)
+        .prefilter(dice.yes())
+        .build(&patterns)
+        .unwrap();
+    let start = dice.below(haystack.len() + 1);
+    let end = start + dice.below(haystack.len() - start + 1);
+    for (start, end) in [(0, haystack.len()), (start, end)] {
+        let (anchored, earliest) = (dice.yes(), dice.yes());
+        let mode = if anchored { Anchored::Yes } else { Anchored::No };
+        let input = Input::new(&haystack).range(start..end).anchored(mode).earliest(earliest);
+        let best = searcher.find(input.clone()).map(|it| (it.pattern().as_usize(), it.start(), it.end()));
+        let case = format!("{patterns:?} {haystack:?} {:?} {} {input:?}", plain.kind, plain.ignore_case);
+        assert_eq!(best, plain.best(&haystack, start, end, anchored, earliest), "{case}");
+        assert_eq!(searcher.is_match(input.clone()), best.is_some(), "{case}");
+        let found: Vec<_> = searcher.find_iter(input).map(|it| (it.pattern().as_usize(), it.start(), it.end())).collect();
+        assert_eq!(found, plain.finds(&haystack, start, end, anchored, earliest), "{case}");
+        if plain.kind == Standard {
+            let input = Input::new(&haystack).range(start..end);
+            let listed: Vec<_> = searcher.find_overlapping_iter(input).map(|it| (it.pattern().as_usize(), it.start(), it.end())).collect();
+            assert_eq!(listed, plain.occurrences(&haystack, start, end, false), "{case}");
+        }
+    }
+    let pieces: Vec<_> = patterns.iter().map(|_| dice.bytes(letters, 5)).collect();
+    let wanted = replaced(&haystack, &plain.finds(&haystack, 0, haystack.len(), false, false), &pieces);
+    assert_eq!(searcher.replace_all_bytes(&haystack, &pieces), wanted, "{patterns:?} {haystack:?} {pieces:?}");
+    if let (Ok(text), true) =
+        (std::str::from_utf8(&haystack), patterns.iter().chain(&pieces).all(|it| it.is_ascii()) && haystack.is_ascii())
+    {
+        let pieces: Vec<_> = pieces.iter().map(|it| std::str::from_utf8(it).unwrap()).collect();
+        assert_eq!(searcher.replace_all(text, &pieces).as_bytes(), wanted);
+    }
+}
+
+/// A reader and writer in small pieces.
+struct Pieces<'a>(&'a [u8], &'a mut Dice);
+
+impl std::io::Read for Pieces<'_> {
+    fn read(&mut self, room: &mut [u8]) -> std::io::Result<usize> {
+        let count = self.0.len().min(room.len()).min(1 + self.1.below(9));
+        room[..count].copy_from_slice(&self.0[..count]);
+        self.0 = &self.0[count..];
+        Ok(count)
+    }
+}
+
+#[test]
+fn random_streams() {
+    let mut dice = Dice(77);
+    for _ in 0..6_000 {
+        let patterns: Vec<_> = (0..1 + dice.below(6)).map(|_| [dice.bytes(b"abA", 5), vec![b'a']].concat()).collect();
+        let haystack = dice.bytes(b"abA", 60);
+        let plain = Plain { patterns: &patterns, kind: [Standard, LeftmostFirst, LeftmostLongest][dice.below(3)], ignore_case: dice.yes() };
+        let searcher = AhoCorasick::builder()
+            .match_kind(plain.kind)
+            .ascii_case_insensitive(plain.ignore_case)
+            .prefilter(dice.yes())
+            .build(&patterns)
+            .unwrap();
+        let wanted = plain.finds(&haystack, 0, haystack.len(), false, false);
+        let found: Vec<_> = searcher.stream_find_iter(Pieces(&haystack, &mut dice)).map(|it| it.unwrap()).collect();
+        let found: Vec<_> = found.iter().map(|it| (it.pattern().as_usize(), it.start(), it.end())).collect();
+        assert_eq!(found, wanted, "{patterns:?} {haystack:?} {:?}", plain.kind);
+        let pieces: Vec<_> = patterns.iter().map(|_| dice.bytes(b"xy", 5)).collect();
+        let mut written = vec![];
+        searcher.stream_replace_all(Pieces(&haystack, &mut dice), &mut written, &pieces).unwrap();
+        assert_eq!(written, replaced(&haystack, &wanted, &pieces), "{patterns:?} {haystack:?} {:?}", plain.kind);
+    }
+}
+
+#[test]
+fn long_streams() {
+    let text = "frodo and sam ".repeat(50_000);
+    for kind in [Standard, LeftmostFirst, LeftmostLongest] {
+        let searcher = AhoCorasick::builder().match_kind(kind).build(["frodo", "sam", "and sa"]).unwrap();
+        let mut written = vec![];
+        searcher.stream_replace_all(text.as_bytes(), &mut written, &["F", "S", "AS"]).unwrap();
+        assert!(written == searcher.replace_all_bytes(text.as_bytes(), &["F", "S", "AS"]));
+        let found: Vec<_> = searcher.stream_find_iter(text.as_bytes()).map(|it| it.unwrap()).collect();
+        assert!(found.into_iter().eq(searcher.find_iter(&text)));
+    }
+}
+
+#[test]
+fn random_calls_on_few_letters() {
+    let mut dice = Dice(20261126);
+    for _ in 0..6_000 {
+        compare(&mut dice, b"ab", 12);
+    }
+}
+
+#[test]
+fn random_calls_on_all_kinds_of_bytes() {
+    let mut dice = Dice(61621);
+    for _ in 0..6_000 {
+        compare(&mut dice, b"aAbB\0\xC3\xA9\xFFz", 40);
+    }
+}

@@ -1,0 +1,34 @@
+-- What `--no-match-ok` makes of the status of a search.
+use Rattle.std.proofs.Common.{◌≡◌, ◌<◌, ℕ, Bool, true, false, nat_eq, inl, inr, arith, eqb-true}
+use Rattle.std.proofs.lemmas.Bool.{cases_Bool}
+use Rattle.aho_devices.specs.declared.device.Sink.{Ghosts as SinkGhosts}
+use Rattle.programs.specs.declared.errors.Errors.{Errors}
+use Rattle.acgrep.specs.Runs.{status_told}
+use Rattle.acgrep.specs.Told.{TellsStatus}
+use Rattle.acgrep.specs.declared.options.Shown.{Shown}
+use Rattle.std.specs.Prelude.{List}
+
+-- an error stays one
+pub told-low : (ok : Bool) (status : ℕ) → status_told ok status < 2 → status < 2
+told-low false status low = low
+told-low true status low = elim (cases_Bool (nat_eq status 1)) [
+  | inl one ↦ omega (arith, eqb-true status 1 one)
+  | inr not ↦ rw not at low
+]
+
+-- and none becomes one
+pub told-two : (ok : Bool) (status : ℕ) → status_told ok status ≡ 2 → status ≡ 2
+told-two false status two = two
+told-two true status two = elim (cases_Bool (nat_eq status 1)) [
+  | inl one ↦ let none = rw one at two in absurd (omega (arith, none))
+  | inr not ↦ rw not at two
+]
+
+-- so what is told is as it was
+pub told-status : {E : Type 0} (K : SinkGhosts E) (P : List ℕ → Type 0) (shown : Shown) (ok : Bool) (status : ℕ) (old new : Errors E)
+    → TellsStatus K P shown status old new → TellsStatus K P shown (status_told ok status) old new
+told-status K P shown ok status old new told = record {
+  tells = told.tells;
+  silent = λ low loud. told.silent (told-low ok status low) loud;
+  some = λ two. told.some (told-two ok status two);
+}

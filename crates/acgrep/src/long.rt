@@ -1,0 +1,162 @@
+//! The long names of options, and their beginnings.
+
+ghost use Rattle.std.specs.Prelude.{◌≡◌, Some, None, IfErr, IfOk};
+ghost use Rattle.acgrep.specs.Long.{begun_too, found_among, found_by, found_more, is_color, option_by, other_options, output_options, pattern_options};
+
+use crate::arguments::Wrong;
+use crate::options::Switch;
+
+/// An option that takes an argument.
+#[derive(Clone, Copy)]
+pub enum Valued {
+    /// `-e`
+    Regexp,
+    /// `-f`
+    PatternFile,
+    /// `--kind`
+    Kind,
+    /// `--offset`
+    Offset,
+    /// `--first-line`
+    FirstLine,
+}
+
+/// An option by its long name.
+#[derive(Clone, Copy)]
+pub enum Long {
+    /// One that takes no argument.
+    Plain(Switch),
+    /// One that takes an argument.
+    Takes(Valued),
+    /// `--color`, which takes an argument behind `=` alone.
+    When,
+}
+
+impl Long {
+    /// Whether it is `--color`.
+    fn is_color(self) -> bool
+        ensures color { result ≡ is_color self }
+    {
+        match self {
+            Long::When => true,
+            Long::Plain(_) | Long::Takes(_) => false,
+        }
+    }
+}
+
+/// What a name means, as far as the options were looked at.
+#[derive(Clone, Copy)]
+pub enum Found {
+    /// No option's name begins so.
+    Unknown,
+    /// This one's does.
+    Begun(Long),
+    /// Those of several do.
+    Several,
+    /// It is this one's name.
+    Whole(Long),
+}
+
+impl Found {
+    /// What it means with a further option.
+    #[tactic(auto, unfolding(crate::specs::Long::found_more))]
+    fn or(self, asked: &[u8], name: &[u8], long: Long) -> Found
+        ensures found { result ≡ found_more asked.now self name.now long }
+    {
+        if asked == name {
+            Found::Whole(long)
+        } else if name.starts_with(asked) {
+            self.begun_too(long)
+        } else {
+            self
+        }
+    }
+
+    /// What it means where the name of a further option begins so too. `--color` has two names.
+    fn begun_too(self, long: Long) -> Found
+        ensures found { result ≡ begun_too self long }
+    {
+        match self {
+            Found::Unknown => Found::Begun(long),
+            Found::Begun(first) if first.is_color() && long.is_color() => self,
+            Found::Begun(_) => Found::Several,
+            Found::Several | Found::Whole(_) => self,
+        }
+    }
+}
+
+/// The option of a long name, or of a beginning that no other option's name has.
+pub fn option_of(name: &[u8]) -> Result<Long, Wrong<'_>>
+    ensures found { IfOk result (λ long. option_by name.now ≡ Some long) }
+    ensures refused { IfErr result (λ wrong. option_by name.now ≡ None) }
+{
+    match found_of(name) {
+        Found::Whole(long) => Ok(long),
+        Found::Begun(long) => Ok(long),
+        Found::Several => Err(Wrong::Ambiguous(name)),
+        Found::Unknown => Err(Wrong::UnknownName(name)),
+    }
+}
+
+/// What a name means.
+fn found_of(name: &[u8]) -> Found
+    ensures found { result ≡ found_by name.now }
+{
+    let patterns = or_patterns(Found::Unknown, name);
+    let output = or_output(patterns, name);
+    or_others(output, name)
+}
+
+/// What it means with the options that say what is searched for.
+fn or_patterns(found: Found, name: &[u8]) -> Found
+    ensures found { result ≡ found_among pattern_options name.now found }
+{
+    found
+        .or(name, b"regexp", Long::Takes(Valued::Regexp))
+        .or(name, b"file", Long::Takes(Valued::PatternFile))
+        .or(name, b"ignore-case", Long::Plain(Switch::IgnoreCase))
+        .or(name, b"no-ignore-case", Long::Plain(Switch::MatchCase))
+        .or(name, b"invert-match", Long::Plain(Switch::Invert))
+        .or(name, b"kind", Long::Takes(Valued::Kind))
+        .or(name, b"fixed-strings", Long::Plain(Switch::Same))
+        .or(name, b"text", Long::Plain(Switch::Same))
+        .or(name, b"binary", Long::Plain(Switch::Same))
+}
+
+/// What it means with the options that say what is written.
+fn or_output(found: Found, name: &[u8]) -> Found
+    ensures found { result ≡ found_among output_options name.now found }
+{
+    found
+        .or(name, b"count", Long::Plain(Switch::Counts))
+        .or(name, b"files-with-matches", Long::Plain(Switch::OnlyNames))
+        .or(
+            name,
+            b"files-without-match",
+            Long::Plain(Switch::OnlyLacking),
+        )
+        .or(name, b"null", Long::Plain(Switch::NullNames))
+        .or(name, b"quiet", Long::Plain(Switch::Quiet))
+        .or(name, b"silent", Long::Plain(Switch::Quiet))
+        .or(name, b"only-matching", Long::Plain(Switch::OnlyMatching))
+        .or(name, b"json", Long::Plain(Switch::Json))
+        .or(name, b"line-number", Long::Plain(Switch::Numbers))
+        .or(name, b"byte-offset", Long::Plain(Switch::Offsets))
+        .or(name, b"with-filename", Long::Plain(Switch::WithName))
+        .or(name, b"no-filename", Long::Plain(Switch::NoName))
+}
+
+/// What it means with all other options.
+fn or_others(found: Found, name: &[u8]) -> Found
+    ensures found { result ≡ found_among other_options name.now found }
+{
+    found
+        .or(name, b"color", Long::When)
+        .or(name, b"colour", Long::When)
+        .or(name, b"offset", Long::Takes(Valued::Offset))
+        .or(name, b"first-line", Long::Takes(Valued::FirstLine))
+        .or(name, b"no-match-ok", Long::Plain(Switch::NoMatchOk))
+        .or(name, b"line-buffered", Long::Plain(Switch::Same))
+        .or(name, b"help", Long::Plain(Switch::Help))
+        .or(name, b"version", Long::Plain(Switch::Version))
+}

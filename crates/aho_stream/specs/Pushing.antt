@@ -1,0 +1,51 @@
+-- What the calls on a stream promise whose bytes are pushed.
+use Rattle.std.specs.Prelude.{◌≡◌, ℕ, ◌+◌, ◌≤◌, min, true, List, ◌++◌, Option, None, Some, length}
+use Rattle.aho_core.specs.Answer.{IsAnswer}
+use Rattle.aho_core.specs.Occurrence.{Occurrence}
+use Rattle.aho_core.specs.Patterns.{Patterns}
+use Rattle.aho_automaton.specs.declared.automaton.Automaton.{Ghosts}
+use Rattle.aho_stream.specs.After.{EndsWith, IsAfter, IsUnsettled, search_from}
+use Rattle.aho_stream.specs.Chunks.{NoneSettled}
+use Rattle.aho_stream.specs.Finds.{FindsMatch}
+use Rattle.aho_stream.specs.declared.progress.StreamProgress.{StreamProgress}
+
+-- all that was given was searched through: no match in hand is settled, and the last bytes alone have to be kept
+pub record IsSearched {S : Type 0} (A : Ghosts S) (automaton : S) (s : StreamProgress) : Type 0 where
+  pub walked : s.walked ≡ s.read
+  pub unsettled : IsUnsettled A automaton s
+  pub near : s.read ≤ s.reported + s.buffer.least
+
+-- these bytes were put behind those that are kept, and nothing else moved
+pub record Adds (s s' : StreamProgress) (bytes : List ℕ) : Type 0 where
+  pub others : s' ≡ record s { buffer = s'.buffer; read = s'.read; patience = s'.patience }
+  pub count : s'.read ≡ s.read + length bytes
+  pub limited : s'.read ≤ s.limit
+  pub least : s'.buffer.least ≡ s.buffer.least
+  pub size : s'.buffer.size ≡ s.buffer.size
+  pub last : (given : List ℕ) → EndsWith given s.buffer.bytes → EndsWith (given ++ bytes) s'.buffer.bytes
+  pub kept : length s'.buffer.bytes ≡ min s.buffer.least (length s.buffer.bytes) + length bytes
+
+-- these bytes were given too, and nothing was told
+pub record Pushes {S : Type 0} (A : Ghosts S) (automaton : S) (s s' : StreamProgress) (bytes : List ℕ) : Type 0 where
+  pub is_after : (p : Patterns) (given : List ℕ) → A.is_of automaton p → IsAfter A automaton p 0 s given
+      → IsAfter A automaton p 0 s' (given ++ bytes)
+  pub from : s'.from ≡ s.from
+  pub ended : s'.ended ≡ s.ended
+  pub refused : s'.refused ≡ s.refused
+  pub limit : s'.limit ≡ s.limit
+
+-- no match is settled by the bytes given, and none is left where the stream has ended
+pub record FindsNoneYet (p : Patterns) (s s' : StreamProgress) (given : List ℕ) : Type 0 where
+  pub settled : NoneSettled p given s.from
+  pub none : s'.ended ≡ true → IsAnswer p (search_from s.from given) None
+  pub from : s'.from ≡ s.from
+
+-- what is found next in these bytes, whatever follows
+abbrev pub FindsNow : Patterns → StreamProgress → StreamProgress → List ℕ → Option Occurrence → Type 0
+FindsNow p s s' given None = FindsNoneYet p s s' given
+FindsNow p s s' given (Some m) = FindsMatch p s s' given m
+
+-- so it is for all patterns of the automaton and all bytes that were given
+abbrev pub FindsInGiven : {S : Type 0} → Ghosts S → S → ℕ → StreamProgress → StreamProgress → Option Occurrence → Type 0
+FindsInGiven A automaton lookups s s' found = (p : Patterns) (given : List ℕ) → A.is_of automaton p
+    → IsAfter A automaton p lookups s given → FindsNow p s s' given found
