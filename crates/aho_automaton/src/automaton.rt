@@ -32,7 +32,7 @@ ghost use Rattle.aho_prefilter.specs.declared.prefilter.Searcher.{Searcher};
 ghost use Rattle.aho_automaton.specs.Covering.{GivesFirstRuns, GivesRuns, RefusesCover, cover_refusal};
 ghost use Rattle.aho_automaton.specs.Finding.{GivesFinds, GivesFirstFinds, HoldsOfFinds, span_places};
 ghost use Rattle.aho_automaton.specs.Fused.{IsFused};
-ghost use Rattle.aho_automaton.specs.Overlaps.{FindsNext, FindsNothing, FitsNext, FitsSome, ListsAll, ListsFirst, RefusesFirst};
+ghost use Rattle.aho_automaton.specs.Overlaps.{FindsNext, FindsNothing, FitsNext, FitsSome, ListsAll, ListsFirst, RefusesFirst, left};
 
 mod reference;
 mod with_prefilter;
@@ -41,7 +41,7 @@ pub use crate::cover::CoverIter;
 use crate::cover::cover_bytes;
 pub use crate::find::{find_in, find_in_by};
 pub use crate::iter::FindIter;
-use crate::overlapping::find_overlapping;
+use crate::overlapping::next_match;
 pub use crate::overlapping::{FindOverlappingIter, OverlappingState};
 use crate::replace::{append_piece, append_text, replace_bytes, replace_text};
 pub use crate::walk::{Counted, Walk};
@@ -325,7 +325,7 @@ pub trait Automaton {
     /// calls on this automaton and this input left; calls that were refused in between don't matter. Whether the input
     /// asks for the earliest plays no part.
     ///
-    /// It goes on where the call before stopped, and takes no memory.
+    /// It goes on where the call before stopped, and takes no memory. Each match that it finds leaves fewer to be found.
     ///
     /// # Errors
     ///
@@ -357,8 +357,29 @@ pub trait Automaton {
             state.old state.new result }
         ensures fits { FitsNext (is_of self.now) (valid self.now) (held self.now) input.now
             state.old state.new result }
+        ensures fewer { IfSome state.new.mat (λ _.
+            left (length (lengths self.now)) input.now state.new
+            < left (length (lengths self.now)) input.now state.old) }
     {
-        find_overlapping(self, input, state)
+        state.mat = None;
+        let kind = self.match_kind();
+        if kind != MatchKind::Standard {
+            return Err(MatchError::unsupported_overlapping(kind));
+        }
+        if input.start() > input.end() {
+            return Ok(());
+        }
+        match (state.id, state.next_match_index) {
+            (None, _) => {
+                let sid = self.start_state(input.get_anchored())?;
+                *state = next_match(self, input, sid, input.start(), 0);
+            }
+            (Some(sid), Some(index)) => {
+                *state = next_match(self, input, sid, state.at, index);
+            }
+            (Some(_), None) => {}
+        }
+        Ok(())
     }
 
     /// The matches of an overlapping search, one after another: by end, then start, then number.

@@ -19,20 +19,18 @@
 //!   end of its span, for the laws say of a dead state that the best match stays, and not that none ends later.
 
 ghost use Rattle.std.specs.Iterator.{at_most};
-ghost use Rattle.std.specs.Prelude.{◌≡◌, ◌≢◌, ℕ, [], true, false, ◌+◌, ◌<◌, ◌≤◌, ◌^◌, IsOk, IfErr, IfSome, Ok, Err, None, Some, length, slice_index};
+ghost use Rattle.std.specs.Prelude.{◌≡◌, [], true, false, ◌+◌, ◌<◌, ◌≤◌, ◌^◌, IfSome, Some, length, slice_index};
 ghost use Rattle.aho_core.specs.Impls.{ClonesTheSame};
 ghost use Rattle.aho_core.specs.Laws.{Fits};
-ghost use Rattle.aho_core.specs.Progress.{fresh, without_match};
-ghost use Rattle.aho_core.specs.declared.error.MatchErrorKind.TheVariants.{UnsupportedOverlapping};
+ghost use Rattle.aho_core.specs.Progress.{fresh};
 ghost use Rattle.aho_core.specs.declared.search.Anchored.TheVariants.{No};
 ghost use Rattle.aho_core.specs.declared.search.MatchKind.TheVariants.{Standard};
-ghost use Rattle.aho_automaton.specs.Overlaps.{CanGive, FindsNext, FindsNothing, FitsNext, FitsSome, GivesOverlapping, RefusesFirst, ended, ends_at, left};
+ghost use Rattle.aho_automaton.specs.Overlaps.{CanGive, GivesOverlapping, ended, ends_at, left};
 ghost use Rattle.aho_automaton.specs.Standing.{FindsFrom, FitsAfter, Skips, Stands, StandsPartWay, Walks, left_from_place, left_of};
 
 use crate::automaton::Automaton;
 use crate::patience::{PATIENCE, patience_after};
-use aho_core::error::MatchError;
-use aho_core::search::{Anchored, Input, Match, MatchKind, Span, StateID};
+use aho_core::search::{Anchored, Input, Match, Span, StateID};
 use aho_prefilter::prefilter::Prefilter;
 use std::iter::FusedIterator;
 use std::marker::Model;
@@ -43,10 +41,10 @@ use std::marker::Model;
 /// each call puts the next match into it.
 #[derive(Clone, Drop)]
 pub struct OverlappingState {
-    mat: Option<Match>,
-    id: Option<StateID>,
-    at: usize,
-    next_match_index: Option<usize>,
+    pub(crate) mat: Option<Match>,
+    pub(crate) id: Option<StateID>,
+    pub(crate) at: usize,
+    pub(crate) next_match_index: Option<usize>,
 }
 
 impl Model for OverlappingState {
@@ -269,7 +267,7 @@ fn give<A: Automaton>(automaton: &A, sid: StateID, at: usize, index: usize) -> O
 }
 
 /// The state after the next match from a place on, of whose listed patterns the first `index` were given.
-fn next_match<A: Automaton>(
+pub(crate) fn next_match<A: Automaton>(
     automaton: &A,
     input: &Input<'_>,
     sid: StateID,
@@ -296,60 +294,6 @@ fn next_match<A: Automaton>(
             next_match_index: None,
         },
     }
-}
-
-/// Puts the next match into the state: the body of `Automaton::try_find_overlapping`.
-pub(crate) fn find_overlapping<A: Automaton>(
-    automaton: &A,
-    input: &Input<'_>,
-    state: &mut OverlappingState,
-) -> Result<(), MatchError>
-    requires fits { FitsSome (A.is_of automaton.now) (A.valid automaton.now)
-        (A.held automaton.now) input.now state.old }
-
-    // When it is refused, and what that leaves.
-    ensures unsupported { A.kind automaton.now ≢ Standard
-        → result ≡ Err (UnsupportedOverlapping (A.kind automaton.now)) }
-    ensures error { A.kind automaton.now ≡ Standard
-        → IfErr result (λ reason. A.start automaton.now input.now.anchored ≡ Err reason) }
-    ensures ok { (sid : ℕ) → A.kind automaton.now ≡ Standard
-        → A.start automaton.now input.now.anchored ≡ Ok sid → IsOk result }
-    ensures refused { RefusesFirst (A.kind automaton.now) (A.start automaton.now) input.now
-        state.old result }
-    ensures begun { (sid : ℕ) → A.kind automaton.now ≡ Standard → state.old.id ≡ Some sid
-        → IsOk result }
-    ensures cleared { IfErr result (λ _. state.new ≡ without_match state.old) }
-
-    // What is found.
-    ensures done { A.kind automaton.now ≡ Standard → input.now.end < input.now.start
-        → FindsNothing state.old state.new result }
-    ensures found { FindsNext (A.is_of automaton.now) (A.valid automaton.now)
-        (A.held automaton.now) input.now state.old state.new result }
-    ensures fits { FitsNext (A.is_of automaton.now) (A.valid automaton.now)
-        (A.held automaton.now) input.now state.old state.new result }
-    ensures fewer { IfSome state.new.mat (λ _.
-        left_of A.Automaton automaton.now input.now state.new
-        < left_of A.Automaton automaton.now input.now state.old) }
-{
-    state.mat = None;
-    let kind = automaton.match_kind();
-    if kind != MatchKind::Standard {
-        return Err(MatchError::unsupported_overlapping(kind));
-    }
-    if input.start() > input.end() {
-        return Ok(());
-    }
-    match (state.id, state.next_match_index) {
-        (None, _) => {
-            let sid = automaton.start_state(input.get_anchored())?;
-            *state = next_match(automaton, input, sid, input.start(), 0);
-        }
-        (Some(sid), Some(index)) => {
-            *state = next_match(automaton, input, sid, state.at, index);
-        }
-        (Some(_), None) => {}
-    }
-    Ok(())
 }
 
 /// The matches of an overlapping search, one after another: by end, then start, then number.
@@ -390,7 +334,9 @@ impl<'a, 'h, A: Automaton> Iterator for FindOverlappingIter<'a, 'h, A> {
         at_most (left (length (A.lengths it.automaton.now)) it.input it.state) };
 
     fn next(&mut self) -> Option<Match> {
-        let _found = find_overlapping(self.automaton, &self.input, &mut self.state);
+        let _found = self
+            .automaton
+            .try_find_overlapping(&self.input, &mut self.state);
         self.state.get_match()
     }
 }
