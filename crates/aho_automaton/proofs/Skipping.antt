@@ -1,5 +1,5 @@
 -- What is known of a later part of a span is known of the whole span: what a search keeps that skips.
-use Rattle.std.proofs.Common.{◌≡◌, ℕ, ◌+◌, ◌<◌, ◌≤◌, inl, inr, Bool, true, false, List, length, subst, arith}
+use Rattle.std.proofs.Common.{◌≡◌, ℕ, ◌+◌, ◌≤◌, inl, inr, Bool, true, false, List, length, subst, arith}
 use Rattle.std.specs.Prelude.{Some, None, slice_range}
 use Rattle.std.proofs.lemmas.Bool.{cases_lt}
 use Rattle.aho_core.specs.declared.search.Anchored.{Anchored}

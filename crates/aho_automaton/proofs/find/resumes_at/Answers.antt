@@ -1,4 +1,4 @@
-use Rattle.std.proofs.Common.{◌≡◌, ◌+◌, ◌≤◌, sym, subst, ◌∙◌, arith}
+use Rattle.std.proofs.Common.{◌≡◌, ◌+◌, sym, subst, ◌∙◌, arith}
 use Rattle.aho_prefilter.specs.Candidate.{NoneStartsBefore}
 use Rattle.aho_prefilter.proofs.Skips.{IsCandidate-nothing, IsCandidate-place}
 use Rattle.aho_automaton.proofs.Told.{is_none}
