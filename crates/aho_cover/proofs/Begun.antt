@@ -46,7 +46,7 @@ begun-held G a p haystack sid held = record {
   before_place = omega arith;
   in_span = omega arith;
   from_start = λ e. refl;
-  apart = λ m occurs before. absurd (omega before);
+  apart = λ m occurs before. absurd (omega (arith, before));
   is_state = tt;
   is_held = subst (λ (w : List ℕ). G.held a p No w sid) (sym (no_part haystack 0)) held;
 }
