@@ -1,6 +1,5 @@
 -- A cover of a stream before the first byte.
 use Rattle.std.proofs.Common.{◌≡◌, ℕ, ◌+◌, ◌/◌, ◌≤◌, max, List, [], length, map, refl, sym, ◌∙◌, ap, subst, arith}
-use Rattle.std.specs.Prelude.{slice_range}
 use Rattle.aho_core.specs.Laws.{longest}
 use Rattle.aho_core.specs.Listing.{IsMember}
 use Rattle.aho_core.specs.Occurrence.{Occurrence}
@@ -15,6 +14,7 @@ use Rattle.aho_cover.specs.declared.progress.CoverProgress.{CoverProgress}
 use Rattle.aho_cover.specs.Counting.{no_output}
 use Rattle.aho_cover.specs.Hand.{HasItsFirst, held_runs, room_in}
 use Rattle.aho_cover.specs.Covers.{IsUnbegunCover}
+use Rattle.aho_cover.specs.Walks.{StandsIn}
 use Rattle.aho_cover.specs.Progress.{HasCovered, IsSoundCover, KeepsRoom, unbegun_cover}
 
 none-there : (runs : List Occurrence) (P : Occurrence → Type 0) → runs ≡ [] → (x : Occurrence) → IsMember runs x → P x
@@ -39,8 +39,17 @@ begun-sound buffer hand sid some empty none whole room = record {
   room = room;
 }
 
-pub begun-held : {A : Type 0} (G : Automata A) (a : A) (p : Patterns) (haystack : List ℕ) (sid : ℕ) → G.held a p No [] sid → G.held a p No (slice_range haystack 0 0) sid
-begun-held G a p haystack sid held = subst (λ (w : List ℕ). G.held a p No w sid) (sym (no_part haystack 0)) held
+pub begun-held : {A : Type 0} (G : Automata A) (a : A) (p : Patterns) (haystack : List ℕ) (sid : ℕ) → G.held a p No [] sid → StandsIn G a p haystack sid 0
+begun-held G a p haystack sid held = record {
+  origin = 0;
+  after_start = omega arith;
+  before_place = omega arith;
+  in_span = omega arith;
+  from_start = λ e. refl;
+  apart = λ m occurs before. absurd (omega (arith, before));
+  is_state = tt;
+  is_held = subst (λ (w : List ℕ). G.held a p No w sid) (sym (no_part haystack 0)) held;
+}
 
 pub begun-covered : (p : Patterns) (pieces : List (List ℕ)) (haystack : List ℕ) (buffer : Buffered) (hand : Hand) (sid : ℕ) → buffer.bytes ≡ [] → held_runs hand ≡ [] → buffer.least ≡ max 1 (longest (map length p.words))
     → HasCovered pieces (unbegun_cover buffer hand sid) 0 p haystack no_output

@@ -11,3 +11,5 @@ pub mod Reached
 -- From one read to the next.
 pub mod Going
 pub mod Begun
+-- What is passed over.
+pub mod Passed

@@ -1,8 +1,7 @@
 -- How far the walk over a covered stream has come, with what was written of it.
-use Rattle.std.specs.Prelude.{◌≡◌, ℕ, ◌+◌, ◌-◌, ◌*◌, ◌≤◌, List, slice_range}
+use Rattle.std.specs.Prelude.{◌≡◌, ℕ, ◌+◌, ◌-◌, ◌*◌, ◌≤◌, List}
 use Rattle.aho_core.specs.Laws.{shortest}
 use Rattle.aho_core.specs.Patterns.{Patterns}
-use Rattle.aho_core.specs.declared.search.Anchored.TheVariants.{No}
 use Rattle.aho_core.specs.declared.search.MatchKind.TheVariants.{Standard}
 use Rattle.aho_automaton.specs.declared.automaton.Automaton.{Ghosts as Automata}
 use Rattle.aho_automaton.specs.declared.walk.Counted.{Counted}
@@ -11,17 +10,22 @@ use Rattle.aho_devices.specs.declared.device.Sink.{Ghosts as SinkGhosts}
 use Rattle.aho_cover.specs.Counting.{Output}
 use Rattle.aho_cover.specs.Hand.{held_runs}
 use Rattle.aho_cover.specs.Progress.{BareFrom, HasCovered}
+use Rattle.aho_cover.specs.Walks.{StandsIn}
 use Rattle.aho_cover.specs.Writes.{WritesOn}
 
 -- by an automaton of these patterns the state is held after the bytes that were walked, and so much was covered
 pub record CoversOn {A : Type 0} (G : Automata A) (a : A) (pieces : List (List ℕ)) (s : CoverProgress) (at : ℕ) (p : Patterns) (haystack : List ℕ) (written : Output) : Type 0 where
   pub of : G.is_of a p
-  pub is_held : G.held a p No (slice_range haystack 0 at) s.sid
+  pub is_held : StandsIn G a p haystack s.sid at
   pub covered : HasCovered pieces s at p haystack written
 
 -- a walk from one place to another writes and counts what settles on its way
 abbrev pub WalksAlong : {A W : Type 0} → Automata A → SinkGhosts W → A → List (List ℕ) → W → W → List ℕ → List ℕ → CoverProgress → ℕ → CoverProgress → ℕ → Type 0
 WalksAlong G K a pieces sink sink' counts counts' s at s' at' = WritesOn K sink sink' counts counts' (CoversOn G a pieces s at) (CoversOn G a pieces s' at')
+
+-- what was covered up to one place is covered up to another, and nothing was written in between
+abbrev pub PassesOver : {A : Type 0} → Automata A → A → CoverProgress → ℕ → CoverProgress → ℕ → Type 0
+PassesOver G a s at s' at' = (pieces : List (List ℕ)) (p : Patterns) (haystack : List ℕ) (written : Output) → CoversOn G a pieces s at p haystack written → CoversOn G a pieces s' at' p haystack written
 
 -- the walk may go on, with so many bytes walked
 pub record CanWalk {A : Type 0} (G : Automata A) (walk : Counted A) (pieces : List (List ℕ)) (s : CoverProgress) (at : ℕ) : Type 0 where

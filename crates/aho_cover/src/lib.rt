@@ -5,6 +5,7 @@ mod hand;
 mod output;
 mod progress;
 mod refill;
+mod skip;
 pub mod start;
 mod steps;
 pub mod stream;

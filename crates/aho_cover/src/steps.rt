@@ -7,13 +7,16 @@ ghost use Rattle.aho_cover.specs.Steps.{CanWalk, CoversOn, MayRoll, KeepsBytes, 
 ghost use Rattle.aho_cover.specs.Writes.{TellsWrites, WritesOn};
 
 use crate::progress::CoverProgress;
+use crate::skip::{may_wait, skip};
 use crate::walk::walk_to_match;
 use aho_automaton::automaton::Automaton;
+use aho_automaton::patience::PATIENCE;
 use aho_automaton::walk::Counted;
 use aho_core::error::StreamError;
 use aho_devices::device::Sink;
 
-/// Walks on to the next match that ends, and joins it to the runs in hand. Answers the place behind the bytes that were walked.
+/// Walks on to the next match that ends, and joins it to the runs in hand. Where it may wait, it ends as well in a start. Answers
+/// the place behind the bytes that were walked.
 #[inline(always)]
 fn walk_once<A: Automaton, W: Sink>(
     walk: &mut Counted<'_, A>,
@@ -22,6 +25,7 @@ fn walk_once<A: Automaton, W: Sink>(
     pieces: &[&[u8]],
     counts: &mut [u64],
     at: usize,
+    may_wait: bool,
 ) -> Result<usize, StreamError>
     requires sound { IsSoundCover progress.old at }
     requires further { at < progress.old.read }
@@ -40,7 +44,7 @@ fn walk_once<A: Automaton, W: Sink>(
     ensures tells { TellsWrites W.Sink sink.old sink.new result }
 {
     let bytes = progress.bytes(at, progress.read);
-    let reached = walk_to_match(walk, bytes, at, progress.sid, progress.since);
+    let reached = walk_to_match(walk, bytes, at, progress.sid, progress.since, may_wait);
     progress.sid = reached.sid;
     progress.since = reached.since;
     let next = at + reached.count;
@@ -49,6 +53,39 @@ fn walk_once<A: Automaton, W: Sink>(
     };
     progress.join(sink, &*pieces, counts, m)?;
     Ok(next)
+}
+
+/// Passes over bytes that begin no match, where the state is a start, and walks on as `walk_once`: to the next match, or to a start
+/// from which more bytes may be passed over.
+#[inline(always)]
+fn walk_further<A: Automaton, W: Sink>(
+    walk: &mut Counted<'_, A>,
+    progress: &mut CoverProgress,
+    sink: &mut W,
+    pieces: &[&[u8]],
+    counts: &mut [u64],
+    at: usize,
+    patience: &mut usize,
+) -> Result<usize, StreamError>
+    requires sound { IsSoundCover progress.old at }
+    requires further { at < progress.old.read }
+    requires can { CanWalk A.Automaton walk.old (pieces_of pieces.now) progress.old at }
+    ensures sound { IfOk result (IsSoundCover progress.new) }
+    ensures can { IfOk result (CanWalk A.Automaton walk.new (pieces_of pieces.now) progress.new) }
+    ensures further { IfOk result (λ next. at < next) }
+    ensures bytes { OnOk result (KeepsBytes progress.old progress.new) }
+    ensures same { walk.new.automaton.now ≡ walk.old.automaton.now }
+    ensures writes { IfOk result (WalksAlong A.Automaton W.Sink walk.old.automaton.now (pieces_of pieces.now)
+        sink.old sink.new counts.old counts.new progress.old at progress.new) }
+    ensures begins { OnErr result (WritesOn W.Sink sink.old sink.new counts.old counts.new
+        (CoversOn A.Automaton walk.old.automaton.now (pieces_of pieces.now) progress.old at)
+        (IsBeginning (pieces_of pieces.now))) }
+    ensures room { KeepsRoom progress.old progress.new }
+    ensures tells { TellsWrites W.Sink sink.old sink.new result }
+{
+    let next = skip(walk, progress, patience, at);
+    let waits = may_wait(walk, progress, *patience, next);
+    walk_once(walk, progress, sink, pieces, counts, next, waits)
 }
 
 /// Walks over all that was read and not walked, and writes all that is settled then.
@@ -77,8 +114,9 @@ pub(crate) fn walk_read<A: Automaton, W: Sink>(
     ensures tells { TellsWrites W.Sink sink.old sink.new result }
 {
     let mut at = from;
+    let mut patience = PATIENCE;
     while at < progress.read {
-        at = walk_once(walk, progress, sink, &*pieces, counts, at)?;
+        at = walk_further(walk, progress, sink, &*pieces, counts, at, &mut patience)?;
     }
     progress.write_settled(sink, &*pieces, counts, at)
 }

@@ -2,8 +2,9 @@
 //!
 //! # The walk
 //!
-//! The automaton walks over each byte once, when it was read. The longest match that ends at a byte joins the runs in hand:
-//! all others that end there lie in it, and the runs that it touches become one with it.
+//! The automaton walks over each byte once at most, when it was read. In a start it passes over the bytes in which no match begins
+//! (`skip`), where it has a prefilter for streams. The longest match that ends at a byte joins the runs in hand: all others that end
+//! there lie in it, and the runs that it touches become one with it.
 //!
 //! # What is written when
 //!

@@ -1,7 +1,7 @@
 //! The walk over the bytes of a stream, from one match that is told to the next.
 
 ghost use Rattle.std.specs.Prelude.{◌≡◌, ◌+◌, ◌*◌, ◌<◌, ◌≤◌, ◌^◌, ◌⊎◌, None, length, true, false};
-ghost use Rattle.aho_cover.specs.Walks.{IsHeldAfter, ReachesFrom, told_before};
+ghost use Rattle.aho_cover.specs.Walks.{LiesAheadOfSome, ReachesFrom, told_before};
 
 use aho_automaton::automaton::Automaton;
 use aho_automaton::find::{looks_at, told_at};
@@ -30,7 +30,16 @@ fn start_after<A: Automaton>(walk: &Counted<'_, A>, sid: StateID, at: usize, sin
     if walk.is_start(sid) { at } else { since }
 }
 
+/// Whether a walk that may wait ends in a state that tells no match: the state is a start.
+fn waits_in<A: Automaton>(walk: &Counted<'_, A>, may_wait: bool, sid: StateID) -> bool
+    requires valid { A.valid walk.now.automaton.now sid }
+    ensures starts { result ≡ true → A.starts walk.now.automaton.now sid ≡ true }
+{
+    may_wait && walk.is_start(sid)
+}
+
 /// Walks over bytes until a match ends, from a state that is held after `at` bytes. It tells the longest match that ends there.
+/// Where it may wait, it ends as well in the first special start that it is led to.
 #[inline(always)]
 pub(crate) fn walk_to_match<A: Automaton>(
     walk: &mut Counted<'_, A>,
@@ -38,9 +47,10 @@ pub(crate) fn walk_to_match<A: Automaton>(
     at: usize,
     sid: StateID,
     since: usize,
+    may_wait: bool,
 ) -> Reached
     requires valid { A.valid walk.old.automaton.now sid }
-    requires held { IsHeldAfter A.Automaton walk.old.automaton.now at sid }
+    requires ahead { LiesAheadOfSome A.Automaton walk.old.automaton.now at sid bytes.now }
     requires some { 0 < length bytes.now }
     requires places { at + length bytes.now < 2 ^ 64 }
     requires room { walk.old.work + A.depth walk.old.automaton.now sid
@@ -50,7 +60,6 @@ pub(crate) fn walk_to_match<A: Automaton>(
     ensures valid { A.valid walk.old.automaton.now result.sid }
     ensures within { result.count ≤ length bytes.now }
     ensures some { 0 < result.count }
-    ensures all { result.found ≡ None → result.count ≡ length bytes.now }
     ensures since { result.since ≤ at + told_before result }
     ensures same { walk.new.automaton.now ≡ walk.old.automaton.now }
     ensures cost { walk.new.work + A.depth walk.old.automaton.now result.sid
@@ -61,7 +70,7 @@ pub(crate) fn walk_to_match<A: Automaton>(
     for count in 0..bytes.len() {
         sid = walk.step(Anchored::No, sid, bytes[count]);
         let place = at + count + 1;
-        if looks_at(walk, false, sid) {
+        if looks_at(walk, may_wait, sid) {
             let found = told_at(walk, Anchored::No, sid, 0, place);
             if found.is_some() {
                 return Reached {
@@ -69,6 +78,14 @@ pub(crate) fn walk_to_match<A: Automaton>(
                     sid,
                     since,
                     found,
+                };
+            }
+            if waits_in(walk, may_wait, sid) {
+                return Reached {
+                    count: count + 1,
+                    sid,
+                    since: place,
+                    found: None,
                 };
             }
         }

@@ -5,26 +5,25 @@ use Rattle.aho_core.specs.Laws.{shortest}
 use Rattle.aho_core.specs.Occurrence.{Occurrence}
 use Rattle.aho_core.specs.Patterns.{Patterns}
 use Rattle.aho_core.specs.Replacement.{pieces_of}
-use Rattle.aho_core.specs.declared.search.Anchored.TheVariants.{No}
 use Rattle.aho_core.specs.declared.search.MatchKind.TheVariants.{Standard}
 use Rattle.aho_automaton.proofs.Places.{length_part}
 use Rattle.aho_cover.specs.declared.progress.CoverProgress.{CoverProgress}
 use Rattle.aho_cover.specs.Counting.{Output, put_on}
 use Rattle.aho_cover.specs.Progress.{EndsNext, HasCovered, IsBeginning, IsSoundCover, open_place}
 use Rattle.aho_cover.specs.Steps.{CoversOn}
-use Rattle.aho_cover.specs.Walks.{Reaches, told_before, walked_before}
+use Rattle.aho_cover.specs.Walks.{LiesAhead, Reaches, StandsIn, told_before, walked_before}
 use Rattle.aho_cover.specs.Writes.{WritesOn}
-use Rattle.aho_cover.proofs.Reached.{moved-all, moved-behind, moved-end, moved-found, moved-next, sound-moved, told-counted}
+use Rattle.aho_cover.proofs.Reached.{lies-ahead, moved-all, moved-behind, moved-end, moved-found, moved-next, sound-moved, told-counted}
 use Rattle.aho_cover.proofs.Written.{on_err, writes_nothing, writes_still, writes_with}
 use Rattle.aho_cover.proofs.steps.walk_once.Given.{Over}
 use Rattle.aho_cover.proofs.steps.walk_once.Goals.{After-walk_to_match-reached, In_ok-join}
 use Rattle.aho_cover.proofs.steps.walk_once.Goals as goal
 
-pub walk_to_match-reached-requires-clause-held : goal.walk_to_match-reached-requires-clause-held
-walk_to_match-reached-requires-clause-held g c =
+pub walk_to_match-reached-requires-clause-ahead : goal.walk_to_match-reached-requires-clause-ahead
+walk_to_match-reached-requires-clause-ahead g c =
     let (p, haystack, written, covers) = c.requires.can.stands in
     let has = covers.covered in
-    (p, slice_range haystack 0 c.args.at, covers.of, omega (arith, length_part haystack 0 c.args.at (omega (arith, has.walked_within, has.given.within))), covers.is_held)
+    (p, haystack, lies-ahead g.A.Automaton c.args.walk.now.automaton.now (pieces_of c.args.pieces.now) c.args.progress.now c.args.at c.bytes-bytes.result.now p haystack written covers (c.bytes-bytes.ensures.part haystack has.given) (omega (arith, c.requires.further)))
 
 -- so much was covered before the walk
 abbrev Before : (g : Over) (c : After-walk_to_match-reached g) → Patterns → List ℕ → Output → Type 0
@@ -35,43 +34,38 @@ abbrev reached_by : (g : Over) (c : After-walk_to_match-reached g) → CoverProg
 reached_by g c = record c.args.progress.now { sid = c.walk_to_match-reached.result.sid; since = c.walk_to_match-reached.result.since }
 
 module _ (g : Over) (c : After-walk_to_match-reached g) (p : Patterns) (haystack : List ℕ) (written : Output) (covers : Before g c p haystack written) where
-  -- what the bytes are, how many were walked, and what was reached
-  bytes_are : c.bytes-bytes.result.now ≡ slice_range haystack c.args.at c.args.progress.now.read
-  bytes_are = c.bytes-bytes.ensures.part haystack covers.covered.given
+  -- the bytes lie ahead, and what was reached
+  ahead : LiesAhead g.A.Automaton c.args.walk.now.automaton.now c.args.at c.args.progress.now.sid c.bytes-bytes.result.now p haystack
+  ahead =
+      lies-ahead g.A.Automaton c.args.walk.now.automaton.now (pieces_of c.args.pieces.now) c.args.progress.now c.args.at c.bytes-bytes.result.now p haystack written covers
+      (c.bytes-bytes.ensures.part haystack covers.covered.given) (omega (arith, c.requires.further))
 
   within : c.args.at + c.walk_to_match-reached.result.count ≤ c.args.progress.now.read
-  within = omega (arith, c.walk_to_match-reached.ensures.within, ap length bytes_are, length_part haystack c.args.at c.args.progress.now.read covers.covered.given.within, c.requires.further)
+  within = omega (arith, c.walk_to_match-reached.ensures.within, ap length (c.bytes-bytes.ensures.part haystack covers.covered.given), length_part haystack c.args.at c.args.progress.now.read covers.covered.given.within, c.requires.further)
 
-  reaches : Reaches g.A.Automaton c.args.walk.now.automaton.now p (slice_range haystack 0 c.args.at) c.bytes-bytes.result.now c.args.progress.now.since c.walk_to_match-reached.result
-  reaches =
-      c.walk_to_match-reached.ensures.reaches p (slice_range haystack 0 c.args.at) covers.of
-      (omega (arith, length_part haystack 0 c.args.at (omega (arith, covers.covered.walked_within, covers.covered.given.within)))) covers.is_held
+  reaches : Reaches g.A.Automaton c.args.walk.now.automaton.now p haystack c.args.at c.args.progress.now.since c.walk_to_match-reached.result
+  reaches = c.walk_to_match-reached.ensures.reaches p haystack ahead
 
   to_end : c.walk_to_match-reached.result.found ≡ None → CoversOn g.A.Automaton c.args.walk.now.automaton.now (pieces_of c.args.pieces.now) (reached_by g c) (c.args.at + c.walk_to_match-reached.result.count) p haystack written
   to_end none =
-      moved-all g.A.Automaton c.args.walk.now.automaton.now p c.requires.can.standard (g.met.A.Automaton.laws c.args.walk.now.automaton.now p covers.of) haystack (pieces_of c.args.pieces.now) c.args.progress.now c.args.at written
-      c.bytes-bytes.result.now covers c.walk_to_match-reached.result bytes_are within reaches (told-counted c.walk_to_match-reached.result) none
+      moved-all g.A.Automaton c.args.walk.now.automaton.now p c.requires.can.standard (g.met.A.Automaton.laws c.args.walk.now.automaton.now p covers.of) haystack (pieces_of c.args.pieces.now) c.args.progress.now c.args.at written covers c.walk_to_match-reached.result within reaches (told-counted c.walk_to_match-reached.result) none
 
   module _ (m : Occurrence) (some : c.walk_to_match-reached.result.found ≡ Some m) where
     ends : m.end ≡ c.args.at + c.walk_to_match-reached.result.count
     ends =
-        moved-end g.A.Automaton c.args.walk.now.automaton.now p c.requires.can.standard (g.met.A.Automaton.laws c.args.walk.now.automaton.now p covers.of) haystack (pieces_of c.args.pieces.now) c.args.progress.now c.args.at written
-        c.bytes-bytes.result.now covers c.walk_to_match-reached.result bytes_are within reaches (told-counted c.walk_to_match-reached.result) m some c.requires.can.no_empty c.walk_to_match-reached.ensures.some
+        moved-end g.A.Automaton c.args.walk.now.automaton.now p c.requires.can.standard (g.met.A.Automaton.laws c.args.walk.now.automaton.now p covers.of) haystack (pieces_of c.args.pieces.now) c.args.progress.now c.args.at written covers c.walk_to_match-reached.result within reaches (told-counted c.walk_to_match-reached.result) m some c.requires.can.no_empty c.walk_to_match-reached.ensures.some
 
     full : m.start < m.end
     full =
-        (moved-found g.A.Automaton c.args.walk.now.automaton.now p c.requires.can.standard (g.met.A.Automaton.laws c.args.walk.now.automaton.now p covers.of) haystack (pieces_of c.args.pieces.now) c.args.progress.now c.args.at written
-        c.bytes-bytes.result.now covers c.walk_to_match-reached.result bytes_are within reaches (told-counted c.walk_to_match-reached.result) m some c.requires.can.no_empty c.walk_to_match-reached.ensures.some).1
+        (moved-found g.A.Automaton c.args.walk.now.automaton.now p c.requires.can.standard (g.met.A.Automaton.laws c.args.walk.now.automaton.now p covers.of) haystack (pieces_of c.args.pieces.now) c.args.progress.now c.args.at written covers c.walk_to_match-reached.result within reaches (told-counted c.walk_to_match-reached.result) m some c.requires.can.no_empty c.walk_to_match-reached.ensures.some).1
 
     behind : max c.args.progress.now.copied (open_place (reached_by g c) (m.end - 1)) ≤ m.start
     behind =
-        moved-behind g.A.Automaton c.args.walk.now.automaton.now p c.requires.can.standard (g.met.A.Automaton.laws c.args.walk.now.automaton.now p covers.of) haystack (pieces_of c.args.pieces.now) c.args.progress.now c.args.at written
-        c.bytes-bytes.result.now covers c.walk_to_match-reached.result bytes_are within reaches (told-counted c.walk_to_match-reached.result) m some c.requires.can.no_empty c.walk_to_match-reached.ensures.some
+        moved-behind g.A.Automaton c.args.walk.now.automaton.now p c.requires.can.standard (g.met.A.Automaton.laws c.args.walk.now.automaton.now p covers.of) haystack (pieces_of c.args.pieces.now) c.args.progress.now c.args.at written covers c.walk_to_match-reached.result within reaches (told-counted c.walk_to_match-reached.result) m some c.requires.can.no_empty c.walk_to_match-reached.ensures.some
 
-    next_match : EndsNext (pieces_of c.args.pieces.now) (reached_by g c) m p haystack written × (g.A.Automaton.is_of c.args.walk.now.automaton.now p × g.A.Automaton.held c.args.walk.now.automaton.now p No (slice_range haystack 0 m.end) c.walk_to_match-reached.result.sid)
+    next_match : EndsNext (pieces_of c.args.pieces.now) (reached_by g c) m p haystack written × (g.A.Automaton.is_of c.args.walk.now.automaton.now p × StandsIn g.A.Automaton c.args.walk.now.automaton.now p haystack c.walk_to_match-reached.result.sid m.end)
     next_match =
-        moved-next g.A.Automaton c.args.walk.now.automaton.now p c.requires.can.standard (g.met.A.Automaton.laws c.args.walk.now.automaton.now p covers.of) haystack (pieces_of c.args.pieces.now) c.args.progress.now c.args.at written
-        c.bytes-bytes.result.now covers c.walk_to_match-reached.result bytes_are within reaches (told-counted c.walk_to_match-reached.result) m some c.requires.can.no_empty c.walk_to_match-reached.ensures.some
+        moved-next g.A.Automaton c.args.walk.now.automaton.now p c.requires.can.standard (g.met.A.Automaton.laws c.args.walk.now.automaton.now p covers.of) haystack (pieces_of c.args.pieces.now) c.args.progress.now c.args.at written covers c.walk_to_match-reached.result within reaches (told-counted c.walk_to_match-reached.result) m some c.requires.can.no_empty c.walk_to_match-reached.ensures.some
 
 -- no byte was written
 pub returns-in_default-clause-sound : goal.returns-in_default-clause-sound
@@ -155,10 +149,10 @@ wrote g c =
     (λ p haystack written covers. next_match g d p haystack written covers m c.in-Some.is)
     (λ p haystack written h. record {
       of = h.1.0;
-      is_held = subst (λ (n : ℕ). a.held automaton p No (slice_range haystack 0 n) new.sid) last (subst (λ (sid : ℕ). a.held automaton p No (slice_range haystack 0 m.end) sid) (sym sid) h.1.1);
+      is_held = subst (λ (n : ℕ). StandsIn a automaton p haystack new.sid n) last (subst (λ (sid : ℕ). StandsIn a automaton p haystack sid m.end) (sym sid) h.1.1);
       covered = subst (λ (n : ℕ). HasCovered pieces new n p haystack written) last h.0;
     })
-    (writes_with (λ p haystack. a.is_of automaton p × a.held automaton p No (slice_range haystack 0 m.end) r.sid) c.in_ok-join.ensures.writes)
+    (writes_with (λ p haystack. a.is_of automaton p × StandsIn a automaton p haystack r.sid m.end) c.in_ok-join.ensures.writes)
 
 pub returns-clause-writes : goal.returns-clause-writes
 returns-clause-writes g c = wrote g c

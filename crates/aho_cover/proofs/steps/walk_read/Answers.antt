@@ -1,12 +1,11 @@
 -- One match after another, and then what is settled.
 use Rattle.std.proofs.Common.{◌≡◌, ℕ, ◌+◌, ◌*◌, ◌≤◌, refl, sym, ◌∙◌, ap, subst, arith}
-use Rattle.std.specs.Prelude.{slice_range}
 use Rattle.aho_core.specs.Replacement.{pieces_of}
-use Rattle.aho_core.specs.declared.search.Anchored.TheVariants.{No}
 use Rattle.aho_cover.specs.declared.progress.CoverProgress.{CoverProgress}
 use Rattle.aho_cover.specs.Counting.{put_on}
 use Rattle.aho_cover.specs.Progress.{HasCovered, IsBeginning}
 use Rattle.aho_cover.specs.Steps.{CoversOn}
+use Rattle.aho_cover.specs.Walks.{StandsIn}
 use Rattle.aho_cover.specs.Writes.{WritesOn}
 use Rattle.aho_cover.proofs.Written.{if_both, if_err, on_err, writes_nothing, writes_still, writes_then, writes_with}
 use Rattle.aho_cover.proofs.steps.walk_read.Given.{Over}
@@ -66,10 +65,10 @@ wrote g c others writes =
     (λ p haystack written covers. (covers.covered, (covers.of, covers.is_held)))
     (λ p haystack written h. record {
       of = h.1.0;
-      is_held = subst (λ (n : ℕ). a.held automaton p No (slice_range haystack 0 n) new.sid) place (subst (λ (n : ℕ). a.held automaton p No (slice_range haystack 0 at) n) sid h.1.1);
+      is_held = subst (λ (n : ℕ). StandsIn a automaton p haystack new.sid n) place (subst (λ (n : ℕ). StandsIn a automaton p haystack n at) sid h.1.1);
       covered = subst (λ (n : ℕ). HasCovered pieces new n p haystack written) place h.0;
     })
-    (writes_with (λ p haystack. a.is_of automaton p × a.held automaton p No (slice_range haystack 0 at) s.sid) writes)
+    (writes_with (λ p haystack. a.is_of automaton p × StandsIn a automaton p haystack s.sid at) writes)
 
 pub returns-clause-near : goal.returns-clause-near
 returns-clause-near g c =

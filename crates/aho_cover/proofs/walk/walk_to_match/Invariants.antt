@@ -1,8 +1,7 @@
 -- What the loop keeps.
-use Rattle.std.proofs.Common.{◌≡◌, ◌+◌, ◌*◌, ◌<◌, ◌≤◌, ◌++◌, ℕ, List, [], take, length}
+use Rattle.std.proofs.Common.{◌≡◌, ◌+◌, ◌*◌, ◌<◌, ◌≤◌, ℕ, List, []}
 use Rattle.aho_core.specs.Patterns.{Patterns}
-use Rattle.aho_core.specs.declared.search.Anchored.TheVariants.{No}
-use Rattle.aho_cover.specs.Walks.{NoneReaches}
+use Rattle.aho_cover.specs.Walks.{LiesAhead, NoneReaches, StandsIn}
 use Rattle.aho_cover.proofs.walk.walk_to_match.Given as goal
 
 -- Over the same automaton:
@@ -18,9 +17,9 @@ invariant-loop-count g l =
       valid : g.A.Automaton.valid automaton l.sid;
       paid : l.walk.work + g.A.Automaton.depth automaton l.sid ≤ l.initial.walk.work + g.A.Automaton.depth automaton l.initial.sid + 2 * l.count;
       since : l.since ≤ l.at + l.count;
-      held : (p : Patterns) (word : List ℕ) → g.A.Automaton.is_of automaton p → g.A.Automaton.held automaton p No word l.initial.sid → g.A.Automaton.held automaton p No (word ++ take l.count l.bytes) l.sid;
-      plain : (p : Patterns) (word : List ℕ) → g.A.Automaton.is_of automaton p → g.A.Automaton.held automaton p No word l.initial.sid → (k : ℕ) → 0 < k → k ≤ l.count
-          → (sid : ℕ) × g.A.Automaton.held automaton p No (word ++ take k l.bytes) sid × (g.A.Automaton.list automaton sid ≡ []);
+      held : (p : Patterns) (haystack : List ℕ) → LiesAhead g.A.Automaton automaton l.at l.initial.sid l.bytes p haystack → StandsIn g.A.Automaton automaton p haystack l.sid (l.at + l.count);
+      plain : (p : Patterns) (haystack : List ℕ) → LiesAhead g.A.Automaton automaton l.at l.initial.sid l.bytes p haystack → (k : ℕ) → l.at < k → k ≤ l.at + l.count
+          → (sid : ℕ) × StandsIn g.A.Automaton automaton p haystack sid k × (g.A.Automaton.list automaton sid ≡ []);
       quiet : 0 < l.count → g.A.Automaton.list automaton l.sid ≡ [];
-      clear : (p : Patterns) (word : List ℕ) → g.A.Automaton.is_of automaton p → length word ≡ l.at → g.A.Automaton.held automaton p No word l.initial.sid → (rest : List ℕ) → NoneReaches p (word ++ (l.bytes ++ rest)) l.at l.initial.since → NoneReaches p (word ++ (l.bytes ++ rest)) (l.at + l.count) l.since;
+      clear : (p : Patterns) (haystack : List ℕ) → LiesAhead g.A.Automaton automaton l.at l.initial.sid l.bytes p haystack → NoneReaches p haystack l.at l.initial.since → NoneReaches p haystack (l.at + l.count) l.since;
     }

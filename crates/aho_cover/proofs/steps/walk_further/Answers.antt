@@ -1,0 +1,59 @@
+-- Bytes are passed over, and then the walk goes on.
+use Rattle.std.proofs.Common.{◌≡◌, ℕ, ◌+◌, ◌*◌, ◌<◌, ◌≤◌, List, refl, sym, ◌∙◌, ap, subst, arith}
+use Rattle.std.specs.Prelude.{IfOk, Result, Ok, Err}
+use Rattle.aho_core.specs.Replacement.{pieces_of}
+use Rattle.aho_cover.specs.declared.progress.CoverProgress.{CoverProgress}
+use Rattle.aho_cover.specs.Hand.{room_in}
+use Rattle.aho_cover.specs.Progress.{IsBeginning}
+use Rattle.aho_cover.specs.Steps.{CanWalk, CoversOn}
+use Rattle.aho_cover.proofs.Written.{if_err, if_ok, writes_still}
+use Rattle.aho_cover.proofs.steps.walk_further.Goals as goal
+
+-- what follows for what a call answers
+ok_more : {X E : Type 0} (r : Result X E) (P Q : X → Type 0) → ((x : X) → P x → Q x) → IfOk r P → IfOk r Q
+ok_more (Ok x) P Q f h = f x h
+ok_more (Err e) P Q f h = tt
+
+pub skip-next-requires-clause-can : goal.skip-next-requires-clause-can
+skip-next-requires-clause-can g c = (pieces_of c.args.pieces.now, c.requires.can)
+
+pub walk_once-requires-clause-further : goal.walk_once-requires-clause-further
+walk_once-requires-clause-further g c = omega (arith, c.skip-next.ensures.further, ap (λ (s : CoverProgress). s.read) c.skip-next.ensures.only)
+
+pub walk_once-requires-clause-can : goal.walk_once-requires-clause-can
+walk_once-requires-clause-can g c =
+    let a = g.A.Automaton in
+    let automaton = c.args.walk.now.automaton.now in
+    let can = c.requires.can in
+    let (p, haystack, written, covers) = can.stands in
+    let sid : c.args.progress.now.sid ≡ c.skip-next.new.progress.sid = sym (ap (λ (s : CoverProgress). s.sid) c.skip-next.ensures.only) in
+    record {
+      standard = can.standard;
+      no_empty = can.no_empty;
+      is_state = subst (a.valid automaton) sid can.is_state;
+      cheap = subst (λ (n : ℕ). c.args.walk.now.work + a.depth automaton n ≤ 2 * c.skip-next.result) sid (omega (arith, can.cheap, c.skip-next.ensures.on));
+      stands = (p, haystack, written, c.skip-next.ensures.passes (pieces_of c.args.pieces.now) p haystack written covers);
+    }
+
+pub returns-clause-further : goal.returns-clause-further
+returns-clause-further g c = ok_more c.walk_once.result _ _ (λ next on. omega (arith, on, c.skip-next.ensures.on)) c.walk_once.ensures.further
+
+pub returns-clause-bytes : goal.returns-clause-bytes
+returns-clause-bytes g c =
+    if_ok c.walk_once.result _ _ (λ keeps. record { read = keeps.read ∙ ap (λ (s : CoverProgress). s.read) c.skip-next.ensures.only; buffer = keeps.buffer ∙ ap (λ (s : CoverProgress). s.buffer) c.skip-next.ensures.only }) c.walk_once.ensures.bytes
+
+pub returns-clause-room : goal.returns-clause-room
+returns-clause-room g c =
+    let only = c.skip-next.ensures.only in
+    let keeps = c.walk_once.ensures.room in
+    record { least = keeps.least ∙ ap (λ (s : CoverProgress). s.buffer.least) only; room = keeps.room ∙ ap (λ (s : CoverProgress). room_in s.hand) only }
+
+pub returns-clause-writes : goal.returns-clause-writes
+returns-clause-writes g c =
+    let passes = c.skip-next.ensures.passes (pieces_of c.args.pieces.now) in
+    ok_more c.walk_once.result _ _ (λ next more. writes_still _ _ passes (λ p haystack written covers. covers) more) c.walk_once.ensures.writes
+
+pub returns-clause-begins : goal.returns-clause-begins
+returns-clause-begins g c =
+    let passes = c.skip-next.ensures.passes (pieces_of c.args.pieces.now) in
+    if_err c.walk_once.result _ _ (λ more. writes_still _ _ passes (λ p haystack written begins. begins) more) c.walk_once.ensures.begins
