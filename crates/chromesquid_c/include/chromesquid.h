@@ -135,7 +135,7 @@ uint32_t cs_version(void);
  * it was. */
 uint32_t cs_build(const cs_slice *patterns, size_t patterns_len, const cs_options *options, cs_searcher *out);
 
-/* The same, and where it does not answer CS_DONE, puts into `error` why. */
+/* The same, and where it does not answer CS_DONE, puts into `error` why; else `error` is as it was. */
 uint32_t cs_try_build(const cs_slice *patterns, size_t patterns_len, const cs_options *options, cs_searcher *out, cs_error *error);
 
 /* The text of an error, with no line end and no zero: CS_DONE, the bytes in `room`, and in `len` how many they are; CS_NO_ROOM where
