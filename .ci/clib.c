@@ -45,6 +45,7 @@ static void none(void) {
     HAS(cs_find_all(&it, BYTES("sam"), &m, 1, &count) == CS_NO_SEARCHER);
     HAS(cs_overlapping(&it, BYTES("sam"), &m, 1, &count) == CS_NO_SEARCHER);
     HAS(cs_replace_all(&it, BYTES("sam"), others, 4, &byte, 1, &count) == CS_NO_SEARCHER);
+    HAS(cs_cover_all(&it, BYTES("sam"), others, 4, &byte, 1, &count) == CS_NO_SEARCHER);
     HAS(cs_info(&it, &facts) == CS_NO_SEARCHER);
     HAS(cs_share(&it, &other) == CS_NO_SEARCHER);
     HAS(is(m, 7, 8, 9) && facts.patterns == 1 && facts.memory == 4 && count == 5 && byte == 6);
@@ -80,6 +81,67 @@ static void builds(void) {
     HAS(cs_find_all(&it, BYTES("ab"), all, 3, &count) == CS_DONE && count == 3);
     HAS(is(all[0], 0, 0, 0) && is(all[1], 0, 1, 1) && is(all[2], 0, 2, 2));
     cs_free(&it);
+}
+
+/* What a build's error tells. */
+static bool tells_error(cs_error error, const char *text) {
+    char room[200];
+    size_t len = 0, other = 0;
+    HAS(cs_error_text(&error, (uint8_t *)room, sizeof room, &len) == CS_DONE && len == strlen(text));
+    HAS(len == 0 || (cs_error_text(&error, NULL, 0, &other) == CS_NO_ROOM && other == len));
+    return !memcmp(room, text, len);
+}
+
+static bool is_error(cs_error it, uint32_t status, uint32_t option, size_t pattern, uint64_t requested, uint64_t max) {
+    return it.status == status && it.option == option && it.pattern == pattern && it.requested == requested && it.max == max;
+}
+
+static void errors(void) {
+    cs_searcher it = CS_SEARCHER_INIT;
+    cs_options options = CS_OPTIONS_INIT;
+    cs_error error = { 1, 2, 3, 4, 5 };
+    HAS(CS_OPTIONS_FORM == 2 && cs_try_build(names, 4, &options, &it, &error) == CS_DONE && is_error(error, 1, 2, 3, 4, 5));
+    HAS(cs_is_match(&it, BYTES("sam")) == CS_FOUND && tells_error(error, ""));
+    options.match_kind = 3, options.start_kind = 4, options.automaton = 5;
+    HAS(cs_try_build(names, 4, &options, &it, &error) == CS_NO_OPTION && is_error(error, CS_NO_OPTION, CS_MATCH_KIND, 0, 3, 0));
+    HAS(it.full && tells_error(error, "match kind 3 means nothing"));
+    options.match_kind = CS_STANDARD;
+    HAS(cs_try_build(names, 4, &options, &it, &error) == CS_NO_OPTION && is_error(error, CS_NO_OPTION, CS_START_KIND, 0, 4, 0));
+    HAS(tells_error(error, "start kind 4 means nothing"));
+    options.start_kind = CS_UNANCHORED;
+    HAS(cs_try_build(names, 4, &options, &it, &error) == CS_NO_OPTION && is_error(error, CS_NO_OPTION, CS_AUTOMATON, 0, 5, 0));
+    HAS(cs_build(names, 4, &options, &it) == CS_NO_OPTION && it.full && tells_error(error, "automaton 5 means nothing"));
+    options.automaton = CS_BY_RULE;
+    options.max_len = 6;
+    HAS(cs_try_build(names, 4, &options, &it, &error) == CS_TOO_LONG && is_error(error, CS_TOO_LONG, 0, 0, 7, 6));
+    HAS(it.full && tells_error(error, "pattern 0 with length 7 exceeds the maximum pattern length of 6"));
+    options.max_len = 7;
+    options.max_pattern = 2;
+    HAS(cs_build(names, 4, &options, &it) == CS_TOO_MANY_PATTERNS && cs_build(names, 3, &options, &it) == CS_DONE);
+    HAS(cs_try_build(names, 4, &options, &it, &error) == CS_TOO_MANY_PATTERNS && is_error(error, CS_TOO_MANY_PATTERNS, 0, 3, 3, 2));
+    HAS(tells_error(error, "pattern identifier overflow: failed to create pattern ID from 3, which exceeds the max of 2"));
+    options.max_pattern = SIZE_MAX;
+    options.max_index = 700;
+    HAS(cs_try_build(names, 4, &options, &it, &error) == CS_TOO_MANY_STATES && is_error(error, CS_TOO_MANY_STATES, 0, 0, 701, 700));
+    HAS(tells_error(error, "state identifier overflow: failed to create state ID from 701, which exceeds the max of 700"));
+    HAS(tells_error((cs_error){ CS_NO_MEMORY, 0, 0, 0, 0 }, "out of memory"));
+    cs_free(&it);
+}
+
+/* Each kind of automaton answers the same. */
+static void automata(void) {
+    for (uint32_t automaton = CS_BY_RULE; automaton <= CS_ROWS; automaton++)
+        for (uint32_t start_kind = CS_UNANCHORED; start_kind <= CS_BOTH; start_kind += 2) {
+            cs_searcher it = CS_SEARCHER_INIT;
+            cs_options options = CS_OPTIONS_INIT;
+            cs_match room[ROOM];
+            size_t count;
+            options.automaton = automaton;
+            options.start_kind = start_kind;
+            HAS(cs_build(names, 4, &options, &it) == CS_DONE);
+            HAS(cs_overlapping(&it, BYTES("frodo samwise"), room, ROOM, &count) == CS_DONE && count == 5 && is(room[4], 0, 6, 13));
+            cs_free(&it);
+        }
 }
 
 /* One match, by each match kind. */
@@ -133,6 +195,8 @@ static void searches(void) {
     HAS(cs_find_all(&it, BYTES("sam"), &m, 1, &count) == CS_REFUSED);
     HAS(cs_overlapping(&it, BYTES("sam"), &m, 1, &count) == CS_REFUSED);
     HAS(cs_replace_all(&it, BYTES("sam"), others, 4, &byte, 1, &count) == CS_REFUSED);
+    HAS(cs_cover_all(&it, BYTES("sam"), others, 4, &byte, 1, &count) == CS_REFUSED);
+    HAS(cs_cover_all(&it, BYTES("sam"), others, 3, &byte, 1, &count) == CS_NOT_ONE_EACH);
     HAS(is(m, 7, 8, 9) && count == 5 && byte == 6);
     cs_free(&it);
 }
@@ -176,6 +240,39 @@ static void replaces(void) {
     len = 5;
     HAS(cs_replace_all(&it, BYTES("sam"), others, 3, room, 64, &len) == CS_NOT_ONE_EACH && len == 5);
     HAS(cs_replace_all(&it, BYTES("sam"), NULL, 0, room, 64, &len) == CS_NOT_ONE_EACH && len == 5);
+    cs_free(&it);
+}
+
+/* Runs of bytes that matches hold: overlapping and touching ones, and each refusal. */
+static void covers(void) {
+    uint8_t room[64];
+    size_t len = 0;
+    const cs_slice words[] = { SLICE("amwi"), SLICE("sam"), SLICE("frodo"), SLICE("samw"), SLICE("do") };
+    const cs_slice marks[] = { SLICE("[a]"), SLICE("[s]"), SLICE("[f]"), SLICE("[w]"), SLICE("") };
+    cs_searcher it = CS_SEARCHER_INIT;
+    cs_options options = CS_OPTIONS_INIT;
+    HAS(cs_build(words, 5, &options, &it) == CS_DONE);
+    memset(room, '-', sizeof room);
+    HAS(cs_cover_all(&it, BYTES("frodosamwise, sam, do"), marks, 5, room, 11, &len) == CS_NO_ROOM && len == 12 && room[0] == '-');
+    HAS(cs_cover_all(&it, BYTES("frodosamwise, sam, do"), marks, 5, room, 12, &len) == CS_DONE && len == 12);
+    HAS(!memcmp(room, "[f]se, [s], --", 14));
+    HAS(cs_cover_all(&it, BYTES("a samwise"), marks, 5, room, 64, &len) == CS_DONE && len == 7 && !memcmp(room, "a [w]se", 7));
+    HAS(cs_cover_all(&it, BYTES("dodo"), marks, 5, NULL, 0, &len) == CS_DONE && len == 0);
+    HAS(cs_cover_all(&it, NULL, 0, marks, 5, room, 64, &len) == CS_DONE && len == 0);
+    len = 5;
+    HAS(cs_cover_all(&it, BYTES("sam"), marks, 4, room, 64, &len) == CS_NOT_ONE_EACH && len == 5);
+    cs_free(&it);
+    it = built(CS_LEFTMOST_LONGEST, CS_UNANCHORED);
+    HAS(cs_cover_all(&it, BYTES("sam"), others, 4, room, 64, &len) == CS_REFUSED && len == 5);
+    const cs_slice empty[] = { SLICE("sam"), { NULL, 0 } };
+    options.start_kind = CS_ANCHORED;
+    HAS(cs_build(empty, 2, &options, &it) == CS_DONE);
+    HAS(cs_cover_all(&it, BYTES("sam"), marks, 2, room, 64, &len) == CS_EMPTY_PATTERN && len == 5);
+    options.match_kind = CS_LEFTMOST_FIRST;
+    HAS(cs_build(empty, 2, &options, &it) == CS_DONE);
+    HAS(cs_cover_all(&it, BYTES("sam"), marks, 2, room, 64, &len) == CS_REFUSED && len == 5);
+    HAS(cs_build(NULL, 0, &(cs_options)CS_OPTIONS_INIT, &it) == CS_DONE);
+    HAS(cs_cover_all(&it, BYTES("sam"), NULL, 0, room, 64, &len) == CS_DONE && len == 3 && !memcmp(room, "sam", 3));
     cs_free(&it);
 }
 
@@ -282,14 +379,21 @@ static int refused(void) {
     cs_options options = CS_OPTIONS_INIT;
     uint8_t room[64];
     size_t len;
-    uint32_t status = cs_build(names, 4, &options, &it);
-    HAS(status == CS_DONE ? it.full : status == CS_NO_MEMORY && !it.full);
+    cs_error error = { CS_TOO_LONG, 0, 1, 2, 3 };
+    uint32_t told = cs_error_text(&error, room, 64, &len);
+    HAS(told == CS_DONE ? len == 63 : told == CS_NO_MEMORY);
+    uint32_t status = cs_try_build(names, 4, &options, &it, &error);
+    HAS(status == CS_DONE ? it.full : status == CS_NO_MEMORY && error.status == CS_NO_MEMORY && !it.full);
+    status = told == CS_DONE ? status : told;
     if (status == CS_DONE) {
         status = cs_share(&it, &other);
         HAS(status == CS_DONE ? other.full : status == CS_NO_MEMORY && !other.full);
         uint32_t replaced = cs_replace_all(&it, BYTES("frodo, samwise"), others, 4, room, 64, &len);
         HAS(replaced == CS_DONE || replaced == CS_NO_MEMORY);
         status = status == CS_DONE ? replaced : status;
+        uint32_t covered = cs_cover_all(&it, BYTES("frodo, samwise"), others, 4, room, 64, &len);
+        HAS(covered == CS_DONE || covered == CS_NO_MEMORY);
+        status = status == CS_DONE ? covered : status;
     }
     cs_stream stream = CS_STREAM_INIT;
     if (status == CS_DONE) {
@@ -306,10 +410,13 @@ int main(int count, char **words) {
     if (count > 1 && !strcmp(words[1], "refused")) return refused();
     none();
     builds();
+    errors();
+    automata();
     finds();
     searches();
     lists();
     replaces();
+    covers();
     streams();
     tells();
     shares();

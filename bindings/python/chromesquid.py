@@ -40,7 +40,21 @@ class Match(NamedTuple):
 
 
 class BuildError(ValueError):
-    """The patterns are more, or longer, than there may be."""
+    """The patterns are more, or longer, than there may be. `pattern` is the number of the one that is refused, None where they need too
+    many states; `requested` is what is above its limit, a pattern's number, its length, or an index; `limit` is that limit.
+
+        >>> try: AhoCorasick(["sam", "samwise"], max_len=5)
+        ... except BuildError as error: print(error), (error.pattern, error.requested, error.limit)
+        pattern 1 with length 7 exceeds the maximum pattern length of 5
+        (None, (1, 7, 5))
+    """
+
+    def __init__(self, text: str, pattern: Optional[int], requested: int, limit: int) -> None:
+        super().__init__(text, pattern, requested, limit)
+        self.pattern, self.requested, self.limit = pattern, requested, limit
+
+    def __str__(self) -> str:
+        return str(self.args[0])
 
 
 class SearchError(ValueError):
@@ -57,6 +71,20 @@ class _Options(ctypes.Structure):
         ("start_kind", ctypes.c_uint32),
         ("ignore_case", ctypes.c_bool),
         ("prefilter", ctypes.c_bool),
+        ("automaton", ctypes.c_uint32),
+        ("max_index", ctypes.c_size_t),
+        ("max_pattern", ctypes.c_size_t),
+        ("max_len", ctypes.c_size_t),
+    ]
+
+
+class _Error(ctypes.Structure):
+    _fields_ = [
+        ("status", ctypes.c_uint32),
+        ("option", ctypes.c_uint32),
+        ("pattern", ctypes.c_size_t),
+        ("requested", ctypes.c_uint64),
+        ("max", ctypes.c_uint64),
     ]
 
 
@@ -122,14 +150,15 @@ class _Lent:
 
 
 _DONE, _FOUND, _NO_MEMORY, _NO_ROOM = 0, 1, 5, 11
-_WHY_NOT_BUILT = {7: "the patterns need too many states", 8: "there are too many patterns", 9: "a pattern is too long"}
+_TOO_MANY_STATES, _TOO_MANY_PATTERNS, _TOO_LONG = 7, 8, 9
 _WHY_REFUSED = {
     3: "the searcher was not built for such a search",
     12: "the stream has ended",
     13: "2^63 - 1 bytes were pushed to the stream, and no more may be",
-    14: "a pattern is empty, and streams are not searched for such a one",
+    14: "a pattern is empty, and neither streams nor covers are answered for such a one",
 }
 _KINDS = {"standard": 0, "leftmost-first": 1, "leftmost-longest": 2}
+_AUTOMATA = {None: 0, "noncontiguous": 1, "rows": 2}
 _ENCODING = ("utf-8", "surrogatepass")
 _MATCH = struct.Struct("NNN")
 _KEPT_ROOM = 1 << 16
@@ -158,7 +187,8 @@ _HANDLE, _COUNT = ctypes.POINTER(_Handle), ctypes.POINTER(ctypes.c_size_t)
 _HAYSTACK, _ROOM = (ctypes.c_void_p, ctypes.c_size_t), (ctypes.c_void_p, ctypes.c_size_t)
 _SLICES = (ctypes.POINTER(_Slice), ctypes.c_size_t)
 _version = _function("cs_version", ctypes.c_uint32)
-_build = _function("cs_build", ctypes.c_uint32, *_SLICES, ctypes.POINTER(_Options), _HANDLE)
+_build = _function("cs_try_build", ctypes.c_uint32, *_SLICES, ctypes.POINTER(_Options), _HANDLE, ctypes.POINTER(_Error))
+_error_text = _function("cs_error_text", ctypes.c_uint32, ctypes.POINTER(_Error), *_ROOM, _COUNT)
 _free = _function("cs_free", None, _HANDLE)
 _share = _function("cs_share", ctypes.c_uint32, _HANDLE, _HANDLE)
 _is_match = _function("cs_is_match", ctypes.c_uint32, _HANDLE, *_HAYSTACK)
@@ -166,6 +196,7 @@ _find = _function("cs_find", ctypes.c_uint32, _HANDLE, *_HAYSTACK, ctypes.POINTE
 _find_all = _function("cs_find_all", ctypes.c_uint32, _HANDLE, *_HAYSTACK, *_ROOM, _COUNT)
 _overlapping = _function("cs_overlapping", ctypes.c_uint32, _HANDLE, *_HAYSTACK, *_ROOM, _COUNT)
 _replace_all = _function("cs_replace_all", ctypes.c_uint32, _HANDLE, *_HAYSTACK, *_SLICES, *_ROOM, _COUNT)
+_cover_all = _function("cs_cover_all", ctypes.c_uint32, _HANDLE, *_HAYSTACK, *_SLICES, *_ROOM, _COUNT)
 _info = _function("cs_info", ctypes.c_uint32, _HANDLE, ctypes.POINTER(_Facts))
 _STREAM = ctypes.POINTER(_StreamHandle)
 _stream_new = _function("cs_stream_new", ctypes.c_uint32, _HANDLE, _STREAM)
@@ -207,7 +238,10 @@ class AhoCorasick:
 
     `kind` says which of several matches is found: "standard", the one that ends first; "leftmost-first", of those that start first
     the one whose pattern stands first; "leftmost-longest", of those that start first the longest. With `ignore_case` ASCII
-    letters are the same in both cases. With `prefilter` it may search by a prefilter, on which no answer depends.
+    letters are the same in both cases. With `prefilter` it may search by a prefilter, on which no answer depends. Nor does one depend on the
+    `automaton`: "rows", which is the quickest and is taken where none is named, or "noncontiguous", which is built in less time. The
+    greatest index of a table, number of a pattern and length of a pattern are at most 2^31 - 2, and less where `max_index`,
+    `max_pattern` and `max_len` say so.
 
     A haystack is a str, if the patterns are, or bytes or another buffer, where patterns of type str stand for their UTF-8. A buffer
     must not change while a call runs. Any threads may search by one searcher at the same time. It is pickled as its patterns, and
@@ -223,11 +257,17 @@ class AhoCorasick:
         kind: str = "standard",
         ignore_case: bool = False,
         prefilter: bool = True,
+        automaton: Optional[str] = None,
+        max_index: Optional[int] = None,
+        max_pattern: Optional[int] = None,
+        max_len: Optional[int] = None,
     ) -> None:
         if isinstance(patterns, (str, bytes, bytearray)):
             raise TypeError("the patterns are a list of str or of bytes, and not one of them")
         if kind not in _KINDS:
             raise ValueError(f"there is no kind {kind!r}, but {', '.join(_KINDS)}")
+        if automaton not in _AUTOMATA:
+            raise ValueError(f"there is no automaton {automaton!r}, but noncontiguous and rows")
         given = list(patterns)
         texts = sum(isinstance(it, str) for it in given)
         if texts not in (0, len(given)):
@@ -239,10 +279,12 @@ class AhoCorasick:
         self._handle = _Handle()
         self._begin_process()
         _searchers.add(self)
-        options = _Options(_KINDS[kind], 0, self._ignore_case, self._prefilter)
-        status = _build(_slices(words), len(words), ctypes.byref(options), ctypes.byref(self._handle))
-        if status in _WHY_NOT_BUILT:
-            raise BuildError(_WHY_NOT_BUILT[status])
+        self._rest = automaton, max_index, max_pattern, max_len
+        limits = [_limit(it) for it in self._rest[1:]]
+        options, error = _Options(_KINDS[kind], 0, self._ignore_case, self._prefilter, _AUTOMATA[automaton], *limits), _Error()
+        status = _build(_slices(words), len(words), ctypes.byref(options), ctypes.byref(self._handle), ctypes.byref(error))
+        if status in (_TOO_MANY_STATES, _TOO_MANY_PATTERNS, _TOO_LONG):
+            raise _build_error(error)
         _check(status)
 
     @property
@@ -340,22 +382,38 @@ class AhoCorasick:
         """The haystack with each match replaced by what stands in the place of its pattern: a str for a str, else bytes.
 
         Raises ValueError where there is not one replacement for each pattern."""
+        self._check_pieces(haystack, replace_with)
+        if _is_wide(haystack) and "" in self._patterns:
+            return self._replaced(haystack, replace_with)
+        return self._written(_replace_all, haystack, replace_with)
+
+    def cover_all(self, haystack: Haystack, replace_with: Sequence[Haystack]) -> Union[str, bytes]:
+        """The haystack with each run of what lies in matches replaced, so that nothing of a match is left, whichever overlap or touch: by
+        what stands in the place of the longest pattern that begins where the run does, of equal ones the first.
+
+            >>> AhoCorasick(["ann", "anna", "nan"]).cover_all("annan, ann", ["[1]", "[2]", "[3]"])
+            '[2], [1]'
+
+        Raises ValueError where there is not one replacement for each pattern, and SearchError where the kind is not "standard" or a
+        pattern is empty."""
+        self._check_pieces(haystack, replace_with)
+        if self._kind != "standard":
+            raise SearchError(f"covers are of kind standard, and this searcher is of kind {self._kind}")
+        return self._written(_cover_all, haystack, replace_with)
+
+    def __reduce__(self) -> Tuple[Any, ...]:
+        return _rebuilt, (self._patterns, self._kind, self._ignore_case, self._prefilter, *self._rest)
+
+    def __repr__(self) -> str:
+        return f"<AhoCorasick of {len(self._patterns)} patterns, {self._kind}>"
+
+    def _check_pieces(self, haystack: Haystack, replace_with: Sequence[Haystack]) -> None:
         if isinstance(replace_with, (str, bytes, bytearray)):
             raise TypeError("the replacements are a list of str or of bytes, and not one of them")
         if len(replace_with) != len(self._patterns):
             raise ValueError(f"there are {len(replace_with)} replacements for {len(self._patterns)} patterns")
         if any(isinstance(it, str) != isinstance(haystack, str) for it in replace_with):
             raise TypeError("the replacements are of the type of the haystack")
-        if _is_wide(haystack) and "" in self._patterns:
-            return self._replaced(haystack, replace_with)
-        replaced = self._replaced_bytes(haystack, [_pattern_bytes(it) for it in replace_with])
-        return replaced.decode(*_ENCODING) if isinstance(haystack, str) else replaced
-
-    def __reduce__(self) -> Tuple[Any, ...]:
-        return _rebuilt, (self._patterns, self._kind, self._ignore_case, self._prefilter)
-
-    def __repr__(self) -> str:
-        return f"<AhoCorasick of {len(self._patterns)} patterns, {self._kind}>"
 
     def _begin_process(self) -> None:
         self._lock, self._own = threading.Lock(), threading.local()
@@ -419,17 +477,16 @@ class AhoCorasick:
             copied = it.end
         return "".join([*parts, text[copied:]])
 
-    def _replaced_bytes(self, haystack: Haystack, replace_with: List[bytes]) -> bytes:
-        given, pieces = self._bytes_of(haystack), _slices(replace_with)
+    def _written(self, function: Any, haystack: Haystack, replace_with: Sequence[Haystack]) -> Union[str, bytes]:
+        given, pieces = self._bytes_of(haystack), _slices([_pattern_bytes(it) for it in replace_with])
         reference, wanted = self._reference(), ctypes.c_size_t(len(given))
         while True:
             room = ctypes.create_string_buffer(max(wanted.value, 1))
-            status = _replace_all(
-                reference, given, len(given), pieces, len(pieces), room, len(room), ctypes.byref(wanted)
-            )
+            status = function(reference, given, len(given), pieces, len(pieces), room, len(room), ctypes.byref(wanted))
             if status != _NO_ROOM:
                 _check(status)
-                return room.raw[: wanted.value]
+                written = room.raw[: wanted.value]
+                return written.decode(*_ENCODING) if isinstance(haystack, str) else written
 
 
 def _is_wide(haystack: Haystack) -> bool:
@@ -447,9 +504,31 @@ def _check(status: int, *good: int) -> None:
         raise RuntimeError(f"the library answered {status}")
 
 
-def _rebuilt(patterns: Tuple[Union[str, bytes], ...], kind: str, ignore_case: bool, prefilter: bool) -> AhoCorasick:
+def _limit(limit: Optional[int]) -> int:
+    """A limit as the library takes it."""
+    if limit is not None and limit < 0:
+        raise ValueError(f"a limit is not {limit}")
+    return ctypes.c_size_t(-1).value if limit is None else min(limit, ctypes.c_size_t(-1).value)
+
+
+def _build_error(error: _Error) -> BuildError:
+    room, size = ctypes.create_string_buffer(256), ctypes.c_size_t()
+    _check(_error_text(ctypes.byref(error), room, len(room), ctypes.byref(size)))
+    pattern = None if error.status == _TOO_MANY_STATES else error.pattern
+    return BuildError(room.raw[: size.value].decode(), pattern, error.requested, error.max)
+
+
+def _rebuilt(
+    patterns: Tuple[Union[str, bytes], ...],
+    kind: str,
+    ignore_case: bool,
+    prefilter: bool,
+    automaton: Optional[str] = None,
+    *limits: Optional[int],
+) -> AhoCorasick:
     """What a pickled searcher is read as."""
-    return AhoCorasick(patterns, kind=kind, ignore_case=ignore_case, prefilter=prefilter)
+    named = dict(zip(("max_index", "max_pattern", "max_len"), limits))
+    return AhoCorasick(patterns, kind=kind, ignore_case=ignore_case, prefilter=prefilter, automaton=automaton, **named)
 
 
 class Stream:

@@ -10,7 +10,7 @@ import random
 import threading
 import unittest
 
-from chromesquid import AhoCorasick, Match, SearchError, Stream, version
+from chromesquid import AhoCorasick, BuildError, Match, SearchError, Stream, version
 
 KINDS = ("standard", "leftmost-first", "leftmost-longest")
 
@@ -63,6 +63,19 @@ def replaced(haystack, found, pieces):
         parts += haystack[at : it.start], pieces[it.pattern]
         at = it.end
     return haystack[:0].join([*parts, haystack[at:]])
+
+
+def covered(patterns, haystack, pieces, ignore_case):
+    """The haystack with a piece for each run of what lies in some occurrence."""
+    found = occurrences(patterns, haystack, ignore_case)
+    held = [any(it.start <= at < it.end for it in found) for at in range(len(haystack))]
+    parts = []
+    for at in range(len(haystack)):
+        if not held[at]:
+            parts.append(haystack[at : at + 1])
+        elif at == 0 or not held[at - 1]:
+            parts.append(pieces[min((it for it in found if it.start == at), key=lambda it: (-it.end, it.pattern)).pattern])
+    return haystack[:0].join(parts)
 
 
 def mapped_pages():
@@ -127,6 +140,14 @@ class Rows(unittest.TestCase):
         self.assertEqual(searcher.find_into(b"aaaaa", room), 5)
         self.assertEqual(searcher.find_into(b"aaaaa", array.array("Q")), 5)
 
+    def test_covers(self):
+        searcher = AhoCorasick(["né", "ée", "🦑"])
+        self.assertEqual(searcher.cover_all("x née🦑 é 🦑", ["[1]", "[2]", "[3]"]), "x [1] é [3]")
+        self.assertEqual(searcher.cover_all("x née".encode(), [b"", b"2", b"3"]), b"x ")
+        self.assertEqual(AhoCorasick([b"\xc3", b"ab"]).cover_all("éab".encode(), [b"?", b"!"]), b"?\xa9!")
+        self.assertEqual(AhoCorasick([]).cover_all("a", []), "a")
+        self.assertEqual(AhoCorasick([b"aa"]).cover_all(b"aaa-a" * 1000, [b"long"]), b"long-" + b"long-" * 999 + b"a")
+
     def test_no_patterns(self):
         searcher = AhoCorasick([])
         self.assertFalse(searcher.is_match("a") or searcher.is_match(b"a"))
@@ -139,6 +160,8 @@ class Rows(unittest.TestCase):
             (TypeError, lambda: AhoCorasick(["a", b"b"])),
             (TypeError, lambda: AhoCorasick([1.5])),
             (ValueError, lambda: AhoCorasick(["a"], kind="leftmost")),
+            (ValueError, lambda: AhoCorasick(["a"], automaton="dfa")),
+            (ValueError, lambda: AhoCorasick(["a"], max_len=-1)),
             (TypeError, lambda: searcher.find("a")),
             (TypeError, lambda: searcher.find(3)),
             (SearchError, lambda: searcher.find_overlapping_iter(b"a")),
@@ -149,6 +172,11 @@ class Rows(unittest.TestCase):
             (ValueError, lambda: searcher.replace_all(b"a", [])),
             (TypeError, lambda: searcher.replace_all(b"a", ["b"])),
             (TypeError, lambda: searcher.replace_all(b"a", b"b")),
+            (SearchError, lambda: searcher.cover_all(b"a", [b"b"])),
+            (SearchError, lambda: AhoCorasick([b"a", b""]).cover_all(b"a", [b"b", b"c"])),
+            (ValueError, lambda: AhoCorasick([b"a"]).cover_all(b"a", [])),
+            (TypeError, lambda: AhoCorasick([b"a"]).cover_all(b"a", ["b"])),
+            (TypeError, lambda: AhoCorasick([b"a"]).cover_all("a", ["b"])),
         ):
             self.assertRaises(error, call)
 
@@ -159,6 +187,20 @@ class Rows(unittest.TestCase):
         searcher = AhoCorasick([b"a", b"aa"])
         self.assertEqual(list(searcher.find_iter(b"a" * 5000)), [Match(0, at, at + 1) for at in range(5000)])
         self.assertEqual(len(list(searcher.find_overlapping_iter(b"a" * 5000))), 9999)
+
+    def test_limits_and_errors(self):
+        for limits, told, text in (
+            ({"max_len": 2}, (1, 3, 2), "pattern 1 with length 3 exceeds the maximum pattern length of 2"),
+            ({"max_pattern": 0}, (1, 1, 0), "pattern identifier overflow: failed to create pattern ID from 1, which exceeds the max of 0"),
+            ({"max_index": 100}, (None, 101, 100), "state identifier overflow: failed to create state ID from 101, which exceeds the max of 100"),
+        ):
+            with self.assertRaises(BuildError) as raised:
+                AhoCorasick(["é", "ab\0"], **limits)
+            for error in raised.exception, pickle.loads(pickle.dumps(raised.exception)):
+                self.assertEqual(((error.pattern, error.requested, error.limit), str(error)), (told, text))
+        searcher = AhoCorasick(["a", "bc"], max_len=2, max_pattern=1, max_index=10**30, automaton="noncontiguous")
+        self.assertEqual(pickle.loads(pickle.dumps(searcher)).memory_usage(), searcher.memory_usage())
+        self.assertNotEqual(AhoCorasick(["a", "bc"], automaton="rows").memory_usage(), searcher.memory_usage())
 
     def test_what_is_told(self):
         searcher = AhoCorasick(["b", "a"], kind="leftmost-longest")
@@ -272,7 +314,8 @@ class BesideTheModel(unittest.TestCase):
         if not patterns and not isinstance(haystack, str):
             patterns = [empty]
         with self.subTest(patterns=patterns, haystack=haystack, kind=kind, ignore_case=ignore_case):
-            searcher = AhoCorasick(patterns, kind=kind, ignore_case=ignore_case, prefilter=dice.random() < 0.5)
+            automaton = dice.choice((None, "noncontiguous", "rows"))
+            searcher = AhoCorasick(patterns, kind=kind, ignore_case=ignore_case, prefilter=dice.random() < 0.5, automaton=automaton)
             wanted = finds(patterns, haystack, kind, ignore_case)
             self.assertEqual(list(searcher.find_iter(haystack)), wanted)
             self.assertEqual(searcher.find(haystack), wanted[0] if wanted else None)
@@ -281,6 +324,8 @@ class BesideTheModel(unittest.TestCase):
                 self.assertEqual(list(searcher.find_overlapping_iter(haystack)), occurrences(patterns, haystack, ignore_case))
             pieces = [empty.join(dice.choices(letters, k=dice.randrange(5))) for _ in patterns]
             self.assertEqual(searcher.replace_all(haystack, pieces), replaced(haystack, wanted, pieces))
+            if kind == "standard" and empty not in patterns:
+                self.assertEqual(searcher.cover_all(haystack, pieces), covered(patterns, haystack, pieces, ignore_case))
 
     def test_bytes(self):
         dice = random.Random(1)

@@ -5,24 +5,18 @@ use std::{error::Error, fmt};
 /// Why a searcher was not built.
 #[derive(Clone, Debug, PartialEq, Eq)]
 pub struct BuildError {
-    status: u32,
+    text: String,
 }
 
 impl BuildError {
-    pub(crate) fn of(status: u32) -> BuildError {
-        BuildError { status }
+    pub(crate) fn of(text: String) -> BuildError {
+        BuildError { text }
     }
 }
 
 impl fmt::Display for BuildError {
     fn fmt(&self, to: &mut fmt::Formatter<'_>) -> fmt::Result {
-        match self.status {
-            5 => to.write_str("memory ran out"),
-            7 => to.write_str("the patterns need too many states"),
-            8 => to.write_str("there are too many patterns"),
-            9 => to.write_str("a pattern is too long"),
-            status => write!(to, "the library answered {status}"),
-        }
+        to.write_str(&self.text)
     }
 }
 

@@ -26,6 +26,20 @@ struct CsOptions {
     start_kind: u32,
     ignore_case: bool,
     prefilter: bool,
+    automaton: u32,
+    max_index: usize,
+    max_pattern: usize,
+    max_len: usize,
+}
+
+#[repr(C)]
+#[derive(Clone, Copy, Default)]
+struct CsError {
+    status: u32,
+    option: u32,
+    pattern: usize,
+    requested: u64,
+    max: u64,
 }
 
 #[repr(C)]
@@ -49,7 +63,9 @@ pub(crate) struct Facts {
 #[rustfmt::skip]
 extern "C" {
     fn cs_version() -> u32;
-    fn cs_build(patterns: *const CsSlice, patterns_len: usize, options: *const CsOptions, out: *mut CsSearcher) -> u32;
+    fn cs_try_build(patterns: *const CsSlice, patterns_len: usize, options: *const CsOptions, out: *mut CsSearcher,
+        error: *mut CsError) -> u32;
+    fn cs_error_text(error: *const CsError, room: *mut u8, room_len: usize, len: *mut usize) -> u32;
     fn cs_free(searcher: *mut CsSearcher);
     fn cs_share(searcher: *mut CsSearcher, out: *mut CsSearcher) -> u32;
     fn cs_is_match(searcher: *mut CsSearcher, haystack: *const u8, haystack_len: usize) -> u32;
@@ -86,6 +102,17 @@ fn match_of(found: CsMatch, offset: usize) -> Match {
     Match::new(PatternID::of(found.pattern), offset + found.start..offset + found.end)
 }
 
+/// The text of a build's error.
+fn text_of(error: &CsError) -> String {
+    let (mut room, mut len) = ([0; 256], 0);
+    // SAFETY: the room has as many bytes as is said.
+    match unsafe { cs_error_text(error, room.as_mut_ptr(), room.len(), &mut len) } {
+        DONE => String::from_utf8_lossy(&room[..len]).into_owned(),
+        NO_MEMORY => String::from("out of memory"),
+        status => panic!("the library answered {status} to an error"),
+    }
+}
+
 /// One share of a searcher. Each call has it alone.
 pub(crate) struct Handle(CsSearcher);
 
@@ -104,14 +131,14 @@ impl Handle {
         Handle(CsSearcher { full: false, at: ptr::null_mut() })
     }
 
-    /// A searcher for the patterns, or the status that says why there is none.
+    /// A searcher for the patterns, or the text that says why there is none.
     pub(crate) fn build<B: AsRef<[u8]>>(
         patterns: &[B],
         match_kind: MatchKind,
         start_kind: StartKind,
         ignore_case: bool,
         prefilter: bool,
-    ) -> Result<Handle, u32> {
+    ) -> Result<Handle, String> {
         let patterns = slices(patterns);
         let match_kind = match match_kind {
             MatchKind::Standard => 0,
@@ -123,12 +150,14 @@ impl Handle {
             StartKind::Anchored => 1,
             StartKind::Both => 2,
         };
-        let options = CsOptions { match_kind, start_kind, ignore_case, prefilter };
-        let mut handle = Handle::none();
+        let (automaton, limit) = (0, usize::MAX);
+        let options =
+            CsOptions { match_kind, start_kind, ignore_case, prefilter, automaton, max_index: limit, max_pattern: limit, max_len: limit };
+        let (mut handle, mut error) = (Handle::none(), CsError::default());
         // SAFETY: the slices are lent for the call, which keeps none of them; the handle is one that was started.
-        match unsafe { cs_build(patterns.as_ptr(), patterns.len(), &options, &mut handle.0) } {
+        match unsafe { cs_try_build(patterns.as_ptr(), patterns.len(), &options, &mut handle.0, &mut error) } {
             DONE => Ok(handle),
-            status => Err(status),
+            _ => Err(text_of(&error)),
         }
     }
 
@@ -266,5 +295,23 @@ impl Stream {
     pub(crate) fn end(&mut self) {
         // SAFETY: the handle is one that the library has made.
         unsafe { cs_stream_end(&mut self.0) };
+    }
+}
+
+#[cfg(test)]
+mod tests {
+    use super::*;
+
+    #[test]
+    fn texts_of_errors() {
+        let error = |status| CsError { status, option: 0, pattern: 4, requested: 1 << 31, max: 2147483646 };
+        for (status, text) in [
+            (5, "out of memory"),
+            (7, "state identifier overflow: failed to create state ID from 2147483648, which exceeds the max of 2147483646"),
+            (8, "pattern identifier overflow: failed to create pattern ID from 2147483648, which exceeds the max of 2147483646"),
+            (9, "pattern 4 with length 2147483648 exceeds the maximum pattern length of 2147483646"),
+        ] {
+            assert_eq!(text_of(&error(status)), text);
+        }
     }
 }

@@ -20,6 +20,9 @@ extern "C" {
 /* The version of this header: 102 is 0.1.2. cs_version tells that of the library. */
 #define CS_VERSION 100
 
+/* The form of cs_options: 2 is the one with an automaton and limits. */
+#define CS_OPTIONS_FORM 2
+
 /* What the functions answer. */
 enum {
     CS_DONE = 0,              /* all is done; a search found nothing */
@@ -29,14 +32,14 @@ enum {
     CS_NO_SPAN = 4,           /* the haystack has no such span */
     CS_NO_MEMORY = 5,         /* memory ran out */
     CS_NO_OPTION = 6,         /* a number of the options means nothing */
-    CS_TOO_MANY_STATES = 7,   /* the patterns need more than 2^31 - 1 states or transitions */
-    CS_TOO_MANY_PATTERNS = 8, /* there are more than 2^31 - 1 patterns */
-    CS_TOO_LONG = 9,          /* a pattern has more than 2^31 - 2 bytes */
+    CS_TOO_MANY_STATES = 7,   /* the patterns need more states or transitions than there may be */
+    CS_TOO_MANY_PATTERNS = 8, /* there are more patterns than there may be */
+    CS_TOO_LONG = 9,          /* a pattern has more bytes than it may have */
     CS_NOT_ONE_EACH = 10,     /* there is not one replacement for each pattern */
     CS_NO_ROOM = 11,          /* the room is too small */
     CS_ENDED = 12,            /* the stream has ended */
     CS_TOO_MANY_BYTES = 13,   /* 2^63 - 1 bytes were pushed */
-    CS_EMPTY_PATTERN = 14     /* a pattern is empty: streams are not searched for it */
+    CS_EMPTY_PATTERN = 14     /* a pattern is empty: neither streams nor covers are answered */
 };
 
 /* Which of several matches is found. */
@@ -51,6 +54,20 @@ enum {
     CS_UNANCHORED = 0, /* those that are not anchored: the quickest */
     CS_ANCHORED = 1,   /* anchored ones */
     CS_BOTH = 2
+};
+
+/* Which automaton searches. No answer depends on it. */
+enum {
+    CS_BY_RULE = 0,       /* rows where all searches are unanchored, else the noncontiguous one */
+    CS_NONCONTIGUOUS = 1, /* the one that takes least time to build */
+    CS_ROWS = 2           /* the one that searches quickest. For anchored searches, or where rows do not fit, it is the other */
+};
+
+/* Which option's number means nothing. */
+enum {
+    CS_MATCH_KIND = 1,
+    CS_START_KIND = 2,
+    CS_AUTOMATON = 3
 };
 
 typedef struct cs_searcher {
@@ -78,9 +95,24 @@ typedef struct cs_options {
     uint32_t start_kind; /* CS_UNANCHORED and so on */
     bool ignore_case;    /* whether ASCII letters are the same in both cases */
     bool prefilter;      /* whether it may search by a prefilter; no answer depends on it */
+    uint32_t automaton;  /* CS_BY_RULE and so on */
+    size_t max_index;    /* the greatest index of a state, of a transition and of a listed pattern */
+    size_t max_pattern;  /* the greatest number of a pattern */
+    size_t max_len;      /* the greatest length of a pattern. A limit above 2^31 - 2 counts as that */
 } cs_options;
 
-#define CS_OPTIONS_INIT { CS_STANDARD, CS_UNANCHORED, false, true }
+/* Start each with it: further fields may follow. */
+#define CS_OPTIONS_INIT { CS_STANDARD, CS_UNANCHORED, false, true, CS_BY_RULE, SIZE_MAX, SIZE_MAX, SIZE_MAX }
+
+/* Why a build failed. What nothing is said of here is 0. */
+typedef struct cs_error {
+    uint32_t status;    /* what the build answered */
+    uint32_t option;    /* CS_NO_OPTION: CS_MATCH_KIND and so on */
+    size_t pattern;     /* CS_TOO_MANY_PATTERNS and CS_TOO_LONG: the pattern's number */
+    uint64_t requested; /* CS_NO_OPTION: the number that means nothing. Else what is above the limit: CS_TOO_MANY_STATES an index,
+                         * CS_TOO_MANY_PATTERNS the pattern's number, CS_TOO_LONG its length */
+    uint64_t max;       /* the limit that it is above */
+} cs_error;
 
 typedef struct cs_match {
     size_t pattern; /* its number */
@@ -102,6 +134,14 @@ uint32_t cs_version(void);
  * CS_DONE; CS_NO_OPTION; else CS_NO_MEMORY, CS_TOO_MANY_STATES, CS_TOO_MANY_PATTERNS or CS_TOO_LONG. If not CS_DONE, the handle is as
  * it was. */
 uint32_t cs_build(const cs_slice *patterns, size_t patterns_len, const cs_options *options, cs_searcher *out);
+
+/* The same, and where it does not answer CS_DONE, puts into `error` why; else `error` is as it was. */
+uint32_t cs_try_build(const cs_slice *patterns, size_t patterns_len, const cs_options *options, cs_searcher *out, cs_error *error);
+
+/* The text of an error, with no line end and no zero: CS_DONE, the bytes in `room`, and in `len` how many they are; CS_NO_ROOM where
+ * they are more than `room` holds: `len` is how many. Of what is no error there are none. The text is made in memory of its own first.
+ * Else CS_NO_MEMORY: `len` is as it was. If not CS_DONE, `room` is. */
+uint32_t cs_error_text(const cs_error *error, uint8_t *room, size_t room_len, size_t *len);
 
 /* Lets go what the handle has: it has none then. The searcher's memory is freed with its last handle. */
 void cs_free(cs_searcher *searcher);
@@ -139,6 +179,14 @@ uint32_t cs_overlapping(cs_searcher *searcher, const uint8_t *haystack, size_t h
  * Else CS_NO_SEARCHER; CS_NOT_ONE_EACH; CS_REFUSED as cs_is_match; CS_NO_MEMORY: `len` is as it was. If not CS_DONE, `room` is. */
 uint32_t cs_replace_all(cs_searcher *searcher, const uint8_t *haystack, size_t haystack_len, const cs_slice *replace_with,
                         size_t replace_with_len, uint8_t *room, size_t room_len, size_t *len);
+
+/* The haystack with each run of bytes that lie in matches replaced, so that no byte of a match is left, whichever overlap or touch:
+ * by the bytes for the longest pattern that begins where the run does, of equal ones the first. CS_DONE and CS_NO_ROOM as
+ * cs_replace_all.
+ * Else CS_NO_SEARCHER; CS_NOT_ONE_EACH; CS_REFUSED where the match kind is not CS_STANDARD; CS_EMPTY_PATTERN; CS_REFUSED as
+ * cs_is_match; CS_NO_MEMORY: `len` is as it was. If not CS_DONE, `room` is. */
+uint32_t cs_cover_all(cs_searcher *searcher, const uint8_t *haystack, size_t haystack_len, const cs_slice *replace_with,
+                      size_t replace_with_len, uint8_t *room, size_t room_len, size_t *len);
 
 /* What is known of the searcher: CS_DONE. Else CS_NO_SEARCHER: `out` is as it was. */
 uint32_t cs_info(cs_searcher *searcher, cs_facts *out);

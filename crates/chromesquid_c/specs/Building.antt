@@ -7,9 +7,12 @@ use Rattle.aho_core.specs.declared.search.MatchKind.{MatchKind}
 use Rattle.aho_core.specs.declared.search.MatchKind.TheVariants.{LeftmostFirst, LeftmostLongest, Standard}
 use Rattle.aho_build.specs.Items.{patterns_of}
 use Rattle.aho_build.specs.Settings.{default_settings}
+use Rattle.aho_build.specs.declared.settings.Limits.{Limits}
 use Rattle.aho_build.specs.declared.settings.Settings.{Settings}
-use Rattle.chromesquid.specs.Building.{FailsFor, HasCount, HasLengths, HasMatchKind, HasStartKind}
+use Rattle.chromesquid.specs.Building.{FailsFor, HasCount, HasLengths, HasMatchKind, HasStartKind, SearchesBy, kind_to_make}
 use Rattle.chromesquid.specs.Searcher.{Building, IsBuiltFrom, Searcher}
+use Rattle.chromesquid.specs.declared.kinds.AhoCorasickKind.{AhoCorasickKind}
+use Rattle.chromesquid.specs.declared.kinds.AhoCorasickKind.TheVariants.{Hybrid, NoncontiguousNFA}
 use Rattle.chromesquid.specs.declared.kinds.StartKind.{StartKind}
 use Rattle.chromesquid.specs.declared.kinds.StartKind.TheVariants.{Anchored, Both, Unanchored}
 use Rattle.chromesquid_c.specs.Holding.{HoldsSearcher}
@@ -33,19 +36,32 @@ start_numbered (suc zero) = Some Anchored
 start_numbered (suc (suc zero)) = Some Both
 start_numbered (suc (suc (suc n))) = None
 
--- how a searcher is built for these kinds, if there are both, and for the rest of the options
-abbrev pub building_for : Option MatchKind → Option StartKind → CsOptions → Option Building
-building_for None start options = None
-building_for (Some kind) None options = None
-building_for (Some kind) (Some start) options = Some (record {
-  settings = record default_settings { kind = kind; ignore_case = options.ignore_case; prefilter = options.prefilter };
+-- the kind of automaton of a number, if it means one; none is asked for where the rule takes it
+abbrev pub automaton_numbered : ℕ → Option (Option AhoCorasickKind)
+automaton_numbered zero = Some None
+automaton_numbered (suc zero) = Some (Some NoncontiguousNFA)
+automaton_numbered (suc (suc zero)) = Some (Some Hybrid)
+automaton_numbered (suc (suc (suc n))) = None
+
+-- the limits that the options set
+abbrev pub limits_by : CsOptions → Limits
+limits_by options = record { id = options.max_index; pattern = options.max_pattern; length = options.max_len }
+
+-- how a searcher is built for these kinds, if there are all three, and for the rest of the options
+abbrev pub building_for : Option MatchKind → Option StartKind → Option (Option AhoCorasickKind) → CsOptions → Option Building
+building_for None start automaton options = None
+building_for (Some kind) None automaton options = None
+building_for (Some kind) (Some start) None options = None
+building_for (Some kind) (Some start) (Some automaton) options = Some (record {
+  settings = record default_settings { kind = kind; ignore_case = options.ignore_case; prefilter = options.prefilter; limits = limits_by options };
   start_kind = start;
-  kind = None;
+  kind = automaton;
 })
 
 -- how a searcher is built by the options, if each of their numbers means something
 abbrev pub building_by : CsOptions → Option Building
-building_by options = building_for (kind_numbered options.match_kind) (start_numbered options.start_kind) options
+building_by options =
+    building_for (kind_numbered options.match_kind) (start_numbered options.start_kind) (automaton_numbered options.automaton) options
 
 -- if they mean something, this is so of what they mean
 abbrev pub ForOptions : CsOptions → (Building → Type 0) → Type 0
@@ -60,6 +76,7 @@ pub record IsBuiltBy (building : Building) (items : List (Bor (List ℕ))) (hand
   pub of : IsBuiltFrom searcher (patterns_of building.settings items)
   pub match_kind : HasMatchKind building.settings.kind searcher
   pub start_kind : HasStartKind building.start_kind searcher
+  pub kind : SearchesBy (kind_to_make building) searcher
   pub count : HasCount items searcher
   pub lengths : HasLengths items searcher
 

@@ -1,5 +1,7 @@
 pub mod Building
+pub mod Covering
 pub mod Evidence
+pub mod Failing
 pub mod Holding
 pub mod HoldingStream
 pub mod Lending

@@ -2,7 +2,7 @@
 
 ghost use Rattle.std.specs.Prelude.{◌≡◌, ◌≢◌, IfErr, IfOk, None, OnOk};
 ghost use Rattle.chromesquid.specs.Rules.{Accepts, FailsFor};
-ghost use Rattle.chromesquid_c.specs.Building.{FailsWith, ForOptions, IsBuiltBy, building_by, kind_numbered, start_numbered, build_status};
+ghost use Rattle.chromesquid_c.specs.Building.{FailsWith, ForOptions, IsBuiltBy, automaton_numbered, build_status, building_by, kind_numbered, start_numbered};
 ghost use Rattle.chromesquid_c.specs.Evidence.{IsOfSome};
 ghost use Rattle.chromesquid_c.specs.Holding.{HoldsSearcher, HoldsSame, IfHeld, IsEmpty};
 
@@ -11,12 +11,14 @@ use crate::options::CsOptions;
 use crate::status::{
     DONE, NO_MEMORY, NO_OPTION, NO_SEARCHER, TOO_LONG, TOO_MANY_PATTERNS, TOO_MANY_STATES,
 };
-use chromesquid::{AhoCorasick, AhoCorasickBuilder, BuildError, MatchKind, StartKind};
+use chromesquid::{
+    AhoCorasick, AhoCorasickBuilder, AhoCorasickKind, BuildError, Limits, MatchKind, StartKind,
+};
 use std::alloc::{AllocError, Global};
 use std::sync::Arc;
 
 /// The match kind of this number, if it has one.
-fn match_kind_of(number: u32) -> Option<MatchKind>
+pub(crate) fn match_kind_of(number: u32) -> Option<MatchKind>
     ensures kind { result ≡ kind_numbered number }
 {
     match number {
@@ -28,7 +30,7 @@ fn match_kind_of(number: u32) -> Option<MatchKind>
 }
 
 /// Which searches are answered by this number, if it says so.
-fn start_kind_of(number: u32) -> Option<StartKind>
+pub(crate) fn start_kind_of(number: u32) -> Option<StartKind>
     ensures kind { result ≡ start_numbered number }
 {
     match number {
@@ -39,8 +41,20 @@ fn start_kind_of(number: u32) -> Option<StartKind>
     }
 }
 
+/// The kind of automaton of this number, if it has one; none is named where the rule takes it.
+fn automaton_of(number: u32) -> Option<Option<AhoCorasickKind>>
+    ensures automaton { result ≡ automaton_numbered number }
+{
+    match number {
+        0 => Some(None),
+        1 => Some(Some(AhoCorasickKind::NoncontiguousNFA)),
+        2 => Some(Some(AhoCorasickKind::Hybrid)),
+        _ => None,
+    }
+}
+
 /// The builder that the options ask for, if each of their numbers means something.
-fn builder_of(options: &CsOptions) -> Option<AhoCorasickBuilder>
+pub(crate) fn builder_of(options: &CsOptions) -> Option<AhoCorasickBuilder>
     ensures asked { result ≡ building_by options.now }
 {
     let Some(kind) = match_kind_of(options.match_kind) else {
@@ -49,18 +63,29 @@ fn builder_of(options: &CsOptions) -> Option<AhoCorasickBuilder>
     let Some(start_kind) = start_kind_of(options.start_kind) else {
         return None;
     };
+    let Some(automaton) = automaton_of(options.automaton) else {
+        return None;
+    };
+    let limits = Limits {
+        id: options.max_index,
+        pattern: options.max_pattern,
+        length: options.max_len,
+    };
     Some(
         AhoCorasickBuilder::new()
             .match_kind(kind)
             .start_kind(start_kind)
             .ascii_case_insensitive(options.ignore_case)
-            .prefilter(options.prefilter),
+            .prefilter(options.prefilter)
+            .kind(automaton)
+            .limits(limits),
     )
 }
 
 /// The number that says why a build failed.
-fn build_status(error: &BuildError) -> u32
+pub(crate) fn build_status(error: &BuildError) -> u32
     ensures status { result ≡ build_status error.now }
+    ensures failed { result ≢ DONE }
 {
     match error {
         BuildError::OutOfMemory => NO_MEMORY,
@@ -71,7 +96,7 @@ fn build_status(error: &BuildError) -> u32
 }
 
 /// A handle of a new searcher for the patterns.
-fn handle_for(
+pub(crate) fn handle_for(
     alloc: Global,
     builder: &AhoCorasickBuilder,
     patterns: &[&[u8]],

@@ -2,6 +2,8 @@
 #![tactic(auto)]
 
 pub mod build;
+pub mod cover;
+pub mod error;
 mod handle;
 mod held;
 mod held_stream;
@@ -18,5 +20,5 @@ mod stream_handle;
 pub mod told;
 
 pub use handle::CsSearcher;
-pub use options::{CsFacts, CsMatch, CsOptions};
+pub use options::{CsError, CsFacts, CsMatch, CsOptions};
 pub use stream_handle::CsStream;

@@ -1,5 +1,8 @@
 //! What C passes and gets as a struct.
 
+/// The form of `CsOptions`: 2 is the one with an automaton and limits.
+pub const OPTIONS_FORM: u32 = 2;
+
 /// How a searcher is built. A number that is not named here means nothing.
 #[repr(C)]
 #[derive(Clone, Copy)]
@@ -12,6 +15,31 @@ pub struct CsOptions {
     pub ignore_case: bool,
     /// Whether a prefilter may be held. No answer depends on it.
     pub prefilter: bool,
+    /// Which automaton searches: 0 the one that the rule takes, 1 the noncontiguous one, 2 one of rows. No answer depends on it.
+    pub automaton: u32,
+    /// The greatest index of a state, of a transition and of a listed pattern. Above 2^31 - 2 it counts as that.
+    pub max_index: usize,
+    /// The greatest number of a pattern. Above 2^31 - 2 it counts as that.
+    pub max_pattern: usize,
+    /// The greatest length of a pattern, in bytes. Above 2^31 - 2 it counts as that.
+    pub max_len: usize,
+}
+
+/// Why a build failed: what was answered, and the numbers that say the rest. A number that nothing is said of here is 0.
+#[repr(C)]
+#[derive(Clone, Copy)]
+pub struct CsError {
+    /// What the build answered: 5, 6, 7, 8 or 9.
+    pub status: u32,
+    /// With 6, whose number means nothing: 1 the match kind's, 2 the start kind's, 3 the automaton's.
+    pub option: u32,
+    /// With 8 and 9, the number of the pattern.
+    pub pattern: usize,
+    /// With 6, the number that means nothing. Else the number that is above its limit: with 7 an index of a table, with 8 the
+    /// number of the pattern, with 9 its length.
+    pub requested: u64,
+    /// With 7, 8 and 9, the limit.
+    pub max: u64,
 }
 
 /// A match.

@@ -11,7 +11,7 @@ use chromesquid::{AhoCorasick, ReplaceError};
 use std::alloc::Global;
 
 /// Puts bytes into the room, if they fit, and in `len` how many there are.
-fn put_bytes(bytes: &[u8], room: &mut [u8], len: &mut usize) -> u32
+pub(crate) fn put_bytes(bytes: &[u8], room: &mut [u8], len: &mut usize) -> u32
     ensures len { len.new ≡ length bytes.now }
     ensures put { result ≡ DONE → FitsInto bytes.now room.old room.new }
     ensures no_room { result ≢ DONE → (result ≡ NO_ROOM) × (length room.old < length bytes.now) }

@@ -44,3 +44,12 @@ pub const TOO_MANY_BYTES: u32 = 13;
 
 /// A pattern is empty.
 pub const EMPTY_PATTERN: u32 = 14;
+
+/// The option of the match kind.
+pub const MATCH_KIND: u32 = 1;
+
+/// The option of the start kind.
+pub const START_KIND: u32 = 2;
+
+/// The option of the automaton.
+pub const AUTOMATON: u32 = 3;

@@ -10,6 +10,7 @@ returns-clause-built c =
       of = rw same c.in_ok-searcher.ensures.of;
       match_kind = rw same c.in_ok-searcher.ensures.match_kind;
       start_kind = rw same c.in_ok-searcher.ensures.start_kind;
+      kind = rw same c.in_ok-searcher.ensures.kind;
       count = rw same c.in_ok-searcher.ensures.count;
       lengths = rw same c.in_ok-searcher.ensures.lengths;
     }
