@@ -382,6 +382,8 @@ static int refused(void) {
     cs_error error = { CS_TOO_LONG, 0, 1, 2, 3 };
     uint32_t told = cs_error_text(&error, room, 64, &len);
     HAS(told == CS_DONE ? len == 63 : told == CS_NO_MEMORY);
+    error.status = CS_NO_MEMORY;
+    HAS(cs_error_text(&error, room, 64, &len) == CS_DONE && len == 13);
     uint32_t status = cs_try_build(names, 4, &options, &it, &error);
     HAS(status == CS_DONE ? it.full : status == CS_NO_MEMORY && error.status == CS_NO_MEMORY && !it.full);
     status = told == CS_DONE ? status : told;

@@ -139,7 +139,8 @@ uint32_t cs_build(const cs_slice *patterns, size_t patterns_len, const cs_option
 uint32_t cs_try_build(const cs_slice *patterns, size_t patterns_len, const cs_options *options, cs_searcher *out, cs_error *error);
 
 /* The text of an error, with no line end and no zero: CS_DONE, the bytes in `room`, and in `len` how many they are; CS_NO_ROOM where
- * they are more than `room` holds: `len` is how many. Of what is no error there are none. The text is made in memory of its own first.
+ * they are more than `room` holds: `len` is how many. Of what is no error there are none. The text is made in memory of its own first,
+ * but for that of CS_NO_MEMORY.
  * Else CS_NO_MEMORY: `len` is as it was. If not CS_DONE, `room` is. */
 uint32_t cs_error_text(const cs_error *error, uint8_t *room, size_t room_len, size_t *len);
 

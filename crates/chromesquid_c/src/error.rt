@@ -166,7 +166,8 @@ impl fmt::Display for CsError {
 
 /// Puts the text of an error into `room`, and in `len` how many bytes it has, and answers 0: the one of the build's error, in UTF-8,
 /// without an end of a line and without a zero. Of what is no build's error the text is empty. Where the room is too small it answers
-/// 11: `len` is how many bytes are wanted, and nothing is written. The text is made in memory of its own first.
+/// 11: `len` is how many bytes are wanted, and nothing is written. The text is made in memory of its own
+/// first, but for that of an error which says that memory ran out.
 ///
 /// # Errors
 ///
@@ -184,7 +185,11 @@ pub extern "C" fn cs_error_text(
     ensures kept { result ≢ DONE → room.new ≡ room.old }
     ensures unmeasured { result ≡ NO_MEMORY → len.new ≡ len.old }
     ensures answered { EndsReplacing result }
+    ensures of_memory { error.now.status ≡ NO_MEMORY → result ≢ NO_MEMORY }
 {
+    if error.status == NO_MEMORY {
+        return put_bytes(b"out of memory", room, len);
+    }
     match error.to_string(alloc) {
         Ok(text) => put_bytes(text.as_bytes(), room, len),
         Err(_) => NO_MEMORY,
