@@ -22,6 +22,7 @@ use Rattle.aho_hybrid.specs.contracts.hybrid.HybridAutomaton.TheImpl.{ghosts as 
 use Rattle.aho_hybrid.specs.declared.hybrid.Hybrid.{Hybrid as HybridOf}
 use Rattle.chromesquid.specs.Engine.{HasKind, kind_in, laws_by}
 use Rattle.chromesquid.specs.Searcher.{Answers, IsBuiltFrom, IsBuiltFromSome, RefusesSearch, Searcher, StandsFor, allows, kind_for, lengths_of, match_kind_of, patterns_len_of, why_refused, start_by}
+use Rattle.chromesquid.specs.contracts.automaton.AhoCorasickAutomaton.TheImpl.{ghosts as of_searcher}
 use Rattle.chromesquid.specs.contracts.engine.EngineAutomaton.TheImpl.{ghosts}
 use Rattle.chromesquid.specs.declared.engine.Engine.{Engine}
 use Rattle.chromesquid.specs.declared.engine.Engine.TheVariants.{Noncontiguous, Rows}
@@ -191,4 +192,14 @@ rows_stand hybrid searcher some answers held = record {
   kind = ap ghosts.kind (sym held);
   lengths = ap ghosts.lengths (sym held);
   start = ap (λ (e : Engine). ghosts.start e No) (sym held) ∙ sym (ap (λ (b : Bool). if b then ghosts.start searcher.automaton No else Err (why_refused No)) answers);
+}
+
+-- and so does the searcher itself
+pub stands_itself : (searcher : Searcher) → IsBuiltFromSome searcher → StandsFor of_searcher searcher searcher
+stands_itself searcher some = record {
+  some = some;
+  of = λ p built. built;
+  kind = refl;
+  lengths = refl;
+  start = refl;
 }

@@ -1,15 +1,19 @@
 -- One call of `next` after another gives the finds.
-use Rattle.std.proofs.Common.{◌≡◌, ◌<◌, List, [], ◌∷◌, Option, None, sym, arith, subst, true}
+use Rattle.std.proofs.Common.{◌≡◌, ◌+◌, ◌-◌, ◌<◌, ◌≤◌, ◌∙◌, ℕ, suc, Bool, List, [], ◌∷◌, Option, None, Some, ap, refl, sym, arith, subst, inl, inr, true, false}
+use Rattle.std.specs.Prelude.{IfSome, cond, nat_eq}
 use Rattle.std.specs.Iterator.{Yields}
 use Rattle.std.specs.Iterator.Runs.{Run, YieldsRun}
 use Rattle.std.specs.List.{All}
+use Rattle.std.proofs.lemmas.Bool.{MatchBool-at_false, MatchBool-at_true, and_from, cases_Bool, cases_lt, eq-eqb, eqb-true}
 use Rattle.std.proofs.lemmas.List.Elements.{All-cons, All-nil}
-use Rattle.aho_core.specs.Iteration.{AreFinds, IsNextFind}
+use Rattle.aho_core.specs.Answer.{IsAnswer}
+use Rattle.aho_core.specs.Iteration.{AreFinds, IsNextFind, repeats_end}
 use Rattle.aho_core.specs.Occurrence.{Occurrence}
 use Rattle.aho_core.specs.Patterns.{Patterns}
 use Rattle.aho_core.specs.Search.{Search}
-use Rattle.aho_automaton.specs.Finding.{AreFirstFinds, GivesNext}
+use Rattle.aho_automaton.specs.Finding.{AreFirstFinds, GivesNext, ended_at, from_next_place, last_after, places_left, search_after}
 use Rattle.aho_automaton.specs.Fused.{CallsGive, IsFused}
+use Rattle.aho_automaton.proofs.NextFinds.{find-within}
 use Rattle.chromesquid.specs.Searcher.{IsBuiltFrom}
 use Rattle.chromesquid.specs.declared.iter.FindIter.{FindIter}
 
@@ -57,3 +61,49 @@ done-gives_none (o ∷ given) it last done calls =
 
 pub finds-fused : (it : FindIter) → IsFused find_steps it
 finds-fused it ms after last given yielded calls = done-gives_none given after last (done-after_none yielded.0 after yielded.2) calls
+
+-- an answer stands in what is searched
+answer-within : (p : Patterns) (search : Search) (m : Occurrence) → IsAnswer p search (Some m) → (search.start ≤ m.start) × (m.start ≤ m.end) × (m.end ≤ search.end)
+answer-within p search m answer = find-within p search None m (Some m, answer, refl)
+
+-- a find ends after the last match's end
+find-past : (p : Patterns) (search : Search) (m : Occurrence) → IsNextFind p search (Some search.start) (Some m) → search.start < m.end
+find-past p search m h =
+    let Again = IsAnswer p (from_next_place search) (Some m) in
+    let Same = Some m ≡ h.0 in
+    elim (cases_Bool (repeats_end (Some search.start) h.0)) [
+      | inl repeats ↦
+          (let within = answer-within p (from_next_place search) m (MatchBool-at_true Again Same repeats h.2) in
+          omega (arith, within.0, within.1))
+      | inr differs ↦
+          (let same : Some m ≡ h.0 = MatchBool-at_false Again Same differs h.2 in
+          let within = answer-within p search m (subst (IsAnswer p search) (sym same) h.1) in
+          elim (cases_lt search.start m.end) [
+            | inl past ↦ past
+            | inr upto ↦
+                (let empty : m.start ≡ m.end = omega (arith, within.0, within.1) in
+                let there : m.end ≡ search.start = omega (arith, within.0, within.1) in
+                let repeats : repeats_end (Some search.start) (Some m) ≡ true = and_from (nat_eq m.start m.end) (nat_eq m.end search.start) (eq-eqb m.start m.end empty) (eq-eqb m.end search.start there) in
+                let clash : true ≡ false = sym repeats ∙ (ap (repeats_end (Some search.start)) same ∙ differs) in
+                cc)
+          ])
+    ]
+
+past_last : (p : Patterns) (search : Search) (last : Option ℕ) (m : Occurrence) → IsNextFind p search last (Some m) → ended_at last search.start ≡ true → search.start < m.end
+past_last p search None m h there = cc
+past_last p search (Some place) m h there = find-past p search m (subst (λ (k : ℕ). IsNextFind p search (Some k) (Some m)) (eqb-true place search.start there) h)
+
+-- of numbers: the places from the end of a match on, without that end, are fewer than those before
+fewer_by : (start from to end : ℕ) (here there : Bool) → here ≡ true → (there ≡ true → start < to) → start ≤ from → from ≤ to → to ≤ end
+    → end + 1 - to - cond here 1 0 < end + 1 - start - cond there 1 0
+fewer_by start from to end true true is past begins ordered ends = let less = past refl in omega (arith, less, begins, ordered, ends)
+fewer_by start from to end true false is past begins ordered ends = omega (arith, begins, ordered, ends)
+fewer_by start from to end false there is past begins ordered ends = cc
+
+-- after a find fewer places are left
+pub fewer_after : (p : Patterns) (search : Search) (last : Option ℕ) (found : Option Occurrence) → IsNextFind p search last found
+    → IfSome found (λ m. places_left (search_after search found) (last_after last found) < places_left search last)
+fewer_after p search last None h = tt
+fewer_after p search last (Some m) h =
+    let within = find-within p search last m h in
+    fewer_by search.start m.start m.end search.end (nat_eq m.end m.end) (ended_at last search.start) (eq-eqb m.end m.end refl) (past_last p search last m h) within.0 within.1 within.2

@@ -73,6 +73,28 @@ impl<'a, 'h> FindIter<'a, 'h> {
 
     /// The match that comes next: what the search finds or, where that is an empty match at the last match's end, what the
     /// search from one place on finds. At most the start is moved.
+    fn answer(&mut self) -> Option<Match>
+        requires some { IsBuiltFromSome self.old.searcher.now }
+        requires starts { Answers self.old.searcher.now self.old.input.anchored }
+        ensures next { ForItsPatterns self.old.searcher.now (λ p.
+            IsNextFind p self.old.input self.old.last_match_end result) }
+        ensures within { IfSome result (λ m. m.end ≤ self.old.input.end) }
+        ensures done { self.old.input.end < self.old.input.start → result ≡ None }
+        ensures moved { self.new ≡ record self.old {
+          input = record self.old.input { start = self.new.input.start };
+        } }
+    {
+        let found = self.search();
+        if let (Some(m), Some(last)) = (found, self.last_match_end)
+            && m.is_empty()
+            && m.end() == last
+        {
+            return self.search_further();
+        }
+        found
+    }
+
+    /// The match that comes next, as `answer` tells it. Fewer places are left after it.
     fn next_find(&mut self) -> Option<Match>
         requires some { IsBuiltFromSome self.old.searcher.now }
         requires starts { Answers self.old.searcher.now self.old.input.anchored }
@@ -87,14 +109,7 @@ impl<'a, 'h> FindIter<'a, 'h> {
           input = record self.old.input { start = self.new.input.start };
         } }
     {
-        let found = self.search();
-        if let (Some(m), Some(last)) = (found, self.last_match_end)
-            && m.is_empty()
-            && m.end() == last
-        {
-            return self.search_further();
-        }
-        found
+        self.answer()
     }
 }
 

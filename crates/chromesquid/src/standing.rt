@@ -33,12 +33,11 @@ impl AhoCorasick {
         ensures stands { IfSome result (λ hybrid.
             StandsFor ⟦<Hybrid as Automaton>⟧ hybrid.now self.now) }
     {
-        if !is_allowed(self.start_kind(), Anchored::No) {
-            return None;
-        }
-        match self.built().automaton().rows() {
-            Some(hybrid) => Some(hybrid),
-            None => None,
+        let searcher = self.built();
+        if is_allowed(searcher.start_kind(), Anchored::No) {
+            searcher.automaton().rows()
+        } else {
+            None
         }
     }
 
