@@ -6,6 +6,8 @@ pub mod Built
 pub mod Builds
 -- what a cover of a stream is of, and which searcher covers
 pub mod Covered
+-- the finds that one call after another gives
+pub mod Iterated
 -- where the position limit of a stream was answered
 pub mod PastLimit
 -- what a replacement of a stream is of

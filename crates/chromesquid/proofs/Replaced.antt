@@ -15,7 +15,6 @@ use Rattle.aho_stream.specs.FindRuns.{RunFindsAll, RunFindsFirst, is_limit_among
 use Rattle.aho_stream.specs.Replacing.{BeginsReplacing, ReplacesStream, ReplacesStreamUpTo}
 use Rattle.aho_stream.specs.StreamRun.{RunsOver}
 use Rattle.aho_stream.specs.declared.finds.StreamFindIter.{StreamFindIter}
-use Rattle.chromesquid.specs.Searcher.{IsBuiltFrom, Searcher}
 use Rattle.chromesquid.specs.Streams.{FindsBeginning, FindsWhole, IsReplaced, IsReplacedUpTo, IsReplacementBegun, IsStreamRun}
 
 -- what is true of all patterns of some kind is true of fewer
@@ -66,31 +65,31 @@ module _ {R W : Type 0} (S : SourceGhosts R) (K : SinkGhosts W) (All Fewer : Pat
         );
   }
 
--- the patterns that a searcher was built from are some of them
-built_too : (searcher : Searcher) (p : Patterns) → IsBuiltFrom searcher p → (q : Patterns) → q ≡ p → IsBuiltFrom searcher q
-built_too searcher p built q same = subst (IsBuiltFrom searcher) (sym same) built
+-- of patterns of some kind, as an automaton is of them
+module _ {R W : Type 0} (S : SourceGhosts R) (K : SinkGhosts W) (is_of : Patterns → Type 0) (p : Patterns) (of : is_of p) where
+  among_them : (q : Patterns) → q ≡ p → is_of q
+  among_them q same = subst is_of (sym same) of
 
-module _ {R W : Type 0} (S : SourceGhosts R) (K : SinkGhosts W) (searcher : Searcher) (p : Patterns) (built : IsBuiltFrom searcher p) where
   module _ (pieces : List (List ℕ)) (source source' : R) (sink sink' : W) (r : Result (Unit {0}) StreamError) where
     -- a whole replacement
-    pub replaced_of : OnOk r (ReplacesStream S K (IsBuiltFrom searcher) pieces source source' sink sink') → OnOk r (IsReplaced S K p pieces source source' sink sink')
-    replaced_of = on_ok_weaker r (replaces_of S K (IsBuiltFrom searcher) (λ q. q ≡ p) (built_too searcher p built) pieces source source' sink sink')
+    pub replaced_of : OnOk r (ReplacesStream S K is_of pieces source source' sink sink') → OnOk r (IsReplaced S K p pieces source source' sink sink')
+    replaced_of = on_ok_weaker r (replaces_of S K is_of (λ q. q ≡ p) among_them pieces source source' sink sink')
 
     -- a beginning of one
-    pub begun_of : OnErr r (BeginsReplacing S K (IsBuiltFrom searcher) pieces source source' sink sink') → OnErr r (IsReplacementBegun S K p pieces source source' sink sink')
-    begun_of = on_err_weaker r (begins_of S K (IsBuiltFrom searcher) (λ q. q ≡ p) (built_too searcher p built) pieces source source' sink sink')
+    pub begun_of : OnErr r (BeginsReplacing S K is_of pieces source source' sink sink') → OnErr r (IsReplacementBegun S K p pieces source source' sink sink')
+    begun_of = on_err_weaker r (begins_of S K is_of (λ q. q ≡ p) among_them pieces source source' sink sink')
 
     -- one up to a place
-    pub near_of : IfErr r (λ error. IsFillRefusal error → ReplacesStreamUpTo S K (IsBuiltFrom searcher) pieces source source' sink sink')
+    pub near_of : IfErr r (λ error. IsFillRefusal error → ReplacesStreamUpTo S K is_of pieces source source' sink sink')
         → IfErr r (λ error. IsFillRefusal error → IsReplacedUpTo S K p pieces source source' sink sink')
     near_of =
-        IfErr-weaker r _ _ (λ error so refusal. up_to_of S K (IsBuiltFrom searcher) (λ q. q ≡ p) (built_too searcher p built) pieces source source' sink sink' (so refusal))
+        IfErr-weaker r _ _ (λ error so refusal. up_to_of S K is_of (λ q. q ≡ p) among_them pieces source source' sink sink' (so refusal))
 
   -- a run of a closure
   pub run_of : {F : Type 0} (calls : Mut F (Bor Occurrence × (Bor (List ℕ) × (MutBor W × Unit {0}))) (Result (Unit {0}) StreamError × (MutBor W × Unit {0})))
       (source source' : R) (closure : F) (sink : W) (result : Result (Unit {0}) StreamError) (sink' : W)
-      → RunsOver S K (IsBuiltFrom searcher) calls source source' closure sink result sink' → IsStreamRun S K p calls source source' closure sink result sink'
-  run_of = runs_of S K (IsBuiltFrom searcher) (λ q. q ≡ p) (built_too searcher p built)
+      → RunsOver S K is_of calls source source' closure sink result sink' → IsStreamRun S K p calls source source' closure sink result sink'
+  run_of = runs_of S K is_of (λ q. q ≡ p) among_them
 
 module _ {A R : Type 0} {steps : StreamFindIter A R → Option (Result Occurrence StreamError) → StreamFindIter A R → Type 0} (S : SourceGhosts R) (p : Patterns) (source : R)
     (it : StreamFindIter A R) where

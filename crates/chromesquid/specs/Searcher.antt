@@ -12,6 +12,7 @@ use Rattle.aho_core.specs.declared.error.MatchErrorKind.TheVariants.{InvalidInpu
 use Rattle.aho_core.specs.declared.search.Anchored.{Anchored}
 use Rattle.aho_core.specs.declared.search.Anchored.TheVariants.{No, Yes}
 use Rattle.aho_core.specs.declared.search.MatchKind.{MatchKind}
+use Rattle.aho_automaton.specs.declared.automaton.Automaton.{Ghosts as Automata}
 use Rattle.aho_prefilter.specs.declared.prefilter.Searcher.{Searcher as Prefilter}
 use Rattle.chromesquid.specs.Engine.{kind_in}
 use Rattle.chromesquid.specs.contracts.engine.EngineAutomaton.TheImpl.{ghosts}
@@ -103,6 +104,14 @@ RefusesSearch searcher anchored = allows searcher.start_kind anchored ≡ false
 -- a search of this anchoring begins in the automaton's start, or is refused
 abbrev pub start_by : Searcher → Anchored → Result ℕ MatchErrorKind
 start_by searcher anchored = if allows searcher.start_kind anchored then ghosts.start searcher.automaton anchored else Err (why_refused anchored)
+
+-- an automaton answers searches that are not anchored as the searcher does
+pub record StandsFor {A : Type 0} (G : Automata A) (automaton : A) (searcher : Searcher) : Type 0 where
+  pub some : IsBuiltFromSome searcher
+  pub of : ForItsPatterns searcher (G.is_of automaton)
+  pub kind : G.kind automaton ≡ match_kind_of searcher
+  pub lengths : G.lengths automaton ≡ lengths_of searcher
+  pub start : G.start automaton No ≡ start_by searcher No
 
 -- whether a search finds a match is told so
 pub record TellsIfFound (p : Patterns) (search : Search) (told : Bool) : Type 0 where

@@ -14,9 +14,9 @@ ghost use Rattle.aho_stream.specs.Replacing.{GaveAsMany, IsMakingRefusal};
 ghost use Rattle.chromesquid.specs.Covers.{CanCoverAll, CoversBeginning, CoversBytes, CoversNearly, CoversWhole, why_not_covered};
 
 use crate::searcher::AhoCorasick;
+use crate::standing::cover_stream_by;
 use aho_automaton::automaton::Automaton;
 use aho_core::error::{ReplaceError, StreamError};
-use aho_cover::stream::try_stream_cover_all;
 use aho_devices::device::{Sink, Source};
 use std::alloc::{AllocError, Global};
 
@@ -193,6 +193,9 @@ impl AhoCorasick {
         ensures answered { (reason : MatchErrorKind) → CanCoverAll self.now
             → result ≢ Err (StreamError.Match reason) }
     {
-        try_stream_cover_all(alloc, self.built(), source, sink, replace_with)
+        match self.rows() {
+            Some(rows) => cover_stream_by(alloc, rows, self, source, sink, replace_with),
+            None => cover_stream_by(alloc, self.itself(), self, source, sink, replace_with),
+        }
     }
 }

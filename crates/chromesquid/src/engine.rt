@@ -12,6 +12,7 @@ ghost use Rattle.aho_build.specs.Items.{patterns_of};
 ghost use Rattle.aho_corasick.specs.Clones.{IsCloneOf};
 ghost use Rattle.aho_prefilter.specs.Prefilter.{IsPrefilterOf};
 ghost use Rattle.chromesquid.specs.Engine.{HasKind, HoldsInRows, IsElse, RefusesAs, held_in_rows, kind_in};
+ghost use Rattle.chromesquid.specs.declared.engine.Engine.TheVariants.{Rows};
 ghost use Rattle.chromesquid.specs.declared.kinds.AhoCorasickKind.TheVariants.{Hybrid as OfRows};
 
 use crate::kinds::AhoCorasickKind;
@@ -99,6 +100,16 @@ impl Engine {
         match self {
             Engine::Noncontiguous(_) => AhoCorasickKind::NoncontiguousNFA,
             Engine::Rows(_) => AhoCorasickKind::Hybrid,
+        }
+    }
+
+    /// The rows, where they are what is held.
+    pub(crate) fn rows(&self) -> Option<&Hybrid>
+        ensures held { IfSome result (λ hybrid. self.now ≡ Rows hybrid.now) }
+    {
+        match self {
+            Engine::Noncontiguous(_) => None,
+            Engine::Rows(hybrid) => Some(hybrid),
         }
     }
 

@@ -13,15 +13,13 @@ ghost use Rattle.aho_automaton.specs.Overlaps.{ListsAll, ListsFirst};
 ghost use Rattle.aho_automaton.specs.Reading.{ReadsEachOnce, ReadsUpTo};
 
 use crate::input::Searchable;
+pub use crate::iter::FindIter;
 use crate::kinds::{is_allowed, why_refused};
 use crate::searcher::AhoCorasick;
 use aho_automaton::automaton::Automaton;
 use aho_core::error::MatchError;
 use aho_core::search::{Anchored, Input, Match, Span};
 use aho_prefilter::text::{Bytes, Text};
-
-/// The matches of a search, one after another.
-pub type FindIter<'a, 'h> = aho_automaton::automaton::FindIter<'a, 'h, AhoCorasick>;
 
 /// All matches of a search, those that overlap too, one after another.
 pub type FindOverlappingIter<'a, 'h> = aho_automaton::automaton::FindOverlappingIter<
@@ -39,7 +37,7 @@ impl AhoCorasick {
     /// # Errors
     ///
     /// As those of `try_find`.
-    fn search(&self, input: &Input) -> Result<Option<Match>, MatchError>
+    pub(crate) fn search(&self, input: &Input) -> Result<Option<Match>, MatchError>
         ensures found { ForItsPatterns self.now (λ p. IfOk result (IsAnswer p input.now)) }
         ensures ok { Answers self.now input.now.anchored → IsOk result }
         ensures refused { RefusesUnlessDone self.now input.now result }
@@ -134,10 +132,7 @@ impl AhoCorasick {
             (span_places (I.search input)) }
         ensures fused { IsFused ⟦<FindIter<'a, 'h> as Iterator>⟧.next_gives result }
     {
-        match Automaton::try_find_iter(self.built(), input.into_input()) {
-            Ok(matches) => matches,
-            Err(_) => unreachable!(),
-        }
+        FindIter::new(self.built(), input.into_input())
     }
 
     /// The matches, one after another. It takes no memory, and searches only as matches are asked for.
@@ -164,7 +159,7 @@ impl AhoCorasick {
         let input = input.into_input();
         let anchored = input.get_anchored();
         if is_allowed(self.start_kind(), anchored) {
-            Automaton::try_find_iter(self.built(), input)
+            Ok(FindIter::new(self.built(), input))
         } else {
             Err(why_refused(anchored))
         }

@@ -8,10 +8,12 @@ mod engine;
 pub mod find;
 pub mod impls;
 pub mod input;
+pub mod iter;
 pub mod kinds;
 mod prefilters;
 pub mod replace;
 pub mod searcher;
+mod standing;
 pub mod stream;
 
 pub use aho_automaton::automaton::{Automaton, OverlappingState};

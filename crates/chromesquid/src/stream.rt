@@ -15,11 +15,11 @@ ghost use Rattle.chromesquid.specs.Searcher.{IsBuiltFromSome};
 ghost use Rattle.chromesquid.specs.Streams.{CallsFindAlong, HasBufferFor, ReplacesBeginning, ReplacesNearly, ReplacesWhole, RunsFindBeginning, RunsFindToLimit, RunsFindWhole, RunsStream};
 
 use crate::searcher::AhoCorasick;
+use crate::standing::{replace_stream_by, replace_stream_with_by};
 use aho_automaton::automaton::Automaton;
 use aho_core::error::StreamError;
 use aho_core::search::Match;
 use aho_devices::device::{Sink, Source};
-use aho_stream::replace::{try_stream_replace_all, try_stream_replace_all_with};
 use aho_stream::start::StreamStart;
 use std::alloc::{AllocError, Global};
 
@@ -256,7 +256,10 @@ impl AhoCorasick {
         ensures answered { (reason : MatchErrorKind) → HasNoEmpty self.now → Answers self.now No
             → result ≢ Err (StreamError.Match reason) }
     {
-        try_stream_replace_all(alloc, self.built(), source, sink, replace_with)
+        match self.rows() {
+            Some(rows) => replace_stream_by(alloc, rows, self, source, sink, replace_with),
+            None => replace_stream_by(alloc, self.itself(), self, source, sink, replace_with),
+        }
     }
 
     /// Writes what the source gives to the sink, but in the place of each match calls the closure on the match, its bytes and
@@ -313,6 +316,9 @@ impl AhoCorasick {
             → RefusesUntouched result (StreamError.Match InvalidInputUnanchored)
             source.old source.new sink.old sink.new }
     {
-        try_stream_replace_all_with(alloc, self.built(), source, sink, replace_with)
+        match self.rows() {
+            Some(rows) => replace_stream_with_by(alloc, rows, self, source, sink, replace_with),
+            None => replace_stream_with_by(alloc, self.itself(), self, source, sink, replace_with),
+        }
     }
 }
