@@ -1,9 +1,8 @@
 -- Bytes that are passed over: the state is a start, and nothing that occurs begins there.
-use Rattle.std.proofs.Common.{◌≡◌, ℕ, ◌+◌, ◌-◌, ◌<◌, ◌≤◌, inl, inr, Bool, true, false, List, [], length, map, refl, sym, ◌∙◌, ap, subst, arith}
+use Rattle.std.proofs.Common.{◌≡◌, ℕ, ◌+◌, ◌-◌, ◌<◌, ◌≤◌, inl, inr, Bool, true, false, List, [], length, sym, ◌∙◌, ap, subst, arith}
 use Rattle.std.specs.Prelude.{Option, Some, None, if◌then◌else◌, slice_range}
 use Rattle.std.proofs.lemmas.Bool.{cases_lt}
-use Rattle.aho_core.specs.Laws.{Reads, longest, shortest}
-use Rattle.aho_core.specs.Occurrence.{Occurrence}
+use Rattle.aho_core.specs.Laws.{Reads, shortest}
 use Rattle.aho_core.specs.Occurs.{Occurs}
 use Rattle.aho_core.specs.Overlapping.{occurrences_ending}
 use Rattle.aho_core.specs.Patterns.{Patterns}
@@ -17,7 +16,6 @@ use Rattle.aho_stream.specs.After.{kept_for}
 use Rattle.aho_stream.proofs.PatternLengths.{occurs_short, occurs_some}
 use Rattle.aho_cover.specs.declared.progress.CoverProgress.{CoverProgress}
 use Rattle.aho_cover.specs.Counting.{Output}
-use Rattle.aho_cover.specs.Progress.{HasCovered}
 use Rattle.aho_cover.specs.Steps.{CoversOn}
 use Rattle.aho_cover.specs.Walks.{NoneReaches, StandsIn}
 use Rattle.aho_cover.proofs.Covered.{still-runs}

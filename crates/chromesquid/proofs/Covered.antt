@@ -2,7 +2,7 @@
 use Rattle.std.proofs.Common.{◌≡◌, ℕ, List, ap, sym, subst, ◌∙◌, arith}
 use Rattle.std.proofs.lemmas.Bool.{cond-false, ne_eqb}
 use Rattle.std.proofs.lemmas.Result.{IfErr-weaker, on_err_weaker, on_ok_weaker}
-use Rattle.std.specs.Prelude.{Option, Some, None, Result, Err, IfErr, OnErr, OnOk, nat_eq}
+use Rattle.std.specs.Prelude.{Option, Some, None, Result, IfErr, OnErr, OnOk, nat_eq}
 use Rattle.aho_core.specs.Laws.{shortest}
 use Rattle.aho_core.specs.Patterns.{Patterns}
 use Rattle.aho_core.specs.declared.error.MatchErrorKind.{MatchErrorKind}

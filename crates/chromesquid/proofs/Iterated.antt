@@ -1,5 +1,5 @@
 -- One call of `next` after another gives the finds.
-use Rattle.std.proofs.Common.{◌≡◌, ◌+◌, ◌-◌, ◌<◌, ◌≤◌, ◌∙◌, ℕ, suc, Bool, List, [], ◌∷◌, Option, None, Some, ap, refl, sym, arith, subst, inl, inr, true, false}
+use Rattle.std.proofs.Common.{◌≡◌, ◌+◌, ◌-◌, ◌<◌, ◌≤◌, ◌∙◌, ℕ, Bool, List, [], ◌∷◌, Option, None, Some, ap, refl, sym, arith, subst, inl, inr, true, false}
 use Rattle.std.specs.Prelude.{IfSome, cond, nat_eq}
 use Rattle.std.specs.Iterator.{Yields}
 use Rattle.std.specs.Iterator.Runs.{Run, YieldsRun}

@@ -1,12 +1,10 @@
 -- Nothing begins in the bytes that are passed over.
 use Rattle.std.proofs.Common.{◌≡◌, ℕ, ◌+◌, ◌-◌, ◌≤◌, ◌<◌, List, length, sym, ◌∙◌, ap, subst, arith}
 use Rattle.std.specs.Prelude.{IfSome, Option, slice_range}
-use Rattle.aho_core.specs.Patterns.{Patterns}
 use Rattle.aho_prefilter.specs.Candidate.{NoneStartsBefore}
 use Rattle.aho_prefilter.specs.Prefilter.{IsPrefilterOf}
 use Rattle.aho_prefilter.specs.declared.prefilter.Searcher.{Searcher}
 use Rattle.aho_automaton.proofs.Places.{length_part}
-use Rattle.aho_cover.specs.declared.progress.CoverProgress.{CoverProgress}
 use Rattle.aho_cover.proofs.Passed.{own-held, passed-over}
 use Rattle.aho_cover.proofs.Reached.{sound-moved}
 use Rattle.aho_cover.proofs.skip.skip.Goals as goal

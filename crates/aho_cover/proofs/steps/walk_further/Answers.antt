@@ -1,11 +1,9 @@
 -- Bytes are passed over, and then the walk goes on.
-use Rattle.std.proofs.Common.{◌≡◌, ℕ, ◌+◌, ◌*◌, ◌<◌, ◌≤◌, List, refl, sym, ◌∙◌, ap, subst, arith}
+use Rattle.std.proofs.Common.{◌≡◌, ℕ, ◌+◌, ◌*◌, ◌≤◌, sym, ◌∙◌, ap, subst, arith}
 use Rattle.std.specs.Prelude.{IfOk, Result, Ok, Err}
 use Rattle.aho_core.specs.Replacement.{pieces_of}
 use Rattle.aho_cover.specs.declared.progress.CoverProgress.{CoverProgress}
 use Rattle.aho_cover.specs.Hand.{room_in}
-use Rattle.aho_cover.specs.Progress.{IsBeginning}
-use Rattle.aho_cover.specs.Steps.{CanWalk, CoversOn}
 use Rattle.aho_cover.proofs.Written.{if_err, if_ok, writes_still}
 use Rattle.aho_cover.proofs.steps.walk_further.Goals as goal
 

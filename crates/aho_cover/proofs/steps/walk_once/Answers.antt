@@ -1,6 +1,6 @@
 -- To the next match, or to the end of the bytes.
 use Rattle.std.proofs.Common.{◌≡◌, ℕ, ◌+◌, ◌-◌, ◌*◌, ◌<◌, ◌≤◌, max, List, length, sym, ap, subst, arith}
-use Rattle.std.specs.Prelude.{Option, None, Some, slice_range}
+use Rattle.std.specs.Prelude.{Option, None, Some}
 use Rattle.aho_core.specs.Laws.{shortest}
 use Rattle.aho_core.specs.Occurrence.{Occurrence}
 use Rattle.aho_core.specs.Patterns.{Patterns}

@@ -4,7 +4,7 @@ use Rattle.std.proofs.lemmas.Bool.{cases_lt}
 use Rattle.aho_core.specs.Laws.{Fits, told}
 use Rattle.aho_core.specs.Patterns.{Patterns}
 use Rattle.aho_core.specs.declared.search.Anchored.TheVariants.{No}
-use Rattle.aho_cover.specs.Walks.{LiesAhead, NoneReaches, StandsIn}
+use Rattle.aho_cover.specs.Walks.{LiesAhead, StandsIn}
 use Rattle.aho_cover.proofs.Further.{byte-ahead, clear-start, fits-later, not-some, one-told, stands-fits, stands-further, told-nothing}
 use Rattle.aho_cover.proofs.walk.walk_to_match.Given.{Over}
 use Rattle.aho_cover.proofs.walk.walk_to_match.Goals.{After-step-sid, else-looks_at, then-looks_at+else-is_some+else-waits_in}
