@@ -72,16 +72,17 @@ module _ {A : Type 0} (G : Ghosts A) where
   only_memory automaton Memory can standard is refuses = refl
   only_memory automaton PositionLimit can standard is refuses = absurd is
 
-module _ {R W E : Type 0} {Reads : Readers R} (Writes : Writers W) (K : SinkGhosts E) (work : Work) (some : 1 ≤ shortest (map length work.redactor.patterns.words)) where
+module _ (work : Work) (some : 1 ≤ shortest (map length work.redactor.patterns.words)) where
   cut_none : (names : List (List ℕ)) (left held : Option (List ℕ)) → AreCut work names [] left left held held
   cut_none [] left held = (refl, refl, Keeps-refl held)
   cut_none (name ∷ names) left held = inl (refl, named_none work some name left held)
 
+module _ {R W E : Type 0} {Reads : Readers R} (Writes : Writers W) (K : SinkGhosts E) (work : Work) (some : 1 ≤ shortest (map length work.redactor.patterns.words)) where
   -- there was no memory to begin
   pub files_memory : (streams : Streams R W E Reads) → FilesOutcome Writes K work (Err Memory) streams streams
   files_memory streams = record {
     done = tt;
-    cut = ([], (cut_none work.names _ _, tells_none K streams.errors));
+    cut = ([], (cut_none work some work.names _ _, tells_none K streams.errors));
     quiet = λ (is : Err Memory ≡ Ok true). absurd (cc);
     fails = record { write_failed = refl; took_nothing = refl; only = tt };
   }
