@@ -9,6 +9,8 @@ mod Counted
 -- what comes of files
 mod OneFile
 mod Done
+-- how an automaton redacts streams
+mod Suited
 mod Loaded
 mod Calls
 mod Given

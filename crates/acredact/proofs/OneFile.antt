@@ -220,3 +220,11 @@ module _ {W R : Type 0} (Writes : Writers W) {Reads : Readers R} (work : Work) (
     reason = inr refused;
     fails = record { write_failed = refl; took_nothing = refl; only = tt };
   }
+
+-- nothing was read and written of any
+pub named_none : (work : Work) → 1 ≤ shortest (map length work.redactor.patterns.words) → (name : List ℕ) (left held : Option (List ℕ)) → BeginsNamed work name left left held held
+named_none work some name left held = by_test (is_input name) refl
+  where
+    by_test : (b : Bool) → is_input name ≡ b → BeginsNamed work name left left held held
+    by_test true is = of_input work.holds name (λ l l'. BeginsText work.redactor l l' held held) left left is (begun_none work.redactor some left held)
+    by_test false is = of_folder work.holds name (λ l l'. BeginsText work.redactor l l' held held) left left is refl (work.holds name) (begun_none work.redactor some (work.holds name) held)

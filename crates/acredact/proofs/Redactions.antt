@@ -1,6 +1,6 @@
 -- What a cover or a replacement of a stream writes is a redaction, and what it begins is begun.
 use Rattle.std.proofs.Common.{◌≡◌, ◌≢◌, ℕ, ◌≤◌, ◌++◌, List, [], ◌∷◌, Option, true, false, length, map, take, refl, sym, ap, subst, ◌∙◌, append-nil, le_refl, arith}
-use Rattle.std.specs.Prelude.{Bool, MatchBool, if◌then◌else◌, None, Some, Result, Ok, Err, OnErr, OnOk}
+use Rattle.std.specs.Prelude.{Bool, MatchBool, if◌then◌else◌, None, Some, Result, Ok, Err, IfErr, OnErr, OnOk}
 use Rattle.std.specs.Io.{StartsWith}
 use Rattle.std.proofs.Math.Seq.{take-length}
 use Rattle.std.proofs.lemmas.Bool.{ne_eqb}
@@ -31,11 +31,10 @@ use Rattle.aho_laws.proofs.TextRuns.{runs-made}
 use Rattle.aho_automaton.specs.declared.automaton.Automaton.{Ghosts}
 use Rattle.aho_stream.specs.After.{greatest_position}
 use Rattle.aho_stream.specs.Refills.{is_limit}
-use Rattle.aho_stream.specs.Replacing.{BeginsReplacing, GaveAsMany, MayBe, ReplacesStream, SourceGave}
+use Rattle.aho_stream.specs.Replacing.{BeginsReplacing, GaveAsMany, IsStreamFault, MayBe, ReplacesStream, SourceGave}
 use Rattle.aho_stream.specs.StreamRun.{CanBegin}
 use Rattle.acredact.specs.Faults.{IsStreamEnd}
-use Rattle.aho_automaton.specs.Covering.{cover_refusal}
-use Rattle.aho_cover.specs.Covers.{BeginsCovering, CoversStream, LeavesCovered, RefusesStreamCover}
+use Rattle.aho_cover.specs.Covers.{BeginsCovering, CoversStream, LeavesCovered}
 use Rattle.acredact.specs.Secrets.{AreReplaced, BeginsRedaction, IsRedaction, NoByteIsKept, NoneIsWhole, Redactor}
 use Rattle.acredact.specs.Streams.{RedactsStream, StartsStream, StreamOutcome}
 use Rattle.acredact.proofs.Covered.{none_left}
@@ -178,6 +177,15 @@ module _ {A R W : Type 0} (G : Ghosts A) (S : SourceGhosts R) (K : SinkGhosts W)
     only = never_refused (Err error) error refl suits;
   }
 
+-- what ends a stream that was begun
+fault_ends : (error : StreamError) → IsStreamFault error → IsStreamEnd error
+fault_ends (Refused cause) is = absurd is
+fault_ends (Read fault) is = tt
+fault_ends (Write fault) is = tt
+fault_ends WriteZero is = tt
+fault_ends Memory is = tt
+fault_ends PositionLimit is = tt
+
 -- the same of a cover
 module _ {A R W : Type 0} (G : Ghosts A) (S : SourceGhosts R) (K : SinkGhosts W) (automaton : A) (r : Redactor) (covers : r.covers ≡ true) (of : G.is_of automaton r.patterns)
     (are : G.lengths automaton ≡ map length r.patterns.words) (can : CanBegin G automaton) (standard : G.kind automaton ≡ Standard) (source source' : R) (sink sink' : W) where
@@ -206,27 +214,11 @@ module _ {A R W : Type 0} (G : Ghosts A) (S : SourceGhosts R) (K : SinkGhosts W)
     written = begun.writes;
   }
 
-  -- by a standard automaton without empty patterns none is refused
-  suits_cover : cover_refusal (G.kind automaton) (G.lengths automaton) (G.start automaton No) ≡ None
-  suits_cover =
-      subst (λ (k : MatchKind). cover_refusal k (G.lengths automaton) (G.start automaton No) ≡ None) (sym standard)
-      (subst (λ (s : Result ℕ MatchErrorKind). cover_refusal Standard (G.lengths automaton) s ≡ None) (sym can.2)
-      (ap (λ (b : Bool). if b then Some UnsupportedEmpty else None) (ne_eqb (shortest (G.lengths automaton)) 0 (λ (none : shortest (G.lengths automaton) ≡ 0). omega (arith, none, can.1)))))
-
-  never_refused_cover : (result : Result (Unit {0}) StreamError) (error : StreamError) → result ≡ Err error
-      → RefusesStreamCover (cover_refusal (G.kind automaton) (G.lengths automaton) (G.start automaton No)) result → IsStreamEnd error
-  never_refused_cover result (Refused reason) is refuses = let clash : None ≡ Some reason = sym suits_cover ∙ refuses.only reason is in absurd (cc)
-  never_refused_cover result (Read fault) is refuses = tt
-  never_refused_cover result (Write fault) is refuses = tt
-  never_refused_cover result WriteZero is refuses = tt
-  never_refused_cover result Memory is refuses = tt
-  never_refused_cover result PositionLimit is refuses = tt
-
   pub outcome_of_cover : (result : Result (Unit {0}) StreamError) → LeavesCovered S K (G.is_of automaton) r.pieces source source' sink sink' result
       → CountsErrors S K source source' sink sink' result
-      → RefusesStreamCover (cover_refusal (G.kind automaton) (G.lengths automaton) (G.start automaton No)) result
+      → IfErr result IsStreamFault
       → StreamOutcome S K r result source source' sink sink'
-  outcome_of_cover (Ok x) leaves errors refuses = record {
+  outcome_of_cover (Ok x) leaves errors only = record {
     redacted = covered_of leaves.covered;
     begun = starts_whole (covered_of leaves.covered);
     read_failed = errors.read_failed;
@@ -235,12 +227,12 @@ module _ {A R W : Type 0} (G : Ghosts A) (S : SourceGhosts R) (K : SinkGhosts W)
     limit = leaves.limit;
     only = tt;
   }
-  outcome_of_cover (Err error) leaves errors refuses = record {
+  outcome_of_cover (Err error) leaves errors only = record {
     redacted = tt;
     begun = covering_of leaves.begun;
     read_failed = errors.read_failed;
     write_failed = errors.write_failed;
     took_nothing = errors.took_nothing;
     limit = leaves.limit;
-    only = never_refused_cover (Err error) error refl refuses;
+    only = fault_ends error only;
   }

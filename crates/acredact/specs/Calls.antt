@@ -23,7 +23,7 @@ use Rattle.acredact.specs.Mistakes.{IsMistake}
 use Rattle.acredact.specs.Secrets.{Redactor}
 use Rattle.acredact.specs.Tables.{Secret, patterns_in, piece_by, secrets_of}
 use Rattle.acredact.specs.declared.arguments.Expects.TheVariants.{Any}
-use Rattle.acredact.specs.declared.arguments.Mistake.TheVariants.{NoPattern, CountsCover, OutOfMemory as NoRoom}
+use Rattle.acredact.specs.declared.arguments.Mistake.TheVariants.{NoPattern, OutOfMemory as NoRoom}
 use Rattle.acredact.specs.declared.arguments.Word.{Word}
 use Rattle.acredact.specs.declared.arguments.Word.TheVariants.{Count, Crlf, AllowEmpty, File, Pattern as PatternOption, Patterns as PatternFile, Table, With}
 use Rattle.acredact.specs.declared.failure.Failure.{Failure}
@@ -93,16 +93,11 @@ IsRunFailure fails failure =
     ((error : BuildError) × (failure ≡ Other (Build error)))
     ⊎ ((failure ≡ Other OutOfMemory) ⊎ IsPrintFailure fails failure)
 
--- counts are asked for of a cover
-abbrev pub counts_cover : List Given → Bool
-counts_cover given = has Count given && covers_asked given
-
--- why a call ends early: there is no pattern, counts are asked for of a cover, one of the options cannot be loaded, the counts cannot be written, or the files are
--- not redacted
+-- why a call ends early: there is no pattern, one of the options cannot be loaded, the counts cannot be written, or the files are not
+-- redacted
 abbrev pub MayFail : Call → (fails : Type 0) → Failure → Type 0
 MayFail call fails failure =
-    ((failure ≡ Arguments NoRoom) ⊎ (((failure ≡ Arguments NoPattern) × GivesNoPattern call.given)
-    ⊎ ((failure ≡ Arguments CountsCover) × (counts_cover call.given ≡ true))))
+    ((failure ≡ Arguments NoRoom) ⊎ ((failure ≡ Arguments NoPattern) × GivesNoPattern call.given))
     ⊎ (CannotLoadOne (reading_by call) call.given failure
     ⊎ (((failure ≡ Counts) × (has Count call.given ≡ true))
     ⊎ IsRunFailure fails failure))

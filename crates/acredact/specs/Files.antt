@@ -39,12 +39,12 @@ redactor_of job p = redactor_by p job.covers job.replacements.now
 abbrev pub CanDo : {A F : Type 0} → Ghosts A → A → Job F → Type 0
 CanDo G automaton job = CanRedact G automaton job.covers job.replacements.now
 
-abbrev pub work_of : {F X : Type 0} → Folders F X → Job F → Patterns → Work
-work_of D job p = record {
+abbrev pub work_of : {F X : Type 0} → Folders F X → Job F → Redactor → Work
+work_of D job r = record {
   holds = D.holds job.folder.now;
   refuses = D.refuses job.folder.now;
   names = name_bytes job.names.now;
-  redactor = redactor_of job p;
+  redactor = r;
 }
 
 -- a text was read to its end, and its redaction was written
@@ -162,4 +162,4 @@ module _ {W : Type 0} (Writes : Writers W) where
 
       -- the same of a job, where files are redacted by an automaton
       abbrev pub JobOutcome : {A F X : Type 0} → Ghosts A → Folders F X → A → Job F → Result Bool StreamError → (streams streams' : Streams R W E Reads) → Type 0
-      JobOutcome G D automaton job result streams streams' = IfOf G automaton (λ p. FilesOutcome (work_of D job p) result streams streams')
+      JobOutcome G D automaton job result streams streams' = IfOf G automaton (λ p. FilesOutcome (work_of D job (redactor_of job p)) result streams streams')

@@ -9,6 +9,8 @@ pub mod LineFaults
 pub mod Secrets
 pub mod Faults
 pub mod Streams
+-- by what a stream is redacted
+pub mod Ways
 -- what is written of files
 pub mod Reads
 pub mod Files

@@ -7,7 +7,7 @@ use Rattle.acredact.specs.Messages.{about, alone}
 use Rattle.acredact.specs.declared.arguments.Expects.{Expects}
 use Rattle.acredact.specs.declared.arguments.Expects.TheVariants.{Any, Value, Name}
 use Rattle.acredact.specs.declared.arguments.Mistake.{Mistake}
-use Rattle.acredact.specs.declared.arguments.Mistake.TheVariants.{Unknown, UnknownKind, NoValue, NoPattern, CountsCover, OutOfMemory}
+use Rattle.acredact.specs.declared.arguments.Mistake.TheVariants.{Unknown, UnknownKind, NoValue, NoPattern, OutOfMemory}
 use Rattle.acredact.specs.declared.arguments.Reading.{Reading}
 use Rattle.acredact.specs.declared.arguments.Reading.TheVariants.{Whole, Begun, Wrong}
 
@@ -17,7 +17,6 @@ mistake_message (Unknown argument) = about (codes "unknown option") argument.now
 mistake_message (UnknownKind kind) = about (codes "unknown kind") kind.now
 mistake_message (NoValue word) = about (codes "no value") (option_name word)
 mistake_message NoPattern = alone (codes "no pattern: give -e, -f or -t, or --help")
-mistake_message CountsCover = alone (codes "--count tells nothing of a cover: give --kind longest, first or standard")
 mistake_message OutOfMemory = alone (codes "out of memory")
 
 -- what is told of a wrong argument

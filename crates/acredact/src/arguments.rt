@@ -24,7 +24,7 @@ pub enum Word {
     Table,
     /// `--with`: the replacement of each pattern that has none of its own.
     With,
-    /// `--count`: the number of matches of each pattern is told.
+    /// `--count`: how often the text of each pattern was written is told.
     Count,
     /// `--crlf`: a carriage return at the end of a line of a file of patterns or of a table is left out.
     Crlf,
@@ -69,8 +69,6 @@ pub enum Mistake<'a> {
     NoValue(Word),
     /// There is no pattern, no file of patterns and no table.
     NoPattern,
-    /// `--count` is given for a cover, of which nothing is counted.
-    CountsCover,
     /// Memory runs out.
     OutOfMemory,
 }

@@ -135,10 +135,6 @@ fn tell_mistake<E: Sink>(errors: &mut Errors<'_, E>, mistake: Mistake<'_>)
         Mistake::UnknownKind(kind) => tell_about(errors, "unknown kind", kind),
         Mistake::NoValue(word) => tell_about(errors, "no value", name_of(word)),
         Mistake::NoPattern => tell_alone(errors, "no pattern: give -e, -f or -t, or --help"),
-        Mistake::CountsCover => tell_alone(
-            errors,
-            "--count tells nothing of a cover: give --kind longest, first or standard",
-        ),
         Mistake::OutOfMemory => tell_alone(errors, "out of memory"),
     }
 }

@@ -1,23 +1,23 @@
 //! The redaction of files, one after another.
 
-ghost use Rattle.std.specs.Prelude.{◌≡◌, ◌&&◌, ℕ, List, Option, OnOk, true};
-ghost use Rattle.aho_core.specs.Patterns.{Patterns};
+ghost use Rattle.std.specs.Prelude.{◌≡◌, ◌&&◌, ℕ, List, Option, OnOk, false, true};
 ghost use Rattle.aho_devices.specs.Counts.{counted};
 ghost use Rattle.programs.specs.Names.{is_input};
 ghost use Rattle.programs.specs.Streams.{bytes_left};
 ghost use Rattle.acredact.specs.Faults.{is_unread, reading_of};
-ghost use Rattle.acredact.specs.Files.{CanDo, FileOutcome, JobOutcome, TextOutcome, ToldOutcome, redactor_of, work_of};
-ghost use Rattle.acredact.specs.Secrets.{IfOf};
-ghost use Rattle.acredact.specs.Streams.{StreamOutcome};
+ghost use Rattle.acredact.specs.Files.{CanDo, FileOutcome, FilesOutcome, JobOutcome, TextOutcome, ToldOutcome, work_of};
+ghost use Rattle.acredact.specs.Secrets.{Redactor};
+ghost use Rattle.acredact.specs.Ways.{IfBy, Redacts};
 
 use crate::failure::tell_unread;
 use crate::folder::Folder;
-use crate::redact::{cover, redact, redact_counting};
 use crate::streams::Streams;
+use crate::ways::{Covering, Replacing, Way};
 use aho_automaton::automaton::Automaton;
 use aho_core::error::StreamError;
+use aho_cover::start::StreamCoverStart;
 use aho_devices::adapters::{FromRead, FromWrite};
-use aho_devices::device::{Sink, Source};
+use aho_devices::device::Sink;
 use programs::reason::Reason;
 use std::alloc::Global;
 use std::io::{Read, Write};
@@ -35,12 +35,10 @@ pub struct Job<'s, 't, F> {
     pub replacements: &'s [&'t [u8]],
     /// Whether all bytes of all matches are replaced, and not only matches that share no byte.
     pub covers: bool,
-    /// Whether the matches of each pattern are counted.
-    pub counted: bool,
 }
 
 /// Redacts all files, and flushes. It answers whether all were read to their ends: one that was not is told, and the others are
-/// still redacted.
+/// still redacted. The ranges that are replaced are counted, for each pattern that has a count.
 ///
 /// # Errors
 ///
@@ -56,26 +54,86 @@ pub fn redact_files<A: Automaton, F: Folder, I: Read, W: Write, E: Sink>(
         automaton.now job.now result streams.old streams.new }
     ensures flushed { OnOk result (streams.new.output.device.flushed ≡ true) }
 {
-    let all = redact_each(automaton, job, counts, streams)?;
-    streams.output.flush()?;
-    Ok(all)
+    if job.covers {
+        return cover_files(automaton, job, counts, streams);
+    }
+    replace_files(automaton, job, counts, streams)
 }
 
-/// Redacts each file, and answers whether all were read to their ends.
-fn redact_each<A: Automaton, F: Folder, I: Read, W: Write, E: Sink>(
+/// Redacts all files by covers. The memory of all is taken before the first is opened.
+fn cover_files<A: Automaton, F: Folder, I: Read, W: Write, E: Sink>(
     automaton: &A,
     job: &Job<'_, '_, F>,
     counts: &mut [u64],
     streams: &mut Streams<'_, I, W, E>,
 ) -> Result<bool, StreamError>
     requires ready { CanDo A.Automaton automaton.now job.now }
+    requires covers { job.now.covers ≡ true }
     ensures outcome { JobOutcome W.Write E.Sink A.Automaton F.Folder
         automaton.now job.now result streams.old streams.new }
+    ensures flushed { OnOk result (streams.new.output.device.flushed ≡ true) }
+{
+    let start = StreamCoverStart::new(job.alloc, automaton)?;
+    let mut way = Covering {
+        start,
+        replacements: job.replacements,
+    };
+    redact_flushed(&mut way, job, counts, streams)
+}
+
+/// Redacts all files by matches that share no byte.
+fn replace_files<A: Automaton, F: Folder, I: Read, W: Write, E: Sink>(
+    automaton: &A,
+    job: &Job<'_, '_, F>,
+    counts: &mut [u64],
+    streams: &mut Streams<'_, I, W, E>,
+) -> Result<bool, StreamError>
+    requires ready { CanDo A.Automaton automaton.now job.now }
+    requires plain { job.now.covers ≡ false }
+    ensures outcome { JobOutcome W.Write E.Sink A.Automaton F.Folder
+        automaton.now job.now result streams.old streams.new }
+    ensures flushed { OnOk result (streams.new.output.device.flushed ≡ true) }
+{
+    let mut way = Replacing {
+        alloc: job.alloc,
+        automaton,
+        replacements: job.replacements,
+    };
+    redact_flushed(&mut way, job, counts, streams)
+}
+
+/// Redacts each file in a way, and flushes.
+fn redact_flushed<X: Way, F: Folder, I: Read, W: Write, E: Sink>(
+    way: &mut X,
+    job: &Job<'_, '_, F>,
+    counts: &mut [u64],
+    streams: &mut Streams<'_, I, W, E>,
+) -> Result<bool, StreamError>
+    requires ready { (r : Redactor) × Redacts X.Way way.old r }
+    ensures outcome { IfBy X.Way way.old (λ r. FilesOutcome W.Write E.Sink
+        (work_of F.Folder job.now r) result streams.old streams.new) }
+    ensures flushed { OnOk result (streams.new.output.device.flushed ≡ true) }
+{
+    let all = redact_each(way, job, counts, streams)?;
+    streams.output.flush()?;
+    Ok(all)
+}
+
+/// Redacts each file, and answers whether all were read to their ends.
+fn redact_each<X: Way, F: Folder, I: Read, W: Write, E: Sink>(
+    way: &mut X,
+    job: &Job<'_, '_, F>,
+    counts: &mut [u64],
+    streams: &mut Streams<'_, I, W, E>,
+) -> Result<bool, StreamError>
+    requires ready { (r : Redactor) × Redacts X.Way way.old r }
+    ensures outcome { IfBy X.Way way.old (λ r. FilesOutcome W.Write E.Sink
+        (work_of F.Folder job.now r) result streams.old streams.new) }
 {
     let mut all = true;
     let mut rest = job.names;
     while !rest.is_empty() {
-        let whole = redact_told(automaton, job, rest[0], counts, streams)?;
+        let whole = redact_told(way, job, rest[0], counts, streams)?;
         all = both(all, whole);
         rest = &rest[1..];
     }
@@ -90,19 +148,20 @@ fn both(first: bool, second: bool) -> bool
 }
 
 /// Redacts a file, and answers whether it was read to its end. One that was not is told.
-fn redact_told<A: Automaton, F: Folder, I: Read, W: Write, E: Sink>(
-    automaton: &A,
+fn redact_told<X: Way, F: Folder, I: Read, W: Write, E: Sink>(
+    way: &mut X,
     job: &Job<'_, '_, F>,
     name: &str,
     counts: &mut [u64],
     streams: &mut Streams<'_, I, W, E>,
 ) -> Result<bool, StreamError>
-    requires ready { CanDo A.Automaton automaton.now job.now }
-    ensures outcome { IfOf A.Automaton automaton.now (λ p. ToldOutcome W.Write E.Sink
-        (work_of F.Folder job.now p) name.now result streams.old streams.new) }
+    requires ready { (r : Redactor) × Redacts X.Way way.old r }
+    ensures outcome { IfBy X.Way way.old (λ r. ToldOutcome W.Write E.Sink
+        (work_of F.Folder job.now r) name.now result streams.old streams.new) }
+    ensures still { IfBy X.Way way.old (Redacts X.Way way.new) }
 {
     match redact_file(
-        automaton,
+        way,
         job,
         name,
         counts,
@@ -118,23 +177,24 @@ fn redact_told<A: Automaton, F: Folder, I: Read, W: Write, E: Sink>(
 }
 
 /// Redacts a file, and answers why it cannot be read to its end, where it cannot.
-fn redact_file<A: Automaton, F: Folder, I: Read, W: Write>(
-    automaton: &A,
+fn redact_file<X: Way, F: Folder, I: Read, W: Write>(
+    way: &mut X,
     job: &Job<'_, '_, F>,
     name: &str,
     counts: &mut [u64],
     input: &mut FromRead<I>,
     output: &mut FromWrite<W>,
 ) -> Result<Option<Reason>, StreamError>
-    requires ready { CanDo A.Automaton automaton.now job.now }
-    ensures outcome { IfOf A.Automaton automaton.now (λ p. FileOutcome W.Write
-        (work_of F.Folder job.now p) name.now result input.old input.new output.old output.new) }
+    requires ready { (r : Redactor) × Redacts X.Way way.old r }
+    ensures outcome { IfBy X.Way way.old (λ r. FileOutcome W.Write
+        (work_of F.Folder job.now r) name.now result input.old input.new output.old output.new) }
+    ensures still { IfBy X.Way way.old (Redacts X.Way way.new) }
 {
     if is_input(name) {
-        return redact_input(automaton, job, counts, input, output);
+        return redact_input(way, counts, input, output);
     }
     match job.folder.open(name) {
-        Ok(file) => redact_opened(automaton, job, counts, file, output),
+        Ok(file) => redact_opened(way, counts, file, output),
         Err(reason) => Ok(Some(reason)),
     }
 }
@@ -147,57 +207,36 @@ pub fn is_input(name: &str) -> bool
 }
 
 /// Redacts a reader to its end, and answers why it cannot be read to that, where it cannot.
-fn redact_opened<A: Automaton, F, I: Read + Drop, W: Write>(
-    automaton: &A,
-    job: &Job<'_, '_, F>,
+fn redact_opened<X: Way, I: Read + Drop, W: Write>(
+    way: &mut X,
     counts: &mut [u64],
     reader: I,
     output: &mut FromWrite<W>,
 ) -> Result<Option<Reason>, StreamError>
-    requires ready { CanDo A.Automaton automaton.now job.now }
-    ensures outcome { IfOf A.Automaton automaton.now (λ p. (rest : Option (List ℕ)) × TextOutcome
-        W.Write (redactor_of job.now p) result (I.remaining reader) rest output.old output.new) }
+    requires ready { (r : Redactor) × Redacts X.Way way.old r }
+    ensures outcome { IfBy X.Way way.old (λ r. (rest : Option (List ℕ)) × TextOutcome
+        W.Write r result (I.remaining reader) rest output.old output.new) }
+    ensures still { IfBy X.Way way.old (Redacts X.Way way.new) }
 {
     let mut source = FromRead::new(reader);
-    redact_input(automaton, job, counts, &mut source, output)
+    redact_input(way, counts, &mut source, output)
 }
 
 /// Redacts the input to its end, and answers why it cannot be read to that, where it cannot.
-fn redact_input<A: Automaton, F, I: Read, W: Write>(
-    automaton: &A,
-    job: &Job<'_, '_, F>,
+fn redact_input<X: Way, I: Read, W: Write>(
+    way: &mut X,
     counts: &mut [u64],
     input: &mut FromRead<I>,
     output: &mut FromWrite<W>,
 ) -> Result<Option<Reason>, StreamError>
-    requires ready { CanDo A.Automaton automaton.now job.now }
-    ensures outcome { IfOf A.Automaton automaton.now (λ p. TextOutcome W.Write (redactor_of job.now p)
+    requires ready { (r : Redactor) × Redacts X.Way way.old r }
+    ensures outcome { IfBy X.Way way.old (λ r. TextOutcome W.Write r
         result (bytes_left input.old) (bytes_left input.new) output.old output.new) }
+    ensures still { IfBy X.Way way.old (Redacts X.Way way.new) }
     ensures failed { input.new.failures ≡ counted (is_unread result) input.old.failures }
 {
     input.restart();
-    reading_of(redact_stream(automaton, job, counts, input, output))
-}
-
-/// Redacts a stream, and counts its matches where they are counted.
-fn redact_stream<A: Automaton, F, R: Source, W: Sink>(
-    automaton: &A,
-    job: &Job<'_, '_, F>,
-    counts: &mut [u64],
-    source: &mut R,
-    sink: &mut W,
-) -> Result<(), StreamError>
-    requires ready { CanDo A.Automaton automaton.now job.now }
-    ensures outcome { IfOf A.Automaton automaton.now (λ p. StreamOutcome R.Source W.Sink
-        (redactor_of job.now p) result source.old source.new sink.old sink.new) }
-{
-    if job.covers {
-        cover(job.alloc, automaton, job.replacements, source, sink)
-    } else if job.counted {
-        redact_counting(job.alloc, automaton, job.replacements, counts, source, sink)
-    } else {
-        redact(job.alloc, automaton, job.replacements, source, sink)
-    }
+    reading_of(way.redact(counts, input, output))
 }
 
 /// Why a stream was not read to its end, where that is so; any other error ends the program.

@@ -16,6 +16,7 @@ mod redact;
 mod rows;
 mod run;
 mod streams;
+mod ways;
 
 ghost use Rattle.std.specs.Prelude.{◌≡◌, ◌⊎◌, IfErr, IfOk, true};
 ghost use Rattle.std.specs.Process.{exit_status};

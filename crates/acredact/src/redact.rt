@@ -2,6 +2,7 @@
 
 ghost use Rattle.std.specs.Prelude.{◌≡◌, ◌<◌, ◌≤◌, [], false, length, slice_index, slice_index_or, slice_set, true};
 ghost use Rattle.aho_core.specs.Replacement.{pieces_of};
+ghost use Rattle.aho_cover.specs.Covers.{IsUnbegunCover};
 ghost use Rattle.acredact.specs.Counts.{CountsOne, counted_more};
 ghost use Rattle.acredact.specs.Secrets.{IfOf, CanRedact, redactor_by};
 ghost use Rattle.acredact.specs.Streams.{StreamOutcome, WritesPiece};
@@ -9,30 +10,36 @@ ghost use Rattle.acredact.specs.Streams.{StreamOutcome, WritesPiece};
 use aho_automaton::automaton::Automaton;
 use aho_core::error::StreamError;
 use aho_core::search::Match;
-use aho_cover::stream::try_stream_cover_all;
+use aho_cover::start::StreamCoverStart;
+use aho_cover::stream::cover_counted;
 use aho_devices::device::{Sink, Source};
 use aho_devices::write::write_whole;
 use aho_stream::replace::{try_stream_replace_all, try_stream_replace_all_with};
 use std::alloc::Global;
 
 /// Writes what the source gives to the sink, but in the place of each run of bytes that lie in matches the replacement of the
-/// longest that begins with the run.
+/// longest that begins with the run. The runs of each pattern that has a count are counted.
+///
+/// It takes no memory but that of the start, which is then as before.
 ///
 /// # Errors
 ///
-/// As `redact`.
+/// As `redact`, but for `Memory`.
 pub fn cover<A: Automaton, R: Source, W: Sink>(
-    alloc: Global,
-    automaton: &A,
+    start: &mut StreamCoverStart<'_, A>,
     replacements: &[&[u8]],
+    counts: &mut [u64],
     source: &mut R,
     sink: &mut W,
 ) -> Result<(), StreamError>
-    requires ready { CanRedact A.Automaton automaton.now true replacements.now }
-    ensures outcome { IfOf A.Automaton automaton.now (λ p. StreamOutcome R.Source W.Sink
+    requires ready { CanRedact A.Automaton start.old.automaton.now true replacements.now }
+    requires unbegun { IsUnbegunCover A.Automaton start.old.automaton.now start.old.progress }
+    ensures outcome { IfOf A.Automaton start.old.automaton.now (λ p. StreamOutcome R.Source W.Sink
         (redactor_by p true replacements.now) result source.old source.new sink.old sink.new) }
+    ensures same { start.new.automaton.now ≡ start.old.automaton.now }
+    ensures unbegun { IsUnbegunCover A.Automaton start.new.automaton.now start.new.progress }
 {
-    try_stream_cover_all(alloc, automaton, source, sink, replacements)
+    cover_counted(start, source, sink, replacements, counts)
 }
 
 /// Writes what the source gives to the sink, with its replacement in the place of each match.

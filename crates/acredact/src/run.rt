@@ -6,9 +6,9 @@ ghost use Rattle.programs.specs.Names.{name_bytes};
 ghost use Rattle.programs.specs.Streams.{WritesBytes};
 ghost use Rattle.programs.specs.Telling.{Tells, TellsBytes, TellsSome};
 ghost use Rattle.acredact.specs.Arguments.{AreMistaken, AsksToRedact, GivesNoPattern, IfAsked, all_given, has};
-ghost use Rattle.acredact.specs.Calls.{AskedOutcome, BeginsAsked, IsCountsFailure, IsCountsLine, IsPrintFailure, IsRefusedLine, IsWrongFailure, IsWrongLine, LoadedOutcome, OutputFails, RedactsAsked, RunOutcome, TellsAsked, TellsCounts, call_of, counts_cover, gives_pattern, names_asked, text_asked, work_by};
+ghost use Rattle.acredact.specs.Calls.{AskedOutcome, BeginsAsked, IsCountsFailure, IsCountsLine, IsPrintFailure, IsRefusedLine, IsWrongFailure, IsWrongLine, LoadedOutcome, OutputFails, RedactsAsked, RunOutcome, TellsAsked, TellsCounts, call_of, gives_pattern, names_asked, text_asked, work_by};
 ghost use Rattle.acredact.specs.Failures.{IsFailureLine};
-ghost use Rattle.acredact.specs.Files.{CanDo, FilesOutcome, work_of};
+ghost use Rattle.acredact.specs.Files.{CanDo, FilesOutcome, redactor_of, work_of};
 ghost use Rattle.acredact.specs.Secrets.{IfOf};
 ghost use Rattle.acredact.specs.Tables.{HaveNoEmpty, secrets_of};
 ghost use Rattle.acredact.specs.declared.arguments.Word.TheVariants.{Count};
@@ -49,7 +49,7 @@ Writes each FILE with a text in the place of each run of bytes that lie in match
   --kind KIND   what is replaced: cover (if none is given) each byte of each match; longest, first and standard
                 one of several matches that overlap, and then a part of another can stay
   --with TEXT   the replacement of patterns that have none of their own: [redacted] if none is given
-  --count       write to standard error how many matches of each pattern were replaced: not of a cover
+  --count       write to standard error how often the text of each pattern was written
   --crlf        leave out a carriage return at the end of a line of a FILE of patterns or a TABLE
   --allow-empty allow an empty FILE of patterns or TABLE
   --            only FILEs follow
@@ -173,9 +173,6 @@ fn answer_items<'a, F: Folder, I: Read, W: Write, E: Sink>(
     if !gives_pattern(given) {
         return Err(Failure::Arguments(Mistake::NoPattern));
     }
-    if counts_cover(given) {
-        return Err(Failure::Arguments(Mistake::CountsCover));
-    }
     load(alloc, given, folder, streams)
 }
 
@@ -184,13 +181,6 @@ fn gives_pattern(given: &[Item<'_>]) -> bool
     ensures gives { result ≡ gives_pattern (all_given given.now) }
 {
     has(given, Word::Pattern) || has(given, Word::Patterns) || has(given, Word::Table)
-}
-
-/// Whether counts are asked for of a cover.
-fn counts_cover(given: &[Item<'_>]) -> bool
-    ensures counts { result ≡ counts_cover (all_given given.now) }
-{
-    has(given, Word::Count) && covers(given)
 }
 
 /// Writes a text whole, and answers that nothing was left out.
@@ -319,7 +309,6 @@ fn redact_all<'a, F: Folder, I: Read, W: Write, E: Sink>(
         names: names.as_slice(),
         replacements: replacements.as_slice(),
         covers: covers(given),
-        counted: has(given, Word::Count),
     };
     Ok(redact_by(&nfa, rows.as_ref(), &job, counts, streams)?)
 }
@@ -335,7 +324,7 @@ fn redact_by<A: Automaton, B: Automaton, F: Folder, I: Read, W: Write, E: Sink>(
     requires ready { CanDo A.Automaton automaton.now job.now }
     requires rows { IfSome rows (λ rows. CanDo B.Automaton rows.now job.now) }
     ensures outcome { IfOf A.Automaton automaton.now (λ p. IfSome rows.entry (λ rows. B.is_of rows.now p)
-        → FilesOutcome W.Write E.Sink (work_of F.Folder job.now p) result streams.old streams.new) }
+        → FilesOutcome W.Write E.Sink (work_of F.Folder job.now (redactor_of job.now p)) result streams.old streams.new) }
     ensures flushed { OnOk result (streams.new.output.device.flushed ≡ true) }
 {
     match rows {

@@ -22,8 +22,3 @@ pub returns-in-OutOfMemory : goal.returns-in-OutOfMemory
 returns-in-OutOfMemory g c = record {
   told = subst (λ (m : Mistake). TellsBytes g.E.Sink c.args.errors.now c.tell_alone-in-OutOfMemory.new.errors (told_line (mistake_message m))) (sym c.in-OutOfMemory.is) c.tell_alone-in-OutOfMemory.ensures.told;
 }
-
-pub returns-in-CountsCover : goal.returns-in-CountsCover
-returns-in-CountsCover g c = record {
-  told = subst (λ (m : Mistake). TellsBytes g.E.Sink c.args.errors.now c.tell_alone-in-CountsCover.new.errors (told_line (mistake_message m))) (sym c.in-CountsCover.is) c.tell_alone-in-CountsCover.ensures.told;
-}

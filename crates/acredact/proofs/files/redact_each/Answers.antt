@@ -8,33 +8,34 @@ use Rattle.acredact.proofs.Done.{SoFar, far_all, far_fails, far_next, far_none, 
 use Rattle.acredact.proofs.files.redact_each.Goals as goal
 
 pub loop-rest-init : goal.loop-rest-init
-loop-rest-init g c = λ p of. far_none g.W.Write g.E.Sink (work_of g.F.Folder c.args.job.now p) _ _
+loop-rest-init g c = λ red by. (by, far_none g.W.Write g.E.Sink (work_of g.F.Folder c.args.job.now red) _ _)
 
 pub loop-rest-preserved : goal.loop-rest-preserved
-loop-rest-preserved g c = λ p of.
+loop-rest-preserved g c = λ red by.
     let some : 1 ≤ length c.loop-rest.rest.now = search rules in
-    let far = subst (λ (l : List (List ℕ)). SoFar g.W.Write g.E.Sink (work_of g.F.Folder c.args.job.now p) (name_bytes c.args.job.now.names.now) l c.loop-rest.all c.args.streams.now c.loop-rest.streams)
-    (names_cut c.loop-rest.rest.now _ some) (c.loop-rest.invariant p of) in
-    far_next g.W.Write g.E.Sink (work_of g.F.Folder c.args.job.now p) _ _ _ c.loop-rest.all c.in_ok-whole.whole _ c.args.streams.now c.loop-rest.streams _ far (c.in_ok-whole.ensures.outcome p of) c.both-all.ensures.both
+    let far = subst (λ (l : List (List ℕ)). SoFar g.W.Write g.E.Sink (work_of g.F.Folder c.args.job.now red) (name_bytes c.args.job.now.names.now) l c.loop-rest.all c.args.streams.now c.loop-rest.streams)
+    (names_cut c.loop-rest.rest.now _ some) (c.loop-rest.invariant red by).1 in
+    let now = (c.loop-rest.invariant red by).0 in
+    (c.in_ok-whole.ensures.still red now, far_next g.W.Write g.E.Sink (work_of g.F.Folder c.args.job.now red) _ _ _ c.loop-rest.all c.in_ok-whole.whole _ c.args.streams.now c.loop-rest.streams _ far (c.in_ok-whole.ensures.outcome red now) c.both-all.ensures.both)
 
 pub returns-in_err-whole : goal.returns-in_err-whole
 returns-in_err-whole g c =
     let is : c.from_residual.result ≡ Err c.in_err-whole.field-0.0 = search rules in
     let some : 1 ≤ length c.loop-rest.rest.now = search rules in
     record {
-      outcome = λ p of.
-          let far = subst (λ (l : List (List ℕ)). SoFar g.W.Write g.E.Sink (work_of g.F.Folder c.args.job.now p) (name_bytes c.args.job.now.names.now) l c.loop-rest.all c.args.streams.now c.loop-rest.streams)
-          (names_cut c.loop-rest.rest.now _ some) (c.loop-rest.invariant p of) in
-          subst (λ (r : Result Bool StreamError). FilesOutcome g.W.Write g.E.Sink (work_of g.F.Folder c.args.job.now p) r c.args.streams.now c.redact_told.new.streams) (sym is)
-          (far_fails g.W.Write g.E.Sink (work_of g.F.Folder c.args.job.now p) _ _ c.loop-rest.all _ c.args.streams.now c.loop-rest.streams _ far (c.in_err-whole.ensures.outcome p of));
+      outcome = λ red by.
+          let far = subst (λ (l : List (List ℕ)). SoFar g.W.Write g.E.Sink (work_of g.F.Folder c.args.job.now red) (name_bytes c.args.job.now.names.now) l c.loop-rest.all c.args.streams.now c.loop-rest.streams)
+          (names_cut c.loop-rest.rest.now _ some) (c.loop-rest.invariant red by).1 in
+          subst (λ (r : Result Bool StreamError). FilesOutcome g.W.Write g.E.Sink (work_of g.F.Folder c.args.job.now red) r c.args.streams.now c.redact_told.new.streams) (sym is)
+          (far_fails g.W.Write g.E.Sink (work_of g.F.Folder c.args.job.now red) _ _ c.loop-rest.all _ c.args.streams.now c.loop-rest.streams _ far (c.in_err-whole.ensures.outcome red (c.loop-rest.invariant red by).0));
     }
 
 pub returns : goal.returns
 returns g c =
     let none : length c.loop-rest.rest.now ≡ 0 = search rules in
     record {
-      outcome = λ p of.
-          far_all g.W.Write g.E.Sink (work_of g.F.Folder c.args.job.now p) c.loop-rest.all c.args.streams.now c.loop-rest.streams
-          (subst (λ (l : List (List ℕ)). SoFar g.W.Write g.E.Sink (work_of g.F.Folder c.args.job.now p) (name_bytes c.args.job.now.names.now) l c.loop-rest.all c.args.streams.now c.loop-rest.streams)
-          (names_end c.loop-rest.rest.now none) (c.loop-rest.invariant p of));
+      outcome = λ red by.
+          far_all g.W.Write g.E.Sink (work_of g.F.Folder c.args.job.now red) c.loop-rest.all c.args.streams.now c.loop-rest.streams
+          (subst (λ (l : List (List ℕ)). SoFar g.W.Write g.E.Sink (work_of g.F.Folder c.args.job.now red) (name_bytes c.args.job.now.names.now) l c.loop-rest.all c.args.streams.now c.loop-rest.streams)
+          (names_end c.loop-rest.rest.now none) (c.loop-rest.invariant red by).1);
     }

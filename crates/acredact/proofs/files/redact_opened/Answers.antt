@@ -4,11 +4,9 @@ use Rattle.programs.specs.Streams.{bytes_left}
 use Rattle.acredact.specs.Files.{TextOutcome, redactor_of}
 use Rattle.acredact.proofs.files.redact_opened.Goals as goal
 
-pub returns : goal.returns
-returns g c = record {
-  outcome = λ p of. (
-    bytes_left c.redact_input.new.input,
-    subst (λ (left : Option (List ℕ)). TextOutcome g.W.Write (redactor_of c.args.job.now p) c.redact_input.result left (bytes_left c.redact_input.new.input) c.args.output.now c.redact_input.new.output)
-        (ap g.I.Read.remaining c.new-source.ensures.reader) (c.redact_input.ensures.outcome p of),
-  );
-}
+pub returns-clause-outcome : goal.returns-clause-outcome
+returns-clause-outcome g c = λ red by. (
+  bytes_left c.redact_input.new.input,
+  subst (λ (left : Option (List ℕ)). TextOutcome g.W.Write red c.redact_input.result left (bytes_left c.redact_input.new.input) c.args.output.now c.redact_input.new.output)
+      (ap g.I.Read.remaining c.new-source.ensures.reader) (c.redact_input.ensures.outcome red by),
+)

@@ -4,10 +4,8 @@ use Rattle.acredact.specs.Secrets.{redactor_by}
 use Rattle.acredact.proofs.Redactions.{outcome_of_cover}
 use Rattle.acredact.proofs.redact.cover.Goals as goal
 
-pub returns : goal.returns
-returns g c = record {
-  outcome = λ p of.
-      let call = c.try_stream_cover_all in
-      outcome_of_cover g.A.Automaton g.R.Source g.W.Sink c.args.automaton.now (redactor_by p true c.args.replacements.now) refl of (g.met.A.Automaton.laws _ _ of).lengths_are c.requires.ready.begins
-      (c.requires.ready.standard refl) _ _ _ _ call.result call.ensures.leaves call.ensures.errors call.ensures.refuses;
-}
+pub returns-clause-outcome : goal.returns-clause-outcome
+returns-clause-outcome g c = λ p of.
+    let call = c.cover_counted in
+    outcome_of_cover g.A.Automaton g.R.Source g.W.Sink c.args.start.now.automaton.now (redactor_by p true c.args.replacements.now) refl of (g.met.A.Automaton.laws _ _ of).lengths_are c.requires.ready.begins
+    (c.requires.ready.standard refl) _ _ _ _ call.result call.ensures.leaves call.ensures.errors call.ensures.only

@@ -1,0 +1,88 @@
+-- How an automaton redacts streams.
+use Rattle.std.proofs.Common.{◌≡◌, inl, inr, ℕ, ◌≤◌, List, [], ◌∷◌, Option, true, false, length, map, refl, sym, ap, subst, ◌∙◌, arith}
+use Rattle.std.specs.Prelude.{Bool, None, Some, Result, Ok, Err, if◌then◌else◌}
+use Rattle.std.specs.Borrow.{Bor}
+use Rattle.std.proofs.KnownBytes.{Keeps-refl}
+use Rattle.std.specs.declared.io.traits.Read.{Ghosts as Readers}
+use Rattle.std.specs.declared.io.traits.Write.{Ghosts as Writers}
+use Rattle.std.proofs.lemmas.Bool.{ne_eqb}
+use Rattle.aho_core.specs.Laws.{shortest}
+use Rattle.aho_core.specs.Patterns.{Patterns}
+use Rattle.aho_core.specs.declared.error.MatchErrorKind.{MatchErrorKind}
+use Rattle.aho_core.specs.declared.error.MatchErrorKind.TheVariants.{UnsupportedEmpty}
+use Rattle.aho_core.specs.declared.error.stream.StreamError.{StreamError}
+use Rattle.aho_core.specs.declared.error.stream.StreamError.TheVariants.{Match as Refused, Read, Write, WriteZero, Memory, PositionLimit}
+use Rattle.aho_core.specs.declared.search.Anchored.TheVariants.{No}
+use Rattle.aho_core.specs.declared.search.MatchKind.{MatchKind}
+use Rattle.aho_core.specs.declared.search.MatchKind.TheVariants.{Standard}
+use Rattle.aho_automaton.specs.Covering.{cover_refusal}
+use Rattle.aho_automaton.specs.declared.automaton.Automaton.{Ghosts}
+use Rattle.aho_cover.specs.Covers.{IsUnbegunCover, RefusesStreamCover}
+use Rattle.aho_cover.specs.declared.progress.CoverProgress.{CoverProgress}
+use Rattle.aho_devices.specs.declared.device.Sink.{Ghosts as SinkGhosts}
+use Rattle.aho_stream.specs.Replacing.{IsMakingRefusal}
+use Rattle.aho_stream.specs.StreamRun.{CanBegin}
+use Rattle.acredact.specs.Files.{AreCut, FilesOutcome, Work}
+use Rattle.acredact.specs.Secrets.{CanRedact, Redactor, redactor_by}
+use Rattle.acredact.specs.Ways.{IsCovering, IsRedactor}
+use Rattle.acredact.specs.declared.streams.Streams.{Streams}
+use Rattle.acredact.proofs.Done.{tells_none}
+use Rattle.acredact.proofs.OneFile.{named_none}
+use Rattle.acredact.proofs.Redactions.{some_of}
+
+module _ {A : Type 0} (G : Ghosts A) where
+  -- a cover is as before after a stream
+  pub covering_still : (automaton automaton' : A) (progress progress' : CoverProgress) (replacements : List (Bor (List ℕ))) (r : Redactor) → automaton' ≡ automaton
+      → IsUnbegunCover G automaton' progress' → IsCovering G automaton progress replacements r → IsCovering G automaton' progress' replacements r
+  covering_still automaton automaton' progress progress' replacements r same unbegun is =
+      record { redactor = subst (λ (a : A). IsRedactor G a true replacements r) (sym same) is.redactor; unbegun = unbegun }
+
+  -- an automaton that suits redacts by its patterns
+  pub redactor_is : (automaton : A) (p : Patterns) (covers wanted : Bool) (replacements : List (Bor (List ℕ))) → G.is_of automaton p → covers ≡ wanted
+      → CanRedact G automaton covers replacements → IsRedactor G automaton wanted replacements (redactor_by p covers replacements)
+  redactor_is automaton p covers wanted replacements of is ready = record {
+    of = of;
+    is = ap (λ (b : Bool). redactor_by p b replacements) is;
+    ready = subst (λ (b : Bool). CanRedact G automaton b replacements) is ready;
+  }
+
+  -- and by a cover that has not begun
+  pub covering_is : (automaton automaton' : A) (p : Patterns) (covers : Bool) (replacements : List (Bor (List ℕ))) (progress : CoverProgress) → G.is_of automaton p → covers ≡ true
+      → CanRedact G automaton covers replacements → automaton' ≡ automaton → IsUnbegunCover G automaton progress → IsCovering G automaton' progress replacements (redactor_by p covers replacements)
+  covering_is automaton automaton' p covers replacements progress of is ready same unbegun = record {
+    redactor = subst (λ (a : A). IsRedactor G a true replacements (redactor_by p covers replacements)) (sym same) (redactor_is automaton p covers true replacements of is ready);
+    unbegun = subst (λ (a : A). IsUnbegunCover G a progress) (sym same) unbegun;
+  }
+
+  -- by a standard automaton without empty patterns no cover is refused
+  suits_cover : (automaton : A) → CanBegin G automaton → G.kind automaton ≡ Standard → cover_refusal (G.kind automaton) (G.lengths automaton) (G.start automaton No) ≡ None
+  suits_cover automaton can standard =
+      subst (λ (k : MatchKind). cover_refusal k (G.lengths automaton) (G.start automaton No) ≡ None) (sym standard)
+      (subst (λ (s : Result ℕ MatchErrorKind). cover_refusal Standard (G.lengths automaton) s ≡ None) (sym can.2)
+      (ap (λ (b : Bool). if b then Some UnsupportedEmpty else None) (ne_eqb (shortest (G.lengths automaton)) 0 (λ (none : shortest (G.lengths automaton) ≡ 0). omega (arith, none, can.1)))))
+
+  -- so memory alone may be wanting for its start
+  pub only_memory : {T : Type 0} (automaton : A) (error : StreamError) → CanBegin G automaton → G.kind automaton ≡ Standard → IsMakingRefusal error
+      → RefusesStreamCover {T = T} (cover_refusal (G.kind automaton) (G.lengths automaton) (G.start automaton No)) (Err error) → error ≡ Memory
+  only_memory automaton (Refused reason) can standard is refuses =
+      let clash : None ≡ Some reason = sym (suits_cover automaton can standard) ∙ refuses.only reason refl in absurd (cc)
+  only_memory automaton (Read fault) can standard is refuses = absurd is
+  only_memory automaton (Write fault) can standard is refuses = absurd is
+  only_memory automaton WriteZero can standard is refuses = absurd is
+  only_memory automaton Memory can standard is refuses = refl
+  only_memory automaton PositionLimit can standard is refuses = absurd is
+
+module _ (work : Work) (some : 1 ≤ shortest (map length work.redactor.patterns.words)) where
+  cut_none : (names : List (List ℕ)) (left held : Option (List ℕ)) → AreCut work names [] left left held held
+  cut_none [] left held = (refl, refl, Keeps-refl held)
+  cut_none (name ∷ names) left held = inl (refl, named_none work some name left held)
+
+module _ {R W E : Type 0} {Reads : Readers R} (Writes : Writers W) (K : SinkGhosts E) (work : Work) (some : 1 ≤ shortest (map length work.redactor.patterns.words)) where
+  -- there was no memory to begin
+  pub files_memory : (streams : Streams R W E Reads) → FilesOutcome Writes K work (Err Memory) streams streams
+  files_memory streams = record {
+    done = tt;
+    cut = ([], (cut_none work some work.names _ _, tells_none K streams.errors));
+    quiet = λ (is : Err Memory ≡ Ok true). absurd (cc);
+    fails = record { write_failed = refl; took_nothing = refl; only = tt };
+  }

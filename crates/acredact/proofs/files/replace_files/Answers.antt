@@ -1,0 +1,26 @@
+-- The automaton replaces by its patterns.
+use Rattle.acredact.specs.Files.{redactor_of}
+use Rattle.acredact.proofs.Redactions.{some_of}
+use Rattle.acredact.proofs.Suited.{redactor_is}
+use Rattle.acredact.proofs.files.replace_files.Goals as goal
+
+pub redact_flushed-requires : goal.redact_flushed-requires
+redact_flushed-requires g c =
+    let p = c.requires.ready.patterns in
+    let of = c.requires.ready.of in
+    record {
+      ready = (
+        redactor_of c.args.job.now p,
+        record {
+          by = redactor_is g.A.Automaton _ p _ _ _ of c.requires.plain c.requires.ready;
+          some = some_of g.A.Automaton _ p (g.met.A.Automaton.laws _ _ of).lengths_are c.requires.ready.begins;
+        },
+      );
+    }
+
+pub returns-clause-outcome : goal.returns-clause-outcome
+returns-clause-outcome g c = λ p of.
+    c.redact_flushed.ensures.outcome (redactor_of c.args.job.now p) (record {
+      by = redactor_is g.A.Automaton _ p _ _ _ of c.requires.plain c.requires.ready;
+      some = some_of g.A.Automaton _ p (g.met.A.Automaton.laws _ _ of).lengths_are c.requires.ready.begins;
+    })

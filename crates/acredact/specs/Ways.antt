@@ -1,0 +1,29 @@
+-- By what a stream is redacted.
+use Rattle.std.specs.Prelude.{◌≡◌, ℕ, ◌≤◌, Bool, true, List, length, map}
+use Rattle.std.specs.Borrow.{Bor}
+use Rattle.aho_core.specs.Laws.{shortest}
+use Rattle.aho_automaton.specs.declared.automaton.Automaton.{Ghosts}
+use Rattle.aho_cover.specs.Covers.{IsUnbegunCover}
+use Rattle.aho_cover.specs.declared.progress.CoverProgress.{CoverProgress}
+use Rattle.acredact.specs.Secrets.{CanRedact, Redactor, redactor_by}
+use Rattle.acredact.specs.declared.ways.Way.{Ghosts as Ways}
+
+-- an automaton redacts so, with these replacements
+pub record IsRedactor {A : Type 0} (G : Ghosts A) (automaton : A) (covers : Bool) (replacements : List (Bor (List ℕ))) (r : Redactor) : Type 0 where
+  pub of : G.is_of automaton r.patterns
+  pub is : r ≡ redactor_by r.patterns covers replacements
+  pub ready : CanRedact G automaton covers replacements
+
+-- and by a cover that has not begun
+pub record IsCovering {A : Type 0} (G : Ghosts A) (automaton : A) (progress : CoverProgress) (replacements : List (Bor (List ℕ))) (r : Redactor) : Type 0 where
+  pub redactor : IsRedactor G automaton true replacements r
+  pub unbegun : IsUnbegunCover G automaton progress
+
+-- a way redacts so, and no pattern is empty
+pub record Redacts {X : Type 0} (G : Ways X) (way : X) (r : Redactor) : Type 0 where
+  pub by : G.by way r
+  pub some : 1 ≤ shortest (map length r.patterns.words)
+
+-- what holds of all by which a way redacts
+abbrev pub IfBy : {X : Type 0} → Ways X → X → (Redactor → Type 0) → Type 0
+IfBy G way Holds = (r : Redactor) → Redacts G way r → Holds r

@@ -1,0 +1,98 @@
+//! How streams are redacted, one after another.
+
+ghost use Rattle.acredact.specs.Secrets.{Redactor};
+ghost use Rattle.acredact.specs.Streams.{StreamOutcome};
+
+use crate::redact::{cover, redact, redact_counting};
+use aho_automaton::automaton::Automaton;
+use aho_core::error::StreamError;
+use aho_cover::start::StreamCoverStart;
+use aho_devices::device::{Sink, Source};
+use std::alloc::Global;
+
+/// What redacts streams, one after another.
+pub trait Way {
+    /// What it redacts, and by what.
+    ghost by: { Self → Redactor → Type 0 };
+
+    /// Writes what the source gives to the sink, with a text in the place of each range that is replaced, and counts those of
+    /// each pattern that has a count.
+    ///
+    /// # Errors
+    ///
+    /// `Read` and `Write` exactly where a read or a write fails, `WriteZero` where a write takes nothing, `PositionLimit` where the
+    /// source gave 2^63 - 1 bytes, and `Memory`. What was written is then a beginning of the redaction.
+    fn redact<R: Source, W: Sink>(
+        &mut self,
+        counts: &mut [u64],
+        source: &mut R,
+        sink: &mut W,
+    ) -> Result<(), StreamError>
+        requires ready { (r : Redactor) × by self.old r }
+        ensures outcome { (r : Redactor) → by self.old r → StreamOutcome R.Source W.Sink r
+            result source.old source.new sink.old sink.new }
+        ensures still { (r : Redactor) → by self.old r → by self.new r };
+}
+
+/// A cover, with the memory that each stream uses again.
+#[derive(Drop)]
+pub struct Covering<'s, 't, A> {
+    /// How the cover of a stream begins.
+    pub start: StreamCoverStart<'s, A>,
+    /// What is written in the place of each pattern.
+    pub replacements: &'s [&'t [u8]],
+}
+
+impl<A: Automaton> Way for Covering<'_, '_, A> {
+    ghost use Rattle.acredact.specs.Ways.{IsCovering};
+
+    ghost by = { λ way r. IsCovering A.Automaton way.start.automaton.now way.start.progress
+        way.replacements.now r };
+
+    fn redact<R: Source, W: Sink>(
+        &mut self,
+        counts: &mut [u64],
+        source: &mut R,
+        sink: &mut W,
+    ) -> Result<(), StreamError> {
+        cover(&mut self.start, self.replacements, counts, source, sink)
+    }
+}
+
+/// A replacement of matches that share no byte.
+#[derive(Clone, Copy)]
+pub struct Replacing<'s, 't, A> {
+    /// What memory is taken from.
+    pub alloc: Global,
+    /// The automaton that searches.
+    pub automaton: &'s A,
+    /// What is written in the place of each pattern.
+    pub replacements: &'s [&'t [u8]],
+}
+
+impl<A: Automaton> Way for Replacing<'_, '_, A> {
+    ghost use Rattle.acredact.specs.Ways.{IsRedactor};
+    ghost use Rattle.std.specs.Prelude.{false};
+
+    ghost by = { λ way r. IsRedactor A.Automaton way.automaton.now false way.replacements.now r };
+
+    /// Where nothing is counted the output is flushed before each read.
+    fn redact<R: Source, W: Sink>(
+        &mut self,
+        counts: &mut [u64],
+        source: &mut R,
+        sink: &mut W,
+    ) -> Result<(), StreamError> {
+        if counts.is_empty() {
+            return redact(self.alloc, self.automaton, self.replacements, source, sink);
+        }
+        redact_counting(
+            self.alloc,
+            self.automaton,
+            self.replacements,
+            counts,
+            source,
+            sink,
+        )
+    }
+}
