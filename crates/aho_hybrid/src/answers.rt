@@ -108,8 +108,8 @@ pub fn rows_do_not_change_overlapping_finds(
 ///
 /// # Errors
 ///
-/// As those of `try_stream_find_iter`, for the first stream that fails: `Read` where a read fails, `PositionLimit` where 2^63 - 1
-/// bytes were given and the end was not seen, and `Memory` where an allocation fails.
+/// As those of `try_stream_find_iter`, for the first stream that fails. The law speaks of what is answered in `Ok`: which error is
+/// answered, and when, it leaves free.
 pub fn rows_do_not_change_stream_finds<R: Source>(
     alloc: Global,
     nfa: &NFA,
@@ -187,7 +187,8 @@ fn next_of<'a, 'r, A: Automaton, R: Source>(
 ///
 /// # Errors
 ///
-/// As those of `replace_stream`, for the first stream that fails.
+/// As those of `replace_stream`, for the first stream that fails. The law speaks of `Ok`: which error is answered, and when, it
+/// leaves free.
 pub fn rows_do_not_change_replaced_streams<R: Source, W: Sink>(
     by_nfa: StreamStart<'_, NFA>,
     by_rows: StreamStart<'_, Hybrid>,

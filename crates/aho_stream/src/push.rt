@@ -52,8 +52,8 @@ fn next_found<W: Walk>(walk: &mut W, progress: &mut StreamProgress) -> Option<Ma
 }
 
 impl StreamProgress {
-    /// Puts bytes behind those that were given, from the front of `bytes` as many as there is room for, and says how many. It takes
-    /// none while `next_match` may find something, nor after the end.
+    /// Puts bytes behind those that were given, from the front of `bytes`, and says how many. It takes none while `next_match` may
+    /// find something, after the end, or at the limit; else at least one. How many more it takes depends on the room in the buffer.
     pub fn push<A: Automaton>(&mut self, automaton: &A, bytes: &[u8]) -> usize
         requires after { IsUnderWay A.Automaton automaton.now 0 self.old }
         requires open { self.old.refused ≡ false }
@@ -72,7 +72,7 @@ impl StreamProgress {
         self.add(bytes)
     }
 
-    /// Puts bytes behind those that are kept, as many as there is room for.
+    /// Puts bytes behind those that are kept, and says how many.
     fn add(&mut self, bytes: &[u8]) -> usize
         requires limited { self.old.read ≤ self.old.limit }
         ensures within { result ≤ length bytes.now }
