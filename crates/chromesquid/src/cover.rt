@@ -14,7 +14,7 @@ ghost use Rattle.aho_stream.specs.Replacing.{GaveAsMany, IsMakingRefusal};
 ghost use Rattle.chromesquid.specs.Covers.{CanCoverAll, CoversBeginning, CoversBytes, CoversNearly, CoversWhole, why_not_covered};
 
 use crate::searcher::AhoCorasick;
-use crate::standing::cover_stream_by;
+use crate::standing::{cover_bytes_by, cover_stream_by};
 use aho_automaton::automaton::Automaton;
 use aho_core::error::{ReplaceError, StreamError};
 use aho_devices::device::{Sink, Source};
@@ -125,7 +125,10 @@ impl AhoCorasick {
         ensures answered { (reason : MatchErrorKind) → CanCoverAll self.now
             → result ≢ Err (ReplaceError.Match reason) }
     {
-        Automaton::try_cover_all_bytes(self.built(), alloc, haystack, replace_with)
+        match self.rows() {
+            Some(rows) => cover_bytes_by(alloc, rows, self, haystack, replace_with),
+            None => cover_bytes_by(alloc, self.itself(), self, haystack, replace_with),
+        }
     }
 
     /// Writes what the source gives to the sink, but in the place of each run of its cover the bytes for the run's pattern. So

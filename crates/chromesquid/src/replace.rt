@@ -7,7 +7,7 @@ ghost use Rattle.aho_core.specs.declared.search.Anchored.TheVariants.{No};
 ghost use Rattle.chromesquid.specs.InMemory.{EndsOverBytes, EndsOverText, ReplacesBytes, ReplacesText, RunsOverBytes, RunsOverText, StopsOverBytes, StopsOverText, WhereRefused};
 
 use crate::searcher::AhoCorasick;
-use aho_automaton::automaton::Automaton;
+use crate::standing::{replace_bytes_by, replace_bytes_with_by, replace_text_by, replace_text_with_by};
 use aho_core::error::ReplaceError;
 use aho_core::search::Match;
 use std::alloc::{AllocError, Global};
@@ -34,7 +34,7 @@ impl AhoCorasick {
         requires one_each { length replace_with.now ≡ patterns_len_of self.now }
         ensures replaced { ReplacesText self.now haystack.now replace_with.now result }
     {
-        match Automaton::try_replace_all(self.built(), alloc, haystack, replace_with) {
+        match self.try_replace_all(alloc, haystack, replace_with) {
             Ok(text) => Ok(text),
             Err(ReplaceError::Memory) => Err(AllocError),
             Err(ReplaceError::Match(_)) => unreachable!(),
@@ -58,7 +58,10 @@ impl AhoCorasick {
             → result ≡ Err (ReplaceError.Match InvalidInputUnanchored) }
         ensures error { WhereRefused result (RefusesSearch self.now No) }
     {
-        Automaton::try_replace_all(self.built(), alloc, haystack, replace_with)
+        match self.rows() {
+            Some(rows) => replace_text_by(alloc, rows, self, haystack, replace_with),
+            None => replace_text_by(alloc, self.itself(), self, haystack, replace_with),
+        }
     }
 
     /// The bytes with each match replaced by the bytes for its pattern.
@@ -79,7 +82,7 @@ impl AhoCorasick {
         requires one_each { length replace_with.now ≡ patterns_len_of self.now }
         ensures replaced { ReplacesBytes self.now haystack.now replace_with.now result }
     {
-        match Automaton::try_replace_all_bytes(self.built(), alloc, haystack, replace_with) {
+        match self.try_replace_all_bytes(alloc, haystack, replace_with) {
             Ok(bytes) => Ok(bytes),
             Err(ReplaceError::Memory) => Err(AllocError),
             Err(ReplaceError::Match(_)) => unreachable!(),
@@ -103,7 +106,10 @@ impl AhoCorasick {
             → result ≡ Err (ReplaceError.Match InvalidInputUnanchored) }
         ensures error { WhereRefused result (RefusesSearch self.now No) }
     {
-        Automaton::try_replace_all_bytes(self.built(), alloc, haystack, replace_with)
+        match self.rows() {
+            Some(rows) => replace_bytes_by(alloc, rows, self, haystack, replace_with),
+            None => replace_bytes_by(alloc, self.itself(), self, haystack, replace_with),
+        }
     }
 
     /// Appends the text to `dst`, with what the closure appends in the place of each match. Where the closure answers
@@ -126,7 +132,7 @@ impl AhoCorasick {
         requires callable { F.IsAlwaysCallable replace_with }
         ensures run { RunsOverText self.now F.FnMut haystack.now replace_with dst.old result dst.new }
     {
-        match Automaton::try_replace_all_with(self.built(), haystack, dst, replace_with) {
+        match self.try_replace_all_with(haystack, dst, replace_with) {
             Ok(()) => Ok(()),
             Err(ReplaceError::Memory) => Err(AllocError),
             Err(ReplaceError::Match(_)) => unreachable!(),
@@ -153,7 +159,7 @@ impl AhoCorasick {
         requires callable { F.IsAlwaysCallable replace_with }
         ensures run { RunsOverBytes self.now F.FnMut haystack.now replace_with dst.old result dst.new }
     {
-        match Automaton::try_replace_all_with_bytes(self.built(), haystack, dst, replace_with) {
+        match self.try_replace_all_with_bytes(haystack, dst, replace_with) {
             Ok(()) => Ok(()),
             Err(ReplaceError::Memory) => Err(AllocError),
             Err(ReplaceError::Match(_)) => unreachable!(),
@@ -182,7 +188,10 @@ impl AhoCorasick {
         ensures error { WhereRefused result (RefusesSearch self.now No) }
         ensures unchanged { WhereRefused result (dst.new ≡ dst.old) }
     {
-        Automaton::try_replace_all_with(self.built(), haystack, dst, replace_with)
+        match self.rows() {
+            Some(rows) => replace_text_with_by(rows, self, haystack, dst, replace_with),
+            None => replace_text_with_by(self.itself(), self, haystack, dst, replace_with),
+        }
     }
 
     /// Appends the bytes to `dst` as `replace_all_with_bytes` does.
@@ -206,6 +215,9 @@ impl AhoCorasick {
         ensures error { WhereRefused result (RefusesSearch self.now No) }
         ensures unchanged { WhereRefused result (dst.new ≡ dst.old) }
     {
-        Automaton::try_replace_all_with_bytes(self.built(), haystack, dst, replace_with)
+        match self.rows() {
+            Some(rows) => replace_bytes_with_by(rows, self, haystack, dst, replace_with),
+            None => replace_bytes_with_by(self.itself(), self, haystack, dst, replace_with),
+        }
     }
 }

@@ -1,9 +1,10 @@
-//! Which automaton answers a call over a stream. It is asked for once a call.
+//! Which automaton answers a call that replaces, in memory or in a stream. It is asked for once a call.
 
 ghost use Rattle.std.specs.Prelude.{◌≡◌, ◌≢◌, IfErr, Err, IfSome, length, true};
-ghost use Rattle.aho_automaton.specs.Covering.{cover_refusal};
+ghost use Rattle.aho_automaton.specs.Covering.{RefusesCover, cover_refusal};
 ghost use Rattle.aho_core.specs.declared.error.MatchErrorKind.{MatchErrorKind};
 ghost use Rattle.aho_core.specs.declared.error.MatchErrorKind.TheVariants.{InvalidInputUnanchored, UnsupportedEmpty};
+ghost use Rattle.aho_core.specs.declared.error.replace.ReplaceError.{ReplaceError};
 ghost use Rattle.aho_core.specs.declared.error.stream.StreamError.{StreamError};
 ghost use Rattle.aho_core.specs.declared.search.Anchored.TheVariants.{No};
 ghost use Rattle.aho_cover.specs.Covers.{RefusesStreamCover};
@@ -12,20 +13,21 @@ ghost use Rattle.aho_stream.specs.After.{greatest_position};
 ghost use Rattle.aho_stream.specs.Refills.{is_limit};
 ghost use Rattle.aho_stream.specs.Replacing.{GaveAsMany, IsMakingRefusal};
 ghost use Rattle.aho_stream.specs.StreamRun.{RefusesUntouched};
-ghost use Rattle.chromesquid.specs.Covers.{CanCoverAll, CoversBeginning, CoversNearly, CoversWhole, why_not_covered};
+ghost use Rattle.chromesquid.specs.Covers.{CanCoverAll, CoversBeginning, CoversBytes, CoversNearly, CoversWhole, why_not_covered};
+ghost use Rattle.chromesquid.specs.InMemory.{EndsOverBytes, EndsOverText, ReplacesBytes, ReplacesText, StopsOverBytes, StopsOverText, WhereRefused};
 ghost use Rattle.chromesquid.specs.Searcher.{Answers, HasEmpty, HasNoEmpty, RefusesSearch, StandsFor, patterns_len_of};
 ghost use Rattle.chromesquid.specs.Streams.{ReplacesBeginning, ReplacesNearly, ReplacesWhole, RunsStream};
 
 use crate::kinds::is_allowed;
 use crate::searcher::AhoCorasick;
 use aho_automaton::automaton::Automaton;
-use aho_core::error::StreamError;
+use aho_core::error::{ReplaceError, StreamError};
 use aho_core::search::{Anchored, Match};
 use aho_cover::stream::try_stream_cover_all;
 use aho_devices::device::{Sink, Source};
 use aho_hybrid::hybrid::Hybrid;
 use aho_stream::replace::{try_stream_replace_all, try_stream_replace_all_with};
-use std::alloc::Global;
+use std::alloc::{AllocError, Global};
 
 impl AhoCorasick {
     /// The rows that answer searches that are not anchored, where the searcher has some and answers these.
@@ -135,4 +137,102 @@ pub(crate) fn cover_stream_by<A: Automaton, R: Source, W: Sink>(
         → result ≢ Err (StreamError.Match reason) }
 {
     try_stream_cover_all(alloc, automaton, source, sink, replace_with)
+}
+
+/// `AhoCorasick::try_replace_all` by an automaton that answers as the searcher does.
+pub(crate) fn replace_text_by<A: Automaton>(
+    alloc: Global,
+    automaton: &A,
+    searcher: &AhoCorasick,
+    haystack: &str,
+    replace_with: &[&str],
+) -> Result<String, ReplaceError>
+    requires stands { StandsFor A.Automaton automaton.now searcher.now }
+    requires one_each { length replace_with.now ≡ patterns_len_of searcher.now }
+    ensures replaced { ReplacesText searcher.now haystack.now replace_with.now result }
+    ensures refused { RefusesSearch searcher.now No
+        → result ≡ Err (ReplaceError.Match InvalidInputUnanchored) }
+    ensures error { WhereRefused result (RefusesSearch searcher.now No) }
+{
+    automaton.try_replace_all(alloc, haystack, replace_with)
+}
+
+/// `AhoCorasick::try_replace_all_bytes` by an automaton that answers as the searcher does.
+pub(crate) fn replace_bytes_by<A: Automaton>(
+    alloc: Global,
+    automaton: &A,
+    searcher: &AhoCorasick,
+    haystack: &[u8],
+    replace_with: &[&[u8]],
+) -> Result<Vec<u8>, ReplaceError>
+    requires stands { StandsFor A.Automaton automaton.now searcher.now }
+    requires one_each { length replace_with.now ≡ patterns_len_of searcher.now }
+    ensures replaced { ReplacesBytes searcher.now haystack.now replace_with.now result }
+    ensures refused { RefusesSearch searcher.now No
+        → result ≡ Err (ReplaceError.Match InvalidInputUnanchored) }
+    ensures error { WhereRefused result (RefusesSearch searcher.now No) }
+{
+    automaton.try_replace_all_bytes(alloc, haystack, replace_with)
+}
+
+/// `AhoCorasick::try_replace_all_with` by an automaton that answers as the searcher does.
+pub(crate) fn replace_text_with_by<A: Automaton, F>(
+    automaton: &A,
+    searcher: &AhoCorasick,
+    haystack: &str,
+    dst: &mut String,
+    replace_with: F,
+) -> Result<(), ReplaceError>
+where
+    F: FnMut(&Match, &str, &mut String) -> Result<bool, AllocError>,
+    requires stands { StandsFor A.Automaton automaton.now searcher.now }
+    requires callable { F.IsAlwaysCallable replace_with }
+    ensures run { EndsOverText searcher.now F.FnMut haystack.now replace_with dst.old result dst.new }
+    ensures stopped { StopsOverText searcher.now F.FnMut haystack.now replace_with dst.old result dst.new }
+    ensures refused { RefusesSearch searcher.now No
+        → result ≡ Err (ReplaceError.Match InvalidInputUnanchored) }
+    ensures error { WhereRefused result (RefusesSearch searcher.now No) }
+    ensures unchanged { WhereRefused result (dst.new ≡ dst.old) }
+{
+    automaton.try_replace_all_with(haystack, dst, replace_with)
+}
+
+/// `AhoCorasick::try_replace_all_with_bytes` by an automaton that answers as the searcher does.
+pub(crate) fn replace_bytes_with_by<A: Automaton, F>(
+    automaton: &A,
+    searcher: &AhoCorasick,
+    haystack: &[u8],
+    dst: &mut Vec<u8>,
+    replace_with: F,
+) -> Result<(), ReplaceError>
+where
+    F: FnMut(&Match, &[u8], &mut Vec<u8>) -> Result<bool, AllocError>,
+    requires stands { StandsFor A.Automaton automaton.now searcher.now }
+    requires callable { F.IsAlwaysCallable replace_with }
+    ensures run { EndsOverBytes searcher.now F.FnMut haystack.now replace_with dst.old result dst.new }
+    ensures stopped { StopsOverBytes searcher.now F.FnMut haystack.now replace_with dst.old result dst.new }
+    ensures refused { RefusesSearch searcher.now No
+        → result ≡ Err (ReplaceError.Match InvalidInputUnanchored) }
+    ensures error { WhereRefused result (RefusesSearch searcher.now No) }
+    ensures unchanged { WhereRefused result (dst.new ≡ dst.old) }
+{
+    automaton.try_replace_all_with_bytes(haystack, dst, replace_with)
+}
+
+/// `AhoCorasick::try_cover_all_bytes` by an automaton that answers as the searcher does.
+pub(crate) fn cover_bytes_by<A: Automaton>(
+    alloc: Global,
+    automaton: &A,
+    searcher: &AhoCorasick,
+    haystack: &[u8],
+    replace_with: &[&[u8]],
+) -> Result<Vec<u8>, ReplaceError>
+    requires stands { StandsFor A.Automaton automaton.now searcher.now }
+    requires one_each { length replace_with.now ≡ patterns_len_of searcher.now }
+    ensures covered { CoversBytes searcher.now haystack.now replace_with.now result }
+    ensures refuses { RefusesCover (why_not_covered searcher.now) result }
+    ensures answered { (reason : MatchErrorKind) → CanCoverAll searcher.now
+        → result ≢ Err (ReplaceError.Match reason) }
+{
+    automaton.try_cover_all_bytes(alloc, haystack, replace_with)
 }
