@@ -307,15 +307,18 @@ class AhoCorasick:
         """Whether a pattern occurs."""
         given = self._bytes_of(haystack)
         status = _is_match(self._reference(), given, len(given))
-        _check(status, _FOUND)
-        return status == _FOUND
+        if status == _FOUND:
+            return True
+        _check(status)
+        return False
 
     def find(self, haystack: Haystack) -> Optional[Match]:
         """The first match, None where there is none."""
-        given, found = self._bytes_of(haystack), _Match()
-        status = _find(self._reference(), given, len(given), ctypes.byref(found))
-        _check(status, _FOUND)
+        given, reference = self._bytes_of(haystack), self._reference()
+        found, into = self._own.found
+        status = _find(reference, given, len(given), into)
         if status != _FOUND:
+            _check(status)
             return None
         match = Match(found.pattern, found.start, found.end)
         return next(self._characters([match], given)) if _is_wide(haystack) else match
@@ -419,13 +422,16 @@ class AhoCorasick:
         self._lock, self._own = threading.Lock(), threading.local()
 
     def _reference(self) -> Any:
-        """This thread's own handle: no handle is used by two calls at a time. A process that was forked makes its own anew."""
+        """This thread's own handle: no handle is used by two calls at a time. A process that was forked makes its own anew. With it the
+        thread gets room of its own for a match that is found."""
         try:
             return self._own.reference
         except AttributeError:
             reference = ctypes.byref(_Handle())
             with self._lock:
                 _check(_share(ctypes.byref(self._handle), reference))
+            found = _Match()
+            self._own.found = found, ctypes.byref(found)
             self._own.reference = reference
             return reference
 
@@ -496,11 +502,13 @@ def _is_wide(haystack: Haystack) -> bool:
 
 def _check(status: int, *good: int) -> None:
     """Raises what a status says that is not good."""
+    if status == _DONE:
+        return
     if status == _NO_MEMORY:
         raise MemoryError
     if status in _WHY_REFUSED:
         raise SearchError(_WHY_REFUSED[status])
-    if status != _DONE and status not in good:
+    if status not in good:
         raise RuntimeError(f"the library answered {status}")
 
 
