@@ -1,6 +1,6 @@
 """Makes the wheel of chromesquid.py with its library, for pip and by hand: python3 make_wheel.py FOLDER.
 
-The library is libchromesquid.so of the folder that the environment names as CHROMESQUID_LIBRARY, or else beside this file; bin/clib makes it.
+The library is libchromesquid.so of the folder that the environment names as CHROMESQUID_LIBRARY, or else that of bin/program.
 One library and one version of these files make one wheel, byte for byte."""
 
 import base64
@@ -20,7 +20,7 @@ def _read(*path):
 
 
 def _library():
-    folder = os.environ.get("CHROMESQUID_LIBRARY") or HERE
+    folder = os.environ.get("CHROMESQUID_LIBRARY") or os.path.join(HERE, "..", "..", "bin", "program")
     if not os.path.exists(os.path.join(folder, LIBRARY)):
         raise SystemExit(f"make_wheel: there is no {LIBRARY} in {folder}: bin/clib makes it, and CHROMESQUID_LIBRARY names its folder")
     return _read(folder, LIBRARY)
