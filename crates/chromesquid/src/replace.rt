@@ -7,7 +7,9 @@ ghost use Rattle.aho_core.specs.declared.search.Anchored.TheVariants.{No};
 ghost use Rattle.chromesquid.specs.InMemory.{EndsOverBytes, EndsOverText, ReplacesBytes, ReplacesText, RunsOverBytes, RunsOverText, StopsOverBytes, StopsOverText, WhereRefused};
 
 use crate::searcher::AhoCorasick;
-use crate::standing::{replace_bytes_by, replace_bytes_with_by, replace_text_by, replace_text_with_by};
+use crate::standing::{
+    replace_bytes_by, replace_bytes_with_by, replace_text_by, replace_text_with_by,
+};
 use aho_core::error::ReplaceError;
 use aho_core::search::Match;
 use std::alloc::{AllocError, Global};
