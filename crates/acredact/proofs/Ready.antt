@@ -21,7 +21,7 @@ use Rattle.acredact.specs.Loading.{AreGiven, OptionGives, Reading, Rules}
 use Rattle.acredact.specs.Secrets.{CanRedact}
 use Rattle.acredact.specs.Tables.{HaveNoEmpty, HoldsBy, Secret, patterns_in}
 use Rattle.acredact.specs.declared.arguments.Word.{Word}
-use Rattle.acredact.specs.declared.arguments.Word.TheVariants.{IgnoreCase, Kind, Pattern, Patterns as PatternFile, Table, With, Count, Crlf, AllowEmpty, Help, Version, File}
+use Rattle.acredact.specs.declared.arguments.Word.TheVariants.{IgnoreCase, Kind, Pattern, Patterns as PatternFile, Table, With, Count, Crlf, AllowEmpty, Strict, Help, Version, File}
 use Rattle.acredact.specs.declared.patterns.Form.{Form}
 
 abbrev pub IsSomeSecret : Secret → Type 0
@@ -51,6 +51,7 @@ option_some reading With value secrets left left' gives = none_some secrets give
 option_some reading Count value secrets left left' gives = none_some secrets gives.0
 option_some reading Crlf value secrets left left' gives = none_some secrets gives.0
 option_some reading AllowEmpty value secrets left left' gives = none_some secrets gives.0
+option_some reading Strict value secrets left left' gives = none_some secrets gives.0
 option_some reading Help value secrets left left' gives = none_some secrets gives.0
 option_some reading Version value secrets left left' gives = none_some secrets gives.0
 option_some reading File value secrets left left' gives = none_some secrets gives.0
