@@ -1,4 +1,5 @@
-use Rattle.std.proofs.Common.{◌<◌, length, below_more, arith, take_all}
+-- One byte more is marked.
+use Rattle.std.proofs.Common.{◌<◌, length, below_more, arith, sym}
 use Rattle.acredact.proofs.Flaws.{marked_here, marked_still, word_marked}
 use Rattle.acredact.proofs.clean.mark.Goals as goal
 
@@ -6,7 +7,7 @@ pub loop-byte-preserved : goal.loop-byte-preserved
 loop-byte-preserved c =
     let within : c.folded.result < length c.loop-byte.marks = omega arith in
     record {
-      marked = below_more _ _ (λ place below. marked_still c.loop-byte.marks c.folded.result _ within (c.loop-byte.invariant.marked place below)) (marked_here c.loop-byte.marks c.folded.result _ within (search rules));
+      marked = below_more _ _ (λ place below. marked_still c.loop-byte.marks c.folded.result _ within (c.loop-byte.invariant.marked place below)) (marked_here c.loop-byte.marks c.folded.result _ within (sym c.folded.ensures.folded));
       stay = λ place is. marked_still c.loop-byte.marks c.folded.result place within (c.loop-byte.invariant.stay place is);
     }
 

@@ -6,4 +6,7 @@ use Rattle.acredact.specs.Pieces.{IsMarked}
 use Rattle.acredact.proofs.clean.marks_of.Given as goal
 
 abbrev pub invariant-loop-word : goal.invariant-loop-word
-invariant-loop-word l = (number : ℕ) → number < l.word-index → IsMarked l.fn.ignore_case (get_or (pieces_of l.fn.words) number []) l.marks
+invariant-loop-word l = record {
+  sized : length l.marks ≡ 256;
+  marked : (number : ℕ) → number < l.word-index → IsMarked l.fn.ignore_case (get_or (pieces_of l.fn.words) number []) l.marks;
+}
