@@ -64,6 +64,11 @@ piece_tells K call fails secrets old new (Some unclean, judged, (lax, told)) = r
   written = subst (TellsBytes K old new) (sym (append-nil (unclean_line unclean))) told;
 }
 
+-- and so may what is told behind it
+told_behind : {E : Type 0} (K : SinkGhosts E) (call : Call) (old mid new : Errors E) (fails : Type 0) (result : Result Bool Failure) → Tells K (IsLineOf call fails) old mid → OnErr result (Tells K (IsLineOf call fails) mid new) → OnErr result (Tells K (IsLineOf call fails) old new)
+told_behind K call old mid new fails (Ok all) first told = tt
+told_behind K call old mid new fails (Err failure) first told = tells_both K (IsLineOf call fails) old mid new first told
+
 -- no file was read
 module _ {R : Type 0} {Reads : Readers R} {W E : Type 0} (Writes : Writers W) (K : SinkGhosts E) (strict : Bool) (work : Work) where
   pub warned_refused : (streams : Streams R W E Reads) (failure : Failure) → IsRunFailure (OutputFails streams.output streams.output) failure → WarnedOutcome Writes K strict work (Err failure) streams streams
@@ -73,15 +78,23 @@ module _ {R : Type 0} {Reads : Readers R} {W E : Type 0} (Writes : Writers W) (K
   pub warned_memory : (streams : Streams R W E Reads) → WarnedOutcome Writes K strict work (Err (Other OutOfMemory)) streams streams
   warned_memory streams = warned_refused streams (Other OutOfMemory) (inr (inl refl))
 
+  -- a piece is refused
+  pub warned_strict : (streams : Streams R W E Reads) (errors : Errors E) (answer : Option Unclean) (failure : Failure) → IsJudged work.redactor answer
+      → (piece : Unclean) × (answer ≡ Some piece) × (failure ≡ UncleanPiece piece) × (strict ≡ true) → errors ≡ streams.errors → WarnedOutcome Writes K strict work (Err failure) streams (record streams { errors = errors })
+  warned_strict streams errors answer failure judged (piece, is, fails, asked) same =
+      let here : IsJudged work.redactor (Some piece) = subst (λ (a : Option Unclean). IsJudged work.redactor a) is judged in
+      inl (failure, refl, ap (λ (e : Errors E). record streams { errors = e }) same, inl (piece, fails, asked, here.0, here.1))
+
+  -- files are redacted behind what is told of pieces
+  pub warned_run : (old new : Streams R W E Reads) (errors : Errors E) (answer : Option Unclean) (result : Result Bool Failure) → IsJudged work.redactor answer → TellsUnclean K strict answer old.errors errors
+      → RunOutcome Writes K work result (record old { errors = errors }) new → WarnedOutcome Writes K strict work result old new
+  warned_run old new errors answer result judged told run = inr (errors, (answer, judged, told), run)
+
 module _ {R : Type 0} {Reads : Readers R} {W E : Type 0} (Writes : Writers W) (K : SinkGhosts E) (call : Call) (left : Option (List ℕ)) where
   refused_other : (old new : Streams R W E Reads) (result : Result Bool Failure) → IfErr result (λ failure. (unclean : Unclean) → failure ≡ UncleanPiece unclean → ⊥)
       → IfErr result (λ failure. (unclean : Unclean) → failure ≡ UncleanPiece unclean → IsUntouched Writes K old new)
   refused_other old new (Ok all) other = tt
   refused_other old new (Err failure) other = λ unclean is. absurd (other unclean is)
-
-  told_behind : (old mid new : Errors E) (fails : Type 0) (result : Result Bool Failure) → Tells K (IsLineOf call fails) old mid → OnErr result (Tells K (IsLineOf call fails) mid new) → OnErr result (Tells K (IsLineOf call fails) old new)
-  told_behind old mid new fails (Ok all) first told = tt
-  told_behind old mid new fails (Err failure) first told = tells_both K (IsLineOf call fails) old mid new first told
 
   module _ (secrets : List Secret) (old mid : Streams R W E Reads) (loaded : AreGiven (reading_by call) call.given secrets left (bytes_left old.input)) where
     -- what comes of the files comes behind what is told of the pieces
@@ -111,7 +124,7 @@ module _ {R : Type 0} {Reads : Readers R} {W E : Type 0} (Writes : Writers W) (K
           counts = λ some is. (errors, record { secrets = secrets; between = bytes_left old.input; loaded = loaded; told = told }, rest.counts some is);
           partly = λ is. some_behind K (IsLineOf call (OutputFails old.output new.output)) old.errors errors new.errors (first _) (rest.partly is);
           fails = rest.fails;
-          told = told_behind old.errors errors new.errors (OutputFails old.output new.output) result (first _) rest.told;
+          told = told_behind K call old.errors errors new.errors (OutputFails old.output new.output) result (first _) rest.told;
         }
 
     -- the files' redaction fails, or is refused

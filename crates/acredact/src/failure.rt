@@ -1,13 +1,13 @@
 //! Why a call ends early, and how that is told.
 
-ghost use Rattle.std.specs.Prelude.{◌≡◌, ℕ, List};
+ghost use Rattle.std.specs.Prelude.{◌≡◌, ℕ, List, decimal};
 ghost use Rattle.programs.specs.Messages.{reason_text};
 ghost use Rattle.programs.specs.Telling.{TellsBytes};
 ghost use Rattle.acredact.specs.Failures.{IsFailureLine, IsOtherLine, bad_line, is_of_output};
 ghost use Rattle.acredact.specs.LineFaults.{line_fault_text};
 ghost use Rattle.acredact.specs.Messages.{alone, flaw_text, line_about, piece_line, told_line, unclean_line};
 ghost use Rattle.acredact.specs.Mistakes.{mistake_message};
-ghost use Rattle.acredact.specs.declared.clean.Flaw.TheVariants.{Spells};
+ghost use Rattle.acredact.specs.declared.clean.Flaw.TheVariants.{Empty, Spells};
 
 use crate::arguments::{Mistake, name_of};
 use crate::clean::{Flaw, Unclean};
@@ -139,35 +139,52 @@ pub fn tell_failure<E: Sink>(errors: &mut Errors<'_, E>, failure: &Failure<'_>)
 pub fn tell_unclean<E: Sink>(errors: &mut Errors<'_, E>, unclean: Unclean)
     ensures told { TellsBytes E.Sink errors.old errors.new (unclean_line unclean) }
 {
-    let mut room = [0; MAX_DIGITS];
-    let start = write_digits(unclean.number as u64, &mut room, MAX_DIGITS);
-    let number = &room[start..];
     match unclean.flaw {
-        Flaw::Empty => errors.write(&[
-            PROGRAM,
-            b": the replacement of pattern ",
-            number,
-            b" is empty: what stands beside it can spell a pattern\n",
-        ]),
-        Flaw::Spells(pattern) => tell_spelled(errors, number, pattern),
+        Flaw::Empty => tell_empty(errors, unclean.number),
+        Flaw::Spells(pattern) => tell_spelled(errors, unclean.number, pattern),
     }
 }
 
-/// Tells that the piece of a pattern can spell another.
-fn tell_spelled<E: Sink>(errors: &mut Errors<'_, E>, number: &[u8], pattern: usize)
+/// Tells that the piece of a pattern is empty.
+fn tell_empty<E: Sink>(errors: &mut Errors<'_, E>, number: usize)
     ensures told { TellsBytes E.Sink errors.old errors.new
-        (piece_line number.now (flaw_text (Spells pattern))) }
+        (piece_line (decimal number) (flaw_text Empty)) }
 {
     let mut room = [0; MAX_DIGITS];
-    let start = write_digits(pattern as u64, &mut room, MAX_DIGITS);
+    let digits = digits_of(number, &mut room);
     errors.write(&[
         PROGRAM,
         b": the replacement of pattern ",
-        number,
+        digits,
+        b" is empty: what stands beside it can spell a pattern\n",
+    ]);
+}
+
+/// Tells that the piece of a pattern can spell this one.
+fn tell_spelled<E: Sink>(errors: &mut Errors<'_, E>, number: usize, pattern: usize)
+    ensures told { TellsBytes E.Sink errors.old errors.new
+        (piece_line (decimal number) (flaw_text (Spells pattern))) }
+{
+    let mut room = [0; MAX_DIGITS];
+    let mut other_room = [0; MAX_DIGITS];
+    let digits = digits_of(number, &mut room);
+    let other_digits = digits_of(pattern, &mut other_room);
+    errors.write(&[
+        PROGRAM,
+        b": the replacement of pattern ",
+        digits,
         b" can spell pattern ",
-        &room[start..],
+        other_digits,
         b" with what stands beside it\n",
-    ])
+    ]);
+}
+
+/// The digits of a number, in this room.
+fn digits_of(number: usize, room: &mut [u8; MAX_DIGITS]) -> &[u8]
+    ensures digits { result.now ≡ decimal number }
+{
+    let start = write_digits(number as u64, room, MAX_DIGITS);
+    &room[start..]
 }
 
 /// Tells as a line what is wrong with the arguments.
