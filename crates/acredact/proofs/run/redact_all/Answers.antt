@@ -15,17 +15,19 @@ use Rattle.aho_hybrid.specs.contracts.hybrid.HybridAutomaton.TheImpl.Laws.{laws-
 use Rattle.aho_hybrid.specs.declared.hybrid.Hybrid.{Hybrid}
 use Rattle.programs.specs.Asked.{ArePatterns}
 use Rattle.programs.specs.Names.{name_bytes}
-use Rattle.acredact.specs.Arguments.{all_given, covers_asked}
+use Rattle.acredact.specs.Arguments.{all_given, covers_asked, has}
 use Rattle.acredact.specs.Builds.{patterns_by_given}
 use Rattle.acredact.specs.Calls.{WarnedOutcome, call_of, names_asked, pieces_asked, work_by}
 use Rattle.acredact.specs.Secrets.{CanRedact}
 use Rattle.acredact.specs.Tables.{patterns_in, piece_by, secrets_of}
 use Rattle.acredact.specs.declared.failure.Failure.{Failure}
+use Rattle.acredact.specs.declared.arguments.Word.TheVariants.{Strict}
 use Rattle.acredact.specs.declared.failure.Failure.TheVariants.{Other}
+use Rattle.programs.specs.declared.failure.Failure.TheVariants.{OutOfMemory}
 use Rattle.programs.proofs.Lent.{lent}
 use Rattle.acredact.proofs.Ready.{covers_standard, ready_of, some_shortest}
 use Rattle.acredact.proofs.Calls.{work_as}
-use Rattle.acredact.proofs.Warned.{warned_memory, warned_refused}
+use Rattle.acredact.proofs.Warned.{warned_memory}
 use Rattle.acredact.proofs.run.redact_all.Goals.{After-as_ref}
 use Rattle.acredact.proofs.run.redact_all.Given.{Over}
 use Rattle.acredact.proofs.run.redact_all.Goals as goal
@@ -77,6 +79,13 @@ redact_warned-requires g c =
       rows = rows_ready c.as_ref.result p _ (rows_are g after) starts c.covers.result standard some one;
       words = one ∙ sym (ap length (words_are g after)) ∙ length-map c.as_slice-words.result.now (λ piece. piece.now);
     }
+
+pub returns-in_err-rows-clause-outcome : goal.returns-in_err-rows-clause-outcome
+returns-in_err-rows-clause-outcome g c =
+    let work = work_by (call_of g.F.Folder c.args.folder.now (all_given c.args.given.now)) (secrets_of c.args.rules.now) in
+    let is : c.from_residual-in_err-rows.result ≡ Err (Other OutOfMemory) = search rules in
+    subst (λ (r : Result Bool Failure). WarnedOutcome g.W.Write g.E.Sink (has Strict (all_given c.args.given.now)) work r c.args.streams.now c.args.streams.now) (sym is)
+    (warned_memory g.W.Write g.E.Sink (has Strict (all_given c.args.given.now)) work c.args.streams.now)
 
 pub returns-clause-outcome : goal.returns-clause-outcome
 returns-clause-outcome g c =
