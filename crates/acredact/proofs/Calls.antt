@@ -1,6 +1,6 @@
 -- What comes of a call, by what comes of its files.
 use Rattle.std.proofs.Common.{◌≡◌, inl, inr, ℕ, List, [], ◌∷◌, ◌++◌, Option, true, false, refl, sym, ap, subst, ◌∙◌, append-nil}
-use Rattle.std.specs.Prelude.{Bool, ◌⊎◌, MatchBool, None, Some, Result, Ok, Err, IfErr, IfOk, OnErr, OnOk}
+use Rattle.std.specs.Prelude.{Bool, MatchBool, Result, Ok, Err, IfErr, IfOk, OnOk}
 use Rattle.std.specs.List.{All, concat}
 use Rattle.std.specs.declared.io.traits.Read.{Ghosts as Readers}
 use Rattle.std.specs.declared.io.traits.Write.{Ghosts as Writers}
@@ -11,19 +11,17 @@ use Rattle.aho_core.specs.declared.error.stream.StreamError.TheVariants.{Match, 
 use Rattle.aho_devices.specs.declared.adapters.FromRead.{FromRead}
 use Rattle.aho_devices.specs.declared.device.Sink.{Ghosts as SinkGhosts}
 use Rattle.programs.specs.Failures.{failure_of_stream}
-use Rattle.programs.specs.Names.{IsAmong}
-use Rattle.programs.specs.Streams.{output_bytes, bytes_left}
+use Rattle.programs.specs.Streams.{bytes_left}
 use Rattle.programs.specs.Telling.{Tells, TellsBytes, TellsSome}
 use Rattle.programs.specs.declared.errors.Errors.{Errors}
 use Rattle.programs.specs.declared.failure.Failure.TheVariants.{Build, OutOfMemory, Write as NotWritten, WriteZero as TakesNothing}
 use Rattle.programs.specs.declared.reason.Reason.{Reason}
 use Rattle.programs.proofs.Tellings.{tells-later}
-use Rattle.acredact.specs.Arguments.{Given, has}
-use Rattle.acredact.specs.Calls.{BeginsCall, BeginsFiles, Call, CallOutcome, IsCountsFailure, IsCountsLine, IsLineOf, IsRunFailure, IsUnreadLine, IsUntouched, LeavesNone, MayFail, OutputFails, RedactsCall, RestOutcome, RunOutcome, TellsCounts, names_asked, reading_by, work_by}
+use Rattle.acredact.specs.Arguments.{has}
+use Rattle.acredact.specs.Calls.{BeginsCall, Call, CallOutcome, IsCountsFailure, IsCountsLine, IsLineOf, IsRunFailure, IsUnreadLine, IsUntouched, MayFail, OutputFails, RestOutcome, RunOutcome, TellsCounts, names_asked, work_by}
 use Rattle.acredact.specs.Counts.{counts_text}
-use Rattle.acredact.specs.Files.{AreCut, AreDone, FilesOutcome, IsDone, Work, are_none, unread_line}
-use Rattle.acredact.specs.Loading.{AreGiven}
-use Rattle.acredact.specs.Tables.{Secret, patterns_in}
+use Rattle.acredact.specs.Files.{AreCut, FilesOutcome, IsDone, Work, are_none, unread_line}
+use Rattle.acredact.specs.Tables.{Secret}
 use Rattle.acredact.specs.declared.arguments.Word.TheVariants.{Count}
 use Rattle.acredact.specs.declared.clean.Unclean.{Unclean}
 use Rattle.acredact.specs.declared.failure.Failure.{Failure}
@@ -127,7 +125,6 @@ may_fail call fails failure is = inr (inr (inr (inr is)))
 -- the files of a call whose patterns were loaded
 module _ {R : Type 0} {Reads : Readers R} {W E : Type 0} (Writes : Writers W) (K : SinkGhosts E) (call : Call) where
   module _ (secrets : List Secret) (old mid : Streams R W E Reads) where
-
     lines_cut : (fails : Type 0) (lines : List (List ℕ)) (left' held held' : Option (List ℕ)) → AreCut (work_by call secrets) (work_by call secrets).names lines (bytes_left old.input) left' held held' → All (IsLineOf call fails) lines
     lines_cut fails lines left' held held' cut = All-weaker (IsUnreadLine (names_asked call.given)) (IsLineOf call fails) (λ line is. inl is) lines (unread_of (work_by call secrets) (work_by call secrets).names lines (bytes_left old.input) left' held held' cut)
 

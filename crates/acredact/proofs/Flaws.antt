@@ -20,7 +20,6 @@ use Rattle.acredact.specs.Pieces.{AreMarked, HoldNone, HoldsByte, IsFlaw, IsHold
 use Rattle.acredact.specs.Secrets.{NoneOccurs}
 use Rattle.acredact.specs.declared.clean.Flaw.{Flaw}
 use Rattle.acredact.specs.declared.clean.Flaw.TheVariants.{Empty, Spells}
-use Rattle.acredact.specs.declared.clean.Unclean.{Unclean}
 
 -- what stands at a place is a member, and each member stands at one
 pub member_at : (xs : List ℕ) (place : ℕ) → place < length xs → IsMember xs (get_or xs place 0)

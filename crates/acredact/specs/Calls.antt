@@ -1,5 +1,5 @@
 -- What a call does, by what its arguments ask for, and what it tells.
-use Rattle.std.specs.Prelude.{◌≡◌, ◌⊎◌, ℕ, ◌&&◌, ◌||◌, Bool, true, false, List, [], ◌∷◌, Option, Result, Ok, Err, IfErr, IfOk, OnErr, OnOk, codes, map, unwrap_or, if◌then◌else◌}
+use Rattle.std.specs.Prelude.{◌≡◌, ◌⊎◌, ℕ, ◌||◌, Bool, true, false, List, [], ◌∷◌, Option, Result, Ok, Err, IfErr, IfOk, OnErr, codes, map, unwrap_or, if◌then◌else◌}
 use Rattle.std.specs.declared.io.traits.Read.{Ghosts as Readers}
 use Rattle.std.specs.declared.io.traits.Write.{Ghosts as Writers}
 use Rattle.aho_core.specs.declared.error.BuildError.{BuildError}
@@ -11,7 +11,7 @@ use Rattle.programs.specs.Streams.{output_bytes, bytes_left}
 use Rattle.programs.specs.Telling.{Tells, TellsBytes, TellsSome}
 use Rattle.programs.specs.declared.errors.Errors.{Errors}
 use Rattle.programs.specs.declared.failure.Failure.{Failure as OtherFailure}
-use Rattle.programs.specs.declared.failure.Failure.TheVariants.{Usage, Build, Search, OutOfMemory, PositionLimit, Read, Write, WriteZero}
+use Rattle.programs.specs.declared.failure.Failure.TheVariants.{Build, OutOfMemory, Write, WriteZero}
 use Rattle.programs.specs.declared.reason.Reason.{Reason}
 use Rattle.acredact.specs.Arguments.{Given, GivesNoPattern, covers_asked, has, is_same, last_value}
 use Rattle.acredact.specs.Builds.{patterns_by_given}
@@ -26,11 +26,10 @@ use Rattle.acredact.specs.Secrets.{Redactor}
 use Rattle.acredact.specs.Tables.{Secret, patterns_in, piece_by, secrets_of}
 use Rattle.acredact.specs.declared.arguments.Expects.TheVariants.{Any}
 use Rattle.acredact.specs.declared.arguments.Mistake.TheVariants.{NoPattern, OutOfMemory as NoRoom}
-use Rattle.acredact.specs.declared.arguments.Word.{Word}
 use Rattle.acredact.specs.declared.arguments.Word.TheVariants.{Count, Crlf, AllowEmpty, Strict, File, Pattern as PatternOption, Patterns as PatternFile, Table, With}
 use Rattle.acredact.specs.declared.clean.Unclean.{Unclean}
 use Rattle.acredact.specs.declared.failure.Failure.{Failure}
-use Rattle.acredact.specs.declared.failure.Failure.TheVariants.{NotText, Arguments, Pattern, Unread, Empty, Line, Unclean as UncleanPiece, Counts, Other}
+use Rattle.acredact.specs.declared.failure.Failure.TheVariants.{NotText, Arguments, Unclean as UncleanPiece, Counts, Other}
 use Rattle.acredact.specs.declared.folder.Folder.{Ghosts as Folders}
 use Rattle.acredact.specs.declared.patterns.Rule.{Rule}
 use Rattle.acredact.specs.declared.streams.Streams.{Streams}

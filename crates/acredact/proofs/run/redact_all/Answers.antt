@@ -1,6 +1,6 @@
 -- Both automata are of the patterns that are asked for, and there is a replacement for each.
-use Rattle.std.proofs.Common.{rules, ◌≡◌, ◌≤◌, ◌∙◌, ap, sym, subst, length, map, true, List, ℕ, refl}
-use Rattle.std.specs.Prelude.{Bool, IfSome, IsOk, None, Ok, Option, Some, Err, Result}
+use Rattle.std.proofs.Common.{rules, ◌≡◌, ◌≤◌, ◌∙◌, ap, sym, subst, length, map, true, List, ℕ}
+use Rattle.std.specs.Prelude.{Bool, IfSome, IsOk, None, Option, Some, Err, Result}
 use Rattle.std.specs.Borrow.{Bor}
 use Rattle.std.proofs.lemmas.List.{length-map}
 use Rattle.aho_core.specs.Laws.{shortest}
