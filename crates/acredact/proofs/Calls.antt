@@ -1,6 +1,6 @@
 -- What comes of a call, by what comes of its files.
 use Rattle.std.proofs.Common.{◌≡◌, inl, inr, ℕ, List, [], ◌∷◌, ◌++◌, Option, true, false, refl, sym, ap, subst, ◌∙◌, append-nil}
-use Rattle.std.specs.Prelude.{Bool, ◌⊎◌, MatchBool, None, Some, Result, Ok, Err, IfErr, IfOk, OnErr, OnOk}
+use Rattle.std.specs.Prelude.{Bool, MatchBool, Result, Ok, Err, IfErr, IfOk, OnOk}
 use Rattle.std.specs.List.{All, concat}
 use Rattle.std.specs.declared.io.traits.Read.{Ghosts as Readers}
 use Rattle.std.specs.declared.io.traits.Write.{Ghosts as Writers}
@@ -11,22 +11,21 @@ use Rattle.aho_core.specs.declared.error.stream.StreamError.TheVariants.{Match, 
 use Rattle.aho_devices.specs.declared.adapters.FromRead.{FromRead}
 use Rattle.aho_devices.specs.declared.device.Sink.{Ghosts as SinkGhosts}
 use Rattle.programs.specs.Failures.{failure_of_stream}
-use Rattle.programs.specs.Names.{IsAmong}
-use Rattle.programs.specs.Streams.{output_bytes, bytes_left}
+use Rattle.programs.specs.Streams.{bytes_left}
 use Rattle.programs.specs.Telling.{Tells, TellsBytes, TellsSome}
 use Rattle.programs.specs.declared.errors.Errors.{Errors}
-use Rattle.programs.specs.declared.failure.Failure.TheVariants.{OutOfMemory}
+use Rattle.programs.specs.declared.failure.Failure.TheVariants.{Build, OutOfMemory, Write as NotWritten, WriteZero as TakesNothing}
 use Rattle.programs.specs.declared.reason.Reason.{Reason}
 use Rattle.programs.proofs.Tellings.{tells-later}
-use Rattle.acredact.specs.Arguments.{Given, has}
-use Rattle.acredact.specs.Calls.{BeginsCall, BeginsFiles, Call, CallOutcome, IsCountsFailure, IsCountsLine, IsLineOf, IsRunFailure, IsUnreadLine, MayFail, OutputFails, RedactsCall, RunOutcome, TellsCounts, names_asked, reading_by, work_by}
+use Rattle.acredact.specs.Arguments.{has}
+use Rattle.acredact.specs.Calls.{BeginsCall, Call, CallOutcome, IsCountsFailure, IsCountsLine, IsLineOf, IsRunFailure, IsUnreadLine, IsUntouched, MayFail, OutputFails, RestOutcome, RunOutcome, TellsCounts, names_asked, work_by}
 use Rattle.acredact.specs.Counts.{counts_text}
-use Rattle.acredact.specs.Files.{AreCut, AreDone, FilesOutcome, IsDone, Work, are_none, unread_line}
-use Rattle.acredact.specs.Loading.{AreGiven}
-use Rattle.acredact.specs.Tables.{Secret, patterns_in}
+use Rattle.acredact.specs.Files.{AreCut, FilesOutcome, IsDone, Work, are_none, unread_line}
+use Rattle.acredact.specs.Tables.{Secret}
 use Rattle.acredact.specs.declared.arguments.Word.TheVariants.{Count}
+use Rattle.acredact.specs.declared.clean.Unclean.{Unclean}
 use Rattle.acredact.specs.declared.failure.Failure.{Failure}
-use Rattle.acredact.specs.declared.failure.Failure.TheVariants.{Counts, Other}
+use Rattle.acredact.specs.declared.failure.Failure.TheVariants.{Counts, Other, Unclean as UncleanPiece}
 use Rattle.acredact.specs.declared.streams.Streams.{Streams}
 use Rattle.acredact.proofs.Done.{concat_both, cut_of, redacted_of, tells_none}
 
@@ -98,6 +97,8 @@ module _ {R : Type 0} {Reads : Readers R} {W E : Type 0} (Writes : Writers W) (K
       → CallOutcome Writes K call left (Err failure) old (record old { input = input })
   call_refused input old failure fails = record {
     redacts = λ (is : Err failure ≡ Ok true). absurd (cc);
+    strict = λ asked covers (is : Err failure ≡ Ok true). absurd (cc);
+    refused = λ unclean is. record { output = refl; errors = refl };
     begins = inl refl;
     quiet = λ none (is : Err failure ≡ Ok true). absurd (cc);
     counts = λ some (is : Err failure ≡ Ok true). absurd (cc);
@@ -106,30 +107,40 @@ module _ {R : Type 0} {Reads : Readers R} {W E : Type 0} (Writes : Writers W) (K
     told = record { told = []; are_lines = All-nil _; written = tells_none K old.errors };
   }
 
-  module _ (secrets : List Secret) (old mid : Streams R W E Reads) (loaded : AreGiven (reading_by call) call.given secrets left (bytes_left old.input)) where
-    -- what may be told, and why
-    may_fail : (fails : Type 0) (failure : Failure) → IsRunFailure fails failure → MayFail call fails failure
-    may_fail fails failure is = inr (inr (inr is))
+-- why a run fails, and that it is no piece
+run_other : (fails : Type 0) (failure : Failure) (unclean : Unclean) → IsRunFailure fails failure → failure ≡ UncleanPiece unclean → ⊥
+run_other fails failure unclean (inl (error, of)) is = let clash : Other (Build error) ≡ UncleanPiece unclean = sym of ∙ is in cc
+run_other fails failure unclean (inr (inl of)) is = let clash : Other OutOfMemory ≡ UncleanPiece unclean = sym of ∙ is in cc
+run_other fails failure unclean (inr (inr (inl of, why))) is = let clash : Other NotWritten ≡ UncleanPiece unclean = sym of ∙ is in cc
+run_other fails failure unclean (inr (inr (inr of, why))) is = let clash : Other TakesNothing ≡ UncleanPiece unclean = sym of ∙ is in cc
 
+counts_other : (counted : Bool) (failure : Failure) (unclean : Unclean) → IsCountsFailure counted failure → failure ≡ UncleanPiece unclean → ⊥
+counts_other counted failure unclean (some, inl of) is = let clash : Counts ≡ UncleanPiece unclean = sym of ∙ is in cc
+counts_other counted failure unclean (some, inr of) is = let clash : Other OutOfMemory ≡ UncleanPiece unclean = sym of ∙ is in cc
+
+-- what may be told, and why
+pub may_fail : (call : Call) (fails : Type 0) (failure : Failure) → IsRunFailure fails failure → MayFail call fails failure
+may_fail call fails failure is = inr (inr (inr (inr is)))
+
+-- the files of a call whose patterns were loaded
+module _ {R : Type 0} {Reads : Readers R} {W E : Type 0} (Writes : Writers W) (K : SinkGhosts E) (call : Call) where
+  module _ (secrets : List Secret) (old mid : Streams R W E Reads) where
     lines_cut : (fails : Type 0) (lines : List (List ℕ)) (left' held held' : Option (List ℕ)) → AreCut (work_by call secrets) (work_by call secrets).names lines (bytes_left old.input) left' held held' → All (IsLineOf call fails) lines
     lines_cut fails lines left' held held' cut = All-weaker (IsUnreadLine (names_asked call.given)) (IsLineOf call fails) (λ line is. inl is) lines (unread_of (work_by call secrets) (work_by call secrets).names lines (bytes_left old.input) left' held held' cut)
 
-    begun_by : (lines : List (List ℕ)) → AreCut (work_by call secrets) (work_by call secrets).names lines (bytes_left old.input) (bytes_left mid.input) (output_bytes Writes old.output) (output_bytes Writes mid.output)
-        → (errors : Errors E) → BeginsCall Writes call left old (record mid { errors = errors })
-    begun_by lines cut errors = inr (record { secrets = secrets; between = bytes_left old.input; loaded = loaded; lines = lines; cut = cut })
-
     -- the files' redaction fails
-    pub call_cut : (failure : Failure) → RunOutcome Writes K (work_by call secrets) (Err failure) old mid → CallOutcome Writes K call left (Err failure) old mid
-    call_cut failure run = record {
+    pub rest_cut : (failure : Failure) → RunOutcome Writes K (work_by call secrets) (Err failure) old mid → RestOutcome Writes K call secrets (Err failure) old mid
+    rest_cut failure run = record {
       redacts = λ (is : Err failure ≡ Ok true). absurd (cc);
       begins = elim run.cut [
         | inl same ↦ inl (ap (λ (s : Streams R W E Reads). s.output) same)
-        | inr cut ↦ begun_by cut.0 cut.1.0 mid.errors
+        | inr cut ↦ inr (cut.0, cut.1.0)
       ];
       quiet = λ none (is : Err failure ≡ Ok true). absurd (cc);
       counts = λ some (is : Err failure ≡ Ok true). absurd (cc);
       partly = λ (is : Err failure ≡ Ok false). absurd (cc);
-      fails = may_fail _ failure run.fails;
+      fails = may_fail call _ failure run.fails;
+      other = λ unclean is. run_other _ failure unclean run.fails is;
       told = elim run.cut [
         | inl same ↦ record { told = []; are_lines = All-nil _; written = subst (λ (s : Streams R W E Reads). TellsBytes K old.errors s.errors []) (sym same) (tells_none K old.errors) }
         | inr cut ↦ record { told = cut.0; are_lines = lines_cut _ cut.0 _ _ _ cut.1.0; written = cut.1.1 }
@@ -141,7 +152,7 @@ module _ {R : Type 0} {Reads : Readers R} {W E : Type 0} (Writes : Writers W) (K
         → TellsBytes K old.errors mid.errors (concat lines) → TellsBytes K mid.errors errors (concat more) → Tells K (IsLineOf call fails) old.errors errors
     lines_both fails lines more errors are counts first later = record {
       told = lines ++ more;
-      are_lines = All-append (IsLineOf call fails) lines more are (All-weaker (IsCountsLine (has Count call.given)) (IsLineOf call fails) (λ line is. inr (inr is)) more counts);
+      are_lines = All-append (IsLineOf call fails) lines more are (All-weaker (IsCountsLine (has Count call.given)) (IsLineOf call fails) (λ line is. inr (inr (inl is))) more counts);
       written = subst (TellsBytes K old.errors errors) (sym (concat_both lines more)) (tells-later K first later);
     }
 
@@ -155,23 +166,18 @@ module _ {R : Type 0} {Reads : Readers R} {W E : Type 0} (Writes : Writers W) (K
         record { first = line; is_line = All-head (IsLineOf call fails) line (lines ++ more) all.are_lines; more = lines ++ more; are_lines = All-tail (IsLineOf call fails) line (lines ++ more) all.are_lines; written = all.written }
 
     -- the counts are told
-    pub call_done : (all : Bool) (errors : Errors E) → RunOutcome Writes K (work_by call secrets) (Ok all) old mid
+    rest_done : (all : Bool) (errors : Errors E) → RunOutcome Writes K (work_by call secrets) (Ok all) old mid
         → MatchBool (has Count call.given) (TellsCounts K mid.errors errors) (errors ≡ mid.errors) → Tells K (IsCountsLine (has Count call.given)) mid.errors errors
-        → CallOutcome Writes K call left (Ok all) old (record mid { errors = errors })
-    call_done all errors run counts told =
+        → RestOutcome Writes K call secrets (Ok all) old (record mid { errors = errors })
+    rest_done all errors run counts told =
         let (lines, is_all, (done, first)) = run.done in
         let cut = cut_of (work_by call secrets) _ lines _ _ _ _ done in
         let are = λ (fails : Type 0). lines_cut fails lines _ _ _ cut in
         record {
           redacts = λ (is : Ok all ≡ Ok true).
               let so : all ≡ true = cc in
-              record {
-                secrets = secrets;
-                between = bytes_left old.input;
-                loaded = loaded;
-                redacted = redacted_of (work_by call secrets) _ lines _ _ _ _ (none_are lines (sym is_all ∙ so)) done;
-              };
-          begins = begun_by lines cut errors;
+              redacted_of (work_by call secrets) _ lines _ _ _ _ (none_are lines (sym is_all ∙ so)) done;
+          begins = inr (lines, cut);
           quiet = λ none (is : Ok all ≡ Ok true). subst (λ (b : Bool). MatchBool b (TellsCounts K mid.errors errors) (errors ≡ mid.errors)) none counts ∙ run.quiet is;
           counts = λ some (is : Ok all ≡ Ok true). subst (λ (e : Errors E). TellsCounts K e errors) (run.quiet is) (subst (λ (b : Bool). MatchBool b (TellsCounts K mid.errors errors) (errors ≡ mid.errors)) some counts);
           partly = λ (is : Ok all ≡ Ok false).
@@ -179,37 +185,39 @@ module _ {R : Type 0} {Reads : Readers R} {W E : Type 0} (Writes : Writers W) (K
               some_both _ lines told.told errors (sym so ∙ is_all) (are _) told.are_lines first told.written;
           fails = tt;
           told = tt;
+          other = tt;
         }
 
     -- or they are not
-    pub call_untold : (all : Bool) (errors : Errors E) (failure : Failure) → RunOutcome Writes K (work_by call secrets) (Ok all) old mid
+    rest_untold : (all : Bool) (errors : Errors E) (failure : Failure) → RunOutcome Writes K (work_by call secrets) (Ok all) old mid
         → IsCountsFailure (has Count call.given) failure → Tells K (IsCountsLine (has Count call.given)) mid.errors errors
-        → CallOutcome Writes K call left (Err failure) old (record mid { errors = errors })
-    call_untold all errors failure run fails told =
+        → RestOutcome Writes K call secrets (Err failure) old (record mid { errors = errors })
+    rest_untold all errors failure run fails told =
         let (lines, is_all, (done, first)) = run.done in
         let cut = cut_of (work_by call secrets) _ lines _ _ _ _ done in
         record {
           redacts = λ (is : Err failure ≡ Ok true). absurd (cc);
-          begins = begun_by lines cut errors;
+          begins = inr (lines, cut);
           quiet = λ none (is : Err failure ≡ Ok true). absurd (cc);
           counts = λ some (is : Err failure ≡ Ok true). absurd (cc);
           partly = λ (is : Err failure ≡ Ok false). absurd (cc);
           fails = elim fails.1 [
             | inl counts ↦ inr (inr (inl (counts, fails.0)))
-            | inr memory ↦ may_fail _ failure (inr (inl memory))
+            | inr memory ↦ may_fail call _ failure (inr (inl memory))
           ];
+          other = λ unclean is. counts_other (has Count call.given) failure unclean fails is;
           told = lines_both _ lines told.told errors (lines_cut _ lines _ _ _ cut) told.are_lines first told.written;
         }
 
     -- by what is answered of that
-    pub call_told : (all counted : Bool) (result : Result Bool Failure) (errors : Errors E) → counted ≡ has Count call.given → RunOutcome Writes K (work_by call secrets) (Ok all) old mid
+    pub rest_told : (all counted : Bool) (result : Result Bool Failure) (errors : Errors E) → counted ≡ has Count call.given → RunOutcome Writes K (work_by call secrets) (Ok all) old mid
         → IfOk result (λ done. done ≡ all) → OnOk result (MatchBool counted (TellsCounts K mid.errors errors) (errors ≡ mid.errors))
-        → IfErr result (IsCountsFailure counted) → Tells K (IsCountsLine counted) mid.errors errors → CallOutcome Writes K call left result old (record mid { errors = errors })
-    call_told all counted (Ok done) errors is run same counts fails told =
-        subst (λ (b : Bool). CallOutcome Writes K call left (Ok b) old (record mid { errors = errors })) (sym same)
-        (call_done all errors run (subst (λ (b : Bool). MatchBool b (TellsCounts K mid.errors errors) (errors ≡ mid.errors)) is counts) (subst (λ (b : Bool). Tells K (IsCountsLine b) mid.errors errors) is told))
-    call_told all counted (Err failure) errors is run same counts fails told =
-        call_untold all errors failure run (subst (λ (b : Bool). IsCountsFailure b failure) is fails) (subst (λ (b : Bool). Tells K (IsCountsLine b) mid.errors errors) is told)
+        → IfErr result (IsCountsFailure counted) → Tells K (IsCountsLine counted) mid.errors errors → RestOutcome Writes K call secrets result old (record mid { errors = errors })
+    rest_told all counted (Ok done) errors is run same counts fails told =
+        subst (λ (b : Bool). RestOutcome Writes K call secrets (Ok b) old (record mid { errors = errors })) (sym same)
+        (rest_done all errors run (subst (λ (b : Bool). MatchBool b (TellsCounts K mid.errors errors) (errors ≡ mid.errors)) is counts) (subst (λ (b : Bool). Tells K (IsCountsLine b) mid.errors errors) is told))
+    rest_told all counted (Err failure) errors is run same counts fails told =
+        rest_untold all errors failure run (subst (λ (b : Bool). IsCountsFailure b failure) is fails) (subst (λ (b : Bool). Tells K (IsCountsLine b) mid.errors errors) is told)
 
 -- what holds of some work holds of the same with the same names, pieces and way
 pub work_as : (holds : List ℕ → Option (List ℕ)) (refuses : List ℕ → Reason → Type 0) (p : Patterns) (names names' pieces pieces' : List (List ℕ)) (covers covers' : Bool) → names ≡ names' → covers ≡ covers' → pieces ≡ pieces'
@@ -226,9 +234,16 @@ module _ {R : Type 0} {Reads : Readers R} {W E : Type 0} (Writes : Writers W) (K
   begins_from old new input (inl same) = inl same
   begins_from old new input (inr begun) = inr (record { secrets = begun.secrets; between = begun.between; loaded = begun.loaded; lines = begun.lines; cut = begun.cut })
 
+  refused_from : (old new : Streams R W E Reads) (input : FromRead R Reads) (result : Result Bool Failure) → IfErr result (λ failure. (unclean : Unclean) → failure ≡ UncleanPiece unclean → IsUntouched Writes K (record old { input = input }) new)
+      → IfErr result (λ failure. (unclean : Unclean) → failure ≡ UncleanPiece unclean → IsUntouched Writes K old new)
+  refused_from old new input (Ok all) refused = tt
+  refused_from old new input (Err failure) refused = λ unclean is. let same = refused unclean is in record { output = same.output; errors = same.errors }
+
   pub call_from : (old new : Streams R W E Reads) (input : FromRead R Reads) (result : Result Bool Failure) → CallOutcome Writes K call left result (record old { input = input }) new → CallOutcome Writes K call left result old new
   call_from old new input result of = record {
     redacts = λ is. let done = of.redacts is in record { secrets = done.secrets; between = done.between; loaded = done.loaded; redacted = done.redacted };
+    strict = λ asked covers is. let done = of.strict asked covers is in record { secrets = done.secrets; between = done.between; loaded = done.loaded; free = done.free };
+    refused = refused_from old new input result of.refused;
     begins = begins_from old new input of.begins;
     quiet = of.quiet;
     counts = of.counts;

@@ -1,5 +1,5 @@
 -- What a replacement by a closure writes, where the closure writes the piece of each match.
-use Rattle.std.proofs.Common.{arith, inl, inr, ◌≡◌, ◌⊎◌, ℕ, ◌≤◌, Bool, true, false, List, [], ◌∷◌, ◌++◌, Option, length, map, take, drop, refl, sym, ap, subst, ◌∙◌, append-nil, le_refl}
+use Rattle.std.proofs.Common.{inl, inr, ◌≡◌, ◌⊎◌, ℕ, ◌≤◌, Bool, true, false, List, [], ◌∷◌, ◌++◌, Option, length, map, take, drop, refl, sym, ap, subst, ◌∙◌, append-nil, le_refl}
 use Rattle.std.specs.Prelude.{None, Some, Result, Ok, Err, IfErr, MatchBool, OnErr, OnOk, ◌&&◌, slice_index_or, slice_range}
 use Rattle.std.specs.Borrow.{Bor, MutBor}
 use Rattle.std.specs.Fn.{Mut}
@@ -27,7 +27,7 @@ use Rattle.aho_stream.specs.StreamRun.{CallsOn, CanBegin, RefusesUntouched, Runs
 use Rattle.programs.proofs.Beginnings.{beginning-later, beginning-more}
 use Rattle.acredact.specs.Faults.{IsStreamEnd}
 use Rattle.acredact.specs.Secrets.{BeginsRedaction, Redactor}
-use Rattle.acredact.specs.Streams.{RedactsStream, StartsStream, StreamOutcome, WritesPiece}
+use Rattle.acredact.specs.Streams.{RedactsStream, StreamOutcome, WritesPiece}
 use Rattle.acredact.proofs.Redactions.{begins_by, begins_nothing, of_finds, redaction_by, some_by, starts_whole, to_finds}
 
 -- an error of a run: of the reading where it stopped, or of a write

@@ -1,11 +1,10 @@
 -- Each occurrence of a pattern shares a byte with a find, where no pattern is empty.
-use Rattle.std.proofs.Common.{◌≡◌, ◌⊎◌, inl, inr, ℕ, ◌≤◌, ◌<◌, ◌+◌, Bool, false, List, [], ◌∷◌, length, map, Option, Some, None, refl, sym, subst, ap, arith, le_refl}
-use Rattle.std.specs.Prelude.{MatchBool, nat_eq, ◌&&◌, slice_index_or, zero, suc}
+use Rattle.std.proofs.Common.{◌≡◌, inl, inr, ℕ, ◌≤◌, ◌<◌, Bool, false, List, [], ◌∷◌, length, map, Option, Some, None, refl, sym, subst, ap, arith, le_refl}
+use Rattle.std.specs.Prelude.{nat_eq, ◌&&◌, slice_index_or, zero, suc}
 use Rattle.std.proofs.lemmas.Bool.{MatchBool-at_false, cases_lt, ne_eqb}
 use Rattle.aho_core.specs.Answer.{IsAnswer}
 use Rattle.aho_core.specs.Iteration.{AreFinds, IsNextFind, repeats_end}
 use Rattle.aho_core.specs.Laws.{shortest}
-use Rattle.aho_core.specs.Listing.{IsMember}
 use Rattle.aho_core.specs.Occurrence.{Occurrence}
 use Rattle.aho_core.specs.Occurs.{Occurs}
 use Rattle.aho_core.specs.Order.{IsBefore}

@@ -12,7 +12,11 @@ mod Done
 -- how an automaton redacts streams
 mod Suited
 mod Loaded
+-- which pieces are clean, and what follows
+mod Flaws
+mod Free
 mod Calls
+mod Warned
 mod Given
 mod Reading
 mod Ready

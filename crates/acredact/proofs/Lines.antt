@@ -1,12 +1,12 @@
 -- Lines of a text that are added one after another.
 use Rattle.std.proofs.Common.{◌≡◌, ◌≢◌, ℕ, ◌+◌, ◌-◌, ◌^◌, ◌≤◌, List, [], ◌∷◌, ◌++◌, length, refl, sym, ap, ◌∙◌, append_assoc, arith}
-use Rattle.std.specs.Prelude.{Result, Ok, Err, IfErr, drop, min, nat_eq, slice_index, true, false}
+use Rattle.std.specs.Prelude.{Result, Ok, Err, IfErr, drop, min, nat_eq, slice_index, false}
 use Rattle.std.specs.Io.BufRead.{ends_with_byte, strip_last}
 use Rattle.std.specs.List.{AllZip, slice_split}
 use Rattle.std.proofs.lemmas.Bool.{ne_eqb}
 use Rattle.std.proofs.lemmas.List.Splits.{slice_split_at, slice_split_none}
 use Rattle.acredact.specs.LineFaults.{IsLineFaultBy, IsListFault, NamesNone}
-use Rattle.acredact.specs.Tables.{HoldsBy, IsAdded, IsAddedList, IsWithout, Secret, stripped_by, lines_in}
+use Rattle.acredact.specs.Tables.{IsAdded, IsAddedList, IsWithout, Secret, stripped_by, lines_in}
 use Rattle.acredact.specs.declared.patterns.BadLine.{BadLine}
 use Rattle.acredact.specs.declared.patterns.Form.{Form}
 

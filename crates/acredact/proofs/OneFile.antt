@@ -1,7 +1,7 @@
 -- What comes of one file, by what comes of its stream.
-use Rattle.std.proofs.Common.{◌≡◌, ◌≢◌, inl, inr, ℕ, ◌≤◌, List, [], ◌∷◌, ◌++◌, Option, true, false, length, map, refl, sym, ap, subst, ◌∙◌, arith}
-use Rattle.std.specs.Prelude.{Bool, MatchBool, None, Some, Result, Ok, Err, IfErr, IfOk, IfSome, OnErr, OnOk}
-use Rattle.std.specs.Io.KnownBytes.{Appends, Consumes, IsAtEnd, Keeps}
+use Rattle.std.proofs.Common.{◌≡◌, ◌≢◌, inl, inr, ℕ, ◌≤◌, List, [], Option, true, false, length, map, refl, sym, ap, subst, ◌∙◌, arith}
+use Rattle.std.specs.Prelude.{Bool, MatchBool, None, Some, Result, Ok, Err, IfErr, IfOk, IfSome, OnOk}
+use Rattle.std.specs.Io.KnownBytes.{Consumes, IsAtEnd, Keeps}
 use Rattle.std.specs.declared.io.traits.Read.{Ghosts as Readers}
 use Rattle.std.specs.declared.io.traits.Write.{Ghosts as Writers}
 use Rattle.std.proofs.KnownBytes.{Appends-nil, Consumes-nil}
@@ -18,10 +18,10 @@ use Rattle.programs.specs.Names.{is_input}
 use Rattle.programs.specs.Streams.{output_bytes, bytes_left}
 use Rattle.programs.specs.declared.reason.Reason.{Reason}
 use Rattle.acredact.specs.Faults.{IsOutputEnd, IsReadReason, IsStreamEnd, is_unread, reading_of}
-use Rattle.acredact.specs.Files.{BeginsNamed, BeginsText, FailsByOutput, FileOutcome, MayBeUnread, RedactsName, RedactsText, TextOutcome, Work}
-use Rattle.acredact.specs.Reads.{OfName, ReadsText}
+use Rattle.acredact.specs.Files.{BeginsNamed, BeginsText, FileOutcome, MayBeUnread, RedactsText, TextOutcome, Work}
+use Rattle.acredact.specs.Reads.{OfName}
 use Rattle.acredact.specs.Secrets.{Redactor}
-use Rattle.acredact.specs.Streams.{RedactsStream, StartsStream, StreamOutcome}
+use Rattle.acredact.specs.Streams.{RedactsStream, StartsStream}
 use Rattle.acredact.proofs.Redactions.{begins_nothing}
 
 -- a stream that has seen no end before is at its end where it sees one

@@ -1,10 +1,9 @@
 -- What an argument that was read adds to what is given, and that nothing is wrong with it.
-use Rattle.std.proofs.Common.{◌≡◌, ℕ, ◌≤◌, ◌-◌, List, [], ◌∷◌, ◌++◌, Option, length, map, take, drop, get_or, refl, sym, ap, ◌∙◌, append_assoc, arith}
+use Rattle.std.proofs.Common.{◌≡◌, ℕ, ◌≤◌, ◌-◌, List, [], ◌∷◌, ◌++◌, Option, length, take, drop, get_or, refl, sym, ap, ◌∙◌, append_assoc, arith}
 use Rattle.std.specs.Prelude.{Some, None, String, option_and_then, option_map}
 use Rattle.std.proofs.Math.Seq.{take-length}
 use Rattle.std.proofs.lemmas.List.{map-append}
 use Rattle.programs.specs.Arguments.{texts}
-use Rattle.programs.specs.Messages.{Message}
 use Rattle.acredact.specs.Arguments.{Given, ReadAs, all_given, given_by, given_of, read_by, with_item}
 use Rattle.acredact.specs.Mistakes.{wrong_at, wrong_by, wrong_or}
 use Rattle.acredact.specs.declared.arguments.Expects.{Expects}

@@ -1,8 +1,8 @@
 -- What is loaded can be searched for.
-use Rattle.std.proofs.Common.{◌≡◌, inl, inr, ℕ, ◌≤◌, Bool, false, true, List, [], ◌∷◌, ◌++◌, Option, length, map, refl, sym, ap, subst, ◌∙◌, arith}
-use Rattle.std.specs.Prelude.{◌||◌, codes, option_and_then, unwrap_or, Result, Ok, Err, IsOk, IfSome, Some, None}
+use Rattle.std.proofs.Common.{◌≡◌, ℕ, ◌≤◌, Bool, false, true, List, [], ◌∷◌, Option, length, map, refl, sym, ap, subst, ◌∙◌, arith}
+use Rattle.std.specs.Prelude.{◌||◌, codes, option_and_then, unwrap_or, Result, Ok, Err, IsOk, Some, None}
 use Rattle.std.specs.Borrow.{Bor}
-use Rattle.std.specs.List.{All, AllZip}
+use Rattle.std.specs.List.{AllZip}
 use Rattle.std.proofs.lemmas.List.{length-map}
 use Rattle.std.proofs.lemmas.Slice.Eq.{bytes_eq-Decides}
 use Rattle.std.proofs.lemmas.List.Elements.{All-append, All-cons, All-head, All-nil, All-tail}
@@ -17,11 +17,11 @@ use Rattle.programs.specs.Arguments.{kind_by}
 use Rattle.programs.specs.declared.reason.Reason.{Reason}
 use Rattle.acredact.specs.Arguments.{Given, GivesNoPattern, covers_asked, has, is_cover, kind_asked, last_value}
 use Rattle.acredact.specs.Calls.{gives_pattern}
-use Rattle.acredact.specs.Loading.{AreGiven, OptionGives, Reading, Rules}
+use Rattle.acredact.specs.Loading.{AreGiven, OptionGives, Reading}
 use Rattle.acredact.specs.Secrets.{CanRedact}
 use Rattle.acredact.specs.Tables.{HaveNoEmpty, HoldsBy, Secret, patterns_in}
 use Rattle.acredact.specs.declared.arguments.Word.{Word}
-use Rattle.acredact.specs.declared.arguments.Word.TheVariants.{IgnoreCase, Kind, Pattern, Patterns as PatternFile, Table, With, Count, Crlf, AllowEmpty, Help, Version, File}
+use Rattle.acredact.specs.declared.arguments.Word.TheVariants.{IgnoreCase, Kind, Pattern, Patterns as PatternFile, Table, With, Count, Crlf, AllowEmpty, Strict, Help, Version, File}
 use Rattle.acredact.specs.declared.patterns.Form.{Form}
 
 abbrev pub IsSomeSecret : Secret → Type 0
@@ -51,6 +51,7 @@ option_some reading With value secrets left left' gives = none_some secrets give
 option_some reading Count value secrets left left' gives = none_some secrets gives.0
 option_some reading Crlf value secrets left left' gives = none_some secrets gives.0
 option_some reading AllowEmpty value secrets left left' gives = none_some secrets gives.0
+option_some reading Strict value secrets left left' gives = none_some secrets gives.0
 option_some reading Help value secrets left left' gives = none_some secrets gives.0
 option_some reading Version value secrets left left' gives = none_some secrets gives.0
 option_some reading File value secrets left left' gives = none_some secrets gives.0

@@ -1,9 +1,8 @@
 -- What a cover or a replacement of a stream writes is a redaction, and what it begins is begun.
-use Rattle.std.proofs.Common.{◌≡◌, ◌≢◌, ℕ, ◌≤◌, ◌++◌, List, [], ◌∷◌, Option, true, false, length, map, take, refl, sym, ap, subst, ◌∙◌, append-nil, le_refl, arith}
-use Rattle.std.specs.Prelude.{Bool, MatchBool, if◌then◌else◌, None, Some, Result, Ok, Err, IfErr, OnErr, OnOk}
+use Rattle.std.proofs.Common.{◌≡◌, ◌≢◌, ℕ, ◌≤◌, ◌++◌, List, [], true, false, length, map, refl, sym, ap, subst, ◌∙◌, append-nil, le_refl}
+use Rattle.std.specs.Prelude.{Bool, MatchBool, None, Result, Ok, Err, IfErr, OnErr, OnOk}
 use Rattle.std.specs.Io.{StartsWith}
 use Rattle.std.proofs.Math.Seq.{take-length}
-use Rattle.std.proofs.lemmas.Bool.{ne_eqb}
 use Rattle.aho_core.specs.Cover.{AreRuns, IsCover}
 use Rattle.aho_core.specs.Iteration.{AreFinds}
 use Rattle.aho_core.specs.Laws.{shortest}
@@ -14,9 +13,7 @@ use Rattle.aho_core.specs.Search.{plain_search}
 use Rattle.aho_core.specs.declared.error.MatchErrorKind.{MatchErrorKind}
 use Rattle.aho_core.specs.declared.error.stream.StreamError.{StreamError}
 use Rattle.aho_core.specs.declared.error.stream.StreamError.TheVariants.{Match as Refused, Read, Write, WriteZero, Memory, PositionLimit}
-use Rattle.aho_core.specs.declared.error.MatchErrorKind.TheVariants.{UnsupportedEmpty}
 use Rattle.aho_core.specs.declared.search.Anchored.TheVariants.{No}
-use Rattle.aho_core.specs.declared.search.MatchKind.{MatchKind}
 use Rattle.aho_core.specs.declared.search.MatchKind.TheVariants.{Standard}
 use Rattle.aho_devices.specs.Counts.{counted}
 use Rattle.aho_devices.specs.Errors.{CountsErrors}
@@ -31,7 +28,7 @@ use Rattle.aho_laws.proofs.TextRuns.{runs-made}
 use Rattle.aho_automaton.specs.declared.automaton.Automaton.{Ghosts}
 use Rattle.aho_stream.specs.After.{greatest_position}
 use Rattle.aho_stream.specs.Refills.{is_limit}
-use Rattle.aho_stream.specs.Replacing.{BeginsReplacing, GaveAsMany, IsStreamFault, MayBe, ReplacesStream, SourceGave}
+use Rattle.aho_stream.specs.Replacing.{BeginsReplacing, GaveAsMany, IsStreamFault, MayBe, ReplacesStream}
 use Rattle.aho_stream.specs.StreamRun.{CanBegin}
 use Rattle.acredact.specs.Faults.{IsStreamEnd}
 use Rattle.aho_cover.specs.Covers.{BeginsCovering, CoversStream, LeavesCovered}

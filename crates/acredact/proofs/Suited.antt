@@ -1,5 +1,5 @@
 -- How an automaton redacts streams.
-use Rattle.std.proofs.Common.{◌≡◌, inl, inr, ℕ, ◌≤◌, List, [], ◌∷◌, Option, true, false, length, map, refl, sym, ap, subst, ◌∙◌, arith}
+use Rattle.std.proofs.Common.{◌≡◌, inl, ℕ, ◌≤◌, List, [], ◌∷◌, Option, true, length, map, refl, sym, ap, subst, ◌∙◌, arith}
 use Rattle.std.specs.Prelude.{Bool, None, Some, Result, Ok, Err, if◌then◌else◌}
 use Rattle.std.specs.Borrow.{Bor}
 use Rattle.std.proofs.KnownBytes.{Keeps-refl}
@@ -28,7 +28,6 @@ use Rattle.acredact.specs.Ways.{IsCovering, IsRedactor}
 use Rattle.acredact.specs.declared.streams.Streams.{Streams}
 use Rattle.acredact.proofs.Done.{tells_none}
 use Rattle.acredact.proofs.OneFile.{named_none}
-use Rattle.acredact.proofs.Redactions.{some_of}
 
 module _ {A : Type 0} (G : Ghosts A) where
   -- a cover is as before after a stream

@@ -1,11 +1,11 @@
 -- What the arguments, those after the program's name, ask for.
-use Rattle.std.specs.Prelude.{◌≡◌, ℕ, ◌&&◌, ◌||◌, Bool, true, false, List, [], ◌∷◌, ◌++◌, Option, Some, None, codes, drop, filter, is_some, map, option_and_then, option_map, unwrap_or, nat_eq, take, String, string_bytes, if◌then◌else◌}
+use Rattle.std.specs.Prelude.{◌≡◌, ℕ, ◌||◌, Bool, true, false, List, [], ◌∷◌, Option, Some, None, codes, drop, is_some, map, option_and_then, option_map, unwrap_or, nat_eq, take, String, if◌then◌else◌}
 use Rattle.std.specs.Str.{bytes_eq}
 use Rattle.aho_core.specs.declared.search.MatchKind.{MatchKind}
 use Rattle.aho_core.specs.declared.search.MatchKind.TheVariants.{Standard}
 use Rattle.programs.specs.Arguments.{kind_by, texts}
 use Rattle.acredact.specs.declared.arguments.Word.{Word}
-use Rattle.acredact.specs.declared.arguments.Word.TheVariants.{IgnoreCase, Kind, Pattern, Patterns, Table, With, Count, Crlf, AllowEmpty, Help, Version, File}
+use Rattle.acredact.specs.declared.arguments.Word.TheVariants.{IgnoreCase, Kind, Pattern, Patterns, Table, With, Count, Crlf, AllowEmpty, Strict, Help, Version, File}
 use Rattle.acredact.specs.declared.arguments.Expects.{Expects}
 use Rattle.acredact.specs.declared.arguments.Expects.TheVariants.{Any, Value, Name}
 use Rattle.acredact.specs.declared.arguments.Item.{Item}
@@ -43,6 +43,7 @@ word_by argument =
     else if bytes_eq argument (codes "--count") then Some Count
     else if bytes_eq argument (codes "--crlf") then Some Crlf
     else if bytes_eq argument (codes "--allow-empty") then Some AllowEmpty
+    else if bytes_eq argument (codes "--strict") then Some Strict
     else if bytes_eq argument (codes "--help") then Some Help
     else if bytes_eq argument (codes "--version") then Some Version
     else if bytes_eq argument (codes "-") then Some File
@@ -59,6 +60,7 @@ takes_value IgnoreCase = false
 takes_value Count = false
 takes_value Crlf = false
 takes_value AllowEmpty = false
+takes_value Strict = false
 takes_value Help = false
 takes_value Version = false
 takes_value File = false
@@ -78,6 +80,7 @@ is_value_of With value = true
 is_value_of Count value = true
 is_value_of Crlf value = true
 is_value_of AllowEmpty value = true
+is_value_of Strict value = true
 is_value_of Help value = true
 is_value_of Version value = true
 is_value_of File value = true
@@ -151,6 +154,7 @@ is_same With With = true
 is_same Count Count = true
 is_same Crlf Crlf = true
 is_same AllowEmpty AllowEmpty = true
+is_same Strict Strict = true
 is_same Help Help = true
 is_same Version Version = true
 is_same File File = true
@@ -185,6 +189,7 @@ option_name IgnoreCase = codes "-e"
 option_name Count = codes "-e"
 option_name Crlf = codes "-e"
 option_name AllowEmpty = codes "-e"
+option_name Strict = codes "-e"
 option_name Help = codes "-e"
 option_name Version = codes "-e"
 option_name File = codes "-e"

@@ -1,5 +1,5 @@
 -- What a call does, by what its arguments ask for, and what it tells.
-use Rattle.std.specs.Prelude.{◌≡◌, ◌⊎◌, ℕ, ◌&&◌, ◌||◌, Bool, true, false, List, [], ◌∷◌, Option, Result, Ok, IfErr, IfOk, OnErr, OnOk, codes, map, unwrap_or, if◌then◌else◌}
+use Rattle.std.specs.Prelude.{◌≡◌, ◌⊎◌, ℕ, ◌||◌, Bool, true, false, List, [], ◌∷◌, Option, Result, Ok, Err, IfErr, IfOk, OnErr, codes, map, unwrap_or, if◌then◌else◌}
 use Rattle.std.specs.declared.io.traits.Read.{Ghosts as Readers}
 use Rattle.std.specs.declared.io.traits.Write.{Ghosts as Writers}
 use Rattle.aho_core.specs.declared.error.BuildError.{BuildError}
@@ -11,23 +11,25 @@ use Rattle.programs.specs.Streams.{output_bytes, bytes_left}
 use Rattle.programs.specs.Telling.{Tells, TellsBytes, TellsSome}
 use Rattle.programs.specs.declared.errors.Errors.{Errors}
 use Rattle.programs.specs.declared.failure.Failure.{Failure as OtherFailure}
-use Rattle.programs.specs.declared.failure.Failure.TheVariants.{Usage, Build, Search, OutOfMemory, PositionLimit, Read, Write, WriteZero}
+use Rattle.programs.specs.declared.failure.Failure.TheVariants.{Build, OutOfMemory, Write, WriteZero}
 use Rattle.programs.specs.declared.reason.Reason.{Reason}
 use Rattle.acredact.specs.Arguments.{Given, GivesNoPattern, covers_asked, has, is_same, last_value}
 use Rattle.acredact.specs.Builds.{patterns_by_given}
 use Rattle.acredact.specs.Counts.{counts_text}
 use Rattle.acredact.specs.Failures.{IsFailureLine}
-use Rattle.acredact.specs.Files.{AreCut, AreDone, AreRedacted, Does, Work, are_none, unread_line}
+use Rattle.acredact.specs.Files.{AreCut, AreDone, AreFree, AreRedacted, Does, Work, are_none, unread_line}
 use Rattle.acredact.specs.Loading.{AreGiven, CannotLoadOne, Reading, Rules}
+use Rattle.acredact.specs.Messages.{unclean_line}
 use Rattle.acredact.specs.Mistakes.{IsMistake}
+use Rattle.acredact.specs.Pieces.{IsUnclean, TellsOfPieces}
 use Rattle.acredact.specs.Secrets.{Redactor}
 use Rattle.acredact.specs.Tables.{Secret, patterns_in, piece_by, secrets_of}
 use Rattle.acredact.specs.declared.arguments.Expects.TheVariants.{Any}
 use Rattle.acredact.specs.declared.arguments.Mistake.TheVariants.{NoPattern, OutOfMemory as NoRoom}
-use Rattle.acredact.specs.declared.arguments.Word.{Word}
-use Rattle.acredact.specs.declared.arguments.Word.TheVariants.{Count, Crlf, AllowEmpty, File, Pattern as PatternOption, Patterns as PatternFile, Table, With}
+use Rattle.acredact.specs.declared.arguments.Word.TheVariants.{Count, Crlf, AllowEmpty, Strict, File, Pattern as PatternOption, Patterns as PatternFile, Table, With}
+use Rattle.acredact.specs.declared.clean.Unclean.{Unclean}
 use Rattle.acredact.specs.declared.failure.Failure.{Failure}
-use Rattle.acredact.specs.declared.failure.Failure.TheVariants.{NotText, Arguments, Pattern, Unread, Empty, Line, Counts, Other}
+use Rattle.acredact.specs.declared.failure.Failure.TheVariants.{NotText, Arguments, Unclean as UncleanPiece, Counts, Other}
 use Rattle.acredact.specs.declared.folder.Folder.{Ghosts as Folders}
 use Rattle.acredact.specs.declared.patterns.Rule.{Rule}
 use Rattle.acredact.specs.declared.streams.Streams.{Streams}
@@ -93,14 +95,26 @@ IsRunFailure fails failure =
     ((error : BuildError) × (failure ≡ Other (Build error)))
     ⊎ ((failure ≡ Other OutOfMemory) ⊎ IsPrintFailure fails failure)
 
--- why a call ends early: there is no pattern, one of the options cannot be loaded, the counts cannot be written, or the files are not
--- redacted
+-- why pieces are refused: one of a cover is not clean
+abbrev pub IsStrictFailure : (strict : Bool) → Redactor → Failure → Type 0
+IsStrictFailure strict r failure =
+    (unclean : Unclean) × (failure ≡ UncleanPiece unclean) × (strict ≡ true) × (r.covers ≡ true) × IsUnclean r.patterns r.pieces unclean
+
+-- those of the patterns that were loaded
+abbrev pub IsUncleanFailure : Call → Failure → Type 0
+IsUncleanFailure call failure = (secrets : List Secret) × (left : Option (List ℕ)) × (between : Option (List ℕ))
+    × AreGiven (reading_by call) call.given secrets left between
+    × IsStrictFailure (has Strict call.given) (redactor_by_given call.given secrets) failure
+
+-- why a call ends early: there is no pattern, one of the options cannot be loaded, the counts cannot be written, a piece is not clean,
+-- or the files are not redacted
 abbrev pub MayFail : Call → (fails : Type 0) → Failure → Type 0
 MayFail call fails failure =
     ((failure ≡ Arguments NoRoom) ⊎ ((failure ≡ Arguments NoPattern) × GivesNoPattern call.given))
     ⊎ (CannotLoadOne (reading_by call) call.given failure
     ⊎ (((failure ≡ Counts) × (has Count call.given ≡ true))
-    ⊎ IsRunFailure fails failure))
+    ⊎ (IsUncleanFailure call failure
+    ⊎ IsRunFailure fails failure)))
 
 -- the line that tells why a file was not read to its end
 abbrev pub IsUnreadLine : List (List ℕ) → List ℕ → Type 0
@@ -118,12 +132,19 @@ IsCountsLine counted line = (counted ≡ true) × IsCountsText line
 abbrev pub IsCountsFailure : Bool → Failure → Type 0
 IsCountsFailure counted failure = (counted ≡ true) × ((failure ≡ Counts) ⊎ (failure ≡ Other OutOfMemory))
 
--- what may be told of a call: a file that is not read to its end, why it ends early, and the counts where they are asked for
+-- the line of a piece that is not clean, of a cover where such a piece is not refused
+abbrev pub IsWarningLine : Call → List ℕ → Type 0
+IsWarningLine call line =
+    (has Strict call.given ≡ false) × (covers_asked call.given ≡ true) × ((unclean : Unclean) × (line ≡ unclean_line unclean))
+
+-- what may be told of a call: a piece that is not clean, a file that is not read to its end, why it ends early, and the counts where
+-- they are asked for
 abbrev pub IsLineOf : Call → (fails : Type 0) → List ℕ → Type 0
 IsLineOf call fails line =
     IsUnreadLine (names_asked call.given) line
     ⊎ (((failure : Failure) × MayFail call fails failure × IsFailureLine failure line)
-    ⊎ IsCountsLine (has Count call.given) line)
+    ⊎ (IsCountsLine (has Count call.given) line
+    ⊎ IsWarningLine call line))
 
 -- what is told of wrong arguments
 abbrev pub IsWrongFailure : List (List ℕ) → Failure → Type 0
@@ -143,6 +164,17 @@ pub record TellsCounts {E : Type 0} (K : SinkGhosts E) (errors errors' : Errors 
   pub told : TellsBytes K errors errors' text
   pub whole : errors'.failed ≡ false
 
+-- of all patterns that were loaded the pieces are told, where they are not clean
+pub record WarnsCall {E : Type 0} (K : SinkGhosts E) (call : Call) (left : Option (List ℕ)) (errors errors' : Errors E) : Type 0 where
+  pub secrets : List Secret
+  pub between : Option (List ℕ)
+  pub loaded : AreGiven (reading_by call) call.given secrets left between
+  pub told : TellsOfPieces K (has Strict call.given) (redactor_by_given call.given secrets) errors errors'
+
+-- and then the counts
+abbrev pub CountsCall : {E : Type 0} → SinkGhosts E → Call → Option (List ℕ) → (errors errors' : Errors E) → Type 0
+CountsCall {E} K call left errors errors' = (meanwhile : Errors E) × WarnsCall K call left errors meanwhile × TellsCounts K meanwhile errors'
+
 module _ {R : Type 0} {Reads : Readers R} {W : Type 0} (Writes : Writers W) where
   module _ {E : Type 0} (call : Call) (left : Option (List ℕ)) (streams streams' : Streams R W E Reads) where
     -- all patterns were loaded, of the input with so many bytes left, and all files were redacted
@@ -151,6 +183,14 @@ module _ {R : Type 0} {Reads : Readers R} {W : Type 0} (Writes : Writers W) wher
       pub between : Option (List ℕ)
       pub loaded : AreGiven (reading_by call) call.given secrets left between
       pub redacted : AreRedacted (work_by call secrets) (names_asked call.given) between (bytes_left streams'.input)
+          (output_bytes Writes streams.output) (output_bytes Writes streams'.output)
+
+    -- the same, and no pattern occurs in what was written of a file
+    pub record LeavesNone : Type 0 where
+      pub secrets : List Secret
+      pub between : Option (List ℕ)
+      pub loaded : AreGiven (reading_by call) call.given secrets left between
+      pub free : AreFree (work_by call secrets) (names_asked call.given) between (bytes_left streams'.input)
           (output_bytes Writes streams.output) (output_bytes Writes streams'.output)
 
     -- all patterns were loaded, and of some first files the redaction or a beginning of it was written
@@ -167,16 +207,37 @@ module _ {R : Type 0} {Reads : Readers R} {W : Type 0} (Writes : Writers W) wher
     BeginsCall = (streams'.output ≡ streams.output) ⊎ BeginsFiles
 
   module _ {E : Type 0} (K : SinkGhosts E) where
+    -- nothing was written or told
+    pub record IsUntouched (streams streams' : Streams R W E Reads) : Type 0 where
+      pub output : streams'.output ≡ streams.output
+      pub errors : streams'.errors ≡ streams.errors
+
     -- what comes of a call
     pub record CallOutcome (call : Call) (left : Option (List ℕ)) (result : Result Bool Failure) (streams streams' : Streams R W E Reads) : Type 0 where
       pub redacts : result ≡ Ok true → RedactsCall call left streams streams'
+      pub strict : has Strict call.given ≡ true → covers_asked call.given ≡ true → result ≡ Ok true → LeavesNone call left streams streams'
+      pub refused : IfErr result (λ failure. (unclean : Unclean) → failure ≡ UncleanPiece unclean → IsUntouched streams streams')
       pub begins : BeginsCall call left streams streams'
+      pub quiet : has Count call.given ≡ false → result ≡ Ok true → WarnsCall K call left streams.errors streams'.errors
+      pub counts : has Count call.given ≡ true → result ≡ Ok true → CountsCall K call left streams.errors streams'.errors
+      pub partly : result ≡ Ok false
+          → TellsSome K (IsLineOf call (OutputFails streams.output streams'.output)) streams.errors streams'.errors
+      pub fails : IfErr result (MayFail call (OutputFails streams.output streams'.output))
+      pub told : OnErr result (Tells K (IsLineOf call (OutputFails streams.output streams'.output)) streams.errors streams'.errors)
+
+    -- what comes of the files of a call whose patterns were loaded and whose pieces were looked at
+    pub record RestOutcome (call : Call) (secrets : List Secret) (result : Result Bool Failure) (streams streams' : Streams R W E Reads) : Type 0 where
+      pub redacts : result ≡ Ok true → AreRedacted (work_by call secrets) (names_asked call.given) (bytes_left streams.input) (bytes_left streams'.input)
+          (output_bytes Writes streams.output) (output_bytes Writes streams'.output)
+      pub begins : (streams'.output ≡ streams.output) ⊎ ((lines : List (List ℕ)) × AreCut (work_by call secrets) (names_asked call.given) lines (bytes_left streams.input) (bytes_left streams'.input)
+          (output_bytes Writes streams.output) (output_bytes Writes streams'.output))
       pub quiet : has Count call.given ≡ false → result ≡ Ok true → streams'.errors ≡ streams.errors
       pub counts : has Count call.given ≡ true → result ≡ Ok true → TellsCounts K streams.errors streams'.errors
       pub partly : result ≡ Ok false
           → TellsSome K (IsLineOf call (OutputFails streams.output streams'.output)) streams.errors streams'.errors
       pub fails : IfErr result (MayFail call (OutputFails streams.output streams'.output))
       pub told : OnErr result (Tells K (IsLineOf call (OutputFails streams.output streams'.output)) streams.errors streams'.errors)
+      pub other : IfErr result (λ failure. (unclean : Unclean) → failure ≡ UncleanPiece unclean → ⊥)
 
     -- what comes of the files, where the failure says why they are not redacted
     pub record RunOutcome (work : Work) (result : Result Bool Failure) (streams streams' : Streams R W E Reads) : Type 0 where
@@ -184,6 +245,13 @@ module _ {R : Type 0} {Reads : Readers R} {W : Type 0} (Writes : Writers W) wher
       pub cut : OnErr result ((streams' ≡ streams) ⊎ ((lines : List (List ℕ)) × Does Writes K streams streams' (AreCut work work.names lines) lines))
       pub quiet : result ≡ Ok true → streams'.errors ≡ streams.errors
       pub fails : IfErr result (IsRunFailure (OutputFails streams.output streams'.output))
+
+    -- they are not, since a piece is refused, memory runs out, or the library refuses the patterns; or what is told of the pieces comes first
+    abbrev pub WarnedOutcome : (strict : Bool) → Work → Result Bool Failure → (streams streams' : Streams R W E Reads) → Type 0
+    WarnedOutcome strict work result streams streams' =
+        ((failure : Failure) × (result ≡ Err failure) × (streams' ≡ streams)
+        × (IsStrictFailure strict work.redactor failure ⊎ IsRunFailure (OutputFails streams.output streams.output) failure))
+        ⊎ ((errors : Errors E) × TellsOfPieces K strict work.redactor streams.errors errors × RunOutcome work result (record streams { errors = errors }) streams')
 
     -- the same of a call whose patterns were loaded as these rules, with the bytes that the input has left since
     abbrev pub LoadedOutcome : {F X : Type 0} → Folders F X → F → List Given → List Rule → Result Bool Failure → (streams streams' : Streams R W E Reads) → Type 0
@@ -199,6 +267,10 @@ module _ {R : Type 0} {Reads : Readers R} {W : Type 0} (Writes : Writers W) wher
   abbrev pub RedactsAsked : {E F X : Type 0} → Folders F X → F → List Given → (streams streams' : Streams R W E Reads) → Type 0
   RedactsAsked D folder given streams streams' = RedactsCall (call_of D folder given) (bytes_left streams.input) streams streams'
 
+  -- and no pattern is left
+  abbrev pub LeavesNoneAsked : {E F X : Type 0} → Folders F X → F → List Given → (streams streams' : Streams R W E Reads) → Type 0
+  LeavesNoneAsked D folder given streams streams' = LeavesNone (call_of D folder given) (bytes_left streams.input) streams streams'
+
   -- or some of it, and nothing else is written
   abbrev pub BeginsAsked : {E F X : Type 0} → Folders F X → F → List Given → (streams streams' : Streams R W E Reads) → Type 0
   BeginsAsked D folder given streams streams' = BeginsCall (call_of D folder given) (bytes_left streams.input) streams streams'
@@ -207,3 +279,10 @@ module _ {R : Type 0} {Reads : Readers R} {W : Type 0} (Writes : Writers W) wher
 abbrev pub TellsAsked : {R W E F X : Type 0} {Reads : Readers R} → SinkGhosts E → Folders F X → F → List Given → (streams streams' : Streams R W E Reads) → Type 0
 TellsAsked K D folder given streams streams' =
     TellsSome K (IsLineOf (call_of D folder given) (OutputFails streams.output streams'.output)) streams.errors streams'.errors
+
+-- the pieces of a call that asks for this are told, where they are not clean, and then the counts
+abbrev pub WarnsAsked : {R W E F X : Type 0} {Reads : Readers R} → SinkGhosts E → Folders F X → F → List Given → (streams streams' : Streams R W E Reads) → Type 0
+WarnsAsked K D folder given streams streams' = WarnsCall K (call_of D folder given) (bytes_left streams.input) streams.errors streams'.errors
+
+abbrev pub CountsAsked : {R W E F X : Type 0} {Reads : Readers R} → SinkGhosts E → Folders F X → F → List Given → (streams streams' : Streams R W E Reads) → Type 0
+CountsAsked K D folder given streams streams' = CountsCall K (call_of D folder given) (bytes_left streams.input) streams.errors streams'.errors

@@ -1,5 +1,5 @@
 -- How many matches of each pattern were replaced, and how that is told.
-use Rattle.std.specs.Prelude.{◌≡◌, ℕ, ◌<◌, ◌≤◌, ◌+◌, ◌-◌, ◌^◌, ◌==◌, min, Bool, true, false, List, [], ◌∷◌, ◌++◌, codes, decimal, length, map, if◌then◌else◌, slice_index, slice_set}
+use Rattle.std.specs.Prelude.{◌≡◌, ℕ, ◌<◌, ◌≤◌, ◌+◌, ◌-◌, ◌^◌, ◌==◌, min, Bool, List, [], ◌∷◌, ◌++◌, codes, decimal, length, map, if◌then◌else◌, slice_index, slice_set}
 use Rattle.acredact.specs.declared.patterns.Rule.{Rule}
 
 -- one match more; a count stops at the greatest number

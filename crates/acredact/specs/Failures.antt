@@ -6,10 +6,10 @@ use Rattle.programs.specs.declared.failure.Failure.{Failure as OtherFailure}
 use Rattle.programs.specs.declared.failure.Failure.TheVariants.{Usage, Build, Search, OutOfMemory, PositionLimit, Read, Write, WriteZero}
 use Rattle.acredact.specs.LineFaults.{line_fault_text}
 use Rattle.programs.specs.declared.reason.Reason.{Reason}
-use Rattle.acredact.specs.Messages.{about, alone, line_about, told_line}
+use Rattle.acredact.specs.Messages.{about, alone, line_about, told_line, unclean_line}
 use Rattle.acredact.specs.Mistakes.{mistake_message}
 use Rattle.acredact.specs.declared.failure.Failure.{Failure}
-use Rattle.acredact.specs.declared.failure.Failure.TheVariants.{NotText, Arguments, Pattern, Unread, Empty, Line, Counts, Other}
+use Rattle.acredact.specs.declared.failure.Failure.TheVariants.{NotText, Arguments, Pattern, Unread, Empty, Line, Unclean, Counts, Other}
 use Rattle.acredact.specs.declared.patterns.BadLine.{BadLine}
 
 -- the output failed, or took nothing
@@ -41,5 +41,6 @@ IsFailureLine (Pattern fault) line = line ≡ told_line (about (codes "-e") (lin
 IsFailureLine (Unread name reason) line = line ≡ told_line (about name.now (reason_text reason))
 IsFailureLine (Empty name) line = line ≡ told_line (about name.now (codes "no pattern: give --allow-empty to allow it"))
 IsFailureLine (Line name bad) line = line ≡ told_line (bad_line name.now bad)
+IsFailureLine (Unclean unclean) line = line ≡ unclean_line unclean
 IsFailureLine Counts line = line ≡ told_line (alone (codes "the counts cannot be written"))
 IsFailureLine (Other other) line = IsOtherLine other line

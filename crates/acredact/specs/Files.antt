@@ -20,7 +20,7 @@ use Rattle.programs.specs.declared.reason.Reason.{Reason}
 use Rattle.acredact.specs.Faults.{IsOutputEnd, IsReadReason}
 use Rattle.acredact.specs.Messages.{line_about}
 use Rattle.acredact.specs.Reads.{OfName, ReadsText}
-use Rattle.acredact.specs.Secrets.{BeginsRedaction, IfOf, IsRedaction, CanRedact, Redactor, redactor_by}
+use Rattle.acredact.specs.Secrets.{BeginsRedaction, IfOf, IsRedaction, CanRedact, NoneOccurs, Redactor, redactor_by}
 use Rattle.acredact.specs.declared.files.Job.{Job}
 use Rattle.acredact.specs.declared.folder.Folder.{Ghosts as Folders}
 use Rattle.acredact.specs.declared.streams.Streams.{Streams}
@@ -47,13 +47,21 @@ work_of D job r = record {
   redactor = r;
 }
 
--- a text was read to its end, and its redaction was written
-pub record RedactsText (r : Redactor) (left left' held held' : Option (List ℕ)) : Type 0 where
+-- a text was read to its end, and what is this of it was written
+pub record WritesText (Is : List ℕ → List ℕ → Type 0) (left left' held held' : Option (List ℕ)) : Type 0 where
   pub text : List ℕ
   pub reads : ReadsText text left left'
   pub redaction : List ℕ
-  pub redacts : IsRedaction r text redaction
+  pub redacts : Is text redaction
   pub written : Appends held held' redaction
+
+-- its redaction was
+abbrev pub RedactsText : Redactor → (left left' held held' : Option (List ℕ)) → Type 0
+RedactsText r left left' held held' = WritesText (IsRedaction r) left left' held held'
+
+-- a redaction in which no pattern occurs
+abbrev pub IsFree : Redactor → List ℕ → List ℕ → Type 0
+IsFree r text redaction = IsRedaction r text redaction × NoneOccurs r.patterns redaction
 
 -- some of a text was read, and a beginning of its redaction was written
 pub record BeginsText (r : Redactor) (left left' held held' : Option (List ℕ)) : Type 0 where
@@ -78,6 +86,12 @@ abbrev pub AreRedacted : Work → List (List ℕ) → (left left' held held' : O
 AreRedacted work [] left left' held held' = (left' ≡ left) × Keeps held held'
 AreRedacted work (name ∷ names) left left' held held' = (between : Option (List ℕ)) × (meanwhile : Option (List ℕ))
     × RedactsName work name left between held meanwhile × AreRedacted work names between left' meanwhile held'
+
+-- and no pattern occurs in the redaction of any file
+abbrev pub AreFree : Work → List (List ℕ) → (left left' held held' : Option (List ℕ)) → Type 0
+AreFree work [] left left' held held' = (left' ≡ left) × Keeps held held'
+AreFree work (name ∷ names) left left' held held' = (between : Option (List ℕ)) × (meanwhile : Option (List ℕ))
+    × OfName work.holds name (λ l l'. WritesText (IsFree work.redactor) l l' held meanwhile) left between × AreFree work names between left' meanwhile held'
 
 -- a file may be told as unread for this reason: the folder may refuse it, or a read fails
 abbrev pub MayBeUnread : Work → List ℕ → Reason → Type 0

@@ -11,6 +11,8 @@ pub mod Faults
 pub mod Streams
 -- by what a stream is redacted
 pub mod Ways
+-- which pieces are clean
+pub mod Pieces
 -- what is written of files
 pub mod Reads
 pub mod Files

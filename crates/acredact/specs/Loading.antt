@@ -1,11 +1,10 @@
 -- What the options give, one after another, and why they do not.
-use Rattle.std.specs.Prelude.{◌≡◌, ◌⊎◌, ℕ, Bool, true, false, List, [], ◌∷◌, ◌++◌, Option, Some, None, IfSome, Result, Ok, Err, Vec}
+use Rattle.std.specs.Prelude.{◌≡◌, ◌⊎◌, ℕ, Bool, true, false, List, [], ◌∷◌, ◌++◌, Option, IfSome, Result, Ok, Err, Vec}
 use Rattle.std.specs.List.{AllZip}
 use Rattle.std.specs.declared.io.traits.Read.{Ghosts as Readers}
 use Rattle.aho_devices.specs.declared.adapters.FromRead.{FromRead}
 use Rattle.programs.specs.Names.{is_input}
 use Rattle.programs.specs.Streams.{bytes_left}
-use Rattle.programs.specs.declared.failure.Failure.TheVariants.{OutOfMemory as NoMemory}
 use Rattle.programs.specs.declared.reason.Reason.{Reason}
 use Rattle.programs.specs.declared.reason.Reason.TheVariants.{NotFound, Denied, Directory, NoDirectory, Links, LongName, Invalid, Full, TooLarge, Quota, Interrupted, Unavailable, Closed, OutOfMemory, PositionLimit, ReadFault, Fault}
 use Rattle.acredact.specs.Arguments.{Given}
@@ -13,9 +12,9 @@ use Rattle.acredact.specs.LineFaults.{IsLineFault, IsListFault}
 use Rattle.acredact.specs.Reads.{OfName, ReadsText}
 use Rattle.acredact.specs.Tables.{Holds, HoldsBy, Secret, lines_in, secrets_of}
 use Rattle.acredact.specs.declared.arguments.Word.{Word}
-use Rattle.acredact.specs.declared.arguments.Word.TheVariants.{IgnoreCase, Kind, Pattern, Patterns, Table, With, Count, Crlf, AllowEmpty, Help, Version, File}
+use Rattle.acredact.specs.declared.arguments.Word.TheVariants.{IgnoreCase, Kind, Pattern, Patterns, Table, With, Count, Crlf, AllowEmpty, Strict, Help, Version, File}
 use Rattle.acredact.specs.declared.failure.Failure.{Failure}
-use Rattle.acredact.specs.declared.failure.Failure.TheVariants.{NotText, Arguments, Pattern as BadPattern, Unread, Empty, Line, Counts, Other}
+use Rattle.acredact.specs.declared.failure.Failure.TheVariants.{NotText, Arguments, Pattern as BadPattern, Unread, Empty, Line, Unclean, Counts, Other}
 use Rattle.acredact.specs.declared.folder.Folder.{Ghosts as Folders}
 use Rattle.acredact.specs.declared.load.Lists.{Lists}
 use Rattle.acredact.specs.declared.patterns.Form.{Form}
@@ -67,6 +66,7 @@ OptionGives reading With value secrets left left' = (secrets ≡ []) × (left' �
 OptionGives reading Count value secrets left left' = (secrets ≡ []) × (left' ≡ left)
 OptionGives reading Crlf value secrets left left' = (secrets ≡ []) × (left' ≡ left)
 OptionGives reading AllowEmpty value secrets left left' = (secrets ≡ []) × (left' ≡ left)
+OptionGives reading Strict value secrets left left' = (secrets ≡ []) × (left' ≡ left)
 OptionGives reading Help value secrets left left' = (secrets ≡ []) × (left' ≡ left)
 OptionGives reading Version value secrets left left' = (secrets ≡ []) × (left' ≡ left)
 OptionGives reading File value secrets left left' = (secrets ≡ []) × (left' ≡ left)
@@ -152,6 +152,7 @@ IsPatternFailure value (BadPattern fault) = IsLineFault false value fault
 IsPatternFailure value (Unread name reason) = ⊥
 IsPatternFailure value (Empty name) = ⊥
 IsPatternFailure value (Line name bad) = ⊥
+IsPatternFailure value (Unclean unclean) = ⊥
 IsPatternFailure value Counts = ⊥
 IsPatternFailure value (Other failure) = ⊥
 
@@ -163,6 +164,7 @@ IsTextFailure rules table file text (BadPattern fault) = ⊥
 IsTextFailure rules table file text (Unread name reason) = ⊥
 IsTextFailure rules table file text (Empty name) = (name.now ≡ file) × (text ≡ []) × (rules.allow_empty ≡ false)
 IsTextFailure rules table file text (Line name bad) = (name.now ≡ file) × IsListFault (form_by rules table) (lines_in text) bad
+IsTextFailure rules table file text (Unclean unclean) = ⊥
 IsTextFailure rules table file text Counts = ⊥
 IsTextFailure rules table file text (Other failure) = ⊥
 

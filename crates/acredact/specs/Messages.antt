@@ -1,6 +1,9 @@
 -- The lines on standard error.
-use Rattle.std.specs.Prelude.{ℕ, List, None, Some, codes}
+use Rattle.std.specs.Prelude.{ℕ, List, ◌++◌, None, Some, codes, decimal}
 use Rattle.programs.specs.Messages.{Message, message_by}
+use Rattle.acredact.specs.declared.clean.Flaw.{Flaw}
+use Rattle.acredact.specs.declared.clean.Flaw.TheVariants.{Empty, Spells}
+use Rattle.acredact.specs.declared.clean.Unclean.{Unclean}
 
 -- the line of a message
 abbrev pub told_line : Message → List ℕ
@@ -16,3 +19,14 @@ alone cause = record { name = None; line = None; cause = cause }
 
 abbrev pub line_about : List ℕ → List ℕ → List ℕ
 line_about name cause = told_line (about name cause)
+
+-- the line that tells of which pattern the piece is not clean, and why: numbers, and no byte of a pattern or of a piece
+abbrev pub piece_line : (number why : List ℕ) → List ℕ
+piece_line number why = codes "acredact" ++ (codes ": the replacement of pattern " ++ (number ++ why))
+
+abbrev pub flaw_text : Flaw → List ℕ
+flaw_text Empty = codes " is empty: what stands beside it can spell a pattern\n"
+flaw_text (Spells pattern) = codes " can spell pattern " ++ (decimal pattern ++ codes " with what stands beside it\n")
+
+abbrev pub unclean_line : Unclean → List ℕ
+unclean_line unclean = piece_line (decimal unclean.number) (flaw_text unclean.flaw)

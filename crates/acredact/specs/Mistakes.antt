@@ -1,5 +1,5 @@
 -- What is wrong with arguments, and how it is told.
-use Rattle.std.specs.Prelude.{◌≡◌, ◌⊎◌, ℕ, Bool, List, [], ◌∷◌, Option, Some, None, codes, drop, take, if◌then◌else◌}
+use Rattle.std.specs.Prelude.{◌≡◌, ◌⊎◌, ℕ, List, [], ◌∷◌, Option, Some, None, codes, drop, take, if◌then◌else◌}
 use Rattle.std.specs.Str.{bytes_eq}
 use Rattle.programs.specs.Messages.{Message}
 use Rattle.acredact.specs.Arguments.{ReadAs, option_name, read_by}

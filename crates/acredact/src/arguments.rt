@@ -30,6 +30,8 @@ pub enum Word {
     Crlf,
     /// `--allow-empty`: a file of patterns or a table may be empty.
     AllowEmpty,
+    /// `--strict`: a replacement that is not clean is refused.
+    Strict,
     /// `--help`: only the help is written.
     Help,
     /// `--version`: only the version is written.
@@ -98,6 +100,7 @@ fn word_of(argument: &str) -> Option<Word>
         "--count" => Some(Word::Count),
         "--crlf" => Some(Word::Crlf),
         "--allow-empty" => Some(Word::AllowEmpty),
+        "--strict" => Some(Word::Strict),
         "--help" => Some(Word::Help),
         "--version" => Some(Word::Version),
         "-" => Some(Word::File),

@@ -1,17 +1,20 @@
 //! Why a call ends early, and how that is told.
 
-ghost use Rattle.std.specs.Prelude.{◌≡◌, ℕ, List};
+ghost use Rattle.std.specs.Prelude.{◌≡◌, ℕ, List, decimal};
 ghost use Rattle.programs.specs.Messages.{reason_text};
 ghost use Rattle.programs.specs.Telling.{TellsBytes};
 ghost use Rattle.acredact.specs.Failures.{IsFailureLine, IsOtherLine, bad_line, is_of_output};
 ghost use Rattle.acredact.specs.LineFaults.{line_fault_text};
-ghost use Rattle.acredact.specs.Messages.{alone, line_about, told_line};
+ghost use Rattle.acredact.specs.Messages.{alone, flaw_text, line_about, piece_line, told_line, unclean_line};
 ghost use Rattle.acredact.specs.Mistakes.{mistake_message};
+ghost use Rattle.acredact.specs.declared.clean.Flaw.TheVariants.{Empty, Spells};
 
 use crate::arguments::{Mistake, name_of};
+use crate::clean::{Flaw, Unclean};
 use crate::patterns::{BadLine, LineFault};
 use aho_core::error::{BuildError, StreamError};
 use aho_devices::device::Sink;
+use itoa::write_digits;
 use programs::errors::Errors;
 use programs::failure;
 use programs::reason::Reason;
@@ -19,6 +22,9 @@ use std::alloc::AllocError;
 
 /// The name that stands before each message.
 const PROGRAM: &[u8] = b"acredact";
+
+/// The most digits that a number has.
+const MAX_DIGITS: usize = 20;
 
 /// Why a call ends early.
 #[derive(Drop)]
@@ -35,6 +41,8 @@ pub enum Failure<'a> {
     Empty(&'a str),
     /// A line of a file of patterns or of a table is wrong.
     Line(&'a str, BadLine),
+    /// The piece of a pattern is not clean.
+    Unclean(Unclean),
     /// The counts cannot be written to standard error.
     Counts,
     /// The patterns are refused, memory runs out, or output cannot be written.
@@ -121,9 +129,62 @@ pub fn tell_failure<E: Sink>(errors: &mut Errors<'_, E>, failure: &Failure<'_>)
             "no pattern: give --allow-empty to allow it",
         ),
         Failure::Line(name, line) => tell_line(errors, name, *line),
+        Failure::Unclean(unclean) => tell_unclean(errors, *unclean),
         Failure::Counts => tell_alone(errors, "the counts cannot be written"),
         Failure::Other(other) => tell_other(errors, other),
     }
+}
+
+/// Tells as a line of which pattern the piece is not clean, and why.
+pub fn tell_unclean<E: Sink>(errors: &mut Errors<'_, E>, unclean: Unclean)
+    ensures told { TellsBytes E.Sink errors.old errors.new (unclean_line unclean) }
+{
+    match unclean.flaw {
+        Flaw::Empty => tell_empty(errors, unclean.number),
+        Flaw::Spells(pattern) => tell_spelled(errors, unclean.number, pattern),
+    }
+}
+
+/// Tells that the piece of a pattern is empty.
+fn tell_empty<E: Sink>(errors: &mut Errors<'_, E>, number: usize)
+    ensures told { TellsBytes E.Sink errors.old errors.new
+        (piece_line (decimal number) (flaw_text Empty)) }
+{
+    let mut room = [0; MAX_DIGITS];
+    let digits = digits_of(number, &mut room);
+    errors.write(&[
+        PROGRAM,
+        b": the replacement of pattern ",
+        digits,
+        b" is empty: what stands beside it can spell a pattern\n",
+    ]);
+}
+
+/// Tells that the piece of a pattern can spell this one.
+fn tell_spelled<E: Sink>(errors: &mut Errors<'_, E>, number: usize, pattern: usize)
+    ensures told { TellsBytes E.Sink errors.old errors.new
+        (piece_line (decimal number) (flaw_text (Spells pattern))) }
+{
+    let mut room = [0; MAX_DIGITS];
+    let mut other_room = [0; MAX_DIGITS];
+    let digits = digits_of(number, &mut room);
+    let other_digits = digits_of(pattern, &mut other_room);
+    errors.write(&[
+        PROGRAM,
+        b": the replacement of pattern ",
+        digits,
+        b" can spell pattern ",
+        other_digits,
+        b" with what stands beside it\n",
+    ]);
+}
+
+/// The digits of a number, in this room.
+fn digits_of(number: usize, room: &mut [u8; MAX_DIGITS]) -> &[u8]
+    ensures digits { result.now ≡ decimal number }
+{
+    let start = write_digits(number as u64, room, MAX_DIGITS);
+    &room[start..]
 }
 
 /// Tells as a line what is wrong with the arguments.

@@ -6,6 +6,7 @@
 #![tactic(auto)]
 
 mod arguments;
+mod clean;
 mod counts;
 mod failure;
 mod files;

@@ -1,21 +1,27 @@
 //! A call of the program over its arguments, files and streams.
 
-ghost use Rattle.std.specs.Prelude.{◌≡◌, ◌⊎◌, ℕ, List, MatchBool, IfErr, IfOk, IfSome, OnOk, false, true};
+ghost use Rattle.std.specs.Prelude.{◌≡◌, ◌⊎◌, ℕ, List, MatchBool, IfErr, IfOk, IfSome, OnErr, OnOk, Some, false, length, true};
+ghost use Rattle.aho_core.specs.Replacement.{pieces_of};
 ghost use Rattle.programs.specs.Arguments.{texts};
+ghost use Rattle.programs.specs.Asked.{ArePatterns};
 ghost use Rattle.programs.specs.Names.{name_bytes};
 ghost use Rattle.programs.specs.Streams.{WritesBytes};
 ghost use Rattle.programs.specs.Telling.{Tells, TellsBytes, TellsSome};
-ghost use Rattle.acredact.specs.Arguments.{AreMistaken, AsksToRedact, GivesNoPattern, IfAsked, all_given, has};
-ghost use Rattle.acredact.specs.Calls.{AskedOutcome, BeginsAsked, IsCountsFailure, IsCountsLine, IsPrintFailure, IsRefusedLine, IsWrongFailure, IsWrongLine, LoadedOutcome, OutputFails, RedactsAsked, RunOutcome, TellsAsked, TellsCounts, call_of, gives_pattern, names_asked, text_asked, work_by};
+ghost use Rattle.acredact.specs.Arguments.{AreMistaken, AsksToRedact, GivesNoPattern, IfAsked, all_given, covers_asked, has};
+ghost use Rattle.acredact.specs.Calls.{AskedOutcome, BeginsAsked, CountsAsked, IsCountsFailure, IsCountsLine, IsPrintFailure, IsRefusedLine, IsWrongFailure, IsWrongLine, LeavesNoneAsked, LoadedOutcome, OutputFails, RedactsAsked, TellsAsked, TellsCounts, WarnedOutcome, WarnsAsked, call_of, gives_pattern, names_asked, text_asked, work_by};
 ghost use Rattle.acredact.specs.Failures.{IsFailureLine};
 ghost use Rattle.acredact.specs.Files.{CanDo, FilesOutcome, redactor_of, work_of};
+ghost use Rattle.acredact.specs.Pieces.{TellsUnclean};
 ghost use Rattle.acredact.specs.Secrets.{IfOf};
 ghost use Rattle.acredact.specs.Tables.{HaveNoEmpty, secrets_of};
-ghost use Rattle.acredact.specs.declared.arguments.Word.TheVariants.{Count};
+ghost use Rattle.acredact.specs.declared.clean.Unclean.{Unclean};
+ghost use Rattle.acredact.specs.declared.failure.Failure.TheVariants.{Unclean as UncleanPiece};
+ghost use Rattle.acredact.specs.declared.arguments.Word.TheVariants.{Count, Strict};
 
 use crate::arguments::{Item, Mistake, Word, covers, has, is_same, items, last_value};
+use crate::clean::{Judge, Unclean, unclean_of};
 use crate::counts::{counts_of, tell_counts};
-use crate::failure::{Failure, tell_failure};
+use crate::failure::{Failure, tell_failure, tell_unclean};
 use crate::files::{Job, redact_files};
 use crate::folder::Folder;
 use crate::load::{Lists, rules};
@@ -52,6 +58,7 @@ Writes each FILE with a text in the place of each run of bytes that lie in match
   --count       write to standard error how often the text of each pattern was written
   --crlf        leave out a carriage return at the end of a line of a FILE of patterns or a TABLE
   --allow-empty allow an empty FILE of patterns or TABLE
+  --strict      refuse replacements that can spell a pattern with what stands beside them
   --            only FILEs follow
   --help        write this and end
   --version     write the version and end
@@ -89,11 +96,16 @@ pub fn run<F: Folder, I: Read, W: Write, E: Sink>(
     ensures begins { IfAsked arguments.now (λ given.
         BeginsAsked W.Write F.Folder folder.now given streams.old streams.new) }
 
-    // Where all was redacted nothing is told but the counts that are asked for.
+    // Where pieces that are not clean are refused, no pattern occurs in what was written of a file.
+    ensures strict { IfAsked arguments.now (λ given. has Strict given ≡ true → covers_asked given ≡ true
+        → result ≡ 0
+        → LeavesNoneAsked W.Write F.Folder folder.now given streams.old streams.new) }
+
+    // Where all was redacted nothing is told but a piece of a cover that is not clean, and the counts that are asked for.
     ensures quiet { IfAsked arguments.now (λ given. has Count given ≡ false → result ≡ 0
-        → streams.new.errors ≡ streams.old.errors) }
+        → WarnsAsked E.Sink F.Folder folder.now given streams.old streams.new) }
     ensures counts { IfAsked arguments.now (λ given. has Count given ≡ true → result ≡ 0
-        → TellsCounts E.Sink streams.old.errors streams.new.errors) }
+        → CountsAsked E.Sink F.Folder folder.now given streams.old streams.new) }
 
     // Else lines say why, and hold nothing of a file's content or of a pattern.
     ensures tells { IfAsked arguments.now (λ given. result ≡ 2
@@ -292,7 +304,7 @@ fn redact_all<'a, F: Folder, I: Read, W: Write, E: Sink>(
     streams: &mut Streams<'_, I, W, E>,
 ) -> Result<bool, Failure<'a>>
     requires some { HaveNoEmpty (secrets_of rules.now) }
-    ensures outcome { RunOutcome W.Write E.Sink
+    ensures outcome { WarnedOutcome W.Write E.Sink (has Strict (all_given given.now))
         (work_by (call_of F.Folder folder.now (all_given given.now)) (secrets_of rules.now))
         result streams.old streams.new }
     ensures flushed { OnOk result (streams.new.output.device.flushed ≡ true) }
@@ -302,7 +314,8 @@ fn redact_all<'a, F: Folder, I: Read, W: Write, E: Sink>(
     let names = names(alloc, given)?;
     let words = patterns.as_slice();
     let nfa = build(alloc, given, words)?;
-    let rows = rows_of(alloc, &nfa, has(given, Word::IgnoreCase), words)?;
+    let ignore_case = has(given, Word::IgnoreCase);
+    let rows = rows_of(alloc, &nfa, ignore_case, words)?;
     let job = Job {
         alloc,
         folder,
@@ -310,7 +323,63 @@ fn redact_all<'a, F: Folder, I: Read, W: Write, E: Sink>(
         replacements: replacements.as_slice(),
         covers: covers(given),
     };
-    Ok(redact_by(&nfa, rows.as_ref(), &job, counts, streams)?)
+    let judge = Judge {
+        words,
+        ignore_case,
+        usual: text_of(given),
+    };
+    let strict = has(given, Word::Strict);
+    redact_warned(&nfa, rows.as_ref(), &job, &judge, strict, counts, streams)
+}
+
+/// Tells of a piece that is not clean, where a cover is asked for, or refuses it, and redacts all files.
+fn redact_warned<'a, A: Automaton, B: Automaton, F: Folder, I: Read, W: Write, E: Sink>(
+    automaton: &A,
+    rows: Option<&B>,
+    job: &Job<'_, '_, F>,
+    judge: &Judge<'_, '_>,
+    strict: bool,
+    counts: &mut [u64],
+    streams: &mut Streams<'_, I, W, E>,
+) -> Result<bool, Failure<'a>>
+    requires ready { CanDo A.Automaton automaton.now job.now }
+    requires rows { IfSome rows (λ rows. CanDo B.Automaton rows.now job.now) }
+    requires words { length job.now.replacements.now ≡ length judge.now.words.now }
+    ensures outcome { IfOf A.Automaton automaton.now (λ p. ArePatterns p judge.now.ignore_case
+        (pieces_of judge.now.words.now) → IfSome rows.entry (λ rows. B.is_of rows.now p)
+        → WarnedOutcome W.Write E.Sink strict (work_of F.Folder job.now (redactor_of job.now p))
+        result streams.old streams.new) }
+    ensures flushed { OnOk result (streams.new.output.device.flushed ≡ true) }
+{
+    let unclean = unclean_of(automaton, judge, job.replacements, job.covers);
+    // Not by `?`: this error may hold names.
+    match warn(&mut streams.errors, unclean, strict) {
+        Ok(()) => Ok(redact_by(automaton, rows, job, counts, streams)?),
+        Err(failure) => Err(failure),
+    }
+}
+
+/// Tells of a piece that is not clean, or refuses it.
+fn warn<'a, E: Sink>(
+    errors: &mut Errors<'_, E>,
+    unclean: Option<Unclean>,
+    strict: bool,
+) -> Result<(), Failure<'a>>
+    ensures told { OnOk result (TellsUnclean E.Sink strict unclean errors.old errors.new) }
+    ensures refused { IfErr result (λ failure. (piece : Unclean) × (unclean ≡ Some piece)
+        × (failure ≡ UncleanPiece piece) × (strict ≡ true)) }
+    ensures untold { OnErr result (errors.new ≡ errors.old) }
+{
+    match unclean {
+        None => Ok(()),
+        Some(piece) => {
+            if strict {
+                return Err(Failure::Unclean(piece));
+            }
+            tell_unclean(errors, piece);
+            Ok(())
+        }
+    }
 }
 
 /// Redacts all files by the automaton with rows, if there is one.

@@ -1,13 +1,11 @@
 -- An argument more is read.
-use Rattle.std.proofs.Common.{rules, ◌≡◌, ◌≤◌, ◌-◌, ◌++◌, [], ◌∷◌, List, ℕ, ap, drop, get_or, length, subst, sym, take, ◌∙◌}
-use Rattle.std.specs.Prelude.{Some, None, Option}
+use Rattle.std.proofs.Common.{rules, ◌≡◌, ◌≤◌, ◌-◌, ◌++◌, [], ◌∷◌, List, ℕ, ap, drop, length, subst, sym, take, ◌∙◌}
+use Rattle.std.specs.Prelude.{Some, None}
 use Rattle.std.specs.String.{string_bytes}
 use Rattle.programs.specs.Arguments.{texts}
-use Rattle.acredact.specs.Arguments.{ReadAs, given_of, read_by, read_of}
+use Rattle.acredact.specs.Arguments.{given_of, read_by, read_of}
 use Rattle.acredact.specs.declared.arguments.Expects.{Expects}
 use Rattle.acredact.specs.declared.arguments.Item.{Item}
-use Rattle.acredact.specs.declared.arguments.Reading.{Reading}
-use Rattle.acredact.specs.declared.arguments.Reading.TheVariants.{Whole, Begun}
 use Rattle.acredact.proofs.Reading.{IsReadTo, read_begun, read_whole, texts_cut}
 use Rattle.acredact.proofs.arguments.items.Goals.{in-Whole+else-is_err, in-Begun}
 use Rattle.acredact.proofs.arguments.items.Goals as goal

@@ -1,6 +1,6 @@
 -- A file more is done.
-use Rattle.std.proofs.Common.{rules, ◌≡◌, ◌≤◌, [], ◌∷◌, ℕ, List, length, subst, sym}
-use Rattle.std.specs.Prelude.{Bool, Result, Ok, Err}
+use Rattle.std.proofs.Common.{rules, ◌≡◌, ◌≤◌, ℕ, List, length, subst, sym}
+use Rattle.std.specs.Prelude.{Bool, Result, Err}
 use Rattle.aho_core.specs.declared.error.stream.StreamError.{StreamError}
 use Rattle.programs.specs.Names.{name_bytes}
 use Rattle.acredact.specs.Files.{FilesOutcome, work_of}

@@ -1,6 +1,6 @@
 -- A flush keeps what was written.
 use Rattle.std.proofs.Common.{rules, ◌≡◌, sym, subst}
-use Rattle.std.specs.Prelude.{Bool, Result, Ok, Err}
+use Rattle.std.specs.Prelude.{Bool, Result, Err}
 use Rattle.aho_core.specs.declared.error.stream.StreamError.{StreamError}
 use Rattle.acredact.specs.Files.{FilesOutcome, work_of}
 use Rattle.acredact.proofs.Done.{flush_done, flush_fails}

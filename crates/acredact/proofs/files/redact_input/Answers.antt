@@ -1,5 +1,5 @@
 -- The input is read to its end.
-use Rattle.std.proofs.Common.{◌≡◌, ◌≢◌, ap, sym, subst, ◌∙◌, Option}
+use Rattle.std.proofs.Common.{◌≢◌, ap, sym, subst, ◌∙◌, Option}
 use Rattle.std.specs.Prelude.{Bool, Result}
 use Rattle.std.proofs.lemmas.Result.{on_ok_weaker}
 use Rattle.aho_core.specs.declared.error.stream.StreamError.{StreamError}

@@ -1,7 +1,7 @@
 -- The reader is read to its end.
 use Rattle.std.proofs.Common.{Option, List, ℕ, ap, subst}
 use Rattle.programs.specs.Streams.{bytes_left}
-use Rattle.acredact.specs.Files.{TextOutcome, redactor_of}
+use Rattle.acredact.specs.Files.{TextOutcome}
 use Rattle.acredact.proofs.files.redact_opened.Goals as goal
 
 pub returns-clause-outcome : goal.returns-clause-outcome

@@ -1,11 +1,10 @@
 -- One line more is added, and at the end the last one.
-use Rattle.std.proofs.Common.{rules, ◌≡◌, ◌≤◌, ◌+◌, ◌-◌, ◌^◌, [], ◌∷◌, ◌++◌, ℕ, List, length, length-append, refl, sym, subst, ◌∙◌, append_assoc, arith}
-use Rattle.std.specs.Prelude.{Err, IfErr, Result, min, nat_eq}
+use Rattle.std.proofs.Common.{rules, ◌≡◌, ◌≤◌, [], ◌∷◌, ◌++◌, length, length-append, sym, subst, ◌∙◌, append_assoc, arith}
+use Rattle.std.specs.Prelude.{Err, IfErr, nat_eq}
 use Rattle.std.specs.List.{slice_split}
 use Rattle.std.proofs.lemmas.Result.{IfErr-weaker, on_ok_weaker}
 use Rattle.acredact.specs.LineFaults.{IsListFault}
 use Rattle.acredact.specs.Tables.{IsAddedList, lines_in, secrets_of}
-use Rattle.acredact.specs.declared.patterns.BadLine.{BadLine}
 use Rattle.acredact.proofs.Lines.{added_more, err_both, fault_at, line_last, line_more, lines_some}
 use Rattle.acredact.proofs.patterns.add_lines.Goals as goal
 

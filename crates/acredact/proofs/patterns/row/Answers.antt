@@ -1,5 +1,5 @@
 -- What stands behind the TAB is at fault.
-use Rattle.std.proofs.Common.{rules, ◌≡◌, inl, inr, sym, subst, true}
+use Rattle.std.proofs.Common.{rules, ◌≡◌, inr, sym, subst, true}
 use Rattle.std.specs.Prelude.{Err, IfErr}
 use Rattle.acredact.specs.LineFaults.{IsLineFault}
 use Rattle.acredact.proofs.patterns.row.Goals as goal

@@ -3,7 +3,7 @@ use Rattle.std.proofs.Common.{inl, inr, List, ap, sym, subst}
 use Rattle.programs.specs.Streams.{bytes_left}
 use Rattle.acredact.specs.Arguments.{all_given, has}
 use Rattle.acredact.specs.Calls.{call_of, reading_by}
-use Rattle.acredact.specs.Loading.{AreGiven, CannotLoadOne, Reading}
+use Rattle.acredact.specs.Loading.{AreGiven, CannotLoadOne}
 use Rattle.acredact.specs.Tables.{HaveNoEmpty, Secret, secrets_of}
 use Rattle.acredact.specs.declared.arguments.Word.TheVariants.{AllowEmpty, Crlf}
 use Rattle.acredact.proofs.Calls.{call_from, call_refused}

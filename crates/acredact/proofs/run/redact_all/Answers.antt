@@ -1,6 +1,6 @@
 -- Both automata are of the patterns that are asked for, and there is a replacement for each.
-use Rattle.std.proofs.Common.{rules, ◌≡◌, ◌≤◌, ◌∙◌, ap, sym, subst, length, map, true, List, ℕ, refl}
-use Rattle.std.specs.Prelude.{Bool, IfSome, IsOk, None, Ok, Option, Some, Err, Result}
+use Rattle.std.proofs.Common.{rules, ◌≡◌, ◌≤◌, ◌∙◌, ap, sym, subst, length, map, true, List, ℕ}
+use Rattle.std.specs.Prelude.{Bool, IfSome, IsOk, None, Option, Some, Err, Result}
 use Rattle.std.specs.Borrow.{Bor}
 use Rattle.std.proofs.lemmas.List.{length-map}
 use Rattle.aho_core.specs.Laws.{shortest}
@@ -13,19 +13,21 @@ use Rattle.aho_hybrid.specs.contracts.hybrid.HybridAutomaton.TheImpl.{ghosts as 
 use Rattle.aho_corasick.specs.contracts.noncontiguous.NFAAutomaton.TheImpl.Laws.{laws-law as nfa-laws}
 use Rattle.aho_hybrid.specs.contracts.hybrid.HybridAutomaton.TheImpl.Laws.{laws-law as rows-laws}
 use Rattle.aho_hybrid.specs.declared.hybrid.Hybrid.{Hybrid}
-use Rattle.programs.specs.Failures.{failure_of_stream}
+use Rattle.programs.specs.Asked.{ArePatterns}
 use Rattle.programs.specs.Names.{name_bytes}
-use Rattle.acredact.specs.Arguments.{all_given, covers_asked}
+use Rattle.acredact.specs.Arguments.{all_given, covers_asked, has}
 use Rattle.acredact.specs.Builds.{patterns_by_given}
-use Rattle.acredact.specs.Calls.{RunOutcome, call_of, names_asked, pieces_asked, work_by}
-use Rattle.acredact.specs.Files.{FilesOutcome}
+use Rattle.acredact.specs.Calls.{WarnedOutcome, call_of, names_asked, pieces_asked, work_by}
 use Rattle.acredact.specs.Secrets.{CanRedact}
 use Rattle.acredact.specs.Tables.{patterns_in, piece_by, secrets_of}
 use Rattle.acredact.specs.declared.failure.Failure.{Failure}
+use Rattle.acredact.specs.declared.arguments.Word.TheVariants.{Strict}
 use Rattle.acredact.specs.declared.failure.Failure.TheVariants.{Other}
+use Rattle.programs.specs.declared.failure.Failure.TheVariants.{OutOfMemory}
 use Rattle.programs.proofs.Lent.{lent}
 use Rattle.acredact.proofs.Ready.{covers_standard, ready_of, some_shortest}
-use Rattle.acredact.proofs.Calls.{run_done, run_fails, run_memory, run_refused, work_as}
+use Rattle.acredact.proofs.Calls.{work_as}
+use Rattle.acredact.proofs.Warned.{warned_memory}
 use Rattle.acredact.proofs.run.redact_all.Goals.{After-as_ref}
 use Rattle.acredact.proofs.run.redact_all.Given.{Over}
 use Rattle.acredact.proofs.run.redact_all.Goals as goal
@@ -50,7 +52,7 @@ rows_are : (g : Over) (c : After-as_ref g)
 rows_are g c =
     let p = patterns_by_given (all_given c.args.given.now) (patterns_in (secrets_of c.args.rules.now)) in
     lent c.in_ok-rows.rows c.as_ref.result (λ rows. HybridGhosts.is_of rows p) c.as_ref.ensures.value
-    (c.in_ok-rows.ensures.of p (record { words_are = sym (words_are g c); rule = sym c.has.ensures.has }) (nfa_is g c))
+    (c.in_ok-rows.ensures.of p (record { words_are = sym (words_are g c); rule = sym c.has-ignore_case.ensures.has }) (nfa_is g c))
 
 rows_ready : (rows : Option (Bor Hybrid)) (p : Patterns) (replacements : List (Bor (List ℕ))) → IfSome rows (λ rows. HybridGhosts.is_of rows.now p) → IfSome rows (λ rows. IsOk (HybridGhosts.start rows.now No))
     → (covers : Bool) → (covers ≡ true → p.kind ≡ Standard) → 1 ≤ shortest (map length p.words) → length replacements ≡ length p.words → IfSome rows (λ rows. CanRedact HybridGhosts rows.now covers replacements)
@@ -59,10 +61,13 @@ rows_ready (Some rows) p replacements of starts covers standard some one =
     let laws = rows-laws rows.now p of in
     ready_of HybridGhosts rows.now p covers replacements of laws.lengths_are laws.kind_is standard starts some one
 
-pub redact_by-requires : goal.redact_by-requires
-redact_by-requires g c =
+patterns_are : (g : Over) (c : After-as_ref g) → ArePatterns (patterns_by_given (all_given c.args.given.now) (patterns_in (secrets_of c.args.rules.now))) c.has-ignore_case.result (pieces_of c.as_slice-words.result.now)
+patterns_are g c = record { words_are = sym (words_are g c); rule = sym c.has-ignore_case.ensures.has }
+
+pub redact_warned-requires : goal.redact_warned-requires
+redact_warned-requires g c =
     let p = patterns_by_given (all_given c.args.given.now) (patterns_in (secrets_of c.args.rules.now)) in
-    let after = (goal.at.redact_by-requires g c).After-as_ref in
+    let after = (goal.at.redact_warned-requires g c).After-as_ref in
     let some = some_shortest (secrets_of c.args.rules.now) c.requires.some in
     let one : length c.as_slice-2.result.now ≡ length (patterns_in (secrets_of c.args.rules.now)) =
     sym (length-map c.as_slice-2.result.now (λ piece. piece.now)) ∙ ap length (pieces_are g after) ∙ length-map (secrets_of c.args.rules.now) _ ∙ sym (length-map (secrets_of c.args.rules.now) _) in
@@ -72,24 +77,21 @@ redact_by-requires g c =
     record {
       ready = ready_of NFAGhosts c.in_ok-nfa.nfa p c.covers.result _ (nfa_is g after) laws.lengths_are laws.kind_is standard c.in_ok-nfa.ensures.starts some one;
       rows = rows_ready c.as_ref.result p _ (rows_are g after) starts c.covers.result standard some one;
+      words = one ∙ sym (ap length (words_are g after)) ∙ length-map c.as_slice-words.result.now (λ piece. piece.now);
     }
 
-pub returns-in_err-redact_by-clause-outcome : goal.returns-in_err-redact_by-clause-outcome
-returns-in_err-redact_by-clause-outcome g c =
-    let p = patterns_by_given (all_given c.args.given.now) (patterns_in (secrets_of c.args.rules.now)) in
-    let after = (goal.at.returns-in_err-redact_by-clause-outcome g c).After-as_ref in
+pub returns-in_err-rows-clause-outcome : goal.returns-in_err-rows-clause-outcome
+returns-in_err-rows-clause-outcome g c =
     let work = work_by (call_of g.F.Folder c.args.folder.now (all_given c.args.given.now)) (secrets_of c.args.rules.now) in
-    let is : c.from_residual-in_err-redact_by.result ≡ Err (Other (failure_of_stream c.in_err-redact_by.field-0.0)) = search rules in
-    subst (λ (r : Result Bool Failure). RunOutcome g.W.Write g.E.Sink work r c.args.streams.now c.redact_by.new.streams) (sym is)
-    (run_fails g.W.Write g.E.Sink work _ _ _
-    (work_as (g.F.Folder.holds c.args.folder.now) (g.F.Folder.refuses c.args.folder.now) p _ _ _ _ _ _ (names_are g after) (covers_are g after) (pieces_are g after)
-    (λ w. FilesOutcome g.W.Write g.E.Sink w (Err c.in_err-redact_by.field-0.0) c.args.streams.now c.redact_by.new.streams) (c.in_err-redact_by.ensures.outcome p (nfa_is g after) (rows_are g after))))
+    let is : c.from_residual-in_err-rows.result ≡ Err (Other OutOfMemory) = search rules in
+    subst (λ (r : Result Bool Failure). WarnedOutcome g.W.Write g.E.Sink (has Strict (all_given c.args.given.now)) work r c.args.streams.now c.args.streams.now) (sym is)
+    (warned_memory g.W.Write g.E.Sink (has Strict (all_given c.args.given.now)) work c.args.streams.now)
 
 pub returns-clause-outcome : goal.returns-clause-outcome
 returns-clause-outcome g c =
     let p = patterns_by_given (all_given c.args.given.now) (patterns_in (secrets_of c.args.rules.now)) in
     let after = (goal.at.returns-clause-outcome g c).After-as_ref in
     let work = work_by (call_of g.F.Folder c.args.folder.now (all_given c.args.given.now)) (secrets_of c.args.rules.now) in
-    run_done g.W.Write g.E.Sink work _ _ _
+    subst (λ (b : Bool). WarnedOutcome g.W.Write g.E.Sink b work c.redact_warned.result c.args.streams.now c.redact_warned.new.streams) c.has-strict.ensures.has
     (work_as (g.F.Folder.holds c.args.folder.now) (g.F.Folder.refuses c.args.folder.now) p _ _ _ _ _ _ (names_are g after) (covers_are g after) (pieces_are g after)
-    (λ w. FilesOutcome g.W.Write g.E.Sink w (Ok c.in_ok-redact_by.field-0) c.args.streams.now c.redact_by.new.streams) (c.in_ok-redact_by.ensures.outcome p (nfa_is g after) (rows_are g after)))
+    (λ w. WarnedOutcome g.W.Write g.E.Sink c.has-strict.result w c.redact_warned.result c.args.streams.now c.redact_warned.new.streams) (c.redact_warned.ensures.outcome p (nfa_is g after) (patterns_are g after) (rows_are g after)))

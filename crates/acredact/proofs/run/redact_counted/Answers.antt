@@ -7,14 +7,16 @@ use Rattle.acredact.specs.Calls.{CallOutcome, call_of}
 use Rattle.acredact.specs.Tables.{secrets_of}
 use Rattle.acredact.specs.declared.failure.Failure.{Failure}
 use Rattle.acredact.specs.declared.failure.Failure.TheVariants.{Other}
-use Rattle.acredact.proofs.Calls.{call_cut, call_refused, call_told}
+use Rattle.acredact.proofs.Calls.{call_refused, may_fail}
+use Rattle.acredact.proofs.Warned.{call_cut, call_told}
 use Rattle.acredact.proofs.run.redact_counted.Goals as goal
 
 pub returns-in_err-counts-clause-outcome : goal.returns-in_err-counts-clause-outcome
 returns-in_err-counts-clause-outcome g c = λ left loaded.
     let is : c.from_residual.result ≡ Err (Other OutOfMemory) = search rules in
-    subst (λ (r : Result Bool Failure). CallOutcome g.W.Write g.E.Sink (call_of g.F.Folder c.args.folder.now (all_given c.args.given.now)) left r c.args.streams.now c.args.streams.now) (sym is)
-    (call_refused g.W.Write g.E.Sink _ left c.args.streams.now.input c.args.streams.now (Other OutOfMemory) (inr (inr (inr (inr (inl refl))))))
+    let call = call_of g.F.Folder c.args.folder.now (all_given c.args.given.now) in
+    subst (λ (r : Result Bool Failure). CallOutcome g.W.Write g.E.Sink call left r c.args.streams.now c.args.streams.now) (sym is)
+    (call_refused g.W.Write g.E.Sink call left c.args.streams.now.input c.args.streams.now (Other OutOfMemory) (may_fail call _ (Other OutOfMemory) (inr (inl refl))))
 
 pub returns-in-Ok-clause-outcome : goal.returns-in-Ok-clause-outcome
 returns-in-Ok-clause-outcome g c = λ left loaded.

@@ -1,5 +1,6 @@
 -- The failure is told behind what was told before.
-use Rattle.std.proofs.Common.{inl, inr}
+use Rattle.std.proofs.Common.{rules, ◌≡◌, inl, inr, true}
+use Rattle.std.specs.Prelude.{Ok}
 use Rattle.acredact.specs.Calls.{IsLineOf, OutputFails, call_of}
 use Rattle.acredact.proofs.Calls.{begins_told, tells_last}
 use Rattle.acredact.proofs.run.run.Goals as goal
@@ -14,3 +15,8 @@ returns-in-Err-clause-tells g c = λ given right asks is.
     let told = c.report.ensures.told in
     tells_last g.E.Sink (IsLineOf (call_of g.F.Folder c.args.folder.now given) (OutputFails c.args.streams.now.output c.answer.new.streams.output)) _ _ _ told.0 outcome.told
     (inr (inl (c.in-Err.failure, outcome.fails, told.1))) told.2
+
+pub returns-in-Ok-true-clause-counts : goal.returns-in-Ok-true-clause-counts
+returns-in-Ok-true-clause-counts g c = λ given right asks some is.
+    let whole : c.answer.result ≡ Ok true = search rules in
+    (c.answer.ensures.outcome given right asks).counts some whole

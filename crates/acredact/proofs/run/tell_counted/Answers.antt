@@ -1,7 +1,6 @@
 -- The counts are one text.
-use Rattle.std.proofs.Common.{rules, ◌≡◌, true, refl, sym, subst}
-use Rattle.programs.specs.Telling.{TellsBytes}
-use Rattle.acredact.specs.Counts.{counts_text, lines_of_rules}
+use Rattle.std.proofs.Common.{rules, ◌≡◌, true}
+use Rattle.acredact.specs.Counts.{lines_of_rules}
 use Rattle.acredact.proofs.Calls.{tells_counts, tells_same}
 use Rattle.acredact.proofs.run.tell_counted.Goals as goal
 

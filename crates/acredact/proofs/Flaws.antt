@@ -1,0 +1,159 @@
+-- Why a piece is not clean, and that it is clean where nothing is found.
+use Rattle.std.proofs.Common.{◌≡◌, inl, inr, ℕ, zero, suc, ◌+◌, ◌-◌, ◌<◌, ◌≤◌, List, [], ◌∷◌, ◌++◌, Option, true, false, length, get_or, set, refl, sym, ap, subst, ◌∙◌, arith, length-append}
+use Rattle.std.specs.Prelude.{Bool, IfNone, IfSome, None, Some}
+use Rattle.std.specs.Borrow.{Bor}
+use Rattle.std.proofs.Math.Seq.{get_or-append_seam}
+use Rattle.std.proofs.lemmas.Bool.{cases_eq}
+use Rattle.std.proofs.lemmas.List.{get_or-map, get_or-set_other, get_or-set_same, length-map}
+use Rattle.aho_core.specs.Answer.{IsAnswer}
+use Rattle.aho_core.specs.Bytes.{folded_by}
+use Rattle.aho_core.specs.Listing.{IsMember}
+use Rattle.aho_core.specs.Occurrence.{Occurrence}
+use Rattle.aho_core.specs.Occurs.{OccursIn}
+use Rattle.aho_core.specs.Patterns.{Patterns, pattern_at}
+use Rattle.aho_core.specs.Replacement.{pieces_of}
+use Rattle.aho_core.specs.Search.{plain_search}
+use Rattle.aho_laws.specs.CoverLaws.{AreClean, IsCleanPiece}
+use Rattle.aho_laws.specs.CutLaws.{NoneHolds}
+use Rattle.programs.specs.Asked.{ArePatterns}
+use Rattle.acredact.specs.Pieces.{AreMarked, HoldNone, HoldsByte, IsFlaw, IsHolder, IsMarked, IsUnclean}
+use Rattle.acredact.specs.Secrets.{NoneOccurs}
+use Rattle.acredact.specs.declared.clean.Flaw.{Flaw}
+use Rattle.acredact.specs.declared.clean.Flaw.TheVariants.{Empty, Spells}
+
+-- what stands at a place is a member, and each member stands at one
+pub member_at : (xs : List ℕ) (place : ℕ) → place < length xs → IsMember xs (get_or xs place 0)
+member_at [] place below = absurd (omega (arith, below))
+member_at (x ∷ xs) zero below = inl refl
+member_at (x ∷ xs) (suc place) below = inr (member_at xs place (omega (arith, below)))
+
+pub place_of : (xs : List ℕ) (x : ℕ) → IsMember xs x → (place : ℕ) × (place < length xs) × (get_or xs place 0 ≡ x)
+place_of [] x member = absurd member
+place_of (y ∷ ys) x (inl is) = (0, omega arith, sym is)
+place_of (y ∷ ys) x (inr member) = let (place, below, is) = place_of ys x member in (suc place, omega (arith, below), is)
+
+-- the bytes of a word, one by one
+pub word_holds : (ignore_case : Bool) (word : List ℕ) (byte place : ℕ) → place < length word → folded_by ignore_case (get_or word place 0) ≡ folded_by ignore_case byte → HoldsByte ignore_case word byte
+word_holds ignore_case word byte place below same = (get_or word place 0, member_at word place below, same)
+
+pub word_holds_none : (ignore_case : Bool) (word : List ℕ) (byte : ℕ) → ((place : ℕ) → place < length word → folded_by ignore_case (get_or word place 0) ≡ folded_by ignore_case byte → ⊥) → HoldsByte ignore_case word byte → ⊥
+word_holds_none ignore_case word byte none (other, member, same) =
+    let (place, below, is) = place_of word other member in
+    none place below (ap (folded_by ignore_case) is ∙ same)
+
+pub word_marked : (ignore_case : Bool) (word : List ℕ) (marks : List Bool) → ((place : ℕ) → place < length word → get_or marks (folded_by ignore_case (get_or word place 0)) false ≡ true) → IsMarked ignore_case word marks
+word_marked ignore_case word marks are byte member =
+    let (place, below, is) = place_of word byte member in
+    ap (λ (b : ℕ). get_or marks (folded_by ignore_case b) false) (sym is) ∙ are place below
+
+-- a mark more, and those before stay
+pub marked_here : (marks : List Bool) (at place : ℕ) → at < length marks → place ≡ at → get_or (set marks at true) place false ≡ true
+marked_here marks at place below is = ap (λ (n : ℕ). get_or (set marks at true) n false) is ∙ get_or-set_same marks at true false below
+
+pub marked_still : (marks : List Bool) (at place : ℕ) → at < length marks → get_or marks place false ≡ true → get_or (set marks at true) place false ≡ true
+marked_still marks at place below is = elim (cases_eq place at) [
+  | inl same ↦ marked_here marks at place below same
+  | inr other ↦ get_or-set_other marks at place true false other ∙ is
+]
+
+-- a byte that is not marked is held by no word
+pub unmarked : (ignore_case : Bool) (words : List (List ℕ)) (marks : List Bool) (byte place : ℕ) → AreMarked ignore_case words marks → place ≡ folded_by ignore_case byte → get_or marks place false ≡ false → HoldNone ignore_case words byte
+unmarked ignore_case words marks byte place marked is not number numbered (other, member, same) =
+    let clash : true ≡ false = sym (marked number numbered other member) ∙ ap (λ (n : ℕ). get_or marks n false) (same ∙ sym is) ∙ not in cc
+
+-- the first and the last byte of a piece
+first_is : (piece rest : List ℕ) (byte : ℕ) → piece ≡ byte ∷ rest → get_or piece 0 0 ≡ byte
+first_is piece rest byte is = ap (λ (l : List ℕ). get_or l 0 0) is
+
+last_is : (piece front : List ℕ) (byte : ℕ) → piece ≡ front ++ byte ∷ [] → get_or piece (length piece - 1) 0 ≡ byte
+last_is piece front byte is =
+    let count : length piece - 1 ≡ length front = omega (arith, ap length is ∙ length-append front (byte ∷ [])) in
+    ap (λ (n : ℕ). get_or piece n 0) count ∙ ap (λ (l : List ℕ). get_or l (length front) 0) is ∙ get_or-append_seam front byte [] 0
+
+first_of : (piece : List ℕ) → 0 < length piece → (rest : List ℕ) × (piece ≡ get_or piece 0 0 ∷ rest)
+first_of [] some = absurd (omega (arith, some))
+first_of (x ∷ xs) some = (xs, refl)
+
+last_of : (piece : List ℕ) → 0 < length piece → (front : List ℕ) × (piece ≡ front ++ get_or piece (length piece - 1) 0 ∷ [])
+last_of piece some =
+    let (front, byte, is) = split piece some in
+    (front, is ∙ ap (λ (b : ℕ). front ++ b ∷ []) (sym (last_is piece front byte is)))
+  where
+    split : (text : List ℕ) → 0 < length text → (front : List ℕ) × (byte : ℕ) × (text ≡ front ++ byte ∷ [])
+    split [] none = absurd (omega (arith, none))
+    split (x ∷ []) one = ([], x, refl)
+    split (x ∷ y ∷ text) more = let (front, byte, is) = split (y ∷ text) (omega arith) in (x ∷ front, byte, ap (λ (t : List ℕ). x ∷ t) is)
+
+module _ (p : Patterns) (ignore_case : Bool) (words : List (List ℕ)) (are : ArePatterns p ignore_case words) where
+  -- what is said of words holds of the patterns
+  holds_of : (number byte : ℕ) → HoldsByte ignore_case (get_or words number []) byte → HoldsByte p.ignore_case (pattern_at p number) byte
+  holds_of number byte holds =
+      subst (λ (b : Bool). HoldsByte b (pattern_at p number) byte) (sym are.rule)
+      (subst (λ (l : List (List ℕ)). HoldsByte ignore_case (get_or l number []) byte) (sym are.words_are) holds)
+
+  numbered_of : (number : ℕ) → number < length words → number < length p.words
+  numbered_of number numbered = subst (λ (l : List (List ℕ)). number < length l) (sym are.words_are) numbered
+
+  none_holds : (byte : ℕ) → HoldNone ignore_case words byte → NoneHolds p byte
+  none_holds byte none number other numbered member same =
+      none number (subst (λ (l : List (List ℕ)). number < length l) are.words_are numbered)
+      (other, subst (λ (l : List (List ℕ)). IsMember (get_or l number []) other) are.words_are member, subst (λ (b : Bool). folded_by b other ≡ folded_by b byte) are.rule same)
+
+  -- a pattern holds the first byte, or the last
+  pub spells_first : (piece : List ℕ) (byte told : ℕ) → 0 < length piece → byte ≡ get_or piece 0 0 → IsHolder ignore_case words byte told → IsFlaw p piece (Spells told)
+  spells_first piece byte told some is (number, is_told, numbered, holds) =
+      let first = first_of piece some in
+      (number, is_told, numbered_of number numbered, inl (byte, first.0, first.1 ∙ ap (λ (b : ℕ). b ∷ first.0) (sym is), holds_of number byte holds))
+
+  pub spells_last : (piece : List ℕ) (byte told : ℕ) → 0 < length piece → byte ≡ get_or piece (length piece - 1) 0 → IsHolder ignore_case words byte told → IsFlaw p piece (Spells told)
+  spells_last piece byte told some is (number, is_told, numbered, holds) =
+      let last = last_of piece some in
+      (number, is_told, numbered_of number numbered, inr (inl (byte, last.0, last.1 ∙ ap (λ (b : ℕ). last.0 ++ b ∷ []) (sym is), holds_of number byte holds)))
+
+  -- none holds either, and nothing occurs
+  pub clean_by : (piece : List ℕ) (first last : ℕ) → 0 < length piece → first ≡ get_or piece 0 0 → last ≡ get_or piece (length piece - 1) 0
+      → HoldNone ignore_case words first → HoldNone ignore_case words last → NoneOccurs p piece → IsCleanPiece p piece
+  clean_by piece first last some is_first is_last none_first none_last none = record {
+    some = some;
+    first = λ byte rest is. subst (NoneHolds p) (is_first ∙ first_is piece rest byte is) (none_holds first none_first);
+    last = λ byte front is. subst (NoneHolds p) (is_last ∙ last_is piece front byte is) (none_holds last none_last);
+    none = none;
+  }
+
+-- a pattern occurs
+pub spells_within : (p : Patterns) (piece : List ℕ) (m : Occurrence) → OccursIn p (plain_search piece) m → IsFlaw p piece (Spells (m.pattern + 1))
+spells_within p piece m occurs = (m.pattern, refl, occurs.numbered, inr (inr (m, occurs, refl)))
+
+-- what has a flaw is not clean
+pub flawed : (p : Patterns) (piece : List ℕ) (flaw : Flaw) → IsFlaw p piece flaw → IsCleanPiece p piece → ⊥
+flawed p piece Empty is clean = absurd (omega (arith, clean.some, ap length is))
+flawed p piece (Spells told) (number, is, numbered, inl (byte, rest, split, (other, member, same))) clean = clean.first byte rest split number other numbered member same
+flawed p piece (Spells told) (number, is, numbered, inr (inl (byte, front, split, (other, member, same)))) clean = clean.last byte front split number other numbered member same
+flawed p piece (Spells told) (number, is, numbered, inr (inr (m, occurs, named))) clean = clean.none m occurs
+
+-- what a search answers of a piece
+pub answer_occurs : (p : Patterns) (piece : List ℕ) (answer : Option Occurrence) → IsAnswer p (plain_search piece) answer → IfSome answer (OccursIn p (plain_search piece))
+answer_occurs p piece None is = tt
+answer_occurs p piece (Some m) is = is.0
+
+pub answer_none : (p : Patterns) (piece : List ℕ) (answer : Option Occurrence) → IsAnswer p (plain_search piece) answer → IfNone answer (NoneOccurs p piece)
+answer_none p piece None is = is
+answer_none p piece (Some m) is = tt
+
+-- the piece at a place
+pub piece_is : (pieces : List (Bor (List ℕ))) (at : ℕ) (d : Bor (List ℕ)) → at < length pieces → get_or (pieces_of pieces) at [] ≡ (get_or pieces at d).now
+piece_is pieces at d below = get_or-map (λ piece. piece.now) pieces at d [] below
+
+pub pieces_count : (pieces : List (Bor (List ℕ))) → length (pieces_of pieces) ≡ length pieces
+pieces_count pieces = length-map pieces (λ piece. piece.now)
+
+-- the first that is not clean
+pub unclean_at : (p : Patterns) (pieces : List (List ℕ)) (at : ℕ) (piece : List ℕ) (flaw : Flaw) → at < length p.words → ((other : ℕ) → other < at → IsCleanPiece p (get_or pieces other [])) → get_or pieces at [] ≡ piece
+    → IsFlaw p piece flaw → IsUnclean p pieces (record { number = at + 1; flaw = flaw })
+unclean_at p pieces at piece flaw numbered before is of =
+    let here : IsFlaw p (get_or pieces at []) flaw = subst (λ (l : List ℕ). IsFlaw p l flaw) (sym is) of in
+    record { number = at; told = refl; numbered = numbered; before = before; flaw = here; is_not = flawed p (get_or pieces at []) flaw here }
+
+-- all are clean
+pub clean_all : (p : Patterns) (pieces : List (List ℕ)) (at : ℕ) → length p.words ≤ at → ((other : ℕ) → other < at → IsCleanPiece p (get_or pieces other [])) → AreClean p pieces
+clean_all p pieces at past clean number numbered = clean number (omega (arith, numbered, past))

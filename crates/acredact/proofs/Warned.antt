@@ -1,0 +1,150 @@
+-- What comes of a call whose pieces were looked at.
+use Rattle.std.proofs.Common.{◌≡◌, inl, inr, ℕ, List, [], ◌∷◌, ◌++◌, Option, true, false, refl, sym, ap, subst, ◌∙◌, append-nil}
+use Rattle.std.specs.Prelude.{Bool, MatchBool, None, Some, Result, Ok, Err, IfErr, IfOk, OnErr, OnOk}
+use Rattle.std.specs.List.{All, concat}
+use Rattle.std.specs.declared.io.traits.Read.{Ghosts as Readers}
+use Rattle.std.specs.declared.io.traits.Write.{Ghosts as Writers}
+use Rattle.std.proofs.lemmas.List.Elements.{All-append, All-cons, All-head, All-nil, All-tail}
+use Rattle.aho_devices.specs.declared.device.Sink.{Ghosts as SinkGhosts}
+use Rattle.programs.specs.Streams.{bytes_left}
+use Rattle.programs.specs.Telling.{Tells, TellsBytes, TellsSome}
+use Rattle.programs.specs.declared.errors.Errors.{Errors}
+use Rattle.programs.specs.declared.failure.Failure.TheVariants.{OutOfMemory}
+use Rattle.programs.proofs.Tellings.{tells-later}
+use Rattle.acredact.specs.Arguments.{has}
+use Rattle.acredact.specs.Calls.{Call, CallOutcome, IsCountsFailure, IsCountsLine, IsLineOf, IsRunFailure, IsUntouched, OutputFails, RestOutcome, RunOutcome, TellsCounts, WarnedOutcome, names_asked, reading_by, redactor_by_given, work_by}
+use Rattle.acredact.specs.Files.{Work}
+use Rattle.acredact.specs.Loading.{AreGiven}
+use Rattle.acredact.specs.Messages.{unclean_line}
+use Rattle.acredact.specs.Pieces.{HasCleanPieces, IsJudged, TellsOfPieces, TellsUnclean}
+use Rattle.acredact.specs.Secrets.{Redactor}
+use Rattle.acredact.specs.Tables.{Secret}
+use Rattle.acredact.specs.declared.arguments.Word.TheVariants.{Count, Strict}
+use Rattle.acredact.specs.declared.clean.Unclean.{Unclean}
+use Rattle.acredact.specs.declared.failure.Failure.{Failure}
+use Rattle.acredact.specs.declared.failure.Failure.TheVariants.{Other, Unclean as UncleanPiece}
+use Rattle.acredact.specs.declared.streams.Streams.{Streams}
+use Rattle.acredact.proofs.Calls.{call_refused, may_fail, rest_cut, rest_told, tells_same}
+use Rattle.acredact.proofs.Done.{concat_both}
+use Rattle.acredact.proofs.Free.{free_of}
+
+-- where they are to be refused, nothing is told and they are clean
+clean_of : {E : Type 0} (K : SinkGhosts E) (strict : Bool) (r : Redactor) (old new : Errors E) → strict ≡ true → TellsOfPieces K strict r old new → HasCleanPieces r
+clean_of K strict r old new is (None, judged, same) = judged
+clean_of K strict r old new is (Some unclean, judged, (lax, told)) = let clash : true ≡ false = sym is ∙ lax in absurd (cc)
+
+-- lines behind lines
+module _ {E : Type 0} (K : SinkGhosts E) (IsLine : List ℕ → Type 0) (old mid new : Errors E) (first : Tells K IsLine old mid) where
+  tells_both : Tells K IsLine mid new → Tells K IsLine old new
+  tells_both later = record {
+    told = first.told ++ later.told;
+    are_lines = All-append IsLine first.told later.told first.are_lines later.are_lines;
+    written = subst (TellsBytes K old new) (sym (concat_both first.told later.told)) (tells-later K first.written later.written);
+  }
+
+  some_behind : TellsSome K IsLine mid new → TellsSome K IsLine old new
+  some_behind later = behind first.told first.are_lines (tells-later K first.written later.written)
+    where
+      behind : (lines : List (List ℕ)) → All IsLine lines → TellsBytes K old new (concat lines ++ concat (later.first ∷ later.more)) → TellsSome K IsLine old new
+      behind [] are written = record { first = later.first; is_line = later.is_line; more = later.more; are_lines = later.are_lines; written = written }
+      behind (line ∷ lines) are written = record {
+        first = line;
+        is_line = All-head IsLine line lines are;
+        more = lines ++ (later.first ∷ later.more);
+        are_lines = All-append IsLine lines (later.first ∷ later.more) (All-tail IsLine line lines are) (All-cons IsLine later.first later.more later.is_line later.are_lines);
+        written = subst (TellsBytes K old new) (sym (concat_both (line ∷ lines) (later.first ∷ later.more))) written;
+      }
+
+-- what is told of pieces may be told
+piece_tells : {E : Type 0} (K : SinkGhosts E) (call : Call) (fails : Type 0) (secrets : List Secret) (old new : Errors E) → TellsOfPieces K (has Strict call.given) (redactor_by_given call.given secrets) old new → Tells K (IsLineOf call fails) old new
+piece_tells K call fails secrets old new (None, judged, same) = tells_same K (IsLineOf call fails) old new same
+piece_tells K call fails secrets old new (Some unclean, judged, (lax, told)) = record {
+  told = unclean_line unclean ∷ [];
+  are_lines = All-cons (IsLineOf call fails) (unclean_line unclean) [] (inr (inr (inr (lax, judged.0, (unclean, refl))))) (All-nil (IsLineOf call fails));
+  written = subst (TellsBytes K old new) (sym (append-nil (unclean_line unclean))) told;
+}
+
+-- and so may what is told behind it
+told_behind : {E : Type 0} (K : SinkGhosts E) (call : Call) (old mid new : Errors E) (fails : Type 0) (result : Result Bool Failure) → Tells K (IsLineOf call fails) old mid → OnErr result (Tells K (IsLineOf call fails) mid new) → OnErr result (Tells K (IsLineOf call fails) old new)
+told_behind K call old mid new fails (Ok all) first told = tt
+told_behind K call old mid new fails (Err failure) first told = tells_both K (IsLineOf call fails) old mid new first told
+
+-- no file was read
+module _ {R : Type 0} {Reads : Readers R} {W E : Type 0} (Writes : Writers W) (K : SinkGhosts E) (strict : Bool) (work : Work) where
+  pub warned_refused : (streams : Streams R W E Reads) (failure : Failure) → IsRunFailure (OutputFails streams.output streams.output) failure → WarnedOutcome Writes K strict work (Err failure) streams streams
+  warned_refused streams failure fails = inl (failure, refl, refl, inr fails)
+
+  -- memory may always run out
+  pub warned_memory : (streams : Streams R W E Reads) → WarnedOutcome Writes K strict work (Err (Other OutOfMemory)) streams streams
+  warned_memory streams = warned_refused streams (Other OutOfMemory) (inr (inl refl))
+
+  -- a piece is refused
+  pub warned_strict : (streams : Streams R W E Reads) (errors : Errors E) (answer : Option Unclean) (failure : Failure) → IsJudged work.redactor answer
+      → (piece : Unclean) × (answer ≡ Some piece) × (failure ≡ UncleanPiece piece) × (strict ≡ true) → errors ≡ streams.errors → WarnedOutcome Writes K strict work (Err failure) streams (record streams { errors = errors })
+  warned_strict streams errors answer failure judged (piece, is, fails, asked) same =
+      let here : IsJudged work.redactor (Some piece) = subst (λ (a : Option Unclean). IsJudged work.redactor a) is judged in
+      inl (failure, refl, ap (λ (e : Errors E). record streams { errors = e }) same, inl (piece, fails, asked, here.0, here.1))
+
+  -- files are redacted behind what is told of pieces
+  pub warned_run : (old new : Streams R W E Reads) (errors : Errors E) (answer : Option Unclean) (result : Result Bool Failure) → IsJudged work.redactor answer → TellsUnclean K strict answer old.errors errors
+      → RunOutcome Writes K work result (record old { errors = errors }) new → WarnedOutcome Writes K strict work result old new
+  warned_run old new errors answer result judged told run = inr (errors, (answer, judged, told), run)
+
+module _ {R : Type 0} {Reads : Readers R} {W E : Type 0} (Writes : Writers W) (K : SinkGhosts E) (call : Call) (left : Option (List ℕ)) where
+  refused_other : (old new : Streams R W E Reads) (result : Result Bool Failure) → IfErr result (λ failure. (unclean : Unclean) → failure ≡ UncleanPiece unclean → ⊥)
+      → IfErr result (λ failure. (unclean : Unclean) → failure ≡ UncleanPiece unclean → IsUntouched Writes K old new)
+  refused_other old new (Ok all) other = tt
+  refused_other old new (Err failure) other = λ unclean is. absurd (other unclean is)
+
+  module _ (secrets : List Secret) (old mid : Streams R W E Reads) (loaded : AreGiven (reading_by call) call.given secrets left (bytes_left old.input)) where
+    -- what comes of the files comes behind what is told of the pieces
+    call_warned : (new : Streams R W E Reads) (errors : Errors E) (result : Result Bool Failure) → TellsOfPieces K (has Strict call.given) (redactor_by_given call.given secrets) old.errors errors
+        → RestOutcome Writes K call secrets result (record old { errors = errors }) new → CallOutcome Writes K call left result old new
+    call_warned new errors result told rest =
+        let first = λ (fails : Type 0). piece_tells K call fails secrets old.errors errors told in
+        record {
+          redacts = λ is. record { secrets = secrets; between = bytes_left old.input; loaded = loaded; redacted = rest.redacts is };
+          strict = λ asked covers is. record {
+            secrets = secrets;
+            between = bytes_left old.input;
+            loaded = loaded;
+            free = free_of (work_by call secrets) covers (clean_of K (has Strict call.given) (redactor_by_given call.given secrets) old.errors errors asked told covers) (names_asked call.given) _ _ _ _ (rest.redacts is);
+          };
+          refused = refused_other old new result rest.other;
+          begins = elim rest.begins [
+            | inl same ↦ inl same
+            | inr cut ↦ inr (record { secrets = secrets; between = bytes_left old.input; loaded = loaded; lines = cut.0; cut = cut.1 })
+          ];
+          quiet = λ none is. record {
+            secrets = secrets;
+            between = bytes_left old.input;
+            loaded = loaded;
+            told = subst (λ (e : Errors E). TellsOfPieces K (has Strict call.given) (redactor_by_given call.given secrets) old.errors e) (sym (rest.quiet none is)) told;
+          };
+          counts = λ some is. (errors, record { secrets = secrets; between = bytes_left old.input; loaded = loaded; told = told }, rest.counts some is);
+          partly = λ is. some_behind K (IsLineOf call (OutputFails old.output new.output)) old.errors errors new.errors (first _) (rest.partly is);
+          fails = rest.fails;
+          told = told_behind K call old.errors errors new.errors (OutputFails old.output new.output) result (first _) rest.told;
+        }
+
+    -- the files' redaction fails, or is refused
+    pub call_cut : (failure : Failure) → WarnedOutcome Writes K (has Strict call.given) (work_by call secrets) (Err failure) old mid → CallOutcome Writes K call left (Err failure) old mid
+    call_cut failure (inl (why, is, same, of)) =
+        let alike : why ≡ failure = cc in
+        subst (λ (s : Streams R W E Reads). CallOutcome Writes K call left (Err failure) old s) (sym same)
+        (subst (λ (f : Failure). CallOutcome Writes K call left (Err f) old old) alike
+        (call_refused Writes K call left old.input old why (elim of [
+          | inl strict ↦ inr (inr (inr (inl (secrets, left, bytes_left old.input, loaded, strict))))
+          | inr run ↦ may_fail call _ why run
+        ])))
+    call_cut failure (inr (errors, told, run)) =
+        call_warned mid errors (Err failure) told (rest_cut Writes K call secrets (record old { errors = errors }) mid failure run)
+
+    -- all was done but the counts
+    pub call_told : (all counted : Bool) (result : Result Bool Failure) (errors : Errors E) → counted ≡ has Count call.given → WarnedOutcome Writes K (has Strict call.given) (work_by call secrets) (Ok all) old mid
+        → IfOk result (λ done. done ≡ all) → OnOk result (MatchBool counted (TellsCounts K mid.errors errors) (errors ≡ mid.errors))
+        → IfErr result (IsCountsFailure counted) → Tells K (IsCountsLine counted) mid.errors errors → CallOutcome Writes K call left result old (record mid { errors = errors })
+    call_told all counted result errors is (inl (why, fails, same, of)) done counts untold told = let clash : Ok all ≡ Err why = fails in absurd (cc)
+    call_told all counted result errors is (inr (warned, pieces, run)) done counts untold told =
+        call_warned (record mid { errors = errors }) warned result pieces
+        (rest_told Writes K call secrets (record old { errors = warned }) mid all counted result errors is run done counts untold told)

@@ -1,0 +1,92 @@
+-- Which of the texts that are written in the place of patterns are clean, so that with what stands beside them they spell no pattern.
+use Rattle.std.specs.Prelude.{◌≡◌, ◌⊎◌, ℕ, ◌+◌, ◌<◌, Bool, true, false, List, [], ◌∷◌, ◌++◌, Option, Some, None, length, slice_index_or}
+use Rattle.aho_core.specs.Bytes.{folded_by}
+use Rattle.aho_core.specs.Listing.{IsMember}
+use Rattle.aho_core.specs.Occurrence.{Occurrence}
+use Rattle.aho_core.specs.Occurs.{OccursIn}
+use Rattle.aho_core.specs.Patterns.{Patterns, pattern_at}
+use Rattle.aho_core.specs.Search.{plain_search}
+use Rattle.aho_devices.specs.declared.device.Sink.{Ghosts as SinkGhosts}
+use Rattle.aho_laws.specs.CoverLaws.{AreClean, IsCleanPiece}
+use Rattle.programs.specs.Telling.{TellsBytes}
+use Rattle.programs.specs.declared.errors.Errors.{Errors}
+use Rattle.acredact.specs.Messages.{unclean_line}
+use Rattle.acredact.specs.Secrets.{Redactor}
+use Rattle.acredact.specs.declared.clean.Flaw.{Flaw}
+use Rattle.acredact.specs.declared.clean.Flaw.TheVariants.{Empty, Spells}
+use Rattle.acredact.specs.declared.clean.Unclean.{Unclean}
+
+-- a word holds a byte, by the case rule
+abbrev pub HoldsByte : Bool → List ℕ → ℕ → Type 0
+HoldsByte ignore_case word byte = (other : ℕ) × IsMember word other × (folded_by ignore_case other ≡ folded_by ignore_case byte)
+
+-- no word does
+abbrev pub HoldNone : Bool → List (List ℕ) → ℕ → Type 0
+HoldNone ignore_case words byte = (number : ℕ) → number < length words → HoldsByte ignore_case (slice_index_or words number []) byte → ⊥
+
+-- this one does, told by its number from 1 on
+abbrev pub IsHolder : Bool → List (List ℕ) → ℕ → ℕ → Type 0
+IsHolder ignore_case words byte told = (number : ℕ) × (told ≡ number + 1) × (number < length words)
+    × HoldsByte ignore_case (slice_index_or words number []) byte
+
+-- the bytes of a word are marked, as they are compared
+abbrev pub IsMarked : Bool → List ℕ → List Bool → Type 0
+IsMarked ignore_case word marks = (byte : ℕ) → IsMember word byte → slice_index_or marks (folded_by ignore_case byte) false ≡ true
+
+-- and those of all words
+abbrev pub AreMarked : Bool → List (List ℕ) → List Bool → Type 0
+AreMarked ignore_case words marks = (number : ℕ) → number < length words → IsMarked ignore_case (slice_index_or words number []) marks
+
+-- what was marked stays so
+abbrev pub StayMarked : List Bool → List Bool → Type 0
+StayMarked marks marks' = (place : ℕ) → slice_index_or marks place false ≡ true → slice_index_or marks' place false ≡ true
+
+-- a pattern holds the first or the last byte of a piece, or occurs in it
+abbrev pub Spoils : Patterns → List ℕ → ℕ → Type 0
+Spoils p piece number =
+    ((byte : ℕ) × (rest : List ℕ) × (piece ≡ byte ∷ rest) × HoldsByte p.ignore_case (pattern_at p number) byte)
+    ⊎ (((byte : ℕ) × (front : List ℕ) × (piece ≡ front ++ byte ∷ []) × HoldsByte p.ignore_case (pattern_at p number) byte)
+    ⊎ ((m : Occurrence) × OccursIn p (plain_search piece) m × (m.pattern ≡ number)))
+
+-- this is why a piece is not clean; patterns are told by their numbers from 1 on
+abbrev pub IsFlaw : Patterns → List ℕ → Flaw → Type 0
+IsFlaw p piece Empty = piece ≡ []
+IsFlaw p piece (Spells told) = (number : ℕ) × (told ≡ number + 1) × (number < length p.words) × Spoils p piece number
+
+-- what is answered of a piece: why it is not clean, and nothing where it is
+abbrev pub IsFlawOrNone : Patterns → List ℕ → Option Flaw → Type 0
+IsFlawOrNone p piece None = IsCleanPiece p piece
+IsFlawOrNone p piece (Some flaw) = IsFlaw p piece flaw
+
+-- the first pattern whose piece is not clean, and why it is not
+pub record IsUnclean (p : Patterns) (pieces : List (List ℕ)) (unclean : Unclean) : Type 0 where
+  pub number : ℕ
+  pub told : unclean.number ≡ number + 1
+  pub numbered : number < length p.words
+  pub before : (other : ℕ) → other < number → IsCleanPiece p (slice_index_or pieces other [])
+  pub flaw : IsFlaw p (slice_index_or pieces number []) unclean.flaw
+  pub is_not : IsCleanPiece p (slice_index_or pieces number []) → ⊥
+
+-- what is answered of pieces: that, and nothing where all are clean
+abbrev pub IsFirstOrNone : Patterns → List (List ℕ) → Option Unclean → Type 0
+IsFirstOrNone p pieces None = AreClean p pieces
+IsFirstOrNone p pieces (Some unclean) = IsUnclean p pieces unclean
+
+-- the pieces of a cover are clean; by the other kinds they need not be
+abbrev pub HasCleanPieces : Redactor → Type 0
+HasCleanPieces r = r.covers ≡ true → AreClean r.patterns r.pieces
+
+-- what is answered of its pieces: one that is not clean, and nothing where there is none
+abbrev pub IsJudged : Redactor → Option Unclean → Type 0
+IsJudged r None = HasCleanPieces r
+IsJudged r (Some unclean) = (r.covers ≡ true) × IsUnclean r.patterns r.pieces unclean
+
+module _ {E : Type 0} (K : SinkGhosts E) (strict : Bool) where
+  -- that is told as a line, but where it is to be refused
+  abbrev pub TellsUnclean : Option Unclean → (errors errors' : Errors E) → Type 0
+  TellsUnclean None errors errors' = errors' ≡ errors
+  TellsUnclean (Some unclean) errors errors' = (strict ≡ false) × TellsBytes K errors errors' (unclean_line unclean)
+
+  -- what is told of pieces before a file is read: nothing where they are clean, and else a line
+  abbrev pub TellsOfPieces : Redactor → (errors errors' : Errors E) → Type 0
+  TellsOfPieces r errors errors' = (answer : Option Unclean) × IsJudged r answer × TellsUnclean answer errors errors'

@@ -1,0 +1,244 @@
+//! Whether the texts that are written in the place of patterns are clean: no pattern holds the first or the last byte of such a piece,
+//! and none occurs in it. Then no pattern occurs anywhere in a cover.
+
+ghost use Rattle.std.specs.Prelude.{◌≡◌, ℕ, ◌+◌, ◌<◌, ◌≤◌, [], MatchBool, IfNone, IfSome, IsOk, Bool, length, true};
+ghost use Rattle.aho_core.specs.Bytes.{folded_by};
+ghost use Rattle.aho_core.specs.Occurs.{OccursIn};
+ghost use Rattle.aho_core.specs.Patterns.{Patterns};
+ghost use Rattle.aho_core.specs.Replacement.{pieces_of};
+ghost use Rattle.aho_core.specs.Search.{plain_search};
+ghost use Rattle.aho_core.specs.declared.search.Anchored.TheVariants.{No};
+ghost use Rattle.aho_laws.specs.CoverLaws.{IsCleanPiece};
+ghost use Rattle.programs.specs.Asked.{ArePatterns};
+ghost use Rattle.acredact.specs.Pieces.{AreMarked, HoldNone, HoldsByte, IsFirstOrNone, IsFlawOrNone, IsHolder, IsJudged, IsMarked, StayMarked};
+ghost use Rattle.acredact.specs.Secrets.{IfOf, NoneOccurs, redactor_by};
+
+use aho_automaton::automaton::Automaton;
+use aho_core::search::{Input, Match};
+
+/// By what pieces are judged.
+#[derive(Clone, Copy)]
+pub struct Judge<'s, 't> {
+    /// The patterns.
+    pub words: &'s [&'t [u8]],
+    /// Whether ASCII letters are the same in both cases.
+    pub ignore_case: bool,
+    /// The piece of those that have none of their own.
+    pub usual: &'t [u8],
+}
+
+/// Why a piece is not clean.
+#[derive(Clone, Copy)]
+pub enum Flaw {
+    /// It is empty.
+    Empty,
+    /// The pattern of this number, from 1 on, holds its first or its last byte, or occurs in it.
+    Spells(usize),
+}
+
+/// A pattern whose piece is not clean.
+#[derive(Clone, Copy)]
+pub struct Unclean {
+    /// Its number, from 1 on.
+    pub number: usize,
+    /// Why the piece is not clean.
+    pub flaw: Flaw,
+}
+
+/// The first pattern whose piece is not clean, where a cover is asked for and there is one. It takes no memory, and looks at each byte
+/// of the patterns and of the pieces a few times.
+pub fn unclean_of<A: Automaton>(
+    automaton: &A,
+    judge: &Judge<'_, '_>,
+    pieces: &[&[u8]],
+    covers: bool,
+) -> Option<Unclean>
+    requires of { (p : Patterns) × A.is_of automaton.now p }
+    requires starts { IsOk (A.start automaton.now No) }
+    requires one_each { length pieces.now ≡ length judge.now.words.now }
+    ensures judged { IfOf A.Automaton automaton.now (λ p.
+        ArePatterns p judge.now.ignore_case (pieces_of judge.now.words.now) →
+        IsJudged (redactor_by p covers pieces.now) result) }
+{
+    if !covers {
+        return None;
+    }
+    let marks = marks_of(judge.words, judge.ignore_case);
+    first_unclean(automaton, judge, pieces, &marks)
+}
+
+/// The first pattern whose piece is not clean.
+fn first_unclean<A: Automaton>(
+    automaton: &A,
+    judge: &Judge<'_, '_>,
+    pieces: &[&[u8]],
+    marks: &[bool],
+) -> Option<Unclean>
+    requires of { (p : Patterns) × A.is_of automaton.now p }
+    requires starts { IsOk (A.start automaton.now No) }
+    requires one_each { length pieces.now ≡ length judge.now.words.now }
+    requires sized { length marks.now ≡ 256 }
+    requires marked { AreMarked judge.now.ignore_case (pieces_of judge.now.words.now) marks.now }
+    ensures first { IfOf A.Automaton automaton.now (λ p.
+        ArePatterns p judge.now.ignore_case (pieces_of judge.now.words.now) →
+        IsFirstOrNone p (pieces_of pieces.now) result) }
+{
+    let usual = flaw_of(automaton, judge, marks, judge.usual).is_none();
+    let mut at = 0;
+    while at < pieces.len() {
+        match flaw_unless(automaton, judge, marks, pieces[at], usual) {
+            Some(flaw) => {
+                return Some(Unclean {
+                    number: at + 1,
+                    flaw,
+                });
+            }
+            None => at += 1,
+        }
+    }
+    None
+}
+
+/// Why a piece is not clean, where it is not. The usual one is not looked at again where that is known to be clean.
+fn flaw_unless<A: Automaton>(
+    automaton: &A,
+    judge: &Judge<'_, '_>,
+    marks: &[bool],
+    piece: &[u8],
+    usual: bool,
+) -> Option<Flaw>
+    requires of { (p : Patterns) × A.is_of automaton.now p }
+    requires starts { IsOk (A.start automaton.now No) }
+    requires sized { length marks.now ≡ 256 }
+    requires marked { AreMarked judge.now.ignore_case (pieces_of judge.now.words.now) marks.now }
+    requires usual { IfOf A.Automaton automaton.now (λ p.
+        ArePatterns p judge.now.ignore_case (pieces_of judge.now.words.now) →
+        usual ≡ true → IsCleanPiece p judge.now.usual.now) }
+    ensures flaw { IfOf A.Automaton automaton.now (λ p.
+        ArePatterns p judge.now.ignore_case (pieces_of judge.now.words.now) →
+        IsFlawOrNone p piece.now result) }
+{
+    if is_known(judge, piece, usual) {
+        return None;
+    }
+    flaw_of(automaton, judge, marks, piece)
+}
+
+/// Whether a piece is the usual one, and that is known to be clean.
+fn is_known(judge: &Judge<'_, '_>, piece: &[u8], usual: bool) -> bool
+    ensures known { result ≡ true → (usual ≡ true) × (piece.now ≡ judge.now.usual.now) }
+{
+    usual && piece == judge.usual
+}
+
+/// Why a piece is not clean, where it is not.
+fn flaw_of<A: Automaton>(
+    automaton: &A,
+    judge: &Judge<'_, '_>,
+    marks: &[bool],
+    piece: &[u8],
+) -> Option<Flaw>
+    requires of { (p : Patterns) × A.is_of automaton.now p }
+    requires starts { IsOk (A.start automaton.now No) }
+    requires sized { length marks.now ≡ 256 }
+    requires marked { AreMarked judge.now.ignore_case (pieces_of judge.now.words.now) marks.now }
+    ensures flaw { IfOf A.Automaton automaton.now (λ p.
+        ArePatterns p judge.now.ignore_case (pieces_of judge.now.words.now) →
+        IsFlawOrNone p piece.now result) }
+{
+    if piece.is_empty() {
+        return Some(Flaw::Empty);
+    }
+    match holder_of(judge, marks, piece[0]) {
+        Some(number) => return Some(Flaw::Spells(number)),
+        None => {}
+    }
+    match holder_of(judge, marks, piece[piece.len() - 1]) {
+        Some(number) => return Some(Flaw::Spells(number)),
+        None => {}
+    }
+    match found_in(automaton, piece) {
+        Some(found) => Some(Flaw::Spells(found.pattern().as_usize() + 1)),
+        None => None,
+    }
+}
+
+/// An occurrence in a piece.
+fn found_in<A: Automaton>(automaton: &A, piece: &[u8]) -> Option<Match>
+    requires of { (p : Patterns) × A.is_of automaton.now p }
+    requires starts { IsOk (A.start automaton.now No) }
+    ensures found { IfOf A.Automaton automaton.now (λ p. IfSome result (OccursIn p (plain_search piece.now))) }
+    ensures none { IfNone result (IfOf A.Automaton automaton.now (λ p. NoneOccurs p piece.now)) }
+{
+    match automaton.try_find(&Input::new(piece)) {
+        Ok(found) => found,
+        Err(_) => None,
+    }
+}
+
+/// The number, from 1 on, of a pattern that holds a byte. Where the byte is not marked there is none.
+fn holder_of(judge: &Judge<'_, '_>, marks: &[bool], byte: u8) -> Option<usize>
+    requires sized { length marks.now ≡ 256 }
+    requires marked { AreMarked judge.now.ignore_case (pieces_of judge.now.words.now) marks.now }
+    ensures holder { IfSome result (IsHolder judge.now.ignore_case (pieces_of judge.now.words.now) byte) }
+    ensures none { IfNone result (HoldNone judge.now.ignore_case (pieces_of judge.now.words.now) byte) }
+{
+    if !marks[folded(byte, judge.ignore_case) as usize] {
+        return None;
+    }
+    let mut at = 0;
+    while at < judge.words.len() {
+        if holds(judge.words[at], judge.ignore_case, byte) {
+            return Some(at + 1);
+        }
+        at += 1;
+    }
+    None
+}
+
+/// Whether a word holds a byte.
+fn holds(word: &[u8], ignore_case: bool, byte: u8) -> bool
+    ensures holds { MatchBool result (HoldsByte ignore_case word.now byte)
+        (HoldsByte ignore_case word.now byte → ⊥) }
+{
+    let wanted = folded(byte, ignore_case);
+    for other in word {
+        if folded(*other, ignore_case) == wanted {
+            return true;
+        }
+    }
+    false
+}
+
+/// The bytes that some word holds, as they are compared.
+fn marks_of(words: &[&[u8]], ignore_case: bool) -> [bool; 256]
+    ensures sized { length result ≡ 256 }
+    ensures marked { AreMarked ignore_case (pieces_of words.now) result }
+{
+    let mut marks = [false; 256];
+    for word in words {
+        mark(&mut marks, word, ignore_case);
+    }
+    marks
+}
+
+/// Marks the bytes of a word.
+fn mark(marks: &mut [bool; 256], word: &[u8], ignore_case: bool)
+    ensures marked { IsMarked ignore_case word.now marks.new }
+    ensures stay { StayMarked marks.old marks.new }
+{
+    for byte in word {
+        marks[folded(*byte, ignore_case) as usize] = true;
+    }
+}
+
+/// A byte as it is compared.
+fn folded(byte: u8, ignore_case: bool) -> u8
+    ensures folded { result ≡ folded_by ignore_case byte }
+{
+    if ignore_case && 65 <= byte && byte <= 90 {
+        byte + 32
+    } else {
+        byte
+    }
+}
