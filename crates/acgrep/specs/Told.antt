@@ -78,17 +78,37 @@ abbrev pub number_parts : (name argument : List ℕ) → List (List ℕ)
 number_parts name argument =
     codes "acgrep: option '" ∷ name ∷ codes "' takes a number below 2^64, not '" ∷ argument ∷ codes "'\n" ∷ usage_text ∷ []
 
+-- no option has this letter or this long name, several have such a beginning, or this one takes no argument
+abbrev pub letter_parts : ℕ → List (List ℕ)
+letter_parts letter = codes "acgrep: unknown option '-" ∷ (letter ∷ []) ∷ codes "'\n" ∷ usage_text ∷ []
+
+abbrev pub name_parts : List ℕ → List (List ℕ)
+name_parts name = codes "acgrep: unknown option '--" ∷ name ∷ codes "'\n" ∷ usage_text ∷ []
+
+abbrev pub several_parts : List ℕ → List (List ℕ)
+several_parts name = codes "acgrep: several options begin with '--" ∷ name ∷ codes "'\n" ∷ usage_text ∷ []
+
+abbrev pub taken_parts : List ℕ → List (List ℕ)
+taken_parts name = codes "acgrep: option '--" ∷ name ∷ codes "' takes no argument\n" ∷ usage_text ∷ []
+
+-- there is no such match kind, or no such time for colours
+abbrev pub kind_parts : List ℕ → List (List ℕ)
+kind_parts kind = codes "acgrep: option '--kind' takes first, longest or standard, not '" ∷ kind ∷ codes "'\n" ∷ usage_text ∷ []
+
+abbrev pub color_parts : List ℕ → List (List ℕ)
+color_parts time = codes "acgrep: option '--color' takes auto, always or never, not '" ∷ time ∷ codes "'\n" ∷ usage_text ∷ []
+
 -- why arguments are wrong, and how to get help
 abbrev pub wrong_parts : Wrong → List (List ℕ)
 wrong_parts NotText = codes "acgrep: an argument is not UTF-8\n" ∷ []
 wrong_parts NoPattern = codes "acgrep: no pattern is given\n" ∷ usage_text ∷ []
-wrong_parts (UnknownLetter letter) = codes "acgrep: unknown option '-" ∷ (letter ∷ []) ∷ codes "'\n" ∷ usage_text ∷ []
-wrong_parts (UnknownName name) = codes "acgrep: unknown option '--" ∷ name.now ∷ codes "'\n" ∷ usage_text ∷ []
-wrong_parts (Ambiguous name) = codes "acgrep: several options begin with '--" ∷ name.now ∷ codes "'\n" ∷ usage_text ∷ []
+wrong_parts (UnknownLetter letter) = letter_parts letter
+wrong_parts (UnknownName name) = name_parts name.now
+wrong_parts (Ambiguous name) = several_parts name.now
 wrong_parts (NoArgument valued) = unargued_parts (valued_name valued)
-wrong_parts (TakesNone name) = codes "acgrep: option '--" ∷ name.now ∷ codes "' takes no argument\n" ∷ usage_text ∷ []
-wrong_parts (UnknownKind name) = codes "acgrep: option '--kind' takes first, longest or standard, not '" ∷ name.now ∷ codes "'\n" ∷ usage_text ∷ []
-wrong_parts (UnknownColor name) = codes "acgrep: option '--color' takes auto, always or never, not '" ∷ name.now ∷ codes "'\n" ∷ usage_text ∷ []
+wrong_parts (TakesNone name) = taken_parts name.now
+wrong_parts (UnknownKind name) = kind_parts name.now
+wrong_parts (UnknownColor name) = color_parts name.now
 wrong_parts (NoNumber valued number) = number_parts (valued_name valued) number.now
 
 -- that is told of wrong arguments

@@ -2,6 +2,8 @@
 
 ghost use Rattle.std.specs.Prelude.{◌≡◌, Some, None, IfErr, IfOk};
 ghost use Rattle.acgrep.specs.Long.{begun_too, found_among, found_by, found_more, is_color, option_by, other_options, output_options, pattern_options};
+ghost use Rattle.acgrep.specs.Mistakes.{wrong_name};
+ghost use Rattle.acgrep.specs.Told.{wrong_parts};
 
 use crate::arguments::Wrong;
 use crate::options::Switch;
@@ -89,6 +91,7 @@ impl Found {
 pub fn option_of(name: &[u8]) -> Result<Long, Wrong<'_>>
     ensures found { IfOk result (λ long. option_by name.now ≡ Some long) }
     ensures refused { IfErr result (λ wrong. option_by name.now ≡ None) }
+    ensures wrong { IfErr result (λ wrong. wrong_parts wrong ≡ wrong_name name.now) }
 {
     match found_of(name) {
         Found::Whole(long) => Ok(long),

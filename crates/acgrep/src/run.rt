@@ -1,7 +1,8 @@
 //! A call over its arguments, files and streams.
 
 ghost use Rattle.std.specs.Prelude.{◌≡◌, ◌≤◌, ◌<◌, ◌⊎◌, [], None, false, nat_lt, true, unwrap_or};
-ghost use Rattle.std.specs.Io.KnownBytes.{Keeps};
+ghost use Rattle.std.specs.Io.KnownBytes.{Appends, Keeps};
+ghost use Rattle.aho_devices.specs.Counts.{AppendsBeginning};
 ghost use Rattle.aho_core.specs.Patterns.{Patterns};
 ghost use Rattle.aho_core.specs.Replacement.{pieces_of};
 ghost use Rattle.programs.specs.Arguments.{texts};
@@ -9,6 +10,7 @@ ghost use Rattle.acgrep.specs.Arguments.{said, said_by};
 ghost use Rattle.programs.specs.Names.{name_bytes};
 ghost use Rattle.programs.specs.Telling.{Tells, TellsSome};
 ghost use Rattle.acgrep.specs.Told.{MayTell, TellsCause, TellsOfCall, TellsOfFiles, TellsOfSearch, TellsOfText, TellsRefusal, names_said};
+ghost use Rattle.acgrep.specs.Mistakes.{TellsMistake, TellsRefused};
 ghost use Rattle.acgrep.specs.Files.{AreFilesBegun, AreSearchedOr, files_named};
 ghost use Rattle.acgrep.specs.Runs.{AsksToSearch, BeginsSearch, BeginsFor, GivesNone, IfSaid, IsJob, Searches, SearchesFor, SearchesSaid, are_empty, is_colored, knows_none, origins_of, selects_none, status_told};
 ghost use Rattle.acgrep.specs.Searchers.{IsSearcherOf};
@@ -44,8 +46,10 @@ pub fn run<F: Open, R: Read, W: Sink, E: Sink>(
 ) -> u8
     ensures bound { result ≤ 2 }
 
-    // Wrong arguments are found first.
+    // Wrong arguments are found first, and the first mistake is told.
     ensures usage { said_by (texts arguments.now) ≡ None → result ≡ 2 }
+    ensures mistake { said_by (texts arguments.now) ≡ None
+        → TellsMistake E.Sink (texts arguments.now) errors.old errors.new }
     ensures unread { said_by (texts arguments.now) ≡ None → input.new ≡ input.old }
     ensures unwritten { said_by (texts arguments.now) ≡ None
         → Keeps (W.taken output.old) (W.taken output.new) }
@@ -92,6 +96,7 @@ pub fn run<F: Open, R: Read, W: Sink, E: Sink>(
 /// Tells why the arguments are refused.
 fn tell_refused<E: Sink>(refusal: Refusal<'_>, errors: &mut Errors<'_, E>)
     ensures told { TellsRefusal E.Sink errors.old errors.new }
+    ensures exact { TellsRefused E.Sink refusal.entry errors.old errors.new }
 {
     match refusal {
         Refusal::Wrong(wrong) => tell_wrong(errors, wrong),
@@ -216,7 +221,11 @@ fn search_asked<F: Open, R: Read, W: Sink, E: Sink>(
 
 /// Writes a text, and answers the status.
 fn write_text<W: Sink, E: Sink>(text: &[u8], output: &mut W, errors: &mut Errors<'_, E>) -> u8
-    ensures bound { result ≤ 2 }
+    ensures status { (result ≡ 0) ⊎ (result ≡ 2) }
+    ensures written { result ≡ 0 → Appends (W.taken output.old) (W.taken output.new) text.now }
+    // Where it fails a beginning of that is written.
+    ensures begun { result ≡ 2
+        → AppendsBeginning (W.taken output.old) (W.taken output.new) text.now }
     ensures told { TellsOfText E.Sink result errors.old errors.new }
 {
     match write_whole(output, text) {
