@@ -5,7 +5,7 @@ ghost use Rattle.std.specs.Io.KnownBytes.{Keeps};
 ghost use Rattle.acgrep.specs.Arguments.{origin_of};
 ghost use Rattle.programs.specs.Names.{is_input};
 ghost use Rattle.acgrep.specs.Loading.{AddsFile, AddsSource, ReadsSources, file_origin};
-ghost use Rattle.acgrep.specs.Origins.{IsFoundIn, begin_of, piece_at};
+ghost use Rattle.acgrep.specs.Origins.{IsFoundIn, begin_of, count_at, piece_at};
 ghost use Rattle.acgrep.specs.Runs.{origins_of};
 ghost use Rattle.acgrep.specs.Told.{MayName, TellsOfFile, TellsOfSources, source_names};
 ghost use Rattle.acgrep.specs.Written.{EndsLine};
@@ -200,15 +200,24 @@ pub fn origin_of(keys: &Keys, number: usize) -> Option<KeyPlace>
     ensures found { IsFoundIn keys.now number result }
 {
     let mut left = number;
-    for source in 0..keys.starts.len() {
-        let count = memchr_iter(b'\n', piece_of(keys, source)).count();
+    let mut source = 0;
+    while source < keys.starts.len() {
+        let count = count_of(keys, source);
         if left < count {
             let line = left + 1;
             return Some(KeyPlace { source, line });
         }
         left -= count;
+        source += 1;
     }
     None
+}
+
+/// How many patterns the source of a number has.
+fn count_of(keys: &Keys, number: usize) -> usize
+    ensures count { result ≡ count_at keys.now number }
+{
+    memchr_iter(b'\n', piece_of(keys, number)).count()
 }
 
 /// The patterns of the source of a number, each with its newline.

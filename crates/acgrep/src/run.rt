@@ -221,6 +221,7 @@ fn search_asked<F: Open, R: Read, W: Sink, E: Sink>(
 
 /// Writes a text, and answers the status.
 fn write_text<W: Sink, E: Sink>(text: &[u8], output: &mut W, errors: &mut Errors<'_, E>) -> u8
+    ensures bound { result ≤ 2 }
     ensures status { (result ≡ 0) ⊎ (result ≡ 2) }
     ensures written { result ≡ 0 → Appends (W.taken output.old) (W.taken output.new) text.now }
     // Where it fails a beginning of that is written.

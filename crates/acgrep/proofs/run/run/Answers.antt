@@ -7,6 +7,8 @@ use Rattle.acgrep.proofs.Kept.{begins_held, same_said, searches_kept}
 use Rattle.programs.specs.Telling.{Tells, TellsSome}
 use Rattle.programs.proofs.Lines.{some-tells}
 use Rattle.acgrep.specs.Told.{MayTell, names_said}
+use Rattle.acgrep.specs.Mistakes.{TellsMistake}
+use Rattle.acgrep.proofs.Mistaken.{mistake-told}
 use Rattle.acgrep.proofs.Told.{finished, not-quiet}
 use Rattle.acgrep.proofs.run.run.Goals as goal
 
@@ -83,3 +85,9 @@ pub returns-in-Err-clause-says_why : goal.returns-in-Err-clause-says_why
 returns-in-Err-clause-says_why g c = λ failed.
     let names = names_said (said_by (texts c.args.arguments.now)) in
     subst (TellsSome g.E.Sink (MayTell names) c.args.errors.now) (sym (c.finish-in-Err.ensures.told_before (omega arith))) (c.tell_refused.ensures.told names)
+
+pub returns-in-Err-clause-mistake : goal.returns-in-Err-clause-mistake
+returns-in-Err-clause-mistake g c wrong =
+    let arguments = texts c.args.arguments.now in
+    subst (TellsMistake g.E.Sink arguments c.args.errors.now) (sym (c.finish-in-Err.ensures.told_before (omega arith)))
+    (mistake-told g.E.Sink arguments c.in-Err.refusal c.args.errors.now c.tell_refused.new.errors c.in-Err.ensures.wrong c.tell_refused.ensures.exact)
