@@ -43,7 +43,7 @@ module _ (held' held'' : Option (List ℕ)) (kept : Keeps held' held'') where
       → SearchesFor holds terminal flags sources names left left' held held' status → SearchesFor holds terminal flags sources names left left' held held'' status
   searches_kept holds terminal flags sources names left left' held status done =
       let p = patterns_asked flags.kind flags.ignore_case done.words in
-      let Passed = SelectsNoLine p flags.invert done.between left' held held' status in
+      let Passed = SelectsNoLine p flags.invert flags.most done.between left' held held' status in
       let Found = SearchesWords holds terminal flags done.words names done.between left' held held' status in
       record {
         words = done.words;

@@ -19,7 +19,7 @@ use Rattle.acgrep.specs.declared.long.Found.TheVariants.{Unknown, Begun, Several
 use Rattle.acgrep.specs.declared.long.Long.{Long}
 use Rattle.acgrep.specs.declared.long.Long.TheVariants.{Plain, Takes, When}
 use Rattle.acgrep.specs.declared.long.Valued.{Valued}
-use Rattle.acgrep.specs.declared.long.Valued.TheVariants.{Regexp, PatternFile, Kind, Offset, FirstLine}
+use Rattle.acgrep.specs.declared.long.Valued.TheVariants.{Regexp, PatternFile, Kind, Offset, FirstLine, MaxCount}
 
 -- what is told of an argument that an option cannot have; any is a pattern or a file's name
 abbrev pub wrong_value : Valued → List ℕ → List (List ℕ)
@@ -28,6 +28,7 @@ wrong_value PatternFile argument = []
 wrong_value Kind argument = kind_parts argument
 wrong_value Offset argument = number_parts (valued_name Offset) argument
 wrong_value FirstLine argument = number_parts (valued_name FirstLine) argument
+wrong_value MaxCount argument = number_parts (valued_name MaxCount) argument
 
 -- of a long name that means no option
 abbrev pub wrong_found : Found → List ℕ → List (List ℕ)
@@ -58,10 +59,18 @@ abbrev pub if_none : {A : Type 0} → Option A → List (List ℕ) → List (Lis
 if_none None one other = one
 if_none (Some value) one other = other
 
+-- of what stands behind `-m`, where it is not empty
+abbrev pub wrong_most : List ℕ → List (List ℕ)
+wrong_most [] = []
+wrong_most (first ∷ rest) = wrong_value MaxCount (first ∷ rest)
+
 -- of joined letters, the first of which no option has; what stands behind that of an option with an argument is no letter
 abbrev pub wrong_letters : List ℕ → List (List ℕ)
 wrong_letters [] = []
-wrong_letters (letter ∷ rest) = if letter == 101 || letter == 102 then [] else if_none (switch_by letter) (letter_parts letter) (wrong_letters rest)
+wrong_letters (letter ∷ rest) =
+    if letter == 101 || letter == 102 then []
+    else if letter == 109 then wrong_most rest
+    else if_none (switch_by letter) (letter_parts letter) (wrong_letters rest)
 
 -- of those behind a hyphen
 abbrev pub wrong_plain : List ℕ → List (List ℕ)

@@ -86,9 +86,14 @@ selects_none false (word ∷ words) = false
 selects_none true [] = false
 selects_none true (word ∷ words) = are_empty (word ∷ words)
 
--- whether that is known without reading a file, and no file is to be named for it
+-- at most no line is asked for
+abbrev pub asks_none : Option ℕ → Bool
+asks_none None = false
+asks_none (Some most) = most == 0
+
+-- whether one of both is known without reading a file, and no file is to be named for it
 abbrev pub knows_none : Flags → List (List ℕ) → Bool
-knows_none flags words = (flags.quiet || not flags.lacking) && selects_none flags.invert words
+knows_none flags words = (flags.quiet || not flags.lacking) && (asks_none flags.most || selects_none flags.invert words)
 
 -- whether matches are coloured
 abbrev pub is_colored : Color → Bool → Bool
@@ -112,6 +117,10 @@ pub record IsJob (flags : Flags) (terminal : Bool) (count : ℕ) (job : Job) : T
   pub color : job.style.color ≡ is_colored flags.color terminal
   -- where the first line of each file stands
   pub first : job.first ≡ first_place flags
+  -- how many lines of each are selected at most
+  pub most : job.most ≡ flags.most
+  -- whether nothing is told of those that cannot be read
+  pub hushed : job.hushed ≡ flags.no_messages
 
 -- these words were searched for in the files of these names, as the flags say
 pub record SearchesWords (holds : List ℕ → Option (List ℕ)) (terminal : Bool) (flags : Flags) (words names : List (List ℕ)) (left left' held held' : Option (List ℕ)) (status : ℕ) : Type 0 where
@@ -119,9 +128,9 @@ pub record SearchesWords (holds : List ℕ → Option (List ℕ)) (terminal : Bo
   pub is_job : IsJob flags terminal (length names) job
   pub searched : AreSearchedOr (patterns_asked flags.kind flags.ignore_case words) job holds (or_input names) left left' held held' status
 
--- no line is selected, whatever it holds: nothing was read and nothing written, and the status tells it
-pub record SelectsNoLine (p : Patterns) (invert : Bool) (left left' held held' : Option (List ℕ)) (status : ℕ) : Type 0 where
-  pub passed : (line : List ℕ) → IsPassedOver p invert line
+-- no line is selected, whatever it holds, or none is asked for: nothing was read and nothing written, and the status tells it
+pub record SelectsNoLine (p : Patterns) (invert : Bool) (most : Option ℕ) (left left' held held' : Option (List ℕ)) (status : ℕ) : Type 0 where
+  pub passed : (asks_none most ≡ true) ⊎ ((line : List ℕ) → IsPassedOver p invert line)
   pub unread : left' ≡ left
   pub unwritten : Keeps held held'
   pub none : status ≡ 1
@@ -131,7 +140,7 @@ pub record SearchesFor (holds : List ℕ → Option (List ℕ)) (terminal : Bool
   pub words : List (List ℕ)
   pub between : Option (List ℕ)
   pub read : AreWords holds sources left between words
-  pub searched : MatchBool (knows_none flags words) (SelectsNoLine (patterns_asked flags.kind flags.ignore_case words) flags.invert between left' held held' status)
+  pub searched : MatchBool (knows_none flags words) (SelectsNoLine (patterns_asked flags.kind flags.ignore_case words) flags.invert flags.most between left' held held' status)
       (SearchesWords holds terminal flags words names between left' held held' status)
 
 -- what was said was searched for

@@ -5,9 +5,9 @@
 
 ghost use Rattle.std.specs.Prelude.{◌≡◌, Some, IfOk, IfErr, string_bytes};
 ghost use Rattle.programs.specs.Arguments.{kind_by, texts};
-ghost use Rattle.acgrep.specs.Arguments.{FailsBy, ReadsBy, SaysMore, argument_by, color_by, fresh_by, joined_by, letters_by, long_by, named_by, number_by, plain_by, said, said_by, source_option, so_far, taken_by, turned_by, value_by, with_operand, with_source};
+ghost use Rattle.acgrep.specs.Arguments.{FailsBy, ReadsBy, SaysMore, argument_by, color_by, fresh_by, joined_by, letters_by, long_by, most_by, named_by, number_by, plain_by, said, said_by, source_option, so_far, taken_by, turned_by, value_by, with_operand, with_source};
 ghost use Rattle.acgrep.specs.Long.{option_by};
-ghost use Rattle.acgrep.specs.Mistakes.{IsMistake, TellsBy, wrong_at, wrong_fresh, wrong_joined, wrong_letters, wrong_long, wrong_name, wrong_plain, wrong_value};
+ghost use Rattle.acgrep.specs.Mistakes.{IsMistake, TellsBy, wrong_at, wrong_fresh, wrong_joined, wrong_letters, wrong_long, wrong_most, wrong_name, wrong_plain, wrong_value};
 ghost use Rattle.acgrep.specs.Told.{color_parts, kind_parts, number_parts, valued_name};
 
 use crate::long::{Long, Valued, option_of};
@@ -15,6 +15,7 @@ use crate::options::{Color, Flags, switch_of};
 use chromesquid::MatchKind;
 use programs::command::parse_kind;
 use std::alloc::{AllocError, Global};
+use std::str;
 
 /// Where patterns come from.
 #[derive(Clone, Copy)]
@@ -233,8 +234,9 @@ fn read_value<'a>(
         Valued::Regexp => add_source(given, false, argument.as_bytes())?,
         Valued::PatternFile => add_source(given, true, argument.as_bytes())?,
         Valued::Kind => given.flags.kind = read_kind(argument)?,
-        Valued::Offset => given.flags.first = read_number(valued, argument)?,
-        Valued::FirstLine => given.flags.first_line = read_number(valued, argument)?,
+        Valued::Offset => given.flags.first = read_number(valued, argument.as_bytes())?,
+        Valued::FirstLine => given.flags.first_line = read_number(valued, argument.as_bytes())?,
+        Valued::MaxCount => given.flags.most = Some(read_number(valued, argument.as_bytes())?),
     }
     Ok(Awaited::Fresh)
 }
@@ -252,14 +254,24 @@ fn read_kind(argument: &str) -> Result<MatchKind, Refusal<'_>>
 }
 
 /// The number that the argument of this option is.
-fn read_number(valued: Valued, argument: &str) -> Result<u64, Refusal<'_>>
+fn read_number(valued: Valued, argument: &[u8]) -> Result<u64, Refusal<'_>>
     ensures read { IfOk result (λ number. number_by argument.now ≡ Some number) }
     ensures refused { FailsBy (number_by argument.now) result }
     ensures wrong { TellsBy (number_parts (valued_name valued) argument.now) result }
 {
-    match number_of(argument) {
+    match number_in(argument) {
         Some(number) => Ok(number),
-        None => Err(Refusal::Wrong(Wrong::NoNumber(valued, argument.as_bytes()))),
+        None => Err(Refusal::Wrong(Wrong::NoNumber(valued, argument))),
+    }
+}
+
+/// The number that bytes write, if they are digits.
+fn number_in(bytes: &[u8]) -> Option<u64>
+    ensures number { result ≡ number_by bytes.now }
+{
+    match str::from_utf8(bytes) {
+        Ok(digits) => number_of(digits),
+        Err(_) => None,
     }
 }
 
@@ -292,7 +304,7 @@ fn read_plain<'a>(given: &mut Given<'a>, argument: &'a [u8]) -> Result<Awaited, 
     }
 }
 
-/// Reads joined letters. `-e` and `-f` take what stands behind them.
+/// Reads joined letters. `-e`, `-f` and `-m` take what stands behind them.
 fn read_letters<'a>(given: &mut Given<'a>, letters: &'a [u8]) -> Result<Awaited, Refusal<'a>>
     ensures read { ReadsBy (letters_by letters.now) given.old given.new result }
     ensures refused { FailsBy (letters_by letters.now (said given.old)) result }
@@ -302,6 +314,9 @@ fn read_letters<'a>(given: &mut Given<'a>, letters: &'a [u8]) -> Result<Awaited,
     while let Some((letter, behind)) = rest.split_first() {
         if *letter == b'e' || *letter == b'f' {
             return take_source(given, *letter == b'f', behind);
+        }
+        if *letter == b'm' {
+            return take_most(given, behind);
         }
         match switch_of(*letter) {
             Some(switch) => given.flags = given.flags.switched(switch),
@@ -326,6 +341,19 @@ fn take_source<'a>(
         return Ok(Awaited::Argument(source_option(is_file)));
     }
     add_source(given, is_file, behind)?;
+    Ok(Awaited::Fresh)
+}
+
+/// Takes what stands behind `-m` for its argument, if it is not empty.
+fn take_most<'a>(given: &mut Given<'a>, behind: &'a [u8]) -> Result<Awaited, Refusal<'a>>
+    ensures read { ReadsBy (most_by behind.now) given.old given.new result }
+    ensures refused { FailsBy (most_by behind.now (said given.old)) result }
+    ensures wrong { TellsBy (wrong_most behind.now) result }
+{
+    if behind.is_empty() {
+        return Ok(Awaited::Argument(Valued::MaxCount));
+    }
+    given.flags.most = Some(read_number(Valued::MaxCount, behind)?);
     Ok(Awaited::Fresh)
 }
 

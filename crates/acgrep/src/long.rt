@@ -21,6 +21,8 @@ pub enum Valued {
     Offset,
     /// `--first-line`
     FirstLine,
+    /// `-m`
+    MaxCount,
 }
 
 /// An option by its long name.
@@ -147,6 +149,7 @@ fn or_output(found: Found, name: &[u8]) -> Found
         .or(name, b"byte-offset", Long::Plain(Switch::Offsets))
         .or(name, b"with-filename", Long::Plain(Switch::WithName))
         .or(name, b"no-filename", Long::Plain(Switch::NoName))
+        .or(name, b"max-count", Long::Takes(Valued::MaxCount))
 }
 
 /// What it means with all other options.
@@ -159,6 +162,7 @@ fn or_others(found: Found, name: &[u8]) -> Found
         .or(name, b"offset", Long::Takes(Valued::Offset))
         .or(name, b"first-line", Long::Takes(Valued::FirstLine))
         .or(name, b"no-match-ok", Long::Plain(Switch::NoMatchOk))
+        .or(name, b"no-messages", Long::Plain(Switch::NoMessages))
         .or(name, b"line-buffered", Long::Plain(Switch::Same))
         .or(name, b"help", Long::Plain(Switch::Help))
         .or(name, b"version", Long::Plain(Switch::Version))

@@ -9,10 +9,10 @@ ghost use Rattle.programs.specs.Arguments.{texts};
 ghost use Rattle.acgrep.specs.Arguments.{said, said_by};
 ghost use Rattle.programs.specs.Names.{name_bytes};
 ghost use Rattle.programs.specs.Telling.{Tells, TellsSome};
-ghost use Rattle.acgrep.specs.Told.{MayTell, TellsCause, TellsOfCall, TellsOfFiles, TellsOfSearch, TellsOfText, TellsRefusal, names_said};
+ghost use Rattle.acgrep.specs.Told.{MayTell, TellsCause, TellsOfCall, TellsOfFiles, TellsOfSearch, TellsOfText, TellsRefusal, is_hushed, names_said};
 ghost use Rattle.acgrep.specs.Mistakes.{TellsMistake, TellsRefused};
 ghost use Rattle.acgrep.specs.Files.{AreFilesBegun, AreSearchedOr, files_named};
-ghost use Rattle.acgrep.specs.Runs.{AsksToSearch, BeginsSearch, BeginsFor, GivesNone, IfSaid, IsJob, Searches, SearchesFor, SearchesSaid, are_empty, is_colored, knows_none, origins_of, selects_none, status_told};
+ghost use Rattle.acgrep.specs.Runs.{AsksToSearch, BeginsSearch, BeginsFor, GivesNone, IfSaid, IsJob, Searches, SearchesFor, SearchesSaid, are_empty, asks_none, is_colored, knows_none, origins_of, selects_none, status_told};
 ghost use Rattle.acgrep.specs.Searchers.{IsSearcherOf};
 ghost use Rattle.acgrep.specs.Selected.{ForLines};
 
@@ -71,12 +71,13 @@ pub fn run<F: Open, R: Read, W: Sink, E: Sink>(
         (R.remaining input.old) (W.taken output.old) (W.taken output.new)) }
 
     // Where the status tells of no error nothing is told, but under `-q` of files that cannot be read. Where it tells of one, a line
-    // says why: whole, unless writing it failed.
+    // says why: whole, unless writing it failed. Under `-s` no line names a file that is searched, and there may be none.
     ensures tells { Tells E.Sink (MayTell (names_said (said_by (texts arguments.now)))) errors.old errors.new }
     ensures silent { IfSaid arguments.now (λ said. said.flags.quiet ≡ false
         → result < 2 → errors.new ≡ errors.old) }
-    ensures says_why { result ≡ 2 → TellsSome E.Sink
-        (MayTell (names_said (said_by (texts arguments.now)))) errors.old errors.new }
+    ensures says_why { is_hushed (said_by (texts arguments.now)) ≡ false → result ≡ 2
+        → TellsSome E.Sink (MayTell (names_said (said_by (texts arguments.now))))
+        errors.old errors.new }
 
     // All output was flushed where the status tells of no error.
     ensures flushed { result < 2 → W.flushed output.new ≡ true }
@@ -305,7 +306,7 @@ fn search_by<F: Open, R: Read, W: Sink, E: Sink>(
     ensures begun { ForLines (λ p. IsSearcherOf p searcher.now) (λ p.
         AreFilesBegun p job.now (F.holds files.now.files.now) (files_named files.now)
         (R.remaining input.old) (W.taken output.old) (W.taken output.new)) }
-    ensures told { TellsOfFiles E.Sink (files_named files.now)
+    ensures told { TellsOfFiles E.Sink job.now.hushed (files_named files.now)
         job.now.shown result errors.old errors.new }
 {
     match searcher {
@@ -314,11 +315,22 @@ fn search_by<F: Open, R: Read, W: Sink, E: Sink>(
     }
 }
 
-/// Whether that no line is selected is known without reading a file, and asked for no file. Then none is opened, as with grep.
+/// Whether that no line is selected is known without reading a file, or no line is asked for, and no file is to be named for it. Then
+/// none is opened, as with grep.
 fn knows_none(flags: &Flags, patterns: &[&[u8]]) -> bool
     ensures { result ≡ knows_none flags.now (pieces_of patterns.now) }
 {
-    (flags.quiet || !flags.lacking) && selects_none(patterns, flags.invert)
+    (flags.quiet || !flags.lacking) && (asks_none(flags.most) || selects_none(patterns, flags.invert))
+}
+
+/// Whether at most no line is asked for.
+fn asks_none(most: Option<u64>) -> bool
+    ensures { result ≡ asks_none most }
+{
+    match most {
+        Some(most) => most == 0,
+        None => false,
+    }
 }
 
 /// Whether no line is selected, whatever it holds: there is no pattern, or `-v` is given and all are empty.
@@ -364,6 +376,8 @@ fn job_of(flags: &Flags, terminal: bool, count: usize) -> Job<'static>
             lines: flags.first_line.wrapping_sub(1),
             bytes: flags.first,
         },
+        most: flags.most,
+        hushed: flags.no_messages,
     }
 }
 

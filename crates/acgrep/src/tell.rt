@@ -137,6 +137,7 @@ fn valued_name<'a>(valued: Valued) -> &'a [u8]
         Valued::Kind => b"--kind",
         Valued::Offset => b"--offset",
         Valued::FirstLine => b"--first-line",
+        Valued::MaxCount => b"-m",
     }
 }
 
