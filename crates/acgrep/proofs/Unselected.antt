@@ -1,10 +1,9 @@
 -- Patterns by which no line is selected.
-use Rattle.std.proofs.lemmas.Bool.{cases_Bool}
-use Rattle.std.proofs.Common.{inl, inr, ◌⊎◌, Option, ◌≡◌, ℕ, Bool, true, false, List, [], ◌∷◌, length, drop, refl, sym, ap, subst, arith}
-use Rattle.std.specs.Prelude.{◌||◌, slice_index_or, slice_range}
+use Rattle.std.proofs.Common.{◌≡◌, ℕ, Bool, true, false, List, [], ◌∷◌, length, drop, refl, sym, ap, subst, arith}
+use Rattle.std.specs.Prelude.{slice_index_or, slice_range}
 use Rattle.aho_core.specs.Bytes.{IsSameWord}
 use Rattle.aho_core.specs.Patterns.{Patterns, pattern_at}
-use Rattle.acgrep.specs.Runs.{asks_none, selects_none}
+use Rattle.acgrep.specs.Runs.{selects_none}
 use Rattle.acgrep.specs.Written.{HasMatch, IsPassedOver}
 use Rattle.acgrep.proofs.LineLists.{take_zero}
 
@@ -33,12 +32,3 @@ none_selected p false (word ∷ words) are is line = absurd (cc)
 none_selected p true [] are is line = absurd (cc)
 none_selected p true ([] ∷ words) are is line = empty_matches p words are line
 none_selected p true ((byte ∷ bytes) ∷ words) are is line = absurd (cc)
-
--- or none is asked for
-pub none_passed : (p : Patterns) (invert : Bool) (most : Option ℕ) (words : List (List ℕ)) → p.words ≡ words → (asks_none most || selects_none invert words) ≡ true
-    → (asks_none most ≡ true) ⊎ ((line : List ℕ) → IsPassedOver p invert line)
-none_passed p invert most words are is =
-    elim (cases_Bool (asks_none most)) [
-      | inl none ↦ inl none
-      | inr some ↦ inr (none_selected p invert words are (rw some at is))
-    ]

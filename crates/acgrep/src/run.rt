@@ -12,7 +12,7 @@ ghost use Rattle.programs.specs.Telling.{Tells, TellsSome};
 ghost use Rattle.acgrep.specs.Told.{MayTell, TellsCause, TellsOfCall, TellsOfFiles, TellsOfSearch, TellsOfText, TellsRefusal, is_hushed, names_said};
 ghost use Rattle.acgrep.specs.Mistakes.{TellsMistake, TellsRefused};
 ghost use Rattle.acgrep.specs.Files.{AreFilesBegun, AreSearchedOr, files_named};
-ghost use Rattle.acgrep.specs.Runs.{AsksToSearch, BeginsSearch, BeginsFor, GivesNone, IfSaid, IsJob, Searches, SearchesFor, SearchesSaid, are_empty, asks_none, is_colored, knows_none, origins_of, selects_none, status_told};
+ghost use Rattle.acgrep.specs.Runs.{AsksToSearch, BeginsSearch, BeginsFor, GivesNone, IfSaid, IsJob, Searches, SearchesFor, SearchesSaid, are_empty, asks_none, inverts, is_colored, knows_none, origins_of, selects_none, status_told, words_sought};
 ghost use Rattle.acgrep.specs.Searchers.{IsSearcherOf};
 ghost use Rattle.acgrep.specs.Selected.{ForLines};
 
@@ -269,7 +269,8 @@ fn search<F: Open, R: Read, W: Sink, E: Sink>(
         tell_memory(errors);
         return 2;
     };
-    let words = patterns.as_slice();
+    let all = patterns.as_slice();
+    let words = sought(flags, all);
     if knows_none(flags, words) {
         return 1;
     }
@@ -315,12 +316,15 @@ fn search_by<F: Open, R: Read, W: Sink, E: Sink>(
     }
 }
 
-/// Whether that no line is selected is known without reading a file, or no line is asked for, and no file is to be named for it. Then
-/// none is opened, as with grep.
-fn knows_none(flags: &Flags, patterns: &[&[u8]]) -> bool
-    ensures { result ≡ knows_none flags.now (pieces_of patterns.now) }
+/// The patterns that are searched for: none where at most no line is asked for.
+fn sought<'a>(flags: &Flags, patterns: &'a [&'a [u8]]) -> &'a [&'a [u8]]
+    ensures words { pieces_of result.now ≡ words_sought flags.now (pieces_of patterns.now) }
 {
-    (flags.quiet || !flags.lacking) && (asks_none(flags.most) || selects_none(patterns, flags.invert))
+    if asks_none(flags.most) {
+        &patterns[..0]
+    } else {
+        patterns
+    }
 }
 
 /// Whether at most no line is asked for.
@@ -331,6 +335,21 @@ fn asks_none(most: Option<u64>) -> bool
         Some(most) => most == 0,
         None => false,
     }
+}
+
+/// Whether the lines without a match are selected.
+fn inverts(flags: &Flags) -> bool
+    ensures { result ≡ inverts flags.now }
+{
+    flags.invert && !asks_none(flags.most)
+}
+
+/// Whether that no line is selected is known without reading a file, and no file is to be named for it. Then none is opened, as with
+/// grep.
+fn knows_none(flags: &Flags, patterns: &[&[u8]]) -> bool
+    ensures { result ≡ knows_none flags.now (pieces_of patterns.now) }
+{
+    (flags.quiet || !flags.lacking) && selects_none(patterns, inverts(flags))
 }
 
 /// Whether no line is selected, whatever it holds: there is no pattern, or `-v` is given and all are empty.
@@ -363,7 +382,7 @@ fn job_of(flags: &Flags, terminal: bool, count: usize) -> Job<'static>
 {
     Job {
         shown: flags.shown(),
-        invert: flags.invert,
+        invert: inverts(flags),
         style: Style {
             name: b"",
             with_name: has_name(flags.with_name, count),
