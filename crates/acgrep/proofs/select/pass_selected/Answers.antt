@@ -1,8 +1,8 @@
 -- Of the line a beginning is written, or nothing.
-use Rattle.std.proofs.Common.{◌≡◌, Bool, ℕ, refl, subst, sym, ap, ◌∙◌}
+use Rattle.std.proofs.Common.{rules, ◌≡◌, Bool, ℕ, refl, subst, sym, ap, ◌∙◌}
 use Rattle.std.specs.Prelude.{MatchBool, OnOk, if◌then◌else◌}
 use Rattle.std.proofs.lemmas.Result.{on_ok_weaker}
-use Rattle.acgrep.specs.Written.{WritesLine, one_more}
+use Rattle.acgrep.specs.Written.{WritesLine, is_full, one_more}
 use Rattle.acgrep.proofs.Beginnings.{begins_one, on_err}
 use Rattle.acgrep.proofs.select.pass_selected.Goals as goal
 
@@ -19,7 +19,9 @@ returns-then-is_full-clause-shown g c = λ p is.
 pub returns-clause-counted : goal.returns-clause-counted
 returns-clause-counted g c =
     let count = c.args.state.now.selected in
-    ap (λ (b : Bool). if b then count else one_more count) (sym c.if-is_full.false ∙ c.is_full.ensures.full)
+    let next : one_more count ≡ (if is_full c.args.job.now.most count then count else one_more count) =
+    ap (λ (b : Bool). if b then count else one_more count) (sym c.if-is_full.false ∙ c.is_full.ensures.full) in
+    search rules
 
 pub returns-clause-shown : goal.returns-clause-shown
 returns-clause-shown g c = λ p is.
