@@ -8,6 +8,7 @@ pub mod FirstLines
 pub mod Kept
 pub mod LineLists
 pub mod LongNames
+pub mod Mistaken
 pub mod NamesSearched
 pub mod Numbers
 pub mod Objected

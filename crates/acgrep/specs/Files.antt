@@ -7,7 +7,7 @@ use Rattle.aho_core.specs.Patterns.{Patterns}
 use Rattle.acgrep.specs.Filled.{ReadsOn}
 use Rattle.acgrep.specs.Lines.{lines}
 use Rattle.acgrep.specs.Printed.{count_by, file_line}
-use Rattle.acgrep.specs.Written.{EachLine, IsPassedOver, IsSelected, StartsNext, TellsOfLines, after_lines, needs_one}
+use Rattle.acgrep.specs.Written.{EachLine, IsPassedOver, IsSelected, StartsNext, TellsOfLines, after_lines, is_full, needs_one}
 use Rattle.acgrep.specs.declared.files.Files.{Files}
 use Rattle.acgrep.specs.declared.files.Outcome.{Outcome}
 use Rattle.acgrep.specs.declared.files.Outcome.TheVariants.{Searched, Unread, Stopped}
@@ -74,16 +74,20 @@ pub record SearchesFile (p : Patterns) (job : Job) (known held held' : Option (L
   pub tells : TellsBy p job job.shown text any bytes
   pub written : Appends held held' bytes
 
--- a reader was read to its end, or until a selected line told all
-pub record IsRead (job : Job) (left left' : Option (List ℕ)) (any : Bool) : Type 0 where
+-- so many lines of a text are selected as are asked for
+abbrev pub HasAllAsked : Patterns → Job → List ℕ → Type 0
+HasAllAsked p job text = (told : List ℕ) × (count : ℕ) × TellsOfLines p job job.first 0 (lines text) told count × (is_full job.most count ≡ true)
+
+-- a reader was read to its end, or until a selected line told all, or so many lines of it are selected as are asked for
+pub record IsRead (p : Patterns) (job : Job) (left left' : Option (List ℕ)) (any : Bool) : Type 0 where
   pub bytes : List ℕ
   pub read : Consumes left left' bytes
-  pub ended : IsAtEnd left' ⊎ ((needs_one job.shown ≡ true) × (any ≡ true))
+  pub ended : IsAtEnd left' ⊎ (((needs_one job.shown ≡ true) × (any ≡ true)) ⊎ HasAllAsked p job bytes)
 
 -- all that a reader has left was searched
 pub record SearchesReader (p : Patterns) (job : Job) (left left' held held' : Option (List ℕ)) (any : Bool) : Type 0 where
   pub file : SearchesFile p job left held held' any
-  pub reads : IsRead job left left' any
+  pub reads : IsRead p job left left' any
 
 -- the same is written of the file of this name
 pub record IsNamed (job : Job) (bytes : List ℕ) (named : Job) : Type 0 where
@@ -96,6 +100,8 @@ pub record IsNamed (job : Job) (bytes : List ℕ) (named : Job) : Type 0 where
   pub offset : named.style.offset ≡ job.style.offset
   pub color : named.style.color ≡ job.style.color
   pub first : named.first ≡ job.first
+  pub most : named.most ≡ job.most
+  pub hushed : named.hushed ≡ job.hushed
 
 -- how a file is called in what is written
 abbrev pub shown_name : List ℕ → List ℕ
@@ -110,7 +116,7 @@ pub record SearchesName (p : Patterns) (job : Job) (holds : List ℕ → Option 
   pub named : Job
   pub is_named : IsNamed job (shown_name name) named
   pub file : SearchesFile p named (known_of holds name left) held held' any
-  pub reads : MatchBool (is_input name) (IsRead named left left' any) (left' ≡ left)
+  pub reads : MatchBool (is_input name) (IsRead p named left left' any) (left' ≡ left)
 
 -- under `-q` one selected line of any file is enough
 abbrev pub is_enough : Shown → Bool → Bool
@@ -201,7 +207,7 @@ pub record BeginsFile (p : Patterns) (job : Job) (known held held' : Option (Lis
   pub count : ℕ
   pub tells : TellsOfLines p job job.first 0 first told count
   pub begun : List ℕ
-  pub starts : StartsNext p job (after_lines job.first first) left begun ⊎ ((missing : List ℕ) × (total_if job.shown job.style count ≡ begun ++ missing))
+  pub starts : StartsNext p job (after_lines job.first first) count left begun ⊎ ((missing : List ℕ) × (total_if job.shown job.style count ≡ begun ++ missing))
   pub written : Appends held held' (told ++ begun)
 
 -- what is so where a file was not searched

@@ -9,7 +9,7 @@ use Rattle.programs.specs.Names.{name_bytes}
 use Rattle.acgrep.specs.Files.{AreFilesBegun, BeginsFile, IfBroken, IfSearched, SearchesFile, SearchesReader}
 use Rattle.acgrep.specs.Lines.{lines}
 use Rattle.acgrep.specs.Selected.{ForLines}
-use Rattle.acgrep.specs.Written.{BeginsLine, BeginsLines, EachLine, HasMatch, HasNone, IsSelected, SearchesText, SearchesTo, TellsLines, WritesLine}
+use Rattle.acgrep.specs.Written.{BeginsLine, BeginsLines, EachLine, HasMatch, HasNone, IsSelected, SearchesText, SearchesTo, TellsLines, WritesLine, WritesNext}
 use Rattle.acgrep.specs.declared.files.Outcome.{Outcome}
 use Rattle.acgrep.specs.declared.open.Open.{Ghosts as Openers}
 use Rattle.acgrep.specs.declared.print.Place.{Place}
@@ -23,6 +23,10 @@ module _ (Are : Patterns → Type 0) (job : Job) (place : Place) (held held' : O
 
   abbrev pub BeginsLineBy : {T E : Type 0} → Result T E → Type 0
   BeginsLineBy result = (p : Patterns) → Are p → OnErr result (BeginsLine p job place held held' line)
+
+-- the same of a selected line behind others
+abbrev pub WritesNextBy : (Patterns → Type 0) → Job → State → (held held' : Option (List ℕ)) → List ℕ → {T E : Type 0} → Result T E → Type 0
+WritesNextBy Are job before held held' line result = (p : Patterns) → Are p → OnOk result (WritesNext p job before held held' line)
 
 -- the lines of a text are searched where a call does not fail, and where it fails a beginning of what is told of them is written
 module _ {A W : Type 0} (automata : Automata A) (sinks : SinkGhosts W) (automaton : A) (job : Job) (before after : State) (old new : W) where

@@ -23,6 +23,7 @@ Patterns:
                         take: longest (the default), first or standard
 
 Output:
+  -m, --max-count N     select at most N lines of each file
   -c, --count           write how many lines are selected
   -l, --files-with-matches
                         write the names of the files with a selected line
@@ -41,6 +42,7 @@ Output:
   --color[=WHEN]        color the output: auto, always or never
 
 Others:
+  -s, --no-messages     do not tell of files that cannot be read
   --no-match-ok         end with 0 where no line is selected too
   -F, -a, -U, --fixed-strings, --text, --binary, --line-buffered
                         what is done without them too

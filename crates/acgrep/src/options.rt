@@ -68,6 +68,8 @@ pub enum Switch {
     WithName,
     /// `--no-match-ok`
     NoMatchOk,
+    /// `-s`
+    NoMessages,
     /// `--help`
     Help,
     /// `-V`
@@ -91,6 +93,7 @@ pub fn switch_of(letter: u8) -> Option<Switch>
         b'L' => Some(Switch::OnlyLacking),
         b'Z' => Some(Switch::NullNames),
         b'q' => Some(Switch::Quiet),
+        b's' => Some(Switch::NoMessages),
         b'h' => Some(Switch::NoName),
         b'H' => Some(Switch::WithName),
         b'V' => Some(Switch::Version),
@@ -136,6 +139,10 @@ pub struct Flags {
     pub first_line: u64,
     /// `--no-match-ok`: the status is 0 where no line is selected.
     pub no_match_ok: bool,
+    /// `-s`: of files that cannot be read nothing is told.
+    pub no_messages: bool,
+    /// The last `-m`: how many lines of each file are selected at most.
+    pub most: Option<u64>,
     /// `--help`.
     pub help: bool,
     /// `--version`.
@@ -167,6 +174,8 @@ impl Flags {
             first: 0,
             first_line: 1,
             no_match_ok: false,
+            no_messages: false,
+            most: None,
             help: false,
             version: false,
         }
@@ -220,6 +229,7 @@ impl Flags {
             Switch::NoName => flags.with_name = Some(false),
             Switch::WithName => flags.with_name = Some(true),
             Switch::NoMatchOk => flags.no_match_ok = true,
+            Switch::NoMessages => flags.no_messages = true,
             Switch::Help => flags.help = true,
             Switch::Version => flags.version = true,
             Switch::Same => {}

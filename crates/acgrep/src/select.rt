@@ -4,9 +4,9 @@ ghost use Rattle.std.specs.Prelude.{◌≡◌, ◌+◌, ◌%◌, ◌^◌, ◌↔
 ghost use Rattle.memchr.specs.Find.{is_byte, places};
 ghost use Rattle.aho_core.specs.Patterns.{Patterns};
 ghost use Rattle.acgrep.specs.Lines.{lines};
-ghost use Rattle.acgrep.specs.Searched.{BeginsInvertedBy, BeginsLineBy, BeginsMatchBy, BeginsOthersBy, BeginsSelectedBy, BeginsTextBy, SearchesSomeBy, SearchesTextBy, TellsInvertedBy, TellsMatchBy, TellsOthersBy, WritesLineBy};
+ghost use Rattle.acgrep.specs.Searched.{BeginsInvertedBy, BeginsLineBy, BeginsMatchBy, BeginsOthersBy, BeginsSelectedBy, BeginsTextBy, SearchesSomeBy, SearchesTextBy, TellsInvertedBy, TellsMatchBy, TellsOthersBy, WritesLineBy, WritesNextBy};
 ghost use Rattle.acgrep.specs.Selected.{FindsNone, ForLines, IsLine, IsNextLine, IsNoneSelected};
-ghost use Rattle.acgrep.specs.Written.{EndsLine, NumbersLines, IsSettled, SamePlace, after_line, after_lines, at_begin, is_numbered, needs_one, one_more, place_behind};
+ghost use Rattle.acgrep.specs.Written.{EndsLine, NumbersLines, IsSettled, SamePlace, after_line, after_lines, at_begin, is_full, is_numbered, needs_one, next_count, place_behind};
 
 use crate::failure::Stop;
 use crate::json::put_objects;
@@ -28,6 +28,10 @@ pub struct Job<'a> {
     pub style: Style<'a>,
     /// Where the first line of a file stands.
     pub first: Place,
+    /// How many lines of a file are selected at most, and one at least.
+    pub most: Option<u64>,
+    /// Whether nothing is told of files that cannot be read.
+    pub hushed: bool,
 }
 
 impl<'a> Job<'a> {
@@ -55,11 +59,24 @@ impl<'a> Job<'a> {
         matches!(self.shown, Shown::Names | Shown::Lacking | Shown::Nothing)
     }
 
+    /// Whether so many lines are selected as are asked for.
+    fn is_full(&self, count: u64) -> bool
+        ensures full { result ≡ is_full self.now.most count }
+    {
+        match self.most {
+            Some(most) => count > 0 && most <= count,
+            None => false,
+        }
+    }
+
     /// Whether no further line changes what is written.
     pub fn is_done(&self, state: &State) -> bool
         ensures only { IsTrue result → 0 < state.now.selected }
         ensures settled { IsTrue result ↔ IsSettled self.now state.now }
     {
+        if self.is_full(state.selected) {
+            return true;
+        }
         self.needs_one() && state.selected > 0
     }
 
@@ -214,7 +231,7 @@ fn pass_matched<A: Automaton, W: Sink>(
     pass_selected(automaton, job, line, state, page, output)
 }
 
-/// Goes over a selected line.
+/// Goes over a selected line. Where so many lines are selected already as are asked for nothing is written of it.
 fn pass_selected<A: Automaton, W: Sink>(
     automaton: &A,
     job: &Job<'_>,
@@ -224,13 +241,18 @@ fn pass_selected<A: Automaton, W: Sink>(
     output: &mut W,
 ) -> Result<(), Stop>
     requires of { (p : Patterns) × A.is_of automaton.now p }
-    ensures counted { OnOk result (state.new.selected ≡ one_more state.old.selected) }
+    ensures counted { OnOk result
+        (state.new.selected ≡ next_count job.now.most state.old.selected) }
     ensures placed { OnOk result (state.new.place ≡ after_line state.old.place line.now) }
-    ensures shown { WritesLineBy (A.is_of automaton.now) job.now state.old.place
+    ensures shown { WritesNextBy (A.is_of automaton.now) job.now state.old
         (W.taken output.old) (W.taken output.new) line.now result }
     ensures begun { BeginsSelectedBy A.Automaton W.Sink automaton.now job.now
         state.old state.new output.old output.new line.now result }
 {
+    if job.is_full(state.selected) {
+        state.place = behind_line(state.place, line);
+        return Ok(());
+    }
     show(automaton, job, line, state.place, page, output)?;
     state.selected = state.selected.saturating_add(1);
     state.place = behind_line(state.place, line);

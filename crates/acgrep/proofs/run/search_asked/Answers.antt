@@ -20,7 +20,7 @@ returns-in-None-clause-begins g c = inl (Keeps-refl (g.W.Sink.taken c.args.outpu
 pub returns-in-None-clause-told : goal.returns-in-None-clause-told
 returns-in-None-clause-told g c =
     let names = names_said (Some (said c.args.given.now)) in
-    status-some g.E.Sink (MayTell names) (shown_by c.args.given.now.flags) c.args.errors.now c.tell_wrong.new.errors
+    status-some g.E.Sink (MayTell names) c.args.given.now.flags.no_messages (shown_by c.args.given.now.flags) c.args.errors.now c.tell_wrong.new.errors
     (some-one g.E.Sink (MayTell names) c.args.errors.now c.tell_wrong.new.errors (concat (wrong_parts NoPattern)) (inr (NoPattern, refl)) c.tell_wrong.ensures.told)
 
 -- where options give patterns, all operands name files

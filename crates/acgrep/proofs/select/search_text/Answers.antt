@@ -2,7 +2,7 @@
 use Rattle.std.proofs.Common.{inl, inr, length, refl, ap, subst, arith}
 use Rattle.acgrep.specs.Written.{HasNone}
 use Rattle.acgrep.proofs.Beginnings.{begins_rest, on_err}
-use Rattle.acgrep.proofs.Tellings.{searches_join, searches_start}
+use Rattle.acgrep.proofs.Tellings.{searches_join, searches_start, settled_some}
 use Rattle.acgrep.proofs.select.search_text.Goals as goal
 
 pub loop-rest-init : goal.loop-rest-init
@@ -39,7 +39,7 @@ returns-clause-none g c = λ p is plain invert some zero.
     elim (c.loop-rest.invariant.none p is plain invert zero) [
       | inl same ↦ elim (c.goes_on.ensures.ends c.loop-rest-test.false) [
         | inl empty ↦ absurd (omega (arith, some, ap length same, ap length empty))
-        | inr settled ↦ absurd (omega (arith, zero, settled.1))
+        | inr settled ↦ absurd (omega (arith, zero, settled_some c.args.job.now c.loop-rest.state settled))
       ]
       | inr none ↦ none
     ]
