@@ -16,7 +16,7 @@ use Rattle.aho_core.specs.Search.{plain_search}
 use Rattle.aho_laws.specs.CoverLaws.{AreClean, IsCleanPiece}
 use Rattle.aho_laws.specs.CutLaws.{NoneHolds}
 use Rattle.programs.specs.Asked.{ArePatterns}
-use Rattle.acredact.specs.Pieces.{AreMarked, HoldNone, HoldsByte, IsFlaw, IsHolder, IsMarked, IsUnclean}
+use Rattle.acredact.specs.Pieces.{WordsAreMarked, HoldNone, HoldsByte, IsFlaw, IsHolder, IsMarked, IsUnclean}
 use Rattle.acredact.specs.Secrets.{NoneOccurs}
 use Rattle.acredact.specs.declared.clean.Flaw.{Flaw}
 use Rattle.acredact.specs.declared.clean.Flaw.TheVariants.{Empty, Spells}
@@ -57,7 +57,7 @@ marked_still marks at place below is = elim (cases_eq place at) [
 ]
 
 -- a byte that is not marked is held by no word
-pub unmarked : (ignore_case : Bool) (words : List (List ℕ)) (marks : List Bool) (byte place : ℕ) → AreMarked ignore_case words marks → place ≡ folded_by ignore_case byte → get_or marks place false ≡ false → HoldNone ignore_case words byte
+pub unmarked : (ignore_case : Bool) (words : List (List ℕ)) (marks : List Bool) (byte place : ℕ) → WordsAreMarked ignore_case words marks → place ≡ folded_by ignore_case byte → get_or marks place false ≡ false → HoldNone ignore_case words byte
 unmarked ignore_case words marks byte place marked is not number numbered (other, member, same) =
     let clash : true ≡ false = sym (marked number numbered other member) ∙ ap (λ (n : ℕ). get_or marks n false) (same ∙ sym is) ∙ not in cc
 

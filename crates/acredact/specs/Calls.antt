@@ -2,6 +2,7 @@
 use Rattle.std.specs.Prelude.{◌≡◌, ◌⊎◌, ℕ, ◌||◌, Bool, true, false, List, [], ◌∷◌, Option, Result, Ok, Err, IfErr, IfOk, OnErr, codes, map, unwrap_or, if◌then◌else◌}
 use Rattle.std.specs.declared.io.traits.Read.{Ghosts as Readers}
 use Rattle.std.specs.declared.io.traits.Write.{Ghosts as Writers}
+use Rattle.aho_core.specs.Patterns.{Patterns}
 use Rattle.aho_core.specs.declared.error.BuildError.{BuildError}
 use Rattle.aho_devices.specs.Counts.{counted}
 use Rattle.aho_devices.specs.declared.adapters.FromWrite.{FromWrite}
@@ -17,7 +18,7 @@ use Rattle.acredact.specs.Arguments.{Given, GivesNoPattern, covers_asked, has, i
 use Rattle.acredact.specs.Builds.{patterns_by_given}
 use Rattle.acredact.specs.Counts.{counts_text}
 use Rattle.acredact.specs.Failures.{IsFailureLine}
-use Rattle.acredact.specs.Files.{AreCut, AreDone, AreFree, AreRedacted, Does, Work, are_none, unread_line}
+use Rattle.acredact.specs.Files.{AreCut, AreDone, AreFree, AreRedacted, Does, Work, are_none, redactor_of, unread_line, work_of}
 use Rattle.acredact.specs.Loading.{AreGiven, CannotLoadOne, Reading, Rules}
 use Rattle.acredact.specs.Messages.{unclean_line}
 use Rattle.acredact.specs.Mistakes.{IsMistake}
@@ -30,6 +31,7 @@ use Rattle.acredact.specs.declared.arguments.Word.TheVariants.{Count, Crlf, Allo
 use Rattle.acredact.specs.declared.clean.Unclean.{Unclean}
 use Rattle.acredact.specs.declared.failure.Failure.{Failure}
 use Rattle.acredact.specs.declared.failure.Failure.TheVariants.{NotText, Arguments, Unclean as UncleanPiece, Counts, Other}
+use Rattle.acredact.specs.declared.files.Job.{Job}
 use Rattle.acredact.specs.declared.folder.Folder.{Ghosts as Folders}
 use Rattle.acredact.specs.declared.patterns.Rule.{Rule}
 use Rattle.acredact.specs.declared.streams.Streams.{Streams}
@@ -252,6 +254,10 @@ module _ {R : Type 0} {Reads : Readers R} {W : Type 0} (Writes : Writers W) wher
         ((failure : Failure) × (result ≡ Err failure) × (streams' ≡ streams)
         × (IsStrictFailure strict work.redactor failure ⊎ IsRunFailure (OutputFails streams.output streams.output) failure))
         ⊎ ((errors : Errors E) × TellsOfPieces K strict work.redactor streams.errors errors × RunOutcome work result (record streams { errors = errors }) streams')
+
+    -- the same of a job, where files are redacted by these patterns
+    abbrev pub WarnedJob : {F X : Type 0} → Folders F X → (strict : Bool) → Job F → Patterns → Result Bool Failure → (streams streams' : Streams R W E Reads) → Type 0
+    WarnedJob D strict job p result streams streams' = WarnedOutcome strict (work_of D job (redactor_of job p)) result streams streams'
 
     -- the same of a call whose patterns were loaded as these rules, with the bytes that the input has left since
     abbrev pub LoadedOutcome : {F X : Type 0} → Folders F X → F → List Given → List Rule → Result Bool Failure → (streams streams' : Streams R W E Reads) → Type 0

@@ -1,20 +1,33 @@
 -- Which of the texts that are written in the place of patterns are clean, so that with what stands beside them they spell no pattern.
-use Rattle.std.specs.Prelude.{◌≡◌, ◌⊎◌, ℕ, ◌+◌, ◌<◌, Bool, true, false, List, [], ◌∷◌, ◌++◌, Option, Some, None, length, slice_index_or}
+use Rattle.std.specs.Prelude.{◌≡◌, ◌⊎◌, ℕ, ◌+◌, ◌<◌, Bool, true, false, List, [], ◌∷◌, ◌++◌, Option, Some, None, IfSome, length, slice_index_or}
+use Rattle.std.specs.Borrow.{Bor}
 use Rattle.aho_core.specs.Bytes.{folded_by}
 use Rattle.aho_core.specs.Listing.{IsMember}
 use Rattle.aho_core.specs.Occurrence.{Occurrence}
 use Rattle.aho_core.specs.Occurs.{OccursIn}
 use Rattle.aho_core.specs.Patterns.{Patterns, pattern_at}
+use Rattle.aho_core.specs.Replacement.{pieces_of}
 use Rattle.aho_core.specs.Search.{plain_search}
+use Rattle.aho_automaton.specs.declared.automaton.Automaton.{Ghosts}
 use Rattle.aho_devices.specs.declared.device.Sink.{Ghosts as SinkGhosts}
 use Rattle.aho_laws.specs.CoverLaws.{AreClean, IsCleanPiece}
+use Rattle.programs.specs.Asked.{ArePatterns}
 use Rattle.programs.specs.Telling.{TellsBytes}
 use Rattle.programs.specs.declared.errors.Errors.{Errors}
 use Rattle.acredact.specs.Messages.{unclean_line}
-use Rattle.acredact.specs.Secrets.{Redactor}
+use Rattle.acredact.specs.Secrets.{IfOf, Redactor}
 use Rattle.acredact.specs.declared.clean.Flaw.{Flaw}
 use Rattle.acredact.specs.declared.clean.Flaw.TheVariants.{Empty, Spells}
+use Rattle.acredact.specs.declared.clean.Judge.{Judge}
 use Rattle.acredact.specs.declared.clean.Unclean.{Unclean}
+
+-- these are the patterns by which pieces are judged
+abbrev pub IsJudgeOf : Judge → Patterns → Type 0
+IsJudgeOf judge p = ArePatterns p judge.ignore_case (pieces_of judge.words.now)
+
+-- what holds of the patterns of an automaton, of one with rows, where there is one, and of a judge
+abbrev pub IfOfAll : {A B : Type 0} → Ghosts A → Ghosts B → A → Option (Bor B) → Judge → (Patterns → Type 0) → Type 0
+IfOfAll G H automaton rows judge Holds = IfOf G automaton (λ p. IsJudgeOf judge p → IfSome rows (λ rows. H.is_of rows.now p) → Holds p)
 
 -- a word holds a byte, by the case rule
 abbrev pub HoldsByte : Bool → List ℕ → ℕ → Type 0
@@ -34,8 +47,8 @@ abbrev pub IsMarked : Bool → List ℕ → List Bool → Type 0
 IsMarked ignore_case word marks = (byte : ℕ) → IsMember word byte → slice_index_or marks (folded_by ignore_case byte) false ≡ true
 
 -- and those of all words
-abbrev pub AreMarked : Bool → List (List ℕ) → List Bool → Type 0
-AreMarked ignore_case words marks = (number : ℕ) → number < length words → IsMarked ignore_case (slice_index_or words number []) marks
+abbrev pub WordsAreMarked : Bool → List (List ℕ) → List Bool → Type 0
+WordsAreMarked ignore_case words marks = (number : ℕ) → number < length words → IsMarked ignore_case (slice_index_or words number []) marks
 
 -- what was marked stays so
 abbrev pub StayMarked : List Bool → List Bool → Type 0

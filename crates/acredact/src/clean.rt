@@ -9,8 +9,7 @@ ghost use Rattle.aho_core.specs.Replacement.{pieces_of};
 ghost use Rattle.aho_core.specs.Search.{plain_search};
 ghost use Rattle.aho_core.specs.declared.search.Anchored.TheVariants.{No};
 ghost use Rattle.aho_laws.specs.CoverLaws.{IsCleanPiece};
-ghost use Rattle.programs.specs.Asked.{ArePatterns};
-ghost use Rattle.acredact.specs.Pieces.{AreMarked, HoldNone, HoldsByte, IsFirstOrNone, IsFlawOrNone, IsHolder, IsJudged, IsMarked, StayMarked};
+ghost use Rattle.acredact.specs.Pieces.{HoldNone, HoldsByte, IsFirstOrNone, IsFlawOrNone, IsHolder, IsJudgeOf, IsJudged, IsMarked, StayMarked, WordsAreMarked};
 ghost use Rattle.acredact.specs.Secrets.{IfOf, NoneOccurs, redactor_by};
 
 use aho_automaton::automaton::Automaton;
@@ -57,7 +56,7 @@ pub fn unclean_of<A: Automaton>(
     requires starts { IsOk (A.start automaton.now No) }
     requires one_each { length pieces.now ≡ length judge.now.words.now }
     ensures judged { IfOf A.Automaton automaton.now (λ p.
-        ArePatterns p judge.now.ignore_case (pieces_of judge.now.words.now) →
+        IsJudgeOf judge.now p →
         IsJudged (redactor_by p covers pieces.now) result) }
 {
     if !covers {
@@ -78,9 +77,9 @@ fn first_unclean<A: Automaton>(
     requires starts { IsOk (A.start automaton.now No) }
     requires one_each { length pieces.now ≡ length judge.now.words.now }
     requires sized { length marks.now ≡ 256 }
-    requires marked { AreMarked judge.now.ignore_case (pieces_of judge.now.words.now) marks.now }
+    requires marked { WordsAreMarked judge.now.ignore_case (pieces_of judge.now.words.now) marks.now }
     ensures first { IfOf A.Automaton automaton.now (λ p.
-        ArePatterns p judge.now.ignore_case (pieces_of judge.now.words.now) →
+        IsJudgeOf judge.now p →
         IsFirstOrNone p (pieces_of pieces.now) result) }
 {
     let usual = flaw_of(automaton, judge, marks, judge.usual).is_none();
@@ -110,12 +109,12 @@ fn flaw_unless<A: Automaton>(
     requires of { (p : Patterns) × A.is_of automaton.now p }
     requires starts { IsOk (A.start automaton.now No) }
     requires sized { length marks.now ≡ 256 }
-    requires marked { AreMarked judge.now.ignore_case (pieces_of judge.now.words.now) marks.now }
+    requires marked { WordsAreMarked judge.now.ignore_case (pieces_of judge.now.words.now) marks.now }
     requires usual { IfOf A.Automaton automaton.now (λ p.
-        ArePatterns p judge.now.ignore_case (pieces_of judge.now.words.now) →
+        IsJudgeOf judge.now p →
         usual ≡ true → IsCleanPiece p judge.now.usual.now) }
     ensures flaw { IfOf A.Automaton automaton.now (λ p.
-        ArePatterns p judge.now.ignore_case (pieces_of judge.now.words.now) →
+        IsJudgeOf judge.now p →
         IsFlawOrNone p piece.now result) }
 {
     if is_known(judge, piece, usual) {
@@ -141,9 +140,9 @@ fn flaw_of<A: Automaton>(
     requires of { (p : Patterns) × A.is_of automaton.now p }
     requires starts { IsOk (A.start automaton.now No) }
     requires sized { length marks.now ≡ 256 }
-    requires marked { AreMarked judge.now.ignore_case (pieces_of judge.now.words.now) marks.now }
+    requires marked { WordsAreMarked judge.now.ignore_case (pieces_of judge.now.words.now) marks.now }
     ensures flaw { IfOf A.Automaton automaton.now (λ p.
-        ArePatterns p judge.now.ignore_case (pieces_of judge.now.words.now) →
+        IsJudgeOf judge.now p →
         IsFlawOrNone p piece.now result) }
 {
     if piece.is_empty() {
@@ -179,7 +178,7 @@ fn found_in<A: Automaton>(automaton: &A, piece: &[u8]) -> Option<Match>
 /// The number, from 1 on, of a pattern that holds a byte. Where the byte is not marked there is none.
 fn holder_of(judge: &Judge<'_, '_>, marks: &[bool], byte: u8) -> Option<usize>
     requires sized { length marks.now ≡ 256 }
-    requires marked { AreMarked judge.now.ignore_case (pieces_of judge.now.words.now) marks.now }
+    requires marked { WordsAreMarked judge.now.ignore_case (pieces_of judge.now.words.now) marks.now }
     ensures holder { IfSome result (IsHolder judge.now.ignore_case (pieces_of judge.now.words.now) byte) }
     ensures none { IfNone result (HoldNone judge.now.ignore_case (pieces_of judge.now.words.now) byte) }
 {
@@ -213,7 +212,7 @@ fn holds(word: &[u8], ignore_case: bool, byte: u8) -> bool
 /// The bytes that some word holds, as they are compared.
 fn marks_of(words: &[&[u8]], ignore_case: bool) -> [bool; 256]
     ensures sized { length result ≡ 256 }
-    ensures marked { AreMarked ignore_case (pieces_of words.now) result }
+    ensures marked { WordsAreMarked ignore_case (pieces_of words.now) result }
 {
     let mut marks = [false; 256];
     for word in words {

@@ -1,17 +1,15 @@
 //! A call of the program over its arguments, files and streams.
 
 ghost use Rattle.std.specs.Prelude.{◌≡◌, ◌⊎◌, ℕ, List, MatchBool, IfErr, IfOk, IfSome, OnErr, OnOk, Some, false, length, true};
-ghost use Rattle.aho_core.specs.Replacement.{pieces_of};
 ghost use Rattle.programs.specs.Arguments.{texts};
-ghost use Rattle.programs.specs.Asked.{ArePatterns};
 ghost use Rattle.programs.specs.Names.{name_bytes};
 ghost use Rattle.programs.specs.Streams.{WritesBytes};
 ghost use Rattle.programs.specs.Telling.{Tells, TellsBytes, TellsSome};
 ghost use Rattle.acredact.specs.Arguments.{AreMistaken, AsksToRedact, GivesNoPattern, IfAsked, all_given, covers_asked, has};
-ghost use Rattle.acredact.specs.Calls.{AskedOutcome, BeginsAsked, CountsAsked, IsCountsFailure, IsCountsLine, IsPrintFailure, IsRefusedLine, IsWrongFailure, IsWrongLine, LeavesNoneAsked, LoadedOutcome, OutputFails, RedactsAsked, TellsAsked, TellsCounts, WarnedOutcome, WarnsAsked, call_of, gives_pattern, names_asked, text_asked, work_by};
+ghost use Rattle.acredact.specs.Calls.{AskedOutcome, BeginsAsked, CountsAsked, IsCountsFailure, IsCountsLine, IsPrintFailure, IsRefusedLine, IsWrongFailure, IsWrongLine, LeavesNoneAsked, LoadedOutcome, OutputFails, RedactsAsked, TellsAsked, TellsCounts, WarnedJob, WarnedOutcome, WarnsAsked, call_of, gives_pattern, names_asked, text_asked, work_by};
 ghost use Rattle.acredact.specs.Failures.{IsFailureLine};
 ghost use Rattle.acredact.specs.Files.{CanDo, FilesOutcome, redactor_of, work_of};
-ghost use Rattle.acredact.specs.Pieces.{TellsUnclean};
+ghost use Rattle.acredact.specs.Pieces.{IfOfAll, TellsUnclean};
 ghost use Rattle.acredact.specs.Secrets.{IfOf};
 ghost use Rattle.acredact.specs.Tables.{HaveNoEmpty, secrets_of};
 ghost use Rattle.acredact.specs.declared.clean.Unclean.{Unclean};
@@ -345,10 +343,8 @@ fn redact_warned<'a, A: Automaton, B: Automaton, F: Folder, I: Read, W: Write, E
     requires ready { CanDo A.Automaton automaton.now job.now }
     requires rows { IfSome rows (λ rows. CanDo B.Automaton rows.now job.now) }
     requires words { length job.now.replacements.now ≡ length judge.now.words.now }
-    ensures outcome { IfOf A.Automaton automaton.now (λ p. ArePatterns p judge.now.ignore_case
-        (pieces_of judge.now.words.now) → IfSome rows.entry (λ rows. B.is_of rows.now p)
-        → WarnedOutcome W.Write E.Sink strict (work_of F.Folder job.now (redactor_of job.now p))
-        result streams.old streams.new) }
+    ensures outcome { IfOfAll A.Automaton B.Automaton automaton.now rows.entry judge.now
+        (λ p. WarnedJob W.Write E.Sink F.Folder strict job.now p result streams.old streams.new) }
     ensures flushed { OnOk result (streams.new.output.device.flushed ≡ true) }
 {
     let unclean = unclean_of(automaton, judge, job.replacements, job.covers);
