@@ -97,7 +97,7 @@ module _ {R : Type 0} {Reads : Readers R} {W E : Type 0} (Writes : Writers W) (K
       → CallOutcome Writes K call left (Err failure) old (record old { input = input })
   call_refused input old failure fails = record {
     redacts = λ (is : Err failure ≡ Ok true). absurd (cc);
-    strict = λ asked covers (is : Err failure ≡ Ok true). absurd (cc);
+    strict = λ asked (is : Err failure ≡ Ok true). absurd (cc);
     refused = λ unclean is. record { output = refl; errors = refl };
     begins = inl refl;
     quiet = λ none (is : Err failure ≡ Ok true). absurd (cc);
@@ -242,7 +242,7 @@ module _ {R : Type 0} {Reads : Readers R} {W E : Type 0} (Writes : Writers W) (K
   pub call_from : (old new : Streams R W E Reads) (input : FromRead R Reads) (result : Result Bool Failure) → CallOutcome Writes K call left result (record old { input = input }) new → CallOutcome Writes K call left result old new
   call_from old new input result of = record {
     redacts = λ is. let done = of.redacts is in record { secrets = done.secrets; between = done.between; loaded = done.loaded; redacted = done.redacted };
-    strict = λ asked covers is. let done = of.strict asked covers is in record { secrets = done.secrets; between = done.between; loaded = done.loaded; free = done.free };
+    strict = λ asked is. let done = of.strict asked is in record { secrets = done.secrets; between = done.between; loaded = done.loaded; free = done.free };
     refused = refused_from old new input result of.refused;
     begins = begins_from old new input of.begins;
     quiet = of.quiet;

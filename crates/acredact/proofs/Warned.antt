@@ -104,11 +104,11 @@ module _ {R : Type 0} {Reads : Readers R} {W E : Type 0} (Writes : Writers W) (K
         let first = λ (fails : Type 0). piece_tells K call fails secrets old.errors errors told in
         record {
           redacts = λ is. record { secrets = secrets; between = bytes_left old.input; loaded = loaded; redacted = rest.redacts is };
-          strict = λ asked covers is. record {
+          strict = λ asked is. record {
             secrets = secrets;
             between = bytes_left old.input;
             loaded = loaded;
-            free = free_of (work_by call secrets) covers (clean_of K (has Strict call.given) (redactor_by_given call.given secrets) old.errors errors asked told covers) (names_asked call.given) _ _ _ _ (rest.redacts is);
+            free = free_of (work_by call secrets) asked.covers (clean_of K (has Strict call.given) (redactor_by_given call.given secrets) old.errors errors asked.strict told asked.covers) (names_asked call.given) _ _ _ _ (rest.redacts is);
           };
           refused = refused_other old new result rest.other;
           begins = elim rest.begins [

@@ -207,6 +207,11 @@ pub record AsksToRedact (given : List Given) : Type 0 where
   pub no_help : has Help given ≡ false
   pub no_version : has Version given ≡ false
 
+-- pieces of a cover that are not clean are to be refused
+pub record RefusesUnclean (given : List Given) : Type 0 where
+  pub strict : has Strict given ≡ true
+  pub covers : covers_asked given ≡ true
+
 -- no option gives patterns
 pub record GivesNoPattern (given : List Given) : Type 0 where
   pub no_pattern : has Pattern given ≡ false

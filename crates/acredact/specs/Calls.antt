@@ -14,7 +14,7 @@ use Rattle.programs.specs.declared.errors.Errors.{Errors}
 use Rattle.programs.specs.declared.failure.Failure.{Failure as OtherFailure}
 use Rattle.programs.specs.declared.failure.Failure.TheVariants.{Build, OutOfMemory, Write, WriteZero}
 use Rattle.programs.specs.declared.reason.Reason.{Reason}
-use Rattle.acredact.specs.Arguments.{Given, GivesNoPattern, covers_asked, has, is_same, last_value}
+use Rattle.acredact.specs.Arguments.{Given, GivesNoPattern, RefusesUnclean, covers_asked, has, is_same, last_value}
 use Rattle.acredact.specs.Builds.{patterns_by_given}
 use Rattle.acredact.specs.Counts.{counts_text}
 use Rattle.acredact.specs.Failures.{IsFailureLine}
@@ -217,7 +217,7 @@ module _ {R : Type 0} {Reads : Readers R} {W : Type 0} (Writes : Writers W) wher
     -- what comes of a call
     pub record CallOutcome (call : Call) (left : Option (List ℕ)) (result : Result Bool Failure) (streams streams' : Streams R W E Reads) : Type 0 where
       pub redacts : result ≡ Ok true → RedactsCall call left streams streams'
-      pub strict : has Strict call.given ≡ true → covers_asked call.given ≡ true → result ≡ Ok true → LeavesNone call left streams streams'
+      pub strict : RefusesUnclean call.given → result ≡ Ok true → LeavesNone call left streams streams'
       pub refused : IfErr result (λ failure. (unclean : Unclean) → failure ≡ UncleanPiece unclean → IsUntouched streams streams')
       pub begins : BeginsCall call left streams streams'
       pub quiet : has Count call.given ≡ false → result ≡ Ok true → WarnsCall K call left streams.errors streams'.errors

@@ -22,8 +22,8 @@ mod ways;
 ghost use Rattle.std.specs.Prelude.{◌≡◌, ◌⊎◌, IfErr, IfOk, true};
 ghost use Rattle.std.specs.Process.{exit_status};
 ghost use Rattle.programs.specs.Telling.{TellsSome};
-ghost use Rattle.acredact.specs.Arguments.{AreMistaken, IfAsked};
-ghost use Rattle.acredact.specs.Calls.{BeginsAsked, IsRefusedLine, RedactsAsked};
+ghost use Rattle.acredact.specs.Arguments.{AreMistaken, IfAsked, RefusesUnclean};
+ghost use Rattle.acredact.specs.Calls.{BeginsAsked, IsRefusedLine, LeavesNoneAsked, RedactsAsked};
 
 use aho_devices::adapters::{FromRead, FromWrite};
 use aho_devices::device::Sink;
@@ -74,6 +74,9 @@ fn exit_code<F: Folder, I: Read, W: Write, E: Sink>(
         AreMistaken arguments.items → exit_status result ≡ 2) }
     ensures redacts { IfOk given (λ arguments. IfAsked arguments.items (λ given.
         exit_status result ≡ 0 → RedactsAsked W.Write F.Folder folder.now given streams.old streams.new)) }
+    ensures strict { IfOk given (λ arguments. IfAsked arguments.items (λ given.
+        RefusesUnclean given → exit_status result ≡ 0
+        → LeavesNoneAsked W.Write F.Folder folder.now given streams.old streams.new)) }
     ensures begins { IfOk given (λ arguments. IfAsked arguments.items (λ given.
         BeginsAsked W.Write F.Folder folder.now given streams.old streams.new)) }
     ensures flushed { exit_status result ≡ 0 → streams.new.output.device.flushed ≡ true }

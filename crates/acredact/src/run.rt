@@ -5,7 +5,7 @@ ghost use Rattle.programs.specs.Arguments.{texts};
 ghost use Rattle.programs.specs.Names.{name_bytes};
 ghost use Rattle.programs.specs.Streams.{WritesBytes};
 ghost use Rattle.programs.specs.Telling.{Tells, TellsBytes, TellsSome};
-ghost use Rattle.acredact.specs.Arguments.{AreMistaken, AsksToRedact, GivesNoPattern, IfAsked, all_given, covers_asked, has};
+ghost use Rattle.acredact.specs.Arguments.{AreMistaken, AsksToRedact, GivesNoPattern, IfAsked, RefusesUnclean, all_given, has};
 ghost use Rattle.acredact.specs.Calls.{AskedOutcome, BeginsAsked, CountsAsked, IsCountsFailure, IsCountsLine, IsPrintFailure, IsRefusedLine, IsWrongFailure, IsWrongLine, LeavesNoneAsked, LoadedOutcome, OutputFails, RedactsAsked, TellsAsked, TellsCounts, WarnedJob, WarnedOutcome, WarnsAsked, call_of, gives_pattern, names_asked, text_asked, work_by};
 ghost use Rattle.acredact.specs.Failures.{IsFailureLine};
 ghost use Rattle.acredact.specs.Files.{CanDo, FilesOutcome, redactor_of, work_of};
@@ -95,8 +95,7 @@ pub fn run<F: Folder, I: Read, W: Write, E: Sink>(
         BeginsAsked W.Write F.Folder folder.now given streams.old streams.new) }
 
     // Where pieces that are not clean are refused, no pattern occurs in what was written of a file.
-    ensures strict { IfAsked arguments.now (λ given. has Strict given ≡ true → covers_asked given ≡ true
-        → result ≡ 0
+    ensures strict { IfAsked arguments.now (λ given. RefusesUnclean given → result ≡ 0
         → LeavesNoneAsked W.Write F.Folder folder.now given streams.old streams.new) }
 
     // Where all was redacted nothing is told but a piece of a cover that is not clean, and the counts that are asked for.
