@@ -12,7 +12,7 @@ ghost use Rattle.programs.specs.Telling.{Tells, TellsSome};
 ghost use Rattle.acgrep.specs.Told.{MayTell, TellsCause, TellsOfCall, TellsOfFiles, TellsOfSearch, TellsOfText, TellsRefusal, is_hushed, names_said};
 ghost use Rattle.acgrep.specs.Mistakes.{TellsMistake, TellsRefused};
 ghost use Rattle.acgrep.specs.Files.{AreFilesBegun, AreSearchedOr, files_named};
-ghost use Rattle.acgrep.specs.Runs.{AsksToSearch, BeginsSearch, BeginsFor, GivesNone, IfSaid, IsJob, Searches, SearchesFor, SearchesSaid, are_empty, asks_none, inverts, is_colored, knows_none, origins_of, selects_none, status_told, words_sought};
+ghost use Rattle.acgrep.specs.Runs.{AsksToSearch, BeginsSearch, BeginsFor, GivesNone, IfSaid, IsJob, Searches, SearchesFor, SearchesSaid, are_empty, asks_none, inverts, is_colored, kind_sought, knows_none, origins_of, selects_none, status_told, words_sought};
 ghost use Rattle.acgrep.specs.Searchers.{IsSearcherOf};
 ghost use Rattle.acgrep.specs.Selected.{ForLines};
 
@@ -27,7 +27,7 @@ use crate::print::{Place, Style};
 use crate::searcher::Searcher;
 use crate::select::Job;
 use crate::tell::{tell_memory, tell_write, tell_wrong};
-use chromesquid::{Sink, write_whole};
+use chromesquid::{MatchKind, Sink, write_whole};
 use programs::errors::Errors;
 use programs::failure::Failure;
 use std::alloc::Global;
@@ -280,7 +280,7 @@ fn search<F: Open, R: Read, W: Sink, E: Sink>(
         names,
         files,
     };
-    match Searcher::build(alloc, flags.kind, flags.ignore_case, words) {
+    match Searcher::build(alloc, kind_sought(flags), flags.ignore_case, words) {
         Ok(searcher) => search_by(&searcher, &job, &named, input, output, errors),
         Err(error) => {
             tell_refusal(&keys, sources, &error, errors);
@@ -337,6 +337,17 @@ fn asks_none(most: Option<u64>) -> bool
     }
 }
 
+/// The match kind that is searched by. Where whole lines are asked for, the longest match tells whether a pattern is the line.
+fn kind_sought(flags: &Flags) -> MatchKind
+    ensures { result ≡ kind_sought flags.now }
+{
+    if flags.whole {
+        MatchKind::LeftmostLongest
+    } else {
+        flags.kind
+    }
+}
+
 /// Whether the lines without a match are selected.
 fn inverts(flags: &Flags) -> bool
     ensures { result ≡ inverts flags.now }
@@ -349,17 +360,17 @@ fn inverts(flags: &Flags) -> bool
 fn knows_none(flags: &Flags, patterns: &[&[u8]]) -> bool
     ensures { result ≡ knows_none flags.now (pieces_of patterns.now) }
 {
-    (flags.quiet || !flags.lacking) && selects_none(patterns, inverts(flags))
+    (flags.quiet || !flags.lacking) && selects_none(patterns, flags.whole, inverts(flags))
 }
 
-/// Whether no line is selected, whatever it holds: there is no pattern, or `-v` is given and all are empty.
-fn selects_none(patterns: &[&[u8]], invert: bool) -> bool
-    ensures { result ≡ selects_none invert (pieces_of patterns.now) }
+/// Whether no line is selected, whatever it holds: there is no pattern, or `-v` is given without `-x` and all are empty.
+fn selects_none(patterns: &[&[u8]], whole: bool, invert: bool) -> bool
+    ensures { result ≡ selects_none whole invert (pieces_of patterns.now) }
 {
     if patterns.is_empty() {
         return !invert;
     }
-    invert && are_empty(patterns)
+    invert && !whole && are_empty(patterns)
 }
 
 /// Whether all patterns are empty.
@@ -383,6 +394,7 @@ fn job_of(flags: &Flags, terminal: bool, count: usize) -> Job<'static>
     Job {
         shown: flags.shown(),
         invert: inverts(flags),
+        whole: flags.whole,
         style: Style {
             name: b"",
             with_name: has_name(flags.with_name, count),

@@ -1,0 +1,16 @@
+-- A line in which a pattern occurs matches or not.
+use Rattle.std.proofs.Common.{[], ◌∷◌}
+use Rattle.std.proofs.KnownBytes.{Appends-nil}
+use Rattle.acgrep.proofs.Beginnings.{begins_none, on_err}
+use Rattle.acgrep.proofs.select.pass_found.Goals as goal
+
+pub returns-clause-written : goal.returns-clause-written
+returns-clause-written g c = λ p is has. c.pass_line.ensures.written p is (c.in_ok-matched.ensures.matched p is has)
+
+pub returns-clause-begun : goal.returns-clause-begun
+returns-clause-begun g c = λ p is has. c.pass_line.ensures.begun p is (c.in_ok-matched.ensures.matched p is has)
+
+pub returns-in_err-matched-clause-begun : goal.returns-in_err-matched-clause-begun
+returns-in_err-matched-clause-begun g c = λ p is has.
+    let held = g.W.Sink.taken c.args.output.now in
+    on_err c.from_residual.result (begins_none p c.args.job.now c.args.state.now held held (c.args.line.now ∷ []) (Appends-nil held))
