@@ -1,11 +1,12 @@
 -- What is written of a file, from what was searched of its reader.
 use Rattle.std.proofs.Common.{◌≡◌, inl, inr, ℕ, ◌<◌, Bool, true, List, [], ◌∷◌, ◌++◌, Option, None, Some, IfSome, refl, sym, ◌∙◌, ap, subst, arith, append_assoc, append-nil}
-use Rattle.std.specs.Prelude.{if◌then◌else◌, nat_lt}
+use Rattle.std.specs.Prelude.{MatchBool, codes, if◌then◌else◌, nat_lt}
 use Rattle.std.specs.Io.KnownBytes.{Appends, Consumes, IsAtEnd}
 use Rattle.std.proofs.KnownBytes.{Appends-trans}
 use Rattle.std.proofs.lemmas.Bool.{cases_Bool, lt-ltb, ltb-false, ltb-true}
 use Rattle.aho_core.specs.Patterns.{Patterns}
-use Rattle.acgrep.specs.Files.{EndsFile, IfSearched, IsAny, IsRead, SearchesFile, SearchesReader, SomeLine, TellsBy, count_if, total_if}
+use Rattle.programs.specs.Names.{is_input}
+use Rattle.acgrep.specs.Files.{EndsFile, IfSearched, IsAny, IsNamed, IsRead, SearchesFile, SearchesName, SearchesReader, SomeLine, TellsBy, count_if, known_of, shown_name, total_if}
 use Rattle.acgrep.specs.Lines.{lines}
 use Rattle.acgrep.specs.Printed.{file_line}
 use Rattle.acgrep.specs.Streamed.{SearchesStream, course}
@@ -241,3 +242,16 @@ pub if_searched : (outcome : Outcome) (P Q : Bool → Type 0) → ((any : Bool) 
 if_searched (Searched any) P Q follows is = follows any is
 if_searched Unread P Q follows is = tt
 if_searched Stopped P Q follows is = tt
+
+-- standard input is the file of its name
+pub input_searched : (p : Patterns) (job named : Job) (holds : List ℕ → Option (List ℕ)) (name : List ℕ) (left left' held held' : Option (List ℕ)) → is_input name ≡ true
+    → IsNamed job (codes "(standard input)") named → (any : Bool) → SearchesReader p named left left' held held' any → SearchesName p job holds name left left' held held' any
+input_searched p job named holds name left left' held held' input is any done =
+    let shown : shown_name name ≡ codes "(standard input)" = rw input refl in
+    let known : known_of holds name left ≡ left = rw input refl in
+    record {
+      named = named;
+      is_named = subst (λ (n : List ℕ). IsNamed job n named) (sym shown) is;
+      file = subst (λ (bytes : Option (List ℕ)). SearchesFile p named bytes held held' any) (sym known) done.file;
+      reads = subst (λ (b : Bool). MatchBool b (IsRead p named left left' any) (left' ≡ left)) (sym input) done.reads;
+    }

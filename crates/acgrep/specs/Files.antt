@@ -75,14 +75,14 @@ pub record SearchesFile (p : Patterns) (job : Job) (known held held' : Option (L
   pub written : Appends held held' bytes
 
 -- so many lines of a text are selected as are asked for
-abbrev pub IsFull : Patterns → Job → List ℕ → Type 0
-IsFull p job text = (told : List ℕ) × (count : ℕ) × TellsOfLines p job job.first 0 (lines text) told count × (is_full job.most count ≡ true)
+abbrev pub HasAllAsked : Patterns → Job → List ℕ → Type 0
+HasAllAsked p job text = (told : List ℕ) × (count : ℕ) × TellsOfLines p job job.first 0 (lines text) told count × (is_full job.most count ≡ true)
 
 -- a reader was read to its end, or until a selected line told all, or so many lines of it are selected as are asked for
 pub record IsRead (p : Patterns) (job : Job) (left left' : Option (List ℕ)) (any : Bool) : Type 0 where
   pub bytes : List ℕ
   pub read : Consumes left left' bytes
-  pub ended : IsAtEnd left' ⊎ (((needs_one job.shown ≡ true) × (any ≡ true)) ⊎ IsFull p job bytes)
+  pub ended : IsAtEnd left' ⊎ (((needs_one job.shown ≡ true) × (any ≡ true)) ⊎ HasAllAsked p job bytes)
 
 -- all that a reader has left was searched
 pub record SearchesReader (p : Patterns) (job : Job) (left left' held held' : Option (List ℕ)) (any : Bool) : Type 0 where

@@ -81,10 +81,10 @@ abbrev pub wrong_fresh : List ℕ → List (List ℕ)
 wrong_fresh argument = if bytes_eq (take 2 argument) (codes "--") then wrong_long (drop 2 argument) else wrong_plain argument
 
 -- of a wrong argument, by what the one before waits for; an operand is never wrong
-abbrev pub wrong_at : Awaited → List ℕ → List (List ℕ)
-wrong_at Fresh argument = wrong_fresh argument
-wrong_at (Argument valued) argument = wrong_value valued argument
-wrong_at Operands argument = []
+abbrev pub mistake_at : Awaited → List ℕ → List (List ℕ)
+mistake_at Fresh argument = wrong_fresh argument
+mistake_at (Argument valued) argument = wrong_value valued argument
+mistake_at Operands argument = []
 
 -- an option has no argument at the end
 abbrev pub wrong_end : Awaited → Option (List (List ℕ))
@@ -93,13 +93,13 @@ wrong_end (Argument valued) = Some (unargued_parts (valued_name valued))
 wrong_end Operands = None
 
 -- what is told of an argument where it is wrong, and else of those behind it
-abbrev pub wrong_or : List (List ℕ) → (ReadSoFar → Option (List (List ℕ))) → Option ReadSoFar → Option (List (List ℕ))
-wrong_or wrong rest None = Some wrong
-wrong_or wrong rest (Some read) = rest read
+abbrev pub mistake_or : List (List ℕ) → (ReadSoFar → Option (List (List ℕ))) → Option ReadSoFar → Option (List (List ℕ))
+mistake_or wrong rest None = Some wrong
+mistake_or wrong rest (Some read) = rest read
 
 abbrev pub wrong_from : Awaited → List (List ℕ) → Said → Option (List (List ℕ))
 wrong_from awaits [] s = wrong_end awaits
-wrong_from awaits (argument ∷ rest) s = wrong_or (wrong_at awaits argument) (λ read. wrong_from read.awaits rest read.said) (argument_by awaits argument s)
+wrong_from awaits (argument ∷ rest) s = mistake_or (mistake_at awaits argument) (λ read. wrong_from read.awaits rest read.said) (argument_by awaits argument s)
 
 -- what is told of all arguments: nothing where they are right
 abbrev pub mistake_by : List (List ℕ) → Option (List (List ℕ))
@@ -115,9 +115,9 @@ abbrev pub TellsBy : {T : Type 0} → List (List ℕ) → Result T Refusal → T
 TellsBy parts result = IfErr result (IsTold parts)
 
 -- a refusal tells the first mistake
-abbrev pub IsMistake : List (List ℕ) → Refusal → Type 0
-IsMistake arguments (Wrong wrong) = mistake_by arguments ≡ Some (wrong_parts wrong)
-IsMistake arguments OutOfMemory = Unit {0}
+abbrev pub IsFirstMistake : List (List ℕ) → Refusal → Type 0
+IsFirstMistake arguments (Wrong wrong) = mistake_by arguments ≡ Some (wrong_parts wrong)
+IsFirstMistake arguments OutOfMemory = Unit {0}
 
 -- the line that memory ran out
 abbrev pub memory_line : List ℕ

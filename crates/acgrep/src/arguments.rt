@@ -7,7 +7,7 @@ ghost use Rattle.std.specs.Prelude.{◌≡◌, Some, IfOk, IfErr, string_bytes};
 ghost use Rattle.programs.specs.Arguments.{kind_by, texts};
 ghost use Rattle.acgrep.specs.Arguments.{FailsBy, ReadsBy, SaysMore, argument_by, color_by, fresh_by, joined_by, letters_by, long_by, most_by, named_by, number_by, plain_by, said, said_by, source_option, so_far, taken_by, turned_by, value_by, with_operand, with_source};
 ghost use Rattle.acgrep.specs.Long.{option_by};
-ghost use Rattle.acgrep.specs.Mistakes.{IsMistake, TellsBy, wrong_at, wrong_fresh, wrong_joined, wrong_letters, wrong_long, wrong_most, wrong_name, wrong_plain, wrong_value};
+ghost use Rattle.acgrep.specs.Mistakes.{IsFirstMistake, TellsBy, mistake_at, wrong_fresh, wrong_joined, wrong_letters, wrong_long, wrong_most, wrong_name, wrong_plain, wrong_value};
 ghost use Rattle.acgrep.specs.Told.{color_parts, kind_parts, number_parts, valued_name};
 
 use crate::long::{Long, Valued, option_of};
@@ -97,7 +97,7 @@ pub fn parse<'a>(alloc: Global, arguments: &'a [String]) -> Result<Given<'a>, Re
     ensures read { IfOk result (λ given. said_by (texts arguments.now) ≡ Some (said given)) }
     ensures refused { FailsBy (said_by (texts arguments.now)) result }
     // The first mistake is told.
-    ensures wrong { IfErr result (IsMistake (texts arguments.now)) }
+    ensures wrong { IfErr result (IsFirstMistake (texts arguments.now)) }
 {
     let mut given = Given {
         flags: Flags::new(),
@@ -124,7 +124,7 @@ fn read_argument<'a>(
 ) -> Result<Awaited, Refusal<'a>>
     ensures read { ReadsBy (argument_by before (string_bytes argument.now)) given.old given.new result }
     ensures refused { FailsBy (argument_by before (string_bytes argument.now) (said given.old)) result }
-    ensures wrong { TellsBy (wrong_at before (string_bytes argument.now)) result }
+    ensures wrong { TellsBy (mistake_at before (string_bytes argument.now)) result }
 {
     match before {
         Awaited::Argument(valued) => read_value(given, valued, argument.as_str()),

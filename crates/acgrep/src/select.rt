@@ -199,7 +199,7 @@ fn search_some<'t, A: Automaton, W: Sink>(
     match next_line(automaton, text)? {
         Some(line) => {
             pass_others(automaton, job, &text[..line.start], state, page, output)?;
-            pass_found(
+            pass_matched(
                 automaton,
                 job,
                 &text[line.start..line.end],
@@ -217,7 +217,7 @@ fn search_some<'t, A: Automaton, W: Sink>(
 }
 
 /// Goes over a line in which a pattern occurs.
-fn pass_found<A: Automaton, W: Sink>(
+fn pass_matched<A: Automaton, W: Sink>(
     automaton: &A,
     job: &Job<'_>,
     line: &[u8],

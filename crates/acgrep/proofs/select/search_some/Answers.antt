@@ -10,8 +10,8 @@ use Rattle.acgrep.proofs.LineLists.{cut_lines, first_has, front_ends, front_line
 use Rattle.acgrep.proofs.Tellings.{searches_all, searches_line}
 use Rattle.acgrep.proofs.select.search_some.Goals as goal
 
-pub returns-in_ok-pass_found-in-Some-clause-written : goal.returns-in_ok-pass_found-in-Some-clause-written
-returns-in_ok-pass_found-in-Some-clause-written g c = λ p is plain.
+pub returns-in_ok-pass_matched-in-Some-clause-written : goal.returns-in_ok-pass_matched-in-Some-clause-written
+returns-in_ok-pass_matched-in-Some-clause-written g c = λ p is plain.
     let text = c.args.text.now in
     let line = c.in-Some.line in
     let front = take line.start text in
@@ -19,9 +19,9 @@ returns-in_ok-pass_found-in-Some-clause-written g c = λ p is plain.
     let first : IsFirstWith p text line = subst (IsNextLine p text) c.in-Some.is (c.in_ok-line.ensures.next p is plain) in
     let cut = cut_lines p plain text line first c.requires.some ∙ ap (λ (l : List ℕ). lines front ++ (slice_range text line.start line.end ∷ lines l)) (sym c.behind.ensures.rest) in
     let others = c.in_ok-pass_others-in-Some.ensures in
-    let matched = c.in_ok-pass_found-in-Some.ensures in
-    searches_line p c.args.job.now c.args.state.now c.pass_others.new.state c.pass_found.new.state
-    (g.W.Sink.taken c.args.output.now) (g.W.Sink.taken c.pass_others.new.output) (g.W.Sink.taken c.pass_found.new.output)
+    let matched = c.in_ok-pass_matched-in-Some.ensures in
+    searches_line p c.args.job.now c.args.state.now c.pass_others.new.state c.pass_matched.new.state
+    (g.W.Sink.taken c.args.output.now) (g.W.Sink.taken c.pass_others.new.output) (g.W.Sink.taken c.pass_matched.new.output)
     text front (slice_range text line.start line.end) left (line.end + 1) cut c.behind.ensures.rest
     (others.written p is (front_lines p plain text line first)) (others.placed (front_ends p plain text line first))
     (matched.written p is (first_has p plain text line first)) matched.placed
@@ -54,19 +54,19 @@ returns-in_err-pass_others-in-Some-clause-begun g c = λ p is plain.
     (slice_range text line.start line.end ∷ lines (drop (line.end + 1) text)) (cut_lines p plain text line first c.requires.some)
     (c.in_err-pass_others-in-Some.ensures.begun p is (front_lines p plain text line first)))
 
-pub returns-in_err-pass_found-in-Some-clause-begun : goal.returns-in_err-pass_found-in-Some-clause-begun
-returns-in_err-pass_found-in-Some-clause-begun g c = λ p is plain.
+pub returns-in_err-pass_matched-in-Some-clause-begun : goal.returns-in_err-pass_matched-in-Some-clause-begun
+returns-in_err-pass_matched-in-Some-clause-begun g c = λ p is plain.
     let text = c.args.text.now in
     let line = c.in-Some.line in
     let front = take line.start text in
     let first : IsFirstWith p text line = subst (IsNextLine p text) c.in-Some.is (c.in_ok-line.ensures.next p is plain) in
     let others = c.in_ok-pass_others-in-Some.ensures in
-    on_err c.from_residual-in_err-pass_found-in-Some.result
-    (begins_line p c.args.job.now c.args.state.now c.pass_others.new.state c.pass_found.new.state.selected
-    (g.W.Sink.taken c.args.output.now) (g.W.Sink.taken c.pass_others.new.output) (g.W.Sink.taken c.pass_found.new.output)
+    on_err c.from_residual-in_err-pass_matched-in-Some.result
+    (begins_line p c.args.job.now c.args.state.now c.pass_others.new.state c.pass_matched.new.state.selected
+    (g.W.Sink.taken c.args.output.now) (g.W.Sink.taken c.pass_others.new.output) (g.W.Sink.taken c.pass_matched.new.output)
     text front (slice_range text line.start line.end) (drop (line.end + 1) text) (cut_lines p plain text line first c.requires.some)
     (others.written p is (front_lines p plain text line first)) (others.placed (front_ends p plain text line first))
-    (c.in_err-pass_found-in-Some.ensures.begun p is (first_has p plain text line first)))
+    (c.in_err-pass_matched-in-Some.ensures.begun p is (first_has p plain text line first)))
 
 pub returns-in_err-pass_others-in-None-clause-begun : goal.returns-in_err-pass_others-in-None-clause-begun
 returns-in_err-pass_others-in-None-clause-begun g c = λ p is plain.

@@ -2,7 +2,7 @@
 use Rattle.std.proofs.Common.{[], ◌∷◌}
 use Rattle.std.proofs.KnownBytes.{Appends-nil}
 use Rattle.acgrep.proofs.Beginnings.{begins_none, on_err}
-use Rattle.acgrep.proofs.select.pass_found.Goals as goal
+use Rattle.acgrep.proofs.select.pass_matched.Goals as goal
 
 pub returns-clause-written : goal.returns-clause-written
 returns-clause-written g c = λ p is has. c.pass_line.ensures.written p is (c.in_ok-matched.ensures.matched p is has)
