@@ -10,7 +10,7 @@ ghost use Rattle.acgrep.specs.Arguments.{said, said_by};
 ghost use Rattle.programs.specs.Names.{name_bytes};
 ghost use Rattle.programs.specs.Telling.{Tells, TellsSome};
 ghost use Rattle.acgrep.specs.Told.{MayTell, TellsCause, TellsOfCall, TellsOfFiles, TellsOfSearch, TellsOfText, TellsRefusal, is_hushed, names_said};
-ghost use Rattle.acgrep.specs.Mistakes.{TellsMistake, TellsRefused};
+ghost use Rattle.acgrep.specs.Mistakes.{TellsLacking, TellsMistake, TellsNoPattern, TellsRefused};
 ghost use Rattle.acgrep.specs.Files.{AreFilesBegun, AreSearchedOr, files_named};
 ghost use Rattle.acgrep.specs.Runs.{AsksToSearch, BeginsSearch, BeginsFor, GivesNone, IfSaid, IsJob, Searches, SearchesFor, SearchesSaid, are_empty, asks_none, inverts, is_colored, kind_sought, knows_none, origins_of, selects_none, status_told, words_sought};
 ghost use Rattle.acgrep.specs.Searchers.{IsSearcherOf};
@@ -54,9 +54,11 @@ pub fn run<F: Open, R: Read, W: Sink, E: Sink>(
     ensures unwritten { said_by (texts arguments.now) ≡ None
         → Keeps (W.taken output.old) (W.taken output.new) }
 
-    // A search needs a pattern.
+    // A search needs a pattern, and where there is none that is told.
     ensures patternless { IfSaid arguments.now (λ said. AsksToSearch said.flags → GivesNone said
         → result ≡ 2) }
+    ensures lacking { IfSaid arguments.now (λ said. AsksToSearch said.flags → GivesNone said
+        → TellsLacking E.Sink errors.old errors.new) }
 
     // Where the status tells of no error, the patterns were searched for in the files, one after another.
     ensures searches { IfSaid arguments.now (λ said. AsksToSearch said.flags → result < 2
@@ -150,6 +152,8 @@ fn answer<F: Open, R: Read, W: Sink, E: Sink>(
 ) -> u8
     ensures bound { result ≤ 2 }
     ensures patternless { AsksToSearch given.now.flags → GivesNone (said given.now) → result ≡ 2 }
+    ensures lacking { AsksToSearch given.now.flags → GivesNone (said given.now)
+        → TellsNoPattern E.Sink errors.old errors.new }
     ensures searches { AsksToSearch given.now.flags → result < 2
         → Searches (F.holds files.now) terminal (said given.now)
         (R.remaining input.old) (R.remaining input.new)
@@ -191,6 +195,8 @@ fn search_asked<F: Open, R: Read, W: Sink, E: Sink>(
 ) -> u8
     ensures bound { result ≤ 2 }
     ensures patternless { GivesNone (said given.now) → result ≡ 2 }
+    ensures lacking { GivesNone (said given.now)
+        → TellsNoPattern E.Sink errors.old errors.new }
     ensures searches { result < 2 → SearchesSaid (F.holds files.now) terminal (said given.now)
         (R.remaining input.old) (R.remaining input.new)
         (W.taken output.old) (W.taken output.new) result }
