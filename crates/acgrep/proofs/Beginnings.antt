@@ -6,7 +6,7 @@ use Rattle.std.proofs.KnownBytes.{Appends-trans}
 use Rattle.aho_core.specs.Patterns.{Patterns}
 use Rattle.acgrep.specs.Lines.{lines}
 use Rattle.aho_devices.specs.Counts.{AppendsBeginning}
-use Rattle.acgrep.specs.Written.{BeginsLine, BeginsLines, EachLine, HasNone, IsSelected, Matches, MatchesNot, SamePlace, SearchesTo, StartsNext, TellsLines, WritesLine, after_lines, is_full}
+use Rattle.acgrep.specs.Written.{BeginsLine, BeginsLines, EachLine, HasNone, IsSelected, DoesMatch, DoesNotMatch, SamePlace, SearchesTo, StartsNext, TellsLines, WritesLine, after_lines, is_full}
 use Rattle.acgrep.specs.declared.print.Place.{Place}
 use Rattle.acgrep.specs.declared.select.Job.{Job}
 use Rattle.acgrep.specs.declared.select.State.{State}
@@ -138,7 +138,7 @@ module _ (p : Patterns) (job : Job) where
   begins_passing a b count x y z text rest line left invert first so_far begins =
       let each : EachLine (HasNone p) (line ∷ lines left) = subst (EachLine (HasNone p)) first so_far.each in
       let selected : IsSelected p job.whole job.invert line =
-      subst (λ (b : Bool). MatchBool b (MatchesNot p job.whole line) (Matches p job.whole line)) (sym invert) (none_matches p job.whole line each.0) in
+      subst (λ (b : Bool). MatchBool b (DoesNotMatch p job.whole line) (DoesMatch p job.whole line)) (sym invert) (none_matches p job.whole line each.0) in
       let there : SamePlace job b.place (after_lines a.place so_far.searched) = subst (λ (place : Place). SamePlace job b.place place) so_far.placed (same_place job b.place) in
       subst (BeginsLines p job a count x z) (sym (so_far.cut ∙ ap (λ (l : List (List ℕ)). so_far.searched ++ l) first))
       (begins_join a b count x y z so_far.searched (line ∷ lines left) so_far.tells there (begins_more b count y z (line ∷ []) (lines left) (begins selected)))

@@ -11,7 +11,7 @@ use Rattle.acgrep.proofs.LineLists.{ends_drop}
 use Rattle.acgrep.specs.Lines.{lines}
 use Rattle.acgrep.specs.Objects.{objects_by}
 use Rattle.acgrep.specs.Printed.{WritesColored, color_of, colored_from, colored_line_by, head_of, match_by, matches_by, line_number_at, offset_at, painted, part_of}
-use Rattle.acgrep.specs.Written.{EachLine, EndsLine, HasNone, IsMatched, IsPassedOver, IsSelected, IsSettled, LineOf, Matches, MatchesNot, SamePlace, SearchesTo, ShowsBy, TellsOfLines, TellsLines, WritesLine, WritesNext, after_line, after_lines, is_full, is_numbered, next_count, one_more, place_behind, selects}
+use Rattle.acgrep.specs.Written.{EachLine, EndsLine, HasNone, IsMatched, IsPassedOver, IsSelected, IsSettled, LineOf, DoesMatch, DoesNotMatch, SamePlace, SearchesTo, ShowsBy, TellsOfLines, TellsLines, WritesLine, WritesNext, after_line, after_lines, is_full, is_numbered, next_count, one_more, place_behind, selects}
 use Rattle.acgrep.specs.declared.options.Shown.{Shown}
 use Rattle.acgrep.specs.declared.options.Shown.TheVariants.{Lines, Matches, Objects, Count, Names, Lacking, Nothing}
 use Rattle.acgrep.specs.declared.print.Place.{Place}
@@ -190,7 +190,7 @@ tells_full p job ls ms place count total bytes full told =
     (tells_append p job ls ms place count total total bytes [] told (full_tells p job ms (after_lines place ls) total full))
 
 -- where no pattern occurs none is the whole line either
-pub none_matches : (p : Patterns) (whole : Bool) (line : List ℕ) → HasNone p line → MatchesNot p whole line
+pub none_matches : (p : Patterns) (whole : Bool) (line : List ℕ) → HasNone p line → DoesNotMatch p whole line
 none_matches p true line none m occurs start end = none m occurs
 none_matches p false line none = none
 
@@ -215,7 +215,7 @@ tells_passed p job (line ∷ rest) place count plain (none, each) =
       | inl full ↦ inl (full, refl, refl)
       | inr goes ↦ inr (
         goes,
-        inr (subst (λ (b : Bool). MatchBool b (Matches p job.whole line) (MatchesNot p job.whole line)) (sym plain) (none_matches p job.whole line none), tells_passed p job rest (after_line place line) count plain each),
+        inr (subst (λ (b : Bool). MatchBool b (DoesMatch p job.whole line) (DoesNotMatch p job.whole line)) (sym plain) (none_matches p job.whole line none), tells_passed p job rest (after_line place line) count plain each),
       )
     ]
 
@@ -349,7 +349,7 @@ pub passing_step : (p : Patterns) (job : Job) (a b c : State) (x y z : Option (L
 passing_step p job a b c x y z text rest line left invert first placed counted writes so_far =
     let each : EachLine (HasNone p) (line ∷ lines left) = subst (EachLine (HasNone p)) first so_far.each in
     let selected : IsSelected p job.whole job.invert line =
-    subst (λ (b : Bool). MatchBool b (MatchesNot p job.whole line) (Matches p job.whole line)) (sym invert) (none_matches p job.whole line each.0) in
+    subst (λ (b : Bool). MatchBool b (DoesNotMatch p job.whole line) (DoesMatch p job.whole line)) (sym invert) (none_matches p job.whole line each.0) in
     let there : SamePlace job b.place (after_lines a.place so_far.searched) = subst (λ (place : Place). SamePlace job b.place place) so_far.placed (same_place job b.place) in
     record {
       searched = so_far.searched ++ (line ∷ []);

@@ -33,23 +33,23 @@ abbrev pub HasNoWhole : Patterns → List ℕ → Type 0
 HasNoWhole p line = (m : Occurrence) → OccursIn p (plain_search line) m → m.start ≡ 0 → m.end ≡ length line → ⊥
 
 -- a line matches where a pattern occurs in it, or where whole lines are asked for, where a pattern is the line
-abbrev pub Matches : Patterns → Bool → List ℕ → Type 0
-Matches p whole line = MatchBool whole (HasWhole p line) (HasMatch p line)
+abbrev pub DoesMatch : Patterns → Bool → List ℕ → Type 0
+DoesMatch p whole line = MatchBool whole (HasWhole p line) (HasMatch p line)
 
-abbrev pub MatchesNot : Patterns → Bool → List ℕ → Type 0
-MatchesNot p whole line = MatchBool whole (HasNoWhole p line) (HasNone p line)
+abbrev pub DoesNotMatch : Patterns → Bool → List ℕ → Type 0
+DoesNotMatch p whole line = MatchBool whole (HasNoWhole p line) (HasNone p line)
 
 -- whether it does
 abbrev pub IsMatched : Patterns → Bool → List ℕ → Bool → Type 0
-IsMatched p whole line matched = MatchBool matched (Matches p whole line) (MatchesNot p whole line)
+IsMatched p whole line matched = MatchBool matched (DoesMatch p whole line) (DoesNotMatch p whole line)
 
 -- a line is selected where it matches, or under `invert` where it does not
 abbrev pub IsSelected : Patterns → (whole invert : Bool) → List ℕ → Type 0
-IsSelected p whole invert line = MatchBool invert (MatchesNot p whole line) (Matches p whole line)
+IsSelected p whole invert line = MatchBool invert (DoesNotMatch p whole line) (DoesMatch p whole line)
 
 -- any other line is passed over
 abbrev pub IsPassedOver : Patterns → (whole invert : Bool) → List ℕ → Type 0
-IsPassedOver p whole invert line = MatchBool invert (Matches p whole line) (MatchesNot p whole line)
+IsPassedOver p whole invert line = MatchBool invert (DoesMatch p whole line) (DoesNotMatch p whole line)
 
 -- whether a line is selected, by whether it matches
 abbrev pub selects : Bool → Bool → Bool

@@ -3,6 +3,7 @@
 ghost use Rattle.std.specs.Prelude.{◌≡◌, ◌==◌, ◌+◌, ◌%◌, ◌^◌, ◌↔◌, ◌⊎◌, ◌&&◌, ◌≤◌, ◌<◌, [], IfOk, IfSome, IsTrue, OnOk, false, true, not, length};
 ghost use Rattle.memchr.specs.Find.{is_byte, places};
 ghost use Rattle.aho_core.specs.Patterns.{Patterns};
+ghost use Rattle.aho_core.specs.declared.search.MatchKind.TheVariants.{LeftmostLongest};
 ghost use Rattle.acgrep.specs.Lines.{lines};
 ghost use Rattle.acgrep.specs.Searched.{BeginsInvertedBy, BeginsLineBy, BeginsMatchBy, BeginsOneBy, BeginsOthersBy, BeginsSelectedBy, BeginsTextBy, SearchesSomeBy, SearchesTextBy, TellsInvertedBy, TellsLineBy, TellsMatchBy, TellsOthersBy, WritesLineBy, WritesNextBy};
 ghost use Rattle.acgrep.specs.Selected.{FindsNone, ForLines, IsLine, IsNextLine, IsNoneSelected};
@@ -251,17 +252,24 @@ fn is_match<A: Automaton>(automaton: &A, job: &Job<'_>, line: &[u8]) -> Result<b
     Ok(true)
 }
 
-/// Whether a pattern is the whole line. Of those that occur in it the longest that begins first tells that.
+/// Whether a pattern is the whole line.
 fn is_whole<A: Automaton>(automaton: &A, line: &[u8]) -> Result<bool, Stop>
     requires of { (p : Patterns) × A.is_of automaton.now p }
     ensures whole { (p : Patterns) → A.is_of automaton.now p
         → IfOk result (IsMatched p true line.now) }
 {
-    let kind = automaton.match_kind();
-    match kind {
-        MatchKind::LeftmostLongest => {}
-        _ => return Err(Stop::Search(MatchError::unsupported_overlapping(kind))),
+    match automaton.match_kind() {
+        MatchKind::LeftmostLongest => is_longest_whole(automaton, line),
+        kind => Err(Stop::Search(MatchError::unsupported_overlapping(kind))),
     }
+}
+
+/// The same where of those that occur the longest that begins first is found.
+fn is_longest_whole<A: Automaton>(automaton: &A, line: &[u8]) -> Result<bool, Stop>
+    requires of { (p : Patterns) × A.is_of automaton.now p }
+    ensures whole { (p : Patterns) → A.is_of automaton.now p → p.kind ≡ LeftmostLongest
+        → IfOk result (IsMatched p true line.now) }
+{
     match automaton.try_find(&Input::new(line))? {
         Some(found) => Ok(spans(found.start(), found.end(), line.len())),
         None => Ok(false),
