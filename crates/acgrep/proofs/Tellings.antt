@@ -191,7 +191,7 @@ tells_full p job ls ms place count total bytes full told =
 
 -- where no pattern occurs none is the whole line either
 pub none_matches : (p : Patterns) (whole : Bool) (line : List ℕ) → HasNone p line → DoesNotMatch p whole line
-none_matches p true line none m occurs start end = none m occurs
+none_matches p true line none = λ m occurs start end. none m occurs
 none_matches p false line none = none
 
 -- a line is selected by whether it matches

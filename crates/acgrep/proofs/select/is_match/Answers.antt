@@ -1,7 +1,7 @@
 -- Where whole lines are not asked for, an occurrence is enough.
-use Rattle.std.proofs.Common.{Bool, true, subst, sym}
+use Rattle.std.proofs.Common.{Bool, true, subst, sym, ◌∙◌}
 use Rattle.std.proofs.lemmas.Bool.{true≢false}
-use Rattle.std.specs.Prelude.{IfOk, ◌∙◌}
+use Rattle.std.specs.Prelude.{IfOk}
 use Rattle.acgrep.specs.Written.{IsMatched}
 use Rattle.acgrep.proofs.select.is_match.Goals as goal
 
