@@ -1,5 +1,5 @@
 -- What a refusal tells is the first mistake, or that memory ran out.
-use Rattle.std.proofs.Common.{◌≡◌, inl, inr, refl, sym, ◌∙◌, List, ℕ, Option, None, Some}
+use Rattle.std.proofs.Common.{◌≡◌, inl, inr, sym, ◌∙◌, List, ℕ, Option, None, Some}
 use Rattle.aho_devices.specs.declared.device.Sink.{Ghosts as SinkGhosts}
 use Rattle.programs.specs.declared.errors.Errors.{Errors}
 use Rattle.acgrep.specs.Arguments.{AreRefused, Said}

@@ -1,6 +1,6 @@
 -- The longest match that begins first tells whether a pattern is the whole line.
-use Rattle.std.proofs.Common.{◌==◌, ℕ, ap, subst, ◌∙◌}
-use Rattle.std.specs.Prelude.{Option, Some, None, ◌&&◌}
+use Rattle.std.proofs.Common.{subst}
+use Rattle.std.specs.Prelude.{Option, Some, None}
 use Rattle.aho_core.specs.Answer.{IsAnswer}
 use Rattle.aho_core.specs.Occurrence.{Occurrence}
 use Rattle.aho_core.specs.Search.{Search, plain_search}
