@@ -67,7 +67,7 @@ module _ (p : Patterns) (job : Job) where
 
   -- where it is not 0 a line is selected
   tells_some : (ls : List (List ℕ)) (place : Place) (count : ℕ) (bytes : List ℕ) (total : ℕ) → TellsOfLines p job place count ls bytes total → count ≡ 0 → 0 < total
-      → SomeLine (IsSelected p job.invert) ls
+      → SomeLine (IsSelected p job.whole job.invert) ls
   tells_some [] place count bytes total told zero some = absurd (omega (arith, told.1, zero, some))
   tells_some (line ∷ rest) place count bytes total (inl (full, none, same)) zero some = absurd (omega (arith, same, zero, some))
   tells_some (line ∷ rest) place count bytes total (inr (goes, inl (selected, told))) zero some = inl selected
@@ -75,7 +75,7 @@ module _ (p : Patterns) (job : Job) where
 
   -- and where it is, none
   tells_each : (ls : List (List ℕ)) (place : Place) (count : ℕ) (bytes : List ℕ) (total : ℕ) → TellsOfLines p job place count ls bytes total → total ≡ 0
-      → EachLine (IsPassedOver p job.invert) ls
+      → EachLine (IsPassedOver p job.whole job.invert) ls
   tells_each [] place count bytes total told zero = tt
   tells_each (line ∷ rest) place count bytes total (inl (full, none, same)) zero = absurd (omega (arith, full_some job.most count full, same, zero))
   tells_each (line ∷ rest) place count bytes total (inr (goes, inl (selected, (shown, more, shows, behind, is)))) zero =
@@ -83,7 +83,7 @@ module _ (p : Patterns) (job : Job) where
   tells_each (line ∷ rest) place count bytes total (inr (goes, inr (passed, behind))) zero = (passed, tells_each rest _ count bytes total behind zero)
 
   -- whether one is selected
-  tells_any : (ls : List (List ℕ)) (place : Place) (bytes : List ℕ) (total : ℕ) → TellsOfLines p job place 0 ls bytes total → IsAny p job.invert ls (nat_lt 0 total)
+  tells_any : (ls : List (List ℕ)) (place : Place) (bytes : List ℕ) (total : ℕ) → TellsOfLines p job place 0 ls bytes total → IsAny p job.whole job.invert ls (nat_lt 0 total)
   tells_any ls place bytes total told =
       elim (cases_Bool (nat_lt 0 total)) [
         | inl some ↦ rw some (tells_some ls place 0 bytes total told refl (ltb-true 0 total some))
@@ -127,7 +127,7 @@ module _ (p : Patterns) (job : Job) where
       record {
         text = text;
         of = of;
-        selected = subst (IsAny p job.invert (lines text)) (sym ends.is_any) (tells_any (lines text) job.first told count tells);
+        selected = subst (IsAny p job.whole job.invert (lines text)) (sym ends.is_any) (tells_any (lines text) job.first told count tells);
         bytes = told ++ total_if job.shown job.style count;
         tells = subst (λ (any : Bool). TellsBy p job job.shown text any (told ++ total_if job.shown job.style count)) (sym ends.is_any) (by_whole job.shown refl text told count tells);
         written = Appends-trans held meanwhile held' told (total_if job.shown job.style count) written ends.written;
@@ -135,7 +135,7 @@ module _ (p : Patterns) (job : Job) where
 
   -- a line was selected that told all
   file_front : (state : State) (known held meanwhile held' : Option (List ℕ)) (text told : List ℕ) (ls : List (List ℕ)) → IfSome known (λ (all : List ℕ). text ≡ all)
-      → TellsOfLines p job job.first 0 ls told state.selected → needs_one job.shown ≡ true → 0 < state.selected → (SomeLine (IsSelected p job.invert) ls → SomeLine (IsSelected p job.invert) (lines text))
+      → TellsOfLines p job job.first 0 ls told state.selected → needs_one job.shown ≡ true → 0 < state.selected → (SomeLine (IsSelected p job.whole job.invert) ls → SomeLine (IsSelected p job.whole job.invert) (lines text))
       → Appends held meanwhile told → (any : Bool) → EndsFile job state.selected meanwhile held' any → SearchesFile p job known held held' any × (any ≡ true)
   file_front state known held meanwhile held' text told ls of tells one some front written any ends =
       let count = state.selected in
@@ -144,7 +144,7 @@ module _ (p : Patterns) (job : Job) where
         record {
           text = text;
           of = of;
-          selected = subst (IsAny p job.invert (lines text)) (sym is) (front (tells_some ls job.first 0 told count tells refl some));
+          selected = subst (IsAny p job.whole job.invert (lines text)) (sym is) (front (tells_some ls job.first 0 told count tells refl some));
           bytes = total_if job.shown job.style count;
           tells = subst (λ (any : Bool). TellsBy p job job.shown text any (total_if job.shown job.style count)) (sym is) (by_front job.shown text count one some);
           written = subst (λ (l : List ℕ). Appends held held' (l ++ total_if job.shown job.style count)) none
@@ -175,7 +175,7 @@ module _ (p : Patterns) (job : Job) where
             }
         | inr (inl (one, some)) ↦ record {
           file = (file_front state left held meanwhile held' text tells.bytes to.searched known tells.told one some
-              (λ (is : SomeLine (IsSelected p job.invert) to.searched). subst (SomeLine (IsSelected p job.invert)) (sym same) (some_front (IsSelected p job.invert) to.searched (lines stream.searches.left) is))
+              (λ (is : SomeLine (IsSelected p job.whole job.invert) to.searched). subst (SomeLine (IsSelected p job.whole job.invert)) (sym same) (some_front (IsSelected p job.whole job.invert) to.searched (lines stream.searches.left) is))
               tells.written any ends).0;
           reads = read;
         }
@@ -202,7 +202,7 @@ module _ (p : Patterns) (job : Job) where
       elim settled [
         | inl (one, some) ↦
             let found = file_front state left held meanwhile held' text tells.bytes to.searched known tells.told one some
-            (λ (is : SomeLine (IsSelected p job.invert) to.searched). subst (SomeLine (IsSelected p job.invert)) (sym same) (some_front (IsSelected p job.invert) to.searched later is))
+            (λ (is : SomeLine (IsSelected p job.whole job.invert) to.searched). subst (SomeLine (IsSelected p job.whole job.invert)) (sym same) (some_front (IsSelected p job.whole job.invert) to.searched later is))
             tells.written any ends in
             record {
               file = found.0;

@@ -18,5 +18,6 @@ pub mod Streams
 pub mod StreamsBegun
 pub mod Tellings
 pub mod Unselected
+pub mod Whole
 pub mod WordLists
 mod Told

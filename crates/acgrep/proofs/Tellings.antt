@@ -11,7 +11,7 @@ use Rattle.acgrep.proofs.LineLists.{ends_drop}
 use Rattle.acgrep.specs.Lines.{lines}
 use Rattle.acgrep.specs.Objects.{objects_by}
 use Rattle.acgrep.specs.Printed.{WritesColored, color_of, colored_from, colored_line_by, head_of, match_by, matches_by, line_number_at, offset_at, painted, part_of}
-use Rattle.acgrep.specs.Written.{EachLine, EndsLine, HasMatch, HasNone, IsPassedOver, IsSelected, IsSettled, LineOf, SamePlace, SearchesTo, ShowsBy, TellsOfLines, TellsLines, WritesLine, WritesNext, after_line, after_lines, is_full, is_numbered, next_count, one_more, place_behind}
+use Rattle.acgrep.specs.Written.{EachLine, EndsLine, HasNone, IsMatched, IsPassedOver, IsSelected, IsSettled, LineOf, DoesMatch, DoesNotMatch, SamePlace, SearchesTo, ShowsBy, TellsOfLines, TellsLines, WritesLine, WritesNext, after_line, after_lines, is_full, is_numbered, next_count, one_more, place_behind, selects}
 use Rattle.acgrep.specs.declared.options.Shown.{Shown}
 use Rattle.acgrep.specs.declared.options.Shown.TheVariants.{Lines, Matches, Objects, Count, Names, Lacking, Nothing}
 use Rattle.acgrep.specs.declared.print.Place.{Place}
@@ -189,6 +189,24 @@ tells_full p job ls ms place count total bytes full told =
     subst (λ (l : List ℕ). TellsOfLines p job place count (ls ++ ms) l total) (append-nil bytes)
     (tells_append p job ls ms place count total total bytes [] told (full_tells p job ms (after_lines place ls) total full))
 
+-- where no pattern occurs none is the whole line either
+pub none_matches : (p : Patterns) (whole : Bool) (line : List ℕ) → HasNone p line → DoesNotMatch p whole line
+none_matches p true line none = λ m occurs start end. none m occurs
+none_matches p false line none = none
+
+-- a line is selected by whether it matches
+pub selected_by : (p : Patterns) (whole invert matched : Bool) (line : List ℕ) → IsMatched p whole line matched → selects matched invert ≡ true → IsSelected p whole invert line
+selected_by p whole false true line is selects = is
+selected_by p whole false false line is selects = absurd (cc)
+selected_by p whole true true line is selects = absurd (cc)
+selected_by p whole true false line is selects = is
+
+pub passed_by : (p : Patterns) (whole invert matched : Bool) (line : List ℕ) → IsMatched p whole line matched → selects matched invert ≡ false → IsPassedOver p whole invert line
+passed_by p whole false true line is passes = absurd (cc)
+passed_by p whole false false line is passes = is
+passed_by p whole true true line is passes = is
+passed_by p whole true false line is passes = absurd (cc)
+
 -- where no pattern occurs in any line, and such lines are not selected, nothing is written
 tells_passed : (p : Patterns) (job : Job) (ls : List (List ℕ)) (place : Place) (count : ℕ) → job.invert ≡ false → EachLine (HasNone p) ls → TellsOfLines p job place count ls [] count
 tells_passed p job [] place count plain each = (refl, refl)
@@ -197,13 +215,13 @@ tells_passed p job (line ∷ rest) place count plain (none, each) =
       | inl full ↦ inl (full, refl, refl)
       | inr goes ↦ inr (
         goes,
-        inr (subst (λ (b : Bool). MatchBool b (HasMatch p line) (HasNone p line)) (sym plain) none, tells_passed p job rest (after_line place line) count plain each),
+        inr (subst (λ (b : Bool). MatchBool b (DoesMatch p job.whole line) (DoesNotMatch p job.whole line)) (sym plain) (none_matches p job.whole line none), tells_passed p job rest (after_line place line) count plain each),
       )
     ]
 
 module _ (p : Patterns) (job : Job) where
   -- a line that is selected
-  pub one_selected : (before after : State) (old new : Option (List ℕ)) (line : List ℕ) → IsSelected p job.invert line → after.selected ≡ next_count job.most before.selected
+  pub one_selected : (before after : State) (old new : Option (List ℕ)) (line : List ℕ) → IsSelected p job.whole job.invert line → after.selected ≡ next_count job.most before.selected
       → WritesNext p job before old new line → TellsLines p job before after old new (line ∷ [])
   one_selected before after old new line selected counted writes =
       elim (cases_Bool (is_full job.most before.selected)) [
@@ -226,7 +244,7 @@ module _ (p : Patterns) (job : Job) where
       ]
 
   -- a line that is not
-  pub one_passed : (before after : State) (old new : Option (List ℕ)) (line : List ℕ) → IsPassedOver p job.invert line → after.selected ≡ before.selected
+  pub one_passed : (before after : State) (old new : Option (List ℕ)) (line : List ℕ) → IsPassedOver p job.whole job.invert line → after.selected ≡ before.selected
       → new ≡ old → TellsLines p job before after old new (line ∷ [])
   one_passed before after old new line passed counted unwritten = record {
     bytes = [];
@@ -330,7 +348,8 @@ pub passing_step : (p : Patterns) (job : Job) (a b c : State) (x y z : Option (L
     → c.place ≡ after_line b.place line → c.selected ≡ next_count job.most b.selected → WritesNext p job b y z line → Passing p job a b x y text rest → Passing p job a c x z text left
 passing_step p job a b c x y z text rest line left invert first placed counted writes so_far =
     let each : EachLine (HasNone p) (line ∷ lines left) = subst (EachLine (HasNone p)) first so_far.each in
-    let selected : IsSelected p job.invert line = subst (λ (b : Bool). MatchBool b (HasNone p line) (HasMatch p line)) (sym invert) each.0 in
+    let selected : IsSelected p job.whole job.invert line =
+    subst (λ (b : Bool). MatchBool b (DoesNotMatch p job.whole line) (DoesMatch p job.whole line)) (sym invert) (none_matches p job.whole line each.0) in
     let there : SamePlace job b.place (after_lines a.place so_far.searched) = subst (λ (place : Place). SamePlace job b.place place) so_far.placed (same_place job b.place) in
     record {
       searched = so_far.searched ++ (line ∷ []);

@@ -14,7 +14,7 @@ use Rattle.acgrep.specs.Arguments.{Origin, origin_of}
 use Rattle.programs.specs.Names.{is_input}
 use Rattle.acgrep.specs.Lines.{IsNewline, joined_to, lines}
 use Rattle.acgrep.specs.Loading.{AddsText, AddsWords}
-use Rattle.acgrep.specs.Runs.{AreWords, asks_none, origins_of, words_sought}
+use Rattle.acgrep.specs.Runs.{AreWords, asks_none, kind_sought, origins_of, words_sought}
 use Rattle.acgrep.specs.Searchers.{patterns_asked}
 use Rattle.acgrep.specs.Selected.{HoldNoNewline}
 use Rattle.acgrep.specs.Written.{EachLine, EndsLine}
@@ -100,8 +100,8 @@ sought_by : (none : Bool) (kind : MatchKind) (ignore_case : Bool) (text : List �
 sought_by true kind ignore_case text number place low within = absurd (omega (arith, low))
 sought_by false kind ignore_case text number place low within = lines_plain kind ignore_case text number place low within
 
-pub sought_plain : (flags : Flags) (text : List ℕ) → HoldNoNewline (patterns_asked flags.kind flags.ignore_case (words_sought flags (lines text)))
-sought_plain flags text = sought_by (asks_none flags.most) flags.kind flags.ignore_case text
+pub sought_plain : (flags : Flags) (text : List ℕ) → HoldNoNewline (patterns_asked (kind_sought flags) flags.ignore_case (words_sought flags (lines text)))
+sought_plain flags text = sought_by (asks_none flags.most) (kind_sought flags) flags.ignore_case text
 
 module _ (holds : List ℕ → Option (List ℕ)) where
   -- all that a reader has of a file that is known

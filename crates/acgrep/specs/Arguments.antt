@@ -13,7 +13,7 @@ use Rattle.acgrep.specs.declared.long.Valued.{Valued}
 use Rattle.acgrep.specs.declared.long.Valued.TheVariants.{Regexp, PatternFile, Kind, Offset, FirstLine, MaxCount}
 use Rattle.acgrep.specs.declared.options.Color.{Color}
 use Rattle.acgrep.specs.declared.options.Switch.{Switch}
-use Rattle.acgrep.specs.declared.options.Switch.TheVariants.{IgnoreCase, MatchCase, Invert, Counts, Numbers, OnlyMatching, Offsets, OnlyNames, OnlyLacking, NullNames, Quiet, Json, NoName, WithName, NoMatchOk, NoMessages, Help, Version, Same}
+use Rattle.acgrep.specs.declared.options.Switch.TheVariants.{IgnoreCase, MatchCase, Invert, WholeLines, Counts, Numbers, OnlyMatching, Offsets, OnlyNames, OnlyLacking, NullNames, Quiet, Json, NoName, WithName, NoMatchOk, NoMessages, Help, Version, Same}
 use Rattle.acgrep.specs.declared.arguments.Awaited.{Awaited}
 use Rattle.acgrep.specs.declared.arguments.Awaited.TheVariants.{Fresh, Argument, Operands}
 use Rattle.acgrep.specs.declared.arguments.Refusal.{Refusal}
@@ -53,6 +53,7 @@ abbrev pub switch_by : ℕ → Option Switch
 switch_by letter =
     if letter == 105 || letter == 121 then Some IgnoreCase
     else if letter == 118 then Some Invert
+    else if letter == 120 then Some WholeLines
     else if letter == 99 then Some Counts
     else if letter == 110 then Some Numbers
     else if letter == 111 then Some OnlyMatching
@@ -73,6 +74,7 @@ abbrev pub switched : Switch → Flags → Flags
 switched IgnoreCase flags = record flags { ignore_case = true }
 switched MatchCase flags = record flags { ignore_case = false }
 switched Invert flags = record flags { invert = true }
+switched WholeLines flags = record flags { whole = true }
 switched Counts flags = record flags { count = true }
 switched Numbers flags = record flags { number = true }
 switched OnlyMatching flags = record flags { only_matching = true }
@@ -232,6 +234,7 @@ abbrev pub no_flags : Flags
 no_flags = record {
   ignore_case = false;
   invert = false;
+  whole = false;
   count = false;
   number = false;
   only_matching = false;

@@ -14,6 +14,7 @@ use Rattle.acgrep.specs.declared.arguments.Awaited.{Awaited}
 use Rattle.acgrep.specs.declared.arguments.Awaited.TheVariants.{Fresh, Argument, Operands}
 use Rattle.acgrep.specs.declared.arguments.Refusal.{Refusal}
 use Rattle.acgrep.specs.declared.arguments.Refusal.TheVariants.{Wrong, OutOfMemory}
+use Rattle.acgrep.specs.declared.arguments.Wrong.TheVariants.{NoPattern}
 use Rattle.acgrep.specs.declared.long.Found.{Found}
 use Rattle.acgrep.specs.declared.long.Found.TheVariants.{Unknown, Begun, Several, Whole}
 use Rattle.acgrep.specs.declared.long.Long.{Long}
@@ -133,3 +134,11 @@ module _ {E : Type 0} (K : SinkGhosts E) where
   abbrev pub TellsMistake : List (List ℕ) → Errors E → Errors E → Type 0
   TellsMistake arguments old new =
       TellsBytes K old new memory_line ⊎ ((parts : List (List ℕ)) × (mistake_by arguments ≡ Some parts) × TellsBytes K old new (concat parts))
+
+  -- that there is no pattern
+  abbrev pub TellsNoPattern : Errors E → Errors E → Type 0
+  TellsNoPattern old new = TellsWrong K NoPattern old new
+
+  -- or that memory ran out
+  abbrev pub TellsLacking : Errors E → Errors E → Type 0
+  TellsLacking old new = TellsBytes K old new memory_line ⊎ TellsNoPattern old new

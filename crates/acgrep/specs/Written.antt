@@ -24,13 +24,37 @@ HasMatch p line = (m : Occurrence) × OccursIn p (plain_search line) m
 abbrev pub HasNone : Patterns → List ℕ → Type 0
 HasNone p line = (m : Occurrence) → OccursIn p (plain_search line) m → ⊥
 
--- a line is selected where a pattern occurs in it, or under `invert` where none does
-abbrev pub IsSelected : Patterns → Bool → List ℕ → Type 0
-IsSelected p invert line = MatchBool invert (HasNone p line) (HasMatch p line)
+-- a pattern is the whole line
+abbrev pub HasWhole : Patterns → List ℕ → Type 0
+HasWhole p line = (m : Occurrence) × OccursIn p (plain_search line) m × (m.start ≡ 0) × (m.end ≡ length line)
+
+-- none is
+abbrev pub HasNoWhole : Patterns → List ℕ → Type 0
+HasNoWhole p line = (m : Occurrence) → OccursIn p (plain_search line) m → m.start ≡ 0 → m.end ≡ length line → ⊥
+
+-- a line matches where a pattern occurs in it, or where whole lines are asked for, where a pattern is the line
+abbrev pub DoesMatch : Patterns → Bool → List ℕ → Type 0
+DoesMatch p whole line = MatchBool whole (HasWhole p line) (HasMatch p line)
+
+abbrev pub DoesNotMatch : Patterns → Bool → List ℕ → Type 0
+DoesNotMatch p whole line = MatchBool whole (HasNoWhole p line) (HasNone p line)
+
+-- whether it does
+abbrev pub IsMatched : Patterns → Bool → List ℕ → Bool → Type 0
+IsMatched p whole line matched = MatchBool matched (DoesMatch p whole line) (DoesNotMatch p whole line)
+
+-- a line is selected where it matches, or under `invert` where it does not
+abbrev pub IsSelected : Patterns → (whole invert : Bool) → List ℕ → Type 0
+IsSelected p whole invert line = MatchBool invert (DoesNotMatch p whole line) (DoesMatch p whole line)
 
 -- any other line is passed over
-abbrev pub IsPassedOver : Patterns → Bool → List ℕ → Type 0
-IsPassedOver p invert line = MatchBool invert (HasMatch p line) (HasNone p line)
+abbrev pub IsPassedOver : Patterns → (whole invert : Bool) → List ℕ → Type 0
+IsPassedOver p whole invert line = MatchBool invert (DoesMatch p whole line) (DoesNotMatch p whole line)
+
+-- whether a line is selected, by whether it matches
+abbrev pub selects : Bool → Bool → Bool
+selects matched false = matched
+selects matched true = not matched
 
 -- each line is so
 abbrev pub EachLine : (List ℕ → Type 0) → List (List ℕ) → Type 0
@@ -108,8 +132,8 @@ abbrev pub TellsOfLines : Patterns → Job → Place → ℕ → List (List ℕ)
 TellsOfLines p job place count [] bytes total = (bytes ≡ []) × (total ≡ count)
 TellsOfLines p job place count (line ∷ rest) bytes total =
     ((is_full job.most count ≡ true) × (bytes ≡ []) × (total ≡ count))
-    ⊎ ((is_full job.most count ≡ false) × ((IsSelected p job.invert line × ((shown : List ℕ) × (more : List ℕ) × ShowsLine p job place line shown × TellsOfLines p job (after_line place line) (one_more count) rest more total × (bytes ≡ shown ++ more)))
-    ⊎ (IsPassedOver p job.invert line × TellsOfLines p job (after_line place line) count rest bytes total)))
+    ⊎ ((is_full job.most count ≡ false) × ((IsSelected p job.whole job.invert line × ((shown : List ℕ) × (more : List ℕ) × ShowsLine p job place line shown × TellsOfLines p job (after_line place line) (one_more count) rest more total × (bytes ≡ shown ++ more)))
+    ⊎ (IsPassedOver p job.whole job.invert line × TellsOfLines p job (after_line place line) count rest bytes total)))
 
 -- what is asked of a selected line is written, or nothing where so many are selected before it
 abbrev pub WritesNext : Patterns → Job → State → Option (List ℕ) → Option (List ℕ) → List ℕ → Type 0
@@ -192,7 +216,7 @@ pub record BeginsLine (p : Patterns) (job : Job) (place : Place) (old new : Opti
 abbrev pub StartsNext : Patterns → Job → Place → ℕ → List (List ℕ) → List ℕ → Type 0
 StartsNext p job place count [] begun = begun ≡ []
 StartsNext p job place count (line ∷ rest) begun =
-    (begun ≡ []) ⊎ ((is_full job.most count ≡ false) × IsSelected p job.invert line × StartsLine p job place line begun)
+    (begun ≡ []) ⊎ ((is_full job.most count ≡ false) × IsSelected p job.whole job.invert line × StartsLine p job place line begun)
 
 -- what is told of some first ones of these lines is written, and then no more than a beginning of what is shown of the next;
 -- `count` is how many lines were selected then

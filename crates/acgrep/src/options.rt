@@ -44,6 +44,8 @@ pub enum Switch {
     MatchCase,
     /// `-v`
     Invert,
+    /// `-x`
+    WholeLines,
     /// `-c`
     Counts,
     /// `-n`
@@ -85,6 +87,7 @@ pub fn switch_of(letter: u8) -> Option<Switch>
     match letter {
         b'i' | b'y' => Some(Switch::IgnoreCase),
         b'v' => Some(Switch::Invert),
+        b'x' => Some(Switch::WholeLines),
         b'c' => Some(Switch::Counts),
         b'n' => Some(Switch::Numbers),
         b'o' => Some(Switch::OnlyMatching),
@@ -109,6 +112,8 @@ pub struct Flags {
     pub ignore_case: bool,
     /// `-v`: the lines without a match are selected.
     pub invert: bool,
+    /// `-x`: a line matches where a pattern is the whole line.
+    pub whole: bool,
     /// `-c`: lines are counted.
     pub count: bool,
     /// `-n`: the number of a line stands before it.
@@ -159,6 +164,7 @@ impl Flags {
         Flags {
             ignore_case: false,
             invert: false,
+            whole: false,
             count: false,
             number: false,
             only_matching: false,
@@ -211,6 +217,7 @@ impl Flags {
             Switch::IgnoreCase => flags.ignore_case = true,
             Switch::MatchCase => flags.ignore_case = false,
             Switch::Invert => flags.invert = true,
+            Switch::WholeLines => flags.whole = true,
             Switch::Counts => flags.count = true,
             Switch::Numbers => flags.number = true,
             Switch::OnlyMatching => flags.only_matching = true,

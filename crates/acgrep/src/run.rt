@@ -10,9 +10,9 @@ ghost use Rattle.acgrep.specs.Arguments.{said, said_by};
 ghost use Rattle.programs.specs.Names.{name_bytes};
 ghost use Rattle.programs.specs.Telling.{Tells, TellsSome};
 ghost use Rattle.acgrep.specs.Told.{MayTell, TellsCause, TellsOfCall, TellsOfFiles, TellsOfSearch, TellsOfText, TellsRefusal, is_hushed, names_said};
-ghost use Rattle.acgrep.specs.Mistakes.{TellsMistake, TellsRefused};
+ghost use Rattle.acgrep.specs.Mistakes.{TellsLacking, TellsMistake, TellsNoPattern, TellsRefused};
 ghost use Rattle.acgrep.specs.Files.{AreFilesBegun, AreSearchedOr, files_named};
-ghost use Rattle.acgrep.specs.Runs.{AsksToSearch, BeginsSearch, BeginsFor, GivesNone, IfSaid, IsJob, Searches, SearchesFor, SearchesSaid, are_empty, asks_none, inverts, is_colored, knows_none, origins_of, selects_none, status_told, words_sought};
+ghost use Rattle.acgrep.specs.Runs.{AsksToSearch, BeginsSearch, BeginsFor, GivesNone, IfSaid, IsJob, Searches, SearchesFor, SearchesSaid, are_empty, asks_none, inverts, is_colored, kind_sought, knows_none, origins_of, selects_none, status_told, words_sought};
 ghost use Rattle.acgrep.specs.Searchers.{IsSearcherOf};
 ghost use Rattle.acgrep.specs.Selected.{ForLines};
 
@@ -27,7 +27,7 @@ use crate::print::{Place, Style};
 use crate::searcher::Searcher;
 use crate::select::Job;
 use crate::tell::{tell_memory, tell_write, tell_wrong};
-use chromesquid::{Sink, write_whole};
+use chromesquid::{MatchKind, Sink, write_whole};
 use programs::errors::Errors;
 use programs::failure::Failure;
 use std::alloc::Global;
@@ -54,9 +54,11 @@ pub fn run<F: Open, R: Read, W: Sink, E: Sink>(
     ensures unwritten { said_by (texts arguments.now) ≡ None
         → Keeps (W.taken output.old) (W.taken output.new) }
 
-    // A search needs a pattern.
+    // A search needs a pattern, and where there is none that is told.
     ensures patternless { IfSaid arguments.now (λ said. AsksToSearch said.flags → GivesNone said
         → result ≡ 2) }
+    ensures lacking { IfSaid arguments.now (λ said. AsksToSearch said.flags → GivesNone said
+        → TellsLacking E.Sink errors.old errors.new) }
 
     // Where the status tells of no error, the patterns were searched for in the files, one after another.
     ensures searches { IfSaid arguments.now (λ said. AsksToSearch said.flags → result < 2
@@ -150,6 +152,8 @@ fn answer<F: Open, R: Read, W: Sink, E: Sink>(
 ) -> u8
     ensures bound { result ≤ 2 }
     ensures patternless { AsksToSearch given.now.flags → GivesNone (said given.now) → result ≡ 2 }
+    ensures lacking { AsksToSearch given.now.flags → GivesNone (said given.now)
+        → TellsNoPattern E.Sink errors.old errors.new }
     ensures searches { AsksToSearch given.now.flags → result < 2
         → Searches (F.holds files.now) terminal (said given.now)
         (R.remaining input.old) (R.remaining input.new)
@@ -191,6 +195,8 @@ fn search_asked<F: Open, R: Read, W: Sink, E: Sink>(
 ) -> u8
     ensures bound { result ≤ 2 }
     ensures patternless { GivesNone (said given.now) → result ≡ 2 }
+    ensures lacking { GivesNone (said given.now)
+        → TellsNoPattern E.Sink errors.old errors.new }
     ensures searches { result < 2 → SearchesSaid (F.holds files.now) terminal (said given.now)
         (R.remaining input.old) (R.remaining input.new)
         (W.taken output.old) (W.taken output.new) result }
@@ -280,7 +286,7 @@ fn search<F: Open, R: Read, W: Sink, E: Sink>(
         names,
         files,
     };
-    match Searcher::build(alloc, flags.kind, flags.ignore_case, words) {
+    match Searcher::build(alloc, kind_sought(flags), flags.ignore_case, words) {
         Ok(searcher) => search_by(&searcher, &job, &named, input, output, errors),
         Err(error) => {
             tell_refusal(&keys, sources, &error, errors);
@@ -337,6 +343,17 @@ fn asks_none(most: Option<u64>) -> bool
     }
 }
 
+/// The match kind that is searched by. Where whole lines are asked for, the longest match tells whether a pattern is the line.
+fn kind_sought(flags: &Flags) -> MatchKind
+    ensures { result ≡ kind_sought flags.now }
+{
+    if flags.whole {
+        MatchKind::LeftmostLongest
+    } else {
+        flags.kind
+    }
+}
+
 /// Whether the lines without a match are selected.
 fn inverts(flags: &Flags) -> bool
     ensures { result ≡ inverts flags.now }
@@ -349,17 +366,17 @@ fn inverts(flags: &Flags) -> bool
 fn knows_none(flags: &Flags, patterns: &[&[u8]]) -> bool
     ensures { result ≡ knows_none flags.now (pieces_of patterns.now) }
 {
-    (flags.quiet || !flags.lacking) && selects_none(patterns, inverts(flags))
+    (flags.quiet || !flags.lacking) && selects_none(patterns, flags.whole, inverts(flags))
 }
 
-/// Whether no line is selected, whatever it holds: there is no pattern, or `-v` is given and all are empty.
-fn selects_none(patterns: &[&[u8]], invert: bool) -> bool
-    ensures { result ≡ selects_none invert (pieces_of patterns.now) }
+/// Whether no line is selected, whatever it holds: there is no pattern, or `-v` is given without `-x` and all are empty.
+fn selects_none(patterns: &[&[u8]], whole: bool, invert: bool) -> bool
+    ensures { result ≡ selects_none whole invert (pieces_of patterns.now) }
 {
     if patterns.is_empty() {
         return !invert;
     }
-    invert && are_empty(patterns)
+    invert && !whole && are_empty(patterns)
 }
 
 /// Whether all patterns are empty.
@@ -383,6 +400,7 @@ fn job_of(flags: &Flags, terminal: bool, count: usize) -> Job<'static>
     Job {
         shown: flags.shown(),
         invert: inverts(flags),
+        whole: flags.whole,
         style: Style {
             name: b"",
             with_name: has_name(flags.with_name, count),

@@ -2,13 +2,13 @@
 use Rattle.std.proofs.Common.{false, ◌≡◌, ◌<◌, ◌≤◌, ◌∙◌, Option, Some, ap, ℕ, inl, inr, arith, subst, sym}
 use Rattle.programs.specs.Arguments.{texts}
 use Rattle.acgrep.specs.Arguments.{Said, said, said_by, shown_by}
-use Rattle.acgrep.specs.Runs.{AsksToSearch, BeginsSearch, Searches}
+use Rattle.acgrep.specs.Runs.{AsksToSearch, BeginsSearch, GivesNone, Searches}
 use Rattle.acgrep.proofs.Kept.{begins_held, same_said, searches_kept}
 use Rattle.programs.specs.Telling.{Tells, TellsSome}
 use Rattle.programs.proofs.Lines.{some-tells}
 use Rattle.acgrep.specs.Told.{MayTell, is_hushed, names_said}
-use Rattle.acgrep.specs.Mistakes.{TellsMistake}
-use Rattle.acgrep.proofs.Mistaken.{mistake-told}
+use Rattle.acgrep.specs.Mistakes.{TellsLacking, TellsMistake, TellsNoPattern}
+use Rattle.acgrep.proofs.Mistaken.{mistake-told, refused-lacking}
 use Rattle.acgrep.proofs.Told.{finished, not-quiet}
 use Rattle.acgrep.proofs.run.run.Goals as goal
 
@@ -92,3 +92,17 @@ returns-in-Err-clause-mistake g c wrong =
     let arguments = texts c.args.arguments.now in
     subst (TellsMistake g.E.Sink arguments c.args.errors.now) (sym (c.finish-in-Err.ensures.told_before (omega arith)))
     (mistake-told g.E.Sink arguments c.in-Err.refusal c.args.errors.now c.tell_refused.new.errors c.in-Err.ensures.wrong c.tell_refused.ensures.exact)
+
+pub returns-in-Ok-clause-lacking : goal.returns-in-Ok-clause-lacking
+returns-in-Ok-clause-lacking g c given is asks none =
+    let same : said c.in-Ok.given ≡ given = same_said (said_by (texts c.args.arguments.now)) given (said c.in-Ok.given) is c.in-Ok.ensures.read in
+    let asks' = subst (λ (s : Said). AsksToSearch s.flags) (sym same) asks in
+    let none' = subst GivesNone (sym same) none in
+    let two : c.answer-status.result ≡ 2 = c.answer-status.ensures.patternless asks' none' in
+    inr (subst (TellsNoPattern g.E.Sink c.args.errors.now) (sym (c.finish.ensures.told_before (omega (arith, two)))) (c.answer-status.ensures.lacking asks' none'))
+
+pub returns-in-Err-clause-lacking : goal.returns-in-Err-clause-lacking
+returns-in-Err-clause-lacking g c given is asks none =
+    let arguments = texts c.args.arguments.now in
+    subst (TellsLacking g.E.Sink c.args.errors.now) (sym (c.finish-in-Err.ensures.told_before (omega arith)))
+    (refused-lacking g.E.Sink (said_by arguments) given c.in-Err.refusal c.args.errors.now c.tell_refused.new.errors is c.in-Err.ensures.refused c.tell_refused.ensures.exact)

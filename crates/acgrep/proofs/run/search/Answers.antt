@@ -5,7 +5,7 @@ use Rattle.std.proofs.lemmas.Bool.{and_parts}
 use Rattle.std.proofs.lemmas.List.{length-map}
 use Rattle.aho_core.specs.Replacement.{pieces_of}
 use Rattle.acgrep.specs.Lines.{lines}
-use Rattle.acgrep.specs.Runs.{IsJob, inverts, knows_none, origins_of, words_sought}
+use Rattle.acgrep.specs.Runs.{IsJob, inverts, kind_sought, knows_none, origins_of, words_sought}
 use Rattle.acgrep.specs.Searchers.{patterns_asked}
 use Rattle.acgrep.proofs.Unselected.{none_selected}
 use Rattle.acgrep.proofs.WordLists.{sought_plain}
@@ -21,8 +21,8 @@ use Rattle.acgrep.proofs.run.search.Goals as goal
 pub search_by-requires : goal.search_by-requires
 search_by-requires g c =
     let flags = c.args.flags.now in
-    let asked = patterns_asked flags.kind flags.ignore_case (pieces_of c.sought-words.result.now) in
-    record { of = (asked, c.in-Ok-build.ensures.of asked refl (record { words_are = refl; rule = refl })) }
+    let asked = patterns_asked (kind_sought flags) flags.ignore_case (pieces_of c.sought-words.result.now) in
+    record { of = (asked, c.in-Ok-build.ensures.of asked (sym c.kind_sought.ensures) (record { words_are = refl; rule = refl })) }
 
 pub returns-in-Ok-build-clause-searches : goal.returns-in-Ok-build-clause-searches
 returns-in-Ok-build-clause-searches g c low =
@@ -31,7 +31,7 @@ returns-in-Ok-build-clause-searches g c low =
     let sought = words_sought flags (lines text) in
     let same : pieces_of c.sought-words.result.now ≡ sought =
     c.sought-words.ensures.words ∙ ap (words_sought flags) (ap pieces_of c.as_slice-all.ensures.value ∙ c.in-Ok.ensures.lines ∙ ap lines c.as_slice.ensures.value) in
-    let asked = patterns_asked flags.kind flags.ignore_case sought in
+    let asked = patterns_asked (kind_sought flags) flags.ignore_case sought in
     let some : knows_none flags sought ≡ false = ap (knows_none flags) (sym same) ∙ sym c.knows_none.ensures ∙ c.if-knows_none.false in
     record {
       words = lines text;
@@ -40,7 +40,7 @@ returns-in-Ok-build-clause-searches g c low =
       searched = rw some (record {
         job = c.job_of-job.result;
         is_job = subst (λ (count : ℕ). IsJob flags c.args.terminal count c.job_of-job.result) (sym (length-map c.args.names.now (λ name. name.now))) c.job_of-job.ensures.job;
-        searched = c.search_by.ensures.searched asked (c.in-Ok-build.ensures.of asked refl (record { words_are = sym same; rule = refl })) (sought_plain flags text) low;
+        searched = c.search_by.ensures.searched asked (c.in-Ok-build.ensures.of asked (sym c.kind_sought.ensures) (record { words_are = sym same; rule = refl })) (sought_plain flags text) low;
       });
     }
 
@@ -57,7 +57,7 @@ returns-then-knows_none-clause-searches g c low =
       between = g.R.Read.remaining c.read_keys.new.input;
       read = c.in-Some.ensures.words;
       searched = rw none (record {
-        passed = none_selected (patterns_asked flags.kind flags.ignore_case sought) (inverts flags) sought refl (and_parts _ _ none).1;
+        passed = none_selected (patterns_asked (kind_sought flags) flags.ignore_case sought) flags.whole (inverts flags) sought refl (and_parts _ _ none).1;
         unread = refl;
         unwritten = Keeps-refl (g.W.Sink.taken c.args.output.now);
         none = refl;
@@ -71,14 +71,14 @@ returns-in-Ok-build-clause-begins g c =
     let sought = words_sought flags (lines text) in
     let same : pieces_of c.sought-words.result.now ≡ sought =
     c.sought-words.ensures.words ∙ ap (words_sought flags) (ap pieces_of c.as_slice-all.ensures.value ∙ c.in-Ok.ensures.lines ∙ ap lines c.as_slice.ensures.value) in
-    let asked = patterns_asked flags.kind flags.ignore_case sought in
+    let asked = patterns_asked (kind_sought flags) flags.ignore_case sought in
     inr (record {
       words = lines text;
       between = g.R.Read.remaining c.read_keys.new.input;
       read = c.in-Some.ensures.words;
       job = c.job_of-job.result;
       is_job = subst (λ (count : ℕ). IsJob flags c.args.terminal count c.job_of-job.result) (sym (length-map c.args.names.now (λ name. name.now))) c.job_of-job.ensures.job;
-      begun = c.search_by.ensures.begun asked (c.in-Ok-build.ensures.of asked refl (record { words_are = sym same; rule = refl })) (sought_plain flags text);
+      begun = c.search_by.ensures.begun asked (c.in-Ok-build.ensures.of asked (sym c.kind_sought.ensures) (record { words_are = sym same; rule = refl })) (sought_plain flags text);
     })
 
 pub returns-in_default-clause-begins : goal.returns-in_default-clause-begins

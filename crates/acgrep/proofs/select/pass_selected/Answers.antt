@@ -1,7 +1,6 @@
 -- Of the line a beginning is written, or nothing.
-use Rattle.std.proofs.Common.{rules, ◌≡◌, Bool, ℕ, refl, subst, sym, ap, ◌∙◌}
-use Rattle.std.specs.Prelude.{MatchBool, OnOk, if◌then◌else◌}
-use Rattle.std.proofs.lemmas.Result.{on_ok_weaker}
+use Rattle.std.proofs.Common.{rules, ◌≡◌, Bool, refl, subst, sym, ap, ◌∙◌}
+use Rattle.std.specs.Prelude.{MatchBool, if◌then◌else◌}
 use Rattle.acgrep.specs.Written.{WritesLine, is_full, one_more}
 use Rattle.acgrep.proofs.Beginnings.{begins_one, on_err}
 use Rattle.acgrep.proofs.select.pass_selected.Goals as goal
