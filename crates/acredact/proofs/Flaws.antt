@@ -1,5 +1,5 @@
 -- Why a piece is not clean, and that it is clean where nothing is found.
-use Rattle.std.proofs.Common.{◌≡◌, inl, inr, ℕ, zero, suc, ◌+◌, ◌-◌, ◌<◌, ◌≤◌, List, [], ◌∷◌, ◌++◌, Option, true, false, length, get_or, set, refl, sym, ap, subst, ◌∙◌, arith, length-append}
+use Rattle.std.proofs.Common.{◌≡◌, inl, inr, ℕ, zero, suc, ◌+◌, ◌-◌, ◌<◌, ◌≤◌, List, [], ◌∷◌, ◌++◌, Option, true, false, length, get_or, set, refl, sym, ap, subst, ◌∙◌, arith, length-append, map}
 use Rattle.std.specs.Prelude.{Bool, IfNone, IfSome, None, Some}
 use Rattle.std.specs.Borrow.{Bor}
 use Rattle.std.proofs.Math.Seq.{get_or-append_seam}
@@ -18,6 +18,8 @@ use Rattle.aho_laws.specs.CutLaws.{NoneHolds}
 use Rattle.programs.specs.Asked.{ArePatterns}
 use Rattle.acredact.specs.Pieces.{WordsAreMarked, HoldNone, HoldsByte, IsFlaw, IsHolder, IsMarked, IsUnclean}
 use Rattle.acredact.specs.Secrets.{NoneOccurs}
+use Rattle.acredact.specs.Tables.{piece_by, secret_of, secrets_of}
+use Rattle.acredact.specs.declared.patterns.Rule.{Rule}
 use Rattle.acredact.specs.declared.clean.Flaw.{Flaw}
 use Rattle.acredact.specs.declared.clean.Flaw.TheVariants.{Empty, Spells}
 
@@ -146,6 +148,12 @@ piece_is pieces at d below = get_or-map (λ piece. piece.now) pieces at d [] bel
 
 pub pieces_count : (pieces : List (Bor (List ℕ))) → length (pieces_of pieces) ≡ length pieces
 pieces_count pieces = length-map pieces (λ piece. piece.now)
+
+-- that of a rule
+pub rule_piece : (rules : List Rule) (usual : List ℕ) (at : ℕ) (d : Rule) → at < length rules → get_or (map (piece_by usual) (secrets_of rules)) at [] ≡ piece_by usual (secret_of (get_or rules at d))
+rule_piece rules usual at d below =
+    get_or-map (piece_by usual) (secrets_of rules) at (secret_of d) [] (subst (λ (n : ℕ). at < n) (sym (length-map rules secret_of)) below)
+    ∙ ap (piece_by usual) (get_or-map secret_of rules at d (secret_of d) below)
 
 -- the first that is not clean
 pub unclean_at : (p : Patterns) (pieces : List (List ℕ)) (at : ℕ) (piece : List ℕ) (flaw : Flaw) → at < length p.words → ((other : ℕ) → other < at → IsCleanPiece p (get_or pieces other [])) → get_or pieces at [] ≡ piece

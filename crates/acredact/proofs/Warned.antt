@@ -5,6 +5,7 @@ use Rattle.std.specs.List.{All, concat}
 use Rattle.std.specs.declared.io.traits.Read.{Ghosts as Readers}
 use Rattle.std.specs.declared.io.traits.Write.{Ghosts as Writers}
 use Rattle.std.proofs.lemmas.List.Elements.{All-append, All-cons, All-head, All-nil, All-tail}
+use Rattle.aho_core.specs.Patterns.{Patterns}
 use Rattle.aho_devices.specs.declared.device.Sink.{Ghosts as SinkGhosts}
 use Rattle.programs.specs.Streams.{bytes_left}
 use Rattle.programs.specs.Telling.{Tells, TellsBytes, TellsSome}
@@ -16,7 +17,7 @@ use Rattle.acredact.specs.Calls.{Call, CallOutcome, IsCountsFailure, IsCountsLin
 use Rattle.acredact.specs.Files.{Work}
 use Rattle.acredact.specs.Loading.{AreGiven}
 use Rattle.acredact.specs.Messages.{unclean_line}
-use Rattle.acredact.specs.Pieces.{HasCleanPieces, IsJudged, TellsOfPieces, TellsUnclean}
+use Rattle.acredact.specs.Pieces.{HasCleanPieces, IsJudged, TellsOfPieces, TellsUnclean, redactor_with}
 use Rattle.acredact.specs.Secrets.{Redactor}
 use Rattle.acredact.specs.Tables.{Secret}
 use Rattle.acredact.specs.declared.arguments.Word.TheVariants.{Count, Strict}
@@ -32,6 +33,10 @@ use Rattle.acredact.proofs.Free.{free_of}
 clean_of : {E : Type 0} (K : SinkGhosts E) (strict : Bool) (r : Redactor) (old new : Errors E) → strict ≡ true → TellsOfPieces K strict r old new → HasCleanPieces r
 clean_of K strict r old new is (None, judged, same) = judged
 clean_of K strict r old new is (Some unclean, judged, (lax, told)) = let clash : true ≡ false = sym is ∙ lax in absurd (cc)
+
+-- the same of equal pieces
+pub judged_as : (p : Patterns) (covers : Bool) (pieces pieces' : List (List ℕ)) (answer : Option Unclean) → pieces ≡ pieces' → IsJudged (redactor_with p covers pieces') answer → IsJudged (redactor_with p covers pieces) answer
+judged_as p covers pieces pieces' answer same judged = subst (λ (l : List (List ℕ)). IsJudged (redactor_with p covers l) answer) (sym same) judged
 
 -- lines behind lines
 module _ {E : Type 0} (K : SinkGhosts E) (IsLine : List ℕ → Type 0) (old mid new : Errors E) (first : Tells K IsLine old mid) where

@@ -1,5 +1,5 @@
 -- Which of the texts that are written in the place of patterns are clean, so that with what stands beside them they spell no pattern.
-use Rattle.std.specs.Prelude.{◌≡◌, ◌⊎◌, ℕ, ◌+◌, ◌<◌, Bool, true, false, List, [], ◌∷◌, ◌++◌, Option, Some, None, IfSome, length, slice_index_or}
+use Rattle.std.specs.Prelude.{◌≡◌, ◌⊎◌, ℕ, ◌+◌, ◌<◌, Bool, true, false, List, [], ◌∷◌, ◌++◌, Option, Some, None, IfSome, length, map, slice_index_or}
 use Rattle.std.specs.Borrow.{Bor}
 use Rattle.aho_core.specs.Bytes.{folded_by}
 use Rattle.aho_core.specs.Listing.{IsMember}
@@ -16,6 +16,7 @@ use Rattle.programs.specs.Telling.{TellsBytes}
 use Rattle.programs.specs.declared.errors.Errors.{Errors}
 use Rattle.acredact.specs.Messages.{unclean_line}
 use Rattle.acredact.specs.Secrets.{IfOf, Redactor}
+use Rattle.acredact.specs.Tables.{piece_by, secrets_of}
 use Rattle.acredact.specs.declared.clean.Flaw.{Flaw}
 use Rattle.acredact.specs.declared.clean.Flaw.TheVariants.{Empty, Spells}
 use Rattle.acredact.specs.declared.clean.Judge.{Judge}
@@ -24,6 +25,14 @@ use Rattle.acredact.specs.declared.clean.Unclean.{Unclean}
 -- these are the patterns by which pieces are judged
 abbrev pub IsJudgeOf : Judge → Patterns → Type 0
 IsJudgeOf judge p = ArePatterns p judge.ignore_case (pieces_of judge.words.now)
+
+-- what is written for each of its rules
+abbrev pub pieces_by : Judge → List (List ℕ)
+pieces_by judge = map (piece_by judge.usual.now) (secrets_of judge.rules.now)
+
+-- what is redacted with these pieces
+abbrev pub redactor_with : Patterns → Bool → List (List ℕ) → Redactor
+redactor_with p covers pieces = record { patterns = p; covers = covers; pieces = pieces }
 
 -- what holds of the patterns of an automaton, of one with rows, where there is one, and of a judge
 abbrev pub IfOfAll : {A B : Type 0} → Ghosts A → Ghosts B → A → Option (Bor B) → Judge → (Patterns → Type 0) → Type 0

@@ -9,9 +9,11 @@ ghost use Rattle.aho_core.specs.Replacement.{pieces_of};
 ghost use Rattle.aho_core.specs.Search.{plain_search};
 ghost use Rattle.aho_core.specs.declared.search.Anchored.TheVariants.{No};
 ghost use Rattle.aho_laws.specs.CoverLaws.{IsCleanPiece};
-ghost use Rattle.acredact.specs.Pieces.{HoldNone, HoldsByte, IsFirstOrNone, IsFlawOrNone, IsHolder, IsJudgeOf, IsJudged, IsMarked, StayMarked, WordsAreMarked};
-ghost use Rattle.acredact.specs.Secrets.{IfOf, NoneOccurs, redactor_by};
+ghost use Rattle.acredact.specs.Pieces.{HoldNone, HoldsByte, IsFirstOrNone, IsFlawOrNone, IsHolder, IsJudgeOf, IsJudged, IsMarked, StayMarked, WordsAreMarked, pieces_by, redactor_with};
+ghost use Rattle.acredact.specs.Secrets.{IfOf, NoneOccurs};
+ghost use Rattle.acredact.specs.Tables.{piece_by, secret_of};
 
+use crate::patterns::Rule;
 use aho_automaton::automaton::Automaton;
 use aho_core::search::{Input, Match};
 
@@ -22,6 +24,8 @@ pub struct Judge<'s, 't> {
     pub words: &'s [&'t [u8]],
     /// Whether ASCII letters are the same in both cases.
     pub ignore_case: bool,
+    /// The rules of the patterns, with their own pieces.
+    pub rules: &'s [Rule],
     /// The piece of those that have none of their own.
     pub usual: &'t [u8],
 }
@@ -45,47 +49,45 @@ pub struct Unclean {
 }
 
 /// The first pattern whose piece is not clean, where a cover is asked for and there is one. It takes no memory, and looks at each byte
-/// of the patterns and of the pieces a few times.
+/// of the patterns, of their own pieces and of the usual one a few times.
 pub fn unclean_of<A: Automaton>(
     automaton: &A,
     judge: &Judge<'_, '_>,
-    pieces: &[&[u8]],
     covers: bool,
 ) -> Option<Unclean>
     requires of { (p : Patterns) × A.is_of automaton.now p }
     requires starts { IsOk (A.start automaton.now No) }
-    requires one_each { length pieces.now ≡ length judge.now.words.now }
+    requires one_each { length judge.now.rules.now ≡ length judge.now.words.now }
     ensures judged { IfOf A.Automaton automaton.now (λ p.
         IsJudgeOf judge.now p →
-        IsJudged (redactor_by p covers pieces.now) result) }
+        IsJudged (redactor_with p covers (pieces_by judge.now)) result) }
 {
     if !covers {
         return None;
     }
     let marks = marks_of(judge.words, judge.ignore_case);
-    first_unclean(automaton, judge, pieces, &marks)
+    first_unclean(automaton, judge, &marks)
 }
 
 /// The first pattern whose piece is not clean.
 fn first_unclean<A: Automaton>(
     automaton: &A,
     judge: &Judge<'_, '_>,
-    pieces: &[&[u8]],
     marks: &[bool],
 ) -> Option<Unclean>
     requires of { (p : Patterns) × A.is_of automaton.now p }
     requires starts { IsOk (A.start automaton.now No) }
-    requires one_each { length pieces.now ≡ length judge.now.words.now }
+    requires one_each { length judge.now.rules.now ≡ length judge.now.words.now }
     requires sized { length marks.now ≡ 256 }
     requires marked { WordsAreMarked judge.now.ignore_case (pieces_of judge.now.words.now) marks.now }
     ensures first { IfOf A.Automaton automaton.now (λ p.
         IsJudgeOf judge.now p →
-        IsFirstOrNone p (pieces_of pieces.now) result) }
+        IsFirstOrNone p (pieces_by judge.now) result) }
 {
     let usual = flaw_of(automaton, judge, marks, judge.usual).is_none();
     let mut at = 0;
-    while at < pieces.len() {
-        match flaw_unless(automaton, judge, marks, pieces[at], usual) {
+    while at < judge.rules.len() {
+        match flaw_of_rule(automaton, judge, marks, &judge.rules[at], usual) {
             Some(flaw) => {
                 return Some(Unclean {
                     number: at + 1,
@@ -98,12 +100,12 @@ fn first_unclean<A: Automaton>(
     None
 }
 
-/// Why a piece is not clean, where it is not. The usual one is not looked at again where that is known to be clean.
-fn flaw_unless<A: Automaton>(
+/// Why the piece of a rule is not clean, where it is not. The usual one is not looked at again where that is known to be clean.
+fn flaw_of_rule<A: Automaton>(
     automaton: &A,
     judge: &Judge<'_, '_>,
     marks: &[bool],
-    piece: &[u8],
+    rule: &Rule,
     usual: bool,
 ) -> Option<Flaw>
     requires of { (p : Patterns) × A.is_of automaton.now p }
@@ -115,19 +117,34 @@ fn flaw_unless<A: Automaton>(
         usual ≡ true → IsCleanPiece p judge.now.usual.now) }
     ensures flaw { IfOf A.Automaton automaton.now (λ p.
         IsJudgeOf judge.now p →
-        IsFlawOrNone p piece.now result) }
+        IsFlawOrNone p (piece_by judge.now.usual.now (secret_of rule.now)) result) }
 {
-    if is_known(judge, piece, usual) {
-        return None;
+    match &rule.replacement {
+        Some(own) => flaw_of(automaton, judge, marks, own.as_slice()),
+        None => flaw_unless(automaton, judge, marks, usual),
     }
-    flaw_of(automaton, judge, marks, piece)
 }
 
-/// Whether a piece is the usual one, and that is known to be clean.
-fn is_known(judge: &Judge<'_, '_>, piece: &[u8], usual: bool) -> bool
-    ensures known { result ≡ true → (usual ≡ true) × (piece.now ≡ judge.now.usual.now) }
+/// Why the usual piece is not clean, where it is not known to be.
+fn flaw_unless<A: Automaton>(
+    automaton: &A,
+    judge: &Judge<'_, '_>,
+    marks: &[bool],
+    usual: bool,
+) -> Option<Flaw>
+    requires of { (p : Patterns) × A.is_of automaton.now p }
+    requires starts { IsOk (A.start automaton.now No) }
+    requires sized { length marks.now ≡ 256 }
+    requires marked { WordsAreMarked judge.now.ignore_case (pieces_of judge.now.words.now) marks.now }
+    requires usual { IfOf A.Automaton automaton.now (λ p. IsJudgeOf judge.now p →
+        usual ≡ true → IsCleanPiece p judge.now.usual.now) }
+    ensures flaw { IfOf A.Automaton automaton.now (λ p. IsJudgeOf judge.now p →
+        IsFlawOrNone p judge.now.usual.now result) }
 {
-    usual && piece == judge.usual
+    if usual {
+        return None;
+    }
+    flaw_of(automaton, judge, marks, judge.usual)
 }
 
 /// Why a piece is not clean, where it is not.

@@ -1,6 +1,7 @@
 //! A call of the program over its arguments, files and streams.
 
 ghost use Rattle.std.specs.Prelude.{◌≡◌, ◌⊎◌, ℕ, List, MatchBool, IfErr, IfOk, IfSome, OnErr, OnOk, Some, false, length, true};
+ghost use Rattle.aho_core.specs.Replacement.{pieces_of};
 ghost use Rattle.programs.specs.Arguments.{texts};
 ghost use Rattle.programs.specs.Names.{name_bytes};
 ghost use Rattle.programs.specs.Streams.{WritesBytes};
@@ -9,7 +10,7 @@ ghost use Rattle.acredact.specs.Arguments.{AreMistaken, AsksToRedact, GivesNoPat
 ghost use Rattle.acredact.specs.Calls.{AskedOutcome, BeginsAsked, CountsAsked, IsCountsFailure, IsCountsLine, IsPrintFailure, IsRefusedLine, IsWrongFailure, IsWrongLine, LeavesNoneAsked, LoadedOutcome, OutputFails, RedactsAsked, TellsAsked, TellsCounts, WarnedJob, WarnedOutcome, WarnsAsked, call_of, gives_pattern, names_asked, text_asked, work_by};
 ghost use Rattle.acredact.specs.Failures.{IsFailureLine};
 ghost use Rattle.acredact.specs.Files.{CanDo, FilesOutcome, redactor_of, work_of};
-ghost use Rattle.acredact.specs.Pieces.{IfOfAll, TellsUnclean};
+ghost use Rattle.acredact.specs.Pieces.{IfOfAll, TellsUnclean, pieces_by};
 ghost use Rattle.acredact.specs.Secrets.{IfOf};
 ghost use Rattle.acredact.specs.Tables.{HaveNoEmpty, secrets_of};
 ghost use Rattle.acredact.specs.declared.clean.Unclean.{Unclean};
@@ -307,7 +308,8 @@ fn redact_all<'a, F: Folder, I: Read, W: Write, E: Sink>(
     ensures flushed { OnOk result (streams.new.output.device.flushed ≡ true) }
 {
     let patterns = patterns_of(alloc, rules)?;
-    let replacements = replacements_of(alloc, rules, text_of(given))?;
+    let text = text_of(given);
+    let replacements = replacements_of(alloc, rules, text)?;
     let names = names(alloc, given)?;
     let words = patterns.as_slice();
     let nfa = build(alloc, given, words)?;
@@ -323,7 +325,8 @@ fn redact_all<'a, F: Folder, I: Read, W: Write, E: Sink>(
     let judge = Judge {
         words,
         ignore_case,
-        usual: text_of(given),
+        rules,
+        usual: text,
     };
     let strict = has(given, Word::Strict);
     redact_warned(&nfa, rows.as_ref(), &job, &judge, strict, counts, streams)
@@ -341,12 +344,13 @@ fn redact_warned<'a, A: Automaton, B: Automaton, F: Folder, I: Read, W: Write, E
 ) -> Result<bool, Failure<'a>>
     requires ready { CanDo A.Automaton automaton.now job.now }
     requires rows { IfSome rows (λ rows. CanDo B.Automaton rows.now job.now) }
-    requires words { length job.now.replacements.now ≡ length judge.now.words.now }
+    requires words { length judge.now.rules.now ≡ length judge.now.words.now }
+    requires pieces { pieces_of job.now.replacements.now ≡ pieces_by judge.now }
     ensures outcome { IfOfAll A.Automaton B.Automaton automaton.now rows.entry judge.now
         (λ p. WarnedJob W.Write E.Sink F.Folder strict job.now p result streams.old streams.new) }
     ensures flushed { OnOk result (streams.new.output.device.flushed ≡ true) }
 {
-    let unclean = unclean_of(automaton, judge, job.replacements, job.covers);
+    let unclean = unclean_of(automaton, judge, job.covers);
     // Not by `?`: this error may hold names.
     match warn(&mut streams.errors, unclean, strict) {
         Ok(()) => Ok(redact_by(automaton, rows, job, counts, streams)?),

@@ -5,11 +5,12 @@ use Rattle.aho_core.specs.Patterns.{Patterns}
 use Rattle.aho_core.specs.Replacement.{pieces_of}
 use Rattle.aho_laws.specs.CoverLaws.{IsCleanPiece}
 use Rattle.programs.specs.Asked.{ArePatterns}
+use Rattle.acredact.specs.Pieces.{pieces_by}
 use Rattle.acredact.proofs.clean.first_unclean.Given as goal
 
 abbrev pub invariant-loop-at : goal.invariant-loop-at
-invariant-loop-at g l = (l.at ≤ length l.fn.pieces) × ((p : Patterns) → g.A.Automaton.is_of l.fn.automaton p → ArePatterns p l.fn.judge.ignore_case (pieces_of l.fn.judge.words.now)
-    → (number : ℕ) → number < l.at → IsCleanPiece p (get_or (pieces_of l.fn.pieces) number []))
+invariant-loop-at g l = (l.at ≤ length l.fn.judge.rules.now) × ((p : Patterns) → g.A.Automaton.is_of l.fn.automaton p → ArePatterns p l.fn.judge.ignore_case (pieces_of l.fn.judge.words.now)
+    → (number : ℕ) → number < l.at → IsCleanPiece p (get_or (pieces_by l.fn.judge) number []))
 
 abbrev pub decreases-loop-at : goal.decreases-loop-at
-decreases-loop-at g l = length l.fn.pieces - l.at
+decreases-loop-at g l = length l.fn.judge.rules.now - l.at

@@ -19,7 +19,7 @@ use Rattle.acredact.specs.Arguments.{all_given, covers_asked, has}
 use Rattle.acredact.specs.Builds.{patterns_by_given}
 use Rattle.acredact.specs.Calls.{WarnedOutcome, call_of, names_asked, pieces_asked, work_by}
 use Rattle.acredact.specs.Secrets.{CanRedact}
-use Rattle.acredact.specs.Tables.{patterns_in, piece_by, secrets_of}
+use Rattle.acredact.specs.Tables.{patterns_in, piece_by, secret_of, secrets_of}
 use Rattle.acredact.specs.declared.failure.Failure.{Failure}
 use Rattle.acredact.specs.declared.arguments.Word.TheVariants.{Strict}
 use Rattle.acredact.specs.declared.failure.Failure.TheVariants.{Other}
@@ -36,7 +36,7 @@ words_are : (g : Over) (c : After-as_ref g) → pieces_of c.as_slice-words.resul
 words_are g c = ap pieces_of c.as_slice-words.ensures.value ∙ c.in_ok-patterns.ensures.patterns
 
 pieces_are : (g : Over) (c : After-as_ref g) → pieces_of c.as_slice-2.result.now ≡ pieces_asked (all_given c.args.given.now) (secrets_of c.args.rules.now)
-pieces_are g c = ap pieces_of c.as_slice-2.ensures.value ∙ c.in_ok-replacements.ensures.pieces ∙ ap (λ text. map (piece_by text) (secrets_of c.args.rules.now)) c.text_of.ensures.text
+pieces_are g c = ap pieces_of c.as_slice-2.ensures.value ∙ c.in_ok-replacements.ensures.pieces ∙ ap (λ text. map (piece_by text) (secrets_of c.args.rules.now)) c.text_of-text.ensures.text
 
 names_are : (g : Over) (c : After-as_ref g) → name_bytes c.as_slice.result.now ≡ names_asked (all_given c.args.given.now)
 names_are g c = ap name_bytes c.as_slice.ensures.value ∙ c.in_ok-names.ensures.names
@@ -77,7 +77,8 @@ redact_warned-requires g c =
     record {
       ready = ready_of NFAGhosts c.in_ok-nfa.nfa p c.covers.result _ (nfa_is g after) laws.lengths_are laws.kind_is standard c.in_ok-nfa.ensures.starts some one;
       rows = rows_ready c.as_ref.result p _ (rows_are g after) starts c.covers.result standard some one;
-      words = one ∙ sym (ap length (words_are g after)) ∙ length-map c.as_slice-words.result.now (λ piece. piece.now);
+      words = sym (sym (length-map c.as_slice-words.result.now (λ piece. piece.now)) ∙ ap length (words_are g after) ∙ length-map (secrets_of c.args.rules.now) _ ∙ length-map c.args.rules.now secret_of);
+      pieces = ap pieces_of c.as_slice-2.ensures.value ∙ c.in_ok-replacements.ensures.pieces;
     }
 
 pub returns-in_err-rows-clause-outcome : goal.returns-in_err-rows-clause-outcome
