@@ -1,17 +1,17 @@
 -- A beginning of what is told of lines, put together from parts.
-use Rattle.std.proofs.Common.{◌≡◌, inl, inr, ℕ, ◌<◌, Bool, true, List, [], ◌∷◌, ◌++◌, Option, Some, length, take, drop, take-append-drop, refl, sym, ◌∙◌, ap, subst, append_assoc}
+use Rattle.std.proofs.Common.{◌≡◌, inl, inr, ℕ, ◌<◌, Bool, true, false, List, [], ◌∷◌, ◌++◌, Option, Some, length, take, drop, take-append-drop, refl, sym, ◌∙◌, ap, subst, append_assoc}
 use Rattle.std.specs.Prelude.{MatchBool, Result, Ok, Err, OnErr}
 use Rattle.std.specs.Io.KnownBytes.{Appends, Keeps}
 use Rattle.std.proofs.KnownBytes.{Appends-trans}
 use Rattle.aho_core.specs.Patterns.{Patterns}
 use Rattle.acgrep.specs.Lines.{lines}
 use Rattle.aho_devices.specs.Counts.{AppendsBeginning}
-use Rattle.acgrep.specs.Written.{BeginsLine, BeginsLines, EachLine, HasMatch, HasNone, IsSelected, SamePlace, SearchesTo, StartsNext, TellsLines, WritesLine, after_lines}
+use Rattle.acgrep.specs.Written.{BeginsLine, BeginsLines, EachLine, HasNone, IsSelected, DoesMatch, DoesNotMatch, SamePlace, SearchesTo, StartsNext, TellsLines, WritesLine, after_lines, is_full}
 use Rattle.acgrep.specs.declared.print.Place.{Place}
 use Rattle.acgrep.specs.declared.select.Job.{Job}
 use Rattle.acgrep.specs.declared.select.State.{State}
 use Rattle.acgrep.proofs.Streams.{keeps_nil}
-use Rattle.acgrep.proofs.Tellings.{Passing, after_append, by_same, same_lines, same_place, tells_append, tells_same}
+use Rattle.acgrep.proofs.Tellings.{Passing, after_append, by_same, none_matches, same_lines, same_place, tells_append, tells_same}
 
 -- what holds whatever the result
 pub on_err : {T E : Type 0} {P : Type 0} (r : Result T E) → P → OnErr r P
@@ -39,19 +39,20 @@ page_begins p job place old new line before after bytes none same (shown, shows,
 }
 
 module _ (p : Patterns) (job : Job) where
-  pub starts_none : (place : Place) (ls : List (List ℕ)) → StartsNext p job place ls []
-  starts_none place [] = refl
-  starts_none place (line ∷ rest) = inl refl
+  pub starts_none : (place : Place) (count : ℕ) (ls : List (List ℕ)) → StartsNext p job place count ls []
+  starts_none place count [] = refl
+  starts_none place count (line ∷ rest) = inl refl
 
-  pub starts_more : (place : Place) (ls ms : List (List ℕ)) (begun : List ℕ) → StartsNext p job place ls begun → StartsNext p job place (ls ++ ms) begun
-  starts_more place [] ms begun none = subst (StartsNext p job place ms) (sym none) (starts_none place ms)
-  starts_more place (line ∷ rest) ms begun starts = starts
+  pub starts_more : (place : Place) (count : ℕ) (ls ms : List (List ℕ)) (begun : List ℕ) → StartsNext p job place count ls begun → StartsNext p job place count (ls ++ ms) begun
+  starts_more place count [] ms begun none = subst (StartsNext p job place count ms) (sym none) (starts_none place count ms)
+  starts_more place count (line ∷ rest) ms begun starts = starts
 
-  starts_same : (a b : Place) (ls : List (List ℕ)) (begun : List ℕ) → SamePlace job a b → StartsNext p job a ls begun → StartsNext p job b ls begun
-  starts_same a b [] begun same none = none
-  starts_same a b (line ∷ rest) begun same (inl none) = inl none
-  starts_same a b (line ∷ rest) begun same (inr (selected, starts)) =
+  starts_same : (a b : Place) (count : ℕ) (ls : List (List ℕ)) (begun : List ℕ) → SamePlace job a b → StartsNext p job a count ls begun → StartsNext p job b count ls begun
+  starts_same a b count [] begun same none = none
+  starts_same a b count (line ∷ rest) begun same (inl none) = inl none
+  starts_same a b count (line ∷ rest) begun same (inr (goes, selected, starts)) =
       inr (
+        goes,
         selected,
         record {
           shown = starts.shown;
@@ -70,21 +71,21 @@ module _ (p : Patterns) (job : Job) where
     told = [];
     tells = (refl, refl);
     begun = [];
-    starts = starts_none a.place ls;
+    starts = starts_none a.place a.selected ls;
     written = written;
   }
 
   -- a beginning of what is shown of one line
-  pub begins_one : (a : State) (x y : Option (List ℕ)) (line : List ℕ) → IsSelected p job.invert line → BeginsLine p job a.place x y line
+  pub begins_one : (a : State) (x y : Option (List ℕ)) (line : List ℕ) → is_full job.most a.selected ≡ false → IsSelected p job.whole job.invert line → BeginsLine p job a.place x y line
       → BeginsLines p job a a.selected x y (line ∷ [])
-  begins_one a x y line selected begins = record {
+  begins_one a x y line goes selected begins = record {
     first = [];
     left = line ∷ [];
     cut = refl;
     told = [];
     tells = (refl, refl);
     begun = begins.begun;
-    starts = elim begins.starts [ inl none ↦ inl none | inr starts ↦ inr (selected, starts) ];
+    starts = elim begins.starts [ inl none ↦ inl none | inr starts ↦ inr (goes, selected, starts) ];
     written = begins.written;
   }
 
@@ -97,7 +98,7 @@ module _ (p : Patterns) (job : Job) where
     told = begins.told;
     tells = begins.tells;
     begun = begins.begun;
-    starts = starts_more (after_lines a.place begins.first) begins.left ms begins.begun begins.starts;
+    starts = starts_more (after_lines a.place begins.first) count begins.left ms begins.begun begins.starts;
     written = begins.written;
   }
 
@@ -112,8 +113,8 @@ module _ (p : Patterns) (job : Job) where
     tells = tells_append p job ls other.first a.place a.selected b.selected count one.bytes other.told one.told
         (tells_same p job other.first b.place (after_lines a.place ls) b.selected other.told count same other.tells);
     begun = other.begun;
-    starts = subst (λ (place : Place). StartsNext p job place other.left other.begun) (sym (after_append ls other.first a.place))
-        (starts_same (after_lines b.place other.first) (after_lines (after_lines a.place ls) other.first) other.left other.begun
+    starts = subst (λ (place : Place). StartsNext p job place count other.left other.begun) (sym (after_append ls other.first a.place))
+        (starts_same (after_lines b.place other.first) (after_lines (after_lines a.place ls) other.first) count other.left other.begun
         (same_lines job other.first b.place (after_lines a.place ls) same) other.starts);
     written = subst (Appends x z) (sym (append_assoc one.bytes other.told other.begun)) (Appends-trans x y z one.bytes (other.told ++ other.begun) one.written other.written);
   }
@@ -133,10 +134,11 @@ module _ (p : Patterns) (job : Job) where
 
   -- selected lines so far, and a beginning of the next
   pub begins_passing : (a b : State) (count : ℕ) (x y z : Option (List ℕ)) (text rest line left : List ℕ) → job.invert ≡ true → lines rest ≡ line ∷ lines left
-      → Passing p job a b x y text rest → (IsSelected p job.invert line → BeginsLines p job b count y z (line ∷ [])) → BeginsLines p job a count x z (lines text)
+      → Passing p job a b x y text rest → (IsSelected p job.whole job.invert line → BeginsLines p job b count y z (line ∷ [])) → BeginsLines p job a count x z (lines text)
   begins_passing a b count x y z text rest line left invert first so_far begins =
       let each : EachLine (HasNone p) (line ∷ lines left) = subst (EachLine (HasNone p)) first so_far.each in
-      let selected : IsSelected p job.invert line = subst (λ (b : Bool). MatchBool b (HasNone p line) (HasMatch p line)) (sym invert) each.0 in
+      let selected : IsSelected p job.whole job.invert line =
+      subst (λ (b : Bool). MatchBool b (DoesNotMatch p job.whole line) (DoesMatch p job.whole line)) (sym invert) (none_matches p job.whole line each.0) in
       let there : SamePlace job b.place (after_lines a.place so_far.searched) = subst (λ (place : Place). SamePlace job b.place place) so_far.placed (same_place job b.place) in
       subst (BeginsLines p job a count x z) (sym (so_far.cut ∙ ap (λ (l : List (List ℕ)). so_far.searched ++ l) first))
       (begins_join a b count x y z so_far.searched (line ∷ lines left) so_far.tells there (begins_more b count y z (line ∷ []) (lines left) (begins selected)))

@@ -73,11 +73,11 @@ one_none p Lacking invert style place line all begun more count total missing sh
 one_none p Nothing invert style place line all begun more count total missing shows is cut = inl (nil_front begun more (sym shows ∙ is))
 
 module _ (p : Patterns) (job : Job) where
-  either_none : (place : Place) (left : List (List ℕ)) (begun : List ℕ) (count : ℕ) (total missing : List ℕ) → StartsNext p job place left begun
+  either_none : (place : Place) (left : List (List ℕ)) (begun : List ℕ) (count : ℕ) (total missing : List ℕ) → StartsNext p job place count left begun
       → total_if job.shown job.style count ≡ total ++ missing → (begun ≡ []) ⊎ (total ≡ [])
   either_none place [] begun count total missing none cut = inl none
   either_none place (line ∷ rest) begun count total missing (inl none) cut = inl none
-  either_none place (line ∷ rest) begun count total missing (inr (selected, starts)) cut =
+  either_none place (line ∷ rest) begun count total missing (inr (goes, selected, starts)) cut =
       one_none p job.shown job.invert job.style place line starts.shown begun starts.missing count total missing starts.shows starts.cut cut
 
   -- a stream that was broken off, and a beginning of what is asked of the file as a whole
@@ -124,7 +124,7 @@ module _ (p : Patterns) (job : Job) where
           count = state.selected;
           tells = begins.tells;
           begun = begins.begun;
-          starts = inl (starts_more p job start begins.left others begins.begun begins.starts);
+          starts = inl (starts_more p job start state.selected begins.left others begins.begun begins.starts);
           written = subst (Appends held held') (ap (λ (l : List ℕ). (begins.told ++ begins.begun) ++ l) no_total ∙ append-nil (begins.told ++ begins.begun)) written;
         }
       ]
@@ -154,7 +154,7 @@ module _ (p : Patterns) (job : Job) where
     count = 0;
     tells = (refl, refl);
     begun = [];
-    starts = inl (starts_none p job job.first (lines bytes));
+    starts = inl (starts_none p job job.first 0 (lines bytes));
     written = keeps_nil held held' keeps;
   }
 

@@ -8,7 +8,7 @@ use Rattle.aho_core.specs.Patterns.{Patterns}
 use Rattle.acgrep.specs.Arguments.{Origin, Said}
 use Rattle.programs.specs.Names.{or_input}
 use Rattle.acgrep.specs.Files.{AreFilesSearched, AreSearchedOr, is_enough}
-use Rattle.acgrep.specs.Runs.{BeginsFor, SelectsNoLine, SearchesFor, SearchesWords, knows_none}
+use Rattle.acgrep.specs.Runs.{BeginsFor, SelectsNoLine, SearchesFor, SearchesWords, inverts, kind_sought, knows_none, words_sought}
 use Rattle.acgrep.specs.Searchers.{patterns_asked}
 use Rattle.acgrep.specs.declared.options.Flags.{Flags}
 use Rattle.acgrep.specs.declared.select.Job.{Job}
@@ -42,15 +42,16 @@ module _ (held' held'' : Option (List ℕ)) (kept : Keeps held' held'') where
   pub searches_kept : (holds : List ℕ → Option (List ℕ)) (terminal : Bool) (flags : Flags) (sources : List Origin) (names : List (List ℕ)) (left left' held : Option (List ℕ)) (status : ℕ)
       → SearchesFor holds terminal flags sources names left left' held held' status → SearchesFor holds terminal flags sources names left left' held held'' status
   searches_kept holds terminal flags sources names left left' held status done =
-      let p = patterns_asked flags.kind flags.ignore_case done.words in
-      let Passed = SelectsNoLine p flags.invert done.between left' held held' status in
-      let Found = SearchesWords holds terminal flags done.words names done.between left' held held' status in
+      let sought = words_sought flags done.words in
+      let p = patterns_asked (kind_sought flags) flags.ignore_case sought in
+      let Passed = SelectsNoLine p flags.whole (inverts flags) done.between left' held held' status in
+      let Found = SearchesWords holds terminal flags sought names done.between left' held held' status in
       record {
         words = done.words;
         between = done.between;
         read = done.read;
         searched =
-            elim (cases_Bool (knows_none flags done.words)) [
+            elim (cases_Bool (knows_none flags sought)) [
               | inl none ↦
                   let found : Passed = subst (λ (b : Bool). MatchBool b Passed Found) none done.searched in
                   rw none (record { passed = found.passed; unread = found.unread; unwritten = Keeps-trans held held' held'' found.unwritten kept; none = found.none })
@@ -70,7 +71,7 @@ module _ (held' held'' : Option (List ℕ)) (kept : Keeps held' held'') where
     read = begins.read;
     job = begins.job;
     is_job = begins.is_job;
-    begun = begun_kept (patterns_asked flags.kind flags.ignore_case begins.words) begins.job holds held' held'' kept (or_input names) begins.between held begins.begun;
+    begun = begun_kept (patterns_asked (kind_sought flags) flags.ignore_case (words_sought flags begins.words)) begins.job holds held' held'' kept (or_input names) begins.between held begins.begun;
   })
 
 -- what was said is one thing alone

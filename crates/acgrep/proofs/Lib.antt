@@ -8,6 +8,7 @@ pub mod FirstLines
 pub mod Kept
 pub mod LineLists
 pub mod LongNames
+pub mod Mistaken
 pub mod NamesSearched
 pub mod Numbers
 pub mod Objected
@@ -17,5 +18,6 @@ pub mod Streams
 pub mod StreamsBegun
 pub mod Tellings
 pub mod Unselected
+pub mod Whole
 pub mod WordLists
 mod Told

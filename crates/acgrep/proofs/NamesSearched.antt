@@ -61,8 +61,12 @@ module _ (p : Patterns) (job : Job) (holds : List ℕ → Option (List ℕ)) (na
 
   -- in a file that was searched
   name_has : (name : List ℕ) (left left' held held' : Option (List ℕ)) → SearchesName p job holds name left left' held held' true → HasSelected p job (known_of holds name left)
-  name_has name left left' held held' searched =
-      (searched.file.text, searched.file.of, subst (λ (invert : Bool). IsAny p invert (lines searched.file.text) true) searched.is_named.invert searched.file.selected)
+  name_has name left left' held held' searched = (
+    searched.file.text,
+    searched.file.of,
+    subst (λ (invert : Bool). IsAny p job.whole invert (lines searched.file.text) true) searched.is_named.invert
+        (subst (λ (whole : Bool). IsAny p whole searched.named.invert (lines searched.file.text) true) searched.is_named.whole searched.file.selected),
+  )
 
   -- one file more
   pub so_far_step : (name : List ℕ) (rest : List (List ℕ)) (left left' held held' : Option (List ℕ)) (seen : Seen) (outcome : Outcome) → seen.ended ≡ false

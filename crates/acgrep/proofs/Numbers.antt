@@ -1,10 +1,12 @@
 -- What `parse` says of digits, by what they mean.
 use Rattle.std.proofs.Common.{◌≡◌, inl, inr, ℕ, ◌<◌, ◌^◌, true, List, Some, None, length, refl, ap}
 use Rattle.std.specs.Prelude.{◌≢◌, ⊤, Ok, Err, nat_lt}
-use Rattle.std.specs.Str.{all_ascii_digits}
+use Rattle.std.specs.Str.{IsUtf8, all_ascii_digits}
 use Rattle.std.specs.Str.Parse.{ParsesUnsigned, digits_value}
 use Rattle.std.proofs.Math.ListN.{get_or}
 use Rattle.std.proofs.lemmas.Bool.{and_from, and_parts, cases_Bool, lt-ltb, ltb-true}
+use Rattle.std.proofs.lemmas.Fmt.{IsAscii-from_digits}
+use Rattle.std.proofs.lemmas.Str.{IsUtf8-from_ascii}
 use Rattle.std.proofs.lemmas.Str.Parse.{IsNumeralModel, numerals_by_value, parse_plain, tells_all_ascii_digits}
 use Rattle.acgrep.specs.Arguments.{is_number, number_by}
 
@@ -33,5 +35,13 @@ pub number_refused : {E : Type 0} (ds : List ℕ) (e : E) → ParsesUnsigned 64 
 number_refused ds e refused plain =
     elim (cases_Bool (is_number ds)) [
       | inl is ↦ absurd (parse_plain numerals 64 ds (Err e) refused plain (is_number_parts ds is))
+      | inr not ↦ rw not refl
+    ]
+
+-- bytes that are not UTF-8 write none
+pub number_lacking : (ds : List ℕ) → (IsUtf8 ds → ⊥) → None ≡ number_by ds
+number_lacking ds lacks =
+    elim (cases_Bool (is_number ds)) [
+      | inl is ↦ absurd (lacks (IsUtf8-from_ascii ds (IsAscii-from_digits ds (numerals.to ds (is_number_parts ds is).0))))
       | inr not ↦ rw not refl
     ]

@@ -25,10 +25,10 @@ told-two true status two = elim (cases_Bool (nat_eq status 1)) [
 ]
 
 -- so what is told is as it was
-pub told-status : {E : Type 0} (K : SinkGhosts E) (P : List ℕ → Type 0) (shown : Shown) (ok : Bool) (status : ℕ) (old new : Errors E)
-    → TellsStatus K P shown status old new → TellsStatus K P shown (status_told ok status) old new
-told-status K P shown ok status old new told = record {
+pub told-status : {E : Type 0} (K : SinkGhosts E) (P : List ℕ → Type 0) (hushed : Bool) (shown : Shown) (ok : Bool) (status : ℕ) (old new : Errors E)
+    → TellsStatus K P hushed shown status old new → TellsStatus K P hushed shown (status_told ok status) old new
+told-status K P hushed shown ok status old new told = record {
   tells = told.tells;
   silent = λ low loud. told.silent (told-low ok status low) loud;
-  some = λ two. told.some (told-two ok status two);
+  some = λ asked two. told.some asked (told-two ok status two);
 }

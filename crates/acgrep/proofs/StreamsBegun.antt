@@ -36,7 +36,7 @@ module _ (p : Patterns) (job : Job) where
         told = to.tells.bytes;
         tells = to.tells.told;
         begun = [];
-        starts = starts_none p job (after_lines a.place to.searched) (lines one.left);
+        starts = starts_none p job (after_lines a.place to.searched) b.selected (lines one.left);
         written = subst (Appends x y) (sym (append-nil to.tells.bytes)) to.tells.written;
       }
 

@@ -1,9 +1,9 @@
 -- What is told of lines, put together from parts.
-use Rattle.std.proofs.Common.{◌≡◌, inl, inr, ℕ, ◌+◌, ◌-◌, ◌%◌, ◌^◌, ◌≤◌, ◌<◌, ◌==◌, Bool, true, false, List, [], ◌∷◌, ◌++◌, Option, length, drop, refl, sym, ◌∙◌, ap, subst, arith, append_assoc, append-nil}
-use Rattle.std.specs.Prelude.{MatchBool, if◌then◌else◌, codes, not, ◌&&◌}
+use Rattle.std.proofs.Common.{◌≡◌, inl, inr, ℕ, ◌+◌, ◌-◌, ◌%◌, ◌^◌, ◌≤◌, ◌<◌, ◌==◌, Bool, true, false, List, [], ◌∷◌, ◌++◌, Option, None, Some, length, drop, refl, sym, ◌∙◌, ap, subst, arith, append_assoc, append-nil}
+use Rattle.std.specs.Prelude.{MatchBool, if◌then◌else◌, codes, nat_le, nat_lt, not, ◌&&◌}
 use Rattle.std.specs.Io.KnownBytes.{Appends}
 use Rattle.std.proofs.KnownBytes.{Appends-nil, Appends-trans}
-use Rattle.std.proofs.lemmas.Bool.{cases_Bool, cases_lt}
+use Rattle.std.proofs.lemmas.Bool.{and_parts, cases_Bool, cases_lt, ltb-true, true≢false}
 use Rattle.std.proofs.lemmas.List.{drop_all, drop-drop, length-drop}
 use Rattle.aho_core.specs.Patterns.{Patterns}
 use Rattle.aho_core.specs.Occurrence.{Occurrence}
@@ -11,7 +11,7 @@ use Rattle.acgrep.proofs.LineLists.{ends_drop}
 use Rattle.acgrep.specs.Lines.{lines}
 use Rattle.acgrep.specs.Objects.{objects_by}
 use Rattle.acgrep.specs.Printed.{WritesColored, color_of, colored_from, colored_line_by, head_of, match_by, matches_by, line_number_at, offset_at, painted, part_of}
-use Rattle.acgrep.specs.Written.{EachLine, EndsLine, HasMatch, HasNone, IsPassedOver, IsSelected, LineOf, SamePlace, SearchesTo, ShowsBy, TellsOfLines, TellsLines, WritesLine, after_line, after_lines, is_numbered, one_more, place_behind}
+use Rattle.acgrep.specs.Written.{EachLine, EndsLine, HasNone, IsMatched, IsPassedOver, IsSelected, IsSettled, LineOf, DoesMatch, DoesNotMatch, SamePlace, SearchesTo, ShowsBy, TellsOfLines, TellsLines, WritesLine, WritesNext, after_line, after_lines, is_full, is_numbered, next_count, one_more, place_behind, selects}
 use Rattle.acgrep.specs.declared.options.Shown.{Shown}
 use Rattle.acgrep.specs.declared.options.Shown.TheVariants.{Lines, Matches, Objects, Count, Names, Lacking, Nothing}
 use Rattle.acgrep.specs.declared.print.Place.{Place}
@@ -119,61 +119,139 @@ by_same p Nothing invert job a b line bytes counted same shows = shows
 pub tells_same : (p : Patterns) (job : Job) (ls : List (List ℕ)) (a b : Place) (count : ℕ) (bytes : List ℕ) (total : ℕ) → SamePlace job a b
     → TellsOfLines p job a count ls bytes total → TellsOfLines p job b count ls bytes total
 tells_same p job [] a b count bytes total same told = told
-tells_same p job (line ∷ rest) a b count bytes total same (inl (selected, (shown, more, shows, behind, is))) =
-    inl (
-      selected,
-      (
-        shown,
-        more,
-        by_same p job.shown job.invert job a b line shown same.lines same shows,
-        tells_same p job rest (after_line a line) (after_line b line) (one_more count) more total (same_line job a b line same) behind,
-        is,
+tells_same p job (line ∷ rest) a b count bytes total same (inl full) = inl full
+tells_same p job (line ∷ rest) a b count bytes total same (inr (goes, inl (selected, (shown, more, shows, behind, is)))) =
+    inr (
+      goes,
+      inl (
+        selected,
+        (
+          shown,
+          more,
+          by_same p job.shown job.invert job a b line shown same.lines same shows,
+          tells_same p job rest (after_line a line) (after_line b line) (one_more count) more total (same_line job a b line same) behind,
+          is,
+        ),
       ),
     )
-tells_same p job (line ∷ rest) a b count bytes total same (inr (passed, behind)) =
-    inr (passed, tells_same p job rest (after_line a line) (after_line b line) count bytes total (same_line job a b line same) behind)
+tells_same p job (line ∷ rest) a b count bytes total same (inr (goes, inr (passed, behind))) =
+    inr (goes, inr (passed, tells_same p job rest (after_line a line) (after_line b line) count bytes total (same_line job a b line same) behind))
+
+-- where so many lines are selected as are asked for, nothing is told of more
+full_none : (p : Patterns) (job : Job) (ls : List (List ℕ)) (place : Place) (count : ℕ) (bytes : List ℕ) (total : ℕ) → is_full job.most count ≡ true
+    → TellsOfLines p job place count ls bytes total → (bytes ≡ []) × (total ≡ count)
+full_none p job [] place count bytes total full told = told
+full_none p job (line ∷ rest) place count bytes total full (inl (is, none, same)) = (none, same)
+full_none p job (line ∷ rest) place count bytes total full (inr (goes, told)) = absurd (true≢false (sym full ∙ goes))
+
+full_tells : (p : Patterns) (job : Job) (ls : List (List ℕ)) (place : Place) (count : ℕ) → is_full job.most count ≡ true → TellsOfLines p job place count ls [] count
+full_tells p job [] place count full = (refl, refl)
+full_tells p job (line ∷ rest) place count full = inl (full, refl, refl)
+
+-- some line is selected then
+pub full_some : (most : Option ℕ) (count : ℕ) → is_full most count ≡ true → 0 < count
+full_some None count full = absurd (cc)
+full_some (Some most) count full = ltb-true 0 count (and_parts (nat_lt 0 count) (nat_le most count) full).0
+
+pub settled_some : (job : Job) (state : State) → IsSettled job state → 0 < state.selected
+settled_some job state (inl (one, some)) = some
+settled_some job state (inr full) = full_some job.most state.selected full
 
 -- lines and those behind them
 pub tells_append : (p : Patterns) (job : Job) (ls ms : List (List ℕ)) (place : Place) (count mid total : ℕ) (bytes more : List ℕ)
     → TellsOfLines p job place count ls bytes mid → TellsOfLines p job (after_lines place ls) mid ms more total → TellsOfLines p job place count (ls ++ ms) (bytes ++ more) total
 tells_append p job [] ms place count mid total bytes more (none, same) behind =
     subst (λ (l : List ℕ). TellsOfLines p job place count ms (l ++ more) total) (sym none) (subst (λ (n : ℕ). TellsOfLines p job place n ms more total) same behind)
-tells_append p job (line ∷ rest) ms place count mid total bytes more (inl (selected, (shown, others, shows, told, is))) behind =
-    inl (
-      selected,
-      (
-        shown,
-        others ++ more,
-        shows,
-        tells_append p job rest ms (after_line place line) (one_more count) mid total others more told behind,
-        ap (λ (l : List ℕ). l ++ more) is ∙ append_assoc shown others more,
+tells_append p job (line ∷ rest) ms place count mid total bytes more (inl (full, none, same)) behind =
+    let (empty, ends) = full_none p job ms (after_lines place (line ∷ rest)) mid more total (subst (λ (n : ℕ). is_full job.most n ≡ true) (sym same) full) behind in
+    inl (full, ap (λ (l : List ℕ). l ++ more) none ∙ empty, ends ∙ same)
+tells_append p job (line ∷ rest) ms place count mid total bytes more (inr (goes, inl (selected, (shown, others, shows, told, is)))) behind =
+    inr (
+      goes,
+      inl (
+        selected,
+        (
+          shown,
+          others ++ more,
+          shows,
+          tells_append p job rest ms (after_line place line) (one_more count) mid total others more told behind,
+          ap (λ (l : List ℕ). l ++ more) is ∙ append_assoc shown others more,
+        ),
       ),
     )
-tells_append p job (line ∷ rest) ms place count mid total bytes more (inr (passed, told)) behind =
-    inr (passed, tells_append p job rest ms (after_line place line) count mid total bytes more told behind)
+tells_append p job (line ∷ rest) ms place count mid total bytes more (inr (goes, inr (passed, told))) behind =
+    inr (goes, inr (passed, tells_append p job rest ms (after_line place line) count mid total bytes more told behind))
+
+-- and where those select so many as are asked for, any may stand behind them
+pub tells_full : (p : Patterns) (job : Job) (ls ms : List (List ℕ)) (place : Place) (count total : ℕ) (bytes : List ℕ) → is_full job.most total ≡ true
+    → TellsOfLines p job place count ls bytes total → TellsOfLines p job place count (ls ++ ms) bytes total
+tells_full p job ls ms place count total bytes full told =
+    subst (λ (l : List ℕ). TellsOfLines p job place count (ls ++ ms) l total) (append-nil bytes)
+    (tells_append p job ls ms place count total total bytes [] told (full_tells p job ms (after_lines place ls) total full))
+
+-- where no pattern occurs none is the whole line either
+pub none_matches : (p : Patterns) (whole : Bool) (line : List ℕ) → HasNone p line → DoesNotMatch p whole line
+none_matches p true line none = λ m occurs start end. none m occurs
+none_matches p false line none = none
+
+-- a line is selected by whether it matches
+pub selected_by : (p : Patterns) (whole invert matched : Bool) (line : List ℕ) → IsMatched p whole line matched → selects matched invert ≡ true → IsSelected p whole invert line
+selected_by p whole false true line is selects = is
+selected_by p whole false false line is selects = absurd (cc)
+selected_by p whole true true line is selects = absurd (cc)
+selected_by p whole true false line is selects = is
+
+pub passed_by : (p : Patterns) (whole invert matched : Bool) (line : List ℕ) → IsMatched p whole line matched → selects matched invert ≡ false → IsPassedOver p whole invert line
+passed_by p whole false true line is passes = absurd (cc)
+passed_by p whole false false line is passes = is
+passed_by p whole true true line is passes = is
+passed_by p whole true false line is passes = absurd (cc)
 
 -- where no pattern occurs in any line, and such lines are not selected, nothing is written
 tells_passed : (p : Patterns) (job : Job) (ls : List (List ℕ)) (place : Place) (count : ℕ) → job.invert ≡ false → EachLine (HasNone p) ls → TellsOfLines p job place count ls [] count
 tells_passed p job [] place count plain each = (refl, refl)
 tells_passed p job (line ∷ rest) place count plain (none, each) =
-    inr (subst (λ (b : Bool). MatchBool b (HasMatch p line) (HasNone p line)) (sym plain) none, tells_passed p job rest (after_line place line) count plain each)
+    elim (cases_Bool (is_full job.most count)) [
+      | inl full ↦ inl (full, refl, refl)
+      | inr goes ↦ inr (
+        goes,
+        inr (subst (λ (b : Bool). MatchBool b (DoesMatch p job.whole line) (DoesNotMatch p job.whole line)) (sym plain) (none_matches p job.whole line none), tells_passed p job rest (after_line place line) count plain each),
+      )
+    ]
 
 module _ (p : Patterns) (job : Job) where
   -- a line that is selected
-  pub one_selected : (before after : State) (old new : Option (List ℕ)) (line : List ℕ) → IsSelected p job.invert line → after.selected ≡ one_more before.selected
-      → WritesLine p job before.place old new line → TellsLines p job before after old new (line ∷ [])
-  one_selected before after old new line selected counted (bytes, shows, written) = record {
-    bytes = bytes;
-    told = inl (selected, (bytes, [], shows, (refl, counted), sym (append-nil bytes)));
-    written = written;
-  }
+  pub one_selected : (before after : State) (old new : Option (List ℕ)) (line : List ℕ) → IsSelected p job.whole job.invert line → after.selected ≡ next_count job.most before.selected
+      → WritesNext p job before old new line → TellsLines p job before after old new (line ∷ [])
+  one_selected before after old new line selected counted writes =
+      elim (cases_Bool (is_full job.most before.selected)) [
+        | inl full ↦
+            let same : new ≡ old = subst (λ (b : Bool). MatchBool b (new ≡ old) (WritesLine p job before.place old new line)) full writes in
+            let count : after.selected ≡ before.selected = counted ∙ ap (λ (b : Bool). if b then before.selected else one_more before.selected) full in
+            record {
+              bytes = [];
+              told = inl (full, refl, count);
+              written = subst (λ (held : Option (List ℕ)). Appends old held []) (sym same) (Appends-nil old);
+            }
+        | inr goes ↦
+            let (bytes, shows, written) = subst (λ (b : Bool). MatchBool b (new ≡ old) (WritesLine p job before.place old new line)) goes writes in
+            let count : after.selected ≡ one_more before.selected = counted ∙ ap (λ (b : Bool). if b then before.selected else one_more before.selected) goes in
+            record {
+              bytes = bytes;
+              told = inr (goes, inl (selected, (bytes, [], shows, (refl, count), sym (append-nil bytes))));
+              written = written;
+            }
+      ]
 
   -- a line that is not
-  pub one_passed : (before after : State) (old new : Option (List ℕ)) (line : List ℕ) → IsPassedOver p job.invert line → after.selected ≡ before.selected
+  pub one_passed : (before after : State) (old new : Option (List ℕ)) (line : List ℕ) → IsPassedOver p job.whole job.invert line → after.selected ≡ before.selected
       → new ≡ old → TellsLines p job before after old new (line ∷ [])
   one_passed before after old new line passed counted unwritten = record {
     bytes = [];
-    told = inr (passed, (refl, counted));
+    told = elim (cases_Bool (is_full job.most before.selected)) [
+      | inl full ↦ inl (full, refl, counted)
+      | inr goes ↦ inr (goes, inr (passed, (refl, counted)))
+    ];
     written = subst (λ (held : Option (List ℕ)). Appends old held []) (sym unwritten) (Appends-nil old);
   }
 
@@ -267,10 +345,11 @@ pub record Passing (p : Patterns) (job : Job) (before after : State) (old new : 
 
 -- one more
 pub passing_step : (p : Patterns) (job : Job) (a b c : State) (x y z : Option (List ℕ)) (text rest line left : List ℕ) → job.invert ≡ true → lines rest ≡ line ∷ lines left
-    → c.place ≡ after_line b.place line → c.selected ≡ one_more b.selected → WritesLine p job b.place y z line → Passing p job a b x y text rest → Passing p job a c x z text left
+    → c.place ≡ after_line b.place line → c.selected ≡ next_count job.most b.selected → WritesNext p job b y z line → Passing p job a b x y text rest → Passing p job a c x z text left
 passing_step p job a b c x y z text rest line left invert first placed counted writes so_far =
     let each : EachLine (HasNone p) (line ∷ lines left) = subst (EachLine (HasNone p)) first so_far.each in
-    let selected : IsSelected p job.invert line = subst (λ (b : Bool). MatchBool b (HasNone p line) (HasMatch p line)) (sym invert) each.0 in
+    let selected : IsSelected p job.whole job.invert line =
+    subst (λ (b : Bool). MatchBool b (DoesNotMatch p job.whole line) (DoesMatch p job.whole line)) (sym invert) (none_matches p job.whole line each.0) in
     let there : SamePlace job b.place (after_lines a.place so_far.searched) = subst (λ (place : Place). SamePlace job b.place place) so_far.placed (same_place job b.place) in
     record {
       searched = so_far.searched ++ (line ∷ []);

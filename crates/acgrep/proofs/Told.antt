@@ -1,7 +1,7 @@
 -- What a message tells is one that may be told.
 use Rattle.std.proofs.Common.{◌≡◌, inl, inr, ◌⊎◌, ℕ, ◌-◌, ◌<◌, ◌≤◌, take, drop, Bool, true, false, List, [], ◌∷◌, ◌++◌, Option, Some, None, refl, sym, ap, subst, ◌∙◌, arith, codes}
 use Prim.Native.Nat.{zero, suc}
-use Rattle.std.specs.Prelude.{IfSome, map, length, nat_lt, slice_index_or, if◌then◌else◌}
+use Rattle.std.specs.Prelude.{IfSome, MatchBool, map, length, nat_lt, slice_index_or, if◌then◌else◌}
 use Rattle.std.specs.Borrow.{Bor}
 use Rattle.std.proofs.Math.ListN.{get_or}
 use Rattle.std.proofs.lemmas.Grind.{common_steps}
@@ -18,9 +18,9 @@ use Rattle.programs.specs.declared.errors.Errors.{Errors}
 use Rattle.programs.specs.declared.reason.Reason.{Reason}
 use Rattle.programs.proofs.Lines.{some-one, some-tells, some-then, some-weaker, tells-none, tells-weaker, then-some}
 use Rattle.acgrep.specs.Arguments.{origin_of}
-use Rattle.acgrep.specs.Files.{IfSearched, is_enough, seen_after, status_by}
+use Rattle.acgrep.specs.Files.{is_enough, seen_after, shown_name, status_by}
 use Rattle.acgrep.specs.Runs.{origins_of}
-use Rattle.acgrep.specs.Told.{IsMessage, IsToldCause, MayName, MayTell, TellsIf, TellsOutcome, TellsStatus, source_names}
+use Rattle.acgrep.specs.Told.{IsMessage, IsToldCause, MayName, MayTell, TellsIf, TellsOutcome, TellsStatus, files_told, shown_names, source_names}
 use Rattle.acgrep.specs.declared.arguments.Source.{Source}
 use Rattle.acgrep.specs.declared.arguments.Source.TheVariants.{File}
 use Rattle.acgrep.specs.declared.files.Seen.{Seen}
@@ -110,45 +110,46 @@ source-found sources number source name d within found is =
     map-then (x ∷ xs) = ap (λ l. (origin_of x).bytes ∷ l) (map-then xs)
 
 module _ {E : Type 0} (K : SinkGhosts E) (P : List ℕ → Type 0) where
+  -- what is told of a file, or not, and then something
+  pub unread-then : (hushed : Bool) (old mid new : Errors E) → TellsOutcome K P hushed Unread old mid → TellsSome K P mid new → TellsSome K P old new
+  unread-then true old mid new same some = subst (λ (e : Errors E). TellsSome K P e new) same some
+  unread-then false old mid new told some = some-then K P old mid new told (some-tells K P mid new some)
+
+  -- what was told of files so far
+  if-tells : (hushed failed : Bool) (old new : Errors E) → TellsIf K P hushed failed old new → Tells K P old new
+  if-tells hushed false old new same = subst (Tells K P old) (sym same) (tells-none K P old)
+  if-tells true true old new tells = tells
+  if-tells false true old new some = some-tells K P old new some
+
   -- what is told of one file, and then of others
-  pub if-more : (old mid new : Errors E) (failed : Bool) (outcome : Outcome) (shown : Shown) (seen : Seen) → TellsIf K P seen.failed old mid → TellsOutcome K P outcome mid new
-      → TellsIf K P (seen_after shown seen outcome).failed old new
-  if-more old mid new failed (Searched any) shown seen before now = subst (λ (e : Errors E). TellsIf K P seen.failed old e) (sym now) before
-  if-more old mid new failed Unread shown seen before now = more seen.failed before
-    where
-      more : (b : Bool) → TellsIf K P b old mid → TellsSome K P old new
-      more true some = some-then K P old mid new some (some-tells K P mid new now)
-      more false same = subst (λ (e : Errors E). TellsSome K P e new) same now
-  if-more old mid new failed Stopped shown seen before now = more seen.failed before
-    where
-      more : (b : Bool) → TellsIf K P b old mid → TellsSome K P old new
-      more true some = some-then K P old mid new some (some-tells K P mid new now)
-      more false same = subst (λ (e : Errors E). TellsSome K P e new) same now
+  pub if-more : (hushed : Bool) (old mid new : Errors E) (outcome : Outcome) (shown : Shown) (seen : Seen) → TellsIf K P hushed seen.failed old mid → TellsOutcome K P hushed outcome mid new
+      → TellsIf K P hushed (seen_after shown seen outcome).failed old new
+  if-more hushed old mid new (Searched any) shown seen before now = subst (λ (e : Errors E). TellsIf K P hushed seen.failed old e) (sym now) before
+  if-more true old mid new Unread shown seen before now = subst (Tells K P old) (sym now) (if-tells true seen.failed old mid before)
+  if-more false old mid new Unread shown seen before now = then-some K P old mid new (if-tells false seen.failed old mid before) now
+  if-more true old mid new Stopped shown seen before now = some-tells K P old new (then-some K P old mid new (if-tells true seen.failed old mid before) now)
+  if-more false old mid new Stopped shown seen before now = then-some K P old mid new (if-tells false seen.failed old mid before) now
 
   -- nothing is told, and the status tells of no error
-  pub status-none : (shown : Shown) (status : ℕ) (e : Errors E) → status < 2 → TellsStatus K P shown status e e
-  status-none shown status e low = record {
+  pub status-none : (hushed : Bool) (shown : Shown) (status : ℕ) (e : Errors E) → status < 2 → TellsStatus K P hushed shown status e e
+  status-none hushed shown status e low = record {
     tells = tells-none K P e;
     silent = λ is loud. refl;
-    some = λ two. absurd (omega (arith, low, two));
+    some = λ told two. absurd (omega (arith, low, two));
   }
 
   -- a line is told, and the status tells it
-  pub status-some : (shown : Shown) (old new : Errors E) → TellsSome K P old new → TellsStatus K P shown 2 old new
-  status-some shown old new some = record {
+  pub status-some : (hushed : Bool) (shown : Shown) (old new : Errors E) → TellsSome K P old new → TellsStatus K P hushed shown 2 old new
+  status-some hushed shown old new some = record {
     tells = some-tells K P old new some;
     silent = λ low loud. absurd (omega (arith, low));
-    some = λ two. some;
+    some = λ told two. some;
   }
 
   -- the status tells what was seen
-  pub status-seen : (shown : Shown) (seen : Seen) (old new : Errors E) → TellsIf K P seen.failed old new → TellsStatus K P shown (status_by shown seen) old new
-  status-seen shown seen old new told = by seen.failed refl
+  pub status-seen : (hushed : Bool) (shown : Shown) (seen : Seen) (old new : Errors E) → TellsIf K P hushed seen.failed old new → TellsStatus K P hushed shown (status_by shown seen) old new
+  status-seen hushed shown seen old new told = by seen.failed refl
     where
-      tells-if : (b : Bool) → TellsIf K P b old new → Tells K P old new
-      tells-if true some = some-tells K P old new some
-      tells-if false same = subst (Tells K P old) (sym same) (tells-none K P old)
-
       below : (shown : Shown) (selected failed : Bool) → failed ≡ false → (if is_enough shown selected then 0 else (if failed then 2 else (if selected then 0 else 1))) < 2
       below shown selected true clean = absurd (cc)
       below shown true false clean = elim (cases_Bool (is_enough shown true)) [ inl enough ↦ rw enough (omega arith) | inr not ↦ rw not (omega arith) ]
@@ -161,36 +162,40 @@ module _ {E : Type 0} (K : SinkGhosts E) (P : List ℕ → Type 0) where
         | inr not ↦ absurd (omega (arith, rw not at low))
       ]
 
-      by : (b : Bool) → seen.failed ≡ b → TellsStatus K P shown (status_by shown seen) old new
+      by : (b : Bool) → seen.failed ≡ b → TellsStatus K P hushed shown (status_by shown seen) old new
       by false clean = record {
-        tells = tells-if seen.failed told;
-        silent = λ low loud. subst (λ (b : Bool). TellsIf K P b old new) clean told;
-        some = λ two. let none : status_by shown seen < 2 = below shown seen.selected seen.failed clean in absurd (omega (arith, two, none));
+        tells = if-tells hushed seen.failed old new told;
+        silent = λ low loud. subst (λ (b : Bool). TellsIf K P hushed b old new) clean told;
+        some = λ asked two. let none : status_by shown seen < 2 = below shown seen.selected seen.failed clean in absurd (omega (arith, two, none));
       }
       by true failed = record {
-        tells = tells-if seen.failed told;
+        tells = if-tells hushed seen.failed old new told;
         silent = λ low loud. absurd (quiet shown seen.selected seen.failed failed low loud);
-        some = λ two. subst (λ (b : Bool). TellsIf K P b old new) failed told;
+        some = λ asked two.
+            let some : MatchBool hushed (Tells K P old new) (TellsSome K P old new) = subst (λ (b : Bool). TellsIf K P hushed b old new) failed told in
+            subst (λ (b : Bool). MatchBool b (Tells K P old new) (TellsSome K P old new)) asked some;
       }
 
-  -- a file that was not searched
-  pub outcome-some : (outcome : Outcome) (old new : Errors E) → IfSearched outcome (λ any. ⊥) → TellsSome K P old new → TellsOutcome K P outcome old new
-  outcome-some (Searched any) old new not some = absurd not
-  outcome-some Unread old new not some = some
-  outcome-some Stopped old new not some = some
-
   -- what may be told in one case may be in another
-  pub status-weaker : (Q : List ℕ → Type 0) (shown : Shown) (status : ℕ) (old new : Errors E) → ((line : List ℕ) → P line → Q line) → TellsStatus K P shown status old new
-      → TellsStatus K Q shown status old new
-  status-weaker Q shown status old new may told = record {
+  pub status-weaker : (Q : List ℕ → Type 0) (hushed : Bool) (shown : Shown) (status : ℕ) (old new : Errors E) → ((line : List ℕ) → P line → Q line) → TellsStatus K P hushed shown status old new
+      → TellsStatus K Q hushed shown status old new
+  status-weaker Q hushed shown status old new may told = record {
     tells = tells-weaker K P Q old new may told.tells;
     silent = told.silent;
-    some = λ two. some-weaker K P Q old new may (told.some two);
+    some = λ asked two. some-weaker K P Q old new may (told.some asked two);
   }
 
 -- each of these names is among others
 abbrev pub AreWithin : List (List ℕ) → List (List ℕ) → Type 0
 AreWithin names all = (name : List ℕ) → IsAmong name names → IsAmong name all
+
+-- and of those that are told
+pub told-cut : (hushed : Bool) (first : List ℕ) (rest : List (List ℕ)) (names all : List (List ℕ)) → files_told hushed names ≡ files_told hushed (first ∷ rest) → AreWithin (files_told hushed names) all
+    → (hushed ≡ false → IsAmong (shown_name first) all) × AreWithin (files_told hushed rest) all
+told-cut true first rest names all cut within = (λ asked. absurd (cc), λ name is. absurd is)
+told-cut false first rest names all cut within =
+    let both : AreWithin (shown_name first ∷ shown_names rest) all = subst (λ (l : List (List ℕ)). AreWithin l all) cut within in
+    (λ asked. both (shown_name first) (inl refl), λ name is. both name (inr is))
 
 -- the first of some names is, and those behind it are
 pub within-cut : (first : List ℕ) (rest names all : List (List ℕ)) → names ≡ first ∷ rest → AreWithin names all → IsAmong first all × AreWithin rest all
@@ -212,12 +217,15 @@ not-quiet false false false false false false is loud = absurd (cc)
 
 module _ {E : Type 0} (K : SinkGhosts E) (names : List (List ℕ)) where
   -- what was told before a last flush, and of it
-  pub finished : (shown : Shown) (status status' : ℕ) (old mid new : Errors E) → status ≤ 2 → status' ≤ 2 → (status' ≡ status) ⊎ (status' ≡ 2) → TellsStatus K (MayTell names) shown status old mid
-      → (status' < 2 → new ≡ mid) → (2 ≤ status → new ≡ mid) → (status < 2 → status' ≡ 2 → TellsSome K (IsMessage names) mid new) → TellsStatus K (MayTell names) shown status' old new
-  finished shown status status' old mid new bound bound' which before same kept told = record {
-    tells = elim (cases_lt status' 2) [
-      | inl low ↦ subst (Tells K (MayTell names) old) (sym (same low)) before.tells
-      | inr two ↦ some-tells K (MayTell names) old new (late (omega (arith, two, bound')))
+  pub finished : (hushed : Bool) (shown : Shown) (status status' : ℕ) (old mid new : Errors E) → status ≤ 2 → status' ≤ 2 → (status' ≡ status) ⊎ (status' ≡ 2) → TellsStatus K (MayTell names) hushed shown status old mid
+      → (status' < 2 → new ≡ mid) → (2 ≤ status → new ≡ mid) → (status < 2 → status' ≡ 2 → TellsSome K (IsMessage names) mid new) → TellsStatus K (MayTell names) hushed shown status' old new
+  finished hushed shown status status' old mid new bound bound' which before same kept told = record {
+    tells = elim (cases_lt status 2) [
+      | inl low ↦ elim (cases_lt status' 2) [
+        | inl low' ↦ subst (Tells K (MayTell names) old) (sym (same low')) before.tells
+        | inr two ↦ some-tells K (MayTell names) old new (failed low (omega (arith, two, bound')))
+      ]
+      | inr high ↦ subst (Tells K (MayTell names) old) (sym (kept high)) before.tells
     ];
     silent = λ low loud.
         let is : status' ≡ status = elim which [ inl is ↦ is | inr two ↦ absurd (omega (arith, low, two)) ] in
@@ -225,10 +233,13 @@ module _ {E : Type 0} (K : SinkGhosts E) (names : List (List ℕ)) where
     some = late;
   }
     where
-      late : status' ≡ 2 → TellsSome K (MayTell names) old new
-      late two = elim (cases_lt status 2) [
-        | inl low ↦ then-some K (MayTell names) old mid new before.tells (some-weaker K (IsMessage names) (MayTell names) mid new (λ line is. inl is) (told low two))
-        | inr high ↦ subst (λ (e : Errors E). TellsSome K (MayTell names) old e) (sym (kept high)) (before.some (omega (arith, high, bound)))
+      failed : status < 2 → status' ≡ 2 → TellsSome K (MayTell names) old new
+      failed low two = then-some K (MayTell names) old mid new before.tells (some-weaker K (IsMessage names) (MayTell names) mid new (λ line is. inl is) (told low two))
+
+      late : hushed ≡ false → status' ≡ 2 → TellsSome K (MayTell names) old new
+      late asked two = elim (cases_lt status 2) [
+        | inl low ↦ failed low two
+        | inr high ↦ subst (λ (e : Errors E). TellsSome K (MayTell names) old e) (sym (kept high)) (before.some asked (omega (arith, high, bound)))
       ]
 
 -- the first source, and those behind it, where there is one

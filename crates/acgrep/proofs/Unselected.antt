@@ -6,6 +6,7 @@ use Rattle.aho_core.specs.Patterns.{Patterns, pattern_at}
 use Rattle.acgrep.specs.Runs.{selects_none}
 use Rattle.acgrep.specs.Written.{HasMatch, IsPassedOver}
 use Rattle.acgrep.proofs.LineLists.{take_zero}
+use Rattle.acgrep.proofs.Tellings.{none_matches}
 
 -- an empty pattern occurs in each line
 empty_matches : (p : Patterns) (words : List (List ℕ)) → p.words ≡ [] ∷ words → (line : List ℕ) → HasMatch p line
@@ -26,9 +27,10 @@ empty_matches p words are line =
     )
 
 -- where no line is selected each is passed over
-pub none_selected : (p : Patterns) (invert : Bool) (words : List (List ℕ)) → p.words ≡ words → selects_none invert words ≡ true → (line : List ℕ) → IsPassedOver p invert line
-none_selected p false [] are is line = λ m occurs. absurd (omega (arith, occurs.numbered, ap length are))
-none_selected p false (word ∷ words) are is line = absurd (cc)
-none_selected p true [] are is line = absurd (cc)
-none_selected p true ([] ∷ words) are is line = empty_matches p words are line
-none_selected p true ((byte ∷ bytes) ∷ words) are is line = absurd (cc)
+pub none_selected : (p : Patterns) (whole invert : Bool) (words : List (List ℕ)) → p.words ≡ words → selects_none whole invert words ≡ true → (line : List ℕ) → IsPassedOver p whole invert line
+none_selected p whole false [] are is line = none_matches p whole line (λ m occurs. absurd (omega (arith, occurs.numbered, ap length are)))
+none_selected p whole false (word ∷ words) are is line = absurd (cc)
+none_selected p whole true [] are is line = absurd (cc)
+none_selected p true true (word ∷ words) are is line = absurd (cc)
+none_selected p false true ([] ∷ words) are is line = empty_matches p words are line
+none_selected p false true ((byte ∷ bytes) ∷ words) are is line = absurd (cc)

@@ -1,6 +1,6 @@
 -- The patterns of sources, one after another, as the lines of one text.
 use Rattle.std.proofs.Common.{◌≡◌, inl, inr, ℕ, suc, zero, ◌+◌, ◌-◌, ◌≤◌, ◌<◌, ◌==◌, Bool, true, false, List, [], ◌∷◌, ◌++◌, Option, None, Some, length, take, drop, refl, sym, ◌∙◌, ap, subst, arith, append-nil, append_assoc, length-append}
-use Rattle.std.specs.Prelude.{IfSome, codes, slice_index}
+use Rattle.std.specs.Prelude.{IfSome, codes, if◌then◌else◌, slice_index}
 use Rattle.std.specs.Io.{StartsWith}
 use Rattle.std.specs.Io.KnownBytes.{Consumes, IsAtEnd, Keeps}
 use Rattle.std.proofs.KnownBytes.{starts_with_rest}
@@ -14,11 +14,12 @@ use Rattle.acgrep.specs.Arguments.{Origin, origin_of}
 use Rattle.programs.specs.Names.{is_input}
 use Rattle.acgrep.specs.Lines.{IsNewline, joined_to, lines}
 use Rattle.acgrep.specs.Loading.{AddsText, AddsWords}
-use Rattle.acgrep.specs.Runs.{AreWords, origins_of}
+use Rattle.acgrep.specs.Runs.{AreWords, asks_none, kind_sought, origins_of, words_sought}
 use Rattle.acgrep.specs.Searchers.{patterns_asked}
 use Rattle.acgrep.specs.Selected.{HoldNoNewline}
 use Rattle.acgrep.specs.Written.{EachLine, EndsLine}
 use Rattle.acgrep.specs.declared.arguments.Source.{Source}
+use Rattle.acgrep.specs.declared.options.Flags.{Flags}
 use Rattle.acgrep.proofs.Around.{newline_behind}
 use Rattle.acgrep.proofs.FirstLines.{lines_joined}
 use Rattle.acgrep.proofs.LineLists.{lines_append}
@@ -93,6 +94,14 @@ plain_at (word ∷ words) (suc number) plain low = plain_at words number plain.1
 -- patterns that are lines hold no newline
 pub lines_plain : (kind : MatchKind) (ignore_case : Bool) (text : List ℕ) → HoldNoNewline (patterns_asked kind ignore_case (lines text))
 lines_plain kind ignore_case text number place low within = plain_at (lines text) number (plain_lines text) low place within
+
+-- nor do those that are searched for
+sought_by : (none : Bool) (kind : MatchKind) (ignore_case : Bool) (text : List ℕ) → HoldNoNewline (patterns_asked kind ignore_case (if none then [] else lines text))
+sought_by true kind ignore_case text number place low within = absurd (omega (arith, low))
+sought_by false kind ignore_case text number place low within = lines_plain kind ignore_case text number place low within
+
+pub sought_plain : (flags : Flags) (text : List ℕ) → HoldNoNewline (patterns_asked (kind_sought flags) flags.ignore_case (words_sought flags (lines text)))
+sought_plain flags text = sought_by (asks_none flags.most) (kind_sought flags) flags.ignore_case text
 
 module _ (holds : List ℕ → Option (List ℕ)) where
   -- all that a reader has of a file that is known

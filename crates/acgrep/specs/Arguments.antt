@@ -10,10 +10,10 @@ use Rattle.acgrep.specs.Long.{option_by}
 use Rattle.acgrep.specs.declared.long.Long.{Long}
 use Rattle.acgrep.specs.declared.long.Long.TheVariants.{Plain, Takes, When}
 use Rattle.acgrep.specs.declared.long.Valued.{Valued}
-use Rattle.acgrep.specs.declared.long.Valued.TheVariants.{Regexp, PatternFile, Kind, Offset, FirstLine}
+use Rattle.acgrep.specs.declared.long.Valued.TheVariants.{Regexp, PatternFile, Kind, Offset, FirstLine, MaxCount}
 use Rattle.acgrep.specs.declared.options.Color.{Color}
 use Rattle.acgrep.specs.declared.options.Switch.{Switch}
-use Rattle.acgrep.specs.declared.options.Switch.TheVariants.{IgnoreCase, MatchCase, Invert, Counts, Numbers, OnlyMatching, Offsets, OnlyNames, OnlyLacking, NullNames, Quiet, Json, NoName, WithName, NoMatchOk, Help, Version, Same}
+use Rattle.acgrep.specs.declared.options.Switch.TheVariants.{IgnoreCase, MatchCase, Invert, WholeLines, Counts, Numbers, OnlyMatching, Offsets, OnlyNames, OnlyLacking, NullNames, Quiet, Json, NoName, WithName, NoMatchOk, NoMessages, Help, Version, Same}
 use Rattle.acgrep.specs.declared.arguments.Awaited.{Awaited}
 use Rattle.acgrep.specs.declared.arguments.Awaited.TheVariants.{Fresh, Argument, Operands}
 use Rattle.acgrep.specs.declared.arguments.Refusal.{Refusal}
@@ -53,6 +53,7 @@ abbrev pub switch_by : ℕ → Option Switch
 switch_by letter =
     if letter == 105 || letter == 121 then Some IgnoreCase
     else if letter == 118 then Some Invert
+    else if letter == 120 then Some WholeLines
     else if letter == 99 then Some Counts
     else if letter == 110 then Some Numbers
     else if letter == 111 then Some OnlyMatching
@@ -61,6 +62,7 @@ switch_by letter =
     else if letter == 76 then Some OnlyLacking
     else if letter == 90 then Some NullNames
     else if letter == 113 then Some Quiet
+    else if letter == 115 then Some NoMessages
     else if letter == 104 then Some NoName
     else if letter == 72 then Some WithName
     else if letter == 86 then Some Version
@@ -72,6 +74,7 @@ abbrev pub switched : Switch → Flags → Flags
 switched IgnoreCase flags = record flags { ignore_case = true }
 switched MatchCase flags = record flags { ignore_case = false }
 switched Invert flags = record flags { invert = true }
+switched WholeLines flags = record flags { whole = true }
 switched Counts flags = record flags { count = true }
 switched Numbers flags = record flags { number = true }
 switched OnlyMatching flags = record flags { only_matching = true }
@@ -84,6 +87,7 @@ switched Json flags = record flags { json = true }
 switched NoName flags = record flags { with_name = Some false }
 switched WithName flags = record flags { with_name = Some true }
 switched NoMatchOk flags = record flags { no_match_ok = true }
+switched NoMessages flags = record flags { no_messages = true }
 switched Help flags = record flags { help = true }
 switched Version flags = record flags { version = true }
 switched Same flags = flags
@@ -126,13 +130,6 @@ abbrev pub taken_by : Bool → List ℕ → Said → ReadSoFar
 taken_by is_file [] s = record { awaits = Argument (source_option is_file); said = s }
 taken_by is_file (first ∷ rest) s = said_so (with_source is_file (first ∷ rest) s)
 
--- joined letters
-abbrev pub letters_by : List ℕ → Said → Option ReadSoFar
-letters_by [] s = Some (said_so s)
-letters_by (letter ∷ rest) s =
-    if letter == 101 || letter == 102 then Some (taken_by (letter == 102) rest s)
-    else option_and_then (λ switch. letters_by rest (record s { flags = switched switch s.flags })) (switch_by letter)
-
 -- the argument of an option
 abbrev pub value_by : Valued → List ℕ → Said → Option ReadSoFar
 value_by Regexp argument s = Some (said_so (with_source false argument s))
@@ -140,6 +137,20 @@ value_by PatternFile argument s = Some (said_so (with_source true argument s))
 value_by Kind argument s = option_map (λ kind. said_so (record s { flags = record s.flags { kind = kind } })) (kind_by argument)
 value_by Offset argument s = option_map (λ first. said_so (record s { flags = record s.flags { first = first } })) (number_by argument)
 value_by FirstLine argument s = option_map (λ number. said_so (record s { flags = record s.flags { first_line = number } })) (number_by argument)
+value_by MaxCount argument s = option_map (λ number. said_so (record s { flags = record s.flags { most = Some number } })) (number_by argument)
+
+-- that of `-m` too
+abbrev pub most_by : List ℕ → Said → Option ReadSoFar
+most_by [] s = Some (record { awaits = Argument MaxCount; said = s })
+most_by (first ∷ rest) s = value_by MaxCount (first ∷ rest) s
+
+-- joined letters
+abbrev pub letters_by : List ℕ → Said → Option ReadSoFar
+letters_by [] s = Some (said_so s)
+letters_by (letter ∷ rest) s =
+    if letter == 101 || letter == 102 then Some (taken_by (letter == 102) rest s)
+    else if letter == 109 then most_by rest s
+    else option_and_then (λ switch. letters_by rest (record s { flags = switched switch s.flags })) (switch_by letter)
 
 -- when matches are coloured
 abbrev pub color_named : List ℕ → Option Color
@@ -223,6 +234,7 @@ abbrev pub no_flags : Flags
 no_flags = record {
   ignore_case = false;
   invert = false;
+  whole = false;
   count = false;
   number = false;
   only_matching = false;
@@ -238,6 +250,8 @@ no_flags = record {
   first = 0;
   first_line = 1;
   no_match_ok = false;
+  no_messages = false;
+  most = None;
   help = false;
   version = false;
 }

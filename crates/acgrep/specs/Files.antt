@@ -7,7 +7,7 @@ use Rattle.aho_core.specs.Patterns.{Patterns}
 use Rattle.acgrep.specs.Filled.{ReadsOn}
 use Rattle.acgrep.specs.Lines.{lines}
 use Rattle.acgrep.specs.Printed.{count_by, file_line}
-use Rattle.acgrep.specs.Written.{EachLine, IsPassedOver, IsSelected, StartsNext, TellsOfLines, after_lines, needs_one}
+use Rattle.acgrep.specs.Written.{EachLine, IsPassedOver, IsSelected, StartsNext, TellsOfLines, after_lines, is_full, needs_one}
 use Rattle.acgrep.specs.declared.files.Files.{Files}
 use Rattle.acgrep.specs.declared.files.Outcome.{Outcome}
 use Rattle.acgrep.specs.declared.files.Outcome.TheVariants.{Searched, Unread, Stopped}
@@ -27,8 +27,8 @@ SomeLine P [] = ⊥
 SomeLine P (line ∷ rest) = P line ⊎ SomeLine P rest
 
 -- whether one of these lines is selected
-abbrev pub IsAny : Patterns → Bool → List (List ℕ) → Bool → Type 0
-IsAny p invert ls any = MatchBool any (SomeLine (IsSelected p invert) ls) (EachLine (IsPassedOver p invert) ls)
+abbrev pub IsAny : Patterns → (whole invert : Bool) → List (List ℕ) → Bool → Type 0
+IsAny p whole invert ls any = MatchBool any (SomeLine (IsSelected p whole invert) ls) (EachLine (IsPassedOver p whole invert) ls)
 
 -- behind the lines of a file stands their count where it is asked for
 abbrev pub count_if : Shown → Style → ℕ → List ℕ
@@ -69,26 +69,31 @@ TellsBy p job Nothing text any bytes = bytes ≡ []
 pub record SearchesFile (p : Patterns) (job : Job) (known held held' : Option (List ℕ)) (any : Bool) : Type 0 where
   pub text : List ℕ
   pub of : IfSome known (λ bytes. text ≡ bytes)
-  pub selected : IsAny p job.invert (lines text) any
+  pub selected : IsAny p job.whole job.invert (lines text) any
   pub bytes : List ℕ
   pub tells : TellsBy p job job.shown text any bytes
   pub written : Appends held held' bytes
 
--- a reader was read to its end, or until a selected line told all
-pub record IsRead (job : Job) (left left' : Option (List ℕ)) (any : Bool) : Type 0 where
+-- so many lines of a text are selected as are asked for
+abbrev pub HasAllAsked : Patterns → Job → List ℕ → Type 0
+HasAllAsked p job text = (told : List ℕ) × (count : ℕ) × TellsOfLines p job job.first 0 (lines text) told count × (is_full job.most count ≡ true)
+
+-- a reader was read to its end, or until a selected line told all, or so many lines of it are selected as are asked for
+pub record IsRead (p : Patterns) (job : Job) (left left' : Option (List ℕ)) (any : Bool) : Type 0 where
   pub bytes : List ℕ
   pub read : Consumes left left' bytes
-  pub ended : IsAtEnd left' ⊎ ((needs_one job.shown ≡ true) × (any ≡ true))
+  pub ended : IsAtEnd left' ⊎ (((needs_one job.shown ≡ true) × (any ≡ true)) ⊎ HasAllAsked p job bytes)
 
 -- all that a reader has left was searched
 pub record SearchesReader (p : Patterns) (job : Job) (left left' held held' : Option (List ℕ)) (any : Bool) : Type 0 where
   pub file : SearchesFile p job left held held' any
-  pub reads : IsRead job left left' any
+  pub reads : IsRead p job left left' any
 
 -- the same is written of the file of this name
 pub record IsNamed (job : Job) (bytes : List ℕ) (named : Job) : Type 0 where
   pub shown : named.shown ≡ job.shown
   pub invert : named.invert ≡ job.invert
+  pub whole : named.whole ≡ job.whole
   pub name : named.style.name.now ≡ bytes
   pub with_name : named.style.with_name ≡ job.style.with_name
   pub null : named.style.null ≡ job.style.null
@@ -96,6 +101,8 @@ pub record IsNamed (job : Job) (bytes : List ℕ) (named : Job) : Type 0 where
   pub offset : named.style.offset ≡ job.style.offset
   pub color : named.style.color ≡ job.style.color
   pub first : named.first ≡ job.first
+  pub most : named.most ≡ job.most
+  pub hushed : named.hushed ≡ job.hushed
 
 -- how a file is called in what is written
 abbrev pub shown_name : List ℕ → List ℕ
@@ -110,7 +117,7 @@ pub record SearchesName (p : Patterns) (job : Job) (holds : List ℕ → Option 
   pub named : Job
   pub is_named : IsNamed job (shown_name name) named
   pub file : SearchesFile p named (known_of holds name left) held held' any
-  pub reads : MatchBool (is_input name) (IsRead named left left' any) (left' ≡ left)
+  pub reads : MatchBool (is_input name) (IsRead p named left left' any) (left' ≡ left)
 
 -- under `-q` one selected line of any file is enough
 abbrev pub is_enough : Shown → Bool → Bool
@@ -133,7 +140,7 @@ AreFilesSearched p job holds (name ∷ names) left left' held held' any =
 
 -- a file of these bytes, where they are known, has a selected line
 abbrev pub HasSelected : Patterns → Job → Option (List ℕ) → Type 0
-HasSelected p job known = (text : List ℕ) × IfSome known (λ bytes. text ≡ bytes) × SomeLine (IsSelected p job.invert) (lines text)
+HasSelected p job known = (text : List ℕ) × IfSome known (λ bytes. text ≡ bytes) × SomeLine (IsSelected p job.whole job.invert) (lines text)
 
 -- only standard input is read from the input
 abbrev pub LeavesInput : List ℕ → (left left' : Option (List ℕ)) → Type 0
@@ -201,7 +208,7 @@ pub record BeginsFile (p : Patterns) (job : Job) (known held held' : Option (Lis
   pub count : ℕ
   pub tells : TellsOfLines p job job.first 0 first told count
   pub begun : List ℕ
-  pub starts : StartsNext p job (after_lines job.first first) left begun ⊎ ((missing : List ℕ) × (total_if job.shown job.style count ≡ begun ++ missing))
+  pub starts : StartsNext p job (after_lines job.first first) count left begun ⊎ ((missing : List ℕ) × (total_if job.shown job.style count ≡ begun ++ missing))
   pub written : Appends held held' (told ++ begun)
 
 -- what is so where a file was not searched

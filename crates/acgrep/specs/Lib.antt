@@ -4,7 +4,9 @@ pub mod Filled
 pub mod Lines
 pub mod Loading
 pub mod Long
+pub mod Mistakes
 pub mod Objects
+pub mod Origins
 pub mod Printed
 pub mod Runs
 pub mod Searched

@@ -6,8 +6,8 @@ use Rattle.acgrep.specs.declared.long.Found.{Found}
 use Rattle.acgrep.specs.declared.long.Found.TheVariants.{Unknown, Begun, Several, Whole}
 use Rattle.acgrep.specs.declared.long.Long.{Long}
 use Rattle.acgrep.specs.declared.long.Long.TheVariants.{Plain, Takes, When}
-use Rattle.acgrep.specs.declared.long.Valued.TheVariants.{Regexp, PatternFile, Kind, Offset, FirstLine}
-use Rattle.acgrep.specs.declared.options.Switch.TheVariants.{IgnoreCase, MatchCase, Invert, Counts, Numbers, OnlyMatching, Offsets, OnlyNames, OnlyLacking, NullNames, Quiet, Json, NoName, WithName, NoMatchOk, Help, Version, Same}
+use Rattle.acgrep.specs.declared.long.Valued.TheVariants.{Regexp, PatternFile, Kind, Offset, FirstLine, MaxCount}
+use Rattle.acgrep.specs.declared.options.Switch.TheVariants.{IgnoreCase, MatchCase, Invert, WholeLines, Counts, Numbers, OnlyMatching, Offsets, OnlyNames, OnlyLacking, NullNames, Quiet, Json, NoName, WithName, NoMatchOk, NoMessages, Help, Version, Same}
 
 -- an option's long name, and what it means
 pub record Name : Type 0 where
@@ -24,6 +24,7 @@ pattern_options = named (codes "regexp") (Takes Regexp)
     ∷ named (codes "ignore-case") (Plain IgnoreCase)
     ∷ named (codes "no-ignore-case") (Plain MatchCase)
     ∷ named (codes "invert-match") (Plain Invert)
+    ∷ named (codes "line-regexp") (Plain WholeLines)
     ∷ named (codes "kind") (Takes Kind)
     ∷ named (codes "fixed-strings") (Plain Same)
     ∷ named (codes "text") (Plain Same)
@@ -44,6 +45,7 @@ output_options = named (codes "count") (Plain Counts)
     ∷ named (codes "byte-offset") (Plain Offsets)
     ∷ named (codes "with-filename") (Plain WithName)
     ∷ named (codes "no-filename") (Plain NoName)
+    ∷ named (codes "max-count") (Takes MaxCount)
     ∷ []
 
 -- and all others
@@ -53,6 +55,7 @@ other_options = named (codes "color") When
     ∷ named (codes "offset") (Takes Offset)
     ∷ named (codes "first-line") (Takes FirstLine)
     ∷ named (codes "no-match-ok") (Plain NoMatchOk)
+    ∷ named (codes "no-messages") (Plain NoMessages)
     ∷ named (codes "line-buffered") (Plain Same)
     ∷ named (codes "help") (Plain Help)
     ∷ named (codes "version") (Plain Version)

@@ -1,7 +1,9 @@
 -- What a call searches for and in which files, by what its arguments say.
-use Rattle.std.specs.Prelude.{◌≡◌, ◌⊎◌, ℕ, ◌+◌, ◌-◌, ◌%◌, ◌^◌, ◌==◌, ◌&&◌, ◌||◌, nat_lt, Bool, MatchBool, true, false, not, List, [], ◌∷◌, ◌++◌, Option, Some, IfSome, String, codes, length, map, unwrap_or, if◌then◌else◌}
+use Rattle.std.specs.Prelude.{◌≡◌, ◌⊎◌, ℕ, ◌+◌, ◌-◌, ◌%◌, ◌^◌, ◌==◌, ◌&&◌, ◌||◌, nat_lt, Bool, MatchBool, true, false, not, List, [], ◌∷◌, ◌++◌, Option, None, Some, IfSome, String, codes, length, map, unwrap_or, if◌then◌else◌}
 use Rattle.std.specs.Io.KnownBytes.{Consumes, IsAtEnd, Keeps}
 use Rattle.aho_core.specs.Patterns.{Patterns}
+use Rattle.aho_core.specs.declared.search.MatchKind.{MatchKind}
+use Rattle.aho_core.specs.declared.search.MatchKind.TheVariants.{LeftmostLongest}
 use Rattle.programs.specs.Arguments.{texts}
 use Rattle.acgrep.specs.Arguments.{Origin, Said, origin_of, said_by, shown_by}
 use Rattle.programs.specs.Names.{is_input, or_input}
@@ -79,16 +81,33 @@ abbrev pub are_empty : List (List ℕ) → Bool
 are_empty [] = true
 are_empty (word ∷ words) = is_none word && are_empty words
 
--- whether no line is selected, whatever it holds: there is no pattern, or under `invert` there are empty ones alone
-abbrev pub selects_none : Bool → List (List ℕ) → Bool
-selects_none false [] = true
-selects_none false (word ∷ words) = false
-selects_none true [] = false
-selects_none true (word ∷ words) = are_empty (word ∷ words)
+-- whether no line is selected, whatever it holds: there is no pattern, or under `invert` there are empty ones alone, and they occur in
+-- each line
+abbrev pub selects_none : (whole invert : Bool) → List (List ℕ) → Bool
+selects_none whole false [] = true
+selects_none whole false (word ∷ words) = false
+selects_none whole true [] = false
+selects_none whole true (word ∷ words) = not whole && are_empty (word ∷ words)
 
--- whether that is known without reading a file, and no file is to be named for it
+-- at most no line is asked for
+abbrev pub asks_none : Option ℕ → Bool
+asks_none None = false
+asks_none (Some most) = most == 0
+
+-- then no pattern is searched for, and lines without a match are not selected
+abbrev pub words_sought : Flags → List (List ℕ) → List (List ℕ)
+words_sought flags words = if asks_none flags.most then [] else words
+
+abbrev pub inverts : Flags → Bool
+inverts flags = flags.invert && not (asks_none flags.most)
+
+-- where whole lines are asked for, the longest match is searched for
+abbrev pub kind_sought : Flags → MatchKind
+kind_sought flags = if flags.whole then LeftmostLongest else flags.kind
+
+-- whether that no line is selected is known without reading a file, and no file is to be named for it
 abbrev pub knows_none : Flags → List (List ℕ) → Bool
-knows_none flags words = (flags.quiet || not flags.lacking) && selects_none flags.invert words
+knows_none flags words = (flags.quiet || not flags.lacking) && selects_none flags.whole (inverts flags) words
 
 -- whether matches are coloured
 abbrev pub is_colored : Color → Bool → Bool
@@ -103,7 +122,8 @@ first_place flags = record { lines = (flags.first_line + (2 ^ 64 - 1)) % 2 ^ 64;
 -- what is written of each of `count` files, but for its name
 pub record IsJob (flags : Flags) (terminal : Bool) (count : ℕ) (job : Job) : Type 0 where
   pub shown : job.shown ≡ shown_by flags
-  pub invert : job.invert ≡ flags.invert
+  pub invert : job.invert ≡ inverts flags
+  pub whole : job.whole ≡ flags.whole
   -- where nothing is said of names they stand before the lines of several files
   pub with_name : job.style.with_name ≡ unwrap_or flags.with_name (nat_lt 1 count)
   pub null : job.style.null ≡ flags.null
@@ -112,27 +132,36 @@ pub record IsJob (flags : Flags) (terminal : Bool) (count : ℕ) (job : Job) : T
   pub color : job.style.color ≡ is_colored flags.color terminal
   -- where the first line of each file stands
   pub first : job.first ≡ first_place flags
+  -- how many lines of each are selected at most
+  pub most : job.most ≡ flags.most
+  -- whether nothing is told of those that cannot be read
+  pub hushed : job.hushed ≡ flags.no_messages
 
 -- these words were searched for in the files of these names, as the flags say
 pub record SearchesWords (holds : List ℕ → Option (List ℕ)) (terminal : Bool) (flags : Flags) (words names : List (List ℕ)) (left left' held held' : Option (List ℕ)) (status : ℕ) : Type 0 where
   pub job : Job
   pub is_job : IsJob flags terminal (length names) job
-  pub searched : AreSearchedOr (patterns_asked flags.kind flags.ignore_case words) job holds (or_input names) left left' held held' status
+  pub searched : AreSearchedOr (patterns_asked (kind_sought flags) flags.ignore_case words) job holds (or_input names) left left' held held' status
 
 -- no line is selected, whatever it holds: nothing was read and nothing written, and the status tells it
-pub record SelectsNoLine (p : Patterns) (invert : Bool) (left left' held held' : Option (List ℕ)) (status : ℕ) : Type 0 where
-  pub passed : (line : List ℕ) → IsPassedOver p invert line
+pub record SelectsNoLine (p : Patterns) (whole invert : Bool) (left left' held held' : Option (List ℕ)) (status : ℕ) : Type 0 where
+  pub passed : (line : List ℕ) → IsPassedOver p whole invert line
   pub unread : left' ≡ left
   pub unwritten : Keeps held held'
   pub none : status ≡ 1
+
+-- these words were searched for so, or no line is selected by them
+abbrev pub AreSought : (List ℕ → Option (List ℕ)) → Bool → Flags → (words names : List (List ℕ)) → (left left' held held' : Option (List ℕ)) → ℕ → Type 0
+AreSought holds terminal flags words names left left' held held' status =
+    MatchBool (knows_none flags words) (SelectsNoLine (patterns_asked (kind_sought flags) flags.ignore_case words) flags.whole (inverts flags) left left' held held' status)
+    (SearchesWords holds terminal flags words names left left' held held' status)
 
 -- the patterns of these sources were read, and then searched for in the files of these names
 pub record SearchesFor (holds : List ℕ → Option (List ℕ)) (terminal : Bool) (flags : Flags) (sources : List Origin) (names : List (List ℕ)) (left left' held held' : Option (List ℕ)) (status : ℕ) : Type 0 where
   pub words : List (List ℕ)
   pub between : Option (List ℕ)
   pub read : AreWords holds sources left between words
-  pub searched : MatchBool (knows_none flags words) (SelectsNoLine (patterns_asked flags.kind flags.ignore_case words) flags.invert between left' held held' status)
-      (SearchesWords holds terminal flags words names between left' held held' status)
+  pub searched : AreSought holds terminal flags (words_sought flags words) names between left' held held' status
 
 -- what was said was searched for
 abbrev pub SearchesSaid : (List ℕ → Option (List ℕ)) → Bool → Said → (left left' held held' : Option (List ℕ)) → ℕ → Type 0
@@ -156,7 +185,7 @@ pub record BeginsWords (holds : List ℕ → Option (List ℕ)) (terminal : Bool
   pub read : AreWords holds sources left between words
   pub job : Job
   pub is_job : IsJob flags terminal (length names) job
-  pub begun : AreFilesBegun (patterns_asked flags.kind flags.ignore_case words) job holds (or_input names) between held held'
+  pub begun : AreFilesBegun (patterns_asked (kind_sought flags) flags.ignore_case (words_sought flags words)) job holds (or_input names) between held held'
 
 -- or nothing is
 abbrev pub BeginsFor : (List ℕ → Option (List ℕ)) → Bool → Flags → List Origin → List (List ℕ) → (left held held' : Option (List ℕ)) → Type 0

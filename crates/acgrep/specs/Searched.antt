@@ -1,5 +1,5 @@
 -- What searching by an automaton does, of whatever patterns it is.
-use Rattle.std.specs.Prelude.{◌≡◌, ℕ, true, List, [], ◌∷◌, Option, Result, IfOk, OnErr, OnOk}
+use Rattle.std.specs.Prelude.{◌≡◌, ℕ, Bool, true, List, [], ◌∷◌, Option, Result, IfOk, OnErr, OnOk}
 use Rattle.std.specs.Borrow.{Bor}
 use Rattle.std.specs.declared.io.traits.Read.{Ghosts as Readers}
 use Rattle.aho_core.specs.Patterns.{Patterns}
@@ -9,7 +9,7 @@ use Rattle.programs.specs.Names.{name_bytes}
 use Rattle.acgrep.specs.Files.{AreFilesBegun, BeginsFile, IfBroken, IfSearched, SearchesFile, SearchesReader}
 use Rattle.acgrep.specs.Lines.{lines}
 use Rattle.acgrep.specs.Selected.{ForLines}
-use Rattle.acgrep.specs.Written.{BeginsLine, BeginsLines, EachLine, HasMatch, HasNone, IsSelected, SearchesText, SearchesTo, TellsLines, WritesLine}
+use Rattle.acgrep.specs.Written.{BeginsLine, BeginsLines, EachLine, HasMatch, HasNone, IsMatched, IsSelected, SearchesText, SearchesTo, TellsLines, WritesLine, WritesNext}
 use Rattle.acgrep.specs.declared.files.Outcome.{Outcome}
 use Rattle.acgrep.specs.declared.open.Open.{Ghosts as Openers}
 use Rattle.acgrep.specs.declared.print.Place.{Place}
@@ -23,6 +23,10 @@ module _ (Are : Patterns → Type 0) (job : Job) (place : Place) (held held' : O
 
   abbrev pub BeginsLineBy : {T E : Type 0} → Result T E → Type 0
   BeginsLineBy result = (p : Patterns) → Are p → OnErr result (BeginsLine p job place held held' line)
+
+-- the same of a selected line behind others
+abbrev pub WritesNextBy : (Patterns → Type 0) → Job → State → (held held' : Option (List ℕ)) → List ℕ → {T E : Type 0} → Result T E → Type 0
+WritesNextBy Are job before held held' line result = (p : Patterns) → Are p → OnOk result (WritesNext p job before held held' line)
 
 -- the lines of a text are searched where a call does not fail, and where it fails a beginning of what is told of them is written
 module _ {A W : Type 0} (automata : Automata A) (sinks : SinkGhosts W) (automaton : A) (job : Job) (before after : State) (old new : W) where
@@ -39,7 +43,16 @@ module _ {A W : Type 0} (automata : Automata A) (sinks : SinkGhosts W) (automato
   SearchesSomeBy text result =
       ForLines (automata.is_of automaton) (λ p. IfOk result (λ left. SearchesTo p job before after (sinks.taken old) (sinks.taken new) text left.now))
 
-  -- of a line with a match
+  -- of a line of which it is known whether it matches
+  abbrev pub TellsLineBy : {T E : Type 0} → Bool → List ℕ → Result T E → Type 0
+  TellsLineBy matched line result = (p : Patterns) → automata.is_of automaton p → IsMatched p job.whole line matched
+      → OnOk result (TellsLines p job before after (sinks.taken old) (sinks.taken new) (line ∷ []))
+
+  abbrev pub BeginsOneBy : {T E : Type 0} → Bool → List ℕ → Result T E → Type 0
+  BeginsOneBy matched line result = (p : Patterns) → automata.is_of automaton p → IsMatched p job.whole line matched
+      → OnErr result (BeginsLines p job before after.selected (sinks.taken old) (sinks.taken new) (line ∷ []))
+
+  -- of a line in which a pattern occurs
   abbrev pub TellsMatchBy : {T E : Type 0} → List ℕ → Result T E → Type 0
   TellsMatchBy line result = (p : Patterns) → automata.is_of automaton p → HasMatch p line
       → OnOk result (TellsLines p job before after (sinks.taken old) (sinks.taken new) (line ∷ []))
@@ -50,7 +63,7 @@ module _ {A W : Type 0} (automata : Automata A) (sinks : SinkGhosts W) (automato
 
   -- of a line that is selected
   abbrev pub BeginsSelectedBy : {T E : Type 0} → List ℕ → Result T E → Type 0
-  BeginsSelectedBy line result = (p : Patterns) → automata.is_of automaton p → IsSelected p job.invert line
+  BeginsSelectedBy line result = (p : Patterns) → automata.is_of automaton p → IsSelected p job.whole job.invert line
       → OnErr result (BeginsLines p job before after.selected (sinks.taken old) (sinks.taken new) (line ∷ []))
 
   -- of lines without a match

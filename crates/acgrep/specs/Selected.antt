@@ -50,7 +50,7 @@ abbrev pub FindsNone : Patterns → State → State → List ℕ → Type 0
 FindsNone p before after text =
     after.selected ≡ 0 → (before.selected ≡ 0) × HasNone p text
 
--- where lines with a match are selected and none was, nothing occurs in a text that is not empty
+-- where lines in which a pattern occurs are selected and none was, nothing occurs in a text that is not empty
 abbrev pub IsNoneSelected : Patterns → Job → List ℕ → State → Type 0
 IsNoneSelected p job text state =
-    job.invert ≡ false → 0 < length text → state.selected ≡ 0 → (m : Occurrence) → OccursIn p (plain_search text) m → ⊥
+    job.invert ≡ false → job.whole ≡ false → 0 < length text → state.selected ≡ 0 → (m : Occurrence) → OccursIn p (plain_search text) m → ⊥

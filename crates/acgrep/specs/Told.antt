@@ -1,5 +1,5 @@
 -- What is told on standard error.
-use Rattle.std.specs.Prelude.{◌≡◌, ◌⊎◌, ℕ, ◌<◌, Bool, MatchBool, List, [], ◌∷◌, ◌++◌, Option, Some, None, IfSome, codes, map}
+use Rattle.std.specs.Prelude.{◌≡◌, ◌⊎◌, ℕ, ◌<◌, Bool, MatchBool, true, false, if◌then◌else◌, List, [], ◌∷◌, ◌++◌, Option, Some, None, IfSome, codes, map}
 use Rattle.std.specs.List.{concat}
 use Rattle.aho_core.specs.Texts.{build_error_text, match_error_text}
 use Rattle.aho_core.specs.declared.error.BuildError.{BuildError}
@@ -19,7 +19,7 @@ use Rattle.acgrep.specs.declared.arguments.Wrong.TheVariants.{NotText, NoPattern
 use Rattle.acgrep.specs.declared.files.Outcome.{Outcome}
 use Rattle.acgrep.specs.declared.files.Outcome.TheVariants.{Searched, Unread, Stopped}
 use Rattle.acgrep.specs.declared.long.Valued.{Valued}
-use Rattle.acgrep.specs.declared.long.Valued.TheVariants.{Regexp, PatternFile, Kind, Offset, FirstLine}
+use Rattle.acgrep.specs.declared.long.Valued.TheVariants.{Regexp, PatternFile, Kind, Offset, FirstLine, MaxCount}
 use Rattle.acgrep.specs.declared.options.Flags.{Flags}
 use Rattle.acgrep.specs.declared.options.Shown.{Shown}
 use Rattle.acgrep.specs.declared.options.Shown.TheVariants.{Nothing}
@@ -69,6 +69,7 @@ valued_name PatternFile = codes "-f"
 valued_name Kind = codes "--kind"
 valued_name Offset = codes "--offset"
 valued_name FirstLine = codes "--first-line"
+valued_name MaxCount = codes "-m"
 
 -- an option of this name has no argument, or one that is no number
 abbrev pub unargued_parts : List ℕ → List (List ℕ)
@@ -78,17 +79,37 @@ abbrev pub number_parts : (name argument : List ℕ) → List (List ℕ)
 number_parts name argument =
     codes "acgrep: option '" ∷ name ∷ codes "' takes a number below 2^64, not '" ∷ argument ∷ codes "'\n" ∷ usage_text ∷ []
 
+-- no option has this letter or this long name, several have such a beginning, or this one takes no argument
+abbrev pub letter_parts : ℕ → List (List ℕ)
+letter_parts letter = codes "acgrep: unknown option '-" ∷ (letter ∷ []) ∷ codes "'\n" ∷ usage_text ∷ []
+
+abbrev pub name_parts : List ℕ → List (List ℕ)
+name_parts name = codes "acgrep: unknown option '--" ∷ name ∷ codes "'\n" ∷ usage_text ∷ []
+
+abbrev pub several_parts : List ℕ → List (List ℕ)
+several_parts name = codes "acgrep: several options begin with '--" ∷ name ∷ codes "'\n" ∷ usage_text ∷ []
+
+abbrev pub taken_parts : List ℕ → List (List ℕ)
+taken_parts name = codes "acgrep: option '--" ∷ name ∷ codes "' takes no argument\n" ∷ usage_text ∷ []
+
+-- there is no such match kind, or no such time for colours
+abbrev pub kind_parts : List ℕ → List (List ℕ)
+kind_parts kind = codes "acgrep: option '--kind' takes first, longest or standard, not '" ∷ kind ∷ codes "'\n" ∷ usage_text ∷ []
+
+abbrev pub color_parts : List ℕ → List (List ℕ)
+color_parts time = codes "acgrep: option '--color' takes auto, always or never, not '" ∷ time ∷ codes "'\n" ∷ usage_text ∷ []
+
 -- why arguments are wrong, and how to get help
 abbrev pub wrong_parts : Wrong → List (List ℕ)
 wrong_parts NotText = codes "acgrep: an argument is not UTF-8\n" ∷ []
 wrong_parts NoPattern = codes "acgrep: no pattern is given\n" ∷ usage_text ∷ []
-wrong_parts (UnknownLetter letter) = codes "acgrep: unknown option '-" ∷ (letter ∷ []) ∷ codes "'\n" ∷ usage_text ∷ []
-wrong_parts (UnknownName name) = codes "acgrep: unknown option '--" ∷ name.now ∷ codes "'\n" ∷ usage_text ∷ []
-wrong_parts (Ambiguous name) = codes "acgrep: several options begin with '--" ∷ name.now ∷ codes "'\n" ∷ usage_text ∷ []
+wrong_parts (UnknownLetter letter) = letter_parts letter
+wrong_parts (UnknownName name) = name_parts name.now
+wrong_parts (Ambiguous name) = several_parts name.now
 wrong_parts (NoArgument valued) = unargued_parts (valued_name valued)
-wrong_parts (TakesNone name) = codes "acgrep: option '--" ∷ name.now ∷ codes "' takes no argument\n" ∷ usage_text ∷ []
-wrong_parts (UnknownKind name) = codes "acgrep: option '--kind' takes first, longest or standard, not '" ∷ name.now ∷ codes "'\n" ∷ usage_text ∷ []
-wrong_parts (UnknownColor name) = codes "acgrep: option '--color' takes auto, always or never, not '" ∷ name.now ∷ codes "'\n" ∷ usage_text ∷ []
+wrong_parts (TakesNone name) = taken_parts name.now
+wrong_parts (UnknownKind name) = kind_parts name.now
+wrong_parts (UnknownColor name) = color_parts name.now
 wrong_parts (NoNumber valued number) = number_parts (valued_name valued) number.now
 
 -- that is told of wrong arguments
@@ -102,33 +123,48 @@ source_names sources = map (λ source. source.bytes) sources
 abbrev pub shown_names : List (List ℕ) → List (List ℕ)
 shown_names names = map (λ name. shown_name name) names
 
-abbrev pub names_told : List Origin → List (List ℕ) → List (List ℕ)
-names_told sources names = source_names sources ++ shown_names (or_input names)
+-- none of those that are searched where nothing is told of files that cannot be read
+abbrev pub files_told : Bool → List (List ℕ) → List (List ℕ)
+files_told hushed names = if hushed then [] else shown_names names
+
+abbrev pub names_told : Bool → List Origin → List (List ℕ) → List (List ℕ)
+names_told hushed sources names = source_names sources ++ files_told hushed (or_input names)
 
 abbrev pub names_said : Option Said → List (List ℕ)
 names_said None = []
-names_said (Some said) = names_told (sources_by said.sources said.operands) (names_by said.sources said.operands)
+names_said (Some said) = names_told said.flags.no_messages (sources_by said.sources said.operands) (names_by said.sources said.operands)
+
+-- whether nothing is told of files that cannot be read
+abbrev pub is_hushed : Option Said → Bool
+is_hushed None = false
+is_hushed (Some said) = said.flags.no_messages
+
+-- a file that cannot be read, or nothing more can be searched
+abbrev pub stopped_if : Bool → Outcome
+stopped_if false = Unread
+stopped_if true = Stopped
 
 -- a line that a call may write to standard error whose arguments name these files
 abbrev pub MayTell : List (List ℕ) → List ℕ → Type 0
 MayTell names line = IsMessage names line ⊎ IsUsage line
 
-module _ {E : Type 0} (K : SinkGhosts E) (IsLine : List ℕ → Type 0) where
-  -- one line or more is told where that is so, and else nothing
-  abbrev pub TellsIf : Bool → Errors E → Errors E → Type 0
-  TellsIf failed old new = MatchBool failed (TellsSome K IsLine old new) (new ≡ old)
-
+-- where `hushed` is so nothing is told of files that cannot be read
+module _ {E : Type 0} (K : SinkGhosts E) (IsLine : List ℕ → Type 0) (hushed : Bool) where
   -- one line or more is told where a file was not searched, and else nothing
   abbrev pub TellsOutcome : Outcome → Errors E → Errors E → Type 0
   TellsOutcome (Searched any) old new = new ≡ old
-  TellsOutcome Unread old new = TellsSome K IsLine old new
+  TellsOutcome Unread old new = MatchBool hushed (new ≡ old) (TellsSome K IsLine old new)
   TellsOutcome Stopped old new = TellsSome K IsLine old new
+
+  -- one line or more is told where one of several was not, and else nothing
+  abbrev pub TellsIf : Bool → Errors E → Errors E → Type 0
+  TellsIf failed old new = MatchBool failed (MatchBool hushed (Tells K IsLine old new) (TellsSome K IsLine old new)) (new ≡ old)
 
   -- only such lines are told: none where the status tells of no error, but for files that cannot be read under `-q`, and else one or more
   pub record TellsStatus (shown : Shown) (status : ℕ) (old new : Errors E) : Type 0 where
     pub tells : Tells K IsLine old new
     pub silent : status < 2 → (shown ≡ Nothing → ⊥) → new ≡ old
-    pub some : status ≡ 2 → TellsSome K IsLine old new
+    pub some : hushed ≡ false → status ≡ 2 → TellsSome K IsLine old new
 
 module _ {E : Type 0} (K : SinkGhosts E) where
   -- why arguments are wrong
@@ -143,26 +179,28 @@ module _ {E : Type 0} (K : SinkGhosts E) where
   abbrev pub TellsOfSources : List Source → Errors E → Errors E → Type 0
   TellsOfSources sources old new = TellsSome K (IsMessage (source_names (origins_of sources))) old new
 
-  -- what is told of a file of this name by what came of it
-  abbrev pub TellsOfOutcome : List ℕ → Outcome → Errors E → Errors E → Type 0
-  TellsOfOutcome name outcome old new = (names : List (List ℕ)) → IsAmong name names → TellsOutcome K (IsMessage names) outcome old new
+  -- what is told of a file of this name by what came of it: where nothing is told of files that cannot be read, no file is named
+  abbrev pub TellsOfOutcome : Bool → List ℕ → Outcome → Errors E → Errors E → Type 0
+  TellsOfOutcome hushed name outcome old new =
+      (names : List (List ℕ)) → (hushed ≡ false → IsAmong name names) → TellsOutcome K (IsMessage names) hushed outcome old new
 
   -- and where it was read to its end
-  abbrev pub TellsOfEnd : Outcome → Errors E → Errors E → Type 0
-  TellsOfEnd outcome old new = (names : List (List ℕ)) → TellsOutcome K (IsMessage names) outcome old new
+  abbrev pub TellsOfEnd : Bool → Outcome → Errors E → Errors E → Type 0
+  TellsOfEnd hushed outcome old new = (names : List (List ℕ)) → TellsOutcome K (IsMessage names) hushed outcome old new
 
   -- what is told of files of these names by the status
-  abbrev pub TellsOfFiles : List (List ℕ) → Shown → ℕ → Errors E → Errors E → Type 0
-  TellsOfFiles names shown status old new = TellsStatus K (IsMessage (shown_names names)) shown status old new
+  abbrev pub TellsOfFiles : Bool → List (List ℕ) → Shown → ℕ → Errors E → Errors E → Type 0
+  TellsOfFiles hushed names shown status old new = TellsStatus K (IsMessage (files_told hushed names)) hushed shown status old new
 
   -- and of a text of the program
   abbrev pub TellsOfText : ℕ → Errors E → Errors E → Type 0
-  TellsOfText status old new = (shown : Shown) → (names : List (List ℕ)) → TellsStatus K (MayTell names) shown status old new
+  TellsOfText status old new = (hushed : Bool) → (shown : Shown) → (names : List (List ℕ)) → TellsStatus K (MayTell names) hushed shown status old new
 
   -- and of a search for the patterns of these sources
   abbrev pub TellsOfSearch : Flags → List Origin → List (List ℕ) → ℕ → Errors E → Errors E → Type 0
-  TellsOfSearch flags sources names status old new = TellsStatus K (MayTell (names_told sources names)) (shown_by flags) status old new
+  TellsOfSearch flags sources names status old new =
+      TellsStatus K (MayTell (names_told flags.no_messages sources names)) flags.no_messages (shown_by flags) status old new
 
   -- and of a call whose arguments say this
   abbrev pub TellsOfCall : Said → ℕ → Errors E → Errors E → Type 0
-  TellsOfCall given status old new = TellsStatus K (MayTell (names_said (Some given))) (shown_by given.flags) status old new
+  TellsOfCall given status old new = TellsStatus K (MayTell (names_said (Some given))) given.flags.no_messages (shown_by given.flags) status old new

@@ -1,5 +1,5 @@
 -- What is written of the lines of a text, one after another.
-use Rattle.std.specs.Prelude.{◌≡◌, ◌⊎◌, ⊤, ℕ, ◌+◌, ◌-◌, ◌%◌, ◌^◌, ◌<◌, ◌≤◌, min, Bool, true, false, not, ◌&&◌, List, [], ◌∷◌, ◌++◌, Option, None, length, drop, MatchBool}
+use Rattle.std.specs.Prelude.{◌≡◌, ◌⊎◌, ⊤, ℕ, ◌+◌, ◌-◌, ◌%◌, ◌^◌, ◌<◌, ◌≤◌, min, Bool, true, false, not, ◌&&◌, List, [], ◌∷◌, ◌++◌, Option, None, length, drop, MatchBool, Some, nat_le, nat_lt, if◌then◌else◌}
 use Rattle.std.specs.Io.KnownBytes.{Appends}
 use Rattle.aho_core.specs.Iteration.{AreFinds}
 use Rattle.aho_core.specs.Occurrence.{Occurrence}
@@ -24,13 +24,37 @@ HasMatch p line = (m : Occurrence) × OccursIn p (plain_search line) m
 abbrev pub HasNone : Patterns → List ℕ → Type 0
 HasNone p line = (m : Occurrence) → OccursIn p (plain_search line) m → ⊥
 
--- a line is selected where a pattern occurs in it, or under `invert` where none does
-abbrev pub IsSelected : Patterns → Bool → List ℕ → Type 0
-IsSelected p invert line = MatchBool invert (HasNone p line) (HasMatch p line)
+-- a pattern is the whole line
+abbrev pub HasWhole : Patterns → List ℕ → Type 0
+HasWhole p line = (m : Occurrence) × OccursIn p (plain_search line) m × (m.start ≡ 0) × (m.end ≡ length line)
+
+-- none is
+abbrev pub HasNoWhole : Patterns → List ℕ → Type 0
+HasNoWhole p line = (m : Occurrence) → OccursIn p (plain_search line) m → m.start ≡ 0 → m.end ≡ length line → ⊥
+
+-- a line matches where a pattern occurs in it, or where whole lines are asked for, where a pattern is the line
+abbrev pub DoesMatch : Patterns → Bool → List ℕ → Type 0
+DoesMatch p whole line = MatchBool whole (HasWhole p line) (HasMatch p line)
+
+abbrev pub DoesNotMatch : Patterns → Bool → List ℕ → Type 0
+DoesNotMatch p whole line = MatchBool whole (HasNoWhole p line) (HasNone p line)
+
+-- whether it does
+abbrev pub IsMatched : Patterns → Bool → List ℕ → Bool → Type 0
+IsMatched p whole line matched = MatchBool matched (DoesMatch p whole line) (DoesNotMatch p whole line)
+
+-- a line is selected where it matches, or under `invert` where it does not
+abbrev pub IsSelected : Patterns → (whole invert : Bool) → List ℕ → Type 0
+IsSelected p whole invert line = MatchBool invert (DoesNotMatch p whole line) (DoesMatch p whole line)
 
 -- any other line is passed over
-abbrev pub IsPassedOver : Patterns → Bool → List ℕ → Type 0
-IsPassedOver p invert line = MatchBool invert (HasMatch p line) (HasNone p line)
+abbrev pub IsPassedOver : Patterns → (whole invert : Bool) → List ℕ → Type 0
+IsPassedOver p whole invert line = MatchBool invert (DoesMatch p whole line) (DoesNotMatch p whole line)
+
+-- whether a line is selected, by whether it matches
+abbrev pub selects : Bool → Bool → Bool
+selects matched false = matched
+selects matched true = not matched
 
 -- each line is so
 abbrev pub EachLine : (List ℕ → Type 0) → List (List ℕ) → Type 0
@@ -93,12 +117,27 @@ after_lines place (line ∷ rest) = after_lines (after_line place line) rest
 abbrev pub one_more : ℕ → ℕ
 one_more count = min (count + 1) (2 ^ 64 - 1)
 
--- the lines from a place on: these bytes are written, and the count of selected lines goes on from `count` to `total`
+-- so many lines are selected as are asked for at most, and one at least
+abbrev pub is_full : Option ℕ → ℕ → Bool
+is_full None count = false
+is_full (Some most) count = nat_lt 0 count && nat_le most count
+
+-- the count of selected lines behind one that is selected
+abbrev pub next_count : Option ℕ → ℕ → ℕ
+next_count most count = if is_full most count then count else one_more count
+
+-- the lines from a place on: these bytes are written, and the count of selected lines goes on from `count` to `total`; where so many
+-- are selected as are asked for, nothing is told of those that follow
 abbrev pub TellsOfLines : Patterns → Job → Place → ℕ → List (List ℕ) → List ℕ → ℕ → Type 0
 TellsOfLines p job place count [] bytes total = (bytes ≡ []) × (total ≡ count)
 TellsOfLines p job place count (line ∷ rest) bytes total =
-    (IsSelected p job.invert line × ((shown : List ℕ) × (more : List ℕ) × ShowsLine p job place line shown × TellsOfLines p job (after_line place line) (one_more count) rest more total × (bytes ≡ shown ++ more)))
-    ⊎ (IsPassedOver p job.invert line × TellsOfLines p job (after_line place line) count rest bytes total)
+    ((is_full job.most count ≡ true) × (bytes ≡ []) × (total ≡ count))
+    ⊎ ((is_full job.most count ≡ false) × ((IsSelected p job.whole job.invert line × ((shown : List ℕ) × (more : List ℕ) × ShowsLine p job place line shown × TellsOfLines p job (after_line place line) (one_more count) rest more total × (bytes ≡ shown ++ more)))
+    ⊎ (IsPassedOver p job.whole job.invert line × TellsOfLines p job (after_line place line) count rest bytes total)))
+
+-- what is asked of a selected line is written, or nothing where so many are selected before it
+abbrev pub WritesNext : Patterns → Job → State → Option (List ℕ) → Option (List ℕ) → List ℕ → Type 0
+WritesNext p job before old new line = MatchBool (is_full job.most before.selected) (new ≡ old) (WritesLine p job before.place old new line)
 
 -- these lines are searched: what is told of them is written, and nothing else
 pub record TellsLines (p : Patterns) (job : Job) (before after : State) (old new : Option (List ℕ)) (searched : List (List ℕ)) : Type 0 where
@@ -150,11 +189,11 @@ needs_one Names = true
 needs_one Lacking = true
 needs_one Nothing = true
 
--- such a line was selected
+-- such a line was selected, or so many as are asked for
 abbrev pub IsSettled : Job → State → Type 0
-IsSettled job state = (needs_one job.shown ≡ true) × (0 < state.selected)
+IsSettled job state = ((needs_one job.shown ≡ true) × (0 < state.selected)) ⊎ (is_full job.most state.selected ≡ true)
 
--- the lines of a text are searched: all of them, or up to a selected one that tells all
+-- the lines of a text are searched: all of them, or up to a selected one behind which nothing more is told
 pub record SearchesText (p : Patterns) (job : Job) (before after : State) (old new : Option (List ℕ)) (text : List ℕ) : Type 0 where
   pub left : List ℕ
   pub searches : SearchesTo p job before after old new text left
@@ -173,10 +212,11 @@ pub record BeginsLine (p : Patterns) (job : Job) (place : Place) (old new : Opti
   pub starts : (begun ≡ []) ⊎ StartsLine p job place line begun
   pub written : Appends old new begun
 
--- a beginning of what is shown of the first of these lines if it is selected, or nothing
-abbrev pub StartsNext : Patterns → Job → Place → List (List ℕ) → List ℕ → Type 0
-StartsNext p job place [] begun = begun ≡ []
-StartsNext p job place (line ∷ rest) begun = (begun ≡ []) ⊎ (IsSelected p job.invert line × StartsLine p job place line begun)
+-- a beginning of what is shown of the first of these lines if it is selected and more are asked for, or nothing
+abbrev pub StartsNext : Patterns → Job → Place → ℕ → List (List ℕ) → List ℕ → Type 0
+StartsNext p job place count [] begun = begun ≡ []
+StartsNext p job place count (line ∷ rest) begun =
+    (begun ≡ []) ⊎ ((is_full job.most count ≡ false) × IsSelected p job.whole job.invert line × StartsLine p job place line begun)
 
 -- what is told of some first ones of these lines is written, and then no more than a beginning of what is shown of the next;
 -- `count` is how many lines were selected then
@@ -187,5 +227,5 @@ pub record BeginsLines (p : Patterns) (job : Job) (before : State) (count : ℕ)
   pub told : List ℕ
   pub tells : TellsOfLines p job before.place before.selected first told count
   pub begun : List ℕ
-  pub starts : StartsNext p job (after_lines before.place first) left begun
+  pub starts : StartsNext p job (after_lines before.place first) count left begun
   pub written : Appends old new (told ++ begun)

@@ -5,14 +5,17 @@
 
 ghost use Rattle.std.specs.Prelude.{◌≡◌, Some, IfOk, IfErr, string_bytes};
 ghost use Rattle.programs.specs.Arguments.{kind_by, texts};
-ghost use Rattle.acgrep.specs.Arguments.{FailsBy, ReadsBy, SaysMore, argument_by, color_by, fresh_by, joined_by, letters_by, long_by, named_by, number_by, plain_by, said, said_by, source_option, so_far, taken_by, turned_by, value_by, with_operand, with_source};
+ghost use Rattle.acgrep.specs.Arguments.{FailsBy, ReadsBy, SaysMore, argument_by, color_by, fresh_by, joined_by, letters_by, long_by, most_by, named_by, number_by, plain_by, said, said_by, source_option, so_far, taken_by, turned_by, value_by, with_operand, with_source};
 ghost use Rattle.acgrep.specs.Long.{option_by};
+ghost use Rattle.acgrep.specs.Mistakes.{IsFirstMistake, TellsBy, mistake_at, wrong_fresh, wrong_joined, wrong_letters, wrong_long, wrong_most, wrong_name, wrong_plain, wrong_value};
+ghost use Rattle.acgrep.specs.Told.{color_parts, kind_parts, number_parts, valued_name};
 
 use crate::long::{Long, Valued, option_of};
 use crate::options::{Color, Flags, switch_of};
 use chromesquid::MatchKind;
 use programs::command::parse_kind;
 use std::alloc::{AllocError, Global};
+use std::str;
 
 /// Where patterns come from.
 #[derive(Clone, Copy)]
@@ -93,6 +96,8 @@ pub enum Awaited {
 pub fn parse<'a>(alloc: Global, arguments: &'a [String]) -> Result<Given<'a>, Refusal<'a>>
     ensures read { IfOk result (λ given. said_by (texts arguments.now) ≡ Some (said given)) }
     ensures refused { FailsBy (said_by (texts arguments.now)) result }
+    // The first mistake is told.
+    ensures wrong { IfErr result (IsFirstMistake (texts arguments.now)) }
 {
     let mut given = Given {
         flags: Flags::new(),
@@ -119,6 +124,7 @@ fn read_argument<'a>(
 ) -> Result<Awaited, Refusal<'a>>
     ensures read { ReadsBy (argument_by before (string_bytes argument.now)) given.old given.new result }
     ensures refused { FailsBy (argument_by before (string_bytes argument.now) (said given.old)) result }
+    ensures wrong { TellsBy (mistake_at before (string_bytes argument.now)) result }
 {
     match before {
         Awaited::Argument(valued) => read_value(given, valued, argument.as_str()),
@@ -134,6 +140,7 @@ fn read_argument<'a>(
 fn read_fresh<'a>(given: &mut Given<'a>, argument: &'a str) -> Result<Awaited, Refusal<'a>>
     ensures read { ReadsBy (fresh_by argument.now) given.old given.new result }
     ensures refused { FailsBy (fresh_by argument.now (said given.old)) result }
+    ensures wrong { TellsBy (wrong_fresh argument.now) result }
 {
     if argument == "--" {
         return Ok(Awaited::Operands);
@@ -148,6 +155,7 @@ fn read_fresh<'a>(given: &mut Given<'a>, argument: &'a str) -> Result<Awaited, R
 fn read_long<'a>(given: &mut Given<'a>, argument: &'a str) -> Result<Awaited, Refusal<'a>>
     ensures read { ReadsBy (long_by argument.now) given.old given.new result }
     ensures refused { FailsBy (long_by argument.now (said given.old)) result }
+    ensures wrong { TellsBy (wrong_long argument.now) result }
 {
     match argument.split_once('=') {
         Some((name, value)) => read_joined(given, name, value),
@@ -159,6 +167,7 @@ fn read_long<'a>(given: &mut Given<'a>, argument: &'a str) -> Result<Awaited, Re
 fn read_named<'a>(given: &mut Given<'a>, name: &'a str) -> Result<Awaited, Refusal<'a>>
     ensures read { ReadsBy (named_by name.now) given.old given.new result }
     ensures refused { FailsBy (named_by name.now (said given.old)) result }
+    ensures wrong { TellsBy (wrong_name name.now) result }
 {
     match option_of(name.as_bytes()) {
         Ok(long) => Ok(turn_on(given, long)),
@@ -186,6 +195,7 @@ fn read_joined<'a>(
 ) -> Result<Awaited, Refusal<'a>>
     ensures read { ReadsBy (joined_by name.now value.now) given.old given.new result }
     ensures refused { FailsBy (joined_by name.now value.now (said given.old)) result }
+    ensures wrong { TellsBy (wrong_joined (option_by name.now) name.now value.now) result }
 {
     match option_of(name.as_bytes()) {
         Ok(Long::Takes(valued)) => read_value(given, valued, value),
@@ -199,6 +209,7 @@ fn read_joined<'a>(
 fn read_color<'a>(given: &mut Given<'a>, argument: &'a str) -> Result<Awaited, Refusal<'a>>
     ensures read { ReadsBy (color_by argument.now) given.old given.new result }
     ensures refused { FailsBy (color_by argument.now (said given.old)) result }
+    ensures wrong { TellsBy (color_parts argument.now) result }
 {
     given.flags.color = match argument {
         "auto" => Color::Auto,
@@ -217,13 +228,15 @@ fn read_value<'a>(
 ) -> Result<Awaited, Refusal<'a>>
     ensures read { ReadsBy (value_by valued argument.now) given.old given.new result }
     ensures refused { FailsBy (value_by valued argument.now (said given.old)) result }
+    ensures wrong { TellsBy (wrong_value valued argument.now) result }
 {
     match valued {
         Valued::Regexp => add_source(given, false, argument.as_bytes())?,
         Valued::PatternFile => add_source(given, true, argument.as_bytes())?,
         Valued::Kind => given.flags.kind = read_kind(argument)?,
-        Valued::Offset => given.flags.first = read_number(valued, argument)?,
-        Valued::FirstLine => given.flags.first_line = read_number(valued, argument)?,
+        Valued::Offset => given.flags.first = read_number(valued, argument.as_bytes())?,
+        Valued::FirstLine => given.flags.first_line = read_number(valued, argument.as_bytes())?,
+        Valued::MaxCount => given.flags.most = Some(read_number(valued, argument.as_bytes())?),
     }
     Ok(Awaited::Fresh)
 }
@@ -232,6 +245,7 @@ fn read_value<'a>(
 fn read_kind(argument: &str) -> Result<MatchKind, Refusal<'_>>
     ensures read { IfOk result (λ kind. kind_by argument.now ≡ Some kind) }
     ensures refused { FailsBy (kind_by argument.now) result }
+    ensures wrong { TellsBy (kind_parts argument.now) result }
 {
     match parse_kind(argument) {
         Some(kind) => Ok(kind),
@@ -240,13 +254,24 @@ fn read_kind(argument: &str) -> Result<MatchKind, Refusal<'_>>
 }
 
 /// The number that the argument of this option is.
-fn read_number(valued: Valued, argument: &str) -> Result<u64, Refusal<'_>>
+fn read_number(valued: Valued, argument: &[u8]) -> Result<u64, Refusal<'_>>
     ensures read { IfOk result (λ number. number_by argument.now ≡ Some number) }
     ensures refused { FailsBy (number_by argument.now) result }
+    ensures wrong { TellsBy (number_parts (valued_name valued) argument.now) result }
 {
-    match number_of(argument) {
+    match number_in(argument) {
         Some(number) => Ok(number),
-        None => Err(Refusal::Wrong(Wrong::NoNumber(valued, argument.as_bytes()))),
+        None => Err(Refusal::Wrong(Wrong::NoNumber(valued, argument))),
+    }
+}
+
+/// The number that bytes write, if they are digits.
+fn number_in(bytes: &[u8]) -> Option<u64>
+    ensures number { result ≡ number_by bytes.now }
+{
+    match str::from_utf8(bytes) {
+        Ok(digits) => number_of(digits),
+        Err(_) => None,
     }
 }
 
@@ -268,6 +293,7 @@ fn number_of(digits: &str) -> Option<u64>
 fn read_plain<'a>(given: &mut Given<'a>, argument: &'a [u8]) -> Result<Awaited, Refusal<'a>>
     ensures read { ReadsBy (plain_by argument.now) given.old given.new result }
     ensures refused { FailsBy (plain_by argument.now (said given.old)) result }
+    ensures wrong { TellsBy (wrong_plain argument.now) result }
 {
     match argument {
         [b'-', _, ..] => read_letters(given, &argument[1..]),
@@ -278,15 +304,19 @@ fn read_plain<'a>(given: &mut Given<'a>, argument: &'a [u8]) -> Result<Awaited, 
     }
 }
 
-/// Reads joined letters. `-e` and `-f` take what stands behind them.
+/// Reads joined letters. `-e`, `-f` and `-m` take what stands behind them.
 fn read_letters<'a>(given: &mut Given<'a>, letters: &'a [u8]) -> Result<Awaited, Refusal<'a>>
     ensures read { ReadsBy (letters_by letters.now) given.old given.new result }
     ensures refused { FailsBy (letters_by letters.now (said given.old)) result }
+    ensures wrong { TellsBy (wrong_letters letters.now) result }
 {
     let mut rest = letters;
     while let Some((letter, behind)) = rest.split_first() {
         if *letter == b'e' || *letter == b'f' {
             return take_source(given, *letter == b'f', behind);
+        }
+        if *letter == b'm' {
+            return take_most(given, behind);
         }
         match switch_of(*letter) {
             Some(switch) => given.flags = given.flags.switched(switch),
@@ -311,6 +341,19 @@ fn take_source<'a>(
         return Ok(Awaited::Argument(source_option(is_file)));
     }
     add_source(given, is_file, behind)?;
+    Ok(Awaited::Fresh)
+}
+
+/// Takes what stands behind `-m` for its argument, if it is not empty.
+fn take_most<'a>(given: &mut Given<'a>, behind: &'a [u8]) -> Result<Awaited, Refusal<'a>>
+    ensures read { ReadsBy (most_by behind.now) given.old given.new result }
+    ensures refused { FailsBy (most_by behind.now (said given.old)) result }
+    ensures wrong { TellsBy (wrong_most behind.now) result }
+{
+    if behind.is_empty() {
+        return Ok(Awaited::Argument(Valued::MaxCount));
+    }
+    given.flags.most = Some(read_number(Valued::MaxCount, behind)?);
     Ok(Awaited::Fresh)
 }
 

@@ -5,7 +5,7 @@ ghost use Rattle.std.specs.Io.KnownBytes.{Appends};
 ghost use Rattle.aho_core.specs.Patterns.{Patterns};
 ghost use Rattle.acgrep.specs.Filled.{ReadsOn};
 ghost use Rattle.programs.specs.Names.{name_bytes};
-ghost use Rattle.acgrep.specs.Told.{IsMessage, TellsCause, TellsIf, TellsOfEnd, TellsOfFile, TellsOfFiles, TellsOfOutcome, shown_names};
+ghost use Rattle.acgrep.specs.Told.{IsMessage, TellsCause, TellsIf, TellsOfEnd, TellsOfFiles, TellsOfOutcome, files_told, stopped_if};
 ghost use Rattle.acgrep.specs.Files.{AreFilesBegun, AreSearchedOr, BeginsName, BeginsTotal, EndsFile, IfBroken, IfSearched, IsNamed, LeavesInput, SearchesName, SearchesNames, files_named, is_enough, nothing_seen, seen_after, shown_name, status_by, total_if};
 ghost use Rattle.acgrep.specs.Printed.{Puts};
 ghost use Rattle.acgrep.specs.Searched.{BeginsFileBy, BeginsFilesBy, SearchesFileBy, SearchesReaderBy};
@@ -143,7 +143,7 @@ pub fn search_files<A: Automaton, F: Open, R: Read, W: Sink, E: Sink>(
         (R.remaining input.old) (W.taken output.old) (W.taken output.new)) }
 
     // What is told tells why a file was not searched; where the status tells of no error, nothing is told.
-    ensures told { TellsOfFiles E.Sink (files_named files.now)
+    ensures told { TellsOfFiles E.Sink job.now.hushed (files_named files.now)
         job.now.shown result errors.old errors.new }
 {
     if files.names.is_empty() {
@@ -190,7 +190,7 @@ fn search_names<A: Automaton, F: Open, R: Read, W: Sink, E: Sink>(
         (W.taken output.old) (W.taken output.new) result) }
     ensures begun { BeginsFilesBy A.Automaton F.Open R.Read W.Sink automaton.now job.now
         files.now names.now input.old output.old output.new }
-    ensures told { TellsOfFiles E.Sink (name_bytes names.now)
+    ensures told { TellsOfFiles E.Sink job.now.hushed (name_bytes names.now)
         job.now.shown result errors.old errors.new }
 {
     let Ok(mut buffer) = Buffer::new(alloc) else {
@@ -231,8 +231,8 @@ fn search_each<A: Automaton, F: Open, R: Read, W: Sink, E: Sink>(
         (W.taken output.old) (W.taken output.new) result) }
     ensures begun { BeginsFilesBy A.Automaton F.Open R.Read W.Sink automaton.now job.now
         files.now names.now input.old output.old output.new }
-    ensures told { TellsIf E.Sink (IsMessage (shown_names (name_bytes names.now)))
-        result.failed errors.old errors.new }
+    ensures told { TellsIf E.Sink (IsMessage (files_told job.now.hushed (name_bytes names.now)))
+        job.now.hushed result.failed errors.old errors.new }
 {
     let mut seen = Seen::new();
     let mut rest = names;
@@ -276,7 +276,8 @@ fn search_name<A: Automaton, F: Open, R: Read, W: Sink, E: Sink>(
         IfBroken result (BeginsName p job.now (F.holds files.now) name.now
         (R.remaining input.old) (W.taken output.old) (W.taken output.new))) }
     ensures leaves { LeavesInput name.now (R.remaining input.old) (R.remaining input.new) }
-    ensures told { TellsOfOutcome E.Sink (shown_name name.now) result errors.old errors.new }
+    ensures told { TellsOfOutcome E.Sink job.now.hushed (shown_name name.now) result
+        errors.old errors.new }
 {
     if is_input(name) {
         let named = job_for(job, INPUT_NAME);
@@ -302,13 +303,14 @@ fn search_named<A: Automaton, F: Open, W: Sink, E: Sink>(
         (F.holds files.now name.now) output.old output.new result }
     ensures begun { BeginsFileBy A.Automaton W.Sink automaton.now job.now
         (F.holds files.now name.now) output.old output.new result }
-    ensures told { TellsOfOutcome E.Sink job.now.style.name.now result errors.old errors.new }
+    ensures told { TellsOfOutcome E.Sink job.now.hushed job.now.style.name.now result
+        errors.old errors.new }
 {
     match open_named(files, name) {
         Ok(mut file) => search_one(automaton, job, buffer, &mut file, page, output, errors),
         Err(error) => {
             let _ = output.flush();
-            tell_fault(job.style.name, Reason::of(&error), errors);
+            tell_unread(job, Reason::of(&error), errors);
             Outcome::Unread
         }
     }
@@ -330,7 +332,8 @@ fn search_one<A: Automaton, R: Read, W: Sink, E: Sink>(
     ensures begun { BeginsFileBy A.Automaton W.Sink automaton.now job.now
         (R.remaining reader.old) output.old output.new result }
     ensures reads { ReadsOn (R.remaining reader.old) (R.remaining reader.new) }
-    ensures told { TellsOfOutcome E.Sink job.now.style.name.now result errors.old errors.new }
+    ensures told { TellsOfOutcome E.Sink job.now.hushed job.now.style.name.now result
+        errors.old errors.new }
 {
     let mut state = State::new(job.first);
     match search_stream(automaton, job, buffer, reader, &mut state, page, output) {
@@ -351,7 +354,7 @@ fn end_file<W: Sink, E: Sink>(
         (W.taken output.old) (W.taken output.new)) }
     ensures begun { IfBroken result (BeginsTotal job.now state.now.selected
         (W.taken output.old) (W.taken output.new)) }
-    ensures told { TellsOfEnd E.Sink result errors.old errors.new }
+    ensures told { TellsOfEnd E.Sink job.now.hushed result errors.old errors.new }
 {
     match put_total(job, state.selected, page, output) {
         Ok(()) => Outcome::Searched(state.selected > 0),
@@ -373,10 +376,11 @@ fn break_off<W: Sink, E: Sink>(
 ) -> Outcome
     ensures unsearched { IfSearched result (λ any. ⊥) }
     ensures begun { BeginsTotal job.now state.now.selected (W.taken output.old) (W.taken output.new) }
-    ensures told { TellsOfFile E.Sink job.now.style.name.now errors.old errors.new }
+    ensures told { TellsOfOutcome E.Sink job.now.hushed job.now.style.name.now result
+        errors.old errors.new }
 {
     let _ = output.flush();
-    if tell_stop(job.style.name, stop, errors) {
+    if tell_stop(job, stop, errors) {
         return Outcome::Stopped;
     }
     match put_total(job, state.selected, page, output) {
@@ -417,13 +421,25 @@ fn put_asked<W: Write>(job: &Job<'_>, selected: u64, output: &mut W) -> io::Resu
     }
 }
 
+/// Tells why a file cannot be read, if that is asked for.
+fn tell_unread<E: Sink>(job: &Job<'_>, reason: Reason, errors: &mut Errors<'_, E>)
+    ensures told { TellsOfOutcome E.Sink job.now.hushed job.now.style.name.now (stopped_if false)
+        errors.old errors.new }
+{
+    if job.hushed {
+        return;
+    }
+    tell_fault(job.style.name, reason, errors);
+}
+
 /// Tells why a search stopped, and answers whether that ends the call.
-fn tell_stop<E: Sink>(name: &[u8], stop: &Stop, errors: &mut Errors<'_, E>) -> bool
-    ensures told { TellsOfFile E.Sink name.now errors.old errors.new }
+fn tell_stop<E: Sink>(job: &Job<'_>, stop: &Stop, errors: &mut Errors<'_, E>) -> bool
+    ensures told { TellsOfOutcome E.Sink job.now.hushed job.now.style.name.now (stopped_if result)
+        errors.old errors.new }
 {
     match stop {
         Stop::Read(reason) => {
-            tell_fault(name, *reason, errors);
+            tell_unread(job, *reason, errors);
             false
         }
         Stop::Write => {
@@ -436,7 +452,7 @@ fn tell_stop<E: Sink>(name: &[u8], stop: &Stop, errors: &mut Errors<'_, E>) -> b
         }
         // A line is too long: the other files are searched.
         Stop::OutOfMemory => {
-            tell_fault(name, Reason::OutOfMemory, errors);
+            tell_unread(job, Reason::OutOfMemory, errors);
             false
         }
     }
@@ -459,6 +475,7 @@ fn job_for<'a>(job: &Job<'_>, name: &'a [u8]) -> Job<'a>
     Job {
         shown: job.shown,
         invert: job.invert,
+        whole: job.whole,
         style: Style {
             name,
             with_name: job.style.with_name,
@@ -468,5 +485,7 @@ fn job_for<'a>(job: &Job<'_>, name: &'a [u8]) -> Job<'a>
             color: job.style.color,
         },
         first: job.first,
+        most: job.most,
+        hushed: job.hushed,
     }
 }

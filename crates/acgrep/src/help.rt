@@ -19,10 +19,12 @@ Patterns:
   -i, -y, --ignore-case ASCII letters are the same in both cases
   --no-ignore-case      they are not: of this and -i the last counts
   -v, --invert-match    select the lines in which no pattern occurs
+  -x, --line-regexp     select the lines that are a pattern as a whole
   --kind KIND           which of several matches -o, --json and --color
                         take: longest (the default), first or standard
 
 Output:
+  -m, --max-count N     select at most N lines of each file
   -c, --count           write how many lines are selected
   -l, --files-with-matches
                         write the names of the files with a selected line
@@ -41,6 +43,7 @@ Output:
   --color[=WHEN]        color the output: auto, always or never
 
 Others:
+  -s, --no-messages     do not tell of files that cannot be read
   --no-match-ok         end with 0 where no line is selected too
   -F, -a, -U, --fixed-strings, --text, --binary, --line-buffered
                         what is done without them too

@@ -1,10 +1,11 @@
 //! Reading the patterns that a call names, and telling which one is refused.
 
-ghost use Rattle.std.specs.Prelude.{◌≡◌, IfOk, IfSome, IsNone, IsSome, OnOk};
+ghost use Rattle.std.specs.Prelude.{◌≡◌, ◌≤◌, IfOk, IfSome, IsNone, IsSome, OnOk, length};
 ghost use Rattle.std.specs.Io.KnownBytes.{Keeps};
 ghost use Rattle.acgrep.specs.Arguments.{origin_of};
 ghost use Rattle.programs.specs.Names.{is_input};
 ghost use Rattle.acgrep.specs.Loading.{AddsFile, AddsSource, ReadsSources, file_origin};
+ghost use Rattle.acgrep.specs.Origins.{IsFoundIn, begin_of, count_at, piece_at};
 ghost use Rattle.acgrep.specs.Runs.{origins_of};
 ghost use Rattle.acgrep.specs.Told.{MayName, TellsOfFile, TellsOfSources, source_names};
 ghost use Rattle.acgrep.specs.Written.{EndsLine};
@@ -150,15 +151,28 @@ pub fn tell_refusal<E: Sink>(
 {
     match error {
         BuildError::PatternTooLong { pattern, .. } => {
-            let (source, line) = origin_of(keys, pattern.as_usize());
-            tell_build(
-                source_name(sources, source),
-                Some(line as u64),
-                error,
-                errors,
-            );
+            let place = origin_of(keys, pattern.as_usize());
+            tell_pattern(sources, place, error, errors);
         }
         _ => tell_build(b"patterns", None, error, errors),
+    }
+}
+
+/// Tells why a pattern that stands there is refused.
+fn tell_pattern<E: Sink>(
+    sources: &[Source<'_>],
+    place: Option<KeyPlace>,
+    error: &BuildError,
+    errors: &mut Errors<'_, E>,
+)
+    ensures told { TellsOfSources E.Sink sources.now errors.old errors.new }
+{
+    match place {
+        Some(place) => {
+            let name = source_name(sources, place.source);
+            tell_build(name, Some(place.line as u64), error, errors);
+        }
+        None => tell_build(b"patterns", None, error, errors),
     }
 }
 
@@ -172,30 +186,61 @@ fn source_name<'a>(sources: &[Source<'a>], number: usize) -> &'a [u8]
     }
 }
 
-/// The number of the source of a pattern, and its line there, from 1 on.
-pub fn origin_of(keys: &Keys, number: usize) -> (usize, usize) {
-    let mut before = 0;
-    let mut origin = (0, 0);
-    for index in 0..keys.starts.len() {
-        if before <= number {
-            origin = (index, (number - before).saturating_add(1));
-        }
-        let count = memchr_iter(b'\n', piece_of(keys, index)).count();
-        before = before.saturating_add(count);
-    }
-    origin
+/// Where a pattern stands.
+#[derive(Clone, Copy)]
+pub struct KeyPlace {
+    /// The number of its source, from 0 on.
+    pub source: usize,
+    /// Its line there, from 1 on.
+    pub line: usize,
 }
 
-/// The patterns of one source.
-fn piece_of(keys: &Keys, index: usize) -> &[u8] {
-    let text = keys.text.as_slice();
-    let start = match keys.starts.get(index) {
-        Some(start) => (*start).min(text.len()),
-        None => text.len(),
-    };
-    let end = match keys.starts.get(index.saturating_add(1)) {
-        Some(end) => (*end).min(text.len()),
-        None => text.len(),
-    };
-    if start <= end { &text[start..end] } else { &[] }
+/// Where the pattern of a number stands, if there is one.
+pub fn origin_of(keys: &Keys, number: usize) -> Option<KeyPlace>
+    ensures found { IsFoundIn keys.now number result }
+{
+    let mut left = number;
+    let mut source = 0;
+    while source < keys.starts.len() {
+        let count = count_of(keys, source);
+        if left < count {
+            let line = left + 1;
+            return Some(KeyPlace { source, line });
+        }
+        left -= count;
+        source += 1;
+    }
+    None
+}
+
+/// How many patterns the source of a number has.
+fn count_of(keys: &Keys, number: usize) -> usize
+    ensures count { result ≡ count_at keys.now number }
+{
+    memchr_iter(b'\n', piece_of(keys, number)).count()
+}
+
+/// The patterns of the source of a number, each with its newline.
+fn piece_of(keys: &Keys, number: usize) -> &[u8]
+    ensures piece { result.now ≡ piece_at keys.now number }
+{
+    let start = begin_of(keys, number);
+    let end = begin_of(keys, number.saturating_add(1));
+    if start <= end {
+        &keys.text[start..end]
+    } else {
+        &[]
+    }
+}
+
+/// Where they begin in the text of all patterns; behind the last source that is its end.
+fn begin_of(keys: &Keys, number: usize) -> usize
+    ensures begin { result ≡ begin_of keys.now number }
+    ensures within { result ≤ length keys.now.text.items }
+{
+    let len = keys.text.len();
+    match keys.starts.get(number) {
+        Some(start) => (*start).min(len),
+        None => len,
+    }
 }

@@ -2,6 +2,8 @@
 
 ghost use Rattle.std.specs.Prelude.{◌≡◌, Some, None, IfErr, IfOk};
 ghost use Rattle.acgrep.specs.Long.{begun_too, found_among, found_by, found_more, is_color, option_by, other_options, output_options, pattern_options};
+ghost use Rattle.acgrep.specs.Mistakes.{wrong_name};
+ghost use Rattle.acgrep.specs.Told.{wrong_parts};
 
 use crate::arguments::Wrong;
 use crate::options::Switch;
@@ -19,6 +21,8 @@ pub enum Valued {
     Offset,
     /// `--first-line`
     FirstLine,
+    /// `-m`
+    MaxCount,
 }
 
 /// An option by its long name.
@@ -89,6 +93,7 @@ impl Found {
 pub fn option_of(name: &[u8]) -> Result<Long, Wrong<'_>>
     ensures found { IfOk result (λ long. option_by name.now ≡ Some long) }
     ensures refused { IfErr result (λ wrong. option_by name.now ≡ None) }
+    ensures wrong { IfErr result (λ wrong. wrong_parts wrong ≡ wrong_name name.now) }
 {
     match found_of(name) {
         Found::Whole(long) => Ok(long),
@@ -117,6 +122,7 @@ fn or_patterns(found: Found, name: &[u8]) -> Found
         .or(name, b"ignore-case", Long::Plain(Switch::IgnoreCase))
         .or(name, b"no-ignore-case", Long::Plain(Switch::MatchCase))
         .or(name, b"invert-match", Long::Plain(Switch::Invert))
+        .or(name, b"line-regexp", Long::Plain(Switch::WholeLines))
         .or(name, b"kind", Long::Takes(Valued::Kind))
         .or(name, b"fixed-strings", Long::Plain(Switch::Same))
         .or(name, b"text", Long::Plain(Switch::Same))
@@ -144,6 +150,7 @@ fn or_output(found: Found, name: &[u8]) -> Found
         .or(name, b"byte-offset", Long::Plain(Switch::Offsets))
         .or(name, b"with-filename", Long::Plain(Switch::WithName))
         .or(name, b"no-filename", Long::Plain(Switch::NoName))
+        .or(name, b"max-count", Long::Takes(Valued::MaxCount))
 }
 
 /// What it means with all other options.
@@ -156,6 +163,7 @@ fn or_others(found: Found, name: &[u8]) -> Found
         .or(name, b"offset", Long::Takes(Valued::Offset))
         .or(name, b"first-line", Long::Takes(Valued::FirstLine))
         .or(name, b"no-match-ok", Long::Plain(Switch::NoMatchOk))
+        .or(name, b"no-messages", Long::Plain(Switch::NoMessages))
         .or(name, b"line-buffered", Long::Plain(Switch::Same))
         .or(name, b"help", Long::Plain(Switch::Help))
         .or(name, b"version", Long::Plain(Switch::Version))

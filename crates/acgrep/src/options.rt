@@ -44,6 +44,8 @@ pub enum Switch {
     MatchCase,
     /// `-v`
     Invert,
+    /// `-x`
+    WholeLines,
     /// `-c`
     Counts,
     /// `-n`
@@ -68,6 +70,8 @@ pub enum Switch {
     WithName,
     /// `--no-match-ok`
     NoMatchOk,
+    /// `-s`
+    NoMessages,
     /// `--help`
     Help,
     /// `-V`
@@ -83,6 +87,7 @@ pub fn switch_of(letter: u8) -> Option<Switch>
     match letter {
         b'i' | b'y' => Some(Switch::IgnoreCase),
         b'v' => Some(Switch::Invert),
+        b'x' => Some(Switch::WholeLines),
         b'c' => Some(Switch::Counts),
         b'n' => Some(Switch::Numbers),
         b'o' => Some(Switch::OnlyMatching),
@@ -91,6 +96,7 @@ pub fn switch_of(letter: u8) -> Option<Switch>
         b'L' => Some(Switch::OnlyLacking),
         b'Z' => Some(Switch::NullNames),
         b'q' => Some(Switch::Quiet),
+        b's' => Some(Switch::NoMessages),
         b'h' => Some(Switch::NoName),
         b'H' => Some(Switch::WithName),
         b'V' => Some(Switch::Version),
@@ -106,6 +112,8 @@ pub struct Flags {
     pub ignore_case: bool,
     /// `-v`: the lines without a match are selected.
     pub invert: bool,
+    /// `-x`: a line matches where a pattern is the whole line.
+    pub whole: bool,
     /// `-c`: lines are counted.
     pub count: bool,
     /// `-n`: the number of a line stands before it.
@@ -136,6 +144,10 @@ pub struct Flags {
     pub first_line: u64,
     /// `--no-match-ok`: the status is 0 where no line is selected.
     pub no_match_ok: bool,
+    /// `-s`: of files that cannot be read nothing is told.
+    pub no_messages: bool,
+    /// The last `-m`: how many lines of each file are selected at most.
+    pub most: Option<u64>,
     /// `--help`.
     pub help: bool,
     /// `--version`.
@@ -152,6 +164,7 @@ impl Flags {
         Flags {
             ignore_case: false,
             invert: false,
+            whole: false,
             count: false,
             number: false,
             only_matching: false,
@@ -167,6 +180,8 @@ impl Flags {
             first: 0,
             first_line: 1,
             no_match_ok: false,
+            no_messages: false,
+            most: None,
             help: false,
             version: false,
         }
@@ -202,6 +217,7 @@ impl Flags {
             Switch::IgnoreCase => flags.ignore_case = true,
             Switch::MatchCase => flags.ignore_case = false,
             Switch::Invert => flags.invert = true,
+            Switch::WholeLines => flags.whole = true,
             Switch::Counts => flags.count = true,
             Switch::Numbers => flags.number = true,
             Switch::OnlyMatching => flags.only_matching = true,
@@ -220,6 +236,7 @@ impl Flags {
             Switch::NoName => flags.with_name = Some(false),
             Switch::WithName => flags.with_name = Some(true),
             Switch::NoMatchOk => flags.no_match_ok = true,
+            Switch::NoMessages => flags.no_messages = true,
             Switch::Help => flags.help = true,
             Switch::Version => flags.version = true,
             Switch::Same => {}

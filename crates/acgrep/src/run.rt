@@ -1,16 +1,18 @@
 //! A call over its arguments, files and streams.
 
 ghost use Rattle.std.specs.Prelude.{◌≡◌, ◌≤◌, ◌<◌, ◌⊎◌, [], None, false, nat_lt, true, unwrap_or};
-ghost use Rattle.std.specs.Io.KnownBytes.{Keeps};
+ghost use Rattle.std.specs.Io.KnownBytes.{Appends, Keeps};
+ghost use Rattle.aho_devices.specs.Counts.{AppendsBeginning};
 ghost use Rattle.aho_core.specs.Patterns.{Patterns};
 ghost use Rattle.aho_core.specs.Replacement.{pieces_of};
 ghost use Rattle.programs.specs.Arguments.{texts};
 ghost use Rattle.acgrep.specs.Arguments.{said, said_by};
 ghost use Rattle.programs.specs.Names.{name_bytes};
 ghost use Rattle.programs.specs.Telling.{Tells, TellsSome};
-ghost use Rattle.acgrep.specs.Told.{MayTell, TellsCause, TellsOfCall, TellsOfFiles, TellsOfSearch, TellsOfText, TellsRefusal, names_said};
+ghost use Rattle.acgrep.specs.Told.{MayTell, TellsCause, TellsOfCall, TellsOfFiles, TellsOfSearch, TellsOfText, TellsRefusal, is_hushed, names_said};
+ghost use Rattle.acgrep.specs.Mistakes.{TellsLacking, TellsMistake, TellsNoPattern, TellsRefused};
 ghost use Rattle.acgrep.specs.Files.{AreFilesBegun, AreSearchedOr, files_named};
-ghost use Rattle.acgrep.specs.Runs.{AsksToSearch, BeginsSearch, BeginsFor, GivesNone, IfSaid, IsJob, Searches, SearchesFor, SearchesSaid, are_empty, is_colored, knows_none, origins_of, selects_none, status_told};
+ghost use Rattle.acgrep.specs.Runs.{AsksToSearch, BeginsSearch, BeginsFor, GivesNone, IfSaid, IsJob, Searches, SearchesFor, SearchesSaid, are_empty, asks_none, inverts, is_colored, kind_sought, knows_none, origins_of, selects_none, status_told, words_sought};
 ghost use Rattle.acgrep.specs.Searchers.{IsSearcherOf};
 ghost use Rattle.acgrep.specs.Selected.{ForLines};
 
@@ -25,7 +27,7 @@ use crate::print::{Place, Style};
 use crate::searcher::Searcher;
 use crate::select::Job;
 use crate::tell::{tell_memory, tell_write, tell_wrong};
-use chromesquid::{Sink, write_whole};
+use chromesquid::{MatchKind, Sink, write_whole};
 use programs::errors::Errors;
 use programs::failure::Failure;
 use std::alloc::Global;
@@ -44,15 +46,19 @@ pub fn run<F: Open, R: Read, W: Sink, E: Sink>(
 ) -> u8
     ensures bound { result ≤ 2 }
 
-    // Wrong arguments are found first.
+    // Wrong arguments are found first, and the first mistake is told.
     ensures usage { said_by (texts arguments.now) ≡ None → result ≡ 2 }
+    ensures mistake { said_by (texts arguments.now) ≡ None
+        → TellsMistake E.Sink (texts arguments.now) errors.old errors.new }
     ensures unread { said_by (texts arguments.now) ≡ None → input.new ≡ input.old }
     ensures unwritten { said_by (texts arguments.now) ≡ None
         → Keeps (W.taken output.old) (W.taken output.new) }
 
-    // A search needs a pattern.
+    // A search needs a pattern, and where there is none that is told.
     ensures patternless { IfSaid arguments.now (λ said. AsksToSearch said.flags → GivesNone said
         → result ≡ 2) }
+    ensures lacking { IfSaid arguments.now (λ said. AsksToSearch said.flags → GivesNone said
+        → TellsLacking E.Sink errors.old errors.new) }
 
     // Where the status tells of no error, the patterns were searched for in the files, one after another.
     ensures searches { IfSaid arguments.now (λ said. AsksToSearch said.flags → result < 2
@@ -67,12 +73,13 @@ pub fn run<F: Open, R: Read, W: Sink, E: Sink>(
         (R.remaining input.old) (W.taken output.old) (W.taken output.new)) }
 
     // Where the status tells of no error nothing is told, but under `-q` of files that cannot be read. Where it tells of one, a line
-    // says why: whole, unless writing it failed.
+    // says why: whole, unless writing it failed. Under `-s` no line names a file that is searched, and there may be none.
     ensures tells { Tells E.Sink (MayTell (names_said (said_by (texts arguments.now)))) errors.old errors.new }
     ensures silent { IfSaid arguments.now (λ said. said.flags.quiet ≡ false
         → result < 2 → errors.new ≡ errors.old) }
-    ensures says_why { result ≡ 2 → TellsSome E.Sink
-        (MayTell (names_said (said_by (texts arguments.now)))) errors.old errors.new }
+    ensures says_why { is_hushed (said_by (texts arguments.now)) ≡ false → result ≡ 2
+        → TellsSome E.Sink (MayTell (names_said (said_by (texts arguments.now))))
+        errors.old errors.new }
 
     // All output was flushed where the status tells of no error.
     ensures flushed { result < 2 → W.flushed output.new ≡ true }
@@ -92,6 +99,7 @@ pub fn run<F: Open, R: Read, W: Sink, E: Sink>(
 /// Tells why the arguments are refused.
 fn tell_refused<E: Sink>(refusal: Refusal<'_>, errors: &mut Errors<'_, E>)
     ensures told { TellsRefusal E.Sink errors.old errors.new }
+    ensures exact { TellsRefused E.Sink refusal.entry errors.old errors.new }
 {
     match refusal {
         Refusal::Wrong(wrong) => tell_wrong(errors, wrong),
@@ -144,6 +152,8 @@ fn answer<F: Open, R: Read, W: Sink, E: Sink>(
 ) -> u8
     ensures bound { result ≤ 2 }
     ensures patternless { AsksToSearch given.now.flags → GivesNone (said given.now) → result ≡ 2 }
+    ensures lacking { AsksToSearch given.now.flags → GivesNone (said given.now)
+        → TellsNoPattern E.Sink errors.old errors.new }
     ensures searches { AsksToSearch given.now.flags → result < 2
         → Searches (F.holds files.now) terminal (said given.now)
         (R.remaining input.old) (R.remaining input.new)
@@ -185,6 +195,8 @@ fn search_asked<F: Open, R: Read, W: Sink, E: Sink>(
 ) -> u8
     ensures bound { result ≤ 2 }
     ensures patternless { GivesNone (said given.now) → result ≡ 2 }
+    ensures lacking { GivesNone (said given.now)
+        → TellsNoPattern E.Sink errors.old errors.new }
     ensures searches { result < 2 → SearchesSaid (F.holds files.now) terminal (said given.now)
         (R.remaining input.old) (R.remaining input.new)
         (W.taken output.old) (W.taken output.new) result }
@@ -217,6 +229,11 @@ fn search_asked<F: Open, R: Read, W: Sink, E: Sink>(
 /// Writes a text, and answers the status.
 fn write_text<W: Sink, E: Sink>(text: &[u8], output: &mut W, errors: &mut Errors<'_, E>) -> u8
     ensures bound { result ≤ 2 }
+    ensures status { (result ≡ 0) ⊎ (result ≡ 2) }
+    ensures written { result ≡ 0 → Appends (W.taken output.old) (W.taken output.new) text.now }
+    // Where it fails a beginning of that is written.
+    ensures begun { result ≡ 2
+        → AppendsBeginning (W.taken output.old) (W.taken output.new) text.now }
     ensures told { TellsOfText E.Sink result errors.old errors.new }
 {
     match write_whole(output, text) {
@@ -258,7 +275,8 @@ fn search<F: Open, R: Read, W: Sink, E: Sink>(
         tell_memory(errors);
         return 2;
     };
-    let words = patterns.as_slice();
+    let all = patterns.as_slice();
+    let words = sought(flags, all);
     if knows_none(flags, words) {
         return 1;
     }
@@ -268,7 +286,7 @@ fn search<F: Open, R: Read, W: Sink, E: Sink>(
         names,
         files,
     };
-    match Searcher::build(alloc, flags.kind, flags.ignore_case, words) {
+    match Searcher::build(alloc, kind_sought(flags), flags.ignore_case, words) {
         Ok(searcher) => search_by(&searcher, &job, &named, input, output, errors),
         Err(error) => {
             tell_refusal(&keys, sources, &error, errors);
@@ -295,7 +313,7 @@ fn search_by<F: Open, R: Read, W: Sink, E: Sink>(
     ensures begun { ForLines (λ p. IsSearcherOf p searcher.now) (λ p.
         AreFilesBegun p job.now (F.holds files.now.files.now) (files_named files.now)
         (R.remaining input.old) (W.taken output.old) (W.taken output.new)) }
-    ensures told { TellsOfFiles E.Sink (files_named files.now)
+    ensures told { TellsOfFiles E.Sink job.now.hushed (files_named files.now)
         job.now.shown result errors.old errors.new }
 {
     match searcher {
@@ -304,21 +322,61 @@ fn search_by<F: Open, R: Read, W: Sink, E: Sink>(
     }
 }
 
-/// Whether that no line is selected is known without reading a file, and asked for no file. Then none is opened, as with grep.
+/// The patterns that are searched for: none where at most no line is asked for.
+fn sought<'a>(flags: &Flags, patterns: &'a [&'a [u8]]) -> &'a [&'a [u8]]
+    ensures words { pieces_of result.now ≡ words_sought flags.now (pieces_of patterns.now) }
+{
+    if asks_none(flags.most) {
+        &patterns[..0]
+    } else {
+        patterns
+    }
+}
+
+/// Whether at most no line is asked for.
+fn asks_none(most: Option<u64>) -> bool
+    ensures { result ≡ asks_none most }
+{
+    match most {
+        Some(most) => most == 0,
+        None => false,
+    }
+}
+
+/// The match kind that is searched by. Where whole lines are asked for, the longest match tells whether a pattern is the line.
+fn kind_sought(flags: &Flags) -> MatchKind
+    ensures { result ≡ kind_sought flags.now }
+{
+    if flags.whole {
+        MatchKind::LeftmostLongest
+    } else {
+        flags.kind
+    }
+}
+
+/// Whether the lines without a match are selected.
+fn inverts(flags: &Flags) -> bool
+    ensures { result ≡ inverts flags.now }
+{
+    flags.invert && !asks_none(flags.most)
+}
+
+/// Whether that no line is selected is known without reading a file, and no file is to be named for it. Then none is opened, as with
+/// grep.
 fn knows_none(flags: &Flags, patterns: &[&[u8]]) -> bool
     ensures { result ≡ knows_none flags.now (pieces_of patterns.now) }
 {
-    (flags.quiet || !flags.lacking) && selects_none(patterns, flags.invert)
+    (flags.quiet || !flags.lacking) && selects_none(patterns, flags.whole, inverts(flags))
 }
 
-/// Whether no line is selected, whatever it holds: there is no pattern, or `-v` is given and all are empty.
-fn selects_none(patterns: &[&[u8]], invert: bool) -> bool
-    ensures { result ≡ selects_none invert (pieces_of patterns.now) }
+/// Whether no line is selected, whatever it holds: there is no pattern, or `-v` is given without `-x` and all are empty.
+fn selects_none(patterns: &[&[u8]], whole: bool, invert: bool) -> bool
+    ensures { result ≡ selects_none whole invert (pieces_of patterns.now) }
 {
     if patterns.is_empty() {
         return !invert;
     }
-    invert && are_empty(patterns)
+    invert && !whole && are_empty(patterns)
 }
 
 /// Whether all patterns are empty.
@@ -341,7 +399,8 @@ fn job_of(flags: &Flags, terminal: bool, count: usize) -> Job<'static>
 {
     Job {
         shown: flags.shown(),
-        invert: flags.invert,
+        invert: inverts(flags),
+        whole: flags.whole,
         style: Style {
             name: b"",
             with_name: has_name(flags.with_name, count),
@@ -354,6 +413,8 @@ fn job_of(flags: &Flags, terminal: bool, count: usize) -> Job<'static>
             lines: flags.first_line.wrapping_sub(1),
             bytes: flags.first,
         },
+        most: flags.most,
+        hushed: flags.no_messages,
     }
 }
 

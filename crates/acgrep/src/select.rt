@@ -1,19 +1,20 @@
 //! Which lines of a text are selected, and what is written of them.
 
-ghost use Rattle.std.specs.Prelude.{◌≡◌, ◌+◌, ◌%◌, ◌^◌, ◌↔◌, ◌⊎◌, ◌&&◌, ◌≤◌, ◌<◌, [], IfOk, IfSome, IsTrue, OnOk, false, not, length};
+ghost use Rattle.std.specs.Prelude.{◌≡◌, ◌==◌, ◌+◌, ◌%◌, ◌^◌, ◌↔◌, ◌⊎◌, ◌&&◌, ◌≤◌, ◌<◌, [], IfOk, IfSome, IsTrue, OnOk, false, true, not, length};
 ghost use Rattle.memchr.specs.Find.{is_byte, places};
 ghost use Rattle.aho_core.specs.Patterns.{Patterns};
+ghost use Rattle.aho_core.specs.declared.search.MatchKind.TheVariants.{LeftmostLongest};
 ghost use Rattle.acgrep.specs.Lines.{lines};
-ghost use Rattle.acgrep.specs.Searched.{BeginsInvertedBy, BeginsLineBy, BeginsMatchBy, BeginsOthersBy, BeginsSelectedBy, BeginsTextBy, SearchesSomeBy, SearchesTextBy, TellsInvertedBy, TellsMatchBy, TellsOthersBy, WritesLineBy};
+ghost use Rattle.acgrep.specs.Searched.{BeginsInvertedBy, BeginsLineBy, BeginsMatchBy, BeginsOneBy, BeginsOthersBy, BeginsSelectedBy, BeginsTextBy, SearchesSomeBy, SearchesTextBy, TellsInvertedBy, TellsLineBy, TellsMatchBy, TellsOthersBy, WritesLineBy, WritesNextBy};
 ghost use Rattle.acgrep.specs.Selected.{FindsNone, ForLines, IsLine, IsNextLine, IsNoneSelected};
-ghost use Rattle.acgrep.specs.Written.{EndsLine, NumbersLines, IsSettled, SamePlace, after_line, after_lines, at_begin, is_numbered, needs_one, one_more, place_behind};
+ghost use Rattle.acgrep.specs.Written.{EndsLine, HasMatch, IsMatched, NumbersLines, IsSettled, SamePlace, after_line, after_lines, at_begin, is_full, is_numbered, needs_one, next_count, place_behind, selects};
 
 use crate::failure::Stop;
 use crate::json::put_objects;
 use crate::lines::{behind, line_end, line_start};
 use crate::options::Shown;
 use crate::print::{Place, Style, put_colored_line, put_line, put_matches};
-use chromesquid::{Automaton, Input, Sink, Span, write_whole};
+use chromesquid::{Automaton, Input, MatchError, MatchKind, Sink, Span, write_whole};
 use memchr::memchr_iter;
 use std::io::Write;
 
@@ -24,10 +25,16 @@ pub struct Job<'a> {
     pub shown: Shown,
     /// Whether the lines without a match are selected.
     pub invert: bool,
+    /// Whether a line matches only where a pattern is the whole line.
+    pub whole: bool,
     /// What stands before a line.
     pub style: Style<'a>,
     /// Where the first line of a file stands.
     pub first: Place,
+    /// How many lines of a file are selected at most, and one at least.
+    pub most: Option<u64>,
+    /// Whether nothing is told of files that cannot be read.
+    pub hushed: bool,
 }
 
 impl<'a> Job<'a> {
@@ -48,6 +55,13 @@ impl<'a> Job<'a> {
         self.style.color && !self.invert
     }
 
+    /// Whether a line is selected, by whether it matches.
+    fn selects(&self, matched: bool) -> bool
+        ensures selects { result ≡ selects matched self.now.invert }
+    {
+        if self.invert { !matched } else { matched }
+    }
+
     /// Whether the first selected line tells all.
     fn needs_one(&self) -> bool
         ensures one { result ≡ needs_one self.now.shown }
@@ -55,11 +69,24 @@ impl<'a> Job<'a> {
         matches!(self.shown, Shown::Names | Shown::Lacking | Shown::Nothing)
     }
 
+    /// Whether so many lines are selected as are asked for.
+    fn is_full(&self, count: u64) -> bool
+        ensures full { result ≡ is_full self.now.most count }
+    {
+        match self.most {
+            Some(most) => count > 0 && most <= count,
+            None => false,
+        }
+    }
+
     /// Whether no further line changes what is written.
     pub fn is_done(&self, state: &State) -> bool
         ensures only { IsTrue result → 0 < state.now.selected }
         ensures settled { IsTrue result ↔ IsSettled self.now state.now }
     {
+        if self.is_full(state.selected) {
+            return true;
+        }
         self.needs_one() && state.selected > 0
     }
 
@@ -164,7 +191,7 @@ fn search_some<'t, A: Automaton, W: Sink>(
     requires some { 0 < length text.now }
     ensures shorter { IfOk result (λ left. length left.now < length text.now) }
     ensures none { ForLines (A.is_of automaton.now) (λ p. job.now.invert ≡ false
-        → OnOk result (FindsNone p state.old state.new text.now)) }
+        → job.now.whole ≡ false → OnOk result (FindsNone p state.old state.new text.now)) }
     ensures written { SearchesSomeBy A.Automaton W.Sink automaton.now job.now
         state.old state.new output.old output.new text.now result }
     ensures begun { BeginsTextBy A.Automaton W.Sink automaton.now job.now
@@ -190,7 +217,7 @@ fn search_some<'t, A: Automaton, W: Sink>(
     }
 }
 
-/// Goes over a line with a match.
+/// Goes over a line in which a pattern occurs.
 fn pass_matched<A: Automaton, W: Sink>(
     automaton: &A,
     job: &Job<'_>,
@@ -200,21 +227,89 @@ fn pass_matched<A: Automaton, W: Sink>(
     output: &mut W,
 ) -> Result<(), Stop>
     requires of { (p : Patterns) × A.is_of automaton.now p }
-    ensures selected { job.now.invert ≡ false → OnOk result (0 < state.new.selected) }
+    ensures selected { job.now.invert ≡ false → job.now.whole ≡ false
+        → OnOk result (0 < state.new.selected) }
     ensures placed { OnOk result (state.new.place ≡ after_line state.old.place line.now) }
     ensures written { TellsMatchBy A.Automaton W.Sink automaton.now job.now
         state.old state.new output.old output.new line.now result }
     ensures begun { BeginsMatchBy A.Automaton W.Sink automaton.now job.now
         state.old state.new output.old output.new line.now result }
 {
-    if job.invert {
-        state.place = behind_line(state.place, line);
-        return Ok(());
-    }
-    pass_selected(automaton, job, line, state, page, output)
+    let matched = is_match(automaton, job, line)?;
+    pass_line(automaton, job, matched, line, state, page, output)
 }
 
-/// Goes over a selected line.
+/// Whether a line in which a pattern occurs matches.
+fn is_match<A: Automaton>(automaton: &A, job: &Job<'_>, line: &[u8]) -> Result<bool, Stop>
+    requires of { (p : Patterns) × A.is_of automaton.now p }
+    ensures any { job.now.whole ≡ false → IfOk result (λ matched. matched ≡ true) }
+    ensures matched { (p : Patterns) → A.is_of automaton.now p → HasMatch p line.now
+        → IfOk result (IsMatched p job.now.whole line.now) }
+{
+    if job.whole {
+        return is_whole(automaton, line);
+    }
+    Ok(true)
+}
+
+/// Whether a pattern is the whole line.
+fn is_whole<A: Automaton>(automaton: &A, line: &[u8]) -> Result<bool, Stop>
+    requires of { (p : Patterns) × A.is_of automaton.now p }
+    ensures whole { (p : Patterns) → A.is_of automaton.now p
+        → IfOk result (IsMatched p true line.now) }
+{
+    match automaton.match_kind() {
+        MatchKind::LeftmostLongest => is_longest_whole(automaton, line),
+        kind => Err(Stop::Search(MatchError::unsupported_overlapping(kind))),
+    }
+}
+
+/// The same where of those that occur the longest that begins first is found.
+fn is_longest_whole<A: Automaton>(automaton: &A, line: &[u8]) -> Result<bool, Stop>
+    requires of { (p : Patterns) × A.is_of automaton.now p }
+    ensures whole { (p : Patterns) → A.is_of automaton.now p → p.kind ≡ LeftmostLongest
+        → IfOk result (IsMatched p true line.now) }
+{
+    match automaton.try_find(&Input::new(line))? {
+        Some(found) => Ok(spans(found.start(), found.end(), line.len())),
+        None => Ok(false),
+    }
+}
+
+/// Whether a range is all that there is.
+fn spans(start: usize, end: usize, len: usize) -> bool
+    ensures spans { result ≡ ((start == 0) && (end == len)) }
+{
+    start == 0 && end == len
+}
+
+/// Goes over a line of which it is known whether it matches.
+fn pass_line<A: Automaton, W: Sink>(
+    automaton: &A,
+    job: &Job<'_>,
+    matched: bool,
+    line: &[u8],
+    state: &mut State,
+    page: &mut Vec<u8>,
+    output: &mut W,
+) -> Result<(), Stop>
+    requires of { (p : Patterns) × A.is_of automaton.now p }
+    ensures selected { matched ≡ true → job.now.invert ≡ false
+        → OnOk result (0 < state.new.selected) }
+    ensures placed { OnOk result (state.new.place ≡ after_line state.old.place line.now) }
+    ensures written { TellsLineBy A.Automaton W.Sink automaton.now job.now
+        state.old state.new output.old output.new matched line.now result }
+    ensures begun { BeginsOneBy A.Automaton W.Sink automaton.now job.now
+        state.old state.new output.old output.new matched line.now result }
+{
+    if job.selects(matched) {
+        return pass_selected(automaton, job, line, state, page, output);
+    }
+    state.place = behind_line(state.place, line);
+    Ok(())
+}
+
+/// Goes over a selected line. Where so many lines are selected already as are asked for nothing is written of it.
 fn pass_selected<A: Automaton, W: Sink>(
     automaton: &A,
     job: &Job<'_>,
@@ -224,13 +319,18 @@ fn pass_selected<A: Automaton, W: Sink>(
     output: &mut W,
 ) -> Result<(), Stop>
     requires of { (p : Patterns) × A.is_of automaton.now p }
-    ensures counted { OnOk result (state.new.selected ≡ one_more state.old.selected) }
+    ensures counted { OnOk result
+        (state.new.selected ≡ next_count job.now.most state.old.selected) }
     ensures placed { OnOk result (state.new.place ≡ after_line state.old.place line.now) }
-    ensures shown { WritesLineBy (A.is_of automaton.now) job.now state.old.place
+    ensures shown { WritesNextBy (A.is_of automaton.now) job.now state.old
         (W.taken output.old) (W.taken output.new) line.now result }
     ensures begun { BeginsSelectedBy A.Automaton W.Sink automaton.now job.now
         state.old state.new output.old output.new line.now result }
 {
+    if job.is_full(state.selected) {
+        state.place = behind_line(state.place, line);
+        return Ok(());
+    }
     show(automaton, job, line, state.place, page, output)?;
     state.selected = state.selected.saturating_add(1);
     state.place = behind_line(state.place, line);

@@ -1,5 +1,6 @@
 //! What is told on standard error: why something was not done.
 
+ghost use Rattle.acgrep.specs.Mistakes.{memory_line};
 ghost use Rattle.acgrep.specs.Told.{TellsCause, TellsOfFile, TellsOfNamed, TellsWrong, number_parts, unargued_parts, valued_name};
 ghost use Rattle.std.specs.List.{concat};
 ghost use Rattle.programs.specs.Telling.{TellsBytes};
@@ -18,6 +19,7 @@ const PROGRAM: &[u8] = b"acgrep";
 /// Tells that memory ran out.
 pub fn tell_memory<E: Sink>(errors: &mut Errors<'_, E>)
     ensures told { TellsCause E.Sink errors.old errors.new }
+    ensures exact { TellsBytes E.Sink errors.old errors.new memory_line }
 {
     errors.tell(PROGRAM, None, None, Reason::OutOfMemory.text().as_bytes());
 }
@@ -135,6 +137,7 @@ fn valued_name<'a>(valued: Valued) -> &'a [u8]
         Valued::Kind => b"--kind",
         Valued::Offset => b"--offset",
         Valued::FirstLine => b"--first-line",
+        Valued::MaxCount => b"-m",
     }
 }
 

@@ -1,10 +1,14 @@
--- What is left of the letters says what all of them do.
+-- What is left of the letters says what all of them do, and the first that no option has is among them.
 use Rattle.std.proofs.Common.{◌≡◌, length}
 use Rattle.acgrep.specs.Arguments.{letters_by, said}
+use Rattle.acgrep.specs.Mistakes.{wrong_letters}
 use Rattle.acgrep.proofs.arguments.read_letters.Given as goal
 
 abbrev pub invariant-loop-letter : goal.invariant-loop-letter
-invariant-loop-letter l = letters_by l.rest (said l.given) ≡ letters_by l.fn.letters (said l.initial.given)
+invariant-loop-letter l = record {
+  read : letters_by l.rest (said l.given) ≡ letters_by l.fn.letters (said l.initial.given);
+  mistake : wrong_letters l.rest ≡ wrong_letters l.fn.letters;
+}
 
 abbrev pub decreases-loop-letter : goal.decreases-loop-letter
 decreases-loop-letter l = length l.rest

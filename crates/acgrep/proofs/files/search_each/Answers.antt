@@ -1,14 +1,13 @@
 -- A file more was searched.
-use Rattle.std.proofs.Common.{◌≡◌, [], ◌∷◌, ◌-◌, ℕ, List, Bor, length, take, drop, subst, sym, ap, refl, false}
+use Rattle.std.proofs.Common.{◌≡◌, [], ◌∷◌, ◌-◌, ℕ, List, Bor, length, take, drop, subst, sym, ap, refl}
 use Rattle.std.proofs.Math.ListN.{get_or}
 use Rattle.programs.specs.Names.{name_bytes}
 use Rattle.std.proofs.KnownBytes.{Keeps-refl}
 use Rattle.acgrep.proofs.FilesBegun.{begun_none}
 use Rattle.acgrep.proofs.NamesSearched.{SoFar, ends_by, names_cut, so_far_end, so_far_start, so_far_step}
-use Rattle.acgrep.specs.Files.{shown_name}
-use Rattle.acgrep.specs.Told.{IsMessage, TellsIf, shown_names}
+use Rattle.acgrep.specs.Told.{IsMessage, TellsIf, files_told}
 use Rattle.acgrep.specs.declared.files.Seen.{Seen}
-use Rattle.acgrep.proofs.Told.{if-more, within-cut}
+use Rattle.acgrep.proofs.Told.{if-more, told-cut}
 use Rattle.acgrep.proofs.files.search_each.Goals as goal
 
 pub loop-rest-init : goal.loop-rest-init
@@ -20,7 +19,7 @@ loop-rest-init g c =
     let held = g.W.Sink.taken c.args.output.now in
     record {
       so_far = λ p is plain. subst (SoFar p job holds names left held names left held) (sym c.new-seen.ensures) (so_far_start p job holds names left held);
-      told = subst (λ (seen : Seen). TellsIf g.E.Sink (IsMessage (shown_names names)) seen.failed c.args.errors.now c.args.errors.now) (sym c.new-seen.ensures) refl;
+      told = subst (λ (seen : Seen). TellsIf g.E.Sink (IsMessage (files_told job.hushed names)) job.hushed seen.failed c.args.errors.now c.args.errors.now) (sym c.new-seen.ensures) refl;
       within = λ name is. is;
     }
 
@@ -40,7 +39,8 @@ loop-rest-preserved g c =
     let name = (get_or rest 0 d).now in
     let more = name_bytes (take (length rest - 1) (drop 1 rest)) in
     let cut : name_bytes rest ≡ name ∷ more = names_cut rest d (c.goes_on.ensures.some c.loop-rest-test.true) in
-    let within = within-cut (shown_name name) (shown_names more) (shown_names (name_bytes rest)) (shown_names names) (ap shown_names cut) c.loop-rest.invariant.within in
+    let all = files_told job.hushed names in
+    let within = told-cut job.hushed name more (name_bytes rest) all (ap (files_told job.hushed) cut) c.loop-rest.invariant.within in
     record {
       so_far = λ p is plain.
           let so_far = subst (λ (l : List (List ℕ)). SoFar p job holds names begin first l left held c.loop-rest.seen) cut (c.loop-rest.invariant.so_far p is plain) in
@@ -48,9 +48,9 @@ loop-rest-preserved g c =
           (so_far_step p job holds names begin first name more left left' held held' c.loop-rest.seen c.search_name-outcome.result
           (c.goes_on.ensures.going c.loop-rest-test.true) so_far c.search_name-outcome.ensures.leaves (c.search_name-outcome.ensures.searched p is plain)
           (c.search_name-outcome.ensures.begun p is plain));
-      told = subst (λ (seen : Seen). TellsIf g.E.Sink (IsMessage (shown_names names)) seen.failed c.args.errors.now c.search_name-outcome.new.errors) (sym c.after-seen.ensures)
-          (if-more g.E.Sink (IsMessage (shown_names names)) c.args.errors.now c.loop-rest.errors c.search_name-outcome.new.errors false c.search_name-outcome.result job.shown c.loop-rest.seen
-          c.loop-rest.invariant.told (c.search_name-outcome.ensures.told (shown_names names) within.0));
+      told = subst (λ (seen : Seen). TellsIf g.E.Sink (IsMessage all) job.hushed seen.failed c.args.errors.now c.search_name-outcome.new.errors) (sym c.after-seen.ensures)
+          (if-more g.E.Sink (IsMessage all) job.hushed c.args.errors.now c.loop-rest.errors c.search_name-outcome.new.errors c.search_name-outcome.result job.shown c.loop-rest.seen
+          c.loop-rest.invariant.told (c.search_name-outcome.ensures.told all within.0));
       within = within.1;
     }
 

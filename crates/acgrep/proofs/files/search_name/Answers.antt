@@ -1,17 +1,36 @@
 -- The name that is told is that of the file.
-use Rattle.std.proofs.Common.{◌≡◌, ℕ, List, true, false, codes, refl, sym, subst, ◌∙◌}
+use Rattle.std.proofs.Common.{◌≡◌, ℕ, Bool, List, true, false, codes, refl, sym, subst, ◌∙◌}
 use Rattle.programs.specs.Names.{IsAmong, is_input}
-use Rattle.acgrep.specs.Files.{shown_name}
+use Rattle.acgrep.specs.Files.{SearchesName, SearchesReader, shown_name}
+use Rattle.acgrep.specs.Told.{IsMessage, TellsOutcome}
+use Rattle.acgrep.proofs.FileTellings.{if_searched, input_searched}
 use Rattle.acgrep.proofs.files.search_name.Goals as goal
 
 pub returns-then-is_input-clause-told : goal.returns-then-is_input-clause-told
 returns-then-is_input-clause-told g c = λ names is.
     let input : is_input c.args.name.now ≡ true = sym c.is_input.ensures ∙ c.if-is_input.true in
     let same : shown_name c.args.name.now ≡ codes "(standard input)" = rw input refl in
-    c.search_one.ensures.told names (subst (λ (n : List ℕ). IsAmong n names) (same ∙ sym c.job_for-named.ensures.named.name) is)
+    let hushed = c.job_for-named.ensures.named.hushed in
+    subst (λ (b : Bool). TellsOutcome g.E.Sink (IsMessage names) b c.search_one.result c.args.errors.now c.search_one.new.errors) hushed
+    (c.search_one.ensures.told names (λ asked. subst (λ (n : List ℕ). IsAmong n names) (same ∙ sym c.job_for-named.ensures.named.name) (is (sym hushed ∙ asked))))
 
 pub returns-clause-told : goal.returns-clause-told
 returns-clause-told g c = λ names is.
     let file : is_input c.args.name.now ≡ false = sym c.is_input.ensures ∙ c.if-is_input.false in
     let same : shown_name c.args.name.now ≡ c.args.name.now = rw file refl in
-    c.search_named.ensures.told names (subst (λ (n : List ℕ). IsAmong n names) (same ∙ sym c.job_for-named-2.ensures.named.name) is)
+    let hushed = c.job_for-named-2.ensures.named.hushed in
+    subst (λ (b : Bool). TellsOutcome g.E.Sink (IsMessage names) b c.search_named.result c.args.errors.now c.search_named.new.errors) hushed
+    (c.search_named.ensures.told names (λ asked. subst (λ (n : List ℕ). IsAmong n names) (same ∙ sym c.job_for-named-2.ensures.named.name) (is (sym hushed ∙ asked))))
+
+pub returns-then-is_input-clause-searched : goal.returns-then-is_input-clause-searched
+returns-then-is_input-clause-searched g c = λ p is plain.
+    let job = c.args.job.now in
+    let named = c.job_for-named.result in
+    let holds = g.F.Open.holds c.args.files.now in
+    let name = c.args.name.now in
+    let left = g.R.Read.remaining c.args.input.now in
+    let left' = g.R.Read.remaining c.search_one.new.reader in
+    let held = g.W.Sink.taken c.args.output.now in
+    let held' = g.W.Sink.taken c.search_one.new.output in
+    if_searched c.search_one.result (SearchesReader p named left left' held held') (SearchesName p job holds name left left' held held')
+    (input_searched p job named holds name left left' held held' (sym c.is_input.ensures ∙ c.if-is_input.true) c.job_for-named.ensures.named) (c.search_one.ensures.searched p is plain)

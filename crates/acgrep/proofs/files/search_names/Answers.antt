@@ -5,7 +5,7 @@ use Rattle.acgrep.specs.Files.{AreSearchedOr}
 use Rattle.std.proofs.KnownBytes.{Keeps-refl}
 use Rattle.acgrep.proofs.FilesBegun.{begun_none}
 use Rattle.acgrep.proofs.NamesSearched.{status_searched}
-use Rattle.acgrep.specs.Told.{IsMessage, TellsStatus, shown_names}
+use Rattle.acgrep.specs.Told.{IsMessage, TellsStatus, files_told}
 use Rattle.acgrep.proofs.Told.{status-seen, status-some}
 use Rattle.acgrep.proofs.files.search_names.Goals as goal
 
@@ -28,11 +28,11 @@ returns-in_default-clause-begun g c = λ p is plain.
 
 pub returns-in_default-clause-told : goal.returns-in_default-clause-told
 returns-in_default-clause-told g c =
-    let names = shown_names (name_bytes c.args.names.now) in
-    status-some g.E.Sink (IsMessage names) c.args.job.now.shown c.args.errors.now c.tell_memory.new.errors (c.tell_memory.ensures.told names)
+    let names = files_told c.args.job.now.hushed (name_bytes c.args.names.now) in
+    status-some g.E.Sink (IsMessage names) c.args.job.now.hushed c.args.job.now.shown c.args.errors.now c.tell_memory.new.errors (c.tell_memory.ensures.told names)
 
 pub returns-clause-told : goal.returns-clause-told
 returns-clause-told g c =
-    let names = shown_names (name_bytes c.args.names.now) in
-    subst (λ (status : ℕ). TellsStatus g.E.Sink (IsMessage names) c.args.job.now.shown status c.args.errors.now c.search_each-seen.new.errors) (sym c.status.ensures)
-    (status-seen g.E.Sink (IsMessage names) c.args.job.now.shown c.search_each-seen.result c.args.errors.now c.search_each-seen.new.errors c.search_each-seen.ensures.told)
+    let names = files_told c.args.job.now.hushed (name_bytes c.args.names.now) in
+    subst (λ (status : ℕ). TellsStatus g.E.Sink (IsMessage names) c.args.job.now.hushed c.args.job.now.shown status c.args.errors.now c.search_each-seen.new.errors) (sym c.status.ensures)
+    (status-seen g.E.Sink (IsMessage names) c.args.job.now.hushed c.args.job.now.shown c.search_each-seen.result c.args.errors.now c.search_each-seen.new.errors c.search_each-seen.ensures.told)

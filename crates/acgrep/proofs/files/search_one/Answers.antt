@@ -1,6 +1,4 @@
 -- What was searched of the reader, and what is asked of the file as a whole.
-use Rattle.acgrep.specs.Told.{IsMessage}
-use Rattle.acgrep.proofs.Told.{outcome-some}
 use Rattle.std.proofs.Common.{subst}
 use Rattle.acgrep.specs.Files.{EndsFile, SearchesReader}
 use Rattle.acgrep.specs.Streamed.{BeginsStream, SearchesStream, course}
@@ -51,6 +49,5 @@ returns-in-Err-clause-begun g c = λ p is plain.
     subst (λ (first : State). BeginsStream p job (course first state held meanwhile left left')) c.new-state.ensures.begin (c.in-Err.ensures.begun p is plain) in
     on_broken c.break_off.result (file_begins p job state left left' held meanwhile (g.W.Sink.taken c.break_off.new.output) stream c.break_off.ensures.begun)
 
-pub returns-in-Err-clause-told : goal.returns-in-Err-clause-told
-returns-in-Err-clause-told g c = λ names is.
-    outcome-some g.E.Sink (IsMessage names) c.break_off.result c.args.errors.now c.break_off.new.errors c.break_off.ensures.unsearched (c.break_off.ensures.told names is)
+pub returns-in-Ok-clause-told : goal.returns-in-Ok-clause-told
+returns-in-Ok-clause-told g c = λ names is. c.end_file.ensures.told names

@@ -4,8 +4,5 @@ use Rattle.acgrep.specs.Runs.{origins_of}
 use Rattle.acgrep.specs.Told.{source_names}
 use Rattle.acgrep.proofs.keys.tell_refusal.Goals as goal
 
-pub returns-in-PatternTooLong : goal.returns-in-PatternTooLong
-returns-in-PatternTooLong g c = record { told = c.tell_build.ensures.told (source_names (origins_of c.args.sources.now)) c.source_name.ensures.named }
-
 pub returns-in_default : goal.returns-in_default
-returns-in_default g c = record { told = c.tell_build-in_default.ensures.told (source_names (origins_of c.args.sources.now)) (inl (inr (inr (inl refl)))) }
+returns-in_default g c = record { told = c.tell_build.ensures.told (source_names (origins_of c.args.sources.now)) (inl (inr (inr (inl refl)))) }

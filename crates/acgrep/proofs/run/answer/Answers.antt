@@ -7,10 +7,10 @@ use Rattle.acgrep.proofs.Statuses.{told-low, told-status}
 use Rattle.acgrep.proofs.run.answer.Goals as goal
 
 pub returns-then-given-clause-told : goal.returns-then-given-clause-told
-returns-then-given-clause-told g c = c.write_text.ensures.told (shown_by c.args.given.now.flags) (names_said (Some (said c.args.given.now)))
+returns-then-given-clause-told g c = c.write_text.ensures.told c.args.given.now.flags.no_messages (shown_by c.args.given.now.flags) (names_said (Some (said c.args.given.now)))
 
 pub returns-then-given-2-clause-told : goal.returns-then-given-2-clause-told
-returns-then-given-2-clause-told g c = c.write_text-then-given-2.ensures.told (shown_by c.args.given.now.flags) (names_said (Some (said c.args.given.now)))
+returns-then-given-2-clause-told g c = c.write_text-then-given-2.ensures.told c.args.given.now.flags.no_messages (shown_by c.args.given.now.flags) (names_said (Some (said c.args.given.now)))
 
 pub returns-then-given-clause-searches : goal.returns-then-given-clause-searches
 returns-then-given-clause-searches g c = λ asks low. absurd (true≢false (sym c.if-given.true ∙ asks.no_version))
@@ -31,5 +31,5 @@ pub returns-clause-told : goal.returns-clause-told
 returns-clause-told g c =
     let given = said c.args.given.now in
     subst (λ (n : ℕ). TellsOfCall g.E.Sink given n c.args.errors.now c.search_asked-status.new.errors) (sym c.status_told.ensures.told)
-    (told-status g.E.Sink (MayTell (names_said (Some given))) (shown_by given.flags) given.flags.no_match_ok c.search_asked-status.result
+    (told-status g.E.Sink (MayTell (names_said (Some given))) given.flags.no_messages (shown_by given.flags) given.flags.no_match_ok c.search_asked-status.result
     c.args.errors.now c.search_asked-status.new.errors c.search_asked-status.ensures.told)

@@ -1,12 +1,14 @@
 -- What was said was done, and a flush keeps what was written.
-use Rattle.std.proofs.Common.{◌≡◌, ◌<◌, ◌≤◌, ◌∙◌, Option, Some, ap, ℕ, inl, inr, arith, subst, sym}
+use Rattle.std.proofs.Common.{false, ◌≡◌, ◌<◌, ◌≤◌, ◌∙◌, Option, Some, ap, ℕ, inl, inr, arith, subst, sym}
 use Rattle.programs.specs.Arguments.{texts}
 use Rattle.acgrep.specs.Arguments.{Said, said, said_by, shown_by}
-use Rattle.acgrep.specs.Runs.{AsksToSearch, BeginsSearch, Searches}
+use Rattle.acgrep.specs.Runs.{AsksToSearch, BeginsSearch, GivesNone, Searches}
 use Rattle.acgrep.proofs.Kept.{begins_held, same_said, searches_kept}
 use Rattle.programs.specs.Telling.{Tells, TellsSome}
 use Rattle.programs.proofs.Lines.{some-tells}
-use Rattle.acgrep.specs.Told.{MayTell, names_said}
+use Rattle.acgrep.specs.Told.{MayTell, is_hushed, names_said}
+use Rattle.acgrep.specs.Mistakes.{TellsLacking, TellsMistake, TellsNoPattern}
+use Rattle.acgrep.proofs.Mistaken.{mistake-told, refused-lacking}
 use Rattle.acgrep.proofs.Told.{finished, not-quiet}
 use Rattle.acgrep.proofs.run.run.Goals as goal
 
@@ -51,23 +53,24 @@ pub returns-in-Ok-clause-tells : goal.returns-in-Ok-clause-tells
 returns-in-Ok-clause-tells g c =
     let names = names_said (Some (said c.in-Ok.given)) in
     let bound : c.finish.result ≤ 2 = elim c.finish.ensures.status [ inl kept ↦ omega (arith, kept, c.answer-status.ensures.bound) | inr two ↦ omega (arith, two) ] in
-    let told = finished g.E.Sink names (shown_by c.in-Ok.given.flags) c.answer-status.result c.finish.result c.args.errors.now c.answer-status.new.errors c.finish.new.errors
+    let told = finished g.E.Sink names c.in-Ok.given.flags.no_messages (shown_by c.in-Ok.given.flags) c.answer-status.result c.finish.result c.args.errors.now c.answer-status.new.errors c.finish.new.errors
     c.answer-status.ensures.bound bound c.finish.ensures.status c.answer-status.ensures.told c.finish.ensures.silent c.finish.ensures.told_before (λ low two. c.finish.ensures.told low two names) in
     subst (λ (given : Option Said). Tells g.E.Sink (MayTell (names_said given)) c.args.errors.now c.finish.new.errors) (sym c.in-Ok.ensures.read) told.tells
 
 pub returns-in-Ok-clause-says_why : goal.returns-in-Ok-clause-says_why
-returns-in-Ok-clause-says_why g c = λ failed.
+returns-in-Ok-clause-says_why g c = λ asked failed.
     let names = names_said (Some (said c.in-Ok.given)) in
     let bound : c.finish.result ≤ 2 = elim c.finish.ensures.status [ inl kept ↦ omega (arith, kept, c.answer-status.ensures.bound) | inr two ↦ omega (arith, two) ] in
-    let told = finished g.E.Sink names (shown_by c.in-Ok.given.flags) c.answer-status.result c.finish.result c.args.errors.now c.answer-status.new.errors c.finish.new.errors
+    let told = finished g.E.Sink names c.in-Ok.given.flags.no_messages (shown_by c.in-Ok.given.flags) c.answer-status.result c.finish.result c.args.errors.now c.answer-status.new.errors c.finish.new.errors
     c.answer-status.ensures.bound bound c.finish.ensures.status c.answer-status.ensures.told c.finish.ensures.silent c.finish.ensures.told_before (λ low two. c.finish.ensures.told low two names) in
-    subst (λ (given : Option Said). TellsSome g.E.Sink (MayTell (names_said given)) c.args.errors.now c.finish.new.errors) (sym c.in-Ok.ensures.read) (told.some failed)
+    subst (λ (given : Option Said). TellsSome g.E.Sink (MayTell (names_said given)) c.args.errors.now c.finish.new.errors) (sym c.in-Ok.ensures.read)
+    (told.some (subst (λ (given : Option Said). is_hushed given ≡ false) c.in-Ok.ensures.read asked) failed)
 
 pub returns-in-Ok-clause-silent : goal.returns-in-Ok-clause-silent
 returns-in-Ok-clause-silent g c given is loud low =
     let names = names_said (Some (said c.in-Ok.given)) in
     let bound : c.finish.result ≤ 2 = elim c.finish.ensures.status [ inl kept ↦ omega (arith, kept, c.answer-status.ensures.bound) | inr two ↦ omega (arith, two) ] in
-    let told = finished g.E.Sink names (shown_by c.in-Ok.given.flags) c.answer-status.result c.finish.result c.args.errors.now c.answer-status.new.errors c.finish.new.errors
+    let told = finished g.E.Sink names c.in-Ok.given.flags.no_messages (shown_by c.in-Ok.given.flags) c.answer-status.result c.finish.result c.args.errors.now c.answer-status.new.errors c.finish.new.errors
     c.answer-status.ensures.bound bound c.finish.ensures.status c.answer-status.ensures.told c.finish.ensures.silent c.finish.ensures.told_before (λ low two. c.finish.ensures.told low two names) in
     let same : said c.in-Ok.given ≡ given = same_said (said_by (texts c.args.arguments.now)) given (said c.in-Ok.given) is c.in-Ok.ensures.read in
     let flags = c.in-Ok.given.flags in
@@ -80,6 +83,26 @@ returns-in-Err-clause-tells g c =
     (some-tells g.E.Sink (MayTell names) c.args.errors.now c.tell_refused.new.errors (c.tell_refused.ensures.told names))
 
 pub returns-in-Err-clause-says_why : goal.returns-in-Err-clause-says_why
-returns-in-Err-clause-says_why g c = λ failed.
+returns-in-Err-clause-says_why g c = λ asked failed.
     let names = names_said (said_by (texts c.args.arguments.now)) in
     subst (TellsSome g.E.Sink (MayTell names) c.args.errors.now) (sym (c.finish-in-Err.ensures.told_before (omega arith))) (c.tell_refused.ensures.told names)
+
+pub returns-in-Err-clause-mistake : goal.returns-in-Err-clause-mistake
+returns-in-Err-clause-mistake g c wrong =
+    let arguments = texts c.args.arguments.now in
+    subst (TellsMistake g.E.Sink arguments c.args.errors.now) (sym (c.finish-in-Err.ensures.told_before (omega arith)))
+    (mistake-told g.E.Sink arguments c.in-Err.refusal c.args.errors.now c.tell_refused.new.errors c.in-Err.ensures.wrong c.tell_refused.ensures.exact)
+
+pub returns-in-Ok-clause-lacking : goal.returns-in-Ok-clause-lacking
+returns-in-Ok-clause-lacking g c given is asks none =
+    let same : said c.in-Ok.given ≡ given = same_said (said_by (texts c.args.arguments.now)) given (said c.in-Ok.given) is c.in-Ok.ensures.read in
+    let asks' = subst (λ (s : Said). AsksToSearch s.flags) (sym same) asks in
+    let none' = subst GivesNone (sym same) none in
+    let two : c.answer-status.result ≡ 2 = c.answer-status.ensures.patternless asks' none' in
+    inr (subst (TellsNoPattern g.E.Sink c.args.errors.now) (sym (c.finish.ensures.told_before (omega (arith, two)))) (c.answer-status.ensures.lacking asks' none'))
+
+pub returns-in-Err-clause-lacking : goal.returns-in-Err-clause-lacking
+returns-in-Err-clause-lacking g c given is asks none =
+    let arguments = texts c.args.arguments.now in
+    subst (TellsLacking g.E.Sink c.args.errors.now) (sym (c.finish-in-Err.ensures.told_before (omega arith)))
+    (refused-lacking g.E.Sink (said_by arguments) given c.in-Err.refusal c.args.errors.now c.tell_refused.new.errors is c.in-Err.ensures.refused c.tell_refused.ensures.exact)

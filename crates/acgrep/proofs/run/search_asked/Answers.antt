@@ -1,15 +1,14 @@
 -- Without a pattern nothing is written.
-use Rattle.std.proofs.Common.{Some, inl, inr, refl, ℕ, ◌<◌, List, [], ◌∷◌, Option, Bool, Bor, length, subst, arith}
+use Rattle.std.proofs.Common.{◌≡◌, Some, inl, inr, refl, ℕ, ◌<◌, List, [], ◌∷◌, Bor, length, subst, arith}
 use Rattle.std.proofs.KnownBytes.{Keeps-refl}
 use Rattle.std.proofs.lemmas.Grind.{common_steps}
 use Rattle.std.specs.List.{concat}
 use Rattle.programs.specs.Names.{name_bytes}
-use Rattle.acgrep.specs.Runs.{BeginsFor, names_by, origins_of, sources_by}
+use Rattle.acgrep.specs.Runs.{BeginsFor, SearchesFor, names_by, origins_of, sources_by}
 use Rattle.acgrep.specs.declared.arguments.Source.{Source}
-use Rattle.acgrep.specs.declared.options.Flags.{Flags}
 use Rattle.programs.proofs.Lines.{some-one}
-use Rattle.acgrep.specs.Arguments.{said, shown_by}
-use Rattle.acgrep.specs.Told.{MayTell, names_said, wrong_parts}
+use Rattle.acgrep.specs.Arguments.{Origin, said, shown_by}
+use Rattle.acgrep.specs.Told.{MayTell, TellsOfSearch, names_said, wrong_parts}
 use Rattle.acgrep.specs.declared.arguments.Wrong.TheVariants.{NoPattern}
 use Rattle.acgrep.proofs.Told.{status-some}
 use Rattle.acgrep.proofs.run.search_asked.Goals as goal
@@ -20,15 +19,21 @@ returns-in-None-clause-begins g c = inl (Keeps-refl (g.W.Sink.taken c.args.outpu
 pub returns-in-None-clause-told : goal.returns-in-None-clause-told
 returns-in-None-clause-told g c =
     let names = names_said (Some (said c.args.given.now)) in
-    status-some g.E.Sink (MayTell names) (shown_by c.args.given.now.flags) c.args.errors.now c.tell_wrong.new.errors
+    status-some g.E.Sink (MayTell names) c.args.given.now.flags.no_messages (shown_by c.args.given.now.flags) c.args.errors.now c.tell_wrong.new.errors
     (some-one g.E.Sink (MayTell names) c.args.errors.now c.tell_wrong.new.errors (concat (wrong_parts NoPattern)) (inr (NoPattern, refl)) c.tell_wrong.ensures.told)
 
 -- where options give patterns, all operands name files
-begins-given : (holds : List ℕ → Option (List ℕ)) (terminal : Bool) (flags : Flags) (sources : List Source) (operands : List (List ℕ)) (left held held' : Option (List ℕ)) → 0 < length sources
-    → BeginsFor holds terminal flags (origins_of sources) operands left held held'
-    → BeginsFor holds terminal flags (sources_by (origins_of sources) operands) (names_by (origins_of sources) operands) left held held'
-begins-given holds terminal flags [] operands left held held' some begins = absurd (omega (arith, some))
-begins-given holds terminal flags (source ∷ sources) operands left held held' some begins = begins
+all-named : (P : List Origin → List (List ℕ) → Type 0) (sources : List Source) (operands : List (List ℕ)) → 0 < length sources → P (origins_of sources) operands
+    → P (sources_by (origins_of sources) operands) (names_by (origins_of sources) operands)
+all-named P [] operands some is = absurd (omega (arith, some))
+all-named P (source ∷ sources) operands some is = is
+
+as-given : (P : List Origin → List (List ℕ) → Type 0) (sources items : List Source) (operands names : List (Bor (List ℕ))) → sources ≡ items → operands ≡ names → 0 < length sources
+    → P (origins_of sources) (name_bytes operands) → P (sources_by (origins_of items) (name_bytes names)) (names_by (origins_of items) (name_bytes names))
+as-given P sources items operands names same alike some is =
+    subst (λ (l : List (Bor (List ℕ))). P (sources_by (origins_of items) (name_bytes l)) (names_by (origins_of items) (name_bytes l))) alike
+    (subst (λ (l : List Source). P (sources_by (origins_of l) (name_bytes operands)) (names_by (origins_of l) (name_bytes operands))) same
+    (all-named P sources (name_bytes operands) some is))
 
 pub returns-then-not-is_empty-clause-begins : goal.returns-then-not-is_empty-clause-begins
 returns-then-not-is_empty-clause-begins g c =
@@ -37,9 +42,28 @@ returns-then-not-is_empty-clause-begins g c =
     let left = g.R.Read.remaining c.args.input.now in
     let held = g.W.Sink.taken c.args.output.now in
     let held' = g.W.Sink.taken c.search.new.output in
-    let sources = c.as_slice-sources.result.now in
-    let operands = c.as_slice-operands.result.now in
-    let some : 0 < length sources = grind (arith, common_steps, c.is_empty.ensures, c.if-not-is_empty.true) in
-    subst (λ (l : List (Bor (List ℕ))). BeginsFor holds c.args.terminal flags (sources_by (origins_of c.args.given.now.sources.items) (name_bytes l)) (names_by (origins_of c.args.given.now.sources.items) (name_bytes l)) left held held') c.as_slice-operands.ensures.value
-    (subst (λ (l : List Source). BeginsFor holds c.args.terminal flags (sources_by (origins_of l) (name_bytes operands)) (names_by (origins_of l) (name_bytes operands)) left held held') c.as_slice-sources.ensures.value
-    (begins-given holds c.args.terminal flags sources (name_bytes operands) left held held' some c.search.ensures.begins))
+    let some : 0 < length c.as_slice-sources.result.now = grind (arith, common_steps, c.is_empty.ensures, c.if-not-is_empty.true) in
+    as-given (λ (sources : List Origin) (names : List (List ℕ)). BeginsFor holds c.args.terminal flags sources names left held held')
+    c.as_slice-sources.result.now c.args.given.now.sources.items c.as_slice-operands.result.now c.args.given.now.operands.items
+    c.as_slice-sources.ensures.value c.as_slice-operands.ensures.value some c.search.ensures.begins
+
+pub returns-then-not-is_empty-clause-searches : goal.returns-then-not-is_empty-clause-searches
+returns-then-not-is_empty-clause-searches g c = λ low.
+    let holds = g.F.Open.holds c.args.files.now in
+    let flags = c.args.given.now.flags in
+    let left = g.R.Read.remaining c.args.input.now in
+    let left' = g.R.Read.remaining c.search.new.input in
+    let held = g.W.Sink.taken c.args.output.now in
+    let held' = g.W.Sink.taken c.search.new.output in
+    let some : 0 < length c.as_slice-sources.result.now = grind (arith, common_steps, c.is_empty.ensures, c.if-not-is_empty.true) in
+    as-given (λ (sources : List Origin) (names : List (List ℕ)). SearchesFor holds c.args.terminal flags sources names left left' held held' c.search.result)
+    c.as_slice-sources.result.now c.args.given.now.sources.items c.as_slice-operands.result.now c.args.given.now.operands.items
+    c.as_slice-sources.ensures.value c.as_slice-operands.ensures.value some (c.search.ensures.searches low)
+
+pub returns-then-not-is_empty-clause-told : goal.returns-then-not-is_empty-clause-told
+returns-then-not-is_empty-clause-told g c =
+    let flags = c.args.given.now.flags in
+    let some : 0 < length c.as_slice-sources.result.now = grind (arith, common_steps, c.is_empty.ensures, c.if-not-is_empty.true) in
+    as-given (λ (sources : List Origin) (names : List (List ℕ)). TellsOfSearch g.E.Sink flags sources names c.search.result c.args.errors.now c.search.new.errors)
+    c.as_slice-sources.result.now c.args.given.now.sources.items c.as_slice-operands.result.now c.args.given.now.operands.items
+    c.as_slice-sources.ensures.value c.as_slice-operands.ensures.value some c.search.ensures.told

@@ -2,12 +2,12 @@
 use Rattle.std.proofs.Common.{inl, inr, length, refl, ap, subst, arith}
 use Rattle.acgrep.specs.Written.{HasNone}
 use Rattle.acgrep.proofs.Beginnings.{begins_rest, on_err}
-use Rattle.acgrep.proofs.Tellings.{searches_join, searches_start}
+use Rattle.acgrep.proofs.Tellings.{searches_join, searches_start, settled_some}
 use Rattle.acgrep.proofs.select.search_text.Goals as goal
 
 pub loop-rest-init : goal.loop-rest-init
 loop-rest-init g c = record {
-  none = λ p is plain invert zero. inl refl;
+  none = λ p is plain invert part zero. inl refl;
   searched = λ p is plain. searches_start p c.args.job.now c.args.state.now (g.W.Sink.taken c.args.output.now) c.args.text.now;
 }
 
@@ -16,9 +16,9 @@ loop-rest-preserved g c =
     let text = c.args.text.now in
     let done = c.in_ok-rest.ensures in
     record {
-      none = λ p is plain invert zero.
-          let (before, nothing) = done.none p is plain invert zero in
-          elim (c.loop-rest.invariant.none p is plain invert before) [
+      none = λ p is plain invert part zero.
+          let (before, nothing) = done.none p is plain invert part zero in
+          elim (c.loop-rest.invariant.none p is plain invert part before) [
             | inl same ↦ inr (subst (HasNone p) same nothing)
             | inr none ↦ inr none
           ];
@@ -35,11 +35,11 @@ returns-clause-written g c = λ p is plain. record {
 }
 
 pub returns-clause-none : goal.returns-clause-none
-returns-clause-none g c = λ p is plain invert some zero.
-    elim (c.loop-rest.invariant.none p is plain invert zero) [
+returns-clause-none g c = λ p is plain invert part some zero.
+    elim (c.loop-rest.invariant.none p is plain invert part zero) [
       | inl same ↦ elim (c.goes_on.ensures.ends c.loop-rest-test.false) [
         | inl empty ↦ absurd (omega (arith, some, ap length same, ap length empty))
-        | inr settled ↦ absurd (omega (arith, zero, settled.1))
+        | inr settled ↦ absurd (omega (arith, zero, settled_some c.args.job.now c.loop-rest.state settled))
       ]
       | inr none ↦ none
     ]

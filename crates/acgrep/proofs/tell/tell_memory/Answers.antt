@@ -4,4 +4,7 @@ use Rattle.acgrep.proofs.Told.{tells-memory}
 use Rattle.acgrep.proofs.tell.tell_memory.Goals as goal
 
 pub returns : goal.returns
-returns g c = record { told = λ names. tells-memory g.E.Sink names c.args.errors.now c.tell.new.self OutOfMemory (rw (c.as_bytes.ensures.value, c.text.ensures.text) at c.tell.ensures.told) }
+returns g c = record {
+  told = λ names. tells-memory g.E.Sink names c.args.errors.now c.tell.new.self OutOfMemory (rw (c.as_bytes.ensures.value, c.text.ensures.text) at c.tell.ensures.told);
+  exact = rw (c.as_bytes.ensures.value, c.text.ensures.text) at c.tell.ensures.told;
+}

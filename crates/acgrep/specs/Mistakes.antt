@@ -1,0 +1,144 @@
+-- Which mistake is told of wrong arguments: the first one, in order.
+use Rattle.programs.specs.Messages.{message_by, reason_text}
+use Rattle.programs.specs.Telling.{TellsBytes}
+use Rattle.programs.specs.declared.errors.Errors.{Errors}
+use Rattle.programs.specs.declared.reason.Reason.TheVariants.{OutOfMemory as NoMemory}
+use Rattle.aho_devices.specs.declared.device.Sink.{Ghosts as SinkGhosts}
+use Rattle.std.specs.Prelude.{◌≡◌, ◌⊎◌, ℕ, ◌==◌, ◌||◌, nat_lt, List, [], ◌∷◌, Option, Some, None, Result, IfErr, codes, drop, length, take, if◌then◌else◌}
+use Rattle.std.specs.List.{after_first, before_first, concat, position_or_len}
+use Rattle.std.specs.Str.{bytes_eq}
+use Rattle.acgrep.specs.Arguments.{ReadSoFar, Said, argument_by, is_equals, nothing_said, switch_by}
+use Rattle.acgrep.specs.Long.{found_by, option_by}
+use Rattle.acgrep.specs.Told.{TellsWrong, color_parts, kind_parts, letter_parts, name_parts, number_parts, several_parts, taken_parts, unargued_parts, valued_name, wrong_parts}
+use Rattle.acgrep.specs.declared.arguments.Awaited.{Awaited}
+use Rattle.acgrep.specs.declared.arguments.Awaited.TheVariants.{Fresh, Argument, Operands}
+use Rattle.acgrep.specs.declared.arguments.Refusal.{Refusal}
+use Rattle.acgrep.specs.declared.arguments.Refusal.TheVariants.{Wrong, OutOfMemory}
+use Rattle.acgrep.specs.declared.arguments.Wrong.TheVariants.{NoPattern}
+use Rattle.acgrep.specs.declared.long.Found.{Found}
+use Rattle.acgrep.specs.declared.long.Found.TheVariants.{Unknown, Begun, Several, Whole}
+use Rattle.acgrep.specs.declared.long.Long.{Long}
+use Rattle.acgrep.specs.declared.long.Long.TheVariants.{Plain, Takes, When}
+use Rattle.acgrep.specs.declared.long.Valued.{Valued}
+use Rattle.acgrep.specs.declared.long.Valued.TheVariants.{Regexp, PatternFile, Kind, Offset, FirstLine, MaxCount}
+
+-- what is told of an argument that an option cannot have; any is a pattern or a file's name
+abbrev pub wrong_value : Valued → List ℕ → List (List ℕ)
+wrong_value Regexp argument = []
+wrong_value PatternFile argument = []
+wrong_value Kind argument = kind_parts argument
+wrong_value Offset argument = number_parts (valued_name Offset) argument
+wrong_value FirstLine argument = number_parts (valued_name FirstLine) argument
+wrong_value MaxCount argument = number_parts (valued_name MaxCount) argument
+
+-- of a long name that means no option
+abbrev pub wrong_found : Found → List ℕ → List (List ℕ)
+wrong_found Unknown name = name_parts name
+wrong_found (Begun long) name = []
+wrong_found Several name = several_parts name
+wrong_found (Whole long) name = []
+
+abbrev pub wrong_name : List ℕ → List (List ℕ)
+wrong_name name = wrong_found (found_by name) name
+
+-- of a long name with an argument behind an equals sign, where its option cannot have that one
+abbrev pub wrong_joined : Option Long → (name value : List ℕ) → List (List ℕ)
+wrong_joined None name value = wrong_name name
+wrong_joined (Some (Plain switch)) name value = taken_parts name
+wrong_joined (Some (Takes valued)) name value = wrong_value valued value
+wrong_joined (Some When) name value = color_parts value
+
+-- of what stands behind two hyphens
+abbrev pub wrong_long : List ℕ → List (List ℕ)
+wrong_long argument =
+    if nat_lt (position_or_len is_equals argument) (length argument)
+    then wrong_joined (option_by (before_first is_equals argument)) (before_first is_equals argument) (after_first is_equals argument)
+    else wrong_name argument
+
+-- the first where there is no value, and else the other
+abbrev pub if_none : {A : Type 0} → Option A → List (List ℕ) → List (List ℕ) → List (List ℕ)
+if_none None one other = one
+if_none (Some value) one other = other
+
+-- of what stands behind `-m`, where it is not empty
+abbrev pub wrong_most : List ℕ → List (List ℕ)
+wrong_most [] = []
+wrong_most (first ∷ rest) = wrong_value MaxCount (first ∷ rest)
+
+-- of joined letters, the first of which no option has; what stands behind that of an option with an argument is no letter
+abbrev pub wrong_letters : List ℕ → List (List ℕ)
+wrong_letters [] = []
+wrong_letters (letter ∷ rest) =
+    if letter == 101 || letter == 102 then []
+    else if letter == 109 then wrong_most rest
+    else if_none (switch_by letter) (letter_parts letter) (wrong_letters rest)
+
+-- of those behind a hyphen
+abbrev pub wrong_plain : List ℕ → List (List ℕ)
+wrong_plain [] = []
+wrong_plain (hyphen ∷ letters) = wrong_letters letters
+
+abbrev pub wrong_fresh : List ℕ → List (List ℕ)
+wrong_fresh argument = if bytes_eq (take 2 argument) (codes "--") then wrong_long (drop 2 argument) else wrong_plain argument
+
+-- of a wrong argument, by what the one before waits for; an operand is never wrong
+abbrev pub mistake_at : Awaited → List ℕ → List (List ℕ)
+mistake_at Fresh argument = wrong_fresh argument
+mistake_at (Argument valued) argument = wrong_value valued argument
+mistake_at Operands argument = []
+
+-- an option has no argument at the end
+abbrev pub wrong_end : Awaited → Option (List (List ℕ))
+wrong_end Fresh = None
+wrong_end (Argument valued) = Some (unargued_parts (valued_name valued))
+wrong_end Operands = None
+
+-- what is told of an argument where it is wrong, and else of those behind it
+abbrev pub mistake_or : List (List ℕ) → (ReadSoFar → Option (List (List ℕ))) → Option ReadSoFar → Option (List (List ℕ))
+mistake_or wrong rest None = Some wrong
+mistake_or wrong rest (Some read) = rest read
+
+abbrev pub wrong_from : Awaited → List (List ℕ) → Said → Option (List (List ℕ))
+wrong_from awaits [] s = wrong_end awaits
+wrong_from awaits (argument ∷ rest) s = mistake_or (mistake_at awaits argument) (λ read. wrong_from read.awaits rest read.said) (argument_by awaits argument s)
+
+-- what is told of all arguments: nothing where they are right
+abbrev pub mistake_by : List (List ℕ) → Option (List (List ℕ))
+mistake_by arguments = wrong_from Fresh arguments nothing_said
+
+-- a refusal tells this, or that memory ran out
+abbrev pub IsTold : List (List ℕ) → Refusal → Type 0
+IsTold parts (Wrong wrong) = wrong_parts wrong ≡ parts
+IsTold parts OutOfMemory = Unit {0}
+
+-- where a call fails it tells this
+abbrev pub TellsBy : {T : Type 0} → List (List ℕ) → Result T Refusal → Type 0
+TellsBy parts result = IfErr result (IsTold parts)
+
+-- a refusal tells the first mistake
+abbrev pub IsFirstMistake : List (List ℕ) → Refusal → Type 0
+IsFirstMistake arguments (Wrong wrong) = mistake_by arguments ≡ Some (wrong_parts wrong)
+IsFirstMistake arguments OutOfMemory = Unit {0}
+
+-- the line that memory ran out
+abbrev pub memory_line : List ℕ
+memory_line = message_by (codes "acgrep") (record { name = None; line = None; cause = reason_text NoMemory })
+
+module _ {E : Type 0} (K : SinkGhosts E) where
+  -- what a refusal tells is written, and nothing else
+  abbrev pub TellsRefused : Refusal → Errors E → Errors E → Type 0
+  TellsRefused (Wrong wrong) old new = TellsWrong K wrong old new
+  TellsRefused OutOfMemory old new = TellsBytes K old new memory_line
+
+  -- the first mistake is, or that memory ran out
+  abbrev pub TellsMistake : List (List ℕ) → Errors E → Errors E → Type 0
+  TellsMistake arguments old new =
+      TellsBytes K old new memory_line ⊎ ((parts : List (List ℕ)) × (mistake_by arguments ≡ Some parts) × TellsBytes K old new (concat parts))
+
+  -- that there is no pattern
+  abbrev pub TellsNoPattern : Errors E → Errors E → Type 0
+  TellsNoPattern old new = TellsWrong K NoPattern old new
+
+  -- or that memory ran out
+  abbrev pub TellsLacking : Errors E → Errors E → Type 0
+  TellsLacking old new = TellsBytes K old new memory_line ⊎ TellsNoPattern old new
