@@ -117,6 +117,13 @@ impl StreamProgress {
         self.limit.saturating_sub(self.read)
     }
 
+    /// How many of the bytes given were not told yet: no chunk that `next_chunk` tells next is longer, but for a match.
+    pub fn bytes_untold(&self) -> u64
+        ensures untold { result ≡ self.now.read - self.now.reported }
+    {
+        self.read.saturating_sub(self.reported)
+    }
+
     /// Says that the stream has ended: no bytes follow those that were given.
     pub fn end(&mut self)
         ensures ended { self.new ≡ record self.old { ended = true } }
