@@ -592,11 +592,12 @@ class Stream:
         self._of_text = text
         rest = memoryview(self._searcher._bytes_of(piece) if isinstance(piece, str) else piece)
         rest = (rest if rest.c_contiguous else memoryview(rest.tobytes())).cast("B")
-        if text:
-            self._tail += rest
         matches: List[Match] = []
         while len(rest):
-            rest = rest[self._push(rest) :]
+            taken = self._push(rest)
+            if text:
+                self._tail += rest[:taken]
+            rest = rest[taken:]
             matches += self._certain()
         return matches
 
