@@ -1,12 +1,12 @@
 -- Streams whose bytes are pushed: how far one has come, and what its calls tell.
-use Rattle.std.specs.Prelude.{◌≡◌, ℕ, zero, suc, ◌-◌, ◌<◌, ◌≤◌, List, [], ◌++◌, true, false, Option, None, Some, length, map, max, slice_range, take}
+use Rattle.std.specs.Prelude.{◌≡◌, ℕ, zero, suc, ◌-◌, ◌<◌, ◌≤◌, List, [], ◌++◌, true, false, None, Some, length, map, max, slice_range, take}
 use Rattle.std.specs.Borrow.{Bor}
 use Rattle.aho_core.specs.Laws.{longest}
 use Rattle.aho_core.specs.Patterns.{Patterns}
 use Rattle.aho_core.specs.Replacement.{pieces_of}
-use Rattle.aho_stream.specs.After.{IsAfter, IsUnderWay, greatest_position}
+use Rattle.aho_stream.specs.After.{EndsWith, IsAfter, IsUnderWay, greatest_position}
 use Rattle.aho_stream.specs.Chunks.{TellsChunk}
-use Rattle.aho_stream.specs.Pushing.{FindsNow, IsSearched, TellsNoneYet}
+use Rattle.aho_stream.specs.Pushing.{FindsNow, HoldsTold, IsSearched, TellsNoneYet}
 use Rattle.aho_stream.specs.Replacing.{chunk_bytes}
 use Rattle.aho_stream.specs.declared.progress.StreamPiece.{StreamPiece}
 use Rattle.aho_stream.specs.declared.progress.StreamProgress.{StreamProgress}
@@ -102,15 +102,28 @@ abbrev pub room_wanted : PushedStream → List (Bor (List ℕ)) → ℕ
 room_wanted stream pieces = max (stream.progress.read - stream.progress.reported) (longest (map length (pieces_of pieces)))
 
 -- what is written for the last chunk told: its bytes, or the piece of its match
-abbrev pub put_for : StreamPiece → PushedStream → List ℕ → List (Bor (List ℕ)) → List ℕ
-put_for piece stream given pieces = chunk_bytes piece (slice_range given stream.progress.told stream.progress.reported) (pieces_of pieces)
+abbrev pub put_for : StreamPiece → StreamProgress → List ℕ → List (Bor (List ℕ)) → List ℕ
+put_for piece progress given pieces = chunk_bytes piece (slice_range given progress.told progress.reported) (pieces_of pieces)
+
+-- it stands in the room, and is so long
+abbrev pub PutsFor : StreamProgress → StreamPiece → List (Bor (List ℕ)) → List ℕ → List ℕ → List ℕ → ℕ → Type 0
+PutsFor progress piece pieces given before after len =
+    FitsInto (put_for piece progress given pieces) before after × (len ≡ length (put_for piece progress given pieces))
+
+-- the buffer holds the last chunk of some bytes that were given, and this room holds it and each replacement
+pub record HasRoomFor (progress : StreamProgress) (pieces : List (Bor (List ℕ))) (room : List ℕ) : Type 0 where
+  pub holds : HoldsTold progress
+  pub given : List ℕ
+  pub count : length given ≡ progress.read
+  pub last : EndsWith given progress.buffer.bytes
+  pub chunk : progress.reported - progress.told ≤ length room
+  pub each : longest (map length (pieces_of pieces)) ≤ length room
 
 -- the next chunk is told, whatever follows, and what is written for it stands in the room
 pub record PutsChunk (p : Patterns) (stream stream' : PushedStream) (given : List ℕ) (pieces : List (Bor (List ℕ))) (before after : List ℕ) (len : ℕ) : Type 0 where
   pub piece : StreamPiece
   pub tells : TellsChunk p stream.progress stream'.progress given piece
-  pub fits : FitsInto (put_for piece stream' given pieces) before after
-  pub len : len ≡ length (put_for piece stream' given pieces)
+  pub puts : PutsFor stream'.progress piece pieces given before after len
 
 -- what was pushed stays; 1 tells that the next chunk was put, 0 that none is certain yet, and after the end that all was told
 pub record TellsReplaced (stream stream' : PushedStream) (pieces : List (Bor (List ℕ))) (status : ℕ) (before after : List ℕ) (len : ℕ) : Type 0 where

@@ -3,15 +3,16 @@
 ghost use Rattle.std.specs.Prelude.{◌≡◌, ◌≢◌, ◌<◌, ◌≤◌, IfOk, length, map, max};
 ghost use Rattle.aho_core.specs.Laws.{longest};
 ghost use Rattle.aho_core.specs.Replacement.{pieces_of};
+ghost use Rattle.aho_stream.specs.After.{ForGiven};
 ghost use Rattle.chromesquid.specs.Rules.{Answers, HasNoEmpty, No};
 ghost use Rattle.chromesquid_c.specs.Replacing.{IsOneEach};
-ghost use Rattle.chromesquid_c.specs.Streaming.{Ends, HasBegun, HasEnded, IsUnpushed, IsFull, TakesPushed, TellsFound, TellsReplaced, room_wanted};
+ghost use Rattle.chromesquid_c.specs.Streaming.{Ends, HasBegun, HasEnded, HasRoomFor, IsUnpushed, PutsFor, IsFull, TakesPushed, TellsFound, TellsReplaced, room_wanted};
 
 use crate::options::CsMatch;
 use crate::replace::put_bytes;
 use crate::search::form_of;
 use crate::status::{DONE, ENDED, FOUND, NO_ROOM, NOT_ONE_EACH, TOO_MANY_BYTES};
-use aho_stream::progress::StreamProgress;
+use aho_stream::progress::{StreamPiece, StreamProgress};
 use aho_stream::replace::bytes_for;
 use chromesquid::AhoCorasick;
 use std::alloc::{AllocError, Global};
@@ -53,6 +54,22 @@ fn room_for(bytes: usize, pieces: &[&[u8]]) -> usize
         most = most.max(pieces[index].len());
     }
     most
+}
+
+/// Puts what is written for the last chunk told into the room, which is long enough, and in `len` how many bytes that are.
+fn put_chunk(
+    progress: &StreamProgress,
+    piece: &StreamPiece,
+    replace_with: &[&[u8]],
+    room: &mut [u8],
+    len: &mut usize,
+)
+    requires enough { HasRoomFor progress.now replace_with.now room.old }
+    ensures put { ForGiven progress.now (λ given.
+        PutsFor progress.now piece.now replace_with.now given room.old room.new len.new) }
+{
+    let bytes = bytes_for(piece, progress.bytes_told(), replace_with);
+    let _fits = put_bytes(bytes, room, len);
 }
 
 impl Pushed {
@@ -135,8 +152,7 @@ impl Pushed {
         let Some(piece) = self.progress.next_chunk(searcher) else {
             return DONE;
         };
-        let bytes = bytes_for(&piece, self.progress.bytes_told(), replace_with);
-        put_bytes(bytes, room, len);
+        put_chunk(&self.progress, &piece, replace_with, room, len);
         FOUND
     }
 
