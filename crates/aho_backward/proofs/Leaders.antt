@@ -1,9 +1,9 @@
 -- The patterns that begin a word: the longest of those that lead is the best of all.
 use Rattle.std.proofs.Common.{◌≡◌, ◌⊎◌, inl, inr, ℕ, ◌+◌, ◌-◌, ◌<◌, ◌≤◌, false, List, [], ◌++◌, length, map, take, drop, refl, sym, ◌∙◌, ap, subst, arith}
-use Rattle.std.specs.Prelude.{slice_range}
+use Rattle.std.specs.Prelude.{None, slice_range}
 use Rattle.std.proofs.lemmas.List.{append-nil, length-drop, length-map, map-append, take-append-drop, take-map, take_at}
 use Rattle.aho_core.specs.declared.search.Anchored.TheVariants.{Yes}
-use Rattle.aho_core.specs.Best.{IsBest}
+use Rattle.aho_core.specs.Best.{IsBest, IsBestOrNone}
 use Rattle.aho_core.specs.Bytes.{folded, folded_word}
 use Rattle.aho_core.specs.Occurrence.{Occurrence, occurrence}
 use Rattle.aho_core.specs.Occurs.{Occurs}
@@ -161,3 +161,6 @@ module _ (p : Patterns) where
 
   pub itself-occurs : (k : ℕ) → k < length p.words → Occurs p Yes (pattern_at p k) 0 (size_of p k) (occurrence 0 (size_of p k) k)
   itself-occurs k lt = occurs-in_pattern k k (begins-itself k lt)
+
+  pub best-never_none : (k : ℕ) → k < length p.words → IsBestOrNone p.kind (Occurs p Yes (pattern_at p k) 0 (size_of p k)) None → ⊥
+  best-never_none k lt none = none (occurrence 0 (size_of p k) k) (itself-occurs k lt)

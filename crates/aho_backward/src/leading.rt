@@ -2,29 +2,43 @@
 
 ghost use Rattle.std.specs.Prelude.{◌≡◌, ◌<◌, ◌↔◌, ℕ, EachIndex, IfOk, IfSome, IsOk, IsSome, length, map, reverse, slice_index};
 ghost use Rattle.aho_core.specs.declared.search.Anchored.TheVariants.{Yes};
-ghost use Rattle.aho_core.specs.Patterns.{Patterns};
+ghost use Rattle.aho_core.specs.Best.{IsBestOrNone};
+ghost use Rattle.aho_core.specs.Occurs.{Occurs};
+ghost use Rattle.aho_core.specs.Patterns.{Patterns, pattern_at};
 ghost use Rattle.aho_core.specs.Replacement.{pieces_of};
 ghost use Rattle.aho_backward.specs.Turned.{AreLeading, IsLeader, turned_words_of};
 
 use aho_automaton::automaton::Automaton;
-use aho_core::search::{Anchored, Input, PatternID};
+use aho_core::search::{Anchored, Input, Match, PatternID};
 use std::alloc::{AllocError, Global};
 
-/// The pattern of this number, where it leads: where an anchored search of its own bytes finds it.
-fn leader<A: Automaton>(forward: &A, patterns: &[&[u8]], number: usize) -> Option<PatternID>
+/// The best of all patterns that begin a word.
+fn best_beginning<A: Automaton>(forward: &A, word: &[u8]) -> Option<Match>
     requires of { (p : Patterns) × A.is_of forward.now p }
     requires starts { IsOk (A.start forward.now Yes) }
-    requires numbered { number < length patterns.now }
-    ensures leads { (p : Patterns) → A.is_of forward.now p → p.words ≡ pieces_of patterns.now
-        → (IsSome result ↔ IsLeader p number) }
+    ensures best { (p : Patterns) → A.is_of forward.now p
+        → IsBestOrNone p.kind (Occurs p Yes word.now 0 (length word.now)) result }
+{
+    let input = Input::new(word).anchored(Anchored::Yes);
+    forward.try_find(&input).unwrap()
+}
+
+/// The number, as that of a pattern, where the pattern with this number and this word leads.
+fn leader<A: Automaton>(forward: &A, word: &[u8], number: usize) -> Option<PatternID>
+    requires of { (p : Patterns) × A.is_of forward.now p }
+    requires starts { IsOk (A.start forward.now Yes) }
+    ensures leads { (p : Patterns) → A.is_of forward.now p → number < length p.words
+        → pattern_at p number ≡ word.now → (IsSome result ↔ IsLeader p number) }
     ensures itself { IfSome result (λ pattern. pattern ≡ number) }
 {
-    let input = Input::new(patterns[number]).anchored(Anchored::Yes);
-    let found = forward.try_find(&input).unwrap()?;
-    if found.pattern().as_usize() == number {
-        Some(found.pattern())
-    } else {
-        None
+    match best_beginning(forward, word) {
+        Some(m) => {
+            if m.pattern().as_usize() == number {
+                return Some(m.pattern());
+            }
+            None
+        }
+        None => None,
     }
 }
 
@@ -43,7 +57,7 @@ pub(crate) fn leading<A: Automaton>(
 {
     let mut numbers = Vec::new(alloc);
     for number in 0..patterns.len() {
-        if let Some(pattern) = leader(forward, patterns, number) {
+        if let Some(pattern) = leader(forward, patterns[number], number) {
             numbers.push(pattern)?;
         }
     }
