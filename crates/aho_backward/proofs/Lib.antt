@@ -1,3 +1,5 @@
+-- why a build fails
+mod Builds
 -- the best of the patterns that begin at a place
 mod Leaders
 -- patterns and words turned round

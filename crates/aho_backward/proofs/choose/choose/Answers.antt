@@ -35,8 +35,8 @@ loop-at-preserved-in-Some g c =
     let end = c.end-at.ensures.end in
     let best : (p : Patterns) (haystack : List ℕ) → TellsBlock a automaton c.args.given.now c.args.block c.args.states.now p haystack → IsBest p.kind (Occurs p Yes haystack at (length haystack)) m =
     λ p haystack tells.
-        subst (IsBestOrNone p.kind (Occurs p Yes haystack at (length haystack))) (sym c.in-Some.ensures.told)
-        (tells-here a automaton c.args.given.now c.args.block c.args.states.now p haystack at c.index-states-states.result tells c.loop-at.invariant.from c.loop-at-test.true c.index-states-states.is).best in
+    subst (IsBestOrNone p.kind (Occurs p Yes haystack at (length haystack))) (sym c.in-Some.ensures.told)
+    (tells-here a automaton c.args.given.now c.args.block c.args.states.now p haystack at c.index-states-states.result tells c.loop-at.invariant.from c.loop-at-test.true c.index-states-states.is).best in
     let sized : (p : Patterns) (haystack : List ℕ) → TellsBlock a automaton c.args.given.now c.args.block c.args.states.now p haystack → (m.start ≡ at) × (at < m.end) × (m.end ≤ length haystack) =
     λ p haystack tells. begins-full p tells.full haystack at m (best p haystack tells).0 in
     let (p, haystack, small, tells) = c.requires.tells in

@@ -38,7 +38,7 @@ choose-requires-clause-tells g c =
       c.args.haystack.now,
       omega arith,
       block-told a automaton (g.W.Walk.of c.walk_back.new.walk) c.args.given.now p from (g.met.W.Of.Automaton.laws automaton (turned p c.args.given.now) from.of) c.args.haystack.now c.loop-at.at c.args.reach c.args.places
-      c.min.result c.min-in-loop-at.result c.walk_back.new.states.items c.deref.result.now (c.in_ok-walk_back.ensures.same ∙ inv.same) c.deref.ensures.value inv.within c.min.ensures c.min-in-loop-at.ensures c.requires.reach held,
+          c.min.result c.min-in-loop-at.result c.walk_back.new.states.items c.deref.result.now (c.in_ok-walk_back.ensures.same ∙ inv.same) c.deref.ensures.value inv.within c.min.ensures c.min-in-loop-at.ensures c.requires.reach held,
     )
 
 pub loop-at-preserved : goal.loop-at-preserved
@@ -52,10 +52,10 @@ loop-at-preserved g c =
     let seen = c.loop-at.at + c.min.result + c.min-in-loop-at.result in
     let size : length (slice_range haystack c.loop-at.at seen) ≡ seen - c.loop-at.at = length_part haystack c.loop-at.at seen (omega (arith, inv.within, c.min.ensures, c.min-in-loop-at.ensures)) in
     let told : (p : Patterns) → IsTurnedFrom a automaton c.args.given.now p
-        → TellsBlock a (g.W.Walk.of c.walk_back.new.walk) c.args.given.now (record { start = c.loop-at.at; end = c.loop-at.at + c.min.result }) c.deref.result.now p haystack =
+    → TellsBlock a (g.W.Walk.of c.walk_back.new.walk) c.args.given.now (record { start = c.loop-at.at; end = c.loop-at.at + c.min.result }) c.deref.result.now p haystack =
     λ p from.
-        block-told a automaton (g.W.Walk.of c.walk_back.new.walk) c.args.given.now p from (g.met.W.Of.Automaton.laws automaton (turned p c.args.given.now) from.of) haystack c.loop-at.at c.args.reach c.args.places
-        c.min.result c.min-in-loop-at.result c.walk_back.new.states.items c.deref.result.now same c.deref.ensures.value inv.within c.min.ensures c.min-in-loop-at.ensures c.requires.reach held in
+    block-told a automaton (g.W.Walk.of c.walk_back.new.walk) c.args.given.now p from (g.met.W.Of.Automaton.laws automaton (turned p c.args.given.now) from.of) haystack c.loop-at.at c.args.reach c.args.places
+    c.min.result c.min-in-loop-at.result c.walk_back.new.states.items c.deref.result.now same c.deref.ensures.value inv.within c.min.ensures c.min-in-loop-at.ensures c.requires.reach held in
     let (p, from) = c.requires.of in
     record {
       same = same;

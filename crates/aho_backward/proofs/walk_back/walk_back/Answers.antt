@@ -42,8 +42,8 @@ loop-count-preserved g c =
     let states = c.loop-count.states.items in
     let held : (q : Patterns) → a.is_of automaton q → a.held automaton q No (reverse (drop (n - (count + 1)) bytes)) c.step-sid.result =
     λ q of.
-        subst (λ (w : List ℕ). a.held automaton q No w c.step-sid.result) (sym (walked-more bytes count (omega arith)))
-        ((rw inv.same at c.step-sid.ensures.goes_on) q of (reverse (drop (n - count) bytes)) (inv.held q of)) in
+    subst (λ (w : List ℕ). a.held automaton q No w c.step-sid.result) (sym (walked-more bytes count (omega arith)))
+    ((rw inv.same at c.step-sid.ensures.goes_on) q of (reverse (drop (n - count) bytes)) (inv.held q of)) in
     let valid = rw inv.same at c.step-sid.ensures.valid in
     record {
       same = c.step-sid.ensures.same ∙ inv.same;
