@@ -1,5 +1,5 @@
 -- What the states of one block tell, from a walk over its bytes and those behind it.
-use Rattle.std.proofs.Common.{◌≡◌, ◌⊎◌, inl, inr, ℕ, ◌+◌, ◌-◌, ◌<◌, ◌≤◌, List, length, drop, reverse, take, sym, ◌∙◌, ap, subst, arith}
+use Rattle.std.proofs.Common.{◌≡◌, ◌⊎◌, inl, inr, ℕ, ◌+◌, ◌-◌, ◌<◌, ◌≤◌, List, length, drop, reverse, take, ◌∙◌, ap, subst, arith}
 use Rattle.std.specs.Prelude.{slice_range}
 use Rattle.std.proofs.lemmas.List.{drop-drop, drop-take}
 use Rattle.aho_core.specs.declared.search.Anchored.TheVariants.{No}
@@ -7,7 +7,7 @@ use Rattle.aho_core.specs.Laws.{Reads, longest}
 use Rattle.aho_core.specs.Patterns.{Patterns}
 use Rattle.aho_laws.proofs.SpanTexts.{length_part}
 use Rattle.aho_automaton.specs.declared.automaton.Automaton.{Ghosts as Automata}
-use Rattle.aho_backward.specs.Backward.{AreHeldBack, IsTurnedFrom, TellsAt, TellsBlock, state_back}
+use Rattle.aho_backward.specs.Backward.{AreHeldBack, IsTurnedFrom, TellsBlock, state_back}
 use Rattle.aho_backward.specs.Turned.{turned}
 use Rattle.aho_backward.proofs.Telling.{one_length_each, tells}
 

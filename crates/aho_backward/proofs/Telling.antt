@@ -1,5 +1,5 @@
 -- What the states of a walk backward tell: at each place the best of all patterns that begin there.
-use Rattle.std.proofs.Common.{◌≡◌, ◌⊎◌, ◌↔◌, inl, inr, ℕ, ◌+◌, ◌-◌, ◌<◌, ◌≤◌, List, [], ◌∷◌, ◌++◌, length, map, drop, reverse, refl, sym, ◌∙◌, ap, subst, arith}
+use Rattle.std.proofs.Common.{◌≡◌, ◌⊎◌, ◌↔◌, inl, inr, ℕ, ◌+◌, ◌-◌, ◌<◌, ◌≤◌, List, [], ◌∷◌, length, drop, reverse, refl, sym, ◌∙◌, ap, subst, arith}
 use Rattle.std.specs.Prelude.{slice_index, slice_range}
 use Rattle.std.proofs.lemmas.List.{length-drop, length-map, length-reverse, map-append}
 use Rattle.std.proofs.lemmas.List.Elements.{All-weaker}
@@ -8,7 +8,7 @@ use Rattle.aho_core.specs.declared.search.Anchored.TheVariants.{No, Yes}
 use Rattle.aho_core.specs.Best.{IsBestOrNone}
 use Rattle.aho_core.specs.Bytes.{folded, folded_word}
 use Rattle.aho_core.specs.Held.{held_after}
-use Rattle.aho_core.specs.Laws.{Fits, Reads, longest}
+use Rattle.aho_core.specs.Laws.{Reads, longest}
 use Rattle.aho_core.specs.Listing.{IsListedBy, IsMember}
 use Rattle.aho_core.specs.MatchList.{matches_of}
 use Rattle.aho_core.specs.Occurs.{Occurs}
@@ -19,7 +19,7 @@ use Rattle.aho_laws.proofs.EndingLists.{held-longest_first, held-member, held-pa
 use Rattle.aho_laws.proofs.SpanTexts.{length_part}
 use Rattle.aho_automaton.specs.declared.automaton.Automaton.{Ghosts as Automata}
 use Rattle.aho_backward.specs.Backward.{IsTurnedFrom, TellsAt, told_back}
-use Rattle.aho_backward.specs.Turned.{IsLeader, size_of, turned}
+use Rattle.aho_backward.specs.Turned.{size_of, turned}
 use Rattle.aho_backward.proofs.Leaders.{BeginsWord, begins-size, best-at, leader, long-pattern, occurs-begins}
 use Rattle.aho_backward.proofs.TurnedWords.{begins-ends, ends-begins, length-turned, lengths-turned, longest-at, size-turned}
 

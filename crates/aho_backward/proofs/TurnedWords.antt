@@ -1,5 +1,5 @@
 -- Words turned round: the patterns turned round that end a word turned round are those that begin the word.
-use Rattle.std.proofs.Common.{◌≡◌, ℕ, zero, suc, ◌+◌, ◌<◌, ◌≤◌, List, [], ◌∷◌, ◌++◌, length, map, take, drop, reverse, refl, sym, ◌∙◌, ap, subst, arith}
+use Rattle.std.proofs.Common.{◌≡◌, ℕ, zero, suc, ◌+◌, ◌<◌, ◌≤◌, List, [], ◌∷◌, ◌++◌, length, map, take, drop, reverse, refl, sym, ◌∙◌, ap, arith}
 use Rattle.std.specs.Prelude.{slice_index}
 use Rattle.std.proofs.lemmas.List.{drop-map, drop_at, get_or-map, length-append, length-map, length-reverse, map-append, reverse-append, reverse-reverse, take-append-drop}
 use Rattle.aho_core.specs.Bytes.{folded, folded_word}

@@ -1,10 +1,9 @@
 -- From place to place, and from find to find.
-use Rattle.std.proofs.Common.{◌≡◌, ◌+◌, ◌-◌, ◌<◌, ◌≤◌, ℕ, List, [], ◌∷◌, ◌++◌, None, Some, get_or, length, sym, ◌∙◌, subst, arith}
+use Rattle.std.proofs.Common.{◌≡◌, ◌-◌, ◌<◌, ◌≤◌, ℕ, List, None, get_or, length, sym, ◌∙◌, subst, arith}
 use Rattle.std.proofs.lemmas.Grind.{get_or_default_zero}
 use Rattle.aho_core.specs.declared.search.Anchored.TheVariants.{Yes}
 use Rattle.aho_core.specs.declared.search.Span.{Span}
 use Rattle.aho_core.specs.Best.{IsBest, IsBestOrNone}
-use Rattle.aho_core.specs.Occurrence.{Occurrence}
 use Rattle.aho_core.specs.Occurs.{Occurs}
 use Rattle.aho_core.specs.Patterns.{Patterns}
 use Rattle.aho_automaton.specs.declared.automaton.Automaton.{Ghosts as Automata}

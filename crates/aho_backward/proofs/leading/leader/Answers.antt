@@ -1,5 +1,5 @@
 -- A pattern leads where it is the best of those that begin itself.
-use Rattle.std.proofs.Common.{◌≡◌, List, ℕ, length, sym, subst, arith}
+use Rattle.std.proofs.Common.{List, ℕ, length, sym, subst, arith}
 use Rattle.std.specs.Prelude.{None, Some}
 use Rattle.aho_core.specs.declared.search.Anchored.TheVariants.{Yes}
 use Rattle.aho_core.specs.Best.{IsBestOrNone}

@@ -1,5 +1,5 @@
 -- A searcher, or why there is none.
-use Rattle.std.proofs.Common.{◌≡◌, ℕ, true, inl, inr, List, [], length, refl, sym, ◌∙◌, ap, arith}
+use Rattle.std.proofs.Common.{◌≡◌, ℕ, true, inl, length, refl, sym, ◌∙◌, ap, arith}
 use Rattle.std.specs.Prelude.{◌≢◌, Err, IfErr, Ok, Result}
 use Rattle.aho_core.specs.declared.search.MatchKind.{MatchKind}
 use Rattle.aho_core.specs.declared.search.MatchKind.TheVariants.{Standard, LeftmostFirst, LeftmostLongest}
