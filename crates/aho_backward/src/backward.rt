@@ -1,9 +1,10 @@
 //! The searcher: an automaton of the patterns turned round, with which pattern each of its own stands for.
 
-ghost use Rattle.std.specs.Prelude.{◌≡◌, ◌*◌, ◌≤◌, ℕ, IfOk, None, length};
+ghost use Rattle.std.specs.Prelude.{◌≡◌, ◌*◌, ◌≤◌, IfOk, IsOk, None, length};
 ghost use Rattle.aho_core.specs.Iteration.{AreFinds};
 ghost use Rattle.aho_core.specs.Patterns.{Patterns};
 ghost use Rattle.aho_core.specs.Search.{plain_search};
+ghost use Rattle.aho_core.specs.declared.search.Anchored.TheVariants.{No};
 ghost use Rattle.aho_backward.specs.Searcher.{IsBackwardOf};
 
 use crate::find_all::find_all_in;
@@ -13,8 +14,9 @@ use std::alloc::{AllocError, Global};
 
 /// A searcher for all finds of a text by a leftmost kind, in linear time whatever the patterns are.
 ///
-/// `FindIter` walks past each match as far as the longest pattern reaches, and then again from the match's end. Of the patterns
-/// `a^8000 b` and `a` it reads a text of `a` 8001 times. This searcher reads each byte at most twice.
+/// An iteration walks behind each match as far as the longest pattern reaches, and then again from the match's end. With the
+/// pattern `a` and one of 8000 times `a` and a `b`, it reads each byte of a text of `a` 8001 times. This searcher reads each at
+/// most twice, whatever the patterns are.
 #[derive(Drop)]
 pub struct Backward<A> {
     /// An automaton of the standard kind, of the patterns that lead, each with its last byte first.
@@ -62,5 +64,28 @@ impl<A: Automaton> Backward<A> {
     {
         let (found, _lookups) = self.find_all_counted(alloc, haystack)?;
         Ok(found)
+    }
+}
+
+impl<A: Automaton + Drop> Backward<A> {
+    /// The automaton that is walked: of the standard kind, of the leading patterns turned round.
+    pub fn automaton(&self) -> &A
+        ensures automaton { result.now ≡ self.now.automaton }
+    {
+        &self.automaton
+    }
+
+    /// The same searcher by another automaton, which is of all patterns that the one before is of, as a `Hybrid` that was made
+    /// of it.
+    pub fn with_automaton<B: Automaton>(self, automaton: B) -> Backward<B>
+        requires of { (q : Patterns) → A.is_of self.automaton q → B.is_of automaton q }
+        requires starts { IsOk (B.start automaton No) }
+        ensures of { (p : Patterns) → IsBackwardOf A.Automaton self p → IsBackwardOf B.Automaton result p }
+    {
+        let Backward {
+            automaton: _,
+            given,
+        } = self;
+        Backward { automaton, given }
     }
 }

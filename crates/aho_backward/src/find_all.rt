@@ -1,13 +1,13 @@
 //! All finds of a text, by a walk backward over one block after another.
 //!
-//! A block is walked from its end to its begin, and so are as many bytes behind it as the longest pattern has: what begins in the
-//! block ends among these. The state at each place then tells the best pattern that begins there. One pass forward over the block
-//! takes the finds: where a pattern begins it is a find, and the pass goes on behind it; elsewhere one place further. The next block
-//! begins where the pass ended.
+//! A block is walked from its end to its begin, and before that as many bytes behind it as the longest pattern has: what begins
+//! in the block ends among these. So the state at each place tells the best pattern that begins there. One pass forward over the
+//! block then takes the finds: where a pattern begins it is a find, and the pass goes on behind it; elsewhere one place further.
+//! The next block begins where the pass has ended.
 //!
-//! A block has at least as many places as the longest pattern has bytes, so the bytes that are walked for it are at most twice as
-//! many; the last block has none behind it. A walk makes at most two look-ups for each byte. So all look-ups together are at most four
-//! for each byte of the text, whatever the patterns are and wherever they match.
+//! A block has at least as many places as the longest pattern has bytes, so at most twice as many bytes are walked for it; the last
+//! block has none behind it. A walk makes at most two look-ups for each byte. So all look-ups together are at most four for each
+//! byte of the text, whatever the patterns are and wherever they match.
 
 ghost use Rattle.std.specs.Prelude.{◌≡◌, ◌+◌, ◌*◌, ◌<◌, ◌≤◌, ◌^◌, IfOk, IsOk, None, length};
 ghost use Rattle.aho_core.specs.declared.search.Anchored.TheVariants.{No};
