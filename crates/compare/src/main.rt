@@ -9,6 +9,7 @@
 #![tactic(auto)]
 
 mod automata;
+mod backward;
 mod candidates;
 mod case;
 mod count;

@@ -1,6 +1,7 @@
 //! One round of comparisons.
 
 use crate::automata::compare_automata;
+use crate::backward::compare_backward;
 use crate::case::Case;
 use crate::count::Count;
 use crate::memory::Asked;
@@ -57,6 +58,9 @@ pub(crate) fn compare_words(
     let mut numbers = Numbers::new(!seed);
     if parts.memory || parts.streams {
         compare_automata(alloc, words, settings, &asked, &mut numbers, count)?;
+    }
+    if parts.memory {
+        compare_backward(alloc, words, settings, &asked, count)?;
     }
     if parts.searcher {
         compare_searchers(alloc, words, settings, &asked, &mut numbers, count)?;

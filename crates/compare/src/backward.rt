@@ -1,0 +1,34 @@
+//! All finds of a text by a walk backward, against the plain program.
+
+use crate::count::Count;
+use crate::memory::Asked;
+use aho_core::search::MatchKind;
+use anyhow::{Result, bail};
+use chromesquid::{Backward, BackwardError};
+use std::alloc::Global;
+
+/// Compares all finds of the text, how many look-ups they take, and what is refused.
+pub(crate) fn compare_backward(
+    alloc: Global,
+    words: &[&[u8]],
+    settings: (MatchKind, bool),
+    asked: &Asked<'_>,
+    count: &mut Count,
+) -> Result<()> {
+    match Backward::new(alloc, words, settings.0, settings.1) {
+        Ok(searcher) => {
+            let (found, lookups) = searcher.find_all_counted(alloc, asked.text)?;
+            count.same("finds by a walk backward", &found, &asked.finds)?;
+            let most = 4 * asked.text.len() as u128;
+            count.same("their look-ups", &(lookups <= most), &true)
+        }
+        Err(BackwardError::StandardKind) => {
+            count.same("a kind refused", &settings.0, &MatchKind::Standard)
+        }
+        Err(BackwardError::EmptyPattern(number)) => {
+            let empty = words.iter().position(|word| word.is_empty());
+            count.same("an empty pattern", &Some(number), &empty)
+        }
+        Err(error) => bail!("{error}"),
+    }
+}
