@@ -147,7 +147,7 @@ module _ (p : Patterns) (line : List ℕ) (kind : p.kind ≡ LeftmostLongest) wh
   refused_there start refused = λ other is. true≢false (sym is.is.begins ∙ ap (begins_alone line) is.at ∙ refused)
 
   -- what begins at a place or behind it and stands alone begins here or behind here
-  pub BeginsBehind : (at here : ℕ) → Type 0
+  abbrev pub BeginsBehind : (at here : ℕ) → Type 0
   BeginsBehind at here = (other : Occurrence) → IsAloneFrom p line at other → here ≤ other.start
 
   pub begins_at : (at : ℕ) → BeginsBehind at at
@@ -224,3 +224,10 @@ alone_step p line from behind ms m is next so_far = record {
 
 pub alone_end : (p : Patterns) (line : List ℕ) (from : ℕ) (ms : List Occurrence) → IsNextAlone p line from None → AloneSoFar p line from ms → AreAloneFrom p line 0 ms
 alone_end p line from ms none so_far = subst (AreAloneFrom p line 0) (append-nil ms) (so_far.goes_on [] none)
+
+-- the next begins in the line, or one place behind it
+pub alone_behind : (p : Patterns) (line : List ℕ) (at behind : ℕ) (m : Occurrence) → behind ≡ behind_alone m → IsNextAlone p line at (Some m) → behind ≤ length line + 1
+alone_behind p line at behind m is next =
+    let alone : IsAloneFrom p line at m = next.0 in
+    let occurs : OccursIn p (plain_search line) m = alone.occurs in
+    omega (arith, is, occurs.sized, occurs.before_end)

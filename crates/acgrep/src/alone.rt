@@ -1,6 +1,6 @@
 //! The matches of a line that stand alone: no letter, digit or `_` is beside them.
 
-ghost use Rattle.std.specs.Prelude.{◌≡◌, ◌+◌, ◌≤◌, ◌<◌, IfOk, IfSome, length};
+ghost use Rattle.std.specs.Prelude.{◌≡◌, ◌+◌, ◌^◌, ◌≤◌, ◌<◌, IfOk, IfSome, length};
 ghost use Rattle.aho_core.specs.Answer.{IsAnswer};
 ghost use Rattle.aho_core.specs.Best.{IsBestOrNone};
 ghost use Rattle.aho_core.specs.Patterns.{Patterns};

@@ -1,5 +1,5 @@
 -- A match anywhere is enough, or has to stand alone, or to be the line.
-use Rattle.std.proofs.Common.{subst, sym}
+use Rattle.std.proofs.Common.{subst, sym, true}
 use Rattle.std.specs.Prelude.{IfOk}
 use Rattle.acgrep.specs.Written.{IsMatched}
 use Rattle.acgrep.specs.declared.options.Fit.{Fit}
