@@ -45,11 +45,7 @@ pub fn next_alone<A: Automaton>(
 }
 
 /// The same where of the matches that begin first the longest is found.
-fn longest_alone<A: Automaton>(
-    automaton: &A,
-    line: &[u8],
-    at: usize,
-) -> Result<Option<Match>, Stop>
+fn longest_alone<A: Automaton>(automaton: &A, line: &[u8], at: usize) -> Result<Option<Match>, Stop>
     requires of { (p : Patterns) × A.is_of automaton.now p }
     requires within { at ≤ length line.now + 1 }
     ensures behind { IfOk result (λ found. IfSome found (λ m. at ≤ m.start)) }
@@ -87,11 +83,7 @@ fn find_within<A: Automaton>(
 }
 
 /// Of the matches that begin where this one does, which is the longest, the longest that stands alone.
-fn alone_at<A: Automaton>(
-    automaton: &A,
-    line: &[u8],
-    longest: Match,
-) -> Result<Option<Match>, Stop>
+fn alone_at<A: Automaton>(automaton: &A, line: &[u8], longest: Match) -> Result<Option<Match>, Stop>
     requires of { (p : Patterns) × A.is_of automaton.now p }
     requires within { longest.end ≤ length line.now }
     requires ordered { longest.start ≤ longest.end }

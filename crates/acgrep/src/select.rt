@@ -488,8 +488,22 @@ fn put_shown<A: Automaton, W: Write>(
             put_colored_line(automaton, output, job.asks_alone(), &job.style, place, line)
         }
         Shown::Lines => Ok(put_line(output, &job.style, place, line)?),
-        Shown::Matches if !job.invert => put_matches(automaton, output, job.asks_alone(), &job.style, place, line),
-        Shown::Objects if !job.invert => put_objects(automaton, output, job.asks_alone(), &job.style, place, line),
+        Shown::Matches if !job.invert => put_matches(
+            automaton,
+            output,
+            job.asks_alone(),
+            &job.style,
+            place,
+            line,
+        ),
+        Shown::Objects if !job.invert => put_objects(
+            automaton,
+            output,
+            job.asks_alone(),
+            &job.style,
+            place,
+            line,
+        ),
         _ => Ok(()),
     }
 }

@@ -17,8 +17,7 @@ loop-found-preserved g c =
       within = alone_behind some line at c.behind_alone-at.result found behind (subst (IsNextAlone some line at) c.in-Some.is (c.in_ok-found.ensures.next some of));
       written = λ p is.
           let (ms, so_far, written) = c.loop-found.invariant.written p is in
-          let next : IsNextAlone p line at (Some found) = subst (IsNextAlone p line at) c.in-Some.is (c.in_ok-found.ensures.next p is) in
-          (
+          let next : IsNextAlone p line at (Some found) = subst (IsNextAlone p line at) c.in-Some.is (c.in_ok-found.ensures.next p is) in (
             ms ++ (found ∷ []),
             alone_step p line at c.behind_alone-at.result ms found behind next so_far,
             matches_more c.args.style.now c.args.place c.args.line.now ms found (held c.args.output.now) (held c.loop-found.output) (held c.put_match.new.output) written c.in_ok-put_match.ensures.written,

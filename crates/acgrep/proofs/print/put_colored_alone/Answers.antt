@@ -17,12 +17,11 @@ loop-found-preserved g c =
       within = alone_behind some line from c.behind_alone-from.result found behind (subst (IsNextAlone some line from) c.in-Some.is (c.in_ok-found.ensures.next some of));
       written = λ p is.
           let (ms, so_far, written) = c.loop-found.invariant.written p is in
-          let next : IsNextAlone p line from (Some found) = subst (IsNextAlone p line from) c.in-Some.is (c.in_ok-found.ensures.next p is) in
-          (
+          let next : IsNextAlone p line from (Some found) = subst (IsNextAlone p line from) c.in-Some.is (c.in_ok-found.ensures.next p is) in (
             ms ++ (found ∷ []),
             alone_step p line from c.behind_alone-from.result ms found behind next so_far,
             colored_step line ms found c.loop-found.at c.in_ok-at.at (held c.args.output.now) (held c.loop-found.output) (held c.put_up_to.new.output)
-            c.in_ok-at.ensures.behind c.in_ok-at.ensures.written written,
+                c.in_ok-at.ensures.behind c.in_ok-at.ensures.written written,
           );
     }
 
