@@ -12,7 +12,7 @@ use Rattle.aho_core.specs.declared.error.BuildError.{BuildError}
 use Rattle.aho_core.specs.declared.error.MatchErrorKind.{MatchErrorKind}
 use Rattle.aho_devices.specs.declared.device.Sink.{Ghosts as SinkGhosts}
 use Rattle.programs.specs.Messages.{Message, message_by, reason_text}
-use Rattle.programs.specs.Names.{IsAmong}
+use Rattle.programs.specs.Names.{IsOneOf}
 use Rattle.programs.specs.Telling.{Tells, TellsBytes, TellsSome}
 use Rattle.programs.specs.declared.errors.Errors.{Errors}
 use Rattle.programs.specs.declared.reason.Reason.{Reason}
@@ -31,17 +31,17 @@ use Rattle.acgrep.specs.declared.files.Outcome.{Outcome}
 use Rattle.acgrep.specs.declared.files.Outcome.TheVariants.{Searched, Unread, Stopped}
 
 -- a name is among more names
-pub among-first : (name : List ℕ) (names more : List (List ℕ)) → IsAmong name names → IsAmong name (names ++ more)
+pub among-first : (name : List ℕ) (names more : List (List ℕ)) → IsOneOf name names → IsOneOf name (names ++ more)
 among-first name [] more is = absurd is
 among-first name (n ∷ names) more (inl is) = inl is
 among-first name (n ∷ names) more (inr is) = inr (among-first name names more is)
 
-pub among-later : (name : List ℕ) (names more : List (List ℕ)) → IsAmong name more → IsAmong name (names ++ more)
+pub among-later : (name : List ℕ) (names more : List (List ℕ)) → IsOneOf name more → IsOneOf name (names ++ more)
 among-later name [] more is = is
 among-later name (n ∷ names) more is = inr (among-later name names more is)
 
 -- a message that names one of some files names one of more files
-pub message-more : (names all : List (List ℕ)) → ((name : List ℕ) → IsAmong name names → IsAmong name all) → (line : List ℕ) → IsMessage names line → IsMessage all line
+pub message-more : (names all : List (List ℕ)) → ((name : List ℕ) → IsOneOf name names → IsOneOf name all) → (line : List ℕ) → IsMessage names line → IsMessage all line
 message-more names all more line m = record {
   message = m.message;
   name = named m.message.name m.name;
@@ -91,7 +91,7 @@ module _ {E : Type 0} (K : SinkGhosts E) (names : List (List ℕ)) where
       tells-message old new m (inl (inr (inl refl))) (inr (inr (error, refl))) told
 
 -- an element of a list is among the names of all
-pub among-at : {X : Type 0} (f : X → List ℕ) (xs : List X) (i : ℕ) (d : X) → i < length xs → IsAmong (f (get_or xs i d)) (map f xs)
+pub among-at : {X : Type 0} (f : X → List ℕ) (xs : List X) (i : ℕ) (d : X) → i < length xs → IsOneOf (f (get_or xs i d)) (map f xs)
 among-at f [] i d lt = absurd (omega (arith, lt))
 among-at f (x ∷ xs) zero d lt = inl refl
 among-at f (x ∷ xs) (suc i) d lt = inr (among-at f xs i d (omega (arith, lt)))
@@ -101,9 +101,9 @@ pub source-found : (sources : List Source) (number : ℕ) (source : Source) (nam
     → source ≡ File name → MayName (source_names (origins_of sources)) name.now
 source-found sources number source name d within found is =
     let lt : number < length sources = grind (arith, common_steps, within) in
-    let among : IsAmong (origin_of (get_or sources number d)).bytes (map (λ source. (origin_of source).bytes) sources) = among-at (λ source. (origin_of source).bytes) sources number d lt in
+    let among : IsOneOf (origin_of (get_or sources number d)).bytes (map (λ source. (origin_of source).bytes) sources) = among-at (λ source. (origin_of source).bytes) sources number d lt in
     let same : (origin_of (get_or sources number d)).bytes ≡ name.now = ap (λ (s : Source). (origin_of s).bytes) (sym found ∙ is) in
-    inr (subst (IsAmong name.now) (map-then sources) (subst (λ (n : List ℕ). IsAmong n (map (λ source. (origin_of source).bytes) sources)) same among))
+    inr (subst (IsOneOf name.now) (map-then sources) (subst (λ (n : List ℕ). IsOneOf n (map (λ source. (origin_of source).bytes) sources)) same among))
   where
     map-then : (xs : List Source) → map (λ source. (origin_of source).bytes) xs ≡ source_names (origins_of xs)
     map-then [] = refl
@@ -187,18 +187,18 @@ module _ {E : Type 0} (K : SinkGhosts E) (P : List ℕ → Type 0) where
 
 -- each of these names is among others
 abbrev pub AreWithin : List (List ℕ) → List (List ℕ) → Type 0
-AreWithin names all = (name : List ℕ) → IsAmong name names → IsAmong name all
+AreWithin names all = (name : List ℕ) → IsOneOf name names → IsOneOf name all
 
 -- and of those that are told
 pub told-cut : (hushed : Bool) (first : List ℕ) (rest : List (List ℕ)) (names all : List (List ℕ)) → files_told hushed names ≡ files_told hushed (first ∷ rest) → AreWithin (files_told hushed names) all
-    → (hushed ≡ false → IsAmong (shown_name first) all) × AreWithin (files_told hushed rest) all
+    → (hushed ≡ false → IsOneOf (shown_name first) all) × AreWithin (files_told hushed rest) all
 told-cut true first rest names all cut within = (λ asked. absurd (cc), λ name is. absurd is)
 told-cut false first rest names all cut within =
     let both : AreWithin (shown_name first ∷ shown_names rest) all = subst (λ (l : List (List ℕ)). AreWithin l all) cut within in
     (λ asked. both (shown_name first) (inl refl), λ name is. both name (inr is))
 
 -- the first of some names is, and those behind it are
-pub within-cut : (first : List ℕ) (rest names all : List (List ℕ)) → names ≡ first ∷ rest → AreWithin names all → IsAmong first all × AreWithin rest all
+pub within-cut : (first : List ℕ) (rest names all : List (List ℕ)) → names ≡ first ∷ rest → AreWithin names all → IsOneOf first all × AreWithin rest all
 within-cut first rest names all cut within =
     let both : AreWithin (first ∷ rest) all = subst (λ (l : List (List ℕ)). AreWithin l all) cut within in
     (both first (inl refl), λ name is. both name (inr is))
@@ -244,7 +244,7 @@ module _ {E : Type 0} (K : SinkGhosts E) (names : List (List ℕ)) where
 
 -- the first source, and those behind it, where there is one
 pub sources-cut : (sources : List Source) (other : Source) (all : List (List ℕ)) → 0 < length sources → AreWithin (source_names (origins_of sources)) all
-    → IsAmong (origin_of (get_or sources 0 other)).bytes all × AreWithin (source_names (origins_of (take (length sources - 1) (drop 1 sources)))) all
+    → IsOneOf (origin_of (get_or sources 0 other)).bytes all × AreWithin (source_names (origins_of (take (length sources - 1) (drop 1 sources)))) all
 sources-cut [] other all some within = absurd (omega (arith, some))
 sources-cut (source ∷ sources) other all some within =
     let rest : take (length (source ∷ sources) - 1) sources ≡ sources = take_all (length (source ∷ sources) - 1) sources (omega arith) in

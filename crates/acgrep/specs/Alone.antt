@@ -13,16 +13,16 @@ use Rattle.acgrep.specs.declared.options.Fit.{Fit}
 use Rattle.acgrep.specs.declared.options.Fit.TheVariants.{AnyPart, WholeWord, WholeLine}
 
 -- a letter of ASCII, a digit or `_`
-abbrev pub is_word_byte : ℕ → Bool
-is_word_byte byte = is_ascii_alphanumeric byte || (byte == 95)
+abbrev pub is_word_constituent : ℕ → Bool
+is_word_constituent byte = is_ascii_alphanumeric byte || (byte == 95)
 
 -- none stands before a place of a line
 abbrev pub begins_alone : List ℕ → ℕ → Bool
-begins_alone line start = not (nat_lt 0 start && is_word_byte (slice_index line (start - 1)))
+begins_alone line start = not (nat_lt 0 start && is_word_constituent (slice_index line (start - 1)))
 
 -- none stands behind it
 abbrev pub ends_alone : List ℕ → ℕ → Bool
-ends_alone line end = not (nat_lt end (length line) && is_word_byte (slice_index line end))
+ends_alone line end = not (nat_lt end (length line) && is_word_constituent (slice_index line end))
 
 -- m occurs in a line, begins at this place or behind it, and stands alone
 pub record IsAloneFrom (p : Patterns) (line : List ℕ) (at : ℕ) (m : Occurrence) : Type 0 where

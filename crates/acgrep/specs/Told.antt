@@ -6,7 +6,7 @@ use Rattle.aho_core.specs.declared.error.BuildError.{BuildError}
 use Rattle.aho_core.specs.declared.error.MatchErrorKind.{MatchErrorKind}
 use Rattle.aho_devices.specs.declared.device.Sink.{Ghosts as SinkGhosts}
 use Rattle.programs.specs.Messages.{Message, message_by, reason_text}
-use Rattle.programs.specs.Names.{IsAmong, or_input}
+use Rattle.programs.specs.Names.{IsOneOf, or_input}
 use Rattle.programs.specs.Telling.{Tells, TellsBytes, TellsSome}
 use Rattle.programs.specs.declared.errors.Errors.{Errors}
 use Rattle.programs.specs.declared.reason.Reason.{Reason}
@@ -35,7 +35,7 @@ IsToldCause cause = ((reason : Reason) × (cause ≡ reason_text reason))
 
 -- that, or one of these files
 abbrev pub MayName : List (List ℕ) → List ℕ → Type 0
-MayName names name = IsAmong name others_told ⊎ IsAmong name names
+MayName names name = IsOneOf name others_told ⊎ IsOneOf name names
 
 -- a line of the program's name, a file's name, which is one of these, a line's number and a cause
 pub record IsMessage (names : List (List ℕ)) (line : List ℕ) : Type 0 where
@@ -52,7 +52,7 @@ module _ {E : Type 0} (K : SinkGhosts E) where
 
   -- with the file of a name
   abbrev pub TellsOfFile : List ℕ → Errors E → Errors E → Type 0
-  TellsOfFile name old new = (names : List (List ℕ)) → IsAmong name names → TellsSome K (IsMessage names) old new
+  TellsOfFile name old new = (names : List (List ℕ)) → IsOneOf name names → TellsSome K (IsMessage names) old new
 
   -- with what is called so: a file or something else
   abbrev pub TellsOfNamed : List ℕ → Errors E → Errors E → Type 0
@@ -182,7 +182,7 @@ module _ {E : Type 0} (K : SinkGhosts E) where
   -- what is told of a file of this name by what came of it: where nothing is told of files that cannot be read, no file is named
   abbrev pub TellsOfOutcome : Bool → List ℕ → Outcome → Errors E → Errors E → Type 0
   TellsOfOutcome hushed name outcome old new =
-      (names : List (List ℕ)) → (hushed ≡ false → IsAmong name names) → TellsOutcome K (IsMessage names) hushed outcome old new
+      (names : List (List ℕ)) → (hushed ≡ false → IsOneOf name names) → TellsOutcome K (IsMessage names) hushed outcome old new
 
   -- and where it was read to its end
   abbrev pub TellsOfEnd : Bool → Outcome → Errors E → Errors E → Type 0

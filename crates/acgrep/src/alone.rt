@@ -6,7 +6,7 @@ ghost use Rattle.aho_core.specs.Best.{IsBestOrNone};
 ghost use Rattle.aho_core.specs.Patterns.{Patterns};
 ghost use Rattle.aho_core.specs.declared.search.MatchKind.TheVariants.{LeftmostLongest};
 ghost use Rattle.aho_laws.specs.CutLaws.{span_search};
-ghost use Rattle.acgrep.specs.Alone.{IsAloneAt, IsLongestThere, IsNextAlone, IsShorter, begins_alone, behind_alone, ends_alone, is_word_byte};
+ghost use Rattle.acgrep.specs.Alone.{IsAloneAt, IsLongestThere, IsNextAlone, IsShorter, begins_alone, behind_alone, ends_alone, is_word_constituent};
 ghost use Rattle.acgrep.specs.Written.{IsMatched};
 ghost use Rattle.acgrep.specs.declared.options.Fit.TheVariants.{WholeWord};
 
@@ -141,19 +141,19 @@ fn begins_alone(line: &[u8], start: usize) -> bool
     requires within { start ≤ length line.now }
     ensures { result ≡ begins_alone line.now start }
 {
-    !(0 < start && is_word_byte(line[start - 1]))
+    !(0 < start && is_word_constituent(line[start - 1]))
 }
 
 /// Whether none stands behind it.
 fn ends_alone(line: &[u8], end: usize) -> bool
     ensures { result ≡ ends_alone line.now end }
 {
-    !(end < line.len() && is_word_byte(line[end]))
+    !(end < line.len() && is_word_constituent(line[end]))
 }
 
 /// Whether a byte is a letter of ASCII, a digit or `_`.
-fn is_word_byte(byte: u8) -> bool
-    ensures { result ≡ is_word_byte byte }
+fn is_word_constituent(byte: u8) -> bool
+    ensures { result ≡ is_word_constituent byte }
 {
     byte.is_ascii_alphanumeric() || byte == b'_'
 }

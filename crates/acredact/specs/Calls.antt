@@ -7,7 +7,7 @@ use Rattle.aho_core.specs.declared.error.BuildError.{BuildError}
 use Rattle.aho_devices.specs.Counts.{counted}
 use Rattle.aho_devices.specs.declared.adapters.FromWrite.{FromWrite}
 use Rattle.aho_devices.specs.declared.device.Sink.{Ghosts as SinkGhosts}
-use Rattle.programs.specs.Names.{IsAmong, or_input}
+use Rattle.programs.specs.Names.{IsOneOf, or_input}
 use Rattle.programs.specs.Streams.{output_bytes, bytes_left}
 use Rattle.programs.specs.Telling.{Tells, TellsBytes, TellsSome}
 use Rattle.programs.specs.declared.errors.Errors.{Errors}
@@ -120,7 +120,7 @@ MayFail call fails failure =
 
 -- the line that tells why a file was not read to its end
 abbrev pub IsUnreadLine : List (List ℕ) → List ℕ → Type 0
-IsUnreadLine names line = (name : List ℕ) × (reason : Reason) × IsAmong name names × (line ≡ unread_line name reason)
+IsUnreadLine names line = (name : List ℕ) × (reason : Reason) × IsOneOf name names × (line ≡ unread_line name reason)
 
 -- the lines of the counts
 abbrev pub IsCountsText : List ℕ → Type 0

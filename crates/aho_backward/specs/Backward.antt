@@ -4,10 +4,12 @@ use Rattle.aho_core.specs.declared.search.Anchored.TheVariants.{No, Yes}
 use Rattle.aho_core.specs.declared.search.Span.{Span}
 use Rattle.aho_core.specs.Best.{IsBestOrNone}
 use Rattle.aho_core.specs.Failure.{is_leftmost}
+use Rattle.aho_core.specs.Iteration.{AreFinds}
 use Rattle.aho_core.specs.Laws.{Fits}
 use Rattle.aho_core.specs.Occurrence.{Occurrence, occurrence}
 use Rattle.aho_core.specs.Occurs.{Occurs}
 use Rattle.aho_core.specs.Patterns.{Patterns}
+use Rattle.aho_core.specs.Search.{plain_search}
 use Rattle.aho_laws.specs.CutLaws.{AreFindsOf, AreFindsWithin, NoneIsEmpty}
 use Rattle.aho_automaton.specs.declared.automaton.Automaton.{Ghosts as Automata}
 use Rattle.aho_backward.specs.Turned.{AreLeading, turned}
@@ -54,3 +56,7 @@ pub record TellsBlock {A : Type 0} (G : Automata A) (a : A) (given : List ℕ) (
 -- these finds, and those from a place on behind them, are all finds of a haystack
 abbrev pub FindsUpTo : Patterns → List ℕ → ℕ → List Occurrence → Type 0
 FindsUpTo p haystack place found = (ms : List Occurrence) → AreFindsWithin p haystack place (length haystack) ms → AreFindsOf p haystack (found ++ ms)
+
+-- so it is said of all finds of a haystack, by each patterns that the automaton is turned from
+abbrev pub ForTurnedFinds : {A : Type 0} → Automata A → A → List ℕ → List ℕ → ((List Occurrence → Type 0) → Type 0) → Type 0
+ForTurnedFinds G a given haystack Says = (p : Patterns) → IsTurnedFrom G a given p → Says (AreFinds p (plain_search haystack) None)

@@ -6,6 +6,7 @@ use Rattle.aho_core.specs.declared.error.BuildError.TheVariants.{OutOfMemory}
 use Rattle.aho_core.specs.declared.search.MatchKind.{MatchKind}
 use Rattle.aho_core.specs.declared.search.MatchKind.TheVariants.{Standard}
 use Rattle.aho_laws.specs.CutLaws.{NoneIsEmpty}
+use Rattle.aho_automaton.specs.declared.automaton.Automaton.{Ghosts as Automata}
 use Rattle.aho_build.specs.Refusals.{Growth, cause, refusal_of}
 use Rattle.aho_build.specs.Settings.{default_settings}
 use Rattle.aho_build.specs.declared.settings.Settings.{Settings}
@@ -46,3 +47,7 @@ abbrev pub MakesNone : Patterns → BackwardError → Type 0
 MakesNone p StandardKind = p.kind ≡ Standard
 MakesNone p (EmptyPattern number) = (p.kind ≢ Standard) × IsFirstEmpty p.words number
 MakesNone p (Build error) = (p.kind ≢ Standard) × NoneIsEmpty p × IsUnbuilt p error
+
+-- so it is said of the patterns of these words and this case rule that an automaton is of
+abbrev pub ForPatternsOf : {A : Type 0} → Automata A → A → List (List ℕ) → Bool → (Patterns → Type 0) → Type 0
+ForPatternsOf G a words ignore_case Says = (p : Patterns) → G.is_of a p → p.words ≡ words → p.ignore_case ≡ ignore_case → Says p

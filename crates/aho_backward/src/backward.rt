@@ -1,11 +1,9 @@
 //! The searcher: an automaton of the patterns turned round, with which pattern each of its own stands for.
 
 ghost use Rattle.std.specs.Prelude.{◌≡◌, ◌*◌, ◌≤◌, IfOk, IsOk, None, length};
-ghost use Rattle.aho_core.specs.Iteration.{AreFinds};
 ghost use Rattle.aho_core.specs.Patterns.{Patterns};
-ghost use Rattle.aho_core.specs.Search.{plain_search};
 ghost use Rattle.aho_core.specs.declared.search.Anchored.TheVariants.{No};
-ghost use Rattle.aho_backward.specs.Searcher.{IsBackwardOf};
+ghost use Rattle.aho_backward.specs.Searcher.{ForItsFinds, IsBackwardOf};
 
 use crate::find_all::find_all_in;
 use aho_automaton::automaton::{Automaton, Counted};
@@ -42,8 +40,8 @@ impl<A: Automaton> Backward<A> {
         haystack: &[u8],
     ) -> Result<(Vec<Match>, u128), AllocError>
         requires of { (p : Patterns) × IsBackwardOf A.Automaton self.now p }
-        ensures found { (p : Patterns) → IsBackwardOf A.Automaton self.now p
-            → IfOk result (λ both. AreFinds p (plain_search haystack.now) None both.0.items) }
+        ensures found { ForItsFinds A.Automaton self.now haystack.now (λ all.
+            IfOk result (λ both. all both.0.items)) }
         ensures four_look_ups_a_byte { IfOk result (λ both. both.1 ≤ 4 * length haystack.now) }
     {
         let mut walk = Counted::new(&self.automaton);
@@ -59,8 +57,8 @@ impl<A: Automaton> Backward<A> {
     /// Out of memory.
     pub fn find_all(&self, alloc: Global, haystack: &[u8]) -> Result<Vec<Match>, AllocError>
         requires of { (p : Patterns) × IsBackwardOf A.Automaton self.now p }
-        ensures found { (p : Patterns) → IsBackwardOf A.Automaton self.now p
-            → IfOk result (λ found. AreFinds p (plain_search haystack.now) None found.items) }
+        ensures found { ForItsFinds A.Automaton self.now haystack.now (λ all.
+            IfOk result (λ found. all found.items)) }
     {
         let (found, _lookups) = self.find_all_counted(alloc, haystack)?;
         Ok(found)

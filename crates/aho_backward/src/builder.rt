@@ -8,7 +8,7 @@ ghost use Rattle.aho_core.specs.declared.search.Anchored.TheVariants.{Yes};
 ghost use Rattle.aho_core.specs.declared.search.MatchKind.TheVariants.{Standard};
 ghost use Rattle.aho_laws.specs.CutLaws.{NoneIsEmpty};
 ghost use Rattle.aho_prefilter.specs.Prefilter.{patterns_from};
-ghost use Rattle.aho_backward.specs.Making.{IsFirstEmpty, IsOutOfRoom, IsUnmade, MakesNone, unaided_settings};
+ghost use Rattle.aho_backward.specs.Making.{ForPatternsOf, IsFirstEmpty, IsOutOfRoom, IsUnmade, MakesNone, unaided_settings};
 ghost use Rattle.aho_backward.specs.Searcher.{IsBackwardOf};
 ghost use Rattle.aho_backward.specs.declared.error.BackwardError.TheVariants.{EmptyPattern, StandardKind};
 
@@ -83,11 +83,11 @@ fn searcher_by<A: Automaton>(
 ) -> Result<Backward<NFA>, BackwardError>
     requires of { (p : Patterns) × A.is_of forward.now p }
     requires starts { IsOk (A.start forward.now Yes) }
-    ensures of { (p : Patterns) → A.is_of forward.now p → p.words ≡ pieces_of patterns.now
-        → p.ignore_case ≡ ignore_case → is_leftmost p.kind ≡ true → NoneIsEmpty p
-        → IfOk result (λ made. IsBackwardOf ⟦<NFA as Automaton>⟧ made p) }
-    ensures refused { (p : Patterns) → A.is_of forward.now p → p.words ≡ pieces_of patterns.now
-        → p.ignore_case ≡ ignore_case → IfErr result (IsUnmade p) }
+    ensures of { ForPatternsOf A.Automaton forward.now (pieces_of patterns.now) ignore_case
+        (λ p. is_leftmost p.kind ≡ true → NoneIsEmpty p
+        → IfOk result (λ made. IsBackwardOf ⟦<NFA as Automaton>⟧ made p)) }
+    ensures refused { ForPatternsOf A.Automaton forward.now (pieces_of patterns.now) ignore_case
+        (λ p. IfErr result (IsUnmade p)) }
 {
     let given = leading(alloc, forward, patterns)?;
     let words = turned_words(alloc, patterns, &given)?;

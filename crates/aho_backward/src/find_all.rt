@@ -9,13 +9,11 @@
 //! block has none behind it. A walk makes at most two look-ups for each byte. So all look-ups together are at most four for each
 //! byte of the text, whatever the patterns are and wherever they match.
 
-ghost use Rattle.std.specs.Prelude.{◌≡◌, ◌+◌, ◌*◌, ◌<◌, ◌≤◌, ◌^◌, IfOk, IsOk, None, length};
+ghost use Rattle.std.specs.Prelude.{◌≡◌, ◌+◌, ◌*◌, ◌<◌, ◌≤◌, ◌^◌, IfOk, IsOk, length};
 ghost use Rattle.aho_core.specs.declared.search.Anchored.TheVariants.{No};
-ghost use Rattle.aho_core.specs.Iteration.{AreFinds};
 ghost use Rattle.aho_core.specs.Laws.{longest};
 ghost use Rattle.aho_core.specs.Patterns.{Patterns};
-ghost use Rattle.aho_core.specs.Search.{plain_search};
-ghost use Rattle.aho_backward.specs.Backward.{IsTurnedFrom};
+ghost use Rattle.aho_backward.specs.Backward.{ForTurnedFinds, IsTurnedFrom};
 
 use crate::choose::choose;
 use crate::walk_back::walk_back;
@@ -42,8 +40,8 @@ pub(crate) fn find_by_blocks<W: Walk>(
     requires wide { reach ≤ places }
     requires some { 0 < places }
     requires room { W.lookups walk.old + 4 * length haystack.now < 2 ^ 128 }
-    ensures found { (p : Patterns) → IsTurnedFrom W.Of.Automaton (W.of walk.old) given.now p
-        → IfOk result (λ found. AreFinds p (plain_search haystack.now) None found.items) }
+    ensures found { ForTurnedFinds W.Of.Automaton (W.of walk.old) given.now haystack.now
+        (λ all. IfOk result (λ found. all found.items)) }
     ensures same { W.of walk.new ≡ W.of walk.old }
     ensures costs { W.lookups walk.new ≤ W.lookups walk.old + 4 * length haystack.now }
 {
@@ -81,8 +79,8 @@ pub fn find_all_in<W: Walk>(
     requires starts { IsOk (W.Of.start (W.of walk.old) No) }
     requires reach { longest (W.Of.lengths (W.of walk.old)) ≤ reach }
     requires room { W.lookups walk.old + 4 * length haystack.now < 2 ^ 128 }
-    ensures found { (p : Patterns) → IsTurnedFrom W.Of.Automaton (W.of walk.old) given.now p
-        → IfOk result (λ found. AreFinds p (plain_search haystack.now) None found.items) }
+    ensures found { ForTurnedFinds W.Of.Automaton (W.of walk.old) given.now haystack.now
+        (λ all. IfOk result (λ found. all found.items)) }
     ensures same { W.of walk.new ≡ W.of walk.old }
     ensures costs { W.lookups walk.new ≤ W.lookups walk.old + 4 * length haystack.now }
 {

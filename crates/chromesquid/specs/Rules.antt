@@ -16,7 +16,6 @@ pub use Rattle.aho_build.specs.Items.{patterns_of}
 pub use Rattle.aho_build.specs.Refusals.{cause}
 pub use Rattle.aho_build.specs.Settings.{default_settings}
 pub use Rattle.aho_automaton.specs.Finding.{AreFirstFinds, HoldsOfFinds}
-pub use Rattle.aho_backward.specs.Searcher.{IsBackwardOf}
 pub use Rattle.aho_stream.specs.FindRuns.{is_limit_among}
 pub use Rattle.aho_stream.specs.StreamRun.{RefusesUntouched}
 pub use Rattle.chromesquid.specs.Building.{Accepts, FailsFor, HasCount, HasLengths, HasMatchKind, HasMemory, HasStartKind, HasTrie, IsBuiltWithMemory, IsFailureOf, SearchesBy, kind_to_make}

@@ -17,8 +17,6 @@ mod standing;
 pub mod stream;
 
 pub use aho_automaton::automaton::{Automaton, OverlappingState};
-pub use aho_backward::backward::Backward;
-pub use aho_backward::error::BackwardError;
 pub use aho_corasick::noncontiguous::Limits;
 pub use aho_core::error::{
     BuildError, Fault, MatchError, MatchErrorKind, ReplaceError, StreamError,

@@ -2,9 +2,10 @@
 
 use crate::count::Count;
 use crate::memory::Asked;
+use aho_backward::backward::Backward;
+use aho_backward::error::BackwardError;
 use aho_core::search::MatchKind;
 use anyhow::{Result, bail};
-use chromesquid::{Backward, BackwardError};
 use std::alloc::Global;
 
 /// Compares all finds of the text, how many look-ups they take, and what is refused.

@@ -21,6 +21,6 @@ abbrev pub given_name : Option (Bor (List ℕ)) → Option (List ℕ)
 given_name name = option_map (λ name. name.now) name
 
 -- a name is one of these
-abbrev pub IsAmong : List ℕ → List (List ℕ) → Type 0
-IsAmong name [] = ⊥
-IsAmong name (first ∷ names) = (name ≡ first) ⊎ IsAmong name names
+abbrev pub IsOneOf : List ℕ → List (List ℕ) → Type 0
+IsOneOf name [] = ⊥
+IsOneOf name (first ∷ names) = (name ≡ first) ⊎ IsOneOf name names

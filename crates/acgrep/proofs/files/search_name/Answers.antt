@@ -1,6 +1,6 @@
 -- The name that is told is that of the file.
 use Rattle.std.proofs.Common.{◌≡◌, ℕ, Bool, List, true, false, codes, refl, sym, subst, ◌∙◌}
-use Rattle.programs.specs.Names.{IsAmong, is_input}
+use Rattle.programs.specs.Names.{IsOneOf, is_input}
 use Rattle.acgrep.specs.Files.{SearchesName, SearchesReader, shown_name}
 use Rattle.acgrep.specs.Told.{IsMessage, TellsOutcome}
 use Rattle.acgrep.proofs.FileTellings.{if_searched, input_searched}
@@ -12,7 +12,7 @@ returns-then-is_input-clause-told g c = λ names is.
     let same : shown_name c.args.name.now ≡ codes "(standard input)" = rw input refl in
     let hushed = c.job_for-named.ensures.named.hushed in
     subst (λ (b : Bool). TellsOutcome g.E.Sink (IsMessage names) b c.search_one.result c.args.errors.now c.search_one.new.errors) hushed
-    (c.search_one.ensures.told names (λ asked. subst (λ (n : List ℕ). IsAmong n names) (same ∙ sym c.job_for-named.ensures.named.name) (is (sym hushed ∙ asked))))
+    (c.search_one.ensures.told names (λ asked. subst (λ (n : List ℕ). IsOneOf n names) (same ∙ sym c.job_for-named.ensures.named.name) (is (sym hushed ∙ asked))))
 
 pub returns-clause-told : goal.returns-clause-told
 returns-clause-told g c = λ names is.
@@ -20,7 +20,7 @@ returns-clause-told g c = λ names is.
     let same : shown_name c.args.name.now ≡ c.args.name.now = rw file refl in
     let hushed = c.job_for-named-2.ensures.named.hushed in
     subst (λ (b : Bool). TellsOutcome g.E.Sink (IsMessage names) b c.search_named.result c.args.errors.now c.search_named.new.errors) hushed
-    (c.search_named.ensures.told names (λ asked. subst (λ (n : List ℕ). IsAmong n names) (same ∙ sym c.job_for-named-2.ensures.named.name) (is (sym hushed ∙ asked))))
+    (c.search_named.ensures.told names (λ asked. subst (λ (n : List ℕ). IsOneOf n names) (same ∙ sym c.job_for-named-2.ensures.named.name) (is (sym hushed ∙ asked))))
 
 pub returns-then-is_input-clause-searched : goal.returns-then-is_input-clause-searched
 returns-then-is_input-clause-searched g c = λ p is plain.
