@@ -358,7 +358,7 @@ fn kind_sought(flags: &Flags) -> MatchKind
 fn takes_any(fit: Fit) -> bool
     ensures { result ≡ takes_any fit }
 {
-    fit == Fit::AnyPart
+    matches!(fit, Fit::AnyPart)
 }
 
 /// Whether the lines without a match are selected.

@@ -62,7 +62,7 @@ impl<'a> Job<'a> {
     fn asks_alone(&self) -> bool
         ensures alone { result ≡ asks_alone self.now.fit }
     {
-        self.fit == Fit::WholeWord
+        matches!(self.fit, Fit::WholeWord)
     }
 
     /// Whether a line is selected, by whether it matches.
