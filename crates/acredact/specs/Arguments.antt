@@ -1,5 +1,5 @@
 -- What the arguments, those after the program's name, ask for.
-use Rattle.std.specs.Prelude.{◌≡◌, ℕ, ◌||◌, Bool, true, false, List, [], ◌∷◌, Option, Some, None, codes, drop, is_some, map, option_and_then, option_map, unwrap_or, nat_eq, take, String, if◌then◌else◌}
+use Rattle.std.specs.Prelude.{◌≡◌, ℕ, ◌||◌, ◌&&◌, not, Bool, true, false, List, [], ◌∷◌, Option, Some, None, codes, drop, is_some, map, option_and_then, option_map, unwrap_or, nat_eq, take, String, if◌then◌else◌}
 use Rattle.std.specs.Str.{bytes_eq}
 use Rattle.aho_core.specs.declared.search.MatchKind.{MatchKind}
 use Rattle.aho_core.specs.declared.search.MatchKind.TheVariants.{Standard}
@@ -9,6 +9,8 @@ use Rattle.acredact.specs.declared.arguments.Word.TheVariants.{IgnoreCase, Kind,
 use Rattle.acredact.specs.declared.arguments.Expects.{Expects}
 use Rattle.acredact.specs.declared.arguments.Expects.TheVariants.{Any, Value, Name}
 use Rattle.acredact.specs.declared.arguments.Item.{Item}
+use Rattle.acredact.specs.declared.arguments.Mixture.{Mixture}
+use Rattle.acredact.specs.declared.arguments.Mixture.TheVariants.{StrictKind}
 use Rattle.acredact.specs.declared.arguments.Reading.{Reading}
 use Rattle.acredact.specs.declared.arguments.Reading.TheVariants.{Whole, Begun, Wrong}
 
@@ -202,6 +204,19 @@ covers_asked items = is_cover (unwrap_or (last_value Kind items) (codes "cover")
 abbrev pub kind_asked : List Given → MatchKind
 kind_asked items = unwrap_or (option_and_then kind_by (last_value Kind items)) Standard
 
+-- the options that do not go together, where some do not: pieces are refused of covers alone
+abbrev pub mixture_of : List Given → Option Mixture
+mixture_of given = if has Strict given && not (covers_asked given) then Some StrictKind else None
+
+-- all options and files, where they go together
+abbrev pub fitting_by : Option Mixture → List Given → Option (List Given)
+fitting_by None given = Some given
+fitting_by (Some mixture) given = None
+
+-- all options and files that arguments ask for; none where the arguments are wrong
+abbrev pub asked_by : List (List ℕ) → Option (List Given)
+asked_by arguments = option_and_then (λ given. fitting_by (mixture_of given) given) (given_by Any arguments)
+
 -- a redaction is asked for: no help and no version
 pub record AsksToRedact (given : List Given) : Type 0 where
   pub no_help : has Help given ≡ false
@@ -220,8 +235,8 @@ pub record GivesNoPattern (given : List Given) : Type 0 where
 
 -- what holds of the options and files that are given, where they ask for a redaction
 abbrev pub IfAsked : {Z : Type 0} → List (String Z) → (List Given → Type 0) → Type 0
-IfAsked arguments Holds = (given : List Given) → given_by Any (texts arguments) ≡ Some given → AsksToRedact given → Holds given
+IfAsked arguments Holds = (given : List Given) → asked_by (texts arguments) ≡ Some given → AsksToRedact given → Holds given
 
 -- the arguments are wrong
 abbrev pub AreMistaken : {Z : Type 0} → List (String Z) → Type 0
-AreMistaken arguments = given_by Any (texts arguments) ≡ None
+AreMistaken arguments = asked_by (texts arguments) ≡ None

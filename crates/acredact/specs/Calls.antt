@@ -21,11 +21,10 @@ use Rattle.acredact.specs.Failures.{IsFailureLine}
 use Rattle.acredact.specs.Files.{AreCut, AreDone, AreFree, AreRedacted, Does, Work, are_none, redactor_of, unread_line, work_of}
 use Rattle.acredact.specs.Loading.{AreGiven, CannotLoadOne, Reading, Rules}
 use Rattle.acredact.specs.Messages.{unclean_line}
-use Rattle.acredact.specs.Mistakes.{IsMistake}
+use Rattle.acredact.specs.Mistakes.{IsMistakeOfCall}
 use Rattle.acredact.specs.Pieces.{IsUnclean, TellsOfPieces}
 use Rattle.acredact.specs.Secrets.{Redactor}
 use Rattle.acredact.specs.Tables.{Secret, patterns_in, piece_by, secrets_of}
-use Rattle.acredact.specs.declared.arguments.Expects.TheVariants.{Any}
 use Rattle.acredact.specs.declared.arguments.Mistake.TheVariants.{NoPattern, OutOfMemory as NoRoom}
 use Rattle.acredact.specs.declared.arguments.Word.TheVariants.{Count, Crlf, AllowEmpty, Strict, File, Pattern as PatternOption, Patterns as PatternFile, Table, With}
 use Rattle.acredact.specs.declared.clean.Unclean.{Unclean}
@@ -150,7 +149,7 @@ IsLineOf call fails line =
 
 -- what is told of wrong arguments
 abbrev pub IsWrongFailure : List (List ℕ) → Failure → Type 0
-IsWrongFailure arguments failure = (mistake : _) × (failure ≡ Arguments mistake) × IsMistake Any arguments mistake
+IsWrongFailure arguments failure = (mistake : _) × (failure ≡ Arguments mistake) × IsMistakeOfCall arguments mistake
 
 abbrev pub IsWrongLine : List (List ℕ) → List ℕ → Type 0
 IsWrongLine arguments line = (failure : Failure) × IsWrongFailure arguments failure × IsFailureLine failure line

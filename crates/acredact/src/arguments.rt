@@ -2,8 +2,8 @@
 
 ghost use Rattle.std.specs.Prelude.{◌≡◌, Some, None, IfErr, IfOk, option_map};
 ghost use Rattle.programs.specs.Arguments.{kind_by, texts};
-ghost use Rattle.acredact.specs.Arguments.{all_given, any_by, completed, covers_asked, file_by, given_by, has, is_cover, is_same, is_value_of, joined_option_of, kind_asked, last_value, option_name, read_by, read_of, takes_value, word_by, word_read};
-ghost use Rattle.acredact.specs.Mistakes.{IsMistake, IsMistaken};
+ghost use Rattle.acredact.specs.Arguments.{all_given, any_by, asked_by, completed, covers_asked, file_by, given_by, has, is_cover, is_same, is_value_of, joined_option_of, kind_asked, last_value, mixture_of, option_name, read_by, read_of, takes_value, word_by, word_read};
+ghost use Rattle.acredact.specs.Mistakes.{IsMistake, IsMistakeOfCall, IsMistaken};
 ghost use Rattle.acredact.specs.declared.arguments.Expects.TheVariants.{Any, Value};
 
 use aho_core::search::MatchKind;
@@ -60,6 +60,13 @@ pub enum Expects {
     Name,
 }
 
+/// Options that do not go together.
+#[derive(Clone, Copy)]
+pub enum Mixture {
+    /// `--strict` with another kind than cover: it promises something of covers alone.
+    StrictKind,
+}
+
 /// Why arguments are wrong.
 #[derive(Clone, Copy)]
 pub enum Mistake<'a> {
@@ -71,6 +78,8 @@ pub enum Mistake<'a> {
     NoValue(Word),
     /// There is no pattern, no file of patterns and no table.
     NoPattern,
+    /// These options do not go together.
+    Mixed(Mixture),
     /// Memory runs out.
     OutOfMemory,
 }
@@ -153,8 +162,31 @@ fn kind_by(name: &str) -> Option<MatchKind>
     }
 }
 
-/// All options and files, in order.
+/// All options and files, in order, where they go together.
 pub fn items(alloc: Global, arguments: &[String]) -> Result<Vec<Item<'_>>, Mistake<'_>>
+    ensures given { IfOk result (λ items.
+        asked_by (texts arguments.now) ≡ Some (all_given items.items)) }
+    ensures wrong { IfErr result (IsMistakeOfCall (texts arguments.now)) }
+{
+    let items = read_items(alloc, arguments)?;
+    match mixture_of(items.as_slice()) {
+        Some(mixture) => Err(Mistake::Mixed(mixture)),
+        None => Ok(items),
+    }
+}
+
+/// The options that do not go together, where some do not.
+fn mixture_of(items: &[Item<'_>]) -> Option<Mixture>
+    ensures mixture { result ≡ mixture_of (all_given items.now) }
+{
+    if has(items, Word::Strict) && !covers(items) {
+        return Some(Mixture::StrictKind);
+    }
+    None
+}
+
+/// All options and files, in order.
+fn read_items(alloc: Global, arguments: &[String]) -> Result<Vec<Item<'_>>, Mistake<'_>>
     ensures given { IfOk result (λ items.
         given_by Any (texts arguments.now) ≡ Some (all_given items.items)) }
     ensures wrong { IfErr result (IsMistake Any (texts arguments.now)) }

@@ -6,10 +6,10 @@ ghost use Rattle.programs.specs.Telling.{TellsBytes};
 ghost use Rattle.acredact.specs.Failures.{IsFailureLine, IsOtherLine, bad_line, is_of_output};
 ghost use Rattle.acredact.specs.LineFaults.{line_fault_text};
 ghost use Rattle.acredact.specs.Messages.{alone, flaw_text, line_about, piece_line, told_line, unclean_line};
-ghost use Rattle.acredact.specs.Mistakes.{mistake_message};
+ghost use Rattle.acredact.specs.Mistakes.{mistake_message, mixture_text};
 ghost use Rattle.acredact.specs.declared.clean.Flaw.TheVariants.{Empty, Spells};
 
-use crate::arguments::{Mistake, name_of};
+use crate::arguments::{Mistake, Mixture, name_of};
 use crate::clean::{Flaw, Unclean};
 use crate::patterns::{BadLine, LineFault};
 use aho_core::error::{BuildError, StreamError};
@@ -196,7 +196,17 @@ fn tell_mistake<E: Sink>(errors: &mut Errors<'_, E>, mistake: Mistake<'_>)
         Mistake::UnknownKind(kind) => tell_about(errors, "unknown kind", kind),
         Mistake::NoValue(word) => tell_about(errors, "no value", name_of(word)),
         Mistake::NoPattern => tell_alone(errors, "no pattern: give -e, -f or -t, or --help"),
+        Mistake::Mixed(mixture) => tell_alone(errors, mixture_text(mixture)),
         Mistake::OutOfMemory => tell_alone(errors, "out of memory"),
+    }
+}
+
+/// What is told of options that do not go together.
+fn mixture_text(mixture: Mixture) -> &'static str
+    ensures text { result.now ≡ mixture_text mixture }
+{
+    match mixture {
+        Mixture::StrictKind => "--strict needs --kind cover: it promises nothing by another kind",
     }
 }
 

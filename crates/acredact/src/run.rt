@@ -57,7 +57,7 @@ Writes each FILE with a text in the place of each run of bytes that lie in match
   --count       write to standard error how often the text of each pattern was written
   --crlf        leave out a carriage return at the end of a line of a FILE of patterns or a TABLE
   --allow-empty allow an empty FILE of patterns or TABLE
-  --strict      refuse replacements that can spell a pattern with what stands beside them
+  --strict      refuse replacements that can spell a pattern with what stands beside them; for covers alone
   --            only FILEs follow
   --help        write this and end
   --version     write the version and end
