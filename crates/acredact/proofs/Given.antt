@@ -2,7 +2,7 @@
 use Rattle.std.proofs.Common.{◌≡◌, inl, inr, ℕ, List, [], ◌∷◌, Option, refl, sym, ap, ◌∙◌}
 use Rattle.std.specs.Prelude.{Some, None, option_and_then, option_map}
 use Rattle.programs.specs.Messages.{Message}
-use Rattle.acredact.specs.Arguments.{Given, ReadAs, asked_by, fitting_by, given_by, mixture_of, read_by, with_item}
+use Rattle.acredact.specs.Arguments.{Given, ReadAs, all_asked, fitting_by, given_by, mixture_of, read_by, with_item}
 use Rattle.acredact.specs.Mistakes.{IsMistakeOfCall, wrong_at, wrong_by, wrong_or}
 use Rattle.acredact.specs.declared.arguments.Expects.{Expects}
 use Rattle.acredact.specs.declared.arguments.Expects.TheVariants.{Any, Value, Name}
@@ -51,7 +51,7 @@ read_fits (Some read) given is =
     (ap Some same, sym (ap mixture_of same) ∙ none)
 
 -- nothing is wrong with right arguments but that memory runs out
-pub memory_alone : (arguments : List (List ℕ)) (given : List Given) (mistake : Mistake) → asked_by arguments ≡ Some given → IsMistakeOfCall arguments mistake → mistake ≡ OutOfMemory
+pub memory_alone : (arguments : List (List ℕ)) (given : List Given) (mistake : Mistake) → all_asked arguments ≡ Some given → IsMistakeOfCall arguments mistake → mistake ≡ OutOfMemory
 memory_alone arguments given mistake asked (inl (inl memory)) = memory
 memory_alone arguments given mistake asked (inl (inr wrong)) = absurd (never_wrong Any arguments given _ (read_fits (given_by Any arguments) given asked).0 wrong)
 memory_alone arguments given mistake asked (inr (items, mixture, read, mixed, is)) =

@@ -2,7 +2,7 @@
 
 ghost use Rattle.std.specs.Prelude.{◌≡◌, Some, None, IfErr, IfOk, option_map};
 ghost use Rattle.programs.specs.Arguments.{kind_by, texts};
-ghost use Rattle.acredact.specs.Arguments.{all_given, any_by, asked_by, completed, covers_asked, file_by, given_by, has, is_cover, is_same, is_value_of, joined_option_of, kind_asked, last_value, mixture_of, option_name, read_by, read_of, takes_value, word_by, word_read};
+ghost use Rattle.acredact.specs.Arguments.{all_given, all_asked, any_by, checks_asked, completed, covers_asked, file_by, given_by, has, is_cover, is_same, is_value_of, joined_option_of, kind_asked, last_value, mixture_of, option_name, read_by, read_of, takes_value, word_by, word_read};
 ghost use Rattle.acredact.specs.Mistakes.{IsMistake, IsMistakeOfCall, IsMistaken};
 ghost use Rattle.acredact.specs.declared.arguments.Expects.TheVariants.{Any, Value};
 
@@ -32,6 +32,8 @@ pub enum Word {
     AllowEmpty,
     /// `--strict`: a replacement that is not clean is refused.
     Strict,
+    /// `--check`: it is only told whether something would be replaced.
+    Check,
     /// `--help`: only the help is written.
     Help,
     /// `--version`: only the version is written.
@@ -65,6 +67,8 @@ pub enum Expects {
 pub enum Mixture {
     /// `--strict` with another kind than cover: it promises something of covers alone.
     StrictKind,
+    /// `--count` with `--check`, which counts nothing.
+    CountCheck,
 }
 
 /// Why arguments are wrong.
@@ -110,6 +114,7 @@ fn word_of(argument: &str) -> Option<Word>
         "--crlf" => Some(Word::Crlf),
         "--allow-empty" => Some(Word::AllowEmpty),
         "--strict" => Some(Word::Strict),
+        "--check" => Some(Word::Check),
         "--help" => Some(Word::Help),
         "--version" => Some(Word::Version),
         "-" => Some(Word::File),
@@ -165,7 +170,7 @@ fn kind_by(name: &str) -> Option<MatchKind>
 /// All options and files, in order, where they go together.
 pub fn items(alloc: Global, arguments: &[String]) -> Result<Vec<Item<'_>>, Mistake<'_>>
     ensures given { IfOk result (λ items.
-        asked_by (texts arguments.now) ≡ Some (all_given items.items)) }
+        all_asked (texts arguments.now) ≡ Some (all_given items.items)) }
     ensures wrong { IfErr result (IsMistakeOfCall (texts arguments.now)) }
 {
     let items = read_items(alloc, arguments)?;
@@ -181,6 +186,9 @@ fn mixture_of(items: &[Item<'_>]) -> Option<Mixture>
 {
     if has(items, Word::Strict) && !covers(items) {
         return Some(Mixture::StrictKind);
+    }
+    if has(items, Word::Count) && has(items, Word::Check) {
+        return Some(Mixture::CountCheck);
     }
     None
 }
@@ -326,6 +334,13 @@ pub fn last_value<'a>(items: &[Item<'a>], word: Word) -> Option<&'a str>
         rest = &rest[1..];
     }
     value
+}
+
+/// Whether a check is asked for, and no help and no version.
+pub fn checks(items: &[Item<'_>]) -> bool
+    ensures checks { result ≡ checks_asked (all_given items.now) }
+{
+    has(items, Word::Check) && !has(items, Word::Help) && !has(items, Word::Version)
 }
 
 /// Whether a cover is asked for: so it is where no kind is given.

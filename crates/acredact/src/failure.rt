@@ -207,6 +207,7 @@ fn mixture_text(mixture: Mixture) -> &'static str
 {
     match mixture {
         Mixture::StrictKind => "--strict needs --kind cover: it promises nothing by another kind",
+        Mixture::CountCheck => "--count and --check do not go together: a check counts nothing",
     }
 }
 
