@@ -3,6 +3,7 @@ pub mod Firsts
 pub mod Listed
 pub mod Moves
 pub mod Counting
+pub mod Rising
 pub mod Stepping
 pub mod Sizes
 pub mod Filling

@@ -15,7 +15,8 @@ use Rattle.aho_hybrid.proofs.Listed.{part-at, part-within, within-at}
 use Rattle.aho_hybrid.proofs.Stepping.{flat-child, link-depth, step-near, told, told-none, told-some}
 use Rattle.aho_hybrid.specs.declared.fill.Filled.{Filled}
 use Rattle.aho_hybrid.specs.Filled.{IsDeepState, AreLaidOut, IsListAt, IsPlan, IsRecord, IsShallow, Parts, deep_count, is_deep, leads_in, moves_of, number_in, record_place, row_in, rows_count, row_entries, source_of, transitions_of}
-use Rattle.aho_hybrid.specs.Layout.{HasRow, IsDeep, IsAtStride, IsSoundDeep, IsSoundLayout, IsSoundRows, IsStateIn, Layout, child_in, child_of, depth_below_rows, is_row, link_in, list_place, record_size, stride_of, record_word}
+use Rattle.aho_hybrid.proofs.Rising.{flat-rising}
+use Rattle.aho_hybrid.specs.Layout.{AreRisingMoves, HasRow, IsDeep, IsAtStride, IsSoundDeep, IsSoundLayout, IsSoundRows, IsStateIn, Layout, child_in, child_of, depth_below_rows, is_row, link_in, list_place, moves_in, record_size, stride_of, record_word}
 use Rattle.aho_hybrid.specs.Reading.{deep-test, row-depth, row-test, state-cases, state-of_deep, state-of_row}
 
 module _ (plan : Parts) (words : ℕ) (planned : IsPlan plan words) (filled : Filled) (done : AreLaidOut plan (length plan.states) filled)
@@ -263,14 +264,18 @@ module _ (plan : Parts) (words : ℕ) (planned : IsPlan plan words) (filled : Fi
 
   -- ---- records
 
-  pub child-of : (i byte : ℕ) → i < count → IsDeepState plan i → child_in layout (number_in plan i) byte ≡ told plan.numbers (next_in plan.states (source_of plan i) byte)
-  child-of i byte below deep =
+  moves-are : (i : ℕ) → i < count → IsDeepState plan i → moves_in layout (number_in plan i) ≡ moves_of plan i
+  moves-are i below deep =
       let is = record-of i below deep in
       let at : ℕ = get_or layout.deep (record_place plan.row_depth plan.states i + 3) 0 in
-      ap (λ (m : ℕ). child_of (take m (drop (record_word layout (number_in plan i) 3) layout.moves)) byte) (word-of i 4 below deep ∙ is.moves_size)
-      ∙ ap (λ (m : ℕ). child_of (take (length (moves_of plan i)) (drop m layout.moves)) byte) (word-of i 3 below deep)
-      ∙ ap (λ (l : List ℕ). child_of l byte) (part-at layout.moves at (moves_of plan i) is.moves_at)
-      ∙ flat-child plan.numbers byte (transitions_of plan i) is.rising
+      ap (λ (m : ℕ). take m (drop (record_word layout (number_in plan i) 3) layout.moves)) (word-of i 4 below deep ∙ is.moves_size)
+      ∙ ap (λ (m : ℕ). take (length (moves_of plan i)) (drop m layout.moves)) (word-of i 3 below deep)
+      ∙ part-at layout.moves at (moves_of plan i) is.moves_at
+
+  pub child-of : (i byte : ℕ) → i < count → IsDeepState plan i → child_in layout (number_in plan i) byte ≡ told plan.numbers (next_in plan.states (source_of plan i) byte)
+  child-of i byte below deep =
+      ap (λ (l : List ℕ). child_of l byte) (moves-are i below deep)
+      ∙ flat-child plan.numbers byte (transitions_of plan i) (record-of i below deep).rising
 
   pub link-of : (i : ℕ) → i < count → IsDeepState plan i → link_in layout (number_in plan i) ≡ number_in plan (fail_in plan.states (source_of plan i))
   link-of i below deep = word-of i 0 below deep ∙ (record-of i below deep).link
@@ -317,6 +322,7 @@ module _ (plan : Parts) (words : ℕ) (planned : IsPlan plan words) (filled : Fi
   sound-deep : IsSoundDeep layout
   sound-deep = record {
     moves = by-deep (λ (m : ℕ). record_word layout m 3 + record_word layout m 4 ≤ length layout.moves) (λ i below deep. inside i below deep);
+    rising = by-deep (λ (m : ℕ). AreRisingMoves (moves_in layout m)) (λ i below deep. rising-in i below deep);
     next = λ sid byte next deep small child.
         by-deep (λ (m : ℕ). child_in layout m byte ≡ Some next → IsStateIn layout next × (depth_below_rows layout next ≤ depth_below_rows layout m + 1))
         (λ i below is_deep. next-of i byte next below is_deep small) sid deep child;
@@ -325,6 +331,10 @@ module _ (plan : Parts) (words : ℕ) (planned : IsPlan plan words) (filled : Fi
         (λ i below is_deep. linked-of i byte below is_deep small) sid deep child;
   }
     where
+      rising-in : (i : ℕ) → i < count → IsDeepState plan i → AreRisingMoves (moves_in layout (number_in plan i))
+      rising-in i below deep =
+          subst AreRisingMoves (sym (moves-are i below deep)) (flat-rising plan.numbers (transitions_of plan i) (record-of i below deep).rising)
+
       inside : (i : ℕ) → i < count → IsDeepState plan i → record_word layout (number_in plan i) 3 + record_word layout (number_in plan i) 4 ≤ length layout.moves
       inside i below deep =
           let is = record-of i below deep in

@@ -1,5 +1,5 @@
 -- How the states of a `Hybrid` lie in memory, and what is read there.
-use Rattle.std.specs.Prelude.{◌≡◌, ◌||◌, ℕ, zero, suc, ◌+◌, ◌-◌, ◌<◌, ◌≤◌, ◌%◌, Bool, true, false, List, [], ◌∷◌, length, take, drop, nat_eq, nat_lt, slice_index_or, if◌then◌else◌, Result, Ok, Err, Option, Some, None, is_some, ◌*◌}
+use Rattle.std.specs.Prelude.{◌≡◌, ◌≢◌, ◌||◌, ℕ, zero, suc, ◌+◌, ◌-◌, ◌<◌, ◌≤◌, ◌%◌, Bool, true, false, List, [], ◌∷◌, length, take, drop, nat_eq, nat_lt, slice_index_or, if◌then◌else◌, Result, Ok, Err, Option, Some, None, is_some, ◌*◌}
 use Rattle.std.specs.List.{All}
 use Rattle.aho_core.specs.Held.{held_after}
 use Rattle.aho_core.specs.Numbers.{greatest_index}
@@ -81,6 +81,17 @@ child_of (key ∷ next ∷ moves) byte = if nat_eq key byte then Some next else 
 -- the transitions of a deep state
 abbrev pub moves_in : Layout → ℕ → List ℕ
 moves_in t sid = take (record_word t sid 4) (drop (record_word t sid 3) t.moves)
+
+-- their bytes rise
+abbrev pub AreRisingMoves : List ℕ → Type 0
+AreRisingMoves moves = (i j : ℕ) → i < j → 2 * j + 1 < length moves → slice_index_or moves (2 * i) 0 < slice_index_or moves (2 * j) 0
+
+-- those of a byte stand from one place on and before another
+pub record IsAmong (moves : List ℕ) (byte low high : ℕ) : Type 0 where
+  pub ordered : low ≤ high
+  pub within : 2 * high ≤ length moves
+  pub before : (i : ℕ) → i < low → slice_index_or moves (2 * i) 0 ≢ byte
+  pub behind : (i : ℕ) → high ≤ i → 2 * i + 1 < length moves → slice_index_or moves (2 * i) 0 ≢ byte
 
 abbrev pub child_in : Layout → ℕ → ℕ → Option ℕ
 child_in t sid byte = child_of (moves_in t sid) byte
@@ -165,9 +176,11 @@ pub record IsSoundRows (t : Layout) : Type 0 where
   pub dead_marked : 0 < t.list_low
   pub marked_special : t.list_low ≤ t.low
 
--- a transition of a deep state leads to a state, one deeper at most; a link is followed only to one less deep
+-- the transitions of a deep state rise by their bytes; one leads to a state, one deeper at most; a link is followed only to one less
+-- deep
 pub record IsSoundDeep (t : Layout) : Type 0 where
   pub moves : (sid : ℕ) → IsDeep t sid → record_word t sid 3 + record_word t sid 4 ≤ length t.moves
+  pub rising : (sid : ℕ) → IsDeep t sid → AreRisingMoves (moves_in t sid)
   pub next : (sid byte next : ℕ) → IsDeep t sid → byte < 256 → child_in t sid byte ≡ Some next → IsStateIn t next × (depth_below_rows t next ≤ depth_below_rows t sid + 1)
   pub link : (sid byte : ℕ) → IsDeep t sid → byte < 256 → child_in t sid byte ≡ None → IsStateIn t (link_in t sid) × (depth_below_rows t (link_in t sid) < depth_below_rows t sid)
 

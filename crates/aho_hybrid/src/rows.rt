@@ -1,9 +1,9 @@
 //! The states of a `Hybrid`. Those near the start have rows: an entry for each class of bytes, so that a step is one look,
 //! and one more for the state's list. Deeper ones have records: a link, and a transition for each byte that they take.
 
-ghost use Rattle.std.specs.Prelude.{◌≡◌, ◌+◌, ◌*◌, ◌<◌, ◌≤◌, ◌^◌, length, nat_lt, slice_get, take, drop, Some, IfOk};
+ghost use Rattle.std.specs.Prelude.{◌≡◌, ◌+◌, ◌*◌, ◌/◌, ◌<◌, ◌≤◌, ◌^◌, length, nat_lt, slice_get, take, drop, Some, IfOk};
 ghost use Rattle.aho_core.specs.Numbers.{greatest_index};
-ghost use Rattle.aho_hybrid.specs.Layout.{HasRow, IsDeep, IsSoundLayout, IsStateIn, child_in, child_of, depth_below_rows, link_in, next_state_in, list_in, list_place, looks_in, is_marked_number, is_special_number, entry_in, record_size, record_word};
+ghost use Rattle.aho_hybrid.specs.Layout.{AreRisingMoves, HasRow, IsAmong, IsDeep, IsSoundLayout, IsStateIn, child_in, child_of, depth_below_rows, link_in, next_state_in, list_in, list_place, looks_in, is_marked_number, is_special_number, entry_in, record_size, record_word};
 
 use aho_core::search::{PatternID, SmallIndex, StateID, Work};
 use aho_table::alphabet::ByteClasses;
@@ -236,15 +236,81 @@ fn add_looks(work: &mut Work, looks: u128)
     }
 }
 
-/// Where the first of these transitions for the byte leads: they are bytes, each with the state behind it.
+/// So many transitions are looked through one by one.
+const FEW: usize = 4;
+
+/// Where the transition for the byte leads, of transitions that rise by their bytes: each is a byte, with the state behind it.
 #[inline(always)]
 fn child_of(moves: &[SmallIndex], byte: u8) -> Option<StateID>
+    requires rising { AreRisingMoves moves.now }
     ensures child { result ≡ child_of moves.now byte }
 {
-    for index in 0..moves.len() / 2 {
+    let (low, high) = narrowed(moves, byte);
+    for index in low..high {
         if moves[2 * index].as_usize() == byte as usize {
             return Some(StateID::new_unchecked(moves[2 * index + 1].as_usize()));
         }
     }
     None
+}
+
+/// From which transition on to before which one that for the byte stands, if there is one: a few.
+#[inline(always)]
+fn narrowed(moves: &[SmallIndex], byte: u8) -> (usize, usize)
+    requires rising { AreRisingMoves moves.now }
+    ensures among { IsAmong moves.now byte result.0 result.1 }
+{
+    let count = moves.len() / 2;
+    if count <= FEW {
+        return (0, count);
+    }
+    let (low, high) = between(moves, byte, count);
+    halved(moves, byte, low, high)
+}
+
+/// By the first byte and the last one. As no two are the same, each lies at least as far from these as its place does.
+#[inline(always)]
+fn between(moves: &[SmallIndex], byte: u8, count: usize) -> (usize, usize)
+    requires rising { AreRisingMoves moves.now }
+    requires some { 0 < count }
+    requires all { count ≡ length moves.now / 2 }
+    ensures among { IsAmong moves.now byte result.0 result.1 }
+{
+    let byte = byte as usize;
+    let first = moves[0].as_usize();
+    let last = moves[2 * (count - 1)].as_usize();
+    if byte < first || last < byte {
+        return (0, 0);
+    }
+    let low = if last - byte < count - 1 {
+        count - 1 - (last - byte)
+    } else {
+        0
+    };
+    let high = if byte - first < count {
+        byte - first + 1
+    } else {
+        count
+    };
+    (low, high)
+}
+
+/// Half of them, again and again, down to a few.
+#[inline(always)]
+fn halved(moves: &[SmallIndex], byte: u8, from: usize, to: usize) -> (usize, usize)
+    requires rising { AreRisingMoves moves.now }
+    requires among { IsAmong moves.now byte from to }
+    ensures among { IsAmong moves.now byte result.0 result.1 }
+{
+    let mut low = from;
+    let mut high = to;
+    while high - low > FEW {
+        let middle = low + (high - low) / 2;
+        if moves[2 * middle].as_usize() <= byte as usize {
+            low = middle;
+        } else {
+            high = middle;
+        }
+    }
+    (low, high)
 }

@@ -1,11 +1,13 @@
 -- How pushes and the end keep what is known of how far a search of a stream has come, and what is found in what was pushed.
-use Rattle.std.proofs.Common.{◌≡◌, ℕ, ◌+◌, ◌≤◌, Bool, true, false, List, [], ◌++◌, refl, sym, subst, arith, append-nil}
-use Rattle.std.specs.Prelude.{None}
+use Rattle.std.proofs.Common.{◌≡◌, ap, length, ℕ, ◌+◌, ◌≤◌, Bool, true, false, List, [], ◌++◌, refl, sym, subst, arith, append-nil, length-append}
+use Rattle.std.specs.Prelude.{IfSome, None, Option, Some}
 use Rattle.aho_core.specs.Patterns.{Patterns}
 use Rattle.aho_core.specs.declared.search.MatchKind.TheVariants.{Standard}
 use Rattle.aho_automaton.specs.declared.automaton.Automaton.{Ghosts}
 use Rattle.aho_stream.specs.After.{IsAfter, MayFollow}
-use Rattle.aho_stream.specs.Pushing.{Adds, Pushes}
+use Rattle.aho_stream.specs.Chunks.{TellsChunk}
+use Rattle.aho_stream.specs.Pushing.{Adds, HoldsTold, Pushes, TellsNoneYet, TellsOfGiven}
+use Rattle.aho_stream.specs.declared.progress.StreamPiece.{StreamPiece}
 use Rattle.aho_stream.specs.declared.progress.StreamProgress.{StreamProgress}
 use Rattle.aho_stream.proofs.Afters.{after_refilled, after_told, in_hand_same}
 
@@ -116,3 +118,18 @@ module _ {S : Type 0} (A : Ghosts S) (automaton : S) (p : Patterns) where
     refused = refl;
     limit = refl;
   }
+
+-- what a call tells, where it tells something or nothing yet
+pub tells_of_given : (p : Patterns) (s s' : StreamProgress) (given : List ℕ) (piece : Option StreamPiece) → (piece ≡ None → TellsNoneYet p s s' given) → IfSome piece (TellsChunk p s s' given)
+    → TellsOfGiven p s s' given piece
+tells_of_given p s s' given None none some = none refl
+tells_of_given p s s' given (Some piece) none some = some
+
+-- a search under way holds its last chunk
+pub holds_told : {S : Type 0} (A : Ghosts S) (automaton : S) (p : Patterns) (lookups : ℕ) (s : StreamProgress) (given : List ℕ) → IsAfter A automaton p lookups s given → HoldsTold s
+holds_told A automaton p lookups s given a = record {
+  ordered = a.told_reported;
+  given = omega (arith, a.reported_walked, a.walked_read);
+  held = a.kept;
+  whole = omega (arith, a.count, ap length a.last.1, length-append a.last.0 s.buffer.bytes);
+}

@@ -5,8 +5,9 @@ use Rattle.aho_core.specs.Occurrence.{Occurrence}
 use Rattle.aho_core.specs.Patterns.{Patterns}
 use Rattle.aho_automaton.specs.declared.automaton.Automaton.{Ghosts}
 use Rattle.aho_stream.specs.After.{EndsWith, IsAfter, IsUnsettled, search_from}
-use Rattle.aho_stream.specs.Chunks.{NoneSettled}
+use Rattle.aho_stream.specs.Chunks.{NoneSettled, TellsChunk}
 use Rattle.aho_stream.specs.Finds.{FindsMatch}
+use Rattle.aho_stream.specs.declared.progress.StreamPiece.{StreamPiece}
 use Rattle.aho_stream.specs.declared.progress.StreamProgress.{StreamProgress}
 
 -- all that was given was searched through: no match in hand is settled, and the last bytes alone have to be kept
@@ -49,3 +50,26 @@ FindsNow p s s' given (Some m) = FindsMatch p s s' given m
 abbrev pub FindsInGiven : {S : Type 0} → Ghosts S → S → ℕ → StreamProgress → StreamProgress → Option Occurrence → Type 0
 FindsInGiven A automaton lookups s s' found = (p : Patterns) (given : List ℕ) → A.is_of automaton p
     → IsAfter A automaton p lookups s given → FindsNow p s s' given found
+
+-- no chunk is left of these bytes that may be told already, and where the stream has ended all of them were told
+pub record TellsNoneYet (p : Patterns) (s s' : StreamProgress) (given : List ℕ) : Type 0 where
+  pub finds : FindsNoneYet p s s' given
+  pub reported : s'.reported ≡ s.reported
+  pub all : s'.ended ≡ true → s'.reported ≡ length given
+
+-- what is told next of these bytes, whatever follows
+abbrev pub TellsOfGiven : Patterns → StreamProgress → StreamProgress → List ℕ → Option StreamPiece → Type 0
+TellsOfGiven p s s' given None = TellsNoneYet p s s' given
+TellsOfGiven p s s' given (Some piece) = TellsChunk p s s' given piece
+
+-- so it is for all patterns of the automaton and all bytes that were given
+abbrev pub TellsInGiven : {S : Type 0} → Ghosts S → S → ℕ → StreamProgress → StreamProgress → Option StreamPiece → Type 0
+TellsInGiven A automaton lookups s s' piece = (p : Patterns) (given : List ℕ) → A.is_of automaton p
+    → IsAfter A automaton p lookups s given → TellsOfGiven p s s' given piece
+
+-- the buffer holds the last chunk
+pub record HoldsTold (s : StreamProgress) : Type 0 where
+  pub ordered : s.told ≤ s.reported
+  pub given : s.reported ≤ s.read
+  pub held : s.read ≤ s.told + length s.buffer.bytes
+  pub whole : length s.buffer.bytes ≤ s.read

@@ -2,12 +2,12 @@
 //! what gives the bytes: the caller pushes bytes when it has some, asks for the matches that are settled by them, and says when the
 //! stream has ended.
 
-ghost use Rattle.std.specs.Prelude.{◌≡◌, ◌-◌, ◌<◌, ◌≤◌, None, false, length, take, true};
-ghost use Rattle.aho_stream.specs.After.{IsUnderWay, StaysAfter};
-ghost use Rattle.aho_stream.specs.Pushing.{Adds, FindsInGiven, IsSearched, Pushes};
+ghost use Rattle.std.specs.Prelude.{◌≡◌, ◌-◌, ◌<◌, ◌≤◌, None, false, length, slice_range, take, true};
+ghost use Rattle.aho_stream.specs.After.{ForGiven, IsUnderWay, StaysAfter};
+ghost use Rattle.aho_stream.specs.Pushing.{Adds, FindsInGiven, HoldsTold, IsSearched, Pushes, TellsInGiven};
 
 use crate::pieces::next_piece;
-use crate::progress::{StreamProgress, make_room};
+use crate::progress::{StreamPiece, StreamProgress, make_room};
 use crate::settle::is_settled;
 use aho_automaton::automaton::Automaton;
 use aho_automaton::patience::PATIENCE;
@@ -49,6 +49,22 @@ fn next_found<W: Walk>(walk: &mut W, progress: &mut StreamProgress) -> Option<Ma
         }
     }
     None
+}
+
+/// The next chunk of the bytes given so far, once no byte that follows can change it.
+fn next_told<W: Walk>(walk: &mut W, progress: &mut StreamProgress) -> Option<StreamPiece>
+    requires after { IsUnderWay W.Of.Automaton (W.of walk.old) (W.lookups walk.old) progress.old }
+    requires open { progress.old.refused ≡ false }
+    ensures after { StaysAfter W.Of.Automaton (W.of walk.old)
+        (W.lookups walk.old) progress.old (W.lookups walk.new) progress.new }
+    ensures tells { TellsInGiven W.Of.Automaton (W.of walk.old)
+        (W.lookups walk.old) progress.old progress.new result }
+    ensures searched { result ≡ None → IsSearched W.Of.Automaton (W.of walk.old) progress.new }
+    ensures ended { progress.new.ended ≡ progress.old.ended }
+    ensures open { progress.new.refused ≡ false }
+    ensures limit { progress.new.limit ≡ progress.old.limit }
+{
+    next_piece(walk, progress)
 }
 
 impl StreamProgress {
@@ -101,6 +117,13 @@ impl StreamProgress {
         self.limit.saturating_sub(self.read)
     }
 
+    /// How many of the bytes given were not told yet: no chunk that `next_chunk` tells next is longer, but for a match.
+    pub fn bytes_untold(&self) -> u64
+        ensures untold { result ≡ self.now.read - self.now.reported }
+    {
+        self.read.saturating_sub(self.reported)
+    }
+
     /// Says that the stream has ended: no bytes follow those that were given.
     pub fn end(&mut self)
         ensures ended { self.new ≡ record self.old { ended = true } }
@@ -121,5 +144,29 @@ impl StreamProgress {
         ensures limit { self.new.limit ≡ self.old.limit }
     {
         next_found(&mut Counted::new(automaton), self)
+    }
+
+    /// The next chunk of the bytes given so far, whose bytes `bytes_told` then lends: a match as `next_match` finds it, or the bytes
+    /// before it, outside of every match. None where more bytes are needed, or where none is left. So with a text for each match,
+    /// the chunks are the replacement of what is pushed. A chunk is at most as long as the buffer.
+    pub fn next_chunk<A: Automaton>(&mut self, automaton: &A) -> Option<StreamPiece>
+        requires after { IsUnderWay A.Automaton automaton.now 0 self.old }
+        requires open { self.old.refused ≡ false }
+        ensures after { StaysAfter A.Automaton automaton.now 0 self.old 0 self.new }
+        ensures tells { TellsInGiven A.Automaton automaton.now 0 self.old self.new result }
+        ensures searched { result ≡ None → IsSearched A.Automaton automaton.now self.new }
+        ensures ended { self.new.ended ≡ self.old.ended }
+        ensures open { self.new.refused ≡ false }
+        ensures limit { self.new.limit ≡ self.old.limit }
+    {
+        next_told(&mut Counted::new(automaton), self)
+    }
+
+    /// The bytes of the chunk that the last call of `next_chunk` told, until bytes are pushed.
+    pub fn bytes_told(&self) -> &[u8]
+        requires holds { HoldsTold self.now }
+        ensures bytes { ForGiven self.now (λ given. result.now ≡ slice_range given self.now.told self.now.reported) }
+    {
+        self.bytes(self.told, self.reported)
     }
 }

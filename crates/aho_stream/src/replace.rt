@@ -24,8 +24,9 @@ use aho_devices::device::{Sink, Source};
 use aho_devices::write::write_whole;
 use std::alloc::Global;
 
-/// What is written for a chunk: its bytes, or the piece of its match.
-fn bytes_for<'b>(piece: &StreamPiece, bytes: &'b [u8], replace_with: &[&'b [u8]]) -> &'b [u8]
+/// What is written for a chunk where matches are replaced: its bytes, or the bytes for the pattern of its match; none where there are
+/// none for it.
+pub fn bytes_for<'b>(piece: &StreamPiece, bytes: &'b [u8], replace_with: &[&'b [u8]]) -> &'b [u8]
     ensures bytes { result.now ≡ chunk_bytes piece.now bytes.now (pieces_of replace_with.now) }
 {
     match piece {
