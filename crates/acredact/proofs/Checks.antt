@@ -61,7 +61,7 @@ module _ (quest : Quest) (name : List ℕ) where
 look_are : (name : List ℕ) (names : List (List ℕ)) (look : Look) → IsAmong name names → All (IsUnreadLine names) (look_lines name look)
 look_are name names Clean among = All-nil (IsUnreadLine names)
 look_are name names Found among = All-nil (IsUnreadLine names)
-look_are name names (Unread reason) among = All-cons (IsUnreadLine names) (unread_line name reason) [] (name, reason, among, refl) (All-nil (IsUnreadLine names))
+look_are name names (Unread reason) among = All-cons (IsUnreadLine names) (unread_line name reason) [] (name, among, inl (reason, refl)) (All-nil (IsUnreadLine names))
 
 none_more : (lines : List (List ℕ)) (name : List ℕ) (look : Look) (all : Bool) → all ≡ are_none lines → (all && not (is_unread_look look)) ≡ are_none (lines ++ look_lines name look)
 none_more [] name Clean all is = ap (λ (b : Bool). b && true) is

@@ -59,7 +59,7 @@ fn main(rt: HostRuntime) -> ExitCode {
                 output: FromWrite::new(output),
                 errors,
             };
-            exit_code(rt.alloc(), given, &Host { rt: &rt }, &mut streams)
+            exit_code(rt.alloc(), given, &Host::new(&rt), &mut streams)
         }
         Err(_) => ExitCode::from(refuse(Failure::OutOfMemory, &mut errors)),
     }
