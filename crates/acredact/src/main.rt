@@ -23,7 +23,7 @@ mod run;
 mod streams;
 mod ways;
 
-ghost use Rattle.std.specs.Prelude.{◌≡◌, ◌⊎◌, IfErr, IfOk, true};
+ghost use Rattle.std.specs.Prelude.{◌≡◌, ◌≤◌, IfErr, IfOk, true};
 ghost use Rattle.std.specs.Process.{exit_status};
 ghost use Rattle.programs.specs.Telling.{TellsSome};
 ghost use Rattle.acredact.specs.Arguments.{AreMistaken, IfAsked, IfChecking, IsCheck, RefusesUnclean};
@@ -90,8 +90,8 @@ fn exit_code<F: Folder, I: Read, W: Write, E: Sink>(
         exit_status result ≡ 1 → MatchedAsked F.Folder folder.now given streams.old streams.new)) }
     ensures flushed { IfOk given (λ arguments. (IsCheck arguments.items → ⊥)
         → exit_status result ≡ 0 → streams.new.output.device.flushed ≡ true) }
-    ensures bound { (exit_status result ≡ 0) ⊎ ((exit_status result ≡ 2)
-        ⊎ ((exit_status result ≡ 1) × IfOk given (λ arguments. IsCheck arguments.items))) }
+    ensures bound { exit_status result ≤ 2 }
+    ensures one { exit_status result ≡ 1 → IfOk given (λ arguments. IsCheck arguments.items) }
 {
     let status = match given {
         Ok(arguments) => run(alloc, arguments.as_slice(), folder, streams),
