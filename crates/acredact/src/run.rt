@@ -6,7 +6,7 @@ ghost use Rattle.programs.specs.Arguments.{texts};
 ghost use Rattle.programs.specs.Names.{name_bytes};
 ghost use Rattle.programs.specs.Streams.{WritesBytes};
 ghost use Rattle.programs.specs.Telling.{Tells, TellsBytes, TellsSome};
-ghost use Rattle.acredact.specs.Arguments.{AreMistaken, AsksToRedact, GivesNoPattern, IfAsked, IfChecking, IsCheck, RefusesUnclean, all_given, checks_asked, has};
+ghost use Rattle.acredact.specs.Arguments.{AreMistaken, AsksToRedact, GivesNoPattern, IfAsked, IfChecking, IfNoCheck, IsCheck, RefusesUnclean, all_given, checks_asked, has};
 ghost use Rattle.acredact.specs.Calls.{AskedOutcome, BeginsAsked, CountsAsked, IsCountsFailure, IsCountsLine, IsPrintFailure, IsRefusedLine, IsWrongLine, LeavesNoneAsked, LoadedOutcome, OutputFails, RedactsAsked, TellsAsked, TellsCounts, WarnedJob, WarnedOutcome, WarnsAsked, call_of, gives_pattern, names_asked, text_asked, work_by};
 ghost use Rattle.acredact.specs.Checks.{MatchedAsked, SaysOfCheck, TellsUncheckedAsked, UnmatchedAsked};
 ghost use Rattle.acredact.specs.Failures.{IsFailureLine};
@@ -129,8 +129,8 @@ pub fn run<F: Folder, I: Read, W: Write, E: Sink>(
         streams.new.output ≡ streams.old.output) }
 
     // All output was flushed where the status tells of no failure. A check has none, and it alone ends with status 1.
-    ensures flushed { (IsCheck arguments.now → ⊥) → result ≡ 0
-        → streams.new.output.device.flushed ≡ true }
+    ensures flushed { IfNoCheck arguments.now (result ≡ 0
+        → streams.new.output.device.flushed ≡ true) }
     ensures bound { result ≤ 2 }
     ensures one { result ≡ 1 → IsCheck arguments.now }
 {
