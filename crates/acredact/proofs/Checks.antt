@@ -18,9 +18,9 @@ use Rattle.acredact.specs.Failures.{IsFailureLine}
 use Rattle.acredact.specs.Faults.{IsReadReason}
 use Rattle.acredact.specs.Files.{are_none, unread_line}
 use Rattle.acredact.specs.Loading.{AreGiven}
-use Rattle.acredact.specs.Looks.{IsLook, IsUnmatched, is_found, is_unread_look, verdict_with}
+use Rattle.acredact.specs.Looks.{IsLook, HoldsNoMatch, is_found, is_unread_look, verdict_with}
 use Rattle.acredact.specs.Reads.{OfName}
-use Rattle.acredact.specs.Statuses.{status_by}
+use Rattle.acredact.specs.Statuses.{check_status}
 use Rattle.acredact.specs.Tables.{Secret}
 use Rattle.acredact.specs.declared.failure.Failure.{Failure}
 use Rattle.acredact.specs.declared.look.Look.{Look}
@@ -61,7 +61,7 @@ module _ (quest : Quest) (name : List ℕ) where
 look_are : (name : List ℕ) (names : List (List ℕ)) (look : Look) → IsAmong name names → All (IsUnreadLine names) (look_lines name look)
 look_are name names Clean among = All-nil (IsUnreadLine names)
 look_are name names Found among = All-nil (IsUnreadLine names)
-look_are name names (Unread reason) among = All-cons (IsUnreadLine names) (unread_line name reason) [] (name, reason, among, refl) (All-nil (IsUnreadLine names))
+look_are name names (Unread reason) among = All-cons (IsUnreadLine names) (unread_line name reason) [] (name, among, inl (reason, refl)) (All-nil (IsUnreadLine names))
 
 none_more : (lines : List (List ℕ)) (name : List ℕ) (look : Look) (all : Bool) → all ≡ are_none lines → (all && not (is_unread_look look)) ≡ are_none (lines ++ look_lines name look)
 none_more [] name Clean all is = ap (λ (b : Bool). b && true) is
@@ -166,7 +166,7 @@ none_told : (xs ys : List (List ℕ)) → [] ≡ xs ++ ys → (xs ≡ []) × (ys
 none_told [] ys is = (refl, sym is)
 none_told (x ∷ xs) ys is = absurd (cc)
 
-is_clean : (quest : Quest) (name : List ℕ) (look : Look) (left left' : Option (List ℕ)) → is_found look ≡ false → look_lines name look ≡ [] → IsLookOf quest name look left left' → OfName quest.holds name (IsUnmatched quest.patterns) left left'
+is_clean : (quest : Quest) (name : List ℕ) (look : Look) (left left' : Option (List ℕ)) → is_found look ≡ false → look_lines name look ≡ [] → IsLookOf quest name look left left' → OfName quest.holds name (HoldsNoMatch quest.patterns) left left'
 is_clean quest name Clean left left' found told looks = looks
 is_clean quest name Found left left' found told looks = absurd (cc)
 is_clean quest name (Unread reason) left left' found told looks = absurd (cc)
@@ -208,7 +208,7 @@ module _ {E : Type 0} (K : SinkGhosts E) (call : Call) (left left' : Option (Lis
   pub check_refused : (failure : Failure) → CheckFails call failure → CheckOutcome K call (Err failure) left left' old old
   check_refused failure fails = record { seen = tt; quiet = tt; told = tells_same K (IsUnreadLine (names_asked call.given)) old old refl; fails = fails }
 
-  status_whole : (found : Bool) (new : Errors E) → CheckOutcome K call (Ok (record { found = found; all = true })) left left' old new → CheckStatus K call (status_by (record { found = found; all = true })) left left' old new
+  status_whole : (found : Bool) (new : Errors E) → CheckOutcome K call (Ok (record { found = found; all = true })) left left' old new → CheckStatus K call (check_status (record { found = found; all = true })) left left' old new
   status_whole true new of =
       let (lines, is_all, sees, told) = of.seen in
       record {
@@ -229,10 +229,10 @@ module _ {E : Type 0} (K : SinkGhosts E) (call : Call) (left left' : Option (Lis
       }
 
   -- its status where it came to its end
-  pub status_seen : (verdict : Verdict) (new : Errors E) → CheckOutcome K call (Ok verdict) left left' old new → CheckStatus K call (status_by verdict) left left' old new
+  pub status_seen : (verdict : Verdict) (new : Errors E) → CheckOutcome K call (Ok verdict) left left' old new → CheckStatus K call (check_status verdict) left left' old new
   status_seen verdict new of = by verdict.found verdict.all of
     where
-      by : (found all : Bool) → CheckOutcome K call (Ok (record { found = found; all = all })) left left' old new → CheckStatus K call (status_by (record { found = found; all = all })) left left' old new
+      by : (found all : Bool) → CheckOutcome K call (Ok (record { found = found; all = all })) left left' old new → CheckStatus K call (check_status (record { found = found; all = all })) left left' old new
       by found true of = status_whole found new of
       by found false of =
           let (lines, is_all, sees, told) = of.seen in

@@ -1,6 +1,6 @@
 -- What the exit status says, by what is answered.
 use Rattle.std.proofs.Common.{◌≡◌, inl, inr, ℕ, ◌≤◌, List, true, false, refl, sym, ap, subst, ◌∙◌, arith}
-use Rattle.std.specs.Prelude.{Bool, ◌⊎◌, ◌&&◌, not, zero, suc, Ok, Err}
+use Rattle.std.specs.Prelude.{Bool, ◌⊎◌, ◌&&◌, not, Ok, Err}
 use Rattle.std.proofs.lemmas.List.Elements.{All-nil}
 use Rattle.std.specs.declared.io.traits.Read.{Ghosts as Readers}
 use Rattle.std.specs.declared.io.traits.Write.{Ghosts as Writers}
@@ -53,24 +53,22 @@ by_checks {P} given yes no = by (checks_asked given) refl
     by true is = yes (checks_of given is)
     by false is = no is
 
-three : (status : ℕ) → status ≤ 2 → (status ≡ 0) ⊎ ((status ≡ 2) ⊎ (status ≡ 1))
-three zero less = inl refl
-three (suc zero) less = inr (inr refl)
-three (suc (suc zero)) less = inr (inl refl)
-three (suc (suc (suc n))) less = absurd (omega arith)
-
--- the only statuses are these
-pub bound_by : (given : List Given) (status : ℕ) → (AsksToCheck given → status ≤ 2) → (checks_asked given ≡ false → (status ≡ 0) ⊎ (status ≡ 2)) → (status ≡ 0) ⊎ ((status ≡ 2) ⊎ ((status ≡ 1) × AsksToCheck given))
+-- the greatest status is 2
+pub bound_by : (given : List Given) (status : ℕ) → (AsksToCheck given → status ≤ 2) → (checks_asked given ≡ false → (status ≡ 0) ⊎ (status ≡ 2)) → status ≤ 2
 bound_by given status checked redacted =
-    by_checks {P = (status ≡ 0) ⊎ ((status ≡ 2) ⊎ ((status ≡ 1) × AsksToCheck given))} given
-    (λ asks. elim (three status (checked asks)) [
-      | inl zero ↦ inl zero
-      | inr (inl two) ↦ inr (inl two)
-      | inr (inr one) ↦ inr (inr (one, asks))
-    ])
+    by_checks {P = status ≤ 2} given checked
     (λ none. elim (redacted none) [
-      | inl zero ↦ inl zero
-      | inr two ↦ inr (inl two)
+      | inl zero ↦ omega (arith, zero)
+      | inr two ↦ omega (arith, two)
+    ])
+
+-- and a check alone has status 1
+pub one_by : (given : List Given) (status : ℕ) → (checks_asked given ≡ false → (status ≡ 0) ⊎ (status ≡ 2)) → status ≡ 1 → AsksToCheck given
+one_by given status redacted one =
+    by_checks {P = AsksToCheck given} given (λ asks. asks)
+    (λ none. elim (redacted none) [
+      | inl zero ↦ absurd (omega (arith, zero, one))
+      | inr two ↦ absurd (omega (arith, two, one))
     ])
 
 -- what is flushed is so but by a check

@@ -263,6 +263,10 @@ IfChecking arguments Holds = (given : List Given) → all_asked (texts arguments
 abbrev pub IsCheck : {Z : Type 0} → List (String Z) → Type 0
 IsCheck arguments = (given : List Given) × (all_asked (texts arguments) ≡ Some given) × AsksToCheck given
 
+-- what holds where they do not
+abbrev pub IfNoCheck : {Z : Type 0} → List (String Z) → Type 0 → Type 0
+IfNoCheck arguments Holds = (IsCheck arguments → ⊥) → Holds
+
 -- the arguments are wrong
 abbrev pub AreMistaken : {Z : Type 0} → List (String Z) → Type 0
 AreMistaken arguments = all_asked (texts arguments) ≡ None

@@ -4,29 +4,33 @@ use Rattle.std.specs.List.{All, concat}
 use Rattle.std.specs.declared.io.traits.Read.{Ghosts as Readers}
 use Rattle.aho_core.specs.Patterns.{Patterns}
 use Rattle.aho_core.specs.declared.error.BuildError.{BuildError}
+use Rattle.aho_devices.specs.declared.adapters.FromRead.{FromRead}
 use Rattle.aho_devices.specs.declared.device.Sink.{Ghosts as SinkGhosts}
+use Rattle.programs.specs.Names.{name_bytes}
 use Rattle.programs.specs.Streams.{bytes_left}
 use Rattle.programs.specs.Telling.{Tells, TellsBytes}
 use Rattle.programs.specs.declared.errors.Errors.{Errors}
 use Rattle.programs.specs.declared.failure.Failure.TheVariants.{Build, OutOfMemory}
 use Rattle.programs.specs.declared.reason.Reason.{Reason}
-use Rattle.acredact.specs.Arguments.{Given, GivesNoPattern}
+use Rattle.acredact.specs.Arguments.{AsksToCheck, Given, GivesNoPattern}
 use Rattle.acredact.specs.Builds.{patterns_by_given}
 use Rattle.acredact.specs.Calls.{Call, IsUnreadLine, call_of, gives_pattern, names_asked, reading_by}
 use Rattle.acredact.specs.Failures.{IsFailureLine}
 use Rattle.acredact.specs.Faults.{IsReadReason}
 use Rattle.acredact.specs.Files.{are_none, unread_line}
 use Rattle.acredact.specs.Loading.{AreGiven, CannotLoadOne}
-use Rattle.acredact.specs.Looks.{IsLook, IsUnmatched, is_found}
+use Rattle.acredact.specs.Looks.{IsLook, HoldsNoMatch, is_found}
 use Rattle.acredact.specs.Reads.{OfName}
-use Rattle.acredact.specs.Tables.{Secret, patterns_in}
+use Rattle.acredact.specs.Tables.{Secret, patterns_in, secrets_of}
 use Rattle.acredact.specs.declared.arguments.Mistake.TheVariants.{NoPattern, OutOfMemory as NoRoom}
 use Rattle.acredact.specs.declared.failure.Failure.{Failure}
 use Rattle.acredact.specs.declared.failure.Failure.TheVariants.{Arguments, Other}
 use Rattle.acredact.specs.declared.folder.Folder.{Ghosts as Folders}
 use Rattle.acredact.specs.declared.look.Look.{Look}
 use Rattle.acredact.specs.declared.look.Look.TheVariants.{Clean, Found, Unread}
+use Rattle.acredact.specs.declared.look.Searched.{Searched}
 use Rattle.acredact.specs.declared.look.Verdict.{Verdict}
+use Rattle.acredact.specs.declared.patterns.Rule.{Rule}
 use Rattle.acredact.specs.declared.streams.Streams.{Streams}
 
 -- what is looked for, what the folder holds under a name, where it tells that, and why it may not open what has the name
@@ -62,7 +66,7 @@ AreSeen quest (name ∷ names) found lines left left' =
 abbrev pub AreUnmatched : Quest → List (List ℕ) → (left left' : Option (List ℕ)) → Type 0
 AreUnmatched quest [] left left' = left' ≡ left
 AreUnmatched quest (name ∷ names) left left' =
-    (between : Option (List ℕ)) × OfName quest.holds name (IsUnmatched quest.patterns) left between × AreUnmatched quest names between left'
+    (between : Option (List ℕ)) × OfName quest.holds name (HoldsNoMatch quest.patterns) left between × AreUnmatched quest names between left'
 
 -- of a call whose patterns were loaded each file was looked at so
 pub record SeesCall (call : Call) (found : Bool) (lines : List (List ℕ)) (left left' : Option (List ℕ)) : Type 0 where
@@ -130,10 +134,32 @@ module _ {E : Type 0} (K : SinkGhosts E) where
     pub tells : status ≡ 2 → TellsUnread call left left' errors errors' ⊎ TellsCheckEnd call errors errors'
     pub bound : status ≤ 2
 
+-- the same of the input, by what the folder and the options say
+module _ {E F Y R : Type 0} {Reads : Readers R} (K : SinkGhosts E) (D : Folders F Y) where
+  -- what comes of looking for patterns in some files
+  abbrev pub SeesSearched : {X : Type 0} → Searched F → Patterns → Result Verdict X → (input input' : FromRead R Reads) → (errors errors' : Errors E) → Type 0
+  SeesSearched files p result input input' errors errors' =
+      SeesFiles K (quest_of D files.folder.now p) (name_bytes files.names.now) result (bytes_left input) (bytes_left input') errors errors'
+
+  -- and for those of some rules in the files that are asked for
+  abbrev pub SeesRules : F → List Given → List Rule → Result Verdict Failure → (input input' : FromRead R Reads) → (errors errors' : Errors E) → Type 0
+  SeesRules folder given rules result input input' errors errors' =
+      SeesFiles K (quest_by (call_of D folder given) (secrets_of rules)) (names_asked given) result (bytes_left input) (bytes_left input') errors errors'
+
+  abbrev pub ChecksGiven : F → List Given → Result Verdict Failure → (input input' : FromRead R Reads) → (errors errors' : Errors E) → Type 0
+  ChecksGiven folder given result input input' errors errors' = CheckOutcome K (call_of D folder given) result (bytes_left input) (bytes_left input') errors errors'
+
+  abbrev pub EndsCheck : F → List Given → ℕ → (input input' : FromRead R Reads) → (errors errors' : Errors E) → Type 0
+  EndsCheck folder given status input input' errors errors' = CheckStatus K (call_of D folder given) status (bytes_left input) (bytes_left input') errors errors'
+
 -- the same of a call, which writes nothing
 pub record ChecksAlone {R W E : Type 0} {Reads : Readers R} (K : SinkGhosts E) (call : Call) (status : ℕ) (streams streams' : Streams R W E Reads) : Type 0 where
   pub says : CheckStatus K call status (bytes_left streams.input) (bytes_left streams'.input) streams.errors streams'.errors
   pub unwritten : streams'.output ≡ streams.output
+
+-- the same of one that asks for a check
+abbrev pub SaysOfCheck : {R W E F X : Type 0} {Reads : Readers R} → SinkGhosts E → Folders F X → F → List Given → ℕ → (streams streams' : Streams R W E Reads) → Type 0
+SaysOfCheck K D folder given status streams streams' = AsksToCheck given → ChecksAlone K (call_of D folder given) status streams streams'
 
 module _ {R W E F X : Type 0} {Reads : Readers R} (D : Folders F X) (folder : F) (given : List Given) (streams streams' : Streams R W E Reads) where
   -- of a call that asks for this each file was read to its end, and no pattern occurs in any

@@ -88,15 +88,15 @@ abbrev pub verdict_with : Verdict → Look → Verdict
 verdict_with verdict look = record { found = verdict.found || is_found look; all = verdict.all && not (is_unread_look look) }
 
 -- a text was read to its end, and no pattern occurs in it
-abbrev pub IsUnmatched : Patterns → (left left' : Option (List ℕ)) → Type 0
-IsUnmatched p left left' = (text : List ℕ) × ReadsText text left left' × NoneOccurs p text
+abbrev pub HoldsNoMatch : Patterns → (left left' : Option (List ℕ)) → Type 0
+HoldsNoMatch p left left' = (text : List ℕ) × ReadsText text left left' × NoneOccurs p text
 
 -- a text was read up to some place, and some pattern occurs in front of that
-abbrev pub IsMatched : Patterns → (left left' : Option (List ℕ)) → Type 0
-IsMatched p left left' = (given : List ℕ) × Consumes left left' given × SomeOccurs p given
+abbrev pub HoldsMatch : Patterns → (left left' : Option (List ℕ)) → Type 0
+HoldsMatch p left left' = (given : List ℕ) × Consumes left left' given × SomeOccurs p given
 
 -- what is so of a text that was found to be this; it may be told as unread for some reasons
 abbrev pub IsLook : Patterns → (MayBe : Reason → Type 0) → Look → (left left' : Option (List ℕ)) → Type 0
-IsLook p MayBe Clean left left' = IsUnmatched p left left'
-IsLook p MayBe Found left left' = IsMatched p left left'
+IsLook p MayBe Clean left left' = HoldsNoMatch p left left'
+IsLook p MayBe Found left left' = HoldsMatch p left left'
 IsLook p MayBe (Unread reason) left left' = MayBe reason × ((given : List ℕ) × Consumes left left' given)

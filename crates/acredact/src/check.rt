@@ -1,16 +1,12 @@
 //! A check: whether something would be replaced in files. It writes nothing but failures.
 
-ghost use Rattle.std.specs.Prelude.{◌≡◌, IfErr, IfOk, OnOk, OnErr, if◌then◌else◌};
-ghost use Rattle.programs.specs.Streams.{bytes_left};
+ghost use Rattle.std.specs.Prelude.{◌≡◌, IfErr, IfSome};
 ghost use Rattle.acredact.specs.Arguments.{all_given};
-ghost use Rattle.acredact.specs.Calls.{call_of, names_asked};
-ghost use Rattle.acredact.specs.Checks.{CheckOutcome, CheckStatus, IsBuildFailure, SeesFiles, quest_by, quest_of};
+ghost use Rattle.acredact.specs.Checks.{ChecksGiven, EndsCheck, IsBuildFailure, SeesRules, SeesSearched};
 ghost use Rattle.acredact.specs.Looks.{CanLook};
 ghost use Rattle.acredact.specs.Secrets.{IfOf};
-ghost use Rattle.acredact.specs.Statuses.{status_by};
+ghost use Rattle.acredact.specs.Statuses.{check_status};
 ghost use Rattle.acredact.specs.Tables.{HaveNoEmpty, secrets_of};
-ghost use Rattle.programs.specs.Names.{name_bytes};
-ghost use Rattle.std.specs.Prelude.{IfSome};
 
 use crate::arguments::{Item, Mistake, Word, has};
 use crate::failure::Failure;
@@ -40,8 +36,8 @@ pub fn check<F: Folder, I: Read, E: Sink>(
     input: &mut FromRead<I>,
     errors: &mut Errors<'_, E>,
 ) -> u8
-    ensures says { CheckStatus E.Sink (call_of F.Folder folder.now (all_given given.now)) result
-        (bytes_left input.old) (bytes_left input.new) errors.old errors.new }
+    ensures says { EndsCheck E.Sink F.Folder folder.now (all_given given.now) result
+        input.old input.new errors.old errors.new }
 {
     match check_given(alloc, given, folder, input, errors) {
         Ok(verdict) => status_of(verdict),
@@ -51,7 +47,7 @@ pub fn check<F: Folder, I: Read, E: Sink>(
 
 /// The exit status of what was seen.
 fn status_of(verdict: Verdict) -> u8
-    ensures status { result ≡ status_by verdict }
+    ensures status { result ≡ check_status verdict }
 {
     if !verdict.all {
         return FAILED;
@@ -67,8 +63,8 @@ fn check_given<'a, F: Folder, I: Read, E: Sink>(
     input: &mut FromRead<I>,
     errors: &mut Errors<'_, E>,
 ) -> Result<Verdict, Failure<'a>>
-    ensures outcome { CheckOutcome E.Sink (call_of F.Folder folder.now (all_given given.now)) result
-        (bytes_left input.old) (bytes_left input.new) errors.old errors.new }
+    ensures outcome { ChecksGiven E.Sink F.Folder folder.now (all_given given.now) result
+        input.old input.new errors.old errors.new }
 {
     if !gives_pattern(given) {
         return Err(Failure::Arguments(Mistake::NoPattern));
@@ -90,10 +86,8 @@ fn check_rules<'a, F: Folder, I: Read, E: Sink>(
     errors: &mut Errors<'_, E>,
 ) -> Result<Verdict, Failure<'a>>
     requires some { HaveNoEmpty (secrets_of rules.now) }
-    ensures sees { SeesFiles E.Sink
-        (quest_by (call_of F.Folder folder.now (all_given given.now)) (secrets_of rules.now))
-        (names_asked (all_given given.now)) result
-        (bytes_left input.old) (bytes_left input.new) errors.old errors.new }
+    ensures sees { SeesRules E.Sink F.Folder folder.now (all_given given.now) rules.now
+        result input.old input.new errors.old errors.new }
     ensures fails { IfErr result IsBuildFailure }
 {
     let patterns = patterns_of(alloc, rules)?;
@@ -120,8 +114,7 @@ fn look_by<A: Automaton, B: Automaton, F: Folder, I: Read, E: Sink>(
     requires ready { CanLook A.Automaton automaton.now }
     requires rows { IfSome rows (λ rows. CanLook B.Automaton rows.now) }
     ensures sees { IfOf A.Automaton automaton.now (λ p. IfSome rows.entry (λ rows. B.is_of rows.now p)
-        → SeesFiles E.Sink (quest_of F.Folder files.now.folder.now p) (name_bytes files.now.names.now)
-        result (bytes_left input.old) (bytes_left input.new) errors.old errors.new) }
+        → SeesSearched E.Sink F.Folder files.now p result input.old input.new errors.old errors.new) }
 {
     match rows {
         Some(automaton) => look_at_files(automaton, files, input, errors),

@@ -5,7 +5,7 @@ ghost use Rattle.programs.specs.Messages.{reason_text};
 ghost use Rattle.programs.specs.Telling.{TellsBytes};
 ghost use Rattle.acredact.specs.Failures.{IsFailureLine, IsOtherLine, bad_line, is_of_output};
 ghost use Rattle.acredact.specs.LineFaults.{line_fault_text};
-ghost use Rattle.acredact.specs.Messages.{alone, flaw_text, line_about, piece_line, told_line, unclean_line};
+ghost use Rattle.acredact.specs.Messages.{alone, flaw_text, line_about, output_line, piece_line, told_line, unclean_line};
 ghost use Rattle.acredact.specs.Mistakes.{mistake_message, mixture_text};
 ghost use Rattle.acredact.specs.declared.clean.Flaw.TheVariants.{Empty, Spells};
 
@@ -97,6 +97,13 @@ pub fn tell_unread<E: Sink>(errors: &mut Errors<'_, E>, name: &str, reason: Reas
     ensures told { TellsBytes E.Sink errors.old errors.new (line_about name.now (reason_text reason)) }
 {
     tell_about(errors, name, reason.text())
+}
+
+/// Tells as a line that the output goes to a file that is to be read.
+pub fn tell_output<E: Sink>(errors: &mut Errors<'_, E>, name: &str)
+    ensures told { TellsBytes E.Sink errors.old errors.new (output_line name.now) }
+{
+    tell_about(errors, name, "input file is also the output");
 }
 
 /// Tells as a line what is wrong with something, and why.

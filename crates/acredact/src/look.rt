@@ -6,10 +6,9 @@ ghost use Rattle.aho_core.specs.Patterns.{Patterns};
 ghost use Rattle.aho_devices.specs.Counts.{counted};
 ghost use Rattle.aho_stream.specs.FindRuns.{FindsAlong};
 ghost use Rattle.aho_stream.specs.Iterators.{automaton_of};
-ghost use Rattle.programs.specs.Names.{name_bytes};
 ghost use Rattle.programs.specs.Streams.{bytes_left};
 ghost use Rattle.programs.specs.Telling.{TellsBytes};
-ghost use Rattle.acredact.specs.Checks.{IsLookOf, SeesFiles, look_lines, quest_of};
+ghost use Rattle.acredact.specs.Checks.{IsLookOf, SeesSearched, look_lines, quest_of};
 ghost use Rattle.acredact.specs.Faults.{IsReadReason};
 ghost use Rattle.acredact.specs.Looks.{CanLook, IsLook, LooksAt, is_failed_look, is_unread_look, look_of, verdict_with};
 ghost use Rattle.acredact.specs.Secrets.{IfOf};
@@ -70,9 +69,8 @@ pub fn look_at_files<A: Automaton, F: Folder, I: Read, E: Sink>(
     errors: &mut Errors<'_, E>,
 ) -> Result<Verdict, AllocError>
     requires ready { CanLook A.Automaton automaton.now }
-    ensures sees { IfOf A.Automaton automaton.now (λ p. SeesFiles E.Sink
-        (quest_of F.Folder files.now.folder.now p) (name_bytes files.now.names.now) result
-        (bytes_left input.old) (bytes_left input.new) errors.old errors.new) }
+    ensures sees { IfOf A.Automaton automaton.now (λ p. SeesSearched E.Sink F.Folder files.now p
+        result input.old input.new errors.old errors.new) }
 {
     let mut verdict = Verdict {
         found: false,

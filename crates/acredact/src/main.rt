@@ -23,10 +23,10 @@ mod run;
 mod streams;
 mod ways;
 
-ghost use Rattle.std.specs.Prelude.{◌≡◌, ◌⊎◌, IfErr, IfOk, true};
+ghost use Rattle.std.specs.Prelude.{◌≡◌, ◌≤◌, IfErr, IfOk, true};
 ghost use Rattle.std.specs.Process.{exit_status};
 ghost use Rattle.programs.specs.Telling.{TellsSome};
-ghost use Rattle.acredact.specs.Arguments.{AreMistaken, IfAsked, IfChecking, IsCheck, RefusesUnclean};
+ghost use Rattle.acredact.specs.Arguments.{AreMistaken, IfAsked, IfChecking, IfNoCheck, IsCheck, RefusesUnclean};
 ghost use Rattle.acredact.specs.Calls.{BeginsAsked, IsRefusedLine, LeavesNoneAsked, RedactsAsked};
 ghost use Rattle.acredact.specs.Checks.{MatchedAsked, UnmatchedAsked};
 
@@ -59,7 +59,7 @@ fn main(rt: HostRuntime) -> ExitCode {
                 output: FromWrite::new(output),
                 errors,
             };
-            exit_code(rt.alloc(), given, &Host { rt: &rt }, &mut streams)
+            exit_code(rt.alloc(), given, &Host::new(&rt), &mut streams)
         }
         Err(_) => ExitCode::from(refuse(Failure::OutOfMemory, &mut errors)),
     }
@@ -88,10 +88,10 @@ fn exit_code<F: Folder, I: Read, W: Write, E: Sink>(
         exit_status result ≡ 0 → UnmatchedAsked F.Folder folder.now given streams.old streams.new)) }
     ensures matched { IfOk given (λ arguments. IfChecking arguments.items (λ given.
         exit_status result ≡ 1 → MatchedAsked F.Folder folder.now given streams.old streams.new)) }
-    ensures flushed { IfOk given (λ arguments. (IsCheck arguments.items → ⊥)
-        → exit_status result ≡ 0 → streams.new.output.device.flushed ≡ true) }
-    ensures bound { (exit_status result ≡ 0) ⊎ ((exit_status result ≡ 2)
-        ⊎ ((exit_status result ≡ 1) × IfOk given (λ arguments. IsCheck arguments.items))) }
+    ensures flushed { IfOk given (λ arguments. IfNoCheck arguments.items (exit_status result ≡ 0
+        → streams.new.output.device.flushed ≡ true)) }
+    ensures bound { exit_status result ≤ 2 }
+    ensures one { exit_status result ≡ 1 → IfOk given (λ arguments. IsCheck arguments.items) }
 {
     let status = match given {
         Ok(arguments) => run(alloc, arguments.as_slice(), folder, streams),

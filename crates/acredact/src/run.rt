@@ -6,14 +6,14 @@ ghost use Rattle.programs.specs.Arguments.{texts};
 ghost use Rattle.programs.specs.Names.{name_bytes};
 ghost use Rattle.programs.specs.Streams.{WritesBytes};
 ghost use Rattle.programs.specs.Telling.{Tells, TellsBytes, TellsSome};
-ghost use Rattle.acredact.specs.Arguments.{AreMistaken, AsksToCheck, AsksToRedact, GivesNoPattern, IfAsked, IfChecking, IsCheck, RefusesUnclean, all_given, checks_asked, has};
+ghost use Rattle.acredact.specs.Arguments.{AreMistaken, AsksToRedact, GivesNoPattern, IfAsked, IfChecking, IfNoCheck, IsCheck, RefusesUnclean, all_given, checks_asked, has};
 ghost use Rattle.acredact.specs.Calls.{AskedOutcome, BeginsAsked, CountsAsked, IsCountsFailure, IsCountsLine, IsPrintFailure, IsRefusedLine, IsWrongLine, LeavesNoneAsked, LoadedOutcome, OutputFails, RedactsAsked, TellsAsked, TellsCounts, WarnedJob, WarnedOutcome, WarnsAsked, call_of, gives_pattern, names_asked, text_asked, work_by};
-ghost use Rattle.acredact.specs.Checks.{ChecksAlone, MatchedAsked, TellsUncheckedAsked, UnmatchedAsked};
+ghost use Rattle.acredact.specs.Checks.{MatchedAsked, SaysOfCheck, TellsUncheckedAsked, UnmatchedAsked};
 ghost use Rattle.acredact.specs.Failures.{IsFailureLine};
 ghost use Rattle.acredact.specs.Files.{CanDo, FilesOutcome, redactor_of, work_of};
 ghost use Rattle.acredact.specs.Pieces.{IfOfAll, TellsUnclean, pieces_by};
 ghost use Rattle.acredact.specs.Secrets.{IfOf};
-ghost use Rattle.acredact.specs.Statuses.{CallStatus};
+ghost use Rattle.acredact.specs.Statuses.{SaysOfRedaction};
 ghost use Rattle.acredact.specs.Tables.{HaveNoEmpty, secrets_of};
 ghost use Rattle.acredact.specs.declared.clean.Unclean.{Unclean};
 ghost use Rattle.acredact.specs.declared.failure.Failure.TheVariants.{Unclean as UncleanPiece};
@@ -129,8 +129,10 @@ pub fn run<F: Folder, I: Read, W: Write, E: Sink>(
         streams.new.output ≡ streams.old.output) }
 
     // All output was flushed where the status tells of no failure. A check has none, and it alone ends with status 1.
-    ensures flushed { (IsCheck arguments.now → ⊥) → result ≡ 0 → streams.new.output.device.flushed ≡ true }
-    ensures bound { (result ≡ 0) ⊎ ((result ≡ 2) ⊎ ((result ≡ 1) × IsCheck arguments.now)) }
+    ensures flushed { IfNoCheck arguments.now (result ≡ 0
+        → streams.new.output.device.flushed ≡ true) }
+    ensures bound { result ≤ 2 }
+    ensures one { result ≡ 1 → IsCheck arguments.now }
 {
     match items(alloc, arguments) {
         Ok(given) => answer(alloc, given.as_slice(), folder, streams),
@@ -145,10 +147,10 @@ fn answer<F: Folder, I: Read, W: Write, E: Sink>(
     folder: &F,
     streams: &mut Streams<'_, I, W, E>,
 ) -> u8
-    ensures redacted { AsksToRedact (all_given given.now) → CallStatus W.Write E.Sink
-        (call_of F.Folder folder.now (all_given given.now)) result streams.old streams.new }
-    ensures checked { AsksToCheck (all_given given.now) → ChecksAlone E.Sink
-        (call_of F.Folder folder.now (all_given given.now)) result streams.old streams.new }
+    ensures redacted { SaysOfRedaction W.Write E.Sink F.Folder folder.now (all_given given.now)
+        result streams.old streams.new }
+    ensures checked { SaysOfCheck E.Sink F.Folder folder.now (all_given given.now)
+        result streams.old streams.new }
     ensures flushed { checks_asked (all_given given.now) ≡ false → result ≡ 0
         → streams.new.output.device.flushed ≡ true }
     ensures bound { checks_asked (all_given given.now) ≡ false → (result ≡ 0) ⊎ (result ≡ 2) }

@@ -1,5 +1,5 @@
 -- The arguments are right or wrong.
-use Rattle.std.proofs.Common.{◌≡◌, inl, inr, ℕ, List, [], ap, refl, sym, subst, ◌∙◌}
+use Rattle.std.proofs.Common.{◌≡◌, inl, ℕ, List, ap, refl, sym, subst, ◌∙◌, arith}
 use Rattle.std.specs.Prelude.{None, Some}
 use Rattle.programs.specs.Arguments.{texts}
 use Rattle.programs.specs.Streams.{bytes_left}
@@ -11,7 +11,7 @@ use Rattle.acredact.specs.declared.failure.Failure.TheVariants.{Arguments}
 use Rattle.acredact.proofs.Calls.{call_refused}
 use Rattle.acredact.proofs.Checks.{check_refused, status_ended}
 use Rattle.acredact.proofs.Given.{memory_alone, same_given}
-use Rattle.acredact.proofs.Statuses.{bound_by, flushed_by, status_failed, tells_one}
+use Rattle.acredact.proofs.Statuses.{bound_by, flushed_by, one_by, status_failed, tells_one}
 use Rattle.acredact.proofs.run.run.Goals as goal
 
 pub returns-in-Ok : goal.returns-in-Ok
@@ -44,11 +44,8 @@ returns-in-Ok g c =
       check_quiet = λ given right asks. (checked given right asks).says.quiet;
       check_unwritten = λ given right asks. (checked given right asks).unwritten;
       flushed = λ redacts zero. flushed_by items (λ asks. redacts (items, mine, asks)) (λ none. c.answer.ensures.flushed none zero);
-      bound = elim (bound_by items c.answer.result (λ asks. (c.answer.ensures.checked asks).says.bound) c.answer.ensures.bound) [
-        | inl zero ↦ inl zero
-        | inr (inl two) ↦ inr (inl two)
-        | inr (inr (one, asks)) ↦ inr (inr (one, (items, mine, asks)))
-      ];
+      bound = bound_by items c.answer.result (λ asks. (c.answer.ensures.checked asks).says.bound) c.answer.ensures.bound;
+      one = λ is. (items, mine, one_by items c.answer.result c.answer.ensures.bound is);
     }
 
 pub returns-in-Err : goal.returns-in-Err
@@ -83,5 +80,6 @@ returns-in-Err g c =
       check_quiet = λ given right asks. (checked given right).quiet;
       check_unwritten = λ given right asks. refl;
       flushed = λ redacts (zero : c.report.result ≡ 0). let clash : 2 ≡ 0 = sym c.report.ensures.failed ∙ zero in absurd (cc);
-      bound = inr (inl c.report.ensures.failed);
+      bound = omega (arith, c.report.ensures.failed);
+      one = λ (is : c.report.result ≡ 1). let clash : 2 ≡ 1 = sym c.report.ensures.failed ∙ is in absurd (cc);
     }
