@@ -19,6 +19,8 @@
 static const cs_slice names[] = { SLICE("samwise"), SLICE("sam"), SLICE("frodo"), SLICE("s") };
 static const cs_slice others[] = { SLICE("SW"), SLICE("SAM"), SLICE("FRODO"), SLICE("") };
 
+#define PATTERNS (sizeof names / sizeof *names)
+
 static bool is(cs_match m, size_t pattern, size_t start, size_t end) {
     return m.pattern == pattern && m.start == start && m.end == end;
 }
@@ -330,6 +332,58 @@ static void streams(void) {
     HAS(cs_stream_end(&stream) == CS_NO_SEARCHER && taken == 5 && is(room[0], 7, 8, 9));
 }
 
+/* Pushes all of a piece, and puts the replacement of what is certain behind `to`. */
+static uint8_t *replaced(cs_stream *stream, const cs_slice *marks, const uint8_t *piece, size_t left, uint8_t *to) {
+    static uint8_t part[65536];
+    size_t taken = 0, len = 0;
+    do {
+        HAS(cs_stream_push(stream, piece, left, &taken) == CS_DONE && taken <= left && (taken > 0 || left == 0));
+        piece += taken;
+        left -= taken;
+        while (cs_stream_replace(stream, marks, PATTERNS, part, sizeof part, &len) == CS_FOUND) {
+            memcpy(to, part, len);
+            to += len;
+        }
+    } while (left > 0);
+    return to;
+}
+
+/* Streams that are replaced, and where there is no room. */
+static void replaced_streams(void) {
+    static uint8_t all[400000];
+    cs_slice marks[PATTERNS] = { SLICE("W"), SLICE(""), SLICE("[redacted]"), SLICE("s") };
+    cs_stream stream = CS_STREAM_INIT;
+    uint8_t room[16] = "as it was";
+    size_t taken = 0, len = 5;
+    cs_searcher it = built(CS_LEFTMOST_FIRST, CS_UNANCHORED);
+    HAS(cs_stream_new(&it, &stream) == CS_DONE);
+    uint8_t *to = replaced(&stream, marks, BYTES("frodo and sa"), all);
+    to = replaced(&stream, marks, BYTES("m, fro"), to);
+    HAS(cs_stream_end(&stream) == CS_DONE);
+    HAS(cs_stream_replace(&stream, marks, PATTERNS - 1, room, sizeof room, &len) == CS_NOT_ONE_EACH && len == 5);
+    HAS(cs_stream_replace(&stream, marks, PATTERNS, room, 9, &len) == CS_NO_ROOM && len == 10 && !memcmp(room, "as it was", 9));
+    while (cs_stream_replace(&stream, marks, PATTERNS, room, sizeof room, &len) == CS_FOUND) {
+        memcpy(to, room, len);
+        to += len;
+    }
+    HAS(to - all == 20 && !memcmp(all, "[redacted] and , fro", 20));
+    len = 5;
+    HAS(cs_stream_replace(&stream, marks, PATTERNS, room, sizeof room, &len) == CS_DONE && len == 5);
+    cs_free(&it);
+    it = built(CS_STANDARD, CS_UNANCHORED);
+    HAS(cs_stream_new(&it, &stream) == CS_DONE);
+    marks[3] = (cs_slice)SLICE("twice");
+    to = replaced(&stream, marks, long_text, sizeof long_text, all);
+    HAS(cs_stream_end(&stream) == CS_DONE && cs_stream_replace(&stream, marks, PATTERNS, room, sizeof room, &len) == CS_DONE);
+    HAS(to - all == 300012 && !memcmp(all + 99998, "twicex", 6) && !memcmp(all + 300006, "twicex", 6));
+    HAS(cs_stream_new(&it, &stream) == CS_DONE && cs_stream_push(&stream, long_text, 100, &taken) == CS_DONE && taken == 100);
+    HAS(cs_stream_replace(&stream, marks, PATTERNS, room, sizeof room, &len) == CS_NO_ROOM && len == 100);
+    HAS(cs_stream_replace(&stream, marks, PATTERNS, all, 100, &len) == CS_FOUND && len == 100);
+    cs_stream_free(&stream);
+    HAS(cs_stream_replace(&stream, marks, PATTERNS, room, sizeof room, &len) == CS_NO_SEARCHER && len == 100);
+    cs_free(&it);
+}
+
 static void tells(void) {
     cs_facts facts;
     cs_searcher it = built(CS_STANDARD, CS_UNANCHORED);
@@ -420,6 +474,7 @@ int main(int count, char **words) {
     replaces();
     covers();
     streams();
+    replaced_streams();
     tells();
     shares();
     return 0;

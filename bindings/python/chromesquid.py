@@ -17,6 +17,7 @@ beside this file, or where the system looks for libraries. `python3 -m chromesqu
 
 from __future__ import annotations
 
+import codecs
 import ctypes
 import os
 import struct
@@ -24,7 +25,7 @@ import threading
 import weakref
 from typing import Any, Iterable, Iterator, List, NamedTuple, Optional, Sequence, Tuple, Union
 
-__all__ = ["AhoCorasick", "BuildError", "Match", "SearchError", "Stream", "version"]
+__all__ = ["AhoCorasick", "BuildError", "Match", "Replacer", "SearchError", "Stream", "version"]
 
 # bytes, bytearray, memoryview, mmap, array: whatever has a buffer.
 Haystack = Union[str, bytes, bytearray, memoryview, Any]
@@ -202,6 +203,7 @@ _STREAM = ctypes.POINTER(_StreamHandle)
 _stream_new = _function("cs_stream_new", ctypes.c_uint32, _HANDLE, _STREAM)
 _stream_push = _function("cs_stream_push", ctypes.c_uint32, _STREAM, *_HAYSTACK, _COUNT)
 _stream_next = _function("cs_stream_next", ctypes.c_uint32, _STREAM, ctypes.POINTER(_Match))
+_stream_replace = _function("cs_stream_replace", ctypes.c_uint32, _STREAM, *_SLICES, *_ROOM, _COUNT)
 _stream_end = _function("cs_stream_end", ctypes.c_uint32, _STREAM)
 _stream_free = _function("cs_stream_free", None, _STREAM)
 if _version() != _VERSION:
@@ -370,16 +372,25 @@ class AhoCorasick:
         return self._stream(stream, reader)
 
     def _stream(self, stream: "Stream", reader: Any) -> Iterator[Match]:
-        # As the reader of a buffered pipe or socket gives what is there, so that a match is told as soon as it came.
-        read = getattr(reader, "read1", None) or getattr(reader, "read", None)
-        pieces = iter(lambda: read(_PIECE), self) if read else iter(reader)
-        for piece in pieces:
-            if piece is None:
-                raise BlockingIOError("the reader has nothing for now")
-            if read and not len(piece):
-                break
+        for piece in _pieces_of(reader):
             yield from stream.push(piece)
         yield from stream.end()
+
+    def stream_replace_all(self, reader: Any, writer: Any, replace_with: Sequence[Haystack]) -> None:
+        """Writes what a reader gives, as `stream` reads it, with each match replaced by what stands in the place of its pattern. The
+        writer has a method `write`, which takes all that it is given. Each part is written as soon as no byte that follows can change it.
+
+            >>> import io
+            >>> there = io.StringIO()
+            >>> AhoCorasick(["sam"]).stream_replace_all(io.StringIO("frodo, sam"), there, ["S"])
+            >>> there.getvalue()
+            'frodo, S'
+
+        Raises ValueError where there is not one replacement for each pattern, and SearchError where a pattern is empty."""
+        replacer = Replacer(self, replace_with)
+        for piece in _pieces_of(reader):
+            _write(writer, replacer.push(piece))
+        _write(writer, replacer.end())
 
     def replace_all(self, haystack: Haystack, replace_with: Sequence[Haystack]) -> Union[str, bytes]:
         """The haystack with each match replaced by what stands in the place of its pattern: a str for a str, else bytes.
@@ -495,6 +506,22 @@ class AhoCorasick:
                 return written.decode(*_ENCODING) if isinstance(haystack, str) else written
 
 
+def _pieces_of(reader: Any) -> Iterator[Haystack]:
+    # As the reader of a buffered pipe or socket gives what is there, so that a match is told as soon as it came.
+    read = getattr(reader, "read1", None) or getattr(reader, "read", None)
+    for piece in iter(lambda: read(_PIECE), reader) if read else iter(reader):
+        if piece is None:
+            raise BlockingIOError("the reader has nothing for now")
+        if read and not len(piece):
+            return
+        yield piece
+
+
+def _write(writer: Any, part: Union[str, bytes]) -> None:
+    if part:
+        writer.write(part)
+
+
 def _is_wide(haystack: Haystack) -> bool:
     """Whether places of characters are others than those of bytes."""
     return isinstance(haystack, str) and not haystack.isascii()
@@ -565,22 +592,32 @@ class Stream:
         self._of_text = text
         rest = memoryview(self._searcher._bytes_of(piece) if isinstance(piece, str) else piece)
         rest = (rest if rest.c_contiguous else memoryview(rest.tobytes())).cast("B")
-        if text:
-            self._tail += rest
         matches: List[Match] = []
         while len(rest):
-            _check(_stream_push(ctypes.byref(self._handle), _borrowed(rest), len(rest), ctypes.byref(self._taken)))
-            rest = rest[self._taken.value :]
+            taken = self._push(rest)
+            if text:
+                self._tail += rest[:taken]
+            rest = rest[taken:]
             matches += self._certain()
         return matches
 
     def end(self) -> List[Match]:
         """The matches that are left, where nothing more is pushed."""
-        _check(_stream_end(ctypes.byref(self._handle)))
+        self._end()
         return list(self._certain())
 
+    def _reference(self) -> Any:
+        return ctypes.byref(self._handle)
+
+    def _push(self, rest: memoryview) -> int:
+        _check(_stream_push(self._reference(), _borrowed(rest), len(rest), ctypes.byref(self._taken)))
+        return self._taken.value
+
+    def _end(self) -> None:
+        _check(_stream_end(self._reference()))
+
     def _certain(self) -> Iterator[Match]:
-        handle, found = ctypes.byref(self._handle), self._found
+        handle, found = self._reference(), self._found
         while True:
             status = _stream_next(handle, ctypes.byref(found))
             _check(status, _FOUND)
@@ -601,6 +638,60 @@ class Stream:
             self._passed += len(self._tail[:count].translate(None, _INSIDE))
             del self._tail[:count]
             self._at = place
+
+
+class Replacer:
+    """The replacement of a stream whose pieces are pushed as they come. It is used by one thread at a time.
+
+        >>> replacer = Replacer(AhoCorasick(["samwise", "sam"], kind="leftmost-longest"), ["S", "s"])
+        >>> replacer.push("frodo, sam") + replacer.push("wise and") + replacer.end()
+        'frodo, S and'
+
+    Raises ValueError where there is not one replacement for each pattern, and SearchError where a pattern is empty."""
+
+    def __init__(self, searcher: AhoCorasick, replace_with: Sequence[Haystack]) -> None:
+        searcher._check_pieces(replace_with[0] if replace_with else b"", replace_with)
+        self._stream = Stream(searcher)
+        self._pieces = _slices([_pattern_bytes(it) for it in replace_with])
+        self._of_text = isinstance(replace_with[0], str) if replace_with else None
+        self._decoder = codecs.getincrementaldecoder(_ENCODING[0])(_ENCODING[1])
+        self._len = ctypes.c_size_t()
+        self._room = ctypes.create_string_buffer(65536)
+
+    def push(self, piece: Haystack) -> Union[str, bytes]:
+        """What is certain of the replacement with this piece and was not answered before: a str where the replacements are, else bytes."""
+        if self._of_text is None:
+            self._of_text = isinstance(piece, str)
+        if isinstance(piece, str) != self._of_text:
+            raise TypeError("the pieces of a stream are of the type of the replacements")
+        rest = memoryview(self._stream._searcher._bytes_of(piece) if isinstance(piece, str) else piece)
+        rest = (rest if rest.c_contiguous else memoryview(rest.tobytes())).cast("B")
+        parts: List[bytes] = []
+        while len(rest):
+            rest = rest[self._stream._push(rest) :]
+            parts += self._certain()
+        return self._joined(parts, False)
+
+    def end(self) -> Union[str, bytes]:
+        """What is left of the replacement, where nothing more is pushed."""
+        self._stream._end()
+        return self._joined(list(self._certain()), True)
+
+    def _certain(self) -> Iterator[bytes]:
+        while True:
+            room, pieces = self._room, self._pieces
+            status = _stream_replace(self._stream._reference(), pieces, len(pieces), room, len(room), ctypes.byref(self._len))
+            if status == _NO_ROOM:
+                self._room = ctypes.create_string_buffer(self._len.value)
+                continue
+            _check(status, _FOUND)
+            if status != _FOUND:
+                return
+            yield ctypes.string_at(room, self._len.value)
+
+    def _joined(self, parts: List[bytes], last: bool) -> Union[str, bytes]:
+        whole = b"".join(parts)
+        return self._decoder.decode(whole, last) if self._of_text else whole
 
 
 _searchers: "weakref.WeakSet[AhoCorasick]" = weakref.WeakSet()

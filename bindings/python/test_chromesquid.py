@@ -10,7 +10,7 @@ import random
 import threading
 import unittest
 
-from chromesquid import AhoCorasick, BuildError, Match, SearchError, Stream, version
+from chromesquid import AhoCorasick, BuildError, Match, Replacer, SearchError, Stream, version
 
 KINDS = ("standard", "leftmost-first", "leftmost-longest")
 
@@ -170,6 +170,10 @@ class Rows(unittest.TestCase):
             (TypeError, lambda: searcher.find_into(b"a", array.array("I", [0] * 6))),
             (TypeError, lambda: searcher.find_into(b"a", bytes(24))),
             (ValueError, lambda: searcher.replace_all(b"a", [])),
+            (ValueError, lambda: Replacer(searcher, [])),
+            (TypeError, lambda: Replacer(searcher, [b"b"]).push("a")),
+            (TypeError, lambda: Replacer(searcher, ["b"]).push("a")),
+            (SearchError, lambda: Replacer(AhoCorasick([b""]), [b"b"])),
             (TypeError, lambda: searcher.replace_all(b"a", ["b"])),
             (TypeError, lambda: searcher.replace_all(b"a", b"b")),
             (SearchError, lambda: searcher.cover_all(b"a", [b"b"])),
@@ -233,6 +237,8 @@ class Streams(unittest.TestCase):
                        [memoryview(given)[:50000], bytearray(given[50000:])]):
             self.assertEqual(list(searcher.stream(reader)), wanted)
         self.assertEqual(list(searcher.stream([])), [])
+        text = "é" * 100000 + "sam" + "é" * 100000 + "sam"  # a piece longer than the buffer of the stream
+        self.assertEqual([it.start for it in searcher.stream([text])], [100000, 200003])
 
     def test_a_match_is_told_as_soon_as_it_is_certain(self):
         stream = Stream(AhoCorasick([b"sam", b"samwise"]))
@@ -260,6 +266,32 @@ class Streams(unittest.TestCase):
                 pieces = [it * 5000 for it in pieces[:3]]
             searcher = AhoCorasick(patterns, kind=kind, ignore_case=dice.random() < 0.3, prefilter=dice.random() < 0.7)
             self.assertEqual(list(searcher.stream(pieces)), list(searcher.find_iter(empty.join(pieces))))
+            if turn % 3 == 0:
+                continue
+            replacements = [empty.join(dice.choices(letters, k=dice.randrange(4))) for _ in patterns]
+            if turn % 250 == 1:
+                replacements[0] *= 30000
+            replacer = Replacer(searcher, replacements)
+            written = empty.join([*map(replacer.push, pieces), replacer.end()]) if pieces else empty
+            self.assertEqual(written, searcher.replace_all(empty.join(pieces), replacements))
+
+    def test_what_is_replaced_is_told_as_soon_as_it_is_certain(self):
+        replacer = Replacer(AhoCorasick([b"sam", b"samwise"]), [b"S", b"W"])
+        self.assertEqual([replacer.push(it) for it in (b"xsa", b"m", b"wise", b" sa")], [b"", b"xS", b"wise", b""])
+        self.assertEqual((replacer.end(), replacer.end()), (b" sa", b""))
+        self.assertRaises(SearchError, replacer.push, b"x")
+        replacer = Replacer(AhoCorasick(["né", "🦑"]), ["", "é"])
+        self.assertEqual(replacer.push("🦑né") + replacer.push("\ud800é") + replacer.end(), "é\ud800é")
+        self.assertEqual(Replacer(AhoCorasick([]), []).push("a"), "a")
+        self.assertEqual(Replacer(AhoCorasick([]), []).end(), b"")
+
+    def test_readers_and_writers(self):
+        searcher = AhoCorasick([b"sam", b"x" * 20000], kind="leftmost-longest")
+        given = b"frodo, sam" * 30000 + b"x" * 30000
+        for reader in (io.BytesIO(given), [given], [given[:7], b"", given[7:]]):
+            there = io.BytesIO()
+            searcher.stream_replace_all(reader, there, [b"S", b"-" * 70000])
+            self.assertEqual(there.getvalue(), b"frodo, S" * 30000 + b"-" * 70000 + b"x" * 10000)
 
 
 class Copies(unittest.TestCase):

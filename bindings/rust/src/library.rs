@@ -1,6 +1,6 @@
 //! The functions of the C library, as safe calls. This is the only file with code that is not safe.
 use crate::search::{Anchored, Input, Match, MatchKind, PatternID, StartKind};
-use std::{ffi::c_void, ptr};
+use std::{ffi::c_void, marker::PhantomData, ptr};
 
 #[repr(C)]
 struct CsSearcher {
@@ -79,6 +79,8 @@ extern "C" {
     fn cs_stream_new(searcher: *mut CsSearcher, out: *mut CsStream) -> u32;
     fn cs_stream_push(stream: *mut CsStream, bytes: *const u8, bytes_len: usize, taken: *mut usize) -> u32;
     fn cs_stream_next(stream: *mut CsStream, found: *mut CsMatch) -> u32;
+    fn cs_stream_replace(stream: *mut CsStream, replace_with: *const CsSlice, replace_with_len: usize, room: *mut u8, room_len: usize,
+        len: *mut usize) -> u32;
     fn cs_stream_end(stream: *mut CsStream) -> u32;
     fn cs_stream_free(stream: *mut CsStream);
 }
@@ -96,6 +98,18 @@ pub(crate) fn version() -> u32 {
 /// The byte strings as the library takes them, as long as these are lent.
 fn slices<B: AsRef<[u8]>>(items: &[B]) -> Vec<CsSlice> {
     items.iter().map(|item| CsSlice { at: item.as_ref().as_ptr(), len: item.as_ref().len() }).collect()
+}
+
+/// Byte strings as the library takes them.
+pub(crate) struct Pieces<'p> {
+    slices: Vec<CsSlice>,
+    of: PhantomData<&'p [u8]>,
+}
+
+impl<'p> Pieces<'p> {
+    pub(crate) fn of<B: AsRef<[u8]>>(items: &'p [B]) -> Pieces<'p> {
+        Pieces { slices: slices(items), of: PhantomData }
+    }
 }
 
 fn match_of(found: CsMatch, offset: usize) -> Match {
@@ -289,6 +303,22 @@ impl Stream {
         let mut found = CsMatch::default();
         // SAFETY: it writes the match alone.
         (unsafe { cs_stream_next(&mut self.0, &mut found) } == FOUND).then(|| match_of(found, 0))
+    }
+
+    /// Puts the next part of the replacement that is certain into the room, and answers how many bytes it has. The room grows where it
+    /// is too small. There is one piece for each pattern.
+    pub(crate) fn replace(&mut self, pieces: &Pieces<'_>, room: &mut Vec<u8>) -> Option<usize> {
+        loop {
+            let (slices, mut len) = (&pieces.slices, 0);
+            // SAFETY: the pieces are lent for the call; the room has as many bytes as is said.
+            let status = unsafe { cs_stream_replace(&mut self.0, slices.as_ptr(), slices.len(), room.as_mut_ptr(), room.len(), &mut len) };
+            match status {
+                FOUND => return Some(len),
+                DONE => return None,
+                NO_ROOM => *room = vec![0; len],
+                status => panic!("the library answered {status} to a replacement"),
+            }
+        }
     }
 
     /// Says that no more is pushed.

@@ -1,6 +1,6 @@
 //! Streams: the matches of what a reader gives, and the same bytes with the matches replaced.
 use crate::error::MatchError;
-use crate::library::Stream;
+use crate::library::{Pieces, Stream};
 use crate::search::Match;
 use crate::searcher::AhoCorasick;
 use std::{
@@ -36,22 +36,27 @@ impl<R: Read> Source<R> {
         if let Some(found) = self.stream.next_match() {
             return Ok(Next::Match(found));
         }
+        Ok(self.push()?.map_or(Next::End, Next::Pushed))
+    }
+
+    /// Pushes what is read next, or else its end, and answers which bytes of the chunk were pushed. None where the end is told already.
+    fn push(&mut self) -> io::Result<Option<Range<usize>>> {
         if self.has_ended {
-            return Ok(Next::End);
+            return Ok(None);
         }
         if self.left.is_empty() {
             self.left = 0..self.read()?;
             if self.left.is_empty() {
                 self.stream.end();
                 self.has_ended = true;
-                return Ok(Next::Pushed(0..0));
+                return Ok(Some(0..0));
             }
         }
         let taken =
             self.stream.push(&self.chunk[self.left.clone()]).ok_or_else(|| io::Error::new(ErrorKind::Other, "the stream is too long"))?;
         let pushed = self.left.start..self.left.start + taken;
         self.left.start += taken;
-        Ok(Next::Pushed(pushed))
+        Ok(Some(pushed))
     }
 
     fn read(&mut self) -> io::Result<usize> {
@@ -153,9 +158,17 @@ impl AhoCorasick {
         Ok(Source { reader, stream, chunk: vec![0; CHUNK], left: 0..0, has_ended: false })
     }
 
-    fn replace_pieces<R: Read, W: Write, B: AsRef<[u8]>>(&self, source: Source<R>, wtr: W, replace_with: &[B]) -> io::Result<()> {
+    fn replace_pieces<R: Read, W: Write, B: AsRef<[u8]>>(&self, mut source: Source<R>, mut wtr: W, replace_with: &[B]) -> io::Result<()> {
         self.want_one_each(replace_with.len());
-        self.replace_source(source, wtr, |found, _, wtr| wtr.write_all(replace_with[found.pattern().as_usize()].as_ref()))
+        let (pieces, mut room) = (Pieces::of(replace_with), vec![0; CHUNK]);
+        loop {
+            while let Some(len) = source.stream.replace(&pieces, &mut room) {
+                wtr.write_all(&room[..len])?;
+            }
+            if source.push()?.is_none() {
+                return Ok(());
+            }
+        }
     }
 
     /// Keeps of the bytes that were pushed those in which a match may still begin, and writes the others.

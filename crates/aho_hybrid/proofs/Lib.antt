@@ -2,6 +2,7 @@ pub mod Alike
 pub mod Firsts
 pub mod Listed
 pub mod Moves
+pub mod Among
 pub mod Counting
 pub mod Rising
 pub mod Stepping

@@ -3,7 +3,7 @@ use Rattle.std.proofs.Common.{◌≡◌, ◌≢◌, ◌∙◌, sym, ◌+◌, ◌
 use Rattle.std.specs.Prelude.{Some, None}
 use Rattle.std.proofs.lemmas.Bool.{cond-true, cond-false, eq-eqb, ne_eqb}
 use Rattle.std.proofs.lemmas.List.{drop_more, length-drop}
-use Rattle.aho_hybrid.specs.Layout.{AreRisingMoves, child_of}
+use Rattle.aho_hybrid.specs.Layout.{child_of}
 
 module _ (moves : List ℕ) (at byte : ℕ) where
   two : at + 1 < length moves → drop at moves ≡ get_or moves at 0 ∷ get_or moves (at + 1) 0 ∷ drop (at + 1 + 1) moves
@@ -27,25 +27,24 @@ child-end moves at byte past = short (drop at moves) (omega (arith, length-drop 
     short (key ∷ next ∷ l) one = absurd (omega (arith, one))
 
 -- transitions of other bytes tell nothing of this one
-pub child-past : (moves : List ℕ) (low count byte : ℕ) → 2 * (low + count) ≤ length moves → ((i : ℕ) → i < count → get_or moves (2 * (low + i)) 0 ≢ byte)
-    → child_of (drop (2 * (low + count)) moves) byte ≡ child_of (drop (2 * low) moves) byte
-child-past moves low zero byte within others = ap (λ (n : ℕ). child_of (drop n moves) byte) (let same : 2 * (low + zero) ≡ 2 * low = omega arith in same)
-child-past moves low (suc count) byte within others =
-    let next : 2 * (low + suc count) ≡ 2 * (low + count) + 1 + 1 = omega arith in
-    ap (λ (n : ℕ). child_of (drop n moves) byte) next
-    ∙ sym (child-next moves (2 * (low + count)) byte (omega (arith, within)) (others count (omega arith)))
-    ∙ child-past moves low count byte (omega (arith, within)) (λ i less. others i (omega (arith, less)))
+pub child-past : (moves : List ℕ) (low high byte : ℕ) → low ≤ high → 2 * high ≤ length moves → ((i : ℕ) → low ≤ i → i < high → get_or moves (2 * i) 0 ≢ byte)
+    → child_of (drop (2 * high) moves) byte ≡ child_of (drop (2 * low) moves) byte
+child-past moves low high byte ordered within others =
+    let whole : low + (high - low) ≡ high = omega (arith, ordered) in
+    ap (λ (n : ℕ). child_of (drop (2 * n) moves) byte) (sym whole)
+    ∙ past-so-many (high - low) (omega (arith, within, whole)) (λ i less. others (low + i) (omega arith) (omega (arith, less, whole)))
+  where
+    past-so-many : (count : ℕ) → 2 * (low + count) ≤ length moves → ((i : ℕ) → i < count → get_or moves (2 * (low + i)) 0 ≢ byte)
+        → child_of (drop (2 * (low + count)) moves) byte ≡ child_of (drop (2 * low) moves) byte
+    past-so-many zero within others = ap (λ (n : ℕ). child_of (drop n moves) byte) (let same : 2 * (low + zero) ≡ 2 * low = omega arith in same)
+    past-so-many (suc count) within others =
+        let next : 2 * (low + suc count) ≡ 2 * (low + count) + 1 + 1 = omega arith in
+        ap (λ (n : ℕ). child_of (drop n moves) byte) next
+        ∙ sym (child-next moves (2 * (low + count)) byte (omega (arith, within)) (others count (omega arith)))
+        ∙ past-so-many count (omega (arith, within)) (λ i less. others i (omega (arith, less)))
 
 -- where all from here on are of other bytes there is none
 pub child-none : (moves : List ℕ) (low count byte : ℕ) → low ≤ count → 2 * count ≤ length moves → length moves ≤ 2 * count + 1
     → ((i : ℕ) → low ≤ i → i < count → get_or moves (2 * i) 0 ≢ byte) → child_of (drop (2 * low) moves) byte ≡ None
 child-none moves low count byte ordered within all others =
-    let whole : low + (count - low) ≡ count = omega (arith, ordered) in
-    sym (child-past moves low (count - low) byte (omega (arith, within, whole)) (λ i less. others (low + i) (omega arith) (omega (arith, less, whole))))
-    ∙ child-end moves (2 * (low + (count - low))) byte (omega (arith, all, whole))
-
--- as no two bytes are the same, they lie at least so far apart as their places do
-pub apart : (moves : List ℕ) → AreRisingMoves moves → (i n : ℕ) → 2 * (i + n) + 1 < length moves → get_or moves (2 * i) 0 + n ≤ get_or moves (2 * (i + n)) 0
-apart moves rising i zero within = omega (arith, ap (λ (m : ℕ). get_or moves (2 * m) 0) (let same : i + zero ≡ i = omega arith in same))
-apart moves rising i (suc n) within =
-    omega (arith, apart moves rising i n (omega (arith, within)), rising (i + n) (i + suc n) (omega arith) within)
+    sym (child-past moves low count byte ordered within others) ∙ child-end moves (2 * count) byte (omega (arith, all))

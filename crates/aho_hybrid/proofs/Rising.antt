@@ -1,5 +1,5 @@
 -- The transitions of a record rise by their bytes, as those of a state do.
-use Rattle.std.proofs.Common.{◌≡◌, ◌×◌, ◌+◌, ◌*◌, ◌<◌, ℕ, zero, suc, List, [], ◌∷◌, nat_eq, length, get_or, ap, subst, sym, inl, inr, arith, eq-eqb, ne_eqb}
+use Rattle.std.proofs.Common.{◌≡◌, ◌≢◌, ◌+◌, ◌*◌, ◌<◌, ℕ, zero, suc, List, [], ◌∷◌, nat_eq, length, get_or, ap, subst, sym, inl, inr, arith, eq-eqb, ne_eqb}
 use Rattle.std.specs.List.{All}
 use Rattle.std.proofs.lemmas.Bool.{cases_eq, cond-true, cond-false}
 use Rattle.std.proofs.lemmas.List.Elements.{All-head, All-tail}
@@ -37,18 +37,18 @@ module _ (numbers : List ℕ) where
   -- what is above a byte stays so
   flat-above : (byte : ℕ) (transitions : List (ℕ × ℕ)) → All (λ later. byte < later.0) transitions
       → IsAbove byte (flat numbers transitions)
-  flat-above byte [] above j within = absurd (omega (arith, within))
-  flat-above byte (transition ∷ transitions) above j within =
+  flat-above byte [] above = λ j within. absurd (omega (arith, within))
+  flat-above byte (transition ∷ transitions) above =
       let first : byte < transition.0 = All-head (λ (later : ℕ × ℕ). byte < later.0) transition transitions above in
       let rest = flat-above byte transitions (All-tail (λ (later : ℕ × ℕ). byte < later.0) transition transitions above) in
       elim (cases_eq transition.1 1) [
-        | inl fails ↦ subst (λ (l : List ℕ). IsAbove byte l) (sym (flat-skips transition transitions fails)) rest j within
+        | inl fails ↦ subst (λ (l : List ℕ). IsAbove byte l) (sym (flat-skips transition transitions fails)) rest
         | inr leads ↦ subst (λ (l : List ℕ). IsAbove byte l) (sym (flat-keeps transition transitions leads))
-            (put-above byte transition.0 (number_or_zero numbers transition.1) (flat numbers transitions) first rest) j within
+            (put-above byte transition.0 (number_or_zero numbers transition.1) (flat numbers transitions) first rest)
       ]
 
   pub flat-rising : (transitions : List (ℕ × ℕ)) → IsRising transitions → AreRisingMoves (flat numbers transitions)
-  flat-rising [] rising i j less within = absurd (omega (arith, within))
+  flat-rising [] rising = λ i j less within. absurd (omega (arith, within))
   flat-rising (transition ∷ transitions) rising =
       elim (cases_eq transition.1 1) [
         | inl fails ↦ subst AreRisingMoves (sym (flat-skips transition transitions fails)) (flat-rising transitions rising.1)

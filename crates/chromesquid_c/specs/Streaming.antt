@@ -1,14 +1,21 @@
 -- Streams whose bytes are pushed: how far one has come, and what its calls tell.
-use Rattle.std.specs.Prelude.{◌≡◌, ℕ, zero, suc, ◌<◌, ◌≤◌, List, [], ◌++◌, true, false, Option, None, Some, length, take}
+use Rattle.std.specs.Prelude.{◌≡◌, ℕ, zero, suc, ◌-◌, ◌<◌, ◌≤◌, List, [], ◌++◌, true, false, Option, None, Some, length, map, max, slice_range, take}
+use Rattle.std.specs.Borrow.{Bor}
+use Rattle.aho_core.specs.Laws.{longest}
 use Rattle.aho_core.specs.Patterns.{Patterns}
+use Rattle.aho_core.specs.Replacement.{pieces_of}
 use Rattle.aho_stream.specs.After.{IsAfter, IsUnderWay, greatest_position}
-use Rattle.aho_stream.specs.Pushing.{FindsNow, IsSearched}
+use Rattle.aho_stream.specs.Chunks.{TellsChunk}
+use Rattle.aho_stream.specs.Pushing.{FindsNow, IsSearched, TellsNoneYet}
+use Rattle.aho_stream.specs.Replacing.{chunk_bytes}
+use Rattle.aho_stream.specs.declared.progress.StreamPiece.{StreamPiece}
 use Rattle.aho_stream.specs.declared.progress.StreamProgress.{StreamProgress}
 use Rattle.chromesquid.specs.Searcher.{IsBuiltFrom, IsBuiltFromSome, Searcher}
 use Rattle.chromesquid.specs.contracts.automaton.AhoCorasickAutomaton.TheImpl.{ghosts}
+use Rattle.chromesquid_c.specs.Replacing.{FitsInto}
 use Rattle.chromesquid_c.specs.Telling.{occurrence_told}
 use Rattle.chromesquid_c.specs.declared.options.CsMatch.{CsMatch}
-use Rattle.chromesquid_c.specs.declared.status.TheConstants.{DONE}
+use Rattle.chromesquid_c.specs.declared.status.TheConstants.{DONE, FOUND}
 
 -- ---- a stream
 
@@ -87,3 +94,28 @@ pub record Ends (stream stream' : PushedStream) : Type 0 where
   pub goes_on : GoesOnWith stream stream' []
   pub told : told_to stream' ≡ told_to stream
   pub ended : HasEnded stream'
+
+-- ---- replacement
+
+-- how many bytes a room holds: those that were pushed and not told yet, and those of the longest replacement
+abbrev pub room_wanted : PushedStream → List (Bor (List ℕ)) → ℕ
+room_wanted stream pieces = max (stream.progress.read - stream.progress.reported) (longest (map length (pieces_of pieces)))
+
+-- what is written for the last chunk told: its bytes, or the piece of its match
+abbrev pub put_for : StreamPiece → PushedStream → List ℕ → List (Bor (List ℕ)) → List ℕ
+put_for piece stream given pieces = chunk_bytes piece (slice_range given stream.progress.told stream.progress.reported) (pieces_of pieces)
+
+-- the next chunk is told, whatever follows, and what is written for it stands in the room
+pub record PutsChunk (p : Patterns) (stream stream' : PushedStream) (given : List ℕ) (pieces : List (Bor (List ℕ))) (before after : List ℕ) (len : ℕ) : Type 0 where
+  pub piece : StreamPiece
+  pub tells : TellsChunk p stream.progress stream'.progress given piece
+  pub fits : FitsInto (put_for piece stream' given pieces) before after
+  pub len : len ≡ length (put_for piece stream' given pieces)
+
+-- what was pushed stays; 1 tells that the next chunk was put, 0 that none is certain yet, and after the end that all was told
+pub record TellsReplaced (stream stream' : PushedStream) (pieces : List (Bor (List ℕ))) (status : ℕ) (before after : List ℕ) (len : ℕ) : Type 0 where
+  pub goes_on : GoesOnWith stream stream' []
+  pub puts : status ≡ FOUND → (p : Patterns) (given : List ℕ) → WasPushed stream p given → PutsChunk p stream stream' given pieces before after len
+  pub none : status ≡ DONE → (p : Patterns) (given : List ℕ) → WasPushed stream p given → TellsNoneYet p stream.progress stream'.progress given
+  pub searched : status ≡ DONE → IsSearched ghosts stream'.searcher stream'.progress
+  pub ended : stream'.progress.ended ≡ stream.progress.ended

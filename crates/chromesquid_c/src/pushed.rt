@@ -1,13 +1,18 @@
 //! A stream whose bytes are pushed, with its searcher.
 
-ghost use Rattle.std.specs.Prelude.{◌≡◌, ◌≢◌, ◌≤◌, IfOk};
+ghost use Rattle.std.specs.Prelude.{◌≡◌, ◌≢◌, ◌<◌, ◌≤◌, IfOk, length, map, max};
+ghost use Rattle.aho_core.specs.Laws.{longest};
+ghost use Rattle.aho_core.specs.Replacement.{pieces_of};
 ghost use Rattle.chromesquid.specs.Rules.{Answers, HasNoEmpty, No};
-ghost use Rattle.chromesquid_c.specs.Streaming.{Ends, HasBegun, HasEnded, IsUnpushed, IsFull, TakesPushed, TellsFound};
+ghost use Rattle.chromesquid_c.specs.Replacing.{IsOneEach};
+ghost use Rattle.chromesquid_c.specs.Streaming.{Ends, HasBegun, HasEnded, IsUnpushed, IsFull, TakesPushed, TellsFound, TellsReplaced, room_wanted};
 
 use crate::options::CsMatch;
+use crate::replace::put_bytes;
 use crate::search::form_of;
-use crate::status::{DONE, ENDED, FOUND, TOO_MANY_BYTES};
+use crate::status::{DONE, ENDED, FOUND, NO_ROOM, NOT_ONE_EACH, TOO_MANY_BYTES};
 use aho_stream::progress::StreamProgress;
+use aho_stream::replace::bytes_for;
 use chromesquid::AhoCorasick;
 use std::alloc::{AllocError, Global};
 use std::marker::Model;
@@ -37,6 +42,17 @@ fn begin(alloc: Global, searcher: &AhoCorasick) -> Result<StreamProgress, AllocE
     ensures begun { IfOk result (IsUnpushed searcher.now) }
 {
     Ok(searcher.stream_start(alloc)?.into_progress())
+}
+
+/// The greatest of a number and the lengths of these.
+fn room_for(bytes: usize, pieces: &[&[u8]]) -> usize
+    ensures room { result ≡ max bytes (longest (map length (pieces_of pieces.now))) }
+{
+    let mut most = bytes;
+    for index in 0..pieces.len() {
+        most = most.max(pieces[index].len());
+    }
+    most
 }
 
 impl Pushed {
@@ -85,6 +101,43 @@ impl Pushed {
             }
             None => DONE,
         }
+    }
+
+    /// Puts what is written for the next chunk into the room, if one is certain, and in `len` how many bytes that are.
+    pub(crate) fn replace(
+        &mut self,
+        replace_with: &[&[u8]],
+        room: &mut [u8],
+        len: &mut usize,
+    ) -> u32
+        ensures tells { result ≤ FOUND → TellsReplaced self.old self.new replace_with.now
+            result room.old room.new len.new }
+        ensures not_one_each { (IsOneEach self.old.searcher replace_with.now → ⊥)
+            → result ≡ NOT_ONE_EACH }
+        ensures no_room { IsOneEach self.old.searcher replace_with.now
+            → length room.old < room_wanted self.old replace_with.now → result ≡ NO_ROOM }
+        ensures told { IsOneEach self.old.searcher replace_with.now
+            → room_wanted self.old replace_with.now ≤ length room.old → result ≤ FOUND }
+        ensures wanted { result ≡ NO_ROOM → len.new ≡ room_wanted self.old replace_with.now }
+        ensures kept { FOUND < result → self.new ≡ self.old }
+        ensures unwritten { result ≢ FOUND → room.new ≡ room.old }
+        ensures unmeasured { result ≢ FOUND → result ≢ NO_ROOM → len.new ≡ len.old }
+    {
+        if replace_with.len() != self.searcher.patterns_len() {
+            return NOT_ONE_EACH;
+        }
+        let wanted = room_for(self.progress.bytes_untold() as usize, replace_with);
+        if room.len() < wanted {
+            *len = wanted;
+            return NO_ROOM;
+        }
+        let searcher: &AhoCorasick = &self.searcher;
+        let Some(piece) = self.progress.next_chunk(searcher) else {
+            return DONE;
+        };
+        let bytes = bytes_for(&piece, self.progress.bytes_told(), replace_with);
+        put_bytes(bytes, room, len);
+        FOUND
     }
 
     /// Says that nothing follows.

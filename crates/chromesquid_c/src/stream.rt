@@ -1,17 +1,19 @@
 //! Streams whose bytes are pushed.
 
-ghost use Rattle.std.specs.Prelude.{◌≡◌, ◌≢◌, ◌≤◌, ◌⊎◌, IfOk};
+ghost use Rattle.std.specs.Prelude.{◌≡◌, ◌≢◌, ◌<◌, ◌≤◌, ◌⊎◌, IfOk, length};
 ghost use Rattle.chromesquid.specs.Rules.{Answers, HasEmpty, HasNoEmpty, No, RefusesSearch};
 ghost use Rattle.chromesquid_c.specs.Holding.{HoldsSame, IfHeld, IsEmpty};
 ghost use Rattle.chromesquid_c.specs.HoldingStream.{HasNoStream, HoldsSameStream, IfStream, OfStream};
-ghost use Rattle.chromesquid_c.specs.Streaming.{Ends, HasBegun, HasEnded, IsFull, TakesPushed, TellsFound};
+ghost use Rattle.chromesquid_c.specs.Replacing.{IsOneEach};
+ghost use Rattle.chromesquid_c.specs.Streaming.{Ends, HasBegun, HasEnded, IsFull, TakesPushed, TellsFound, TellsReplaced, room_wanted};
 
 use crate::handle::CsSearcher;
 use crate::list::is_unanchored;
 use crate::options::CsMatch;
 use crate::pushed::Pushed;
 use crate::status::{
-    DONE, EMPTY_PATTERN, ENDED, FOUND, NO_MEMORY, NO_SEARCHER, REFUSED, TOO_MANY_BYTES,
+    DONE, EMPTY_PATTERN, ENDED, FOUND, NO_MEMORY, NO_ROOM, NO_SEARCHER, NOT_ONE_EACH, REFUSED,
+    TOO_MANY_BYTES,
 };
 use crate::stream_handle::CsStream;
 use chromesquid::AhoCorasick;
@@ -121,6 +123,46 @@ pub extern "C" fn cs_stream_next(stream: &mut CsStream, found: &mut CsMatch) -> 
 {
     if stream.full {
         stream.held.get().next(found)
+    } else {
+        NO_SEARCHER
+    }
+}
+
+/// What is written for the next chunk of all bytes pushed so far, with the bytes for its pattern in the place of each match: 1 and the
+/// bytes in `room`, and in `len` how many they are, once no byte that follows can change them; else 0. So what is put, one call after
+/// another, is the replacement of what is pushed; after the end 0 says that all of it was put.
+///
+/// The room holds as many bytes as were pushed and not put yet, and as the longest replacement has. Else the answer is 11, and `len` is
+/// how many are wanted: at most 8 times as many as the longest pattern has or 65536, or those of the longest replacement.
+///
+/// # Errors
+///
+/// 2 where there is no stream; else 10 where there is not one replacement for each pattern; else 11. Nothing is told then. `room` is as
+/// it was unless 1 is answered, `len` unless 1 or 11 is.
+#[unsafe(no_mangle)]
+pub extern "C" fn cs_stream_replace(
+    stream: &mut CsStream,
+    replace_with: &[&[u8]],
+    room: &mut [u8],
+    len: &mut usize,
+) -> u32
+    ensures tells { IfStream stream.old (λ s. result ≤ FOUND → OfStream stream.new
+        (λ t. TellsReplaced s t replace_with.now result room.old room.new len.new)) }
+    ensures not_one_each { IfStream stream.old (λ s.
+        (IsOneEach s.searcher replace_with.now → ⊥) → result ≡ NOT_ONE_EACH) }
+    ensures no_room { IfStream stream.old (λ s. IsOneEach s.searcher replace_with.now
+        → length room.old < room_wanted s replace_with.now → result ≡ NO_ROOM) }
+    ensures told { IfStream stream.old (λ s. IsOneEach s.searcher replace_with.now
+        → room_wanted s replace_with.now ≤ length room.old → result ≤ FOUND) }
+    ensures wanted { IfStream stream.old (λ s.
+        result ≡ NO_ROOM → len.new ≡ room_wanted s replace_with.now) }
+    ensures empty { HasNoStream stream.old → result ≡ NO_SEARCHER }
+    ensures kept { FOUND < result → HoldsSameStream stream.old stream.new }
+    ensures unwritten { result ≢ FOUND → room.new ≡ room.old }
+    ensures unmeasured { result ≢ FOUND → result ≢ NO_ROOM → len.new ≡ len.old }
+{
+    if stream.full {
+        stream.held.get().replace(replace_with, room, len)
     } else {
         NO_SEARCHER
     }
