@@ -10,6 +10,7 @@ use Rattle.aho_core.specs.Occurrence.{Occurrence}
 use Rattle.aho_core.specs.Patterns.{Patterns}
 use Rattle.aho_core.specs.Search.{plain_search}
 use Rattle.aho_core.specs.declared.error.stream.StreamError.{StreamError}
+use Rattle.aho_core.specs.declared.search.Anchored.TheVariants.{No}
 use Rattle.aho_core.specs.declared.error.stream.StreamError.TheVariants.{Match as Refused, Read, Write, WriteZero, Memory, PositionLimit}
 use Rattle.aho_devices.specs.Counts.{counted}
 use Rattle.aho_devices.specs.Refusals.{is_read_fault}
@@ -26,7 +27,6 @@ use Rattle.aho_stream.specs.declared.chunks.StreamChunkIter.{StreamChunkIter}
 use Rattle.aho_stream.specs.declared.finds.StreamFindIter.{StreamFindIter}
 use Rattle.aho_stream.specs.declared.progress.StreamProgress.{StreamProgress}
 use Rattle.aho_stream.proofs.FindRuns.{find_steps}
-use Rattle.aho_stream.proofs.NextMatches.{MayFollow-nothing}
 use Rattle.programs.specs.declared.reason.Reason.{Reason}
 use Rattle.acredact.specs.Faults.{IsReadReason}
 use Rattle.acredact.specs.Looks.{IsLook, IsLookEnd, LooksAt, SomeOccurs, is_failed_look, look_of}
@@ -38,6 +38,11 @@ use Rattle.acredact.specs.declared.look.Look.TheVariants.{Clean, Found, Unread}
 first_answer : (p : Patterns) (bytes : List ℕ) (found : Option Occurrence) → IsNextFind p (plain_search bytes) None found → IsAnswer p (plain_search bytes) found
 first_answer p bytes found (answer, is, same) = subst (IsAnswer p (plain_search bytes)) (sym same) is
 
+-- nothing may always follow
+nothing_follows : (ended : Bool) → MayFollow ended []
+nothing_follows true = refl
+nothing_follows false = tt
+
 -- an error of the iterator is one of a look
 error_ends : (p : Patterns) (s s' : StreamProgress) (given : List ℕ) (error : StreamError) → FindsError p s s' given error → IsLookEnd error
 error_ends p s s' given (Refused cause) is = is
@@ -47,13 +52,13 @@ error_ends p s s' given WriteZero is = absurd is
 error_ends p s s' given Memory is = tt
 error_ends p s s' given PositionLimit is = tt
 
-fault_same : {A B : Type 0} (error : StreamError) → is_read_fault {A = A} (Err error) ≡ is_read_fault {A = B} (Err error)
-fault_same (Refused cause) = refl
-fault_same (Read fault) = refl
-fault_same (Write fault) = refl
-fault_same WriteZero = refl
-fault_same Memory = refl
-fault_same PositionLimit = refl
+fault_same : (A B : Type 0) (error : StreamError) → is_read_fault {A = A} (Err error) ≡ is_read_fault {A = B} (Err error)
+fault_same A B (Refused cause) = refl
+fault_same A B (Read fault) = refl
+fault_same A B (Write fault) = refl
+fault_same A B WriteZero = refl
+fault_same A B Memory = refl
+fault_same A B PositionLimit = refl
 
 module _ {A R : Type 0} (G : Ghosts A) (S : SourceGhosts R) (p : Patterns) (it rest : StreamFindIter A R) (along : FindsAlong S (find_steps G S) p it) (can : CanGoOn G it.chunks) where
   -- there is none
@@ -75,7 +80,7 @@ module _ {A R : Type 0} (G : Ghosts A) (S : SourceGhosts R) (p : Patterns) (it r
   looks_some m step =
       let so : FindsSoFar S p it.chunks.source.now rest.chunks.source.now (Ok m ∷ []) = along.so_far (Ok m ∷ []) rest (rest, step, refl) in
       let first : IsNextFind p (plain_search so.given) None (Some m) =
-      subst (λ (bytes : List ℕ). IsNextFind p (plain_search bytes) None (Some m)) (append-nil so.given) (so.first [] (MayFollow-nothing so.ended)).0 in
+      subst (λ (bytes : List ℕ). IsNextFind p (plain_search bytes) None (Some m)) (append-nil so.given) (so.first [] (nothing_follows so.ended)).0 in
       record {
         given = so.given;
         ended = so.ended;
@@ -96,7 +101,7 @@ module _ {A R : Type 0} (G : Ghosts A) (S : SourceGhosts R) (p : Patterns) (it r
         gives = so.gives;
         unmatched = λ (is : Err error ≡ Ok false). absurd (cc);
         matched = λ (is : Err error ≡ Ok true). absurd (cc);
-        read_failed = step.call.read_failed ∙ ap (λ (b : Bool). counted b (S.failures it.chunks.source.now)) (fault_same {A = Occurrence} {B = Bool} error);
+        read_failed = step.call.read_failed ∙ ap (λ (b : Bool). counted b (S.failures it.chunks.source.now)) (fault_same Occurrence Bool error);
         only = error_ends can.0 it.chunks.progress rest.chunks.progress _ error (step.finds can.0 can.1 can.2 can.3);
       }
 
@@ -113,7 +118,7 @@ looks_memory S p source = record {
 }
 
 -- an automaton that can search streams refuses for want of memory alone
-pub memory_of : {A T : Type 0} (G : Ghosts A) (automaton : A) (error : StreamError) → CanBegin G automaton → Refuses {A = T} (G.lengths automaton) (G.start automaton _) (Err error) → error ≡ Memory
+pub memory_of : {A T : Type 0} (G : Ghosts A) (automaton : A) (error : StreamError) → CanBegin G automaton → Refuses {A = T} (G.lengths automaton) (G.start automaton No) (Err error) → error ≡ Memory
 memory_of G automaton error can refuses = refuses.memory can.0 can.1 can.2
 
 -- what a look at a stream means for its file

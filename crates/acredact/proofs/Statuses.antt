@@ -47,11 +47,11 @@ checks_of given is = let parts = check_parts (has Check given) (has Help given) 
 
 -- a call checks or does not
 by_checks : {P : Type 0} (given : List Given) → (AsksToCheck given → P) → (checks_asked given ≡ false → P) → P
-by_checks {P} given yes no = by (checks_asked given) refl
+by_checks {P} given checking redacting = by (checks_asked given) refl
   where
     by : (b : Bool) → checks_asked given ≡ b → P
-    by true is = yes (checks_of given is)
-    by false is = no is
+    by true is = checking (checks_of given is)
+    by false is = redacting is
 
 -- the greatest status is 2
 pub bound_by : (given : List Given) (status : ℕ) → (AsksToCheck given → status ≤ 2) → (checks_asked given ≡ false → (status ≡ 0) ⊎ (status ≡ 2)) → status ≤ 2

@@ -20,7 +20,8 @@ use aho_automaton::automaton::Automaton;
 use aho_core::error::StreamError;
 use aho_devices::adapters::FromRead;
 use aho_devices::device::{Sink, Source};
-use aho_stream::finds::{StreamFindIter, try_stream_find_iter};
+use aho_stream::finds::StreamFindIter;
+use aho_stream::start::StreamStart;
 use programs::errors::Errors;
 use programs::reason::Reason;
 use std::alloc::{AllocError, Global};
@@ -191,7 +192,9 @@ fn occurs_in<A: Automaton, R: Source>(
     ensures looks { IfOf A.Automaton automaton.now (λ p.
         LooksAt R.Source p result source.old source.new) }
 {
-    let mut finds = try_stream_find_iter(alloc, automaton, source)?;
+    // Not by `try_stream_find_iter`, which does not say that a refusal leaves the source as it was.
+    let start = StreamStart::new(alloc, automaton)?;
+    let mut finds = start.finds(source);
     let occurs = has_next(&mut finds);
     let _source = finds.into_source();
     occurs

@@ -67,3 +67,35 @@ returns-in_err-patterns-clause-sees g c =
     let is : c.from_residual.result ≡ Err (Other OutOfMemory) = search rules in
     subst (λ (r : Result Verdict Failure). SeesFiles g.E.Sink (quest_by (call_of g.F.Folder c.args.folder.now (all_given c.args.given.now)) (secrets_of c.args.rules.now)) (names_asked (all_given c.args.given.now)) r (bytes_left c.args.input.now) (bytes_left c.args.input.now) c.args.errors.now c.args.errors.now) (sym is)
     (seen_refused g.E.Sink _ _ _ _ _ _)
+
+pub returns-in_err-names-clause-sees : goal.returns-in_err-names-clause-sees
+returns-in_err-names-clause-sees g c =
+    let is : c.from_residual-in_err-names.result ≡ Err (Other OutOfMemory) = search rules in
+    subst (λ (r : Result Verdict Failure). SeesFiles g.E.Sink (quest_by (call_of g.F.Folder c.args.folder.now (all_given c.args.given.now)) (secrets_of c.args.rules.now)) (names_asked (all_given c.args.given.now)) r (bytes_left c.args.input.now) (bytes_left c.args.input.now) c.args.errors.now c.args.errors.now) (sym is)
+    (seen_refused g.E.Sink _ _ _ _ _ _)
+
+pub returns-in_err-nfa-clause-sees : goal.returns-in_err-nfa-clause-sees
+returns-in_err-nfa-clause-sees g c =
+    let is : c.from_residual-in_err-nfa.result ≡ Err (Other (Build c.in_err-nfa.field-0.0)) = search rules in
+    subst (λ (r : Result Verdict Failure). SeesFiles g.E.Sink (quest_by (call_of g.F.Folder c.args.folder.now (all_given c.args.given.now)) (secrets_of c.args.rules.now)) (names_asked (all_given c.args.given.now)) r (bytes_left c.args.input.now) (bytes_left c.args.input.now) c.args.errors.now c.args.errors.now) (sym is)
+    (seen_refused g.E.Sink _ _ _ _ _ _)
+
+pub returns-in_err-rows-clause-sees : goal.returns-in_err-rows-clause-sees
+returns-in_err-rows-clause-sees g c =
+    let is : c.from_residual-in_err-rows.result ≡ Err (Other OutOfMemory) = search rules in
+    subst (λ (r : Result Verdict Failure). SeesFiles g.E.Sink (quest_by (call_of g.F.Folder c.args.folder.now (all_given c.args.given.now)) (secrets_of c.args.rules.now)) (names_asked (all_given c.args.given.now)) r (bytes_left c.args.input.now) (bytes_left c.args.input.now) c.args.errors.now c.args.errors.now) (sym is)
+    (seen_refused g.E.Sink _ _ _ _ _ _)
+
+pub returns-in_err-look_by-clause-sees : goal.returns-in_err-look_by-clause-sees
+returns-in_err-look_by-clause-sees g c =
+    let p = patterns_by_given (all_given c.args.given.now) (patterns_in (secrets_of c.args.rules.now)) in
+    let after = (goal.at.returns-in_err-look_by-clause-sees g c).After-as_ref in
+    let is : c.from_residual-in_err-look_by.result ≡ Err (Other OutOfMemory) = search rules in
+    subst (λ (r : Result Verdict Failure). SeesFiles g.E.Sink (quest_by (call_of g.F.Folder c.args.folder.now (all_given c.args.given.now)) (secrets_of c.args.rules.now)) (names_asked (all_given c.args.given.now)) r (bytes_left c.args.input.now) (bytes_left c.look_by.new.input) c.args.errors.now c.look_by.new.errors) (sym is)
+    (seen_fails g.E.Sink (quest_of g.F.Folder c.args.folder.now p) _ _ c.in_err-look_by.field-0.0 _ _ _ _ _ (names_are g after) (c.in_err-look_by.ensures.sees p (nfa_is g after) (rows_are g after)))
+
+pub returns-clause-sees : goal.returns-clause-sees
+returns-clause-sees g c =
+    let p = patterns_by_given (all_given c.args.given.now) (patterns_in (secrets_of c.args.rules.now)) in
+    let after = (goal.at.returns-clause-sees g c).After-as_ref in
+    seen_whole g.E.Sink (quest_of g.F.Folder c.args.folder.now p) _ _ _ _ _ _ _ (names_are g after) (c.in_ok-look_by.ensures.sees p (nfa_is g after) (rows_are g after))

@@ -1,5 +1,5 @@
 -- A file more is looked at.
-use Rattle.std.proofs.Common.{rules, ◌≡◌, ◌≤◌, ℕ, List, length, subst, sym}
+use Rattle.std.proofs.Common.{rules, ◌≡◌, ◌≤◌, ◌-◌, ℕ, List, drop, length, subst, sym, take}
 use Rattle.std.specs.Prelude.{Err, Result}
 use Rattle.std.specs.declared.alloc.AllocError.{AllocError}
 use Rattle.programs.specs.Names.{name_bytes}
@@ -20,15 +20,16 @@ loop-rest-preserved g c = λ p of.
     let some : 1 ≤ length c.loop-rest.rest.now = search rules in
     let so = subst (λ (l : List (List ℕ)). SeenSoFar g.E.Sink quest names c.args.errors.now (bytes_left c.args.input.now) l c.loop-rest.verdict (bytes_left c.loop-rest.input) c.loop-rest.errors)
     (names_cut c.loop-rest.rest.now _ some) (c.loop-rest.invariant p of) in
-    subst (λ (v : Verdict). SeenSoFar g.E.Sink quest names c.args.errors.now (bytes_left c.args.input.now) _ v (bytes_left c.look_at_file-look.new.input) c.tell_look.new.errors) (sym c.verdict_with.ensures.with)
-    (seen_more g.E.Sink quest names c.args.errors.now (bytes_left c.args.input.now) _ _ c.loop-rest.verdict c.in_ok-look.look _ _ _ _ so (c.in_ok-look.ensures.looks p of) c.tell_look.ensures.told c.tell_look.ensures.quiet)
+    let rest = name_bytes (take (length c.loop-rest.rest.now - 1) (drop 1 c.loop-rest.rest.now)) in
+    subst (λ (v : Verdict). SeenSoFar g.E.Sink quest names c.args.errors.now (bytes_left c.args.input.now) rest v (bytes_left c.look_at_file.new.input) c.tell_look.new.errors) (sym c.verdict_with-verdict.ensures.with)
+    (seen_more g.E.Sink quest names c.args.errors.now (bytes_left c.args.input.now) _ rest c.loop-rest.verdict c.in_ok-look.look _ _ _ _ so (c.in_ok-look.ensures.looks p of) c.tell_look.ensures.told c.tell_look.ensures.quiet)
 
 pub returns-in_err-look : goal.returns-in_err-look
 returns-in_err-look g c =
     let is : c.from_residual.result ≡ Err c.in_err-look.field-0.0 = search rules in
     record {
       sees = λ p of.
-          subst (λ (r : Result Verdict AllocError). SeesFiles g.E.Sink (quest_of g.F.Folder c.args.files.now.folder.now p) (name_bytes c.args.files.now.names.now) r (bytes_left c.args.input.now) (bytes_left c.look_at_file-look.new.input) c.args.errors.now c.loop-rest.errors) (sym is)
+          subst (λ (r : Result Verdict AllocError). SeesFiles g.E.Sink (quest_of g.F.Folder c.args.files.now.folder.now p) (name_bytes c.args.files.now.names.now) r (bytes_left c.args.input.now) (bytes_left c.look_at_file.new.input) c.args.errors.now c.loop-rest.errors) (sym is)
           (seen_cut g.E.Sink _ _ _ _ _ _ c.loop-rest.verdict _ _ _ (c.loop-rest.invariant p of));
     }
 

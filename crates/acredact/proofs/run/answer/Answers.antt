@@ -1,9 +1,10 @@
 -- A check or a redaction, and its status.
-use Rattle.std.proofs.Common.{rules, ◌≡◌, refl, sym, subst, ◌∙◌, true, false}
+use Rattle.std.proofs.Common.{rules, ◌≡◌, ℕ, refl, sym, subst, ◌∙◌, true, false}
 use Rattle.std.specs.Prelude.{Bool, Ok, OnOk, Result}
 use Rattle.programs.specs.Streams.{bytes_left}
 use Rattle.acredact.specs.Arguments.{GivesNoPattern, all_given, checks_asked}
 use Rattle.acredact.specs.Calls.{CallOutcome, call_of}
+use Rattle.acredact.specs.Statuses.{CallStatus}
 use Rattle.acredact.specs.declared.failure.Failure.{Failure}
 use Rattle.acredact.proofs.Statuses.{no_checking, no_redaction, status_done, status_failed, status_partly}
 use Rattle.acredact.proofs.run.answer.Goals as goal
@@ -42,8 +43,9 @@ returns-in-Ok-false-clause-checked g c = λ asks. absurd (no_checking (all_given
 pub returns-in-Err-clause-redacted : goal.returns-in-Err-clause-redacted
 returns-in-Err-clause-redacted g c = λ asks.
     let told = c.report.ensures.told in
-    status_failed g.W.Write g.E.Sink (call_of g.F.Folder c.args.folder.now (all_given c.args.given.now)) c.args.streams.now c.redact_asked.new.streams c.in-Err.failure c.report.new.errors told.0
-    (c.in-Err.ensures.outcome asks) told.1 told.2
+    subst (λ (status : ℕ). CallStatus g.W.Write g.E.Sink (call_of g.F.Folder c.args.folder.now (all_given c.args.given.now)) status c.args.streams.now (record c.redact_asked.new.streams { errors = c.report.new.errors })) (sym c.report.ensures.failed)
+    (status_failed g.W.Write g.E.Sink (call_of g.F.Folder c.args.folder.now (all_given c.args.given.now)) c.args.streams.now c.redact_asked.new.streams c.in-Err.failure c.report.new.errors told.0
+    (c.in-Err.ensures.outcome asks) told.1 told.2)
 
 pub returns-in-Err-clause-checked : goal.returns-in-Err-clause-checked
 returns-in-Err-clause-checked g c = λ asks. absurd (no_checking (all_given c.args.given.now) (sym c.checks.ensures.checks ∙ c.if-checks.false) asks)
