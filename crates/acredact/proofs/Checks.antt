@@ -1,14 +1,14 @@
 -- What is seen of files, one after another.
 use Rattle.std.proofs.Common.{◌≡◌, inl, inr, ℕ, List, [], ◌∷◌, ◌++◌, Option, true, false, refl, sym, ap, subst, ◌∙◌, append-nil, append_assoc, arith}
-use Rattle.std.specs.Prelude.{Bool, ◌⊎◌, ◌<◌, ◌||◌, ◌&&◌, not, None, Some, Result, Ok, Err, IfErr, IfOk, OnErr}
-use Rattle.std.specs.Io.KnownBytes.{Consumes, Keeps}
+use Rattle.std.specs.Prelude.{Bool, ◌⊎◌, ◌<◌, ◌||◌, ◌&&◌, not, Result, Ok, Err, IfErr}
+use Rattle.std.specs.Io.KnownBytes.{Keeps}
 use Rattle.std.specs.List.{All, concat}
 use Rattle.std.proofs.KnownBytes.{Consumes-nil}
 use Rattle.std.proofs.lemmas.List.Elements.{All-append, All-cons, All-nil}
 use Rattle.aho_core.specs.Patterns.{Patterns}
 use Rattle.aho_devices.specs.declared.device.Sink.{Ghosts as SinkGhosts}
 use Rattle.programs.specs.Names.{IsAmong, is_input}
-use Rattle.programs.specs.Telling.{Tells, TellsBytes}
+use Rattle.programs.specs.Telling.{TellsBytes}
 use Rattle.programs.specs.declared.errors.Errors.{Errors}
 use Rattle.programs.specs.declared.reason.Reason.{Reason}
 use Rattle.programs.proofs.Tellings.{tells-later}

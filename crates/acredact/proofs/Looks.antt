@@ -1,8 +1,7 @@
 -- What a look at a stream says, by what the first call of an iterator over its matches answers.
-use Rattle.std.proofs.Common.{◌≡◌, ◌≢◌, inl, inr, ℕ, List, [], ◌∷◌, ◌++◌, Option, true, false, refl, sym, ap, subst, ◌∙◌, append-nil, arith}
-use Rattle.std.specs.Prelude.{Bool, ◌⊎◌, ◌||◌, None, Some, Result, Ok, Err, IfErr, IfOk, alloc_error}
+use Rattle.std.proofs.Common.{◌≡◌, ◌≢◌, ℕ, List, [], ◌∷◌, Option, true, false, refl, sym, ap, subst, ◌∙◌, append-nil, arith}
+use Rattle.std.specs.Prelude.{Bool, None, Some, Result, Ok, Err, IfOk}
 use Rattle.std.specs.Io.KnownBytes.{Consumes, IsAtEnd}
-use Rattle.std.specs.declared.alloc.AllocError.{AllocError}
 use Rattle.std.proofs.KnownBytes.{Consumes-nil}
 use Rattle.aho_core.specs.Answer.{IsAnswer}
 use Rattle.aho_core.specs.Iteration.{IsNextFind}
@@ -17,22 +16,16 @@ use Rattle.aho_devices.specs.Refusals.{is_read_fault}
 use Rattle.aho_devices.specs.declared.device.Source.{Ghosts as SourceGhosts}
 use Rattle.aho_automaton.specs.declared.automaton.Automaton.{Ghosts}
 use Rattle.aho_stream.specs.After.{MayFollow}
-use Rattle.aho_stream.specs.Chunks.{tells_read_fault}
 use Rattle.aho_stream.specs.FindRuns.{FindsAlong, FindsAll, FindsSoFar}
 use Rattle.aho_stream.specs.Finds.{FindsError, FindsNextInStream}
-use Rattle.aho_stream.specs.Iterators.{CanGoOn, automaton_of}
+use Rattle.aho_stream.specs.Iterators.{CanGoOn}
 use Rattle.aho_stream.specs.Replacing.{Refuses}
 use Rattle.aho_stream.specs.StreamRun.{CanBegin}
-use Rattle.aho_stream.specs.declared.chunks.StreamChunkIter.{StreamChunkIter}
 use Rattle.aho_stream.specs.declared.finds.StreamFindIter.{StreamFindIter}
 use Rattle.aho_stream.specs.declared.progress.StreamProgress.{StreamProgress}
 use Rattle.aho_stream.proofs.FindRuns.{find_steps}
-use Rattle.programs.specs.declared.reason.Reason.{Reason}
 use Rattle.acredact.specs.Faults.{IsReadReason}
-use Rattle.acredact.specs.Looks.{IsLook, IsLookEnd, LooksAt, SomeOccurs, is_failed_look, look_of}
-use Rattle.acredact.specs.Secrets.{NoneOccurs}
-use Rattle.acredact.specs.declared.look.Look.{Look}
-use Rattle.acredact.specs.declared.look.Look.TheVariants.{Clean, Found, Unread}
+use Rattle.acredact.specs.Looks.{IsLook, IsLookEnd, LooksAt, is_failed_look, look_of}
 
 -- the first find is the answer of the search
 first_answer : (p : Patterns) (bytes : List ℕ) (found : Option Occurrence) → IsNextFind p (plain_search bytes) None found → IsAnswer p (plain_search bytes) found

@@ -1,5 +1,5 @@
 -- Whether some pattern occurs in what is read: what a check looks for.
-use Rattle.std.specs.Prelude.{◌≡◌, ℕ, ◌||◌, ◌&&◌, not, Bool, true, false, List, [], ◌∷◌, Option, Some, Result, Ok, Err, IfErr, alloc_error}
+use Rattle.std.specs.Prelude.{◌≡◌, ℕ, ◌||◌, ◌&&◌, not, Bool, true, false, List, Option, Some, Result, Ok, Err, IfErr, alloc_error}
 use Rattle.std.specs.Io.KnownBytes.{Consumes}
 use Rattle.std.specs.declared.alloc.AllocError.{AllocError}
 use Rattle.aho_core.specs.Occurrence.{Occurrence}
@@ -16,7 +16,7 @@ use Rattle.aho_stream.specs.Replacing.{SourceGave}
 use Rattle.aho_stream.specs.StreamRun.{CanBegin}
 use Rattle.programs.specs.declared.reason.Reason.{Reason}
 use Rattle.programs.specs.declared.reason.Reason.TheVariants.{PositionLimit as TooLong, ReadFault}
-use Rattle.acredact.specs.Faults.{IsReadReason, is_unread}
+use Rattle.acredact.specs.Faults.{is_unread}
 use Rattle.acredact.specs.Reads.{ReadsText}
 use Rattle.acredact.specs.Secrets.{NoneOccurs}
 use Rattle.acredact.specs.declared.look.Look.{Look}

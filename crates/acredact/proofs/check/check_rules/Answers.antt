@@ -1,5 +1,5 @@
 -- Both automata are of the patterns that are asked for.
-use Rattle.std.proofs.Common.{rules, ◌≡◌, ◌≤◌, ◌∙◌, inl, inr, ap, refl, sym, subst, length, map, List, ℕ}
+use Rattle.std.proofs.Common.{rules, ◌≡◌, ◌≤◌, ◌∙◌, ap, sym, subst, length, map, List, ℕ}
 use Rattle.std.specs.Prelude.{IfSome, IsOk, None, Option, Some, Err, Result}
 use Rattle.std.specs.Borrow.{Bor}
 use Rattle.aho_core.specs.Laws.{shortest}

@@ -1,5 +1,5 @@
 -- By what the first call answers.
-use Rattle.std.proofs.Common.{◌≡◌, Option, ap, subst, ◌∙◌}
+use Rattle.std.proofs.Common.{Option, ap, subst, ◌∙◌}
 use Rattle.std.specs.Prelude.{Some, Result}
 use Rattle.aho_core.specs.Occurrence.{Occurrence}
 use Rattle.aho_core.specs.declared.error.stream.StreamError.{StreamError}

@@ -1,5 +1,5 @@
 -- The input is looked at from its beginning.
-use Rattle.std.proofs.Common.{◌≡◌, ◌≢◌, ap, sym, subst, ◌∙◌}
+use Rattle.std.proofs.Common.{◌≢◌, ap, sym, subst, ◌∙◌}
 use Rattle.std.specs.Prelude.{Bool, IfOk, Result}
 use Rattle.std.specs.declared.alloc.AllocError.{AllocError}
 use Rattle.aho_devices.specs.Counts.{counted}

@@ -2,7 +2,7 @@
 use Rattle.std.proofs.Common.{rules, ◌≡◌, ℕ, refl, sym, subst, ◌∙◌, true, false}
 use Rattle.std.specs.Prelude.{Bool, Ok, OnOk, Result}
 use Rattle.programs.specs.Streams.{bytes_left}
-use Rattle.acredact.specs.Arguments.{GivesNoPattern, all_given, checks_asked}
+use Rattle.acredact.specs.Arguments.{all_given, checks_asked}
 use Rattle.acredact.specs.Calls.{CallOutcome, call_of}
 use Rattle.acredact.specs.Statuses.{CallStatus}
 use Rattle.acredact.specs.declared.failure.Failure.{Failure}

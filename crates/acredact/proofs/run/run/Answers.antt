@@ -4,7 +4,7 @@ use Rattle.std.specs.Prelude.{None, Some}
 use Rattle.programs.specs.Arguments.{texts}
 use Rattle.programs.specs.Streams.{bytes_left}
 use Rattle.acredact.specs.Arguments.{AsksToCheck, AsksToRedact, Given, all_asked, all_given}
-use Rattle.acredact.specs.Calls.{Call, CallOutcome, IsWrongLine, call_of}
+use Rattle.acredact.specs.Calls.{IsWrongLine, call_of}
 use Rattle.acredact.specs.Checks.{ChecksAlone, CheckStatus}
 use Rattle.acredact.specs.Statuses.{CallStatus}
 use Rattle.acredact.specs.declared.failure.Failure.TheVariants.{Arguments}
