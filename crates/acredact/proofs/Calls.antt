@@ -21,6 +21,7 @@ use Rattle.acredact.specs.Arguments.{has}
 use Rattle.acredact.specs.Calls.{BeginsCall, Call, CallOutcome, IsCountsFailure, IsCountsLine, IsLineOf, IsRunFailure, IsUnreadLine, IsUntouched, MayFail, OutputFails, RestOutcome, RunOutcome, TellsCounts, names_asked, work_by}
 use Rattle.acredact.specs.Counts.{counts_text}
 use Rattle.acredact.specs.Files.{AreCut, FilesOutcome, IsDone, Work, are_none, unread_line}
+use Rattle.acredact.specs.Messages.{output_line}
 use Rattle.acredact.specs.Tables.{Secret}
 use Rattle.acredact.specs.declared.arguments.Word.TheVariants.{Count}
 use Rattle.acredact.specs.declared.clean.Unclean.{Unclean}
@@ -36,13 +37,15 @@ none_are (line ∷ lines) none = absurd (cc)
 
 -- the lines that are told of files tell each why one of them was not read to its end
 unread_more : (name : List ℕ) (names : List (List ℕ)) (lines : List (List ℕ)) → All (IsUnreadLine names) lines → All (IsUnreadLine (name ∷ names)) lines
-unread_more name names lines = All-weaker (IsUnreadLine names) (IsUnreadLine (name ∷ names)) (λ line is. (is.0, is.1, inr is.2, is.3)) lines
+unread_more name names lines = All-weaker (IsUnreadLine names) (IsUnreadLine (name ∷ names)) (λ line is. (is.0, inr is.1, is.2)) lines
 
 module _ (work : Work) where
   unread_one : (name : List ℕ) (names lines : List (List ℕ)) (left left' held held' : Option (List ℕ)) → IsDone work name lines left left' held held' → All (IsUnreadLine (name ∷ names)) lines
   unread_one name names lines left left' held held' (inl is) = subst (All (IsUnreadLine (name ∷ names))) (sym is.0) (All-nil (IsUnreadLine (name ∷ names)))
-  unread_one name names lines left left' held held' (inr is) =
-      subst (All (IsUnreadLine (name ∷ names))) (sym is.1) (All-cons (IsUnreadLine (name ∷ names)) (unread_line name is.0) [] (name, is.0, inl refl, refl) (All-nil (IsUnreadLine (name ∷ names))))
+  unread_one name names lines left left' held held' (inr (inl is)) =
+      subst (All (IsUnreadLine (name ∷ names))) (sym is.1) (All-cons (IsUnreadLine (name ∷ names)) (unread_line name is.0) [] (name, inl refl, inl (is.0, refl)) (All-nil (IsUnreadLine (name ∷ names))))
+  unread_one name names lines left left' held held' (inr (inr is)) =
+      subst (All (IsUnreadLine (name ∷ names))) (sym is.0) (All-cons (IsUnreadLine (name ∷ names)) (output_line name) [] (name, inl refl, inr refl) (All-nil (IsUnreadLine (name ∷ names))))
 
   unread_of : (names lines : List (List ℕ)) (left left' held held' : Option (List ℕ)) → AreCut work names lines left left' held held' → All (IsUnreadLine names) lines
   unread_of [] lines left left' held held' cut = subst (All (IsUnreadLine [])) (sym cut.0) (All-nil (IsUnreadLine []))
@@ -220,13 +223,13 @@ module _ {R : Type 0} {Reads : Readers R} {W E : Type 0} (Writes : Writers W) (K
         rest_untold all errors failure run (subst (λ (b : Bool). IsCountsFailure b failure) is fails) (subst (λ (b : Bool). Tells K (IsCountsLine b) mid.errors errors) is told)
 
 -- what holds of some work holds of the same with the same names, pieces and way
-pub work_as : (holds : List ℕ → Option (List ℕ)) (refuses : List ℕ → Reason → Type 0) (p : Patterns) (names names' pieces pieces' : List (List ℕ)) (covers covers' : Bool) → names ≡ names' → covers ≡ covers' → pieces ≡ pieces'
-    → (P : Work → Type 0) → P (record { holds = holds; refuses = refuses; names = names; redactor = record { patterns = p; covers = covers; pieces = pieces } })
-    → P (record { holds = holds; refuses = refuses; names = names'; redactor = record { patterns = p; covers = covers'; pieces = pieces' } })
-work_as holds refuses p names names' pieces pieces' covers covers' same by alike P is =
-    subst (λ (l : List (List ℕ)). P (record { holds = holds; refuses = refuses; names = names'; redactor = record { patterns = p; covers = covers'; pieces = l } })) alike
-    (subst (λ (b : Bool). P (record { holds = holds; refuses = refuses; names = names'; redactor = record { patterns = p; covers = b; pieces = pieces } })) by
-    (subst (λ (l : List (List ℕ)). P (record { holds = holds; refuses = refuses; names = l; redactor = record { patterns = p; covers = covers; pieces = pieces } })) same is))
+pub work_as : (holds : List ℕ → Option (List ℕ)) (refuses : List ℕ → Reason → Type 0) (meets : List ℕ → Bool → Type 0) (p : Patterns) (names names' pieces pieces' : List (List ℕ)) (covers covers' : Bool) → names ≡ names' → covers ≡ covers' → pieces ≡ pieces'
+    → (P : Work → Type 0) → P (record { holds = holds; refuses = refuses; meets = meets; names = names; redactor = record { patterns = p; covers = covers; pieces = pieces } })
+    → P (record { holds = holds; refuses = refuses; meets = meets; names = names'; redactor = record { patterns = p; covers = covers'; pieces = pieces' } })
+work_as holds refuses meets p names names' pieces pieces' covers covers' same by alike P is =
+    subst (λ (l : List (List ℕ)). P (record { holds = holds; refuses = refuses; meets = meets; names = names'; redactor = record { patterns = p; covers = covers'; pieces = l } })) alike
+    (subst (λ (b : Bool). P (record { holds = holds; refuses = refuses; meets = meets; names = names'; redactor = record { patterns = p; covers = b; pieces = pieces } })) by
+    (subst (λ (l : List (List ℕ)). P (record { holds = holds; refuses = refuses; meets = meets; names = l; redactor = record { patterns = p; covers = covers; pieces = pieces } })) same is))
 
 -- a call as it is from a state whose input was read further
 module _ {R : Type 0} {Reads : Readers R} {W E : Type 0} (Writes : Writers W) (K : SinkGhosts E) (call : Call) (left : Option (List ℕ)) where

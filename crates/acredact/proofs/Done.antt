@@ -22,6 +22,7 @@ use Rattle.programs.specs.declared.reason.Reason.{Reason}
 use Rattle.programs.proofs.Tellings.{tells-later}
 use Rattle.acredact.specs.Faults.{IsOutputEnd}
 use Rattle.acredact.specs.Files.{AreCut, AreDone, AreRedacted, FileOutcome, FilesOutcome, IsDone, ToldOutcome, Work, are_none, unread_line}
+use Rattle.acredact.specs.Messages.{output_line}
 use Rattle.acredact.specs.declared.streams.Streams.{Streams}
 
 -- the lines of two
@@ -47,8 +48,9 @@ module _ (work : Work) where
   pub redacted_of : (names lines : List (List ℕ)) (left left' held held' : Option (List ℕ)) → lines ≡ [] → AreDone work names lines left left' held held' → AreRedacted work names left left' held held'
   redacted_of [] lines left left' held held' none done = (done.1, done.2)
   redacted_of (name ∷ names) lines left left' held held' none (first, rest, are, between, meanwhile, inl is, others) =
-      (between, meanwhile, is.1, redacted_of names rest between left' meanwhile held' (sym (are ∙ ap (λ l. l ++ rest) is.0) ∙ none) others)
-  redacted_of (name ∷ names) lines left left' held held' none (first, rest, are, between, meanwhile, inr is, others) = absurd (some_none _ rest (sym (ap (λ l. l ++ rest) is.1) ∙ sym are ∙ none))
+      (between, meanwhile, is.1, is.2, redacted_of names rest between left' meanwhile held' (sym (are ∙ ap (λ l. l ++ rest) is.0) ∙ none) others)
+  redacted_of (name ∷ names) lines left left' held held' none (first, rest, are, between, meanwhile, inr (inl is), others) = absurd (some_none _ rest (sym (ap (λ l. l ++ rest) is.1) ∙ sym are ∙ none))
+  redacted_of (name ∷ names) lines left left' held held' none (first, rest, are, between, meanwhile, inr (inr is), others) = absurd (some_none _ rest (sym (ap (λ l. l ++ rest) is.0) ∙ sym are ∙ none))
 
   -- what is done is cut behind all
   pub cut_of : (names lines : List (List ℕ)) (left left' held held' : Option (List ℕ)) → AreDone work names lines left left' held held' → AreCut work names lines left left' held held'
@@ -201,7 +203,7 @@ module _ {R W E : Type 0} {Reads : Readers R} (Writes : Writers W) (K : SinkGhos
       unread_line name reason ∷ [],
       refl,
       (
-        inr (reason, refl, file.reason, file.begun),
+        inr (inl (reason, refl, file.reason, file.begun)),
         subst (λ (e : Errors E). TellsBytes K e errors (concat (unread_line name reason ∷ []))) same
             (subst (TellsBytes K mid.errors errors) (sym (append-nil (unread_line name reason))) tells),
       ),
@@ -212,10 +214,24 @@ module _ {R W E : Type 0} {Reads : Readers R} (Writes : Writers W) (K : SinkGhos
     fails = record { write_failed = file.fails.write_failed; took_nothing = file.fails.took_nothing; only = tt };
   }
 
-  pub told_whole : (name : List ℕ) (old mid : Streams R W E Reads) → FileOutcome Writes work name (Ok None) old.input mid.input old.output mid.output
+  -- one that the output goes to is told, and not read
+  pub told_output : (name : List ℕ) (old : Streams R W E Reads) (errors : Errors E) → work.meets name true → TellsBytes K old.errors errors (output_line name) → ToldOutcome Writes K work name (Ok false) old (record old { errors = errors })
+  told_output name old errors meets tells = record {
+    done = (
+      output_line name ∷ [],
+      refl,
+      (inr (inr (refl, meets, refl, Keeps-refl (output_bytes Writes old.output))), subst (TellsBytes K old.errors errors) (sym (append-nil (output_line name))) tells),
+    );
+    cut = tt;
+    quiet = λ (is : Ok false ≡ Ok true). absurd (cc);
+    untold = tt;
+    fails = record { write_failed = refl; took_nothing = refl; only = tt };
+  }
+
+  pub told_whole : (name : List ℕ) (old mid : Streams R W E Reads) → work.meets name false → FileOutcome Writes work name (Ok None) old.input mid.input old.output mid.output
       → mid.errors ≡ old.errors → ToldOutcome Writes K work name (Ok true) old mid
-  told_whole name old mid file same = record {
-    done = ([], refl, (inl (refl, file.redacted refl), subst (λ (e : Errors E). TellsBytes K old.errors e []) (sym same) (tells_none K old.errors)));
+  told_whole name old mid apart file same = record {
+    done = ([], refl, (inl (refl, apart, file.redacted refl), subst (λ (e : Errors E). TellsBytes K old.errors e []) (sym same) (tells_none K old.errors)));
     cut = tt;
     quiet = λ is. same;
     untold = tt;

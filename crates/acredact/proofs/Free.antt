@@ -21,7 +21,7 @@ text_free r covers clean left left' held held' of = record { text = of.text; rea
 
 pub free_of : (work : Work) → work.redactor.covers ≡ true → AreClean work.redactor.patterns work.redactor.pieces → (names : List (List ℕ)) (left left' held held' : Option (List ℕ)) → AreRedacted work names left left' held held' → AreFree work names left left' held held'
 free_of work covers clean [] left left' held held' are = are
-free_of work covers clean (name ∷ names) left left' held held' (between, meanwhile, is, others) = (
+free_of work covers clean (name ∷ names) left left' held held' (between, meanwhile, apart, is, others) = (
   between,
   meanwhile,
   named_as work.holds name (λ l l'. RedactsText work.redactor l l' held meanwhile) (λ l l'. WritesText (IsFree work.redactor) l l' held meanwhile)

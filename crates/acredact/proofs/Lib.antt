@@ -18,5 +18,9 @@ mod Free
 mod Calls
 mod Warned
 mod Given
+mod Statuses
+-- what is seen of files
+mod Looks
+mod Checks
 mod Reading
 mod Ready

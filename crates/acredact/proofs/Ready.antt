@@ -14,14 +14,16 @@ use Rattle.aho_core.specs.declared.search.MatchKind.{MatchKind}
 use Rattle.aho_core.specs.declared.search.MatchKind.TheVariants.{Standard}
 use Rattle.aho_automaton.specs.declared.automaton.Automaton.{Ghosts}
 use Rattle.programs.specs.Arguments.{kind_by}
-use Rattle.programs.specs.declared.reason.Reason.{Reason}
 use Rattle.acredact.specs.Arguments.{Given, GivesNoPattern, covers_asked, has, is_cover, kind_asked, last_value}
 use Rattle.acredact.specs.Calls.{gives_pattern}
-use Rattle.acredact.specs.Loading.{AreGiven, OptionGives, Reading}
+use Rattle.acredact.specs.Loading.{AreGiven, OptionGives, Reading, Rules, reading_of_lists, rules_for}
+use Rattle.acredact.specs.Looks.{CanLook}
 use Rattle.acredact.specs.Secrets.{CanRedact}
 use Rattle.acredact.specs.Tables.{HaveNoEmpty, HoldsBy, Secret, patterns_in}
 use Rattle.acredact.specs.declared.arguments.Word.{Word}
-use Rattle.acredact.specs.declared.arguments.Word.TheVariants.{IgnoreCase, Kind, Pattern, Patterns as PatternFile, Table, With, Count, Crlf, AllowEmpty, Strict, Help, Version, File}
+use Rattle.acredact.specs.declared.arguments.Word.TheVariants.{IgnoreCase, Kind, Pattern, Patterns as PatternFile, Table, With, Count, Crlf, AllowEmpty, Strict, Check, Help, Version, File}
+use Rattle.acredact.specs.declared.folder.Folder.{Ghosts as Folders}
+use Rattle.acredact.specs.declared.load.Lists.{Lists}
 use Rattle.acredact.specs.declared.patterns.Form.{Form}
 
 abbrev pub IsSomeSecret : Secret → Type 0
@@ -52,6 +54,7 @@ option_some reading Count value secrets left left' gives = none_some secrets giv
 option_some reading Crlf value secrets left left' gives = none_some secrets gives.0
 option_some reading AllowEmpty value secrets left left' gives = none_some secrets gives.0
 option_some reading Strict value secrets left left' gives = none_some secrets gives.0
+option_some reading Check value secrets left left' gives = none_some secrets gives.0
 option_some reading Help value secrets left left' gives = none_some secrets gives.0
 option_some reading Version value secrets left left' gives = none_some secrets gives.0
 option_some reading File value secrets left left' gives = none_some secrets gives.0
@@ -89,12 +92,18 @@ ready_of G automaton p covers replacements of are kind standard starts some one 
       one_each = one ∙ sym (length-map p.words length) ∙ ap length (sym are);
     }
 
+-- or to look
+pub look_ready : {A : Type 0} (G : Ghosts A) (automaton : A) (p : Patterns) → G.is_of automaton p → G.lengths automaton ≡ map length p.words → IsOk (G.start automaton No) → 1 ≤ shortest (map length p.words) → CanLook G automaton
+look_ready G automaton p of are starts some =
+    let start = started (G.start automaton No) starts in
+    record { patterns = p; of = of; begins = (start.0, subst (λ (ns : List ℕ). 1 ≤ shortest ns) (sym are) some, start.1) }
+
 -- lists are read alike
-pub reading_as : (holds : List ℕ → Option (List ℕ)) (refuses : List ℕ → Reason → Type 0) (crlf crlf' allow allow' : Bool) → crlf ≡ crlf' → allow ≡ allow' → (P : Reading → Type 0)
-    → P (record { holds = holds; refuses = refuses; rules = record { crlf = crlf; allow_empty = allow } }) → P (record { holds = holds; refuses = refuses; rules = record { crlf = crlf'; allow_empty = allow' } })
-reading_as holds refuses crlf crlf' allow allow' same alike P is =
-    subst (λ (b : Bool). P (record { holds = holds; refuses = refuses; rules = record { crlf = crlf'; allow_empty = b } })) alike
-    (subst (λ (b : Bool). P (record { holds = holds; refuses = refuses; rules = record { crlf = b; allow_empty = allow } })) same is)
+pub reading_from : {F X : Type 0} (D : Folders F X) (lists : Lists F) (folder : F) (rules : Rules) → lists.folder.now ≡ folder → rules_for lists ≡ rules → (P : Reading → Type 0)
+    → P (reading_of_lists D lists) → P (record { holds = D.holds folder; refuses = D.refuses folder; rules = rules })
+reading_from {F} D lists folder rules same alike P is =
+    subst (λ (f : F). P (record { holds = D.holds f; refuses = D.refuses f; rules = rules })) same
+    (subst (λ (r : Rules). P (record { holds = D.holds lists.folder.now; refuses = D.refuses lists.folder.now; rules = r })) alike is)
 
 -- none of three is so
 none_of : (a b c : Bool) → (a || b || c) ≡ false → (a ≡ false) × (b ≡ false) × (c ≡ false)

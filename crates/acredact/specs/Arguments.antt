@@ -1,14 +1,16 @@
 -- What the arguments, those after the program's name, ask for.
-use Rattle.std.specs.Prelude.{◌≡◌, ℕ, ◌||◌, Bool, true, false, List, [], ◌∷◌, Option, Some, None, codes, drop, is_some, map, option_and_then, option_map, unwrap_or, nat_eq, take, String, if◌then◌else◌}
+use Rattle.std.specs.Prelude.{◌≡◌, ℕ, ◌||◌, ◌&&◌, not, Bool, true, false, List, [], ◌∷◌, Option, Some, None, codes, drop, is_some, map, option_and_then, option_map, unwrap_or, nat_eq, take, String, if◌then◌else◌}
 use Rattle.std.specs.Str.{bytes_eq}
 use Rattle.aho_core.specs.declared.search.MatchKind.{MatchKind}
 use Rattle.aho_core.specs.declared.search.MatchKind.TheVariants.{Standard}
 use Rattle.programs.specs.Arguments.{kind_by, texts}
 use Rattle.acredact.specs.declared.arguments.Word.{Word}
-use Rattle.acredact.specs.declared.arguments.Word.TheVariants.{IgnoreCase, Kind, Pattern, Patterns, Table, With, Count, Crlf, AllowEmpty, Strict, Help, Version, File}
+use Rattle.acredact.specs.declared.arguments.Word.TheVariants.{IgnoreCase, Kind, Pattern, Patterns, Table, With, Count, Crlf, AllowEmpty, Strict, Check, Help, Version, File}
 use Rattle.acredact.specs.declared.arguments.Expects.{Expects}
 use Rattle.acredact.specs.declared.arguments.Expects.TheVariants.{Any, Value, Name}
 use Rattle.acredact.specs.declared.arguments.Item.{Item}
+use Rattle.acredact.specs.declared.arguments.Mixture.{Mixture}
+use Rattle.acredact.specs.declared.arguments.Mixture.TheVariants.{StrictKind, CountCheck}
 use Rattle.acredact.specs.declared.arguments.Reading.{Reading}
 use Rattle.acredact.specs.declared.arguments.Reading.TheVariants.{Whole, Begun, Wrong}
 
@@ -44,6 +46,7 @@ word_by argument =
     else if bytes_eq argument (codes "--crlf") then Some Crlf
     else if bytes_eq argument (codes "--allow-empty") then Some AllowEmpty
     else if bytes_eq argument (codes "--strict") then Some Strict
+    else if bytes_eq argument (codes "--check") then Some Check
     else if bytes_eq argument (codes "--help") then Some Help
     else if bytes_eq argument (codes "--version") then Some Version
     else if bytes_eq argument (codes "-") then Some File
@@ -61,6 +64,7 @@ takes_value Count = false
 takes_value Crlf = false
 takes_value AllowEmpty = false
 takes_value Strict = false
+takes_value Check = false
 takes_value Help = false
 takes_value Version = false
 takes_value File = false
@@ -81,6 +85,7 @@ is_value_of Count value = true
 is_value_of Crlf value = true
 is_value_of AllowEmpty value = true
 is_value_of Strict value = true
+is_value_of Check value = true
 is_value_of Help value = true
 is_value_of Version value = true
 is_value_of File value = true
@@ -155,6 +160,7 @@ is_same Count Count = true
 is_same Crlf Crlf = true
 is_same AllowEmpty AllowEmpty = true
 is_same Strict Strict = true
+is_same Check Check = true
 is_same Help Help = true
 is_same Version Version = true
 is_same File File = true
@@ -190,6 +196,7 @@ option_name Count = codes "-e"
 option_name Crlf = codes "-e"
 option_name AllowEmpty = codes "-e"
 option_name Strict = codes "-e"
+option_name Check = codes "-e"
 option_name Help = codes "-e"
 option_name Version = codes "-e"
 option_name File = codes "-e"
@@ -202,10 +209,36 @@ covers_asked items = is_cover (unwrap_or (last_value Kind items) (codes "cover")
 abbrev pub kind_asked : List Given → MatchKind
 kind_asked items = unwrap_or (option_and_then kind_by (last_value Kind items)) Standard
 
--- a redaction is asked for: no help and no version
+-- the options that do not go together, where some do not: pieces are refused of covers alone, and a check counts nothing
+abbrev pub mixture_of : List Given → Option Mixture
+mixture_of given =
+    if has Strict given && not (covers_asked given) then Some StrictKind
+    else if has Count given && has Check given then Some CountCheck
+    else None
+
+-- all options and files, where they go together
+abbrev pub fitting_by : Option Mixture → List Given → Option (List Given)
+fitting_by None given = Some given
+fitting_by (Some mixture) given = None
+
+-- all options and files that arguments ask for; none where the arguments are wrong
+abbrev pub all_asked : List (List ℕ) → Option (List Given)
+all_asked arguments = option_and_then (λ given. fitting_by (mixture_of given) given) (given_by Any arguments)
+
+-- a redaction is asked for: no help, no version and no check
 pub record AsksToRedact (given : List Given) : Type 0 where
   pub no_help : has Help given ≡ false
   pub no_version : has Version given ≡ false
+  pub no_check : has Check given ≡ false
+
+-- or a check
+pub record AsksToCheck (given : List Given) : Type 0 where
+  pub no_help : has Help given ≡ false
+  pub no_version : has Version given ≡ false
+  pub check : has Check given ≡ true
+
+abbrev pub checks_asked : List Given → Bool
+checks_asked given = has Check given && not (has Help given) && not (has Version given)
 
 -- pieces of a cover that are not clean are to be refused
 pub record RefusesUnclean (given : List Given) : Type 0 where
@@ -220,8 +253,20 @@ pub record GivesNoPattern (given : List Given) : Type 0 where
 
 -- what holds of the options and files that are given, where they ask for a redaction
 abbrev pub IfAsked : {Z : Type 0} → List (String Z) → (List Given → Type 0) → Type 0
-IfAsked arguments Holds = (given : List Given) → given_by Any (texts arguments) ≡ Some given → AsksToRedact given → Holds given
+IfAsked arguments Holds = (given : List Given) → all_asked (texts arguments) ≡ Some given → AsksToRedact given → Holds given
+
+-- or for a check
+abbrev pub IfChecking : {Z : Type 0} → List (String Z) → (List Given → Type 0) → Type 0
+IfChecking arguments Holds = (given : List Given) → all_asked (texts arguments) ≡ Some given → AsksToCheck given → Holds given
+
+-- these arguments ask for a check
+abbrev pub IsCheck : {Z : Type 0} → List (String Z) → Type 0
+IsCheck arguments = (given : List Given) × (all_asked (texts arguments) ≡ Some given) × AsksToCheck given
+
+-- what holds where they do not
+abbrev pub IfNoCheck : {Z : Type 0} → List (String Z) → Type 0 → Type 0
+IfNoCheck arguments Holds = (IsCheck arguments → ⊥) → Holds
 
 -- the arguments are wrong
 abbrev pub AreMistaken : {Z : Type 0} → List (String Z) → Type 0
-AreMistaken arguments = given_by Any (texts arguments) ≡ None
+AreMistaken arguments = all_asked (texts arguments) ≡ None

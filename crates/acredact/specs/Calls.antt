@@ -20,12 +20,11 @@ use Rattle.acredact.specs.Counts.{counts_text}
 use Rattle.acredact.specs.Failures.{IsFailureLine}
 use Rattle.acredact.specs.Files.{AreCut, AreDone, AreFree, AreRedacted, Does, Work, are_none, redactor_of, unread_line, work_of}
 use Rattle.acredact.specs.Loading.{AreGiven, CannotLoadOne, Reading, Rules}
-use Rattle.acredact.specs.Messages.{unclean_line}
-use Rattle.acredact.specs.Mistakes.{IsMistake}
+use Rattle.acredact.specs.Messages.{output_line, unclean_line}
+use Rattle.acredact.specs.Mistakes.{IsMistakeOfCall}
 use Rattle.acredact.specs.Pieces.{IsUnclean, TellsOfPieces}
 use Rattle.acredact.specs.Secrets.{Redactor}
 use Rattle.acredact.specs.Tables.{Secret, patterns_in, piece_by, secrets_of}
-use Rattle.acredact.specs.declared.arguments.Expects.TheVariants.{Any}
 use Rattle.acredact.specs.declared.arguments.Mistake.TheVariants.{NoPattern, OutOfMemory as NoRoom}
 use Rattle.acredact.specs.declared.arguments.Word.TheVariants.{Count, Crlf, AllowEmpty, Strict, File, Pattern as PatternOption, Patterns as PatternFile, Table, With}
 use Rattle.acredact.specs.declared.clean.Unclean.{Unclean}
@@ -36,14 +35,16 @@ use Rattle.acredact.specs.declared.folder.Folder.{Ghosts as Folders}
 use Rattle.acredact.specs.declared.patterns.Rule.{Rule}
 use Rattle.acredact.specs.declared.streams.Streams.{Streams}
 
--- the options and files that are given, and what the folder holds under a name and why it may refuse to open it
+-- the options and files that are given, and what the folder holds under a name, why it may refuse to open it, and whether the output
+-- may go to it
 pub record Call : Type 1 where
   pub holds : List ℕ → Option (List ℕ)
   pub refuses : List ℕ → Reason → Type 0
+  pub meets : List ℕ → Bool → Type 0
   pub given : List Given
 
 abbrev pub call_of : {F X : Type 0} → Folders F X → F → List Given → Call
-call_of D folder given = record { holds = D.holds folder; refuses = D.refuses folder; given = given }
+call_of D folder given = record { holds = D.holds folder; refuses = D.refuses folder; meets = D.meets folder; given = given }
 
 -- whether an option gives patterns
 abbrev pub gives_pattern : List Given → Bool
@@ -78,6 +79,7 @@ abbrev pub work_by : Call → List Secret → Work
 work_by call secrets = record {
   holds = call.holds;
   refuses = call.refuses;
+  meets = call.meets;
   names = names_asked call.given;
   redactor = redactor_by_given call.given secrets;
 }
@@ -118,9 +120,9 @@ MayFail call fails failure =
     ⊎ (IsUncleanFailure call failure
     ⊎ IsRunFailure fails failure)))
 
--- the line that tells why a file was not read to its end
+-- the line that tells why a file was not read to its end, or that the output goes to it
 abbrev pub IsUnreadLine : List (List ℕ) → List ℕ → Type 0
-IsUnreadLine names line = (name : List ℕ) × (reason : Reason) × IsOneOf name names × (line ≡ unread_line name reason)
+IsUnreadLine names line = (name : List ℕ) × IsOneOf name names × (((reason : Reason) × (line ≡ unread_line name reason)) ⊎ (line ≡ output_line name))
 
 -- the lines of the counts
 abbrev pub IsCountsText : List ℕ → Type 0
@@ -150,7 +152,7 @@ IsLineOf call fails line =
 
 -- what is told of wrong arguments
 abbrev pub IsWrongFailure : List (List ℕ) → Failure → Type 0
-IsWrongFailure arguments failure = (mistake : _) × (failure ≡ Arguments mistake) × IsMistake Any arguments mistake
+IsWrongFailure arguments failure = (mistake : _) × (failure ≡ Arguments mistake) × IsMistakeOfCall arguments mistake
 
 abbrev pub IsWrongLine : List (List ℕ) → List ℕ → Type 0
 IsWrongLine arguments line = (failure : Failure) × IsWrongFailure arguments failure × IsFailureLine failure line

@@ -18,17 +18,19 @@ use Rattle.programs.specs.Streams.{output_bytes, bytes_left}
 use Rattle.programs.specs.Telling.{TellsBytes}
 use Rattle.programs.specs.declared.reason.Reason.{Reason}
 use Rattle.acredact.specs.Faults.{IsOutputEnd, IsReadReason}
-use Rattle.acredact.specs.Messages.{line_about}
+use Rattle.acredact.specs.Messages.{line_about, output_line}
 use Rattle.acredact.specs.Reads.{OfName, ReadsText}
 use Rattle.acredact.specs.Secrets.{BeginsRedaction, IfOf, IsRedaction, CanRedact, NoneOccurs, Redactor, redactor_by}
 use Rattle.acredact.specs.declared.files.Job.{Job}
 use Rattle.acredact.specs.declared.folder.Folder.{Ghosts as Folders}
 use Rattle.acredact.specs.declared.streams.Streams.{Streams}
 
--- what is done to which files: what the folder holds under a name, where it tells that, and why it may not open what has the name
+-- what is done to which files: what the folder holds under a name, where it tells that, why it may not open what has the name, and
+-- whether the output may go to that
 pub record Work : Type 1 where
   pub holds : List ℕ → Option (List ℕ)
   pub refuses : List ℕ → Reason → Type 0
+  pub meets : List ℕ → Bool → Type 0
   pub names : List (List ℕ)
   pub redactor : Redactor
 
@@ -43,6 +45,7 @@ abbrev pub work_of : {F X : Type 0} → Folders F X → Job F → Redactor → W
 work_of D job r = record {
   holds = D.holds job.folder.now;
   refuses = D.refuses job.folder.now;
+  meets = D.meets job.folder.now;
   names = name_bytes job.names.now;
   redactor = r;
 }
@@ -81,11 +84,11 @@ RedactsName work name left left' held held' = OfName work.holds name (λ l l'. R
 abbrev pub BeginsNamed : Work → List ℕ → (left left' held held' : Option (List ℕ)) → Type 0
 BeginsNamed work name left left' held held' = OfName work.holds name (λ l l'. BeginsText work.redactor l l' held held') left left'
 
--- and of each file, one after another
+-- and of each file, one after another: the output goes to none
 abbrev pub AreRedacted : Work → List (List ℕ) → (left left' held held' : Option (List ℕ)) → Type 0
 AreRedacted work [] left left' held held' = (left' ≡ left) × Keeps held held'
 AreRedacted work (name ∷ names) left left' held held' = (between : Option (List ℕ)) × (meanwhile : Option (List ℕ))
-    × RedactsName work name left between held meanwhile × AreRedacted work names between left' meanwhile held'
+    × work.meets name false × RedactsName work name left between held meanwhile × AreRedacted work names between left' meanwhile held'
 
 -- and no pattern occurs in the redaction of any file
 abbrev pub AreFree : Work → List (List ℕ) → (left left' held held' : Option (List ℕ)) → Type 0
@@ -101,11 +104,13 @@ MayBeUnread work name reason = IsReadReason reason ⊎ work.refuses name reason
 abbrev pub unread_line : List ℕ → Reason → List ℕ
 unread_line name reason = line_about name (reason_text reason)
 
--- the redaction of a file was written, and nothing is told; or a beginning of it, and why the file was not read to its end is told
+-- the redaction of a file was written, and nothing is told; or a beginning of it, and why the file was not read to its end is told;
+-- or it is told that the output goes to the file, which was not read
 abbrev pub IsDone : Work → List ℕ → (lines : List (List ℕ)) → (left left' held held' : Option (List ℕ)) → Type 0
 IsDone work name lines left left' held held' =
-    ((lines ≡ []) × RedactsName work name left left' held held')
-    ⊎ ((reason : Reason) × (lines ≡ unread_line name reason ∷ []) × MayBeUnread work name reason × BeginsNamed work name left left' held held')
+    ((lines ≡ []) × work.meets name false × RedactsName work name left left' held held')
+    ⊎ (((reason : Reason) × (lines ≡ unread_line name reason ∷ []) × MayBeUnread work name reason × BeginsNamed work name left left' held held')
+    ⊎ ((lines ≡ output_line name ∷ []) × work.meets name true × (left' ≡ left) × Keeps held held'))
 
 -- that is so of each file, one after another
 abbrev pub AreDone : Work → List (List ℕ) → (lines : List (List ℕ)) → (left left' held held' : Option (List ℕ)) → Type 0

@@ -18,8 +18,12 @@ pub mod Reads
 pub mod Files
 -- what the options add to the patterns
 pub mod Loading
+-- which texts hold a match
+pub mod Looks
 -- what a call does and tells
 pub mod Builds
 pub mod Counts
 pub mod Failures
 pub mod Calls
+pub mod Checks
+pub mod Statuses

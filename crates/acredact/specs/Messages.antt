@@ -20,6 +20,10 @@ alone cause = record { name = None; line = None; cause = cause }
 abbrev pub line_about : List ℕ → List ℕ → List ℕ
 line_about name cause = told_line (about name cause)
 
+-- the line that tells that the output goes to the file of a name
+abbrev pub output_line : List ℕ → List ℕ
+output_line name = line_about name (codes "input file is also the output")
+
 -- the line that tells of which pattern the piece is not clean, and why: numbers, and no byte of a pattern or of a piece
 abbrev pub piece_line : (number why : List ℕ) → List ℕ
 piece_line number why = codes "acredact" ++ (codes ": the replacement of pattern " ++ (number ++ why))

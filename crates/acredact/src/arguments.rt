@@ -2,8 +2,8 @@
 
 ghost use Rattle.std.specs.Prelude.{◌≡◌, Some, None, IfErr, IfOk, option_map};
 ghost use Rattle.programs.specs.Arguments.{kind_by, texts};
-ghost use Rattle.acredact.specs.Arguments.{all_given, any_by, completed, covers_asked, file_by, given_by, has, is_cover, is_same, is_value_of, joined_option_of, kind_asked, last_value, option_name, read_by, read_of, takes_value, word_by, word_read};
-ghost use Rattle.acredact.specs.Mistakes.{IsMistake, IsMistaken};
+ghost use Rattle.acredact.specs.Arguments.{all_given, all_asked, any_by, checks_asked, completed, covers_asked, file_by, given_by, has, is_cover, is_same, is_value_of, joined_option_of, kind_asked, last_value, mixture_of, option_name, read_by, read_of, takes_value, word_by, word_read};
+ghost use Rattle.acredact.specs.Mistakes.{IsMistake, IsMistakeOfCall, IsMistaken};
 ghost use Rattle.acredact.specs.declared.arguments.Expects.TheVariants.{Any, Value};
 
 use aho_core::search::MatchKind;
@@ -32,6 +32,8 @@ pub enum Word {
     AllowEmpty,
     /// `--strict`: a replacement that is not clean is refused.
     Strict,
+    /// `--check`: it is only told whether something would be replaced.
+    Check,
     /// `--help`: only the help is written.
     Help,
     /// `--version`: only the version is written.
@@ -60,6 +62,15 @@ pub enum Expects {
     Name,
 }
 
+/// Options that do not go together.
+#[derive(Clone, Copy)]
+pub enum Mixture {
+    /// `--strict` with another kind than cover: it promises something of covers alone.
+    StrictKind,
+    /// `--count` with `--check`, which counts nothing.
+    CountCheck,
+}
+
 /// Why arguments are wrong.
 #[derive(Clone, Copy)]
 pub enum Mistake<'a> {
@@ -71,6 +82,8 @@ pub enum Mistake<'a> {
     NoValue(Word),
     /// There is no pattern, no file of patterns and no table.
     NoPattern,
+    /// These options do not go together.
+    Mixed(Mixture),
     /// Memory runs out.
     OutOfMemory,
 }
@@ -101,6 +114,7 @@ fn word_of(argument: &str) -> Option<Word>
         "--crlf" => Some(Word::Crlf),
         "--allow-empty" => Some(Word::AllowEmpty),
         "--strict" => Some(Word::Strict),
+        "--check" => Some(Word::Check),
         "--help" => Some(Word::Help),
         "--version" => Some(Word::Version),
         "-" => Some(Word::File),
@@ -153,8 +167,34 @@ fn kind_by(name: &str) -> Option<MatchKind>
     }
 }
 
-/// All options and files, in order.
+/// All options and files, in order, where they go together.
 pub fn items(alloc: Global, arguments: &[String]) -> Result<Vec<Item<'_>>, Mistake<'_>>
+    ensures given { IfOk result (λ items.
+        all_asked (texts arguments.now) ≡ Some (all_given items.items)) }
+    ensures wrong { IfErr result (IsMistakeOfCall (texts arguments.now)) }
+{
+    let items = read_items(alloc, arguments)?;
+    match mixture_of(items.as_slice()) {
+        Some(mixture) => Err(Mistake::Mixed(mixture)),
+        None => Ok(items),
+    }
+}
+
+/// The options that do not go together, where some do not.
+fn mixture_of(items: &[Item<'_>]) -> Option<Mixture>
+    ensures mixture { result ≡ mixture_of (all_given items.now) }
+{
+    if has(items, Word::Strict) && !covers(items) {
+        return Some(Mixture::StrictKind);
+    }
+    if has(items, Word::Count) && has(items, Word::Check) {
+        return Some(Mixture::CountCheck);
+    }
+    None
+}
+
+/// All options and files, in order.
+fn read_items(alloc: Global, arguments: &[String]) -> Result<Vec<Item<'_>>, Mistake<'_>>
     ensures given { IfOk result (λ items.
         given_by Any (texts arguments.now) ≡ Some (all_given items.items)) }
     ensures wrong { IfErr result (IsMistake Any (texts arguments.now)) }
@@ -294,6 +334,13 @@ pub fn last_value<'a>(items: &[Item<'a>], word: Word) -> Option<&'a str>
         rest = &rest[1..];
     }
     value
+}
+
+/// Whether a check is asked for, and no help and no version.
+pub fn checks(items: &[Item<'_>]) -> bool
+    ensures checks { result ≡ checks_asked (all_given items.now) }
+{
+    has(items, Word::Check) && !has(items, Word::Help) && !has(items, Word::Version)
 }
 
 /// Whether a cover is asked for: so it is where no kind is given.

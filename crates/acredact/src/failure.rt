@@ -5,11 +5,11 @@ ghost use Rattle.programs.specs.Messages.{reason_text};
 ghost use Rattle.programs.specs.Telling.{TellsBytes};
 ghost use Rattle.acredact.specs.Failures.{IsFailureLine, IsOtherLine, bad_line, is_of_output};
 ghost use Rattle.acredact.specs.LineFaults.{line_fault_text};
-ghost use Rattle.acredact.specs.Messages.{alone, flaw_text, line_about, piece_line, told_line, unclean_line};
-ghost use Rattle.acredact.specs.Mistakes.{mistake_message};
+ghost use Rattle.acredact.specs.Messages.{alone, flaw_text, line_about, output_line, piece_line, told_line, unclean_line};
+ghost use Rattle.acredact.specs.Mistakes.{mistake_message, mixture_text};
 ghost use Rattle.acredact.specs.declared.clean.Flaw.TheVariants.{Empty, Spells};
 
-use crate::arguments::{Mistake, name_of};
+use crate::arguments::{Mistake, Mixture, name_of};
 use crate::clean::{Flaw, Unclean};
 use crate::patterns::{BadLine, LineFault};
 use aho_core::error::{BuildError, StreamError};
@@ -97,6 +97,13 @@ pub fn tell_unread<E: Sink>(errors: &mut Errors<'_, E>, name: &str, reason: Reas
     ensures told { TellsBytes E.Sink errors.old errors.new (line_about name.now (reason_text reason)) }
 {
     tell_about(errors, name, reason.text())
+}
+
+/// Tells as a line that the output goes to a file that is to be read.
+pub fn tell_output<E: Sink>(errors: &mut Errors<'_, E>, name: &str)
+    ensures told { TellsBytes E.Sink errors.old errors.new (output_line name.now) }
+{
+    tell_about(errors, name, "input file is also the output");
 }
 
 /// Tells as a line what is wrong with something, and why.
@@ -196,7 +203,18 @@ fn tell_mistake<E: Sink>(errors: &mut Errors<'_, E>, mistake: Mistake<'_>)
         Mistake::UnknownKind(kind) => tell_about(errors, "unknown kind", kind),
         Mistake::NoValue(word) => tell_about(errors, "no value", name_of(word)),
         Mistake::NoPattern => tell_alone(errors, "no pattern: give -e, -f or -t, or --help"),
+        Mistake::Mixed(mixture) => tell_alone(errors, mixture_text(mixture)),
         Mistake::OutOfMemory => tell_alone(errors, "out of memory"),
+    }
+}
+
+/// What is told of options that do not go together.
+fn mixture_text(mixture: Mixture) -> &'static str
+    ensures text { result.now ≡ mixture_text mixture }
+{
+    match mixture {
+        Mixture::StrictKind => "--strict needs --kind cover: it promises nothing by another kind",
+        Mixture::CountCheck => "--count and --check do not go together: a check counts nothing",
     }
 }
 

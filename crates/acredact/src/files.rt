@@ -9,7 +9,7 @@ ghost use Rattle.acredact.specs.Files.{CanDo, FileOutcome, FilesOutcome, JobOutc
 ghost use Rattle.acredact.specs.Secrets.{Redactor};
 ghost use Rattle.acredact.specs.Ways.{IfBy, Redacts};
 
-use crate::failure::tell_unread;
+use crate::failure::{tell_output, tell_unread};
 use crate::folder::Folder;
 use crate::streams::Streams;
 use crate::ways::{Covering, Replacing, Way};
@@ -147,7 +147,8 @@ fn both(first: bool, second: bool) -> bool
     first && second
 }
 
-/// Redacts a file, and answers whether it was read to its end. One that was not is told.
+/// Redacts a file, and answers whether it was read to its end. One that was not is told, and so is one that the output goes to: it
+/// is not read.
 fn redact_told<X: Way, F: Folder, I: Read, W: Write, E: Sink>(
     way: &mut X,
     job: &Job<'_, '_, F>,
@@ -156,6 +157,27 @@ fn redact_told<X: Way, F: Folder, I: Read, W: Write, E: Sink>(
     streams: &mut Streams<'_, I, W, E>,
 ) -> Result<bool, StreamError>
     requires ready { (r : Redactor) × Redacts X.Way way.old r }
+    ensures outcome { IfBy X.Way way.old (λ r. ToldOutcome W.Write E.Sink
+        (work_of F.Folder job.now r) name.now result streams.old streams.new) }
+    ensures still { IfBy X.Way way.old (Redacts X.Way way.new) }
+{
+    if job.folder.is_output(name) {
+        tell_output(&mut streams.errors, name);
+        return Ok(false);
+    }
+    redact_apart(way, job, name, counts, streams)
+}
+
+/// Redacts a file that the output does not go to, and answers whether it was read to its end. One that was not is told.
+fn redact_apart<X: Way, F: Folder, I: Read, W: Write, E: Sink>(
+    way: &mut X,
+    job: &Job<'_, '_, F>,
+    name: &str,
+    counts: &mut [u64],
+    streams: &mut Streams<'_, I, W, E>,
+) -> Result<bool, StreamError>
+    requires ready { (r : Redactor) × Redacts X.Way way.old r }
+    requires apart { F.meets job.now.folder.now name.now false }
     ensures outcome { IfBy X.Way way.old (λ r. ToldOutcome W.Write E.Sink
         (work_of F.Folder job.now r) name.now result streams.old streams.new) }
     ensures still { IfBy X.Way way.old (Redacts X.Way way.new) }

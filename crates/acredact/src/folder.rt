@@ -1,6 +1,6 @@
 //! Where files are opened: that of the process.
 
-ghost use Rattle.std.specs.Prelude.{ℕ, List, Option, None, IfErr, IfOk, ⊤};
+ghost use Rattle.std.specs.Prelude.{ℕ, Bool, List, Option, None, IfErr, IfOk, ⊤};
 ghost use Rattle.std.specs.Io.KnownBytes.{Keeps};
 ghost use Rattle.programs.specs.declared.reason.Reason.{Reason};
 
@@ -8,6 +8,7 @@ use programs::reason::Reason;
 use std::fs;
 use std::fs::OpenFile;
 use std::io::Read;
+use std::os::unix::fs::MetadataExt;
 use std::rt::Files;
 
 /// What opens files by their names.
@@ -21,11 +22,25 @@ pub trait Folder {
     /// Why the file of this name may not be opened.
     ghost refuses: { Self → List ℕ → Reason → Type 0 };
 
+    /// What may be answered of the file of this name: whether standard output goes to it.
+    ghost meets: { Self → List ℕ → Bool → Type 0 };
+
     /// Opens the file of this name to be read.
     fn open(&self, name: &str) -> Result<Self::File, Reason>
         ensures told { IfOk result (λ file.
             Keeps (holds self.now name.now) (Self.File.remaining file)) }
         ensures refused { IfErr result (refuses self.now name.now) };
+
+    /// Whether standard output goes to the file of this name, or to what standard input is, where the name is `-`.
+    fn is_output(&self, name: &str) -> bool
+        ensures { meets self.now name.now result };
+}
+
+/// A regular file of the system, by its device and its number there.
+#[derive(Clone, Copy, PartialEq, Eq)]
+pub struct Place {
+    device: u64,
+    number: u64,
 }
 
 /// The files of the process.
@@ -33,6 +48,29 @@ pub trait Folder {
 pub struct Host<'r, R> {
     /// Its runtime.
     pub rt: &'r R,
+    /// The regular file that standard output goes to, if it goes to one.
+    pub output: Option<Place>,
+}
+
+impl<'r, R: Files> Host<'r, R> {
+    /// The files of this process, and where its standard output goes.
+    pub fn new(rt: &'r R) -> Host<'r, R> {
+        Host {
+            rt,
+            output: place_of(rt, "/dev/stdout"),
+        }
+    }
+}
+
+/// The regular file that a name leads to, if it does.
+fn place_of<R: Files>(rt: &R, name: &str) -> Option<Place> {
+    match fs::metadata(rt, name) {
+        Ok(metadata) if metadata.is_file() => Some(Place {
+            device: metadata.dev(),
+            number: metadata.ino(),
+        }),
+        _ => None,
+    }
 }
 
 impl<R: Files> Folder for Host<'_, R> {
@@ -42,6 +80,8 @@ impl<R: Files> Folder for Host<'_, R> {
     ghost holds = { λ folder name. None };
 
     ghost refuses = { λ folder name reason. ⊤ };
+
+    ghost meets = { λ folder name answer. ⊤ };
 
     fn open(&self, name: &str) -> Result<R::File, Reason> {
         let file = match fs::open(self.rt, name) {
@@ -53,6 +93,14 @@ impl<R: Files> Folder for Host<'_, R> {
             Ok(metadata) if metadata.is_dir() => Err(Reason::Directory),
             Ok(_) => Ok(file),
             Err(error) => Err(Reason::of(&error)),
+        }
+    }
+
+    fn is_output(&self, name: &str) -> bool {
+        let name = if name == "-" { "/dev/stdin" } else { name };
+        match self.output {
+            Some(output) => place_of(self.rt, name) == Some(output),
+            None => false,
         }
     }
 }

@@ -4,11 +4,12 @@ ghost use Rattle.std.specs.Prelude.{◌≡◌, ℕ, List, Option, IfErr, IfOk, O
 ghost use Rattle.aho_devices.specs.Counts.{counted};
 ghost use Rattle.programs.specs.Streams.{bytes_left};
 ghost use Rattle.acredact.specs.Arguments.{all_given, given_of};
+ghost use Rattle.acredact.specs.Calls.{rules_asked};
 ghost use Rattle.acredact.specs.Loading.{AddsFile, AddsItem, AddsList, CannotLoad, CannotLoadOne, CannotRead, GivesRules, IsFileFailure, IsPatternFailure, IsTextFailure, IsTextReason, ReadsList, is_failed_text, reading_of_lists, rules_for};
 ghost use Rattle.acredact.specs.Reads.{ReadsText};
 ghost use Rattle.acredact.specs.Tables.{AddsLine};
 
-use crate::arguments::{Item, Word};
+use crate::arguments::{Item, Word, has};
 use crate::failure::Failure;
 use crate::files::is_input;
 use crate::folder::Folder;
@@ -33,6 +34,19 @@ pub struct Lists<'f, F> {
     pub crlf: bool,
     /// Whether a file may be empty.
     pub allow_empty: bool,
+}
+
+/// How the files of patterns and tables are read that are given.
+pub fn lists_of<'f, F>(alloc: Global, given: &[Item<'_>], folder: &'f F) -> Lists<'f, F>
+    ensures folder { result.folder.now ≡ folder.now }
+    ensures rules { rules_for result ≡ rules_asked (all_given given.now) }
+{
+    Lists {
+        alloc,
+        folder,
+        crlf: has(given, Word::Crlf),
+        allow_empty: has(given, Word::AllowEmpty),
+    }
 }
 
 /// The rules of all patterns, files of patterns and tables that are given, in order.

@@ -1,17 +1,21 @@
-//! `acredact [-i] [--kind KIND] (-e PATTERN | -f FILE | -t TABLE).. [--with TEXT] [--count] [FILE]..` writes each FILE with a text in the
-//! place of each match of some patterns: `[redacted]`, TEXT, or the pattern's own of a TABLE. No FILE, or `-`, is standard input.
+//! `acredact [-i] [--kind KIND] (-e PATTERN | -f FILE | -t TABLE).. [--with TEXT] [--count | --check] [FILE]..` writes each FILE with a
+//! text in the place of each match of some patterns: `[redacted]`, TEXT, or the pattern's own of a TABLE. No FILE, or `-`, is standard
+//! input.
 //!
-//! The status is 0 where all was redacted. It is 2 where the arguments or the patterns are wrong, memory runs out, or a file
-//! cannot be read or the output not be written. Then a line on standard error says why.
+//! The status is 0 where all was redacted, or, by a check, where nothing would be; and 1 where a check finds something. It is 2 where
+//! the arguments or the patterns are wrong, memory runs out, or a file cannot be read or the output not be written. Then a line on
+//! standard error says why.
 #![tactic(auto)]
 
 mod arguments;
+mod check;
 mod clean;
 mod counts;
 mod failure;
 mod files;
 mod folder;
 mod load;
+mod look;
 mod patterns;
 mod redact;
 mod rows;
@@ -19,11 +23,12 @@ mod run;
 mod streams;
 mod ways;
 
-ghost use Rattle.std.specs.Prelude.{◌≡◌, ◌⊎◌, IfErr, IfOk, true};
+ghost use Rattle.std.specs.Prelude.{◌≡◌, ◌≤◌, IfErr, IfOk, true};
 ghost use Rattle.std.specs.Process.{exit_status};
 ghost use Rattle.programs.specs.Telling.{TellsSome};
-ghost use Rattle.acredact.specs.Arguments.{AreMistaken, IfAsked, RefusesUnclean};
+ghost use Rattle.acredact.specs.Arguments.{AreMistaken, IfAsked, IfChecking, IfNoCheck, IsCheck, RefusesUnclean};
 ghost use Rattle.acredact.specs.Calls.{BeginsAsked, IsRefusedLine, LeavesNoneAsked, RedactsAsked};
+ghost use Rattle.acredact.specs.Checks.{MatchedAsked, UnmatchedAsked};
 
 use aho_devices::adapters::{FromRead, FromWrite};
 use aho_devices::device::Sink;
@@ -54,7 +59,7 @@ fn main(rt: HostRuntime) -> ExitCode {
                 output: FromWrite::new(output),
                 errors,
             };
-            exit_code(rt.alloc(), given, &Host { rt: &rt }, &mut streams)
+            exit_code(rt.alloc(), given, &Host::new(&rt), &mut streams)
         }
         Err(_) => ExitCode::from(refuse(Failure::OutOfMemory, &mut errors)),
     }
@@ -79,8 +84,14 @@ fn exit_code<F: Folder, I: Read, W: Write, E: Sink>(
         → LeavesNoneAsked W.Write F.Folder folder.now given streams.old streams.new)) }
     ensures begins { IfOk given (λ arguments. IfAsked arguments.items (λ given.
         BeginsAsked W.Write F.Folder folder.now given streams.old streams.new)) }
-    ensures flushed { exit_status result ≡ 0 → streams.new.output.device.flushed ≡ true }
-    ensures bound { (exit_status result ≡ 0) ⊎ (exit_status result ≡ 2) }
+    ensures unmatched { IfOk given (λ arguments. IfChecking arguments.items (λ given.
+        exit_status result ≡ 0 → UnmatchedAsked F.Folder folder.now given streams.old streams.new)) }
+    ensures matched { IfOk given (λ arguments. IfChecking arguments.items (λ given.
+        exit_status result ≡ 1 → MatchedAsked F.Folder folder.now given streams.old streams.new)) }
+    ensures flushed { IfOk given (λ arguments. IfNoCheck arguments.items (exit_status result ≡ 0
+        → streams.new.output.device.flushed ≡ true)) }
+    ensures bound { exit_status result ≤ 2 }
+    ensures one { exit_status result ≡ 1 → IfOk given (λ arguments. IsCheck arguments.items) }
 {
     let status = match given {
         Ok(arguments) => run(alloc, arguments.as_slice(), folder, streams),

@@ -1,29 +1,32 @@
 //! A call of the program over its arguments, files and streams.
 
-ghost use Rattle.std.specs.Prelude.{◌≡◌, ◌⊎◌, ℕ, List, MatchBool, IfErr, IfOk, IfSome, OnErr, OnOk, Some, false, length, true};
+ghost use Rattle.std.specs.Prelude.{◌≡◌, ◌⊎◌, ◌<◌, ◌≤◌, ℕ, List, MatchBool, IfErr, IfOk, IfSome, OnErr, OnOk, Some, false, length, true};
 ghost use Rattle.aho_core.specs.Replacement.{pieces_of};
 ghost use Rattle.programs.specs.Arguments.{texts};
 ghost use Rattle.programs.specs.Names.{name_bytes};
 ghost use Rattle.programs.specs.Streams.{WritesBytes};
 ghost use Rattle.programs.specs.Telling.{Tells, TellsBytes, TellsSome};
-ghost use Rattle.acredact.specs.Arguments.{AreMistaken, AsksToRedact, GivesNoPattern, IfAsked, RefusesUnclean, all_given, has};
-ghost use Rattle.acredact.specs.Calls.{AskedOutcome, BeginsAsked, CountsAsked, IsCountsFailure, IsCountsLine, IsPrintFailure, IsRefusedLine, IsWrongFailure, IsWrongLine, LeavesNoneAsked, LoadedOutcome, OutputFails, RedactsAsked, TellsAsked, TellsCounts, WarnedJob, WarnedOutcome, WarnsAsked, call_of, gives_pattern, names_asked, text_asked, work_by};
+ghost use Rattle.acredact.specs.Arguments.{AreMistaken, AsksToRedact, GivesNoPattern, IfAsked, IfChecking, IfNoCheck, IsCheck, RefusesUnclean, all_given, checks_asked, has};
+ghost use Rattle.acredact.specs.Calls.{AskedOutcome, BeginsAsked, CountsAsked, IsCountsFailure, IsCountsLine, IsPrintFailure, IsRefusedLine, IsWrongLine, LeavesNoneAsked, LoadedOutcome, OutputFails, RedactsAsked, TellsAsked, TellsCounts, WarnedJob, WarnedOutcome, WarnsAsked, call_of, gives_pattern, names_asked, text_asked, work_by};
+ghost use Rattle.acredact.specs.Checks.{MatchedAsked, SaysOfCheck, TellsUncheckedAsked, UnmatchedAsked};
 ghost use Rattle.acredact.specs.Failures.{IsFailureLine};
 ghost use Rattle.acredact.specs.Files.{CanDo, FilesOutcome, redactor_of, work_of};
 ghost use Rattle.acredact.specs.Pieces.{IfOfAll, TellsUnclean, pieces_by};
 ghost use Rattle.acredact.specs.Secrets.{IfOf};
+ghost use Rattle.acredact.specs.Statuses.{SaysOfRedaction};
 ghost use Rattle.acredact.specs.Tables.{HaveNoEmpty, secrets_of};
 ghost use Rattle.acredact.specs.declared.clean.Unclean.{Unclean};
 ghost use Rattle.acredact.specs.declared.failure.Failure.TheVariants.{Unclean as UncleanPiece};
 ghost use Rattle.acredact.specs.declared.arguments.Word.TheVariants.{Count, Strict};
 
-use crate::arguments::{Item, Mistake, Word, covers, has, is_same, items, last_value};
+use crate::arguments::{Item, Mistake, Word, checks, covers, has, is_same, items, last_value};
+use crate::check::check;
 use crate::clean::{Judge, Unclean, unclean_of};
 use crate::counts::{counts_of, tell_counts};
 use crate::failure::{Failure, tell_failure, tell_unclean};
 use crate::files::{Job, redact_files};
 use crate::folder::Folder;
-use crate::load::{Lists, rules};
+use crate::load::{lists_of, rules};
 use crate::patterns::{Rule, patterns_of, replacements_of};
 use crate::rows::build;
 use crate::streams::Streams;
@@ -43,7 +46,7 @@ const REDACTED: &[u8] = b"[redacted]";
 
 /// What `--help` writes.
 const HELP: &[u8] =
-    b"usage: acredact [-i] [--kind KIND] (-e PATTERN | -f FILE | -t TABLE).. [--with TEXT] [--count] [FILE]..
+    b"usage: acredact [-i] [--kind KIND] (-e PATTERN | -f FILE | -t TABLE).. [--with TEXT] [--count | --check] [FILE]..
 
 Writes each FILE with a text in the place of each run of bytes that lie in matches of the patterns. No FILE, or -, is standard input.
 
@@ -55,9 +58,10 @@ Writes each FILE with a text in the place of each run of bytes that lie in match
                 one of several matches that overlap, and then a part of another can stay
   --with TEXT   the replacement of patterns that have none of their own: [redacted] if none is given
   --count       write to standard error how often the text of each pattern was written
+  --check       write nothing: the status is 1 if something would be replaced, 0 if nothing
   --crlf        leave out a carriage return at the end of a line of a FILE of patterns or a TABLE
   --allow-empty allow an empty FILE of patterns or TABLE
-  --strict      refuse replacements that can spell a pattern with what stands beside them
+  --strict      refuse replacements that can spell a pattern with what stands beside them; for covers alone
   --            only FILEs follow
   --help        write this and end
   --version     write the version and end
@@ -67,10 +71,11 @@ Writes each FILE with a text in the place of each run of bytes that lie in match
 const VERSION: &[u8] = b"acredact 0.1.0\n";
 
 /// The exit status where not all was done.
-const FAILED: u8 = 2;
+pub const FAILED: u8 = 2;
 
-/// Writes each file with a replacement in the place of each match, and answers the exit status: 0 where all was redacted, and 2
-/// where the arguments or the patterns are wrong, memory runs out, or a file cannot be read or the output not be written.
+/// Writes each file with a replacement in the place of each match, or checks whether it has one, and answers the exit status: 0 where
+/// all was redacted or nothing would be, 1 where a check found something, and 2 where the arguments or the patterns are wrong,
+/// memory runs out, or a file cannot be read or the output not be written.
 pub fn run<F: Folder, I: Read, W: Write, E: Sink>(
     alloc: Global,
     arguments: &[String],
@@ -109,11 +114,57 @@ pub fn run<F: Folder, I: Read, W: Write, E: Sink>(
     ensures tells { IfAsked arguments.now (λ given. result ≡ 2
         → TellsAsked E.Sink F.Folder folder.now given streams.old streams.new) }
 
-    // All output was flushed where the status tells of no failure.
-    ensures flushed { result ≡ 0 → streams.new.output.device.flushed ≡ true }
-    ensures bound { (result ≡ 0) ⊎ (result ≡ 2) }
+    // A check: at status 0 each file was read to its end, and no pattern occurs in any. At status 1 one does, in some file.
+    ensures unmatched { IfChecking arguments.now (λ given. result ≡ 0
+        → UnmatchedAsked F.Folder folder.now given streams.old streams.new) }
+    ensures matched { IfChecking arguments.now (λ given. result ≡ 1
+        → MatchedAsked F.Folder folder.now given streams.old streams.new) }
+
+    // At any other each file that cannot be read is told, and each other was looked at; or it is told why the check ends.
+    ensures unchecked { IfChecking arguments.now (λ given. result ≡ 2
+        → TellsUncheckedAsked F.Folder folder.now given streams.old streams.new E.Sink) }
+    ensures check_quiet { IfChecking arguments.now (λ _. result < 2
+        → streams.new.errors ≡ streams.old.errors) }
+    ensures check_unwritten { IfChecking arguments.now (λ _.
+        streams.new.output ≡ streams.old.output) }
+
+    // All output was flushed where the status tells of no failure. A check has none, and it alone ends with status 1.
+    ensures flushed { IfNoCheck arguments.now (result ≡ 0
+        → streams.new.output.device.flushed ≡ true) }
+    ensures bound { result ≤ 2 }
+    ensures one { result ≡ 1 → IsCheck arguments.now }
 {
-    match answer(alloc, arguments, folder, streams) {
+    match items(alloc, arguments) {
+        Ok(given) => answer(alloc, given.as_slice(), folder, streams),
+        Err(mistake) => report(&Failure::Arguments(mistake), &mut streams.errors),
+    }
+}
+
+/// Does what the options and files ask for, and answers the exit status.
+fn answer<F: Folder, I: Read, W: Write, E: Sink>(
+    alloc: Global,
+    given: &[Item<'_>],
+    folder: &F,
+    streams: &mut Streams<'_, I, W, E>,
+) -> u8
+    ensures redacted { SaysOfRedaction W.Write E.Sink F.Folder folder.now (all_given given.now)
+        result streams.old streams.new }
+    ensures checked { SaysOfCheck E.Sink F.Folder folder.now (all_given given.now)
+        result streams.old streams.new }
+    ensures flushed { checks_asked (all_given given.now) ≡ false → result ≡ 0
+        → streams.new.output.device.flushed ≡ true }
+    ensures bound { checks_asked (all_given given.now) ≡ false → (result ≡ 0) ⊎ (result ≡ 2) }
+{
+    if checks(given) {
+        return check(
+            alloc,
+            given,
+            folder,
+            &mut streams.input,
+            &mut streams.errors,
+        );
+    }
+    match redact_asked(alloc, given, folder, streams) {
         Ok(true) => 0,
         Ok(false) => FAILED,
         Err(failure) => report(&failure, &mut streams.errors),
@@ -121,7 +172,7 @@ pub fn run<F: Folder, I: Read, W: Write, E: Sink>(
 }
 
 /// Tells as a line why a call ends early, and answers the exit status, whether that could be written or not.
-fn report<E: Sink>(failure: &Failure<'_>, errors: &mut Errors<'_, E>) -> u8
+pub fn report<E: Sink>(failure: &Failure<'_>, errors: &mut Errors<'_, E>) -> u8
     ensures failed { result ≡ 2 }
     ensures told { (line : List ℕ) × IsFailureLine failure.now line
         × TellsBytes E.Sink errors.old errors.new line }
@@ -141,28 +192,8 @@ pub fn refuse<E: Sink>(failure: failure::Failure, errors: &mut Errors<'_, E>) ->
     }
 }
 
-/// Does what the arguments ask for, and answers whether all files were read.
-fn answer<'a, F: Folder, I: Read, W: Write, E: Sink>(
-    alloc: Global,
-    arguments: &'a [String],
-    folder: &F,
-    streams: &mut Streams<'_, I, W, E>,
-) -> Result<bool, Failure<'a>>
-    ensures wrong { AreMistaken arguments.entry.now
-        → OnOk result ⊥ × (streams.new ≡ streams.old) }
-    ensures mistake { AreMistaken arguments.entry.now
-        → IfErr result (IsWrongFailure (texts arguments.entry.now)) }
-    ensures patternless { IfAsked arguments.entry.now (λ given. GivesNoPattern given → OnOk result ⊥) }
-    ensures outcome { IfAsked arguments.entry.now (λ given.
-        AskedOutcome W.Write E.Sink F.Folder folder.now given result streams.old streams.new) }
-    ensures flushed { OnOk result (streams.new.output.device.flushed ≡ true) }
-{
-    let given = items(alloc, arguments)?;
-    answer_items(alloc, given.as_slice(), folder, streams)
-}
-
 /// Does what the options and files ask for, and answers whether all files were read.
-fn answer_items<'a, F: Folder, I: Read, W: Write, E: Sink>(
+fn redact_asked<'a, F: Folder, I: Read, W: Write, E: Sink>(
     alloc: Global,
     given: &[Item<'a>],
     folder: &F,
@@ -187,7 +218,7 @@ fn answer_items<'a, F: Folder, I: Read, W: Write, E: Sink>(
 }
 
 /// Whether an option gives patterns.
-fn gives_pattern(given: &[Item<'_>]) -> bool
+pub fn gives_pattern(given: &[Item<'_>]) -> bool
     ensures gives { result ≡ gives_pattern (all_given given.now) }
 {
     has(given, Word::Pattern) || has(given, Word::Patterns) || has(given, Word::Table)
@@ -216,12 +247,7 @@ fn load<'a, F: Folder, I: Read, W: Write, E: Sink>(
         F.Folder folder.now (all_given given.now) result streams.old streams.new }
     ensures flushed { OnOk result (streams.new.output.device.flushed ≡ true) }
 {
-    let lists = Lists {
-        alloc,
-        folder,
-        crlf: has(given, Word::Crlf),
-        allow_empty: has(given, Word::AllowEmpty),
-    };
+    let lists = lists_of(alloc, given, folder);
     match rules(&lists, given, &mut streams.input) {
         Ok(rules) => redact_counted(alloc, given, rules.as_slice(), folder, streams),
         Err(failure) => Err(failure),
@@ -402,7 +428,7 @@ fn redact_by<A: Automaton, B: Automaton, F: Folder, I: Read, W: Write, E: Sink>(
 }
 
 /// The names of the files that are read: standard input where none is given.
-fn names<'a>(alloc: Global, given: &[Item<'a>]) -> Result<Vec<&'a str>, AllocError>
+pub fn names<'a>(alloc: Global, given: &[Item<'a>]) -> Result<Vec<&'a str>, AllocError>
     ensures names { IfOk result (λ files. name_bytes files.items ≡ names_asked (all_given given.now)) }
 {
     let mut files = Vec::new(alloc);

@@ -1,13 +1,12 @@
 -- What was loaded is redacted.
 use Rattle.std.proofs.Common.{inl, inr, List, ap, sym, subst}
 use Rattle.programs.specs.Streams.{bytes_left}
-use Rattle.acredact.specs.Arguments.{all_given, has}
-use Rattle.acredact.specs.Calls.{call_of, reading_by}
+use Rattle.acredact.specs.Arguments.{all_given}
+use Rattle.acredact.specs.Calls.{call_of, reading_by, rules_asked}
 use Rattle.acredact.specs.Loading.{AreGiven, CannotLoadOne}
 use Rattle.acredact.specs.Tables.{HaveNoEmpty, Secret, secrets_of}
-use Rattle.acredact.specs.declared.arguments.Word.TheVariants.{AllowEmpty, Crlf}
 use Rattle.acredact.proofs.Calls.{call_from, call_refused}
-use Rattle.acredact.proofs.Ready.{given_some, reading_as}
+use Rattle.acredact.proofs.Ready.{given_some, reading_from}
 use Rattle.acredact.proofs.run.load.Goals as goal
 
 pub redact_counted-requires : goal.redact_counted-requires
@@ -18,7 +17,7 @@ redact_counted-requires g c = record {
 pub returns-in-Ok-clause-outcome : goal.returns-in-Ok-clause-outcome
 returns-in-Ok-clause-outcome g c =
     let call = call_of g.F.Folder c.args.folder.now (all_given c.args.given.now) in
-    let given = reading_as (g.F.Folder.holds c.args.folder.now) (g.F.Folder.refuses c.args.folder.now) c.has.result (has Crlf (all_given c.args.given.now)) c.has-2.result (has AllowEmpty (all_given c.args.given.now)) c.has.ensures.has c.has-2.ensures.has
+    let given = reading_from g.F.Folder c.lists_of-lists.result c.args.folder.now (rules_asked (all_given c.args.given.now)) c.lists_of-lists.ensures.folder c.lists_of-lists.ensures.rules
     (λ r. AreGiven r (all_given c.args.given.now) (secrets_of c.in-Ok.rules.items) (bytes_left c.args.streams.now.input) (bytes_left c.rules.new.input)) c.in-Ok.ensures.given in
     call_from g.W.Write g.E.Sink call _ c.args.streams.now c.redact_counted.new.streams c.rules.new.input c.redact_counted.result
     (c.redact_counted.ensures.outcome (bytes_left c.args.streams.now.input)
@@ -27,5 +26,5 @@ returns-in-Ok-clause-outcome g c =
 pub returns-in-Err-clause-outcome : goal.returns-in-Err-clause-outcome
 returns-in-Err-clause-outcome g c =
     call_refused g.W.Write g.E.Sink (call_of g.F.Folder c.args.folder.now (all_given c.args.given.now)) _ c.rules.new.input c.args.streams.now c.in-Err.failure
-    (inr (inl (reading_as (g.F.Folder.holds c.args.folder.now) (g.F.Folder.refuses c.args.folder.now) c.has.result (has Crlf (all_given c.args.given.now)) c.has-2.result (has AllowEmpty (all_given c.args.given.now)) c.has.ensures.has c.has-2.ensures.has
+    (inr (inl (reading_from g.F.Folder c.lists_of-lists.result c.args.folder.now (rules_asked (all_given c.args.given.now)) c.lists_of-lists.ensures.folder c.lists_of-lists.ensures.rules
     (λ r. CannotLoadOne r (all_given c.args.given.now) c.in-Err.failure) c.in-Err.ensures.fails)))

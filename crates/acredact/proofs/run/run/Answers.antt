@@ -1,22 +1,85 @@
--- The failure is told behind what was told before.
-use Rattle.std.proofs.Common.{rules, ◌≡◌, inl, inr, true}
-use Rattle.std.specs.Prelude.{Ok}
-use Rattle.acredact.specs.Calls.{IsLineOf, OutputFails, call_of}
-use Rattle.acredact.proofs.Calls.{begins_told, tells_last}
+-- The arguments are right or wrong.
+use Rattle.std.proofs.Common.{◌≡◌, inl, ℕ, List, ap, refl, sym, subst, ◌∙◌, arith}
+use Rattle.std.specs.Prelude.{None, Some}
+use Rattle.programs.specs.Arguments.{texts}
+use Rattle.programs.specs.Streams.{bytes_left}
+use Rattle.acredact.specs.Arguments.{AsksToCheck, AsksToRedact, Given, all_asked, all_given}
+use Rattle.acredact.specs.Calls.{IsWrongLine, call_of}
+use Rattle.acredact.specs.Checks.{ChecksAlone, CheckStatus}
+use Rattle.acredact.specs.Statuses.{CallStatus}
+use Rattle.acredact.specs.declared.failure.Failure.TheVariants.{Arguments}
+use Rattle.acredact.proofs.Calls.{call_refused}
+use Rattle.acredact.proofs.Checks.{check_refused, status_ended}
+use Rattle.acredact.proofs.Given.{memory_alone, same_given}
+use Rattle.acredact.proofs.Statuses.{bound_by, flushed_by, one_by, status_failed, tells_one}
 use Rattle.acredact.proofs.run.run.Goals as goal
 
-pub returns-in-Err-clause-begins : goal.returns-in-Err-clause-begins
-returns-in-Err-clause-begins g c = λ given right asks.
-    begins_told g.W.Write g.E.Sink (call_of g.F.Folder c.args.folder.now given) _ c.args.streams.now c.answer.new.streams c.report.new.errors (c.in-Err.ensures.outcome given right asks).begins
+pub returns-in-Ok : goal.returns-in-Ok
+returns-in-Ok g c =
+    let items = all_given c.as_slice.result.now in
+    let mine : all_asked (texts c.args.arguments.now) ≡ Some items = c.in-Ok.ensures.given ∙ ap (λ l. Some (all_given l)) (sym c.as_slice.ensures.value) in
+    let redacted = λ (given : List Given) (right : all_asked (texts c.args.arguments.now) ≡ Some given) (asks : AsksToRedact given).
+    let same : items ≡ given = same_given (all_asked (texts c.args.arguments.now)) given items right mine in
+    subst (λ (l : List Given). CallStatus g.W.Write g.E.Sink (call_of g.F.Folder c.args.folder.now l) c.answer.result c.args.streams.now c.answer.new.streams) same
+    (c.answer.ensures.redacted (subst AsksToRedact (sym same) asks)) in
+    let checked = λ (given : List Given) (right : all_asked (texts c.args.arguments.now) ≡ Some given) (asks : AsksToCheck given).
+    let same : items ≡ given = same_given (all_asked (texts c.args.arguments.now)) given items right mine in
+    subst (λ (l : List Given). ChecksAlone g.E.Sink (call_of g.F.Folder c.args.folder.now l) c.answer.result c.args.streams.now c.answer.new.streams) same
+    (c.answer.ensures.checked (subst AsksToCheck (sym same) asks)) in
+    record {
+      wrong = λ wrong. let clash : None ≡ Some items = sym wrong ∙ mine in absurd (cc);
+      unread = λ wrong. let clash : None ≡ Some items = sym wrong ∙ mine in absurd (cc);
+      unwritten = λ wrong. let clash : None ≡ Some items = sym wrong ∙ mine in absurd (cc);
+      tells_wrong = λ wrong. let clash : None ≡ Some items = sym wrong ∙ mine in absurd (cc);
+      patternless = λ given right asks. (redacted given right asks).patternless;
+      redacts = λ given right asks. (redacted given right asks).redacts;
+      begins = λ given right asks. (redacted given right asks).begins;
+      strict = λ given right asks. (redacted given right asks).strict;
+      quiet = λ given right asks. (redacted given right asks).quiet;
+      counts = λ given right asks. (redacted given right asks).counts;
+      tells = λ given right asks. (redacted given right asks).tells;
+      unmatched = λ given right asks. (checked given right asks).says.unmatched;
+      matched = λ given right asks. (checked given right asks).says.matched;
+      unchecked = λ given right asks. (checked given right asks).says.tells;
+      check_quiet = λ given right asks. (checked given right asks).says.quiet;
+      check_unwritten = λ given right asks. (checked given right asks).unwritten;
+      flushed = λ redacts zero. flushed_by items (λ asks. redacts (items, mine, asks)) (λ none. c.answer.ensures.flushed none zero);
+      bound = bound_by items c.answer.result (λ asks. (c.answer.ensures.checked asks).says.bound) c.answer.ensures.bound;
+      one = λ is. (items, mine, one_by items c.answer.result c.answer.ensures.bound is);
+    }
 
-pub returns-in-Err-clause-tells : goal.returns-in-Err-clause-tells
-returns-in-Err-clause-tells g c = λ given right asks is.
-    let outcome = c.in-Err.ensures.outcome given right asks in
+pub returns-in-Err : goal.returns-in-Err
+returns-in-Err g c =
     let told = c.report.ensures.told in
-    tells_last g.E.Sink (IsLineOf (call_of g.F.Folder c.args.folder.now given) (OutputFails c.args.streams.now.output c.answer.new.streams.output)) _ _ _ told.0 outcome.told
-    (inr (inl (c.in-Err.failure, outcome.fails, told.1))) told.2
-
-pub returns-in-Ok-true-clause-counts : goal.returns-in-Ok-true-clause-counts
-returns-in-Ok-true-clause-counts g c = λ given right asks some is.
-    let whole : c.answer.result ≡ Ok true = search rules in
-    (c.answer.ensures.outcome given right asks).counts some whole
+    let memory = λ (given : List Given) (right : all_asked (texts c.args.arguments.now) ≡ Some given). ap Arguments (memory_alone (texts c.args.arguments.now) given c.in-Err.mistake right c.in-Err.ensures.wrong) in
+    let redacted = λ (given : List Given) (right : all_asked (texts c.args.arguments.now) ≡ Some given).
+    subst (λ (status : ℕ). CallStatus g.W.Write g.E.Sink (call_of g.F.Folder c.args.folder.now given) status c.args.streams.now (record c.args.streams.now { errors = c.report.new.errors })) (sym c.report.ensures.failed)
+    (status_failed g.W.Write g.E.Sink (call_of g.F.Folder c.args.folder.now given) c.args.streams.now c.args.streams.now (Arguments c.in-Err.mistake) c.report.new.errors told.0
+    (call_refused g.W.Write g.E.Sink (call_of g.F.Folder c.args.folder.now given) (bytes_left c.args.streams.now.input) c.args.streams.now.input c.args.streams.now (Arguments c.in-Err.mistake) (inl (inl (memory given right))))
+    told.1 told.2) in
+    let checked = λ (given : List Given) (right : all_asked (texts c.args.arguments.now) ≡ Some given).
+    subst (λ (status : ℕ). CheckStatus g.E.Sink (call_of g.F.Folder c.args.folder.now given) status (bytes_left c.args.streams.now.input) (bytes_left c.args.streams.now.input) c.args.streams.now.errors c.report.new.errors) (sym c.report.ensures.failed)
+    (status_ended g.E.Sink (call_of g.F.Folder c.args.folder.now given) (bytes_left c.args.streams.now.input) (bytes_left c.args.streams.now.input) c.args.streams.now.errors (Arguments c.in-Err.mistake) c.args.streams.now.errors c.report.new.errors told.0
+    (check_refused g.E.Sink (call_of g.F.Folder c.args.folder.now given) (bytes_left c.args.streams.now.input) (bytes_left c.args.streams.now.input) c.args.streams.now.errors (Arguments c.in-Err.mistake) (inl (inl (memory given right))))
+    told.1 told.2) in
+    record {
+      wrong = λ wrong. c.report.ensures.failed;
+      unread = λ wrong. refl;
+      unwritten = λ wrong. refl;
+      tells_wrong = λ wrong. tells_one g.E.Sink (IsWrongLine (texts c.args.arguments.now)) _ _ told.0 (Arguments c.in-Err.mistake, (c.in-Err.mistake, refl, c.in-Err.ensures.wrong), told.1) told.2;
+      patternless = λ given right asks. (redacted given right).patternless;
+      redacts = λ given right asks. (redacted given right).redacts;
+      begins = λ given right asks. (redacted given right).begins;
+      strict = λ given right asks. (redacted given right).strict;
+      quiet = λ given right asks. (redacted given right).quiet;
+      counts = λ given right asks. (redacted given right).counts;
+      tells = λ given right asks. (redacted given right).tells;
+      unmatched = λ given right asks. (checked given right).unmatched;
+      matched = λ given right asks. (checked given right).matched;
+      unchecked = λ given right asks. (checked given right).tells;
+      check_quiet = λ given right asks. (checked given right).quiet;
+      check_unwritten = λ given right asks. refl;
+      flushed = λ redacts (zero : c.report.result ≡ 0). let clash : 2 ≡ 0 = sym c.report.ensures.failed ∙ zero in absurd (cc);
+      bound = omega (arith, c.report.ensures.failed);
+      one = λ (is : c.report.result ≡ 1). let clash : 2 ≡ 1 = sym c.report.ensures.failed ∙ is in absurd (cc);
+    }

@@ -7,8 +7,8 @@ use Rattle.acredact.specs.Arguments.{given_of, read_by, read_of}
 use Rattle.acredact.specs.declared.arguments.Expects.{Expects}
 use Rattle.acredact.specs.declared.arguments.Item.{Item}
 use Rattle.acredact.proofs.Reading.{IsReadTo, read_begun, read_whole, texts_cut}
-use Rattle.acredact.proofs.arguments.items.Goals.{in-Whole+else-is_err, in-Begun}
-use Rattle.acredact.proofs.arguments.items.Goals as goal
+use Rattle.acredact.proofs.arguments.read_items.Goals.{in-Whole+else-is_err, in-Begun}
+use Rattle.acredact.proofs.arguments.read_items.Goals as goal
 
 pub loop-rest-preserved : goal.loop-rest-preserved
 loop-rest-preserved c =

@@ -4,7 +4,7 @@ use Rattle.acredact.specs.Arguments.{all_given}
 use Rattle.acredact.specs.Calls.{call_of, gives_pattern}
 use Rattle.acredact.proofs.Calls.{call_refused}
 use Rattle.acredact.proofs.Ready.{gives_none}
-use Rattle.acredact.proofs.run.answer_items.Goals as goal
+use Rattle.acredact.proofs.run.redact_asked.Goals as goal
 
 pub returns-then-not-gives_pattern-clause-outcome : goal.returns-then-not-gives_pattern-clause-outcome
 returns-then-not-gives_pattern-clause-outcome g c = λ asks.

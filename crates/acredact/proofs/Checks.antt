@@ -1,0 +1,255 @@
+-- What is seen of files, one after another.
+use Rattle.std.proofs.Common.{◌≡◌, inl, inr, ℕ, List, [], ◌∷◌, ◌++◌, Option, true, false, refl, sym, ap, subst, ◌∙◌, append-nil, append_assoc, arith}
+use Rattle.std.specs.Prelude.{Bool, ◌⊎◌, ◌<◌, ◌||◌, ◌&&◌, not, Result, Ok, Err, IfErr}
+use Rattle.std.specs.Io.KnownBytes.{Keeps}
+use Rattle.std.specs.List.{All, concat}
+use Rattle.std.proofs.KnownBytes.{Consumes-nil}
+use Rattle.std.proofs.lemmas.List.Elements.{All-append, All-cons, All-nil}
+use Rattle.aho_core.specs.Patterns.{Patterns}
+use Rattle.aho_devices.specs.declared.device.Sink.{Ghosts as SinkGhosts}
+use Rattle.programs.specs.Names.{IsOneOf, is_input}
+use Rattle.programs.specs.Telling.{TellsBytes}
+use Rattle.programs.specs.declared.errors.Errors.{Errors}
+use Rattle.programs.specs.declared.reason.Reason.{Reason}
+use Rattle.programs.proofs.Tellings.{tells-later}
+use Rattle.acredact.specs.Calls.{Call, IsUnreadLine, gives_pattern, names_asked, reading_by}
+use Rattle.acredact.specs.Checks.{AreSeen, AreUnmatched, CheckFails, CheckOutcome, CheckStatus, IsBuildFailure, IsLookOf, IsUnmatchedCall, Quest, SeesCall, SeesFiles, look_lines, quest_by}
+use Rattle.acredact.specs.Failures.{IsFailureLine}
+use Rattle.acredact.specs.Faults.{IsReadReason}
+use Rattle.acredact.specs.Files.{are_none, unread_line}
+use Rattle.acredact.specs.Loading.{AreGiven}
+use Rattle.acredact.specs.Looks.{IsLook, HoldsNoMatch, is_found, is_unread_look, verdict_with}
+use Rattle.acredact.specs.Reads.{OfName}
+use Rattle.acredact.specs.Statuses.{check_status}
+use Rattle.acredact.specs.Tables.{Secret}
+use Rattle.acredact.specs.declared.failure.Failure.{Failure}
+use Rattle.acredact.specs.declared.look.Look.{Look}
+use Rattle.acredact.specs.declared.look.Look.TheVariants.{Clean, Found, Unread}
+use Rattle.acredact.specs.declared.look.Verdict.{Verdict}
+use Rattle.acredact.proofs.Calls.{tells_same}
+use Rattle.acredact.proofs.Done.{concat_both, tells_none}
+use Rattle.acredact.proofs.OneFile.{known_read, of_folder, of_input}
+
+-- a look at what is known of a file, for reasons that may be more
+known_look : (p : Patterns) (Few Many : Reason → Type 0) (told left left' : Option (List ℕ)) → Keeps told left → ((reason : Reason) → Few reason → Many reason) → (look : Look) → IsLook p Few look left left' → IsLook p Many look told left'
+known_look p Few Many told left left' kept more Clean (text, reads, none) = (text, record { read = known_read told left left' text kept reads.read; ended = reads.ended }, none)
+known_look p Few Many told left left' kept more Found (given, reads, some) = (given, known_read told left left' given kept reads, some)
+known_look p Few Many told left left' kept more (Unread reason) (why, (given, reads)) = (more reason why, (given, known_read told left left' given kept reads))
+
+same_look : (p : Patterns) (Few Many : Reason → Type 0) (left left' : Option (List ℕ)) → ((reason : Reason) → Few reason → Many reason) → (look : Look) → IsLook p Few look left left' → IsLook p Many look left left'
+same_look p Few Many left left' more Clean is = is
+same_look p Few Many left left' more Found is = is
+same_look p Few Many left left' more (Unread reason) is = (more reason is.0, is.1)
+
+-- the file of a name is that of the input, or of the folder, or cannot be opened
+module _ (quest : Quest) (name : List ℕ) where
+  abbrev MayBeTold : Reason → Type 0
+  MayBeTold reason = IsReadReason reason ⊎ quest.refuses name reason
+
+  pub look_input : (look : Look) (left left' : Option (List ℕ)) → is_input name ≡ true → IsLook quest.patterns IsReadReason look left left' → IsLookOf quest name look left left'
+  look_input look left left' is looks = of_input quest.holds name (IsLook quest.patterns MayBeTold look) left left' is (same_look quest.patterns IsReadReason MayBeTold left left' (λ reason why. inl why) look looks)
+
+  pub look_opened : (look : Look) (given left left' rest : Option (List ℕ)) → is_input name ≡ false → left' ≡ left → Keeps (quest.holds name) given → IsLook quest.patterns IsReadReason look given rest → IsLookOf quest name look left left'
+  look_opened look given left left' rest is same kept looks =
+      of_folder quest.holds name (IsLook quest.patterns MayBeTold look) left left' is same rest (known_look quest.patterns IsReadReason MayBeTold (quest.holds name) given rest kept (λ reason why. inl why) look looks)
+
+  pub look_refused : (reason : Reason) (left left' : Option (List ℕ)) → is_input name ≡ false → left' ≡ left → quest.refuses name reason → IsLookOf quest name (Unread reason) left left'
+  look_refused reason left left' is same why =
+      of_folder quest.holds name (IsLook quest.patterns MayBeTold (Unread reason)) left left' is same (quest.holds name) (inr why, ([], Consumes-nil (quest.holds name)))
+
+-- the lines of a look
+look_are : (name : List ℕ) (names : List (List ℕ)) (look : Look) → IsOneOf name names → All (IsUnreadLine names) (look_lines name look)
+look_are name names Clean among = All-nil (IsUnreadLine names)
+look_are name names Found among = All-nil (IsUnreadLine names)
+look_are name names (Unread reason) among = All-cons (IsUnreadLine names) (unread_line name reason) [] (name, among, inl (reason, refl)) (All-nil (IsUnreadLine names))
+
+none_more : (lines : List (List ℕ)) (name : List ℕ) (look : Look) (all : Bool) → all ≡ are_none lines → (all && not (is_unread_look look)) ≡ are_none (lines ++ look_lines name look)
+none_more [] name Clean all is = ap (λ (b : Bool). b && true) is
+none_more [] name Found all is = ap (λ (b : Bool). b && true) is
+none_more [] name (Unread reason) all is = ap (λ (b : Bool). b && false) is
+none_more (line ∷ lines) name look all is = ap (λ (b : Bool). b && not (is_unread_look look)) is
+
+both_all : (first : Bool) (look : Look) → (first && not (is_unread_look look)) ≡ true → (first ≡ true) × (is_unread_look look ≡ false)
+both_all true Clean is = (refl, refl)
+both_all true Found is = (refl, refl)
+both_all true (Unread reason) is = absurd (cc)
+both_all false look is = absurd (cc)
+
+or_assoc : (a b c : Bool) → ((a || b) || c) ≡ (a || (b || c))
+or_assoc true b c = refl
+or_assoc false b c = refl
+
+or_false : (a : Bool) → (a || false) ≡ a
+or_false true = refl
+or_false false = refl
+
+module _ {E : Type 0} (K : SinkGhosts E) (quest : Quest) (names : List (List ℕ)) (old : Errors E) (before : Option (List ℕ)) where
+  -- some first files were looked at: what is seen of the others is seen of all
+  pub record SeenSoFar (rest : List (List ℕ)) (verdict : Verdict) (left : Option (List ℕ)) (errors : Errors E) : Type 0 where
+    pub lines : List (List ℕ)
+    pub is_all : verdict.all ≡ are_none lines
+    pub are : All (IsUnreadLine names) lines
+    pub told : TellsBytes K old errors (concat lines)
+    pub quiet : verdict.all ≡ true → errors ≡ old
+    pub among : (name : List ℕ) → IsOneOf name rest → IsOneOf name names
+    pub seen : (found : Bool) (more : List (List ℕ)) (left' : Option (List ℕ)) → AreSeen quest rest found more left left' → AreSeen quest names (verdict.found || found) (lines ++ more) before left'
+
+  -- one more
+  pub seen_more : (name : List ℕ) (rest : List (List ℕ)) (verdict : Verdict) (look : Look) (left left' : Option (List ℕ)) (mid new : Errors E) → SeenSoFar (name ∷ rest) verdict left mid → IsLookOf quest name look left left'
+      → TellsBytes K mid new (concat (look_lines name look)) → (is_unread_look look ≡ false → new ≡ mid) → SeenSoFar rest (verdict_with verdict look) left' new
+  seen_more name rest verdict look left left' mid new so looks told quiet = record {
+    lines = so.lines ++ look_lines name look;
+    is_all = none_more so.lines name look verdict.all so.is_all;
+    are = All-append (IsUnreadLine names) so.lines (look_lines name look) so.are (look_are name names look (so.among name (inl refl)));
+    told = subst (TellsBytes K old new) (sym (concat_both so.lines (look_lines name look))) (tells-later K so.told told);
+    quiet = λ is. let parts = both_all verdict.all look is in quiet parts.1 ∙ so.quiet parts.0;
+    among = λ other is. so.among other (inr is);
+    seen = λ found more last rests.
+        let here : AreSeen quest (name ∷ rest) (is_found look || found) (look_lines name look ++ more) left last = (look, found, more, refl, refl, left', looks, rests) in
+        subst (λ (l : List (List ℕ)). AreSeen quest names ((verdict.found || is_found look) || found) l before last) (sym (append_assoc so.lines (look_lines name look) more))
+        (subst (λ (b : Bool). AreSeen quest names b (so.lines ++ (look_lines name look ++ more)) before last) (sym (or_assoc verdict.found (is_found look) found))
+        (so.seen (is_found look || found) (look_lines name look ++ more) last here));
+  }
+
+  -- all
+  pub seen_all : {X : Type 0} (verdict : Verdict) (left : Option (List ℕ)) (errors : Errors E) → SeenSoFar [] verdict left errors → SeesFiles K {X = X} quest names (Ok verdict) before left old errors
+  seen_all verdict left errors so = record {
+    seen = (
+      so.lines,
+      so.is_all,
+      subst (λ (b : Bool). AreSeen quest names b so.lines before left) (or_false verdict.found)
+          (subst (λ (l : List (List ℕ)). AreSeen quest names (verdict.found || false) l before left) (append-nil so.lines) (so.seen false [] left (refl, refl, refl))),
+      so.told,
+    );
+    quiet = so.quiet;
+    told = tt;
+  }
+
+  -- memory runs out
+  pub seen_cut : {X : Type 0} (error : X) (rest : List (List ℕ)) (verdict : Verdict) (left left' : Option (List ℕ)) (errors : Errors E) → SeenSoFar rest verdict left errors → SeesFiles K quest names (Err error) before left' old errors
+  seen_cut error rest verdict left left' errors so = record { seen = tt; quiet = tt; told = record { told = so.lines; are_lines = so.are; written = so.told } }
+
+-- before the first
+pub seen_none : {E : Type 0} (K : SinkGhosts E) (quest : Quest) (names : List (List ℕ)) (errors : Errors E) (left : Option (List ℕ)) → SeenSoFar K quest names errors left names (record { found = false; all = true }) left errors
+seen_none K quest names errors left = record {
+  lines = [];
+  is_all = refl;
+  are = All-nil (IsUnreadLine names);
+  told = tells_none K errors;
+  quiet = λ is. refl;
+  among = λ name is. is;
+  seen = λ found more left' seen. seen;
+}
+
+-- nothing was looked at
+pub seen_refused : {E X : Type 0} (K : SinkGhosts E) (quest : Quest) (names : List (List ℕ)) (error : X) (left left' : Option (List ℕ)) (errors : Errors E) → SeesFiles K quest names (Err error) left left' errors errors
+seen_refused K quest names error left left' errors = record { seen = tt; quiet = tt; told = tells_same K (IsUnreadLine names) errors errors refl }
+
+-- what is seen of files stays so, with another error
+pub seen_fails : {E X Y : Type 0} (K : SinkGhosts E) (quest : Quest) (names names' : List (List ℕ)) (error : X) (other : Y) (left left' : Option (List ℕ)) (errors errors' : Errors E) → names ≡ names'
+    → SeesFiles K quest names (Err error) left left' errors errors' → SeesFiles K quest names' (Err other) left left' errors errors'
+seen_fails K quest names names' error other left left' errors errors' same sees =
+    subst (λ (l : List (List ℕ)). SeesFiles K quest l (Err other) left left' errors errors') same (record { seen = tt; quiet = tt; told = sees.told })
+
+pub seen_whole : {E X Y : Type 0} (K : SinkGhosts E) (quest : Quest) (names names' : List (List ℕ)) (verdict : Verdict) (left left' : Option (List ℕ)) (errors errors' : Errors E) → names ≡ names'
+    → SeesFiles K {X = X} quest names (Ok verdict) left left' errors errors' → SeesFiles K {X = Y} quest names' (Ok verdict) left left' errors errors'
+seen_whole {Y = Y} K quest names names' verdict left left' errors errors' same sees =
+    subst (λ (l : List (List ℕ)). SeesFiles K {X = Y} quest l (Ok verdict) left left' errors errors') same (record { seen = sees.seen; quiet = sees.quiet; told = tt })
+
+-- where nothing was found and nothing told, each file was read to its end and has no match
+none_found : (a b : Bool) → false ≡ (a || b) → (a ≡ false) × (b ≡ false)
+none_found true b is = absurd (cc)
+none_found false true is = absurd (cc)
+none_found false false is = (refl, refl)
+
+none_told : (xs ys : List (List ℕ)) → [] ≡ xs ++ ys → (xs ≡ []) × (ys ≡ [])
+none_told [] ys is = (refl, sym is)
+none_told (x ∷ xs) ys is = absurd (cc)
+
+is_clean : (quest : Quest) (name : List ℕ) (look : Look) (left left' : Option (List ℕ)) → is_found look ≡ false → look_lines name look ≡ [] → IsLookOf quest name look left left' → OfName quest.holds name (HoldsNoMatch quest.patterns) left left'
+is_clean quest name Clean left left' found told looks = looks
+is_clean quest name Found left left' found told looks = absurd (cc)
+is_clean quest name (Unread reason) left left' found told looks = absurd (cc)
+
+unmatched_all : (quest : Quest) (names : List (List ℕ)) (left left' : Option (List ℕ)) → AreSeen quest names false [] left left' → AreUnmatched quest names left left'
+unmatched_all quest [] left left' seen = seen.2
+unmatched_all quest (name ∷ names) left left' (look, others, rest, found, told, between, looks, seen) =
+    let none = none_found (is_found look) others found in
+    let quiet = none_told (look_lines name look) rest told in (
+      between,
+      is_clean quest name look left between none.0 quiet.0 looks,
+      unmatched_all quest names between left' (subst (λ (l : List (List ℕ)). AreSeen quest names false l between left') quiet.1 (subst (λ (b : Bool). AreSeen quest names b rest between left') none.1 seen)),
+    )
+
+pub unmatched_call : (call : Call) (left left' : Option (List ℕ)) → SeesCall call false [] left left' → IsUnmatchedCall call left left'
+unmatched_call call left left' sees = record {
+  some = sees.some;
+  secrets = sees.secrets;
+  between = sees.between;
+  loaded = sees.loaded;
+  unmatched = unmatched_all (quest_by call sees.secrets) (names_asked call.given) sees.between left' sees.seen;
+}
+
+-- no lines are none
+are_nothing : (lines : List (List ℕ)) → true ≡ are_none lines → lines ≡ []
+are_nothing [] none = refl
+are_nothing (line ∷ lines) none = absurd (cc)
+
+module _ {E : Type 0} (K : SinkGhosts E) (call : Call) (left left' : Option (List ℕ)) (old : Errors E) where
+  -- what comes of a check whose patterns were loaded
+  pub check_seen : (secrets : List Secret) (between : Option (List ℕ)) (new : Errors E) (result : Result Verdict Failure) → gives_pattern call.given ≡ true → AreGiven (reading_by call) call.given secrets left between
+      → SeesFiles K (quest_by call secrets) (names_asked call.given) result between left' old new → IfErr result IsBuildFailure → CheckOutcome K call result left left' old new
+  check_seen secrets between new (Ok verdict) some loaded sees fails =
+      let (lines, is_all, seen, told) = sees.seen in
+      record { seen = (lines, is_all, record { some = some; secrets = secrets; between = between; loaded = loaded; seen = seen }, told); quiet = sees.quiet; told = tt; fails = tt }
+  check_seen secrets between new (Err failure) some loaded sees fails = record { seen = tt; quiet = tt; told = sees.told; fails = inr (inr fails) }
+
+  -- and of one that ends before
+  pub check_refused : (failure : Failure) → CheckFails call failure → CheckOutcome K call (Err failure) left left' old old
+  check_refused failure fails = record { seen = tt; quiet = tt; told = tells_same K (IsUnreadLine (names_asked call.given)) old old refl; fails = fails }
+
+  status_whole : (found : Bool) (new : Errors E) → CheckOutcome K call (Ok (record { found = found; all = true })) left left' old new → CheckStatus K call (check_status (record { found = found; all = true })) left left' old new
+  status_whole true new of =
+      let (lines, is_all, sees, told) = of.seen in
+      record {
+        unmatched = λ (is : 1 ≡ 0). absurd (omega arith);
+        matched = λ is. subst (λ (l : List (List ℕ)). SeesCall call true l left left') (are_nothing lines is_all) sees;
+        quiet = λ less. of.quiet refl;
+        tells = λ (is : 1 ≡ 2). absurd (omega arith);
+        bound = omega arith;
+      }
+  status_whole false new of =
+      let (lines, is_all, sees, told) = of.seen in
+      record {
+        unmatched = λ is. unmatched_call call left left' (subst (λ (l : List (List ℕ)). SeesCall call false l left left') (are_nothing lines is_all) sees);
+        matched = λ (is : 0 ≡ 1). absurd (omega arith);
+        quiet = λ less. of.quiet refl;
+        tells = λ (is : 0 ≡ 2). absurd (omega arith);
+        bound = omega arith;
+      }
+
+  -- its status where it came to its end
+  pub status_seen : (verdict : Verdict) (new : Errors E) → CheckOutcome K call (Ok verdict) left left' old new → CheckStatus K call (check_status verdict) left left' old new
+  status_seen verdict new of = by verdict.found verdict.all of
+    where
+      by : (found all : Bool) → CheckOutcome K call (Ok (record { found = found; all = all })) left left' old new → CheckStatus K call (check_status (record { found = found; all = all })) left left' old new
+      by found true of = status_whole found new of
+      by found false of =
+          let (lines, is_all, sees, told) = of.seen in
+          record {
+            unmatched = λ (is : 2 ≡ 0). absurd (omega arith);
+            matched = λ (is : 2 ≡ 1). absurd (omega arith);
+            quiet = λ (less : 2 < 2). absurd (omega arith);
+            tells = λ is. inl (record { found = found; lines = lines; some = sym is_all; seen = sees; told = told });
+            bound = omega arith;
+          }
+
+  -- and where it did not, and that was told
+  pub status_ended : (failure : Failure) (mid new : Errors E) (line : List ℕ) → CheckOutcome K call (Err failure) left left' old mid → IsFailureLine failure line → TellsBytes K mid new line → CheckStatus K call 2 left left' old new
+  status_ended failure mid new line of is told = record {
+    unmatched = λ (is : 2 ≡ 0). absurd (omega arith);
+    matched = λ (is : 2 ≡ 1). absurd (omega arith);
+    quiet = λ (less : 2 < 2). absurd (omega arith);
+    tells = λ two. inr (record { lines = of.told.told; are_unread = of.told.are_lines; failure = failure; fails = of.fails; line = line; is_line = is; told = tells-later K of.told.written told });
+    bound = omega arith;
+  }

@@ -1,0 +1,113 @@
+-- What the exit status says, by what is answered.
+use Rattle.std.proofs.Common.{◌≡◌, inl, inr, ℕ, ◌≤◌, List, true, false, refl, sym, ap, ◌∙◌, arith}
+use Rattle.std.specs.Prelude.{Bool, ◌⊎◌, ◌&&◌, not, Ok, Err}
+use Rattle.std.specs.declared.io.traits.Read.{Ghosts as Readers}
+use Rattle.std.specs.declared.io.traits.Write.{Ghosts as Writers}
+use Rattle.aho_devices.specs.declared.device.Sink.{Ghosts as SinkGhosts}
+use Rattle.programs.specs.Streams.{bytes_left}
+use Rattle.programs.specs.Telling.{TellsBytes, TellsSome}
+use Rattle.programs.specs.declared.errors.Errors.{Errors}
+use Rattle.acredact.specs.Arguments.{AsksToCheck, AsksToRedact, Given, GivesNoPattern, checks_asked, has}
+use Rattle.acredact.specs.Calls.{Call, CallOutcome, IsLineOf, OutputFails}
+use Rattle.acredact.specs.Failures.{IsFailureLine}
+use Rattle.acredact.specs.Statuses.{CallStatus}
+use Rattle.acredact.specs.declared.arguments.Word.TheVariants.{Check, Help, Version}
+use Rattle.acredact.specs.declared.failure.Failure.{Failure}
+use Rattle.acredact.specs.declared.streams.Streams.{Streams}
+use Rattle.acredact.proofs.Calls.{begins_told, tells_last, tells_same}
+
+-- a line alone
+pub tells_one : {E : Type 0} (K : SinkGhosts E) (IsLine : List ℕ → Type 0) (old new : Errors E) (line : List ℕ) → IsLine line → TellsBytes K old new line → TellsSome K IsLine old new
+tells_one K IsLine old new line is told = tells_last K IsLine old old new line (tells_same K IsLine old old refl) is told
+
+-- whether a check is asked for
+pub asks_check : (given : List Given) → AsksToCheck given → checks_asked given ≡ true
+asks_check given asks =
+    ap (λ (b : Bool). b && not (has Help given) && not (has Version given)) asks.check
+    ∙ ap (λ (b : Bool). true && not b && not (has Version given)) asks.no_help ∙ ap (λ (b : Bool). true && not false && not b) asks.no_version
+
+asks_none : (given : List Given) → AsksToRedact given → checks_asked given ≡ false
+asks_none given asks = ap (λ (b : Bool). b && not (has Help given) && not (has Version given)) asks.no_check
+
+pub no_redaction : (given : List Given) → checks_asked given ≡ true → AsksToRedact given → ⊥
+no_redaction given checks asks = let clash : true ≡ false = sym checks ∙ asks_none given asks in cc
+
+pub no_checking : (given : List Given) → checks_asked given ≡ false → AsksToCheck given → ⊥
+no_checking given none asks = let clash : true ≡ false = sym (asks_check given asks) ∙ none in cc
+
+check_parts : (check help version : Bool) → (check && not help && not version) ≡ true → (help ≡ false) × (version ≡ false) × (check ≡ true)
+check_parts true false false is = (refl, refl, refl)
+check_parts true false true is = absurd (cc)
+check_parts true true version is = absurd (cc)
+check_parts false help version is = absurd (cc)
+
+checks_of : (given : List Given) → checks_asked given ≡ true → AsksToCheck given
+checks_of given is = let parts = check_parts (has Check given) (has Help given) (has Version given) is in record { no_help = parts.0; no_version = parts.1; check = parts.2 }
+
+-- a call checks or does not
+by_checks : {P : Type 0} (given : List Given) → (AsksToCheck given → P) → (checks_asked given ≡ false → P) → P
+by_checks {P} given checking redacting = by (checks_asked given) refl
+  where
+    by : (b : Bool) → checks_asked given ≡ b → P
+    by true is = checking (checks_of given is)
+    by false is = redacting is
+
+-- the greatest status is 2
+pub bound_by : (given : List Given) (status : ℕ) → (AsksToCheck given → status ≤ 2) → (checks_asked given ≡ false → (status ≡ 0) ⊎ (status ≡ 2)) → status ≤ 2
+bound_by given status checked redacted =
+    by_checks {P = status ≤ 2} given checked
+    (λ none. elim (redacted none) [
+      | inl zero ↦ omega (arith, zero)
+      | inr two ↦ omega (arith, two)
+    ])
+
+-- and a check alone has status 1
+pub one_by : (given : List Given) (status : ℕ) → (checks_asked given ≡ false → (status ≡ 0) ⊎ (status ≡ 2)) → status ≡ 1 → AsksToCheck given
+one_by given status redacted one =
+    by_checks {P = AsksToCheck given} given (λ asks. asks)
+    (λ none. elim (redacted none) [
+      | inl zero ↦ absurd (omega (arith, zero, one))
+      | inr two ↦ absurd (omega (arith, two, one))
+    ])
+
+-- what is flushed is so but by a check
+pub flushed_by : {P : Type 0} (given : List Given) → (AsksToCheck given → ⊥) → (checks_asked given ≡ false → P) → P
+flushed_by {P} given not_check flushed = by_checks {P = P} given (λ asks. absurd (not_check asks)) flushed
+
+module _ {R : Type 0} {Reads : Readers R} {W E : Type 0} (Writes : Writers W) (K : SinkGhosts E) (call : Call) (old new : Streams R W E Reads) where
+  -- all was done
+  pub status_done : (GivesNoPattern call.given → ⊥) → CallOutcome Writes K call (bytes_left old.input) (Ok true) old new → CallStatus Writes K call 0 old new
+  status_done some of = record {
+    patternless = λ none. absurd (some none);
+    redacts = λ is. of.redacts refl;
+    begins = of.begins;
+    strict = λ asked is. of.strict asked refl;
+    quiet = λ none is. of.quiet none refl;
+    counts = λ counted is. of.counts counted refl;
+    tells = λ (is : 0 ≡ 2). absurd (omega arith);
+  }
+
+  -- some file was not read to its end
+  pub status_partly : CallOutcome Writes K call (bytes_left old.input) (Ok false) old new → CallStatus Writes K call 2 old new
+  status_partly of = record {
+    patternless = λ none. refl;
+    redacts = λ (is : 2 ≡ 0). absurd (omega arith);
+    begins = of.begins;
+    strict = λ asked (is : 2 ≡ 0). absurd (omega arith);
+    quiet = λ none (is : 2 ≡ 0). absurd (omega arith);
+    counts = λ counted (is : 2 ≡ 0). absurd (omega arith);
+    tells = λ is. of.partly refl;
+  }
+
+  -- the call ended early, and that is told
+  pub status_failed : (failure : Failure) (errors : Errors E) (line : List ℕ) → CallOutcome Writes K call (bytes_left old.input) (Err failure) old new → IsFailureLine failure line → TellsBytes K new.errors errors line
+      → CallStatus Writes K call 2 old (record new { errors = errors })
+  status_failed failure errors line of is told = record {
+    patternless = λ none. refl;
+    redacts = λ (is : 2 ≡ 0). absurd (omega arith);
+    begins = begins_told Writes K call _ old new errors of.begins;
+    strict = λ asked (is : 2 ≡ 0). absurd (omega arith);
+    quiet = λ none (is : 2 ≡ 0). absurd (omega arith);
+    counts = λ counted (is : 2 ≡ 0). absurd (omega arith);
+    tells = λ two. tells_last K (IsLineOf call (OutputFails old.output new.output)) _ _ _ line of.told (inr (inl (failure, of.fails, is))) told;
+  }

@@ -1,0 +1,176 @@
+-- What a check sees of files, one after another, and what it tells.
+use Rattle.std.specs.Prelude.{◌≡◌, ◌⊎◌, ℕ, ◌<◌, ◌≤◌, ◌||◌, Bool, true, false, List, [], ◌∷◌, ◌++◌, Option, Result, IfErr, IfOk, OnErr}
+use Rattle.std.specs.List.{All, concat}
+use Rattle.std.specs.declared.io.traits.Read.{Ghosts as Readers}
+use Rattle.aho_core.specs.Patterns.{Patterns}
+use Rattle.aho_core.specs.declared.error.BuildError.{BuildError}
+use Rattle.aho_devices.specs.declared.adapters.FromRead.{FromRead}
+use Rattle.aho_devices.specs.declared.device.Sink.{Ghosts as SinkGhosts}
+use Rattle.programs.specs.Names.{name_bytes}
+use Rattle.programs.specs.Streams.{bytes_left}
+use Rattle.programs.specs.Telling.{Tells, TellsBytes}
+use Rattle.programs.specs.declared.errors.Errors.{Errors}
+use Rattle.programs.specs.declared.failure.Failure.TheVariants.{Build, OutOfMemory}
+use Rattle.programs.specs.declared.reason.Reason.{Reason}
+use Rattle.acredact.specs.Arguments.{AsksToCheck, Given, GivesNoPattern}
+use Rattle.acredact.specs.Builds.{patterns_by_given}
+use Rattle.acredact.specs.Calls.{Call, IsUnreadLine, call_of, gives_pattern, names_asked, reading_by}
+use Rattle.acredact.specs.Failures.{IsFailureLine}
+use Rattle.acredact.specs.Faults.{IsReadReason}
+use Rattle.acredact.specs.Files.{are_none, unread_line}
+use Rattle.acredact.specs.Loading.{AreGiven, CannotLoadOne}
+use Rattle.acredact.specs.Looks.{IsLook, HoldsNoMatch, is_found}
+use Rattle.acredact.specs.Reads.{OfName}
+use Rattle.acredact.specs.Tables.{Secret, patterns_in, secrets_of}
+use Rattle.acredact.specs.declared.arguments.Mistake.TheVariants.{NoPattern, OutOfMemory as NoRoom}
+use Rattle.acredact.specs.declared.failure.Failure.{Failure}
+use Rattle.acredact.specs.declared.failure.Failure.TheVariants.{Arguments, Other}
+use Rattle.acredact.specs.declared.folder.Folder.{Ghosts as Folders}
+use Rattle.acredact.specs.declared.look.Look.{Look}
+use Rattle.acredact.specs.declared.look.Look.TheVariants.{Clean, Found, Unread}
+use Rattle.acredact.specs.declared.look.Searched.{Searched}
+use Rattle.acredact.specs.declared.look.Verdict.{Verdict}
+use Rattle.acredact.specs.declared.patterns.Rule.{Rule}
+use Rattle.acredact.specs.declared.streams.Streams.{Streams}
+
+-- what is looked for, what the folder holds under a name, where it tells that, and why it may not open what has the name
+pub record Quest : Type 1 where
+  pub holds : List ℕ → Option (List ℕ)
+  pub refuses : List ℕ → Reason → Type 0
+  pub patterns : Patterns
+
+abbrev pub quest_of : {F X : Type 0} → Folders F X → F → Patterns → Quest
+quest_of D folder p = record { holds = D.holds folder; refuses = D.refuses folder; patterns = p }
+
+abbrev pub quest_by : Call → List Secret → Quest
+quest_by call secrets = record { holds = call.holds; refuses = call.refuses; patterns = patterns_by_given call.given (patterns_in secrets) }
+
+-- the file of this name was found to be this: what may be told of one is that a read fails, or that the folder refuses it
+abbrev pub IsLookOf : Quest → List ℕ → Look → (left left' : Option (List ℕ)) → Type 0
+IsLookOf quest name look left left' = OfName quest.holds name (IsLook quest.patterns (λ reason. IsReadReason reason ⊎ quest.refuses name reason) look) left left'
+
+-- what is told of it
+abbrev pub look_lines : List ℕ → Look → List (List ℕ)
+look_lines name Clean = []
+look_lines name Found = []
+look_lines name (Unread reason) = unread_line name reason ∷ []
+
+-- each file was looked at, one after another: whether some pattern was found in one, and the lines that were told
+abbrev pub AreSeen : Quest → List (List ℕ) → (found : Bool) → (lines : List (List ℕ)) → (left left' : Option (List ℕ)) → Type 0
+AreSeen quest [] found lines left left' = (found ≡ false) × (lines ≡ []) × (left' ≡ left)
+AreSeen quest (name ∷ names) found lines left left' =
+    (look : Look) × (others : Bool) × (rest : List (List ℕ)) × (found ≡ (is_found look || others)) × (lines ≡ look_lines name look ++ rest)
+    × (between : Option (List ℕ)) × IsLookOf quest name look left between × AreSeen quest names others rest between left'
+
+-- each file was read to its end, one after another, and no pattern occurs in any
+abbrev pub AreUnmatched : Quest → List (List ℕ) → (left left' : Option (List ℕ)) → Type 0
+AreUnmatched quest [] left left' = left' ≡ left
+AreUnmatched quest (name ∷ names) left left' =
+    (between : Option (List ℕ)) × OfName quest.holds name (HoldsNoMatch quest.patterns) left between × AreUnmatched quest names between left'
+
+-- of a call whose patterns were loaded each file was looked at so
+pub record SeesCall (call : Call) (found : Bool) (lines : List (List ℕ)) (left left' : Option (List ℕ)) : Type 0 where
+  pub some : gives_pattern call.given ≡ true
+  pub secrets : List Secret
+  pub between : Option (List ℕ)
+  pub loaded : AreGiven (reading_by call) call.given secrets left between
+  pub seen : AreSeen (quest_by call secrets) (names_asked call.given) found lines between left'
+
+-- and no pattern occurs in any
+pub record IsUnmatchedCall (call : Call) (left left' : Option (List ℕ)) : Type 0 where
+  pub some : gives_pattern call.given ≡ true
+  pub secrets : List Secret
+  pub between : Option (List ℕ)
+  pub loaded : AreGiven (reading_by call) call.given secrets left between
+  pub unmatched : AreUnmatched (quest_by call secrets) (names_asked call.given) between left'
+
+-- why patterns are not searched for: the library refuses them, or memory runs out
+abbrev pub IsBuildFailure : Failure → Type 0
+IsBuildFailure failure = ((error : BuildError) × (failure ≡ Other (Build error))) ⊎ (failure ≡ Other OutOfMemory)
+
+-- why a check ends early: there is no pattern, one of the options cannot be loaded, or the patterns are not searched for
+abbrev pub CheckFails : Call → Failure → Type 0
+CheckFails call failure =
+    ((failure ≡ Arguments NoRoom) ⊎ ((failure ≡ Arguments NoPattern) × GivesNoPattern call.given))
+    ⊎ (CannotLoadOne (reading_by call) call.given failure ⊎ IsBuildFailure failure)
+
+module _ {E : Type 0} (K : SinkGhosts E) where
+  -- what comes of looking at files by these names, where the error says why not all were looked at
+  pub record SeesFiles {X : Type 0} (quest : Quest) (names : List (List ℕ)) (result : Result Verdict X) (left left' : Option (List ℕ)) (errors errors' : Errors E) : Type 0 where
+    pub seen : IfOk result (λ verdict. (lines : List (List ℕ)) × (verdict.all ≡ are_none lines) × AreSeen quest names verdict.found lines left left' × TellsBytes K errors errors' (concat lines))
+    pub quiet : IfOk result (λ verdict. verdict.all ≡ true → errors' ≡ errors)
+    pub told : OnErr result (Tells K (IsUnreadLine names) errors errors')
+
+  -- what comes of a check
+  pub record CheckOutcome (call : Call) (result : Result Verdict Failure) (left left' : Option (List ℕ)) (errors errors' : Errors E) : Type 0 where
+    pub seen : IfOk result (λ verdict. (lines : List (List ℕ)) × (verdict.all ≡ are_none lines) × SeesCall call verdict.found lines left left' × TellsBytes K errors errors' (concat lines))
+    pub quiet : IfOk result (λ verdict. verdict.all ≡ true → errors' ≡ errors)
+    pub told : OnErr result (Tells K (IsUnreadLine (names_asked call.given)) errors errors')
+    pub fails : IfErr result (CheckFails call)
+
+  -- each file was looked at, and each that cannot be read is told: there is one
+  pub record TellsUnread (call : Call) (left left' : Option (List ℕ)) (errors errors' : Errors E) : Type 0 where
+    pub found : Bool
+    pub lines : List (List ℕ)
+    pub some : are_none lines ≡ false
+    pub seen : SeesCall call found lines left left'
+    pub told : TellsBytes K errors errors' (concat lines)
+
+  -- it is told why the check ends early, behind what was told of files
+  pub record TellsCheckEnd (call : Call) (errors errors' : Errors E) : Type 0 where
+    pub lines : List (List ℕ)
+    pub are_unread : All (IsUnreadLine (names_asked call.given)) lines
+    pub failure : Failure
+    pub fails : CheckFails call failure
+    pub line : List ℕ
+    pub is_line : IsFailureLine failure line
+    pub told : TellsBytes K errors errors' (concat lines ++ line)
+
+  -- what the exit status of a check says
+  pub record CheckStatus (call : Call) (status : ℕ) (left left' : Option (List ℕ)) (errors errors' : Errors E) : Type 0 where
+    pub unmatched : status ≡ 0 → IsUnmatchedCall call left left'
+    pub matched : status ≡ 1 → SeesCall call true [] left left'
+    pub quiet : status < 2 → errors' ≡ errors
+    pub tells : status ≡ 2 → TellsUnread call left left' errors errors' ⊎ TellsCheckEnd call errors errors'
+    pub bound : status ≤ 2
+
+-- the same of the input, by what the folder and the options say
+module _ {E F Y R : Type 0} {Reads : Readers R} (K : SinkGhosts E) (D : Folders F Y) where
+  -- what comes of looking for patterns in some files
+  abbrev pub SeesSearched : {X : Type 0} → Searched F → Patterns → Result Verdict X → (input input' : FromRead R Reads) → (errors errors' : Errors E) → Type 0
+  SeesSearched files p result input input' errors errors' =
+      SeesFiles K (quest_of D files.folder.now p) (name_bytes files.names.now) result (bytes_left input) (bytes_left input') errors errors'
+
+  -- and for those of some rules in the files that are asked for
+  abbrev pub SeesRules : F → List Given → List Rule → Result Verdict Failure → (input input' : FromRead R Reads) → (errors errors' : Errors E) → Type 0
+  SeesRules folder given rules result input input' errors errors' =
+      SeesFiles K (quest_by (call_of D folder given) (secrets_of rules)) (names_asked given) result (bytes_left input) (bytes_left input') errors errors'
+
+  abbrev pub ChecksGiven : F → List Given → Result Verdict Failure → (input input' : FromRead R Reads) → (errors errors' : Errors E) → Type 0
+  ChecksGiven folder given result input input' errors errors' = CheckOutcome K (call_of D folder given) result (bytes_left input) (bytes_left input') errors errors'
+
+  abbrev pub EndsCheck : F → List Given → ℕ → (input input' : FromRead R Reads) → (errors errors' : Errors E) → Type 0
+  EndsCheck folder given status input input' errors errors' = CheckStatus K (call_of D folder given) status (bytes_left input) (bytes_left input') errors errors'
+
+-- the same of a call, which writes nothing
+pub record ChecksAlone {R W E : Type 0} {Reads : Readers R} (K : SinkGhosts E) (call : Call) (status : ℕ) (streams streams' : Streams R W E Reads) : Type 0 where
+  pub says : CheckStatus K call status (bytes_left streams.input) (bytes_left streams'.input) streams.errors streams'.errors
+  pub unwritten : streams'.output ≡ streams.output
+
+-- the same of one that asks for a check
+abbrev pub SaysOfCheck : {R W E F X : Type 0} {Reads : Readers R} → SinkGhosts E → Folders F X → F → List Given → ℕ → (streams streams' : Streams R W E Reads) → Type 0
+SaysOfCheck K D folder given status streams streams' = AsksToCheck given → ChecksAlone K (call_of D folder given) status streams streams'
+
+module _ {R W E F X : Type 0} {Reads : Readers R} (D : Folders F X) (folder : F) (given : List Given) (streams streams' : Streams R W E Reads) where
+  -- of a call that asks for this each file was read to its end, and no pattern occurs in any
+  abbrev pub UnmatchedAsked : Type 0
+  UnmatchedAsked = IsUnmatchedCall (call_of D folder given) (bytes_left streams.input) (bytes_left streams'.input)
+
+  -- each file was read to its end or to a match, and there is one
+  abbrev pub MatchedAsked : Type 0
+  MatchedAsked = SeesCall (call_of D folder given) true [] (bytes_left streams.input) (bytes_left streams'.input)
+
+  -- a line or more tell why not
+  abbrev pub TellsUncheckedAsked : SinkGhosts E → Type 0
+  TellsUncheckedAsked K = TellsUnread K (call_of D folder given) (bytes_left streams.input) (bytes_left streams'.input) streams.errors streams'.errors
+      ⊎ TellsCheckEnd K (call_of D folder given) streams.errors streams'.errors

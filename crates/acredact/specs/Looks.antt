@@ -1,0 +1,102 @@
+-- Whether some pattern occurs in what is read: what a check looks for.
+use Rattle.std.specs.Prelude.{◌≡◌, ℕ, ◌||◌, ◌&&◌, not, Bool, true, false, List, Option, Some, Result, Ok, Err, IfErr, alloc_error}
+use Rattle.std.specs.Io.KnownBytes.{Consumes}
+use Rattle.std.specs.declared.alloc.AllocError.{AllocError}
+use Rattle.aho_core.specs.Occurrence.{Occurrence}
+use Rattle.aho_core.specs.Occurs.{OccursIn}
+use Rattle.aho_core.specs.Patterns.{Patterns}
+use Rattle.aho_core.specs.Search.{plain_search}
+use Rattle.aho_core.specs.declared.error.stream.StreamError.{StreamError}
+use Rattle.aho_core.specs.declared.error.stream.StreamError.TheVariants.{Match, Read, Write, WriteZero, Memory, PositionLimit}
+use Rattle.aho_automaton.specs.declared.automaton.Automaton.{Ghosts}
+use Rattle.aho_devices.specs.Counts.{counted}
+use Rattle.aho_devices.specs.Refusals.{is_read_fault}
+use Rattle.aho_devices.specs.declared.device.Source.{Ghosts as SourceGhosts}
+use Rattle.aho_stream.specs.Replacing.{SourceGave}
+use Rattle.aho_stream.specs.StreamRun.{CanBegin}
+use Rattle.programs.specs.declared.reason.Reason.{Reason}
+use Rattle.programs.specs.declared.reason.Reason.TheVariants.{PositionLimit as TooLong, ReadFault}
+use Rattle.acredact.specs.Faults.{is_unread}
+use Rattle.acredact.specs.Reads.{ReadsText}
+use Rattle.acredact.specs.Secrets.{NoneOccurs}
+use Rattle.acredact.specs.declared.look.Look.{Look}
+use Rattle.acredact.specs.declared.look.Look.TheVariants.{Clean, Found, Unread}
+use Rattle.acredact.specs.declared.look.Verdict.{Verdict}
+
+-- an automaton of some patterns can search streams
+pub record CanLook {A : Type 0} (G : Ghosts A) (automaton : A) : Type 0 where
+  pub patterns : Patterns
+  pub of : G.is_of automaton patterns
+  pub begins : CanBegin G automaton
+
+-- some pattern occurs in these bytes
+abbrev pub SomeOccurs : Patterns → List ℕ → Type 0
+SomeOccurs p bytes = (m : Occurrence) × OccursIn p (plain_search bytes) m
+
+-- why a stream is not looked through: a read fails, it is too long, or memory runs out
+abbrev pub IsLookEnd : StreamError → Type 0
+IsLookEnd (Match cause) = ⊥
+IsLookEnd (Read fault) = Unit {0}
+IsLookEnd (Write fault) = ⊥
+IsLookEnd WriteZero = ⊥
+IsLookEnd Memory = Unit {0}
+IsLookEnd PositionLimit = Unit {0}
+
+-- a source gave some bytes. It was read to its end and no pattern occurs in them, or some pattern does; a read fault is answered
+-- exactly where a read failed
+pub record LooksAt {R : Type 0} (S : SourceGhosts R) (p : Patterns) (result : Result Bool StreamError) (source source' : R) : Type 0 where
+  pub given : List ℕ
+  pub ended : Bool
+  pub gives : SourceGave S source source' given ended
+  pub unmatched : result ≡ Ok false → (ended ≡ true) × NoneOccurs p given
+  pub matched : result ≡ Ok true → SomeOccurs p given
+  pub read_failed : S.failures source' ≡ counted (is_read_fault result) (S.failures source)
+  pub only : IfErr result IsLookEnd
+
+-- what that means for a file: one that cannot be read is told, and anything else ends the program
+abbrev pub look_of : Result Bool StreamError → Result Look AllocError
+look_of (Ok true) = Ok Found
+look_of (Ok false) = Ok Clean
+look_of (Err (Match cause)) = Err alloc_error
+look_of (Err (Read fault)) = Ok (Unread ReadFault)
+look_of (Err (Write fault)) = Err alloc_error
+look_of (Err WriteZero) = Err alloc_error
+look_of (Err Memory) = Err alloc_error
+look_of (Err PositionLimit) = Ok (Unread TooLong)
+
+-- whether a read failed
+abbrev pub is_failed_look : Result Look AllocError → Bool
+is_failed_look (Ok Clean) = false
+is_failed_look (Ok Found) = false
+is_failed_look (Ok (Unread reason)) = is_unread (Ok (Some reason))
+is_failed_look (Err error) = false
+
+-- whether a pattern was found
+abbrev pub is_found : Look → Bool
+is_found Clean = false
+is_found Found = true
+is_found (Unread reason) = false
+
+-- whether the file was not read to its end, and nothing was found
+abbrev pub is_unread_look : Look → Bool
+is_unread_look Clean = false
+is_unread_look Found = false
+is_unread_look (Unread reason) = true
+
+-- what is seen of all files, with one more
+abbrev pub verdict_with : Verdict → Look → Verdict
+verdict_with verdict look = record { found = verdict.found || is_found look; all = verdict.all && not (is_unread_look look) }
+
+-- a text was read to its end, and no pattern occurs in it
+abbrev pub HoldsNoMatch : Patterns → (left left' : Option (List ℕ)) → Type 0
+HoldsNoMatch p left left' = (text : List ℕ) × ReadsText text left left' × NoneOccurs p text
+
+-- a text was read up to some place, and some pattern occurs in front of that
+abbrev pub HoldsMatch : Patterns → (left left' : Option (List ℕ)) → Type 0
+HoldsMatch p left left' = (given : List ℕ) × Consumes left left' given × SomeOccurs p given
+
+-- what is so of a text that was found to be this; it may be told as unread for some reasons
+abbrev pub IsLook : Patterns → (MayBe : Reason → Type 0) → Look → (left left' : Option (List ℕ)) → Type 0
+IsLook p MayBe Clean left left' = HoldsNoMatch p left left'
+IsLook p MayBe Found left left' = HoldsMatch p left left'
+IsLook p MayBe (Unread reason) left left' = MayBe reason × ((given : List ℕ) × Consumes left left' given)

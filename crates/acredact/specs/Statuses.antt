@@ -1,0 +1,31 @@
+-- What the exit status of a call says.
+use Rattle.std.specs.Prelude.{◌≡◌, ℕ, true, false, List, if◌then◌else◌}
+use Rattle.std.specs.declared.io.traits.Read.{Ghosts as Readers}
+use Rattle.std.specs.declared.io.traits.Write.{Ghosts as Writers}
+use Rattle.aho_devices.specs.declared.device.Sink.{Ghosts as SinkGhosts}
+use Rattle.programs.specs.Streams.{bytes_left}
+use Rattle.programs.specs.Telling.{TellsSome}
+use Rattle.acredact.specs.Arguments.{AsksToRedact, Given, GivesNoPattern, RefusesUnclean, has}
+use Rattle.acredact.specs.Calls.{BeginsCall, Call, CountsCall, IsLineOf, LeavesNone, OutputFails, RedactsCall, WarnsCall, call_of}
+use Rattle.acredact.specs.declared.arguments.Word.TheVariants.{Count}
+use Rattle.acredact.specs.declared.folder.Folder.{Ghosts as Folders}
+use Rattle.acredact.specs.declared.look.Verdict.{Verdict}
+use Rattle.acredact.specs.declared.streams.Streams.{Streams}
+
+-- that of a check
+abbrev pub check_status : Verdict → ℕ
+check_status verdict = if verdict.all then (if verdict.found then 1 else 0) else 2
+
+-- what that of a redaction says: of this call, and of the state before and after it
+pub record CallStatus {R W E : Type 0} {Reads : Readers R} (Writes : Writers W) (K : SinkGhosts E) (call : Call) (status : ℕ) (streams streams' : Streams R W E Reads) : Type 0 where
+  pub patternless : GivesNoPattern call.given → status ≡ 2
+  pub redacts : status ≡ 0 → RedactsCall Writes call (bytes_left streams.input) streams streams'
+  pub begins : BeginsCall Writes call (bytes_left streams.input) streams streams'
+  pub strict : RefusesUnclean call.given → status ≡ 0 → LeavesNone Writes call (bytes_left streams.input) streams streams'
+  pub quiet : has Count call.given ≡ false → status ≡ 0 → WarnsCall K call (bytes_left streams.input) streams.errors streams'.errors
+  pub counts : has Count call.given ≡ true → status ≡ 0 → CountsCall K call (bytes_left streams.input) streams.errors streams'.errors
+  pub tells : status ≡ 2 → TellsSome K (IsLineOf call (OutputFails streams.output streams'.output)) streams.errors streams'.errors
+
+-- the same of a call that asks for a redaction
+abbrev pub SaysOfRedaction : {R W E F X : Type 0} {Reads : Readers R} → Writers W → SinkGhosts E → Folders F X → F → List Given → ℕ → (streams streams' : Streams R W E Reads) → Type 0
+SaysOfRedaction Writes K D folder given status streams streams' = AsksToRedact given → CallStatus Writes K (call_of D folder given) status streams streams'

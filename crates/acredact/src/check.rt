@@ -1,0 +1,123 @@
+//! A check: whether something would be replaced in files. It writes nothing but failures.
+
+ghost use Rattle.std.specs.Prelude.{◌≡◌, IfErr, IfSome};
+ghost use Rattle.acredact.specs.Arguments.{all_given};
+ghost use Rattle.acredact.specs.Checks.{ChecksGiven, EndsCheck, IsBuildFailure, SeesRules, SeesSearched};
+ghost use Rattle.acredact.specs.Looks.{CanLook};
+ghost use Rattle.acredact.specs.Secrets.{IfOf};
+ghost use Rattle.acredact.specs.Statuses.{check_status};
+ghost use Rattle.acredact.specs.Tables.{HaveNoEmpty, secrets_of};
+
+use crate::arguments::{Item, Mistake, Word, has};
+use crate::failure::Failure;
+use crate::folder::Folder;
+use crate::load::{lists_of, rules};
+use crate::look::{Searched, Verdict, look_at_files};
+use crate::patterns::{Rule, patterns_of};
+use crate::rows::build;
+use crate::run::{FAILED, gives_pattern, names, report};
+use aho_automaton::automaton::Automaton;
+use aho_devices::adapters::FromRead;
+use aho_devices::device::Sink;
+use programs::errors::Errors;
+use programs::rows::rows_of;
+use std::alloc::{AllocError, Global};
+use std::io::Read;
+
+/// The exit status where something would be replaced.
+const FOUND: u8 = 1;
+
+/// Looks for the patterns in each file, tells those that cannot be read, and answers the exit status: 1 where a pattern occurs in
+/// one, 0 where none does, and 2 where not each was read to its end or up to a match.
+pub fn check<F: Folder, I: Read, E: Sink>(
+    alloc: Global,
+    given: &[Item<'_>],
+    folder: &F,
+    input: &mut FromRead<I>,
+    errors: &mut Errors<'_, E>,
+) -> u8
+    ensures says { EndsCheck E.Sink F.Folder folder.now (all_given given.now) result
+        input.old input.new errors.old errors.new }
+{
+    match check_given(alloc, given, folder, input, errors) {
+        Ok(verdict) => status_of(verdict),
+        Err(failure) => report(&failure, errors),
+    }
+}
+
+/// The exit status of what was seen.
+fn status_of(verdict: Verdict) -> u8
+    ensures status { result ≡ check_status verdict }
+{
+    if !verdict.all {
+        return FAILED;
+    }
+    if verdict.found { FOUND } else { 0 }
+}
+
+/// Loads all patterns, and looks for them in each file.
+fn check_given<'a, F: Folder, I: Read, E: Sink>(
+    alloc: Global,
+    given: &[Item<'a>],
+    folder: &F,
+    input: &mut FromRead<I>,
+    errors: &mut Errors<'_, E>,
+) -> Result<Verdict, Failure<'a>>
+    ensures outcome { ChecksGiven E.Sink F.Folder folder.now (all_given given.now) result
+        input.old input.new errors.old errors.new }
+{
+    if !gives_pattern(given) {
+        return Err(Failure::Arguments(Mistake::NoPattern));
+    }
+    let lists = lists_of(alloc, given, folder);
+    match rules(&lists, given, input) {
+        Ok(rules) => check_rules(alloc, given, rules.as_slice(), folder, input, errors),
+        Err(failure) => Err(failure),
+    }
+}
+
+/// Looks for the patterns of these rules in each file.
+fn check_rules<'a, F: Folder, I: Read, E: Sink>(
+    alloc: Global,
+    given: &[Item<'a>],
+    rules: &[Rule],
+    folder: &F,
+    input: &mut FromRead<I>,
+    errors: &mut Errors<'_, E>,
+) -> Result<Verdict, Failure<'a>>
+    requires some { HaveNoEmpty (secrets_of rules.now) }
+    ensures sees { SeesRules E.Sink F.Folder folder.now (all_given given.now) rules.now
+        result input.old input.new errors.old errors.new }
+    ensures fails { IfErr result IsBuildFailure }
+{
+    let patterns = patterns_of(alloc, rules)?;
+    let names = names(alloc, given)?;
+    let words = patterns.as_slice();
+    let nfa = build(alloc, given, words)?;
+    let rows = rows_of(alloc, &nfa, has(given, Word::IgnoreCase), words)?;
+    let files = Searched {
+        alloc,
+        folder,
+        names: names.as_slice(),
+    };
+    Ok(look_by(&nfa, rows.as_ref(), &files, input, errors)?)
+}
+
+/// Looks at each file by the automaton with rows, if there is one.
+fn look_by<A: Automaton, B: Automaton, F: Folder, I: Read, E: Sink>(
+    automaton: &A,
+    rows: Option<&B>,
+    files: &Searched<'_, '_, F>,
+    input: &mut FromRead<I>,
+    errors: &mut Errors<'_, E>,
+) -> Result<Verdict, AllocError>
+    requires ready { CanLook A.Automaton automaton.now }
+    requires rows { IfSome rows (λ rows. CanLook B.Automaton rows.now) }
+    ensures sees { IfOf A.Automaton automaton.now (λ p. IfSome rows.entry (λ rows. B.is_of rows.now p)
+        → SeesSearched E.Sink F.Folder files.now p result input.old input.new errors.old errors.new) }
+{
+    match rows {
+        Some(automaton) => look_at_files(automaton, files, input, errors),
+        None => look_at_files(automaton, files, input, errors),
+    }
+}

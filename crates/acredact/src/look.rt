@@ -1,0 +1,219 @@
+//! Whether some pattern occurs in files: what a check looks for.
+
+ghost use Rattle.std.specs.Prelude.{◌≡◌, ℕ, List, Option, IfErr, IfOk, false};
+ghost use Rattle.std.specs.List.{concat};
+ghost use Rattle.aho_core.specs.Patterns.{Patterns};
+ghost use Rattle.aho_devices.specs.Counts.{counted};
+ghost use Rattle.aho_stream.specs.FindRuns.{FindsAlong};
+ghost use Rattle.aho_stream.specs.Iterators.{automaton_of};
+ghost use Rattle.programs.specs.Streams.{bytes_left};
+ghost use Rattle.programs.specs.Telling.{TellsBytes};
+ghost use Rattle.acredact.specs.Checks.{IsLookOf, SeesSearched, look_lines, quest_of};
+ghost use Rattle.acredact.specs.Faults.{IsReadReason};
+ghost use Rattle.acredact.specs.Looks.{CanLook, IsLook, LooksAt, is_failed_look, is_unread_look, look_of, verdict_with};
+ghost use Rattle.acredact.specs.Secrets.{IfOf};
+
+use crate::failure::tell_unread;
+use crate::files::is_input;
+use crate::folder::Folder;
+use aho_automaton::automaton::Automaton;
+use aho_core::error::StreamError;
+use aho_devices::adapters::FromRead;
+use aho_devices::device::{Sink, Source};
+use aho_stream::finds::StreamFindIter;
+use aho_stream::start::StreamStart;
+use programs::errors::Errors;
+use programs::reason::Reason;
+use std::alloc::{AllocError, Global};
+use std::io::Read;
+
+/// What a file is found to be.
+#[derive(Clone, Copy)]
+pub enum Look {
+    /// It was read to its end, and no pattern occurs in it.
+    Clean,
+    /// A pattern occurs in it.
+    Found,
+    /// It was not read to its end, for this reason.
+    Unread(Reason),
+}
+
+/// What is seen of all files.
+#[derive(Clone, Copy)]
+pub struct Verdict {
+    /// Whether a pattern occurs in one.
+    pub found: bool,
+    /// Whether each was read to its end, or up to a match.
+    pub all: bool,
+}
+
+/// Which files are looked at.
+#[derive(Clone, Copy)]
+pub struct Searched<'s, 't, F> {
+    /// What memory is taken from.
+    pub alloc: Global,
+    /// What opens files.
+    pub folder: &'s F,
+    /// The names of the files.
+    pub names: &'s [&'t str],
+}
+
+/// Looks at all files, and tells each that cannot be read. Each is read up to the first match at most.
+///
+/// # Errors
+///
+/// The error says that memory ran out.
+pub fn look_at_files<A: Automaton, F: Folder, I: Read, E: Sink>(
+    automaton: &A,
+    files: &Searched<'_, '_, F>,
+    input: &mut FromRead<I>,
+    errors: &mut Errors<'_, E>,
+) -> Result<Verdict, AllocError>
+    requires ready { CanLook A.Automaton automaton.now }
+    ensures sees { IfOf A.Automaton automaton.now (λ p. SeesSearched E.Sink F.Folder files.now p
+        result input.old input.new errors.old errors.new) }
+{
+    let mut verdict = Verdict {
+        found: false,
+        all: true,
+    };
+    let mut rest = files.names;
+    while !rest.is_empty() {
+        let look = look_at_file(automaton, files, rest[0], input)?;
+        tell_look(errors, rest[0], look);
+        verdict = verdict_with(verdict, look);
+        rest = &rest[1..];
+    }
+    Ok(verdict)
+}
+
+/// What is seen of all files, with one more.
+fn verdict_with(verdict: Verdict, look: Look) -> Verdict
+    ensures with { result ≡ verdict_with verdict look }
+{
+    match look {
+        Look::Clean => verdict,
+        Look::Found => Verdict {
+            found: true,
+            all: verdict.all,
+        },
+        Look::Unread(_) => Verdict {
+            found: verdict.found,
+            all: false,
+        },
+    }
+}
+
+/// Tells a file that cannot be read.
+fn tell_look<E: Sink>(errors: &mut Errors<'_, E>, name: &str, look: Look)
+    ensures told { TellsBytes E.Sink errors.old errors.new (concat (look_lines name.now look)) }
+    ensures quiet { is_unread_look look ≡ false → errors.new ≡ errors.old }
+{
+    if let Look::Unread(reason) = look {
+        tell_unread(errors, name, reason);
+    }
+}
+
+/// Looks at a file.
+fn look_at_file<A: Automaton, F: Folder, I: Read>(
+    automaton: &A,
+    files: &Searched<'_, '_, F>,
+    name: &str,
+    input: &mut FromRead<I>,
+) -> Result<Look, AllocError>
+    requires ready { CanLook A.Automaton automaton.now }
+    ensures looks { IfOf A.Automaton automaton.now (λ p. IfOk result (λ look.
+        IsLookOf (quest_of F.Folder files.now.folder.now p) name.now look
+        (bytes_left input.old) (bytes_left input.new))) }
+{
+    if is_input(name) {
+        return look_at_input(files.alloc, automaton, input);
+    }
+    match files.folder.open(name) {
+        Ok(file) => look_at_opened(files.alloc, automaton, file),
+        Err(reason) => Ok(Look::Unread(reason)),
+    }
+}
+
+/// Looks at what a reader gives.
+fn look_at_opened<A: Automaton, I: Read + Drop>(
+    alloc: Global,
+    automaton: &A,
+    reader: I,
+) -> Result<Look, AllocError>
+    requires ready { CanLook A.Automaton automaton.now }
+    ensures looks { IfOf A.Automaton automaton.now (λ p. IfOk result (λ look.
+        (rest : Option (List ℕ)) × IsLook p IsReadReason look (I.remaining reader) rest)) }
+{
+    let mut source = FromRead::new(reader);
+    look_at_input(alloc, automaton, &mut source)
+}
+
+/// Looks at what the input gives.
+fn look_at_input<A: Automaton, I: Read>(
+    alloc: Global,
+    automaton: &A,
+    input: &mut FromRead<I>,
+) -> Result<Look, AllocError>
+    requires ready { CanLook A.Automaton automaton.now }
+    ensures looks { IfOf A.Automaton automaton.now (λ p. IfOk result (λ look.
+        IsLook p IsReadReason look (bytes_left input.old) (bytes_left input.new))) }
+    // A read fault is answered exactly where a read failed.
+    ensures failed { input.new.failures ≡ counted (is_failed_look result) input.old.failures }
+{
+    input.restart();
+    look_of(occurs_in(alloc, automaton, input))
+}
+
+/// What a file is found to be, by what is answered of its stream.
+fn look_of(occurs: Result<bool, StreamError>) -> Result<Look, AllocError>
+    ensures look { result ≡ look_of occurs }
+{
+    match occurs {
+        Ok(true) => Ok(Look::Found),
+        Ok(false) => Ok(Look::Clean),
+        Err(StreamError::Read(_)) => Ok(Look::Unread(Reason::ReadFault)),
+        Err(StreamError::PositionLimit) => Ok(Look::Unread(Reason::PositionLimit)),
+        Err(_) => Err(AllocError),
+    }
+}
+
+/// Whether some pattern occurs in what the source gives. It is read until a match is settled, or to its end.
+///
+/// # Errors
+///
+/// `Read` exactly where a read fails, `PositionLimit` where the source gave 2^63 - 1 bytes, and `Memory`.
+fn occurs_in<A: Automaton, R: Source>(
+    alloc: Global,
+    automaton: &A,
+    source: &mut R,
+) -> Result<bool, StreamError>
+    requires ready { CanLook A.Automaton automaton.now }
+    ensures looks { IfOf A.Automaton automaton.now (λ p.
+        LooksAt R.Source p result source.old source.new) }
+{
+    // Not by `try_stream_find_iter`, which does not say that a refusal leaves the source as it was.
+    let start = StreamStart::new(alloc, automaton)?;
+    let mut finds = start.finds(source);
+    let occurs = has_next(&mut finds);
+    let _source = finds.into_source();
+    occurs
+}
+
+/// Whether the iterator has a match to give.
+fn has_next<'a, 'r, A: Automaton, R: Source>(
+    finds: &mut StreamFindIter<'a, 'r, A, R>,
+) -> Result<bool, StreamError>
+    requires ready { ⟦<StreamFindIter<'a, 'r, A, R> as Iterator>⟧.can_next finds.old }
+    requires along { (p : Patterns) → A.is_of (automaton_of finds.old.chunks) p → FindsAlong R.Source
+        ⟦<StreamFindIter<'a, 'r, A, R> as Iterator>⟧.next_gives p finds.old }
+    ensures same_source { finds.new.chunks.source.ghost_name ≡ finds.old.chunks.source.ghost_name }
+    ensures looks { (p : Patterns) → A.is_of (automaton_of finds.old.chunks) p → LooksAt R.Source p result
+        finds.old.chunks.source.now finds.new.chunks.source.now }
+{
+    match finds.next() {
+        None => Ok(false),
+        Some(Ok(_)) => Ok(true),
+        Some(Err(error)) => Err(error),
+    }
+}
