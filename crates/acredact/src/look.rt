@@ -10,7 +10,7 @@ ghost use Rattle.programs.specs.Streams.{bytes_left};
 ghost use Rattle.programs.specs.Telling.{TellsBytes};
 ghost use Rattle.acredact.specs.Checks.{IsLookOf, SeesSearched, look_lines, quest_of};
 ghost use Rattle.acredact.specs.Faults.{IsReadReason};
-ghost use Rattle.acredact.specs.Looks.{CanLook, IsLook, LooksAt, is_failed_look, is_unread_look, look_of, verdict_with};
+ghost use Rattle.acredact.specs.Looks.{CanLook, IsLook, IsLookEnd, LooksAt, is_failed_look, is_unread_look, look_of, verdict_with};
 ghost use Rattle.acredact.specs.Secrets.{IfOf};
 
 use crate::failure::tell_unread;
@@ -167,6 +167,7 @@ fn look_at_input<A: Automaton, I: Read>(
 
 /// What a file is found to be, by what is answered of its stream.
 fn look_of(occurs: Result<bool, StreamError>) -> Result<Look, AllocError>
+    requires ends { IfErr occurs IsLookEnd }
     ensures look { result ≡ look_of occurs }
 {
     match occurs {
@@ -174,7 +175,8 @@ fn look_of(occurs: Result<bool, StreamError>) -> Result<Look, AllocError>
         Ok(false) => Ok(Look::Clean),
         Err(StreamError::Read(_)) => Ok(Look::Unread(Reason::ReadFault)),
         Err(StreamError::PositionLimit) => Ok(Look::Unread(Reason::PositionLimit)),
-        Err(_) => Err(AllocError),
+        Err(StreamError::Memory) => Err(AllocError),
+        Err(_) => unreachable!(),
     }
 }
 

@@ -11,6 +11,9 @@ use Rattle.acredact.specs.declared.look.Look.{Look}
 use Rattle.acredact.proofs.Looks.{look_failed, look_is}
 use Rattle.acredact.proofs.look.look_at_input.Goals as goal
 
+pub look_of-requires : goal.look_of-requires
+look_of-requires g c = record { ends = (c.occurs_in.ensures.looks c.requires.ready.patterns c.requires.ready.of).only }
+
 pub returns : goal.returns
 returns g c =
     let left = ap (λ device. g.I.Read.remaining device.reader) c.restart.ensures.device in
