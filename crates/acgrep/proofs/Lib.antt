@@ -1,4 +1,3 @@
-pub mod AloneTried
 pub mod Around
 pub mod Beginnings
 pub mod Coloring

@@ -1,4 +1,3 @@
-pub mod Alone
 pub mod Arguments
 pub mod Files
 pub mod Filled

@@ -475,7 +475,7 @@ fn job_for<'a>(job: &Job<'_>, name: &'a [u8]) -> Job<'a>
     Job {
         shown: job.shown,
         invert: job.invert,
-        fit: job.fit,
+        whole: job.whole,
         style: Style {
             name,
             with_name: job.style.with_name,

@@ -4,7 +4,6 @@
 //! tells.
 #![tactic(auto)]
 
-mod alone;
 mod arguments;
 mod buffer;
 mod failure;
