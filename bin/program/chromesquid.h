@@ -198,8 +198,8 @@ uint32_t cs_info(cs_searcher *searcher, cs_facts *out);
 uint32_t cs_stream_new(cs_searcher *searcher, cs_stream *out);
 
 /* Pushes bytes behind those that were pushed, from the front as many as there is room for: CS_DONE, and in `taken` how many. After a
- * cs_stream_next that answered CS_DONE it takes one at least; else it may take none. Push the rest once cs_stream_next answers
- * CS_DONE again.
+ * cs_stream_next, or cs_stream_replace, that answered CS_DONE it takes one at least; else it may take none. Push the rest once that
+ * answers CS_DONE again.
  * Else CS_NO_SEARCHER, CS_ENDED, CS_TOO_MANY_BYTES: `taken` is as it was. */
 uint32_t cs_stream_push(cs_stream *stream, const uint8_t *bytes, size_t bytes_len, size_t *taken);
 
@@ -208,6 +208,15 @@ uint32_t cs_stream_push(cs_stream *stream, const uint8_t *bytes, size_t bytes_le
  * A match is certain where no byte that follows can change it: with CS_STANDARD once it ends, else once no longer one can follow.
  * Else CS_NO_SEARCHER. */
 uint32_t cs_stream_next(cs_stream *stream, cs_match *found);
+
+/* The next part of what was pushed so far with each match replaced by the bytes for its pattern: CS_FOUND, the bytes in `room`, and in
+ * `len` how many they are, which may be none. CS_DONE where no more is certain yet, or all is told: so all parts, one behind the other,
+ * are the replacement. Use it in the place of cs_stream_next, for all of a stream.
+ * CS_NO_ROOM where the room holds less than was pushed and not told yet, or less than the longest replacement: `len` is what is wanted,
+ * and nothing is told. No more is wanted than 8 times the longest pattern or 65536 bytes, or the longest replacement.
+ * Else CS_NO_SEARCHER; CS_NOT_ONE_EACH. If not CS_FOUND, `room` is as it was, and but for CS_NO_ROOM `len` is. */
+uint32_t cs_stream_replace(cs_stream *stream, const cs_slice *replace_with, size_t replace_with_len, uint8_t *room, size_t room_len,
+                           size_t *len);
 
 /* Says that no more is pushed, so that every match left is certain: CS_DONE. Else CS_NO_SEARCHER. */
 uint32_t cs_stream_end(cs_stream *stream);
