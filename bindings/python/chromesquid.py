@@ -194,6 +194,11 @@ _free = _function("cs_free", None, _HANDLE)
 _share = _function("cs_share", ctypes.c_uint32, _HANDLE, _HANDLE)
 _is_match = _function("cs_is_match", ctypes.c_uint32, _HANDLE, *_HAYSTACK)
 _find = _function("cs_find", ctypes.c_uint32, _HANDLE, *_HAYSTACK, ctypes.POINTER(_Match))
+# A short search ends sooner than another thread could go on, so it is called without letting one. It has no types of parameters, which take
+# half of such a call to look at: it is given addresses, bytes and a length below 2^31.
+_find_short, _is_match_short = (ctypes.PyDLL(_loaded._name)[it] for it in ("cs_find", "cs_is_match"))
+_find_short.restype = _is_match_short.restype = ctypes.c_uint32
+_SHORT = 512
 _find_all = _function("cs_find_all", ctypes.c_uint32, _HANDLE, *_HAYSTACK, *_ROOM, _COUNT)
 _overlapping = _function("cs_overlapping", ctypes.c_uint32, _HANDLE, *_HAYSTACK, *_ROOM, _COUNT)
 _replace_all = _function("cs_replace_all", ctypes.c_uint32, _HANDLE, *_HAYSTACK, *_SLICES, *_ROOM, _COUNT)
@@ -308,7 +313,10 @@ class AhoCorasick:
     def is_match(self, haystack: Haystack) -> bool:
         """Whether a pattern occurs."""
         given = self._bytes_of(haystack)
-        status = _is_match(self._reference(), given, len(given))
+        if len(given) < _SHORT and type(given) is bytes:
+            status = _is_match_short(self._search()[0], given, len(given))
+        else:
+            status = _is_match(self._reference(), given, len(given))
         if status == _FOUND:
             return True
         _check(status)
@@ -316,9 +324,12 @@ class AhoCorasick:
 
     def find(self, haystack: Haystack) -> Optional[Match]:
         """The first match, None where there is none."""
-        given, reference = self._bytes_of(haystack), self._reference()
-        found, into = self._own.found
-        status = _find(reference, given, len(given), into)
+        given = self._bytes_of(haystack)
+        handle, found, into = self._search()
+        if len(given) < _SHORT and type(given) is bytes:
+            status = _find_short(handle, given, len(given), into)
+        else:
+            status = _find(self._reference(), given, len(given), ctypes.byref(found))
         if status != _FOUND:
             _check(status)
             return None
@@ -433,25 +444,34 @@ class AhoCorasick:
         self._lock, self._own = threading.Lock(), threading.local()
 
     def _reference(self) -> Any:
-        """This thread's own handle: no handle is used by two calls at a time. A process that was forked makes its own anew. With it the
-        thread gets room of its own for a match that is found."""
+        """This thread's own handle: no handle is used by two calls at a time. A process that was forked makes its own anew."""
         try:
             return self._own.reference
         except AttributeError:
             reference = ctypes.byref(_Handle())
             with self._lock:
                 _check(_share(ctypes.byref(self._handle), reference))
-            found = _Match()
-            self._own.found = found, ctypes.byref(found)
             self._own.reference = reference
             return reference
+
+    def _search(self) -> Any:
+        """This thread's own handle and room for a match, as a short search takes them, and the match."""
+        try:
+            return self._own.search
+        except AttributeError:
+            handle, found = self._reference()._obj, _Match()
+            self._own.search = ctypes.c_void_p(ctypes.addressof(handle)), found, ctypes.c_void_p(ctypes.addressof(found))
+            return self._own.search
 
     def _bytes_of(self, haystack: Haystack) -> Any:
         if not isinstance(haystack, str):
             return _borrowed(haystack)
         if not self._of_texts:
             raise TypeError("a text is searched for patterns of type str, and these are bytes")
-        return haystack.encode(*_ENCODING)
+        try:
+            return haystack.encode()
+        except UnicodeEncodeError:  # it has lone surrogates
+            return haystack.encode(*_ENCODING)
 
     def _all(self, function: Any, haystack: Haystack) -> Iterator[Match]:
         given, count = self._bytes_of(haystack), ctypes.c_size_t()

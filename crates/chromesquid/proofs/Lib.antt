@@ -12,3 +12,5 @@ pub mod Iterated
 pub mod PastLimit
 -- what a replacement of a stream is of
 pub mod Replaced
+-- calls of an iterator that holds one of two others
+pub mod Sides

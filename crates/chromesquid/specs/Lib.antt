@@ -1,5 +1,7 @@
 -- what a build makes, and why it fails
 pub mod Building
+-- the iterator over the runs of a cover
+pub mod CoverIters
 -- what covers give and leave
 pub mod Covers
 -- the automaton that searches, of one of several kinds
@@ -12,5 +14,7 @@ pub mod InMemory
 pub mod Rules
 -- what a searcher is seen as, and which patterns it was built from
 pub mod Searcher
+-- a search of a stream that has not begun, and the iterator over its matches
+pub mod StreamIters
 -- what is found in a stream, and what its replacement writes
 pub mod Streams

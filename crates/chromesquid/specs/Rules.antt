@@ -23,4 +23,5 @@ pub use Rattle.chromesquid.specs.Covers.{CanCoverAll, CoversBeginning, CoversByt
 pub use Rattle.chromesquid.specs.Engine.{HasKind}
 pub use Rattle.chromesquid.specs.InMemory.{EndsOverBytes, EndsOverText, ReplacesBytes, ReplacesText, RunsOverBytes, RunsOverText, StopsOverBytes, StopsOverText}
 pub use Rattle.chromesquid.specs.Searcher.{Answers, ForItsPatterns, HasEmpty, HasNoEmpty, IsBuiltFrom, IsBuiltFromSome, RefusesSearch, TellsIfFound, automaton_kind_of, kind_for, match_kind_of, memory_usage_of, patterns_len_of}
-pub use Rattle.chromesquid.specs.Streams.{CallsFindAlong, FindsBeginning, FindsToLimit, FindsWhole, HasBufferFor, IsReplaced, IsReplacementBegun, IsReplacedUpTo, IsStreamRun, ReplacesBeginning, ReplacesNearly, ReplacesWhole, RunsFindBeginning, RunsFindToLimit, RunsFindWhole, RunsStream}
+pub use Rattle.chromesquid.specs.StreamIters.{CallsFindAlong, IsNew}
+pub use Rattle.chromesquid.specs.Streams.{FindsBeginning, FindsOnward, FindsToLimit, FindsWhole, HasBufferFor, IsReplaced, IsReplacementBegun, IsReplacedUpTo, IsStreamRun, ReplacesBeginning, ReplacesNearly, ReplacesWhole, RunsFindBeginning, RunsFindToLimit, RunsFindWhole, RunsStream}

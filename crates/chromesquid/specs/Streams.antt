@@ -2,6 +2,7 @@
 use Rattle.std.specs.Prelude.{◌≡◌, ◌≢◌, ◌⊎◌, ℕ, Bool, true, false, List, [], ◌∷◌, ◌++◌, Option, None, Result, IfErr, OnErr, OnOk, length}
 use Rattle.std.specs.Borrow.{Bor, MutBor}
 use Rattle.std.specs.Fn.{Mut}
+use Rattle.std.specs.Iterator.{Yields, YieldsThen}
 use Rattle.std.specs.Iterator.Runs.{EachRunFrom}
 use Rattle.aho_core.specs.Iteration.{AreFinds}
 use Rattle.aho_core.specs.Occurrence.{Occurrence}
@@ -18,10 +19,9 @@ use Rattle.aho_devices.specs.declared.device.Sink.{Ghosts as SinkGhosts}
 use Rattle.aho_devices.specs.declared.device.Source.{Ghosts as SourceGhosts}
 use Rattle.aho_stream.specs.After.{greatest_position, kept_for}
 use Rattle.aho_stream.specs.Chunks.{DiesAt}
-use Rattle.aho_stream.specs.FindRuns.{FindsAll, FindsAlong, FindsSoFar, is_limit_among, matches_among}
+use Rattle.aho_stream.specs.FindRuns.{FindsAll, FindsSoFar, is_limit_among, matches_among}
 use Rattle.aho_stream.specs.Replacing.{BeginsReplacing, ReplacesStream, ReplacesStreamUpTo, SourceGave}
 use Rattle.aho_stream.specs.StreamRun.{RefusesUntouched, RunsOver}
-use Rattle.aho_stream.specs.declared.finds.StreamFindIter.{StreamFindIter}
 use Rattle.aho_stream.specs.declared.progress.StreamProgress.{StreamProgress}
 use Rattle.chromesquid.specs.Searcher.{ForItsPatterns, Searcher, lengths_of}
 
@@ -98,8 +98,7 @@ RunsStream S K searcher calls source source' closure sink result sink' = ForItsP
     RefusesUntouched result Memory source source' sink sink' ⊎ IsStreamRun S K p calls source source' closure sink result sink')
 
 -- an iterator whose calls give these, over the matches of what this source gives
-module _ {A R : Type 0} (S : SourceGhosts R) (gives : StreamFindIter A R → Option (Result Occurrence StreamError) → StreamFindIter A R → Type 0)
-    (searcher : Searcher) (source : R) (it : StreamFindIter A R) where
+module _ {I R : Type 0} (S : SourceGhosts R) (gives : I → Option (Result Occurrence StreamError) → I → Type 0) (searcher : Searcher) (source : R) (it : I) where
   -- each run of it finds the first
   abbrev pub RunsFindBeginning : Type 0
   RunsFindBeginning = ForItsPatterns searcher (λ p. EachRunFrom gives it (λ run. FindsBeginning S p source run.items))
@@ -114,10 +113,11 @@ module _ {A R : Type 0} (S : SourceGhosts R) (gives : StreamFindIter A R → Opt
   RunsFindToLimit = ForItsPatterns searcher (λ p. EachRunFrom gives it (λ run.
       is_limit_among run.items ≡ true → (left : R) × FindsToLimit S p source left run.whole run.items))
 
--- its calls find so, wherever they leave it
-abbrev pub CallsFindAlong : {A R : Type 0} → SourceGhosts R → (StreamFindIter A R → Option (Result Occurrence StreamError) → StreamFindIter A R → Type 0)
-    → Searcher → StreamFindIter A R → Type 0
-CallsFindAlong S gives searcher it = ForItsPatterns searcher (λ p. FindsAlong S gives p it)
+-- calls of an iterator find so, wherever they leave it, by what its source is then
+pub record FindsOnward {I R : Type 0} (S : SourceGhosts R) (source_in : I → R) (gives : I → Option (Result Occurrence StreamError) → I → Type 0) (p : Patterns) (it : I) : Type 0 where
+  pub so_far : (items : List (Result Occurrence StreamError)) (rest : I) → Yields gives it items rest → FindsSoFar S p (source_in it) (source_in rest) items
+  pub all : (items : List (Result Occurrence StreamError)) (rest : I) → YieldsThen gives it items None rest
+      → is_limit_among items ≡ false → FindsAll S p (source_in it) (source_in rest) items
 
 -- the buffer of its search is as long as the patterns ask for
 abbrev pub HasBufferFor : Searcher → StreamProgress → Type 0

@@ -13,15 +13,12 @@ ghost use Rattle.aho_stream.specs.Refills.{is_limit};
 ghost use Rattle.aho_stream.specs.Replacing.{GaveAsMany, IsMakingRefusal};
 ghost use Rattle.chromesquid.specs.Covers.{CanCoverAll, CoversBeginning, CoversBytes, CoversNearly, CoversWhole, why_not_covered};
 
+pub use crate::cover_iter::CoverIter;
 use crate::searcher::AhoCorasick;
 use crate::standing::{cover_bytes_by, cover_stream_by};
-use aho_automaton::automaton::Automaton;
 use aho_core::error::{ReplaceError, StreamError};
 use aho_devices::device::{Sink, Source};
 use std::alloc::{AllocError, Global};
-
-/// The runs of a cover, one after another.
-pub type CoverIter<'a, 'h> = aho_automaton::automaton::CoverIter<'a, 'h, AhoCorasick>;
 
 impl AhoCorasick {
     ghost use Rattle.chromesquid.specs.Searcher.{ForItsPatterns, patterns_len_of};
@@ -80,7 +77,7 @@ impl AhoCorasick {
         ensures answered { (reason : MatchErrorKind) → CanCoverAll self.entry.now
             → result ≢ Err (ReplaceError.Match reason) }
     {
-        Automaton::try_cover_iter(self.built(), alloc, haystack)
+        CoverIter::of(alloc, self, haystack)
     }
 
     /// The bytes with each run of their cover replaced by the bytes for the run's pattern. So nothing that a match holds is

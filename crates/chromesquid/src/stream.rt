@@ -9,48 +9,17 @@ ghost use Rattle.aho_devices.specs.Errors.{CountsErrors};
 ghost use Rattle.aho_stream.specs.After.{greatest_position};
 ghost use Rattle.aho_stream.specs.Refills.{is_limit};
 ghost use Rattle.aho_stream.specs.Replacing.{GaveAsMany, IsMakingRefusal};
-ghost use Rattle.aho_stream.specs.Starts.{IsFreshStart};
 ghost use Rattle.aho_stream.specs.StreamRun.{RefusesUntouched};
-ghost use Rattle.chromesquid.specs.Searcher.{IsBuiltFromSome};
-ghost use Rattle.chromesquid.specs.Streams.{CallsFindAlong, HasBufferFor, ReplacesBeginning, ReplacesNearly, ReplacesWhole, RunsFindBeginning, RunsFindToLimit, RunsFindWhole, RunsStream};
+ghost use Rattle.chromesquid.specs.StreamIters.{CallsFindAlong, IsNew, progress_in, progress_of, source_of};
+ghost use Rattle.chromesquid.specs.Streams.{HasBufferFor, ReplacesBeginning, ReplacesNearly, ReplacesWhole, RunsFindBeginning, RunsFindToLimit, RunsFindWhole, RunsStream};
 
 use crate::searcher::AhoCorasick;
 use crate::standing::{replace_stream_by, replace_stream_with_by};
-use aho_automaton::automaton::Automaton;
+pub use crate::stream_iter::{StreamFindIter, StreamStart, stream_finds};
 use aho_core::error::StreamError;
 use aho_core::search::Match;
 use aho_devices::device::{Sink, Source};
-use aho_stream::start::StreamStart;
 use std::alloc::{AllocError, Global};
-
-/// The matches of a stream, one after another.
-pub type StreamFindIter<'a, 'r, R> = aho_stream::finds::StreamFindIter<'a, 'r, AhoCorasick, R>;
-
-/// The matches of what this source gives. It takes no memory, reads nothing, and cannot fail: all that could be refused was refused
-/// before there was a source.
-pub fn stream_finds<'a, 'r, R: Source>(
-    start: StreamStart<'a, AhoCorasick>,
-    source: &'r mut R,
-) -> StreamFindIter<'a, 'r, R>
-    requires some { IsBuiltFromSome start.automaton.now }
-    requires fresh { IsFreshStart ⟦<AhoCorasick as Automaton>⟧ start }
-    requires open { start.progress.ended ≡ false }
-    requires below { start.progress.refused ≡ false }
-    requires made { start.progress.limit ≡ greatest_position }
-    ensures source { result.chunks.source ≡ source.entry }
-    ensures progress { result.chunks.progress ≡ start.entry.progress }
-    ensures ready { ⟦<StreamFindIter<'a, 'r, R> as Iterator>⟧.can_next result }
-    ensures first { RunsFindBeginning R.Source ⟦<StreamFindIter<'a, 'r, R> as Iterator>⟧.next_gives
-        start.entry.automaton.now source.entry.now result }
-    ensures finds { RunsFindWhole R.Source ⟦<StreamFindIter<'a, 'r, R> as Iterator>⟧.next_gives
-        start.entry.automaton.now source.entry.now result }
-    ensures limit { RunsFindToLimit R.Source ⟦<StreamFindIter<'a, 'r, R> as Iterator>⟧.next_gives
-        start.entry.automaton.now source.entry.now result }
-    ensures along { CallsFindAlong R.Source ⟦<StreamFindIter<'a, 'r, R> as Iterator>⟧.next_gives
-        start.entry.automaton.now result }
-{
-    start.finds(source)
-}
 
 impl AhoCorasick {
     ghost use Rattle.chromesquid.specs.Searcher.{Answers, HasEmpty, HasNoEmpty, RefusesSearch, patterns_len_of};
@@ -67,18 +36,13 @@ impl AhoCorasick {
     pub fn stream_start<'a>(
         &'a self,
         alloc: Global,
-    ) -> Result<StreamStart<'a, AhoCorasick>, AllocError>
+    ) -> Result<StreamStart<'a>, AllocError>
         requires no_empty { HasNoEmpty self.now }
         requires starts { Answers self.now No }
-        ensures of { IfOk result (λ start. start.automaton.now ≡ self.entry.now) }
-        ensures made { IfOk result (λ start. start.progress.limit ≡ greatest_position) }
-        ensures buffer { IfOk result (λ start. HasBufferFor self.entry.now start.progress) }
-
-        // What `stream_finds` asks for.
-        ensures some { IfOk result (λ start. IsBuiltFromSome start.automaton.now) }
-        ensures fresh { IfOk result (IsFreshStart ⟦<AhoCorasick as Automaton>⟧) }
-        ensures open { IfOk result (λ start. start.progress.ended ≡ false) }
-        ensures below { IfOk result (λ start. start.progress.refused ≡ false) }
+        ensures of { IfOk result (λ start. start.searcher.now ≡ self.entry.now) }
+        ensures new { IfOk result IsNew }
+        ensures limit { IfOk result (λ start. (progress_of start).limit ≡ greatest_position) }
+        ensures buffer { IfOk result (λ start. HasBufferFor self.entry.now (progress_of start)) }
     {
         match self.try_stream_start(alloc) {
             Ok(start) => Ok(start),
@@ -96,23 +60,18 @@ impl AhoCorasick {
     pub fn try_stream_start<'a>(
         &'a self,
         alloc: Global,
-    ) -> Result<StreamStart<'a, AhoCorasick>, StreamError>
-        ensures of { IfOk result (λ start. start.automaton.now ≡ self.entry.now) }
-        ensures made { IfOk result (λ start. start.progress.limit ≡ greatest_position) }
-        ensures buffer { IfOk result (λ start. HasBufferFor self.entry.now start.progress) }
-
-        // What `stream_finds` asks for.
-        ensures some { IfOk result (λ start. IsBuiltFromSome start.automaton.now) }
-        ensures fresh { IfOk result (IsFreshStart ⟦<AhoCorasick as Automaton>⟧) }
-        ensures open { IfOk result (λ start. start.progress.ended ≡ false) }
-        ensures below { IfOk result (λ start. start.progress.refused ≡ false) }
+    ) -> Result<StreamStart<'a>, StreamError>
+        ensures of { IfOk result (λ start. start.searcher.now ≡ self.entry.now) }
+        ensures new { IfOk result IsNew }
+        ensures limit { IfOk result (λ start. (progress_of start).limit ≡ greatest_position) }
+        ensures buffer { IfOk result (λ start. HasBufferFor self.entry.now (progress_of start)) }
         ensures empty { HasEmpty self.entry.now → result ≡ Err (StreamError.Match UnsupportedEmpty) }
         ensures refused { HasNoEmpty self.entry.now → RefusesSearch self.entry.now No
             → result ≡ Err (StreamError.Match InvalidInputUnanchored) }
         ensures memory { HasNoEmpty self.entry.now → Answers self.entry.now No
             → IsOkUnless result StreamError.Memory }
     {
-        StreamStart::new(alloc, self.built())
+        StreamStart::of(alloc, self)
     }
 
     /// The matches of what the source gives, of which it may give 2^63 - 1 bytes: `stream_start` and `stream_finds` in one call. It
@@ -133,9 +92,9 @@ impl AhoCorasick {
     ) -> Result<StreamFindIter<'a, 'r, R>, AllocError>
         requires no_empty { HasNoEmpty self.now }
         requires starts { Answers self.now No }
-        ensures source { IfOk result (λ it. it.chunks.source ≡ source.entry) }
-        ensures made { IfOk result (λ it. it.chunks.progress.limit ≡ greatest_position) }
-        ensures buffer { IfOk result (λ it. HasBufferFor self.entry.now it.chunks.progress) }
+        ensures source { IfOk result (λ it. source_of it ≡ source.entry) }
+        ensures made { IfOk result (λ it. (progress_in it).limit ≡ greatest_position) }
+        ensures buffer { IfOk result (λ it. HasBufferFor self.entry.now (progress_in it)) }
         ensures ready { IfOk result ⟦<StreamFindIter<'a, 'r, R> as Iterator>⟧.can_next }
         ensures first { IfOk result (RunsFindBeginning R.Source
             ⟦<StreamFindIter<'a, 'r, R> as Iterator>⟧.next_gives self.entry.now source.entry.now) }
@@ -163,9 +122,9 @@ impl AhoCorasick {
         alloc: Global,
         source: &'r mut R,
     ) -> Result<StreamFindIter<'a, 'r, R>, StreamError>
-        ensures source { IfOk result (λ it. it.chunks.source ≡ source.entry) }
-        ensures made { IfOk result (λ it. it.chunks.progress.limit ≡ greatest_position) }
-        ensures buffer { IfOk result (λ it. HasBufferFor self.entry.now it.chunks.progress) }
+        ensures source { IfOk result (λ it. source_of it ≡ source.entry) }
+        ensures made { IfOk result (λ it. (progress_in it).limit ≡ greatest_position) }
+        ensures buffer { IfOk result (λ it. HasBufferFor self.entry.now (progress_in it)) }
         ensures ready { IfOk result ⟦<StreamFindIter<'a, 'r, R> as Iterator>⟧.can_next }
         ensures empty { HasEmpty self.entry.now → result ≡ Err (StreamError.Match UnsupportedEmpty) }
         ensures refused { HasNoEmpty self.entry.now → RefusesSearch self.entry.now No
