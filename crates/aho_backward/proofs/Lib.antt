@@ -10,3 +10,5 @@ mod Telling
 mod Blocks
 -- one pass forward finds all
 mod Passing
+-- and they stand one behind the other
+mod Apart

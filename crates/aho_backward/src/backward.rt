@@ -2,10 +2,13 @@
 
 ghost use Rattle.std.specs.Prelude.{◌≡◌, ◌*◌, ◌≤◌, IfOk, IsOk, None, length};
 ghost use Rattle.aho_core.specs.Patterns.{Patterns};
+ghost use Rattle.aho_core.specs.Replacement.{pieces_of};
 ghost use Rattle.aho_core.specs.declared.search.Anchored.TheVariants.{No};
+ghost use Rattle.aho_backward.specs.Replacing.{IsReplacedBy};
 ghost use Rattle.aho_backward.specs.Searcher.{ForItsFinds, IsBackwardOf};
 
 use crate::find_all::find_all_in;
+use crate::replace::replace_finds;
 use aho_automaton::automaton::{Automaton, Counted};
 use aho_core::search::{Match, PatternID};
 use std::alloc::{AllocError, Global};
@@ -62,6 +65,26 @@ impl<A: Automaton> Backward<A> {
     {
         let (found, _lookups) = self.find_all_counted(alloc, haystack)?;
         Ok(found)
+    }
+
+    /// The haystack with the bytes for its pattern in the place of each find; a pattern that has none is left out. It takes memory
+    /// for all finds at once.
+    ///
+    /// # Errors
+    ///
+    /// Out of memory.
+    pub fn replace_all_bytes(
+        &self,
+        alloc: Global,
+        haystack: &[u8],
+        replace_with: &[&[u8]],
+    ) -> Result<Vec<u8>, AllocError>
+        requires of { (p : Patterns) × IsBackwardOf A.Automaton self.now p }
+        ensures replaced { ForItsFinds A.Automaton self.now haystack.now (λ all.
+            IfOk result (IsReplacedBy all haystack.now (pieces_of replace_with.now))) }
+    {
+        let found = self.find_all(alloc, haystack)?;
+        replace_finds(alloc, haystack, &found, replace_with)
     }
 }
 

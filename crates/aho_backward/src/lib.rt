@@ -7,4 +7,5 @@ mod choose;
 pub mod error;
 pub mod find_all;
 mod leading;
+mod replace;
 mod walk_back;

@@ -1,44 +1,42 @@
--- What a search of a stream by a searcher has, before it begins and once it has a source.
-use Rattle.std.proofs.Common.{◌≡◌, [], true, false, sym, subst}
-use Rattle.std.specs.Prelude.{Result, Ok, Err, IfOk}
+-- What a search of a stream has by an automaton that answers as a searcher does, before it begins and once it has a source.
+use Rattle.std.proofs.Common.{◌≡◌, ◌∙◌, ℕ, List, [], true, false, ap, sym, subst}
+use Rattle.std.specs.Prelude.{Result, Ok, Err, IfOk, length, map}
 use Rattle.std.specs.Iterator.Runs.{EachRunFrom}
 use Rattle.aho_core.specs.Patterns.{Patterns}
+use Rattle.aho_automaton.specs.declared.automaton.Automaton.{Ghosts as Automata}
+use Rattle.aho_devices.specs.Buffer.{capacity_for}
 use Rattle.aho_devices.specs.declared.device.Source.{Ghosts as SourceGhosts}
-use Rattle.aho_stream.specs.After.{IsAfter, IsUnbegun, greatest_position}
+use Rattle.aho_stream.specs.After.{IsAfter, IsUnbegun, greatest_position, kept_for}
 use Rattle.aho_stream.specs.FindRuns.{is_limit_among}
 use Rattle.aho_stream.specs.Iterators.{HasNotBegun, automaton_of}
-use Rattle.aho_stream.specs.Starts.{IsFreshStart}
 use Rattle.aho_stream.specs.declared.finds.StreamFindIter.{StreamFindIter}
 use Rattle.aho_stream.specs.declared.start.StreamStart.{StreamStart}
 use Rattle.aho_stream.proofs.FindRuns.{find_steps}
-use Rattle.chromesquid.proofs.Built.{lengths-of}
 use Rattle.chromesquid.proofs.PastLimit.{run_to_limit}
-use Rattle.chromesquid.specs.Searcher.{IsBuiltFrom, IsBuiltFromSome, Searcher}
-use Rattle.chromesquid.specs.Streams.{FindsToLimit, HasBufferFor}
-use Rattle.chromesquid.specs.contracts.automaton.AhoCorasickAutomaton.TheImpl.{ghosts}
+use Rattle.chromesquid.specs.Searcher.{Searcher, StandsFor, lengths_of}
+use Rattle.chromesquid.specs.StreamIters.{IsFreshFor}
+use Rattle.chromesquid.specs.Streams.{FindsToLimit}
 
--- a start that was made by a searcher which was built from some patterns
-pub some_of : {E : Type 0} (searcher : Searcher) (r : Result (StreamStart Searcher) E) → IsBuiltFromSome searcher → IfOk r (λ start. start.automaton.now ≡ searcher)
-    → IfOk r (λ start. IsBuiltFromSome start.automaton.now)
-some_of searcher (Ok start) some of = subst IsBuiltFromSome (sym of) some
-some_of searcher (Err error) some of = tt
-
-pub fresh_of : {E : Type 0} (searcher : Searcher) (r : Result (StreamStart Searcher) E) → IfOk r (λ start. start.automaton.now ≡ searcher)
-    → IfOk r (λ start. IsUnbegun ghosts searcher start.progress) → IfOk r (IsFreshStart ghosts)
-fresh_of searcher (Ok start) of unbegun = λ p built.
-    subst (λ (s : Searcher). IsAfter ghosts s p 0 start.progress []) (sym of) (unbegun p (subst (λ (s : Searcher). IsBuiltFrom s p) of built))
-fresh_of searcher (Err error) of unbegun = tt
-
--- its buffer
-pub buffer_of : {E : Type 0} (searcher : Searcher) (r : Result (StreamStart Searcher) E) → IsBuiltFromSome searcher → IfOk r (λ start. IsUnbegun ghosts searcher start.progress)
-    → IfOk r (λ start. HasBufferFor searcher start.progress)
-buffer_of searcher (Ok start) some unbegun = (unbegun some.0 some.1).size
-buffer_of searcher (Err error) some unbegun = tt
+module _ {A : Type 0} (G : Automata A) (searcher : Searcher) where
+  -- a start that was made by such an automaton
+  pub fresh_for : {E : Type 0} (automaton : A) (r : Result (StreamStart A) E) → StandsFor G automaton searcher → IfOk r (λ start. start.progress.limit ≡ greatest_position)
+      → IfOk r (λ start. (start.progress.ended ≡ false) × (start.progress.refused ≡ false)) → IfOk r (λ start. start.automaton.now ≡ automaton)
+      → IfOk r (λ start. IsUnbegun G automaton start.progress) → IfOk r (IsFreshFor G searcher)
+  fresh_for automaton (Ok start) stands limit begun of after = record {
+    stands = subst (λ (a : A). StandsFor G a searcher) (sym of) stands;
+    fresh = λ p is. subst (λ (a : A). IsAfter G a p 0 start.progress []) (sym of) (after p (subst (λ (a : A). G.is_of a p) of is));
+    going = begun.0;
+    unrefused = begun.1;
+    limit = limit;
+    buffer = (after stands.some.0 (stands.of stands.some.0 stands.some.1)).size ∙ ap (λ (lengths : List ℕ). capacity_for (kept_for lengths)) stands.lengths;
+  }
+  fresh_for automaton (Err error) stands limit begun of after = tt
 
 -- an iterator that has not begun finds up to the position limit
-pub limit_of : {R : Type 0} (S : SourceGhosts R) (p : Patterns) (it : StreamFindIter Searcher R) (source : R) → IsBuiltFrom (automaton_of it.chunks) p → HasNotBegun ghosts it.chunks
+pub limit_of : {A R : Type 0} (G : Automata A) (S : SourceGhosts R) (are : (automaton : A) (p : Patterns) → G.is_of automaton p → G.lengths automaton ≡ map length p.words)
+    (p : Patterns) (it : StreamFindIter A R) (source : R) → G.is_of (automaton_of it.chunks) p → HasNotBegun G it.chunks
     → it.chunks.progress.ended ≡ false → it.chunks.progress.limit ≡ greatest_position → it.chunks.source.now ≡ source
-    → EachRunFrom (find_steps ghosts S) it (λ run. is_limit_among run.items ≡ true → (left : R) × FindsToLimit S p source left run.whole run.items)
-limit_of {R} S p it source built after unended limited same = λ run seen from limit.
-    let found = run_to_limit ghosts S (λ searcher q of. lengths-of q searcher.automaton of.reads) p it built (after p built) unended limited run from limit in
+    → EachRunFrom (find_steps G S) it (λ run. is_limit_among run.items ≡ true → (left : R) × FindsToLimit S p source left run.whole run.items)
+limit_of {A} {R} G S are p it source of after unended limited same = λ run seen from limit.
+    let found = run_to_limit G S are p it of (after p of) unended limited run from limit in
     (found.0, subst (λ (x : R). FindsToLimit S p x found.0 run.whole run.items) same found.1)

@@ -4,8 +4,12 @@ pub mod Begun
 pub mod Built
 -- what the searcher of a slice is of, and why its build fails
 pub mod Builds
+-- a search of a stream by the rows that a searcher holds
+pub mod ByRows
 -- what a cover of a stream is of, and which searcher covers
 pub mod Covered
+-- an iterator that holds one of two others
+pub mod HeldIters
 -- the finds that one call after another gives
 pub mod Iterated
 -- where the position limit of a stream was answered

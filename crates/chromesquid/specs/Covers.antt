@@ -1,14 +1,17 @@
 -- What the covers by a searcher give and leave, of the patterns that it was built from.
-use Rattle.std.specs.Prelude.{◌≡◌, ℕ, List, Option, Result, IfErr, IfOk, OnErr, OnOk, Vec, vec_items}
+use Rattle.std.specs.Prelude.{◌≡◌, ℕ, List, Option, Result, IfErr, IfOk, OnErr, OnOk, Vec, length, vec_items}
+use Rattle.std.specs.Iterator.{Count, UpTo}
 use Rattle.std.specs.Borrow.{Bor}
 use Rattle.aho_core.specs.Cover.{IsCover}
+use Rattle.aho_core.specs.Occurrence.{Occurrence}
 use Rattle.aho_core.specs.Patterns.{Patterns}
 use Rattle.aho_core.specs.Replacement.{pieces_of}
 use Rattle.aho_core.specs.declared.error.MatchErrorKind.{MatchErrorKind}
 use Rattle.aho_core.specs.declared.error.stream.StreamError.{StreamError}
 use Rattle.aho_core.specs.declared.search.Anchored.TheVariants.{No}
 use Rattle.aho_core.specs.declared.search.MatchKind.TheVariants.{Standard}
-use Rattle.aho_automaton.specs.Covering.{cover_refusal}
+use Rattle.aho_automaton.specs.Covering.{GivesFirstRuns, GivesRuns, cover_refusal}
+use Rattle.aho_automaton.specs.Fused.{IsFused}
 use Rattle.aho_devices.specs.Refusals.{IsFillRefusal}
 use Rattle.aho_devices.specs.declared.device.Sink.{Ghosts as SinkGhosts}
 use Rattle.aho_devices.specs.declared.device.Source.{Ghosts as SourceGhosts}
@@ -24,6 +27,14 @@ pub record CanCoverAll (searcher : Searcher) : Type 0 where
   pub standard : match_kind_of searcher ≡ Standard
   pub no_empty : HasNoEmpty searcher
   pub starts : Answers searcher No
+
+-- an iterator with these members gives the runs of a haystack's cover
+pub record RunsFor {I : Type 0} (can : I → Type 0) (gives : I → Option Occurrence → I → Type 0) (remaining : I → Count) (searcher : Searcher) (haystack : List ℕ) (it : I) : Type 0 where
+  pub ready : can it
+  pub runs : ForItsPatterns searcher (λ p. GivesRuns gives p haystack it)
+  pub first : ForItsPatterns searcher (λ p. GivesFirstRuns gives p haystack it)
+  pub bound : UpTo (remaining it) (length haystack)
+  pub fused : IsFused gives it
 
 -- it gives the bytes with a piece in the place of each run of their cover
 abbrev pub CoversBytes : {E Z : Type 0} → Searcher → List ℕ → List (Bor (List ℕ)) → Result (Vec ℕ Z) E → Type 0

@@ -119,6 +119,15 @@ pub record FindsOnward {I R : Type 0} (S : SourceGhosts R) (source_in : I → R)
   pub all : (items : List (Result Occurrence StreamError)) (rest : I) → YieldsThen gives it items None rest
       → is_limit_among items ≡ false → FindsAll S p (source_in it) (source_in rest) items
 
+-- an iterator with these members gives the finds of what this source gives
+pub record FindsFor {I R : Type 0} (S : SourceGhosts R) (source_in : I → R) (can : I → Type 0) (gives : I → Option (Result Occurrence StreamError) → I → Type 0)
+    (searcher : Searcher) (source : R) (it : I) : Type 0 where
+  pub ready : can it
+  pub first : RunsFindBeginning S gives searcher source it
+  pub finds : RunsFindWhole S gives searcher source it
+  pub limit : RunsFindToLimit S gives searcher source it
+  pub along : ForItsPatterns searcher (λ p. FindsOnward S source_in gives p it)
+
 -- the buffer of its search is as long as the patterns ask for
 abbrev pub HasBufferFor : Searcher → StreamProgress → Type 0
 HasBufferFor searcher progress = progress.buffer.size ≡ capacity_for (kept_for (lengths_of searcher))

@@ -15,18 +15,12 @@ ghost use Rattle.aho_automaton.specs.Reading.{ReadsEachOnce, ReadsUpTo};
 use crate::input::Searchable;
 pub use crate::iter::FindIter;
 use crate::kinds::{is_allowed, why_refused};
+pub use crate::overlapping::FindOverlappingIter;
 use crate::searcher::AhoCorasick;
 use aho_automaton::automaton::Automaton;
 use aho_core::error::MatchError;
 use aho_core::search::{Anchored, Input, Match, Span};
 use aho_prefilter::text::{Bytes, Text};
-
-/// All matches of a search, those that overlap too, one after another.
-pub type FindOverlappingIter<'a, 'h> = aho_automaton::automaton::FindOverlappingIter<
-    'a,
-    'h,
-    AhoCorasick,
->;
 
 impl AhoCorasick {
     ghost use Rattle.chromesquid.specs.Found.{RefusesUnlessDone, most_listed};
@@ -219,6 +213,6 @@ impl AhoCorasick {
         ensures fused { IfOk result
             (IsFused ⟦<FindOverlappingIter<'a, 'h> as Iterator>⟧.next_gives) }
     {
-        Automaton::try_find_overlapping_iter(self.built(), input.into_input())
+        FindOverlappingIter::of(self, input.into_input())
     }
 }

@@ -16,6 +16,7 @@ ghost use Rattle.aho_stream.specs.StreamRun.{RefusesUntouched};
 ghost use Rattle.chromesquid.specs.Covers.{CanCoverAll, CoversBeginning, CoversBytes, CoversNearly, CoversWhole, why_not_covered};
 ghost use Rattle.chromesquid.specs.InMemory.{EndsOverBytes, EndsOverText, ReplacesBytes, ReplacesText, StopsOverBytes, StopsOverText, WhereRefused};
 ghost use Rattle.chromesquid.specs.Searcher.{Answers, HasEmpty, HasNoEmpty, RefusesSearch, StandsFor, patterns_len_of};
+ghost use Rattle.chromesquid.specs.declared.engine.Engine.TheVariants.{Rows};
 ghost use Rattle.chromesquid.specs.Streams.{ReplacesBeginning, ReplacesNearly, ReplacesWhole, RunsStream};
 
 use crate::kinds::is_allowed;
@@ -34,6 +35,7 @@ impl AhoCorasick {
     pub(crate) fn rows(&self) -> Option<&Hybrid>
         ensures stands { IfSome result (λ hybrid.
             StandsFor ⟦<Hybrid as Automaton>⟧ hybrid.now self.now) }
+        ensures held { IfSome result (λ hybrid. self.now.automaton ≡ Rows hybrid.now) }
     {
         let searcher = self.built();
         if is_allowed(searcher.start_kind(), Anchored::No) {

@@ -111,7 +111,7 @@ impl Pushed {
         ensures kept { result ≢ FOUND → found.new ≡ found.old }
     {
         let searcher: &AhoCorasick = &self.searcher;
-        match self.progress.next_match(searcher) {
+        match searcher.stream_next_match(&mut self.progress) {
             Some(it) => {
                 *found = form_of(&it);
                 FOUND
@@ -149,7 +149,7 @@ impl Pushed {
             return NO_ROOM;
         }
         let searcher: &AhoCorasick = &self.searcher;
-        let Some(piece) = self.progress.next_chunk(searcher) else {
+        let Some(piece) = searcher.stream_next_chunk(&mut self.progress) else {
             return DONE;
         };
         put_chunk(&self.progress, &piece, replace_with, room, len);

@@ -1,0 +1,10 @@
+use Rattle.chromesquid.proofs.ByRows.{after_rows, rows_are_of, rows_stay}
+use Rattle.chromesquid.proofs.searcher.AhoCorasick.stream_next_match.Goals as goal
+
+pub returns-in-Some-clause-after : goal.returns-in-Some-clause-after
+returns-in-Some-clause-after c = rows_stay c.in-Some.rows.now c.args.self.now c.in-Some.ensures.held 0 c.args.progress.now 0 c.next_match.new.self c.next_match.ensures.after
+
+pub returns-in-Some-clause-finds : goal.returns-in-Some-clause-finds
+returns-in-Some-clause-finds c = λ p given built a.
+    let held = c.in-Some.ensures.held in
+    c.next_match.ensures.finds p given (rows_are_of c.in-Some.rows.now c.args.self.now held p built) (after_rows c.in-Some.rows.now c.args.self.now held p 0 c.args.progress.now given a)
