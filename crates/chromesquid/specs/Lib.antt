@@ -1,3 +1,5 @@
+-- of which patterns a searcher by a walk backward is
+pub mod Backward
 -- what a build makes, and why it fails
 pub mod Building
 -- the iterator over the runs of a cover

@@ -18,6 +18,9 @@ pub use Rattle.aho_build.specs.Settings.{default_settings}
 pub use Rattle.aho_automaton.specs.Finding.{AreFirstFinds, HoldsOfFinds}
 pub use Rattle.aho_stream.specs.FindRuns.{is_limit_among}
 pub use Rattle.aho_stream.specs.StreamRun.{RefusesUntouched}
+pub use Rattle.aho_backward.specs.Making.{MakesNone}
+pub use Rattle.aho_backward.specs.Replacing.{IsReplacedBy}
+pub use Rattle.chromesquid.specs.Backward.{IsBackwardFor}
 pub use Rattle.chromesquid.specs.Building.{Accepts, FailsFor, HasCount, HasLengths, HasMatchKind, HasMemory, HasStartKind, HasTrie, IsBuiltWithMemory, IsFailureOf, SearchesBy, kind_to_make}
 pub use Rattle.chromesquid.specs.Covers.{CanCoverAll, CoversBeginning, CoversBytes, CoversNearly, CoversWhole, IsCoverBegun, IsCoveredUpTo, IsStreamCovered, why_not_covered}
 pub use Rattle.chromesquid.specs.Engine.{HasKind}

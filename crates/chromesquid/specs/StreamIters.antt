@@ -6,6 +6,7 @@ use Rattle.aho_core.specs.declared.error.stream.StreamError.{StreamError}
 use Rattle.aho_automaton.specs.declared.automaton.Automaton.{Ghosts as Automata}
 use Rattle.aho_devices.specs.declared.device.Source.{Ghosts as SourceGhosts}
 use Rattle.aho_hybrid.specs.contracts.hybrid.HybridAutomaton.TheImpl.{ghosts as of_rows}
+use Rattle.aho_hybrid.specs.declared.hybrid.Hybrid.{Hybrid}
 use Rattle.aho_stream.specs.After.{greatest_position}
 use Rattle.aho_stream.specs.Starts.{IsFreshStart}
 use Rattle.aho_stream.specs.declared.progress.StreamProgress.{StreamProgress}
@@ -13,6 +14,7 @@ use Rattle.aho_stream.specs.declared.start.StreamStart.{StreamStart as StartOver
 use Rattle.chromesquid.specs.Searcher.{ForItsPatterns, Searcher, StandsFor}
 use Rattle.chromesquid.specs.Streams.{FindsOnward, HasBufferFor}
 use Rattle.chromesquid.specs.contracts.automaton.AhoCorasickAutomaton.TheImpl.{ghosts as of_searcher}
+use Rattle.chromesquid.specs.declared.engine.Engine.TheVariants.{Rows}
 use Rattle.chromesquid.specs.declared.stream_iter.StreamFindIter.{StreamFindIter}
 use Rattle.chromesquid.specs.declared.stream_iter.StreamStart.{StreamStart}
 use Rattle.either.specs.Either.{MatchEither, either}
@@ -26,9 +28,19 @@ pub record IsFreshFor {A : Type 0} (G : Automata A) (searcher : Searcher) (start
   pub limit : start.progress.limit ≡ greatest_position
   pub buffer : HasBufferFor searcher start.progress
 
+-- it is by the searcher itself
+pub record IsNewItself (searcher : Searcher) (start : StartOver Searcher) : Type 0 where
+  pub fresh_for : IsFreshFor of_searcher searcher start
+  pub same : start.automaton.now ≡ searcher
+
+-- or by the rows that it holds
+pub record IsNewByRows (searcher : Searcher) (start : StartOver Hybrid) : Type 0 where
+  pub fresh_for : IsFreshFor of_rows searcher start
+  pub held : searcher.automaton ≡ Rows start.automaton.now
+
 -- a search has not begun
 abbrev pub IsNew : StreamStart → Type 0
-IsNew start = MatchEither start.by (IsFreshFor of_searcher start.searcher.now) (IsFreshFor of_rows start.searcher.now)
+IsNew start = MatchEither start.by (IsNewItself start.searcher.now) (IsNewByRows start.searcher.now)
 
 -- how far it has come
 abbrev pub progress_of : StreamStart → StreamProgress

@@ -2,6 +2,7 @@
 #![tactic(auto)]
 
 pub mod automaton;
+mod backward;
 pub mod builder;
 pub mod cover;
 mod cover_iter;
@@ -21,6 +22,7 @@ pub mod stream;
 mod stream_iter;
 
 pub use aho_automaton::automaton::{Automaton, OverlappingState};
+pub use aho_backward::error::BackwardError;
 pub use aho_corasick::noncontiguous::Limits;
 pub use aho_core::error::{
     BuildError, Fault, MatchError, MatchErrorKind, ReplaceError, StreamError,
@@ -31,6 +33,7 @@ pub use aho_devices::device::{Sink, Source};
 pub use aho_devices::write::write_whole;
 pub use aho_prefilter::text::{Bytes, Text};
 pub use aho_stream::progress::{StreamPiece, StreamProgress};
+pub use backward::Backward;
 pub use builder::AhoCorasickBuilder;
 pub use cover::CoverIter;
 pub use find::{FindIter, FindOverlappingIter};

@@ -48,6 +48,7 @@ impl AhoCorasick {
     /// The searcher, as any automaton: each step asks which one is held.
     pub(crate) fn itself(&self) -> &AhoCorasick
         ensures stands { StandsFor ⟦<AhoCorasick as Automaton>⟧ result.now self.now }
+        ensures same { result.now ≡ self.now }
     {
         self.built()
     }

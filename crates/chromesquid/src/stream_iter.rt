@@ -1,6 +1,6 @@
 //! A search of a stream that has not begun, and the matches of one.
 
-ghost use Rattle.std.specs.Prelude.{◌≡◌, IfOk, Err, IsOkUnless};
+ghost use Rattle.std.specs.Prelude.{◌≡◌, Err, IfOk, IsOkUnless, false};
 ghost use Rattle.aho_automaton.specs.declared.automaton.Automaton.{Ghosts as Automata};
 ghost use Rattle.aho_core.specs.declared.error.MatchErrorKind.TheVariants.{InvalidInputUnanchored, UnsupportedEmpty};
 ghost use Rattle.aho_core.specs.declared.error.stream.StreamError.{StreamError};
@@ -51,6 +51,7 @@ fn start_by<'a, A: Automaton>(
     searcher: &AhoCorasick,
 ) -> Result<StartBy<'a, A>, StreamError>
     requires stands { StandsFor A.Automaton automaton.now searcher.now }
+    ensures of { IfOk result (λ start. start.automaton.now ≡ automaton.entry.now) }
     ensures fresh { IfOk result (IsFreshFor A.Automaton searcher.now) }
     ensures empty { HasEmpty searcher.now → result ≡ Err (StreamError.Match UnsupportedEmpty) }
     ensures refused { HasNoEmpty searcher.now → RefusesSearch searcher.now No
@@ -161,7 +162,8 @@ impl<'a, 'r, R: Source> StreamFindIter<'a, 'r, R> {
     pub fn into_source(self) -> &'r mut R
         ensures same { result ≡ source_of self.entry }
     {
-        match self.by {
+        let by = self.by;
+        match by {
             Left(finds) => finds.into_source(),
             Right(finds) => finds.into_source(),
         }

@@ -2,6 +2,7 @@
 
 use crate::count::Count;
 use crate::memory::Asked;
+use crate::pieces::replaced;
 use aho_backward::backward::Backward;
 use aho_backward::error::BackwardError;
 use aho_core::search::MatchKind;
@@ -21,7 +22,10 @@ pub(crate) fn compare_backward(
             let (found, lookups) = searcher.find_all_counted(alloc, asked.text)?;
             count.same("finds by a walk backward", &found, &asked.finds)?;
             let most = 4 * asked.text.len() as u128;
-            count.same("their look-ups", &(lookups <= most), &true)
+            count.same("their look-ups", &(lookups <= most), &true)?;
+            let bytes = searcher.replace_all_bytes(alloc, asked.text, asked.bytes)?;
+            let wanted = replaced(alloc, asked.text, asked.finds.as_slice(), asked.bytes)?;
+            count.same("replaced by a walk backward", &bytes, &wanted)
         }
         Err(BackwardError::StandardKind) => {
             count.same("a kind refused", &settings.0, &MatchKind::Standard)

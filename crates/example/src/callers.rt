@@ -1,5 +1,6 @@
 //! Callers of further calls.
 
+pub mod backward;
 pub mod builders;
 pub mod builds;
 pub mod conditions;

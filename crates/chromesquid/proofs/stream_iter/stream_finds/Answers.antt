@@ -50,19 +50,19 @@ returns-in-Left-clause-along g c =
 pub returns-in-Right-clause-first : goal.returns-in-Right-clause-first
 returns-in-Right-clause-first g c =
     (finds_right g.R.Source (find_steps of_searcher g.R.Source) (find_steps of_rows g.R.Source) (λ it. it.by) from from (λ it. (source_of it).now) source_is
-    (λ it. CanGoOn of_searcher it.chunks) (λ it. CanGoOn of_rows it.chunks) c.args.start.searcher.now c.args.source.now _ c.finds_by-2.result refl c.finds_by-2.ensures.finds).first
+    (λ it. CanGoOn of_searcher it.chunks) (λ it. CanGoOn of_rows it.chunks) c.args.start.searcher.now c.args.source.now _ c.finds_by-in-Right.result refl c.finds_by-in-Right.ensures.finds).first
 
 pub returns-in-Right-clause-finds : goal.returns-in-Right-clause-finds
 returns-in-Right-clause-finds g c =
     (finds_right g.R.Source (find_steps of_searcher g.R.Source) (find_steps of_rows g.R.Source) (λ it. it.by) from from (λ it. (source_of it).now) source_is
-    (λ it. CanGoOn of_searcher it.chunks) (λ it. CanGoOn of_rows it.chunks) c.args.start.searcher.now c.args.source.now _ c.finds_by-2.result refl c.finds_by-2.ensures.finds).finds
+    (λ it. CanGoOn of_searcher it.chunks) (λ it. CanGoOn of_rows it.chunks) c.args.start.searcher.now c.args.source.now _ c.finds_by-in-Right.result refl c.finds_by-in-Right.ensures.finds).finds
 
 pub returns-in-Right-clause-limit : goal.returns-in-Right-clause-limit
 returns-in-Right-clause-limit g c =
     (finds_right g.R.Source (find_steps of_searcher g.R.Source) (find_steps of_rows g.R.Source) (λ it. it.by) from from (λ it. (source_of it).now) source_is
-    (λ it. CanGoOn of_searcher it.chunks) (λ it. CanGoOn of_rows it.chunks) c.args.start.searcher.now c.args.source.now _ c.finds_by-2.result refl c.finds_by-2.ensures.finds).limit
+    (λ it. CanGoOn of_searcher it.chunks) (λ it. CanGoOn of_rows it.chunks) c.args.start.searcher.now c.args.source.now _ c.finds_by-in-Right.result refl c.finds_by-in-Right.ensures.finds).limit
 
 pub returns-in-Right-clause-along : goal.returns-in-Right-clause-along
 returns-in-Right-clause-along g c =
     (finds_right g.R.Source (find_steps of_searcher g.R.Source) (find_steps of_rows g.R.Source) (λ it. it.by) from from (λ it. (source_of it).now) source_is
-    (λ it. CanGoOn of_searcher it.chunks) (λ it. CanGoOn of_rows it.chunks) c.args.start.searcher.now c.args.source.now _ c.finds_by-2.result refl c.finds_by-2.ensures.finds).along
+    (λ it. CanGoOn of_searcher it.chunks) (λ it. CanGoOn of_rows it.chunks) c.args.start.searcher.now c.args.source.now _ c.finds_by-in-Right.result refl c.finds_by-in-Right.ensures.finds).along

@@ -15,11 +15,13 @@ replace_finds-requires g c =
           (finds_apart some.0 (plain_search c.args.haystack.now) None c.in_ok-found.found.items (omega arith) (c.in_ok-found.ensures.found some.0 some.1));
     }
 
-pub returns-in_ok-found-clause-replaced : goal.returns-in_ok-found-clause-replaced
-returns-in_ok-found-clause-replaced g c = λ p is.
-    let pieces = pieces_of c.args.replace_with.now in
-    IfOk-weaker c.replace_finds.result _ _ (λ bytes are. record {
-      finds = c.in_ok-found.found.items;
-      are = c.in_ok-found.ensures.found p is;
-      replaced_are = are ∙ ap (λ (ms : List Occurrence). replaced c.args.haystack.now ms pieces) c.deref.ensures.value;
-    }) c.replace_finds.ensures.replaced
+pub returns : goal.returns
+returns g c = record {
+  replaced = λ p is.
+      let pieces = pieces_of c.args.replace_with.now in
+      IfOk-weaker c.replace_finds.result _ _ (λ bytes are. record {
+        finds = c.in_ok-found.found.items;
+        are = c.in_ok-found.ensures.found p is;
+        replaced_are = are ∙ ap (λ (ms : List Occurrence). replaced c.args.haystack.now ms pieces) c.deref.ensures.value;
+      }) c.replace_finds.ensures.replaced;
+}
