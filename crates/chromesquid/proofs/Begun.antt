@@ -13,7 +13,7 @@ use Rattle.aho_stream.specs.declared.finds.StreamFindIter.{StreamFindIter}
 use Rattle.aho_stream.specs.declared.start.StreamStart.{StreamStart}
 use Rattle.aho_stream.proofs.FindRuns.{find_steps}
 use Rattle.chromesquid.proofs.PastLimit.{run_to_limit}
-use Rattle.chromesquid.specs.Searcher.{Searcher, StandsFor, lengths_of}
+use Rattle.chromesquid.specs.Searcher.{Searcher, StandsFor}
 use Rattle.chromesquid.specs.StreamIters.{IsFreshFor}
 use Rattle.chromesquid.specs.Streams.{FindsToLimit}
 

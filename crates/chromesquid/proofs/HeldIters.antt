@@ -1,7 +1,7 @@
 -- An iterator of the searcher that holds one of two others does what that one does.
-use Rattle.std.proofs.Common.{◌≡◌, ◌∙◌, ℕ, Bool, true, false, List, ◌++◌, Option, None, Result, Ok, Err, sym, subst, ap}
+use Rattle.std.proofs.Common.{◌≡◌, ◌∙◌, ℕ, true, false, List, ◌++◌, Option, None, Result, Ok, Err, sym, subst, ap}
 use Rattle.std.specs.Prelude.{IfOk, length, take}
-use Rattle.std.specs.Iterator.{Count, UpTo, Yields, YieldsThen}
+use Rattle.std.specs.Iterator.{Count, UpTo}
 use Rattle.aho_core.specs.Cover.{AreRuns}
 use Rattle.aho_core.specs.Occurrence.{Occurrence}
 use Rattle.aho_core.specs.Overlapping.{all_occurrences}

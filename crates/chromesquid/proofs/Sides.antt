@@ -1,8 +1,7 @@
 -- Calls of an iterator that holds one of two others are calls of the one that is there.
-use Rattle.std.proofs.Common.{◌≡◌, ℕ, Bool, true, List, [], ◌∷◌, Option, Some, None, refl, sym, subst, ap}
-use Rattle.std.specs.Iterator.{Yields, YieldsThen}
+use Rattle.std.proofs.Common.{◌≡◌, ℕ, Bool, List, [], ◌∷◌, Option, Some, None, refl, subst}
+use Rattle.std.specs.Iterator.{Yields}
 use Rattle.std.specs.Iterator.Runs.{EachRunFrom, YieldsRun}
-use Rattle.std.specs.List.{All}
 use Rattle.aho_automaton.specs.Fused.{CallsGive, IsFused}
 use Rattle.either.specs.Either.{SameSide}
 use Rattle.either.specs.Iterator.{either_steps}

@@ -1,6 +1,6 @@
 //! The runs of a cover in memory, one after another.
 
-ghost use Rattle.std.specs.Prelude.{◌≡◌, ◌*◌, ◌≤◌, IfOk, length};
+ghost use Rattle.std.specs.Prelude.{◌*◌, ◌≤◌, IfOk, length};
 ghost use Rattle.aho_automaton.specs.Covering.{RefusesCover};
 ghost use Rattle.chromesquid.specs.CoverIters.{haystack_of};
 ghost use Rattle.chromesquid.specs.Covers.{RunsFor, why_not_covered};

@@ -1,6 +1,6 @@
 //! All matches of a search in memory, those that overlap too, one after another.
 
-ghost use Rattle.std.specs.Prelude.{◌≡◌, IfOk};
+ghost use Rattle.std.specs.Prelude.{IfOk};
 ghost use Rattle.chromesquid.specs.Found.{AnswersListing, ListsFor};
 ghost use Rattle.chromesquid.specs.Searcher.{StandsFor};
 ghost use Rattle.either.specs.Either.{MatchEither, either};

@@ -1,6 +1,6 @@
 //! Searches and replacement in streams.
 
-ghost use Rattle.std.specs.Prelude.{◌≡◌, ◌≢◌, Err, IfErr, IfOk, IsOkUnless, false, length, true};
+ghost use Rattle.std.specs.Prelude.{◌≡◌, ◌≢◌, Err, IfErr, IfOk, IsOkUnless, length, true};
 ghost use Rattle.aho_core.specs.declared.error.MatchErrorKind.{MatchErrorKind};
 ghost use Rattle.aho_core.specs.declared.error.stream.StreamError.{StreamError};
 ghost use Rattle.aho_core.specs.declared.error.MatchErrorKind.TheVariants.{InvalidInputUnanchored, UnsupportedEmpty};
@@ -33,10 +33,7 @@ impl AhoCorasick {
     /// # Errors
     ///
     /// The error says that memory ran out.
-    pub fn stream_start<'a>(
-        &'a self,
-        alloc: Global,
-    ) -> Result<StreamStart<'a>, AllocError>
+    pub fn stream_start<'a>(&'a self, alloc: Global) -> Result<StreamStart<'a>, AllocError>
         requires no_empty { HasNoEmpty self.now }
         requires starts { Answers self.now No }
         ensures of { IfOk result (λ start. start.searcher.now ≡ self.entry.now) }
@@ -57,10 +54,7 @@ impl AhoCorasick {
     ///
     /// `Match` where a pattern is empty, and else where the searcher answers anchored searches alone. `Memory` where an
     /// allocation fails.
-    pub fn try_stream_start<'a>(
-        &'a self,
-        alloc: Global,
-    ) -> Result<StreamStart<'a>, StreamError>
+    pub fn try_stream_start<'a>(&'a self, alloc: Global) -> Result<StreamStart<'a>, StreamError>
         ensures of { IfOk result (λ start. start.searcher.now ≡ self.entry.now) }
         ensures new { IfOk result IsNew }
         ensures limit { IfOk result (λ start. (progress_of start).limit ≡ greatest_position) }

@@ -1,14 +1,11 @@
 //! A search of a stream that has not begun, and the matches of one.
 
 ghost use Rattle.std.specs.Prelude.{◌≡◌, Err, IfOk, IsOkUnless, false};
-ghost use Rattle.aho_automaton.specs.declared.automaton.Automaton.{Ghosts as Automata};
 ghost use Rattle.aho_core.specs.declared.error.MatchErrorKind.TheVariants.{InvalidInputUnanchored, UnsupportedEmpty};
 ghost use Rattle.aho_core.specs.declared.error.stream.StreamError.{StreamError};
 ghost use Rattle.aho_core.specs.declared.search.Anchored.TheVariants.{No};
 ghost use Rattle.aho_stream.specs.After.{IsUnbegun, greatest_position};
-ghost use Rattle.aho_stream.specs.Iterators.{CanGoOn};
-ghost use Rattle.aho_stream.specs.Starts.{IsFreshStart};
-ghost use Rattle.chromesquid.specs.Searcher.{Answers, HasEmpty, HasNoEmpty, RefusesSearch, StandsFor};
+ghost use Rattle.chromesquid.specs.Searcher.{Answers, HasEmpty, HasNoEmpty, IsBuiltFromSome, RefusesSearch, StandsFor};
 ghost use Rattle.chromesquid.specs.StreamIters.{CallsFindAlong, IsFreshFor, IsNew, progress_in, progress_of, source_of};
 ghost use Rattle.chromesquid.specs.Streams.{FindsFor, HasBufferFor, RunsFindBeginning, RunsFindToLimit, RunsFindWhole};
 ghost use Rattle.either.specs.Either.{MatchEither};
@@ -115,6 +112,7 @@ impl<'a> StreamStart<'a> {
     pub fn into_progress(self) -> StreamProgress
         requires new { IsNew self }
         ensures same { result ≡ progress_of self.entry }
+        ensures some { IsBuiltFromSome self.entry.searcher.now }
         ensures unbegun { IsUnbegun ⟦<AhoCorasick as Automaton>⟧ self.entry.searcher.now result }
         ensures going { result.ended ≡ false }
         ensures unrefused { result.refused ≡ false }

@@ -1,4 +1,4 @@
-use Rattle.std.proofs.Common.{◌*◌, ◌≡◌, ◌≢◌, ◌∙◌, List, ℕ, ap, subst, sym}
+use Rattle.std.proofs.Common.{◌*◌, ◌∙◌, List, ℕ, ap}
 use Rattle.std.specs.Prelude.{length}
 use Rattle.aho_automaton.specs.Finding.{span_places}
 use Rattle.aho_core.specs.declared.search.Anchored.TheVariants.{No}

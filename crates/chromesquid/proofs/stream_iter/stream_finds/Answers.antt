@@ -1,5 +1,4 @@
 use Rattle.std.proofs.Common.{◌≡◌, refl}
-use Rattle.aho_devices.specs.declared.device.Source.{Ghosts as SourceGhosts}
 use Rattle.aho_hybrid.specs.contracts.hybrid.HybridAutomaton.TheImpl.{ghosts as of_rows}
 use Rattle.aho_hybrid.specs.declared.hybrid.Hybrid.{Hybrid}
 use Rattle.aho_stream.specs.Iterators.{CanGoOn}

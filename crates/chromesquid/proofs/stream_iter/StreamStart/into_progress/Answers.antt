@@ -21,3 +21,9 @@ returns-in-Right-clause-unbegun c = λ p built.
     let new : IsNewByRows searcher start = (rw c.in-Right.is at c.requires.new) in
     let after = new.fresh_for.fresh p (rows_are_of start.automaton.now searcher new.held p built) in
     subst (λ s. IsAfter of_searcher searcher p 0 s []) (sym (c.into_progress-in-Right.ensures.same ∙ ap (λ s. s.progress) c.in-Right.start-is)) (after_searcher start.automaton.now searcher new.held p 0 start.progress [] after)
+
+pub returns-in-Left-clause-some : goal.returns-in-Left-clause-some
+returns-in-Left-clause-some c = let new : IsNewItself c.args.self.searcher.now c.in-Left.start = (rw c.in-Left.is at c.requires.new) in new.fresh_for.stands.some
+
+pub returns-in-Right-clause-some : goal.returns-in-Right-clause-some
+returns-in-Right-clause-some c = let new : IsNewByRows c.args.self.searcher.now c.in-Right.start = (rw c.in-Right.is at c.requires.new) in new.fresh_for.stands.some

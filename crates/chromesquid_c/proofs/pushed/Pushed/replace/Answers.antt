@@ -13,9 +13,9 @@ pub put_chunk-requires : goal.put_chunk-requires
 put_chunk-requires c =
     let (p, given, of, before) = c.self.invariant.under_way in
     let s = c.self.inside.progress in
-    let t = c.next_chunk.new.self in
-    let after = (rw c.deref-searcher.ensures at c.next_chunk.ensures.after) p given of before in
-    let told = (rw c.deref-searcher.ensures at c.next_chunk.ensures.tells) p given of before in
+    let t = c.stream_next_chunk.new.progress in
+    let after = (rw c.deref-searcher.ensures at c.stream_next_chunk.ensures.after) p given of before in
+    let told = (rw c.deref-searcher.ensures at c.stream_next_chunk.ensures.tells) p given of before in
     let tells = subst (λ (piece : Option StreamPiece). TellsOfGiven p s t given piece) c.in-Some.is told in
     let most : max (s.read - s.reported) (longest (map length (pieces_of c.args.replace_with.now))) ≤ length c.args.room.now =
     omega (arith, c.room_for-wanted.ensures.room, c.bytes_untold.ensures.untold, c.if-room-wanted.false) in
