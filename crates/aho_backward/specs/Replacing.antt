@@ -4,9 +4,9 @@ use Rattle.aho_core.specs.Occurrence.{Occurrence}
 use Rattle.aho_core.specs.Replacement.{replaced}
 
 -- they stand one behind the other, from one place on and up to another
-abbrev pub StandApart : ℕ → ℕ → List Occurrence → Type 0
-StandApart at end [] = at ≤ end
-StandApart at end (m ∷ ms) = (at ≤ m.start) × (m.start ≤ m.end) × StandApart m.end end ms
+abbrev pub StandInTurn : ℕ → ℕ → List Occurrence → Type 0
+StandInTurn at end [] = at ≤ end
+StandInTurn at end (m ∷ ms) = (at ≤ m.start) × (m.start ≤ m.end) × StandInTurn m.end end ms
 
 -- the bytes are a haystack with a piece in the place of each of its finds
 pub record IsReplacedBy {Z : Type 0} (AreAll : List Occurrence → Type 0) (haystack : List ℕ) (pieces : List (List ℕ)) (bytes : Vec ℕ Z) : Type 0 where

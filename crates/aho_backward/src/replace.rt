@@ -2,7 +2,7 @@
 
 ghost use Rattle.std.specs.Prelude.{◌≡◌, ◌++◌, [], IfOk, OnOk, length, slice_index_or, vec_items};
 ghost use Rattle.aho_core.specs.Replacement.{pieces_of, replaced};
-ghost use Rattle.aho_backward.specs.Replacing.{StandApart};
+ghost use Rattle.aho_backward.specs.Replacing.{StandInTurn};
 
 use aho_core::search::Match;
 use std::alloc::{AllocError, Global};
@@ -25,7 +25,7 @@ pub(crate) fn replace_finds(
     finds: &[Match],
     pieces: &[&[u8]],
 ) -> Result<Vec<u8>, AllocError>
-    requires apart { StandApart 0 (length haystack.now) finds.now }
+    requires apart { StandInTurn 0 (length haystack.now) finds.now }
     ensures replaced { IfOk result (λ bytes. vec_items bytes
         ≡ replaced haystack.now finds.now (pieces_of pieces.now)) }
 {

@@ -47,8 +47,8 @@ abbrev pub progress_of : StreamStart → StreamProgress
 progress_of start = either (λ s. s.progress) (λ s. s.progress) start.by
 
 -- what an iterator's source is
-abbrev pub source_of : {R : Type 0} → StreamFindIter R → MutBor R
-source_of it = either (λ i. i.chunks.source) (λ i. i.chunks.source) it.by
+abbrev pub stream_source : {R : Type 0} → StreamFindIter R → MutBor R
+stream_source it = either (λ i. i.chunks.source) (λ i. i.chunks.source) it.by
 
 -- and how far its search has come
 abbrev pub progress_in : {R : Type 0} → StreamFindIter R → StreamProgress
@@ -56,4 +56,4 @@ progress_in it = either (λ i. i.chunks.progress) (λ i. i.chunks.progress) it.b
 
 -- its calls find so, wherever they leave it
 abbrev pub CallsFindAlong : {R : Type 0} → SourceGhosts R → (StreamFindIter R → Option (Result Occurrence StreamError) → StreamFindIter R → Type 0) → Searcher → StreamFindIter R → Type 0
-CallsFindAlong S gives searcher it = ForItsPatterns searcher (λ p. FindsOnward S (λ i. (source_of i).now) gives p it)
+CallsFindAlong S gives searcher it = ForItsPatterns searcher (λ p. FindsOnward S (λ i. (stream_source i).now) gives p it)

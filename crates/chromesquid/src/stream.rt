@@ -10,7 +10,7 @@ ghost use Rattle.aho_stream.specs.After.{greatest_position};
 ghost use Rattle.aho_stream.specs.Refills.{is_limit};
 ghost use Rattle.aho_stream.specs.Replacing.{GaveAsMany, IsMakingRefusal};
 ghost use Rattle.aho_stream.specs.StreamRun.{RefusesUntouched};
-ghost use Rattle.chromesquid.specs.StreamIters.{CallsFindAlong, IsNew, progress_in, progress_of, source_of};
+ghost use Rattle.chromesquid.specs.StreamIters.{CallsFindAlong, IsNew, progress_in, progress_of, stream_source};
 ghost use Rattle.chromesquid.specs.Streams.{HasBufferFor, ReplacesBeginning, ReplacesNearly, ReplacesWhole, RunsFindBeginning, RunsFindToLimit, RunsFindWhole, RunsStream};
 
 use crate::searcher::AhoCorasick;
@@ -86,7 +86,7 @@ impl AhoCorasick {
     ) -> Result<StreamFindIter<'a, 'r, R>, AllocError>
         requires no_empty { HasNoEmpty self.now }
         requires starts { Answers self.now No }
-        ensures source { IfOk result (λ it. source_of it ≡ source.entry) }
+        ensures source { IfOk result (λ it. stream_source it ≡ source.entry) }
         ensures made { IfOk result (λ it. (progress_in it).limit ≡ greatest_position) }
         ensures buffer { IfOk result (λ it. HasBufferFor self.entry.now (progress_in it)) }
         ensures ready { IfOk result ⟦<StreamFindIter<'a, 'r, R> as Iterator>⟧.can_next }
@@ -116,7 +116,7 @@ impl AhoCorasick {
         alloc: Global,
         source: &'r mut R,
     ) -> Result<StreamFindIter<'a, 'r, R>, StreamError>
-        ensures source { IfOk result (λ it. source_of it ≡ source.entry) }
+        ensures source { IfOk result (λ it. stream_source it ≡ source.entry) }
         ensures made { IfOk result (λ it. (progress_in it).limit ≡ greatest_position) }
         ensures buffer { IfOk result (λ it. HasBufferFor self.entry.now (progress_in it)) }
         ensures ready { IfOk result ⟦<StreamFindIter<'a, 'r, R> as Iterator>⟧.can_next }

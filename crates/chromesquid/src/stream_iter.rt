@@ -6,7 +6,7 @@ ghost use Rattle.aho_core.specs.declared.error.stream.StreamError.{StreamError};
 ghost use Rattle.aho_core.specs.declared.search.Anchored.TheVariants.{No};
 ghost use Rattle.aho_stream.specs.After.{IsUnbegun, greatest_position};
 ghost use Rattle.chromesquid.specs.Searcher.{Answers, HasEmpty, HasNoEmpty, IsBuiltFromSome, RefusesSearch, StandsFor};
-ghost use Rattle.chromesquid.specs.StreamIters.{CallsFindAlong, IsFreshFor, IsNew, progress_in, progress_of, source_of};
+ghost use Rattle.chromesquid.specs.StreamIters.{CallsFindAlong, IsFreshFor, IsNew, progress_in, progress_of, stream_source};
 ghost use Rattle.chromesquid.specs.Streams.{FindsFor, HasBufferFor, RunsFindBeginning, RunsFindToLimit, RunsFindWhole};
 ghost use Rattle.either.specs.Either.{MatchEither};
 ghost use Rattle.either.specs.Iterator.{either_steps};
@@ -132,7 +132,7 @@ pub fn stream_finds<'a, 'r, R: Source>(
     source: &'r mut R,
 ) -> StreamFindIter<'a, 'r, R>
     requires new { IsNew start }
-    ensures source { source_of result ≡ source.entry }
+    ensures source { stream_source result ≡ source.entry }
     ensures progress { progress_in result ≡ progress_of start.entry }
     ensures ready { ⟦<StreamFindIter<'a, 'r, R> as Iterator>⟧.can_next result }
     ensures first { RunsFindBeginning R.Source ⟦<StreamFindIter<'a, 'r, R> as Iterator>⟧.next_gives
@@ -158,7 +158,7 @@ pub fn stream_finds<'a, 'r, R: Source>(
 impl<'a, 'r, R: Source> StreamFindIter<'a, 'r, R> {
     /// Ends the search, and gives back the source. Bytes that were read and not searched through are lost.
     pub fn into_source(self) -> &'r mut R
-        ensures same { result ≡ source_of self.entry }
+        ensures same { result ≡ stream_source self.entry }
     {
         let by = self.by;
         match by {

@@ -2,12 +2,12 @@
 use Rattle.std.proofs.Common.{◌≡◌, ℕ, [], length, ◌++◌}
 use Rattle.std.specs.Prelude.{slice_index_or}
 use Rattle.aho_core.specs.Replacement.{pieces_of, replaced, replaced_from}
-use Rattle.aho_backward.specs.Replacing.{StandApart}
+use Rattle.aho_backward.specs.Replacing.{StandInTurn}
 use Rattle.aho_backward.proofs.replace.replace_finds.Given as goal
 
 abbrev pub invariant-loop-m : goal.invariant-loop-m
 invariant-loop-m l = record {
-  apart : StandApart l.copied (length l.haystack) l.left;
+  apart : StandInTurn l.copied (length l.haystack) l.left;
   whole : l.dst.items ++ replaced_from l.haystack l.copied l.left (λ m. slice_index_or (pieces_of l.pieces) m.pattern [])
       ≡ replaced l.haystack l.finds (pieces_of l.pieces);
 }

@@ -3,7 +3,7 @@ use Rattle.std.proofs.lemmas.Result.{IfOk-weaker}
 use Rattle.aho_core.specs.Occurrence.{Occurrence}
 use Rattle.aho_core.specs.Replacement.{pieces_of, replaced}
 use Rattle.aho_core.specs.Search.{plain_search}
-use Rattle.aho_backward.specs.Replacing.{StandApart}
+use Rattle.aho_backward.specs.Replacing.{StandInTurn}
 use Rattle.aho_backward.proofs.Apart.{finds_apart}
 use Rattle.aho_backward.proofs.backward.Backward.replace_all_bytes.Goals as goal
 
@@ -11,7 +11,7 @@ pub replace_finds-requires : goal.replace_finds-requires
 replace_finds-requires g c =
     let some = c.requires.of in
     record {
-      apart = subst (λ (ms : List Occurrence). StandApart 0 (length c.args.haystack.now) ms) (sym c.deref.ensures.value)
+      apart = subst (λ (ms : List Occurrence). StandInTurn 0 (length c.args.haystack.now) ms) (sym c.deref.ensures.value)
           (finds_apart some.0 (plain_search c.args.haystack.now) None c.in_ok-found.found.items (omega arith) (c.in_ok-found.ensures.found some.0 some.1));
     }
 
