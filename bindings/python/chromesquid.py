@@ -330,9 +330,9 @@ class AhoCorasick:
             status = _find_short(handle, given, len(given), into)
         else:
             status = _find(self._reference(), given, len(given), ctypes.byref(found))
-        if status != _FOUND:
-            _check(status)
+        if status == _DONE:
             return None
+        _check(status, _FOUND)
         match = Match(found.pattern, found.start, found.end)
         return next(self._characters([match], given)) if _is_wide(haystack) else match
 
