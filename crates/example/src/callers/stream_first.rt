@@ -20,5 +20,5 @@ pub fn first_of<R: Source>(
         FindsBeginning R.Source p source.old found.items) }
 {
     let matches = searcher.stream_find_iter(alloc, source)?;
-    first_items::<R, _>(alloc, matches, count)
+    first_items::<R, _>(alloc, searcher, matches, count)
 }

@@ -1,24 +1,22 @@
 //! A search in a stream that is refused before there is a source.
 
-ghost use Rattle.chromesquid.specs.Rules.{Answers, FindsBeginning, HasNoEmpty, IsBuiltFrom, No, Patterns};
+ghost use Rattle.chromesquid.specs.Rules.{Answers, HasNoEmpty, No, RunsFindBeginning};
 ghost use Rattle.std.specs.Prelude.{IfOk};
 
-use crate::callers::first_items::first_items;
-use chromesquid::{AhoCorasick, Match, Source, StreamError, stream_finds};
+use chromesquid::{AhoCorasick, Source, StreamFindIter, stream_finds};
 use std::alloc::{AllocError, Global};
 
-/// The first answers of a search of what a source gives. Where there is no memory for the search, the source was not lent to it.
-pub fn first_after_start<R: Source>(
+/// The matches of what a source gives. Where there is no memory for the search, the source was not lent to it.
+pub fn matches_after_start<'a, 'r, R: Source>(
     alloc: Global,
-    searcher: &AhoCorasick,
-    source: &mut R,
-    count: usize,
-) -> Result<Vec<Result<Match, StreamError>>, AllocError>
+    searcher: &'a AhoCorasick,
+    source: &'r mut R,
+) -> Result<StreamFindIter<'a, 'r, R>, AllocError>
     requires no_empty { HasNoEmpty searcher.now }
     requires starts { Answers searcher.now No }
-    ensures first { (p : Patterns) → IsBuiltFrom searcher.now p → IfOk result (λ found.
-        FindsBeginning R.Source p source.old found.items) }
+    ensures first { IfOk result (RunsFindBeginning R.Source
+        ⟦<StreamFindIter<'a, 'r, R> as Iterator>⟧.next_gives searcher.entry.now source.entry.now) }
 {
     let start = searcher.stream_start(alloc)?;
-    first_items::<R, _>(alloc, stream_finds(start, source), count)
+    Ok(stream_finds(start, source))
 }
