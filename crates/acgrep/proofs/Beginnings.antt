@@ -4,6 +4,7 @@ use Rattle.std.specs.Prelude.{MatchBool, Result, Ok, Err, OnErr}
 use Rattle.std.specs.Io.KnownBytes.{Appends, Keeps}
 use Rattle.std.proofs.KnownBytes.{Appends-trans}
 use Rattle.aho_core.specs.Patterns.{Patterns}
+use Rattle.acgrep.specs.Alone.{asks_alone}
 use Rattle.acgrep.specs.Lines.{lines}
 use Rattle.aho_devices.specs.Counts.{AppendsBeginning}
 use Rattle.acgrep.specs.Written.{BeginsLine, BeginsLines, EachLine, HasNone, IsSelected, DoesMatch, DoesNotMatch, SamePlace, SearchesTo, StartsNext, TellsLines, WritesLine, after_lines, is_full}
@@ -56,7 +57,7 @@ module _ (p : Patterns) (job : Job) where
         selected,
         record {
           shown = starts.shown;
-          shows = by_same p job.shown job.invert job a b line starts.shown same.lines same starts.shows;
+          shows = by_same p job.shown (asks_alone job.fit) job.invert job a b line starts.shown same.lines same starts.shows;
           missing = starts.missing;
           cut = starts.cut;
         },
@@ -76,7 +77,7 @@ module _ (p : Patterns) (job : Job) where
   }
 
   -- a beginning of what is shown of one line
-  pub begins_one : (a : State) (x y : Option (List ℕ)) (line : List ℕ) → is_full job.most a.selected ≡ false → IsSelected p job.whole job.invert line → BeginsLine p job a.place x y line
+  pub begins_one : (a : State) (x y : Option (List ℕ)) (line : List ℕ) → is_full job.most a.selected ≡ false → IsSelected p job.fit job.invert line → BeginsLine p job a.place x y line
       → BeginsLines p job a a.selected x y (line ∷ [])
   begins_one a x y line goes selected begins = record {
     first = [];
@@ -134,11 +135,11 @@ module _ (p : Patterns) (job : Job) where
 
   -- selected lines so far, and a beginning of the next
   pub begins_passing : (a b : State) (count : ℕ) (x y z : Option (List ℕ)) (text rest line left : List ℕ) → job.invert ≡ true → lines rest ≡ line ∷ lines left
-      → Passing p job a b x y text rest → (IsSelected p job.whole job.invert line → BeginsLines p job b count y z (line ∷ [])) → BeginsLines p job a count x z (lines text)
+      → Passing p job a b x y text rest → (IsSelected p job.fit job.invert line → BeginsLines p job b count y z (line ∷ [])) → BeginsLines p job a count x z (lines text)
   begins_passing a b count x y z text rest line left invert first so_far begins =
       let each : EachLine (HasNone p) (line ∷ lines left) = subst (EachLine (HasNone p)) first so_far.each in
-      let selected : IsSelected p job.whole job.invert line =
-      subst (λ (b : Bool). MatchBool b (DoesNotMatch p job.whole line) (DoesMatch p job.whole line)) (sym invert) (none_matches p job.whole line each.0) in
+      let selected : IsSelected p job.fit job.invert line =
+      subst (λ (b : Bool). MatchBool b (DoesNotMatch p job.fit line) (DoesMatch p job.fit line)) (sym invert) (none_matches p job.fit line each.0) in
       let there : SamePlace job b.place (after_lines a.place so_far.searched) = subst (λ (place : Place). SamePlace job b.place place) so_far.placed (same_place job b.place) in
       subst (BeginsLines p job a count x z) (sym (so_far.cut ∙ ap (λ (l : List (List ℕ)). so_far.searched ++ l) first))
       (begins_join a b count x y z so_far.searched (line ∷ lines left) so_far.tells there (begins_more b count y z (line ∷ []) (lines left) (begins selected)))

@@ -6,6 +6,7 @@ use Rattle.std.proofs.KnownBytes.{Appends-trans}
 use Rattle.std.proofs.lemmas.Bool.{cases_Bool, lt-ltb, ltb-false, ltb-true}
 use Rattle.aho_core.specs.Patterns.{Patterns}
 use Rattle.programs.specs.Names.{is_input}
+use Rattle.acgrep.specs.Alone.{asks_alone}
 use Rattle.acgrep.specs.Files.{EndsFile, IfSearched, IsAny, IsNamed, IsRead, SearchesFile, SearchesName, SearchesReader, SomeLine, TellsBy, count_if, known_of, shown_name, total_if}
 use Rattle.acgrep.specs.Lines.{lines}
 use Rattle.acgrep.specs.Printed.{file_line}
@@ -23,15 +24,15 @@ use Rattle.acgrep.proofs.LineLists.{lines_append}
 use Rattle.acgrep.proofs.Tellings.{full_some, tells_full}
 
 -- where one selected line tells all nothing is written of it
-shows_none : (p : Patterns) (shown : Shown) (invert : Bool) (style : Style) (place : Place) (line bytes : List ℕ) → needs_one shown ≡ true
-    → ShowsBy p shown invert style place line bytes → bytes ≡ []
-shows_none p Lines invert style place line bytes one shows = absurd (cc)
-shows_none p Matches invert style place line bytes one shows = absurd (cc)
-shows_none p Objects invert style place line bytes one shows = absurd (cc)
-shows_none p Count invert style place line bytes one shows = absurd (cc)
-shows_none p Names invert style place line bytes one shows = shows
-shows_none p Lacking invert style place line bytes one shows = shows
-shows_none p Nothing invert style place line bytes one shows = shows
+shows_none : (p : Patterns) (shown : Shown) (alone invert : Bool) (style : Style) (place : Place) (line bytes : List ℕ) → needs_one shown ≡ true
+    → ShowsBy p shown alone invert style place line bytes → bytes ≡ []
+shows_none p Lines alone invert style place line bytes one shows = absurd (cc)
+shows_none p Matches alone invert style place line bytes one shows = absurd (cc)
+shows_none p Objects alone invert style place line bytes one shows = absurd (cc)
+shows_none p Count alone invert style place line bytes one shows = absurd (cc)
+shows_none p Names alone invert style place line bytes one shows = shows
+shows_none p Lacking alone invert style place line bytes one shows = shows
+shows_none p Nothing alone invert style place line bytes one shows = shows
 
 more_positive : (count : ℕ) → 0 < one_more count
 more_positive count = omega arith
@@ -53,7 +54,7 @@ module _ (p : Patterns) (job : Job) where
   tells_none [] place count bytes total one told = told.0
   tells_none (line ∷ rest) place count bytes total one (inl (full, none, same)) = none
   tells_none (line ∷ rest) place count bytes total one (inr (goes, inl (selected, (shown, more, shows, behind, is)))) =
-      is ∙ ap (λ (l : List ℕ). l ++ more) (shows_none p job.shown job.invert job.style place line shown one shows)
+      is ∙ ap (λ (l : List ℕ). l ++ more) (shows_none p job.shown (asks_alone job.fit) job.invert job.style place line shown one shows)
       ∙ tells_none rest _ (one_more count) more total one behind
   tells_none (line ∷ rest) place count bytes total one (inr (goes, inr (passed, behind))) = tells_none rest _ count bytes total one behind
 
@@ -67,7 +68,7 @@ module _ (p : Patterns) (job : Job) where
 
   -- where it is not 0 a line is selected
   tells_some : (ls : List (List ℕ)) (place : Place) (count : ℕ) (bytes : List ℕ) (total : ℕ) → TellsOfLines p job place count ls bytes total → count ≡ 0 → 0 < total
-      → SomeLine (IsSelected p job.whole job.invert) ls
+      → SomeLine (IsSelected p job.fit job.invert) ls
   tells_some [] place count bytes total told zero some = absurd (omega (arith, told.1, zero, some))
   tells_some (line ∷ rest) place count bytes total (inl (full, none, same)) zero some = absurd (omega (arith, same, zero, some))
   tells_some (line ∷ rest) place count bytes total (inr (goes, inl (selected, told))) zero some = inl selected
@@ -75,7 +76,7 @@ module _ (p : Patterns) (job : Job) where
 
   -- and where it is, none
   tells_each : (ls : List (List ℕ)) (place : Place) (count : ℕ) (bytes : List ℕ) (total : ℕ) → TellsOfLines p job place count ls bytes total → total ≡ 0
-      → EachLine (IsPassedOver p job.whole job.invert) ls
+      → EachLine (IsPassedOver p job.fit job.invert) ls
   tells_each [] place count bytes total told zero = tt
   tells_each (line ∷ rest) place count bytes total (inl (full, none, same)) zero = absurd (omega (arith, full_some job.most count full, same, zero))
   tells_each (line ∷ rest) place count bytes total (inr (goes, inl (selected, (shown, more, shows, behind, is)))) zero =
@@ -83,7 +84,7 @@ module _ (p : Patterns) (job : Job) where
   tells_each (line ∷ rest) place count bytes total (inr (goes, inr (passed, behind))) zero = (passed, tells_each rest _ count bytes total behind zero)
 
   -- whether one is selected
-  tells_any : (ls : List (List ℕ)) (place : Place) (bytes : List ℕ) (total : ℕ) → TellsOfLines p job place 0 ls bytes total → IsAny p job.whole job.invert ls (nat_lt 0 total)
+  tells_any : (ls : List (List ℕ)) (place : Place) (bytes : List ℕ) (total : ℕ) → TellsOfLines p job place 0 ls bytes total → IsAny p job.fit job.invert ls (nat_lt 0 total)
   tells_any ls place bytes total told =
       elim (cases_Bool (nat_lt 0 total)) [
         | inl some ↦ rw some (tells_some ls place 0 bytes total told refl (ltb-true 0 total some))
@@ -127,7 +128,7 @@ module _ (p : Patterns) (job : Job) where
       record {
         text = text;
         of = of;
-        selected = subst (IsAny p job.whole job.invert (lines text)) (sym ends.is_any) (tells_any (lines text) job.first told count tells);
+        selected = subst (IsAny p job.fit job.invert (lines text)) (sym ends.is_any) (tells_any (lines text) job.first told count tells);
         bytes = told ++ total_if job.shown job.style count;
         tells = subst (λ (any : Bool). TellsBy p job job.shown text any (told ++ total_if job.shown job.style count)) (sym ends.is_any) (by_whole job.shown refl text told count tells);
         written = Appends-trans held meanwhile held' told (total_if job.shown job.style count) written ends.written;
@@ -135,7 +136,7 @@ module _ (p : Patterns) (job : Job) where
 
   -- a line was selected that told all
   file_front : (state : State) (known held meanwhile held' : Option (List ℕ)) (text told : List ℕ) (ls : List (List ℕ)) → IfSome known (λ (all : List ℕ). text ≡ all)
-      → TellsOfLines p job job.first 0 ls told state.selected → needs_one job.shown ≡ true → 0 < state.selected → (SomeLine (IsSelected p job.whole job.invert) ls → SomeLine (IsSelected p job.whole job.invert) (lines text))
+      → TellsOfLines p job job.first 0 ls told state.selected → needs_one job.shown ≡ true → 0 < state.selected → (SomeLine (IsSelected p job.fit job.invert) ls → SomeLine (IsSelected p job.fit job.invert) (lines text))
       → Appends held meanwhile told → (any : Bool) → EndsFile job state.selected meanwhile held' any → SearchesFile p job known held held' any × (any ≡ true)
   file_front state known held meanwhile held' text told ls of tells one some front written any ends =
       let count = state.selected in
@@ -144,7 +145,7 @@ module _ (p : Patterns) (job : Job) where
         record {
           text = text;
           of = of;
-          selected = subst (IsAny p job.whole job.invert (lines text)) (sym is) (front (tells_some ls job.first 0 told count tells refl some));
+          selected = subst (IsAny p job.fit job.invert (lines text)) (sym is) (front (tells_some ls job.first 0 told count tells refl some));
           bytes = total_if job.shown job.style count;
           tells = subst (λ (any : Bool). TellsBy p job job.shown text any (total_if job.shown job.style count)) (sym is) (by_front job.shown text count one some);
           written = subst (λ (l : List ℕ). Appends held held' (l ++ total_if job.shown job.style count)) none
@@ -175,7 +176,7 @@ module _ (p : Patterns) (job : Job) where
             }
         | inr (inl (one, some)) ↦ record {
           file = (file_front state left held meanwhile held' text tells.bytes to.searched known tells.told one some
-              (λ (is : SomeLine (IsSelected p job.whole job.invert) to.searched). subst (SomeLine (IsSelected p job.whole job.invert)) (sym same) (some_front (IsSelected p job.whole job.invert) to.searched (lines stream.searches.left) is))
+              (λ (is : SomeLine (IsSelected p job.fit job.invert) to.searched). subst (SomeLine (IsSelected p job.fit job.invert)) (sym same) (some_front (IsSelected p job.fit job.invert) to.searched (lines stream.searches.left) is))
               tells.written any ends).0;
           reads = read;
         }
@@ -202,7 +203,7 @@ module _ (p : Patterns) (job : Job) where
       elim settled [
         | inl (one, some) ↦
             let found = file_front state left held meanwhile held' text tells.bytes to.searched known tells.told one some
-            (λ (is : SomeLine (IsSelected p job.whole job.invert) to.searched). subst (SomeLine (IsSelected p job.whole job.invert)) (sym same) (some_front (IsSelected p job.whole job.invert) to.searched later is))
+            (λ (is : SomeLine (IsSelected p job.fit job.invert) to.searched). subst (SomeLine (IsSelected p job.fit job.invert)) (sym same) (some_front (IsSelected p job.fit job.invert) to.searched later is))
             tells.written any ends in
             record {
               file = found.0;

@@ -3,6 +3,7 @@ use Rattle.std.proofs.Common.{◌≡◌, inl, inr, ◌⊎◌, ℕ, Bool, List, [
 use Rattle.std.specs.Io.KnownBytes.{Appends, Keeps}
 use Rattle.std.proofs.KnownBytes.{Appends-trans, Keeps-trans}
 use Rattle.aho_core.specs.Patterns.{Patterns}
+use Rattle.acgrep.specs.Alone.{asks_alone}
 use Rattle.acgrep.specs.Files.{AreFilesBegun, BeginsFile, BeginsTotal, IfBroken, total_if}
 use Rattle.acgrep.specs.Lines.{lines}
 use Rattle.acgrep.specs.Streamed.{BeginsStream, course}
@@ -62,15 +63,15 @@ nil_front [] ys same = refl
 nil_front (x ∷ xs) ys same = absurd (cc)
 
 -- of what is shown of lines and what is asked of the file as a whole one is nothing
-one_none : (p : Patterns) (shown : Shown) (invert : Bool) (style : Style) (place : Place) (line all begun more : List ℕ) (count : ℕ) (total missing : List ℕ)
-    → ShowsBy p shown invert style place line all → all ≡ begun ++ more → total_if shown style count ≡ total ++ missing → (begun ≡ []) ⊎ (total ≡ [])
-one_none p Lines invert style place line all begun more count total missing shows is cut = inr (nil_front total missing cut)
-one_none p Matches invert style place line all begun more count total missing shows is cut = inr (nil_front total missing cut)
-one_none p Objects invert style place line all begun more count total missing shows is cut = inr (nil_front total missing cut)
-one_none p Count invert style place line all begun more count total missing shows is cut = inl (nil_front begun more (sym shows ∙ is))
-one_none p Names invert style place line all begun more count total missing shows is cut = inl (nil_front begun more (sym shows ∙ is))
-one_none p Lacking invert style place line all begun more count total missing shows is cut = inl (nil_front begun more (sym shows ∙ is))
-one_none p Nothing invert style place line all begun more count total missing shows is cut = inl (nil_front begun more (sym shows ∙ is))
+one_none : (p : Patterns) (shown : Shown) (alone invert : Bool) (style : Style) (place : Place) (line all begun more : List ℕ) (count : ℕ) (total missing : List ℕ)
+    → ShowsBy p shown alone invert style place line all → all ≡ begun ++ more → total_if shown style count ≡ total ++ missing → (begun ≡ []) ⊎ (total ≡ [])
+one_none p Lines alone invert style place line all begun more count total missing shows is cut = inr (nil_front total missing cut)
+one_none p Matches alone invert style place line all begun more count total missing shows is cut = inr (nil_front total missing cut)
+one_none p Objects alone invert style place line all begun more count total missing shows is cut = inr (nil_front total missing cut)
+one_none p Count alone invert style place line all begun more count total missing shows is cut = inl (nil_front begun more (sym shows ∙ is))
+one_none p Names alone invert style place line all begun more count total missing shows is cut = inl (nil_front begun more (sym shows ∙ is))
+one_none p Lacking alone invert style place line all begun more count total missing shows is cut = inl (nil_front begun more (sym shows ∙ is))
+one_none p Nothing alone invert style place line all begun more count total missing shows is cut = inl (nil_front begun more (sym shows ∙ is))
 
 module _ (p : Patterns) (job : Job) where
   either_none : (place : Place) (left : List (List ℕ)) (begun : List ℕ) (count : ℕ) (total missing : List ℕ) → StartsNext p job place count left begun
@@ -78,7 +79,7 @@ module _ (p : Patterns) (job : Job) where
   either_none place [] begun count total missing none cut = inl none
   either_none place (line ∷ rest) begun count total missing (inl none) cut = inl none
   either_none place (line ∷ rest) begun count total missing (inr (goes, selected, starts)) cut =
-      one_none p job.shown job.invert job.style place line starts.shown begun starts.missing count total missing starts.shows starts.cut cut
+      one_none p job.shown (asks_alone job.fit) job.invert job.style place line starts.shown begun starts.missing count total missing starts.shows starts.cut cut
 
   -- a stream that was broken off, and a beginning of what is asked of the file as a whole
   pub file_begins : (state : State) (left left' held meanwhile held' : Option (List ℕ)) → BeginsStream p job (course (at_begin job.first) state held meanwhile left left')

@@ -5,7 +5,7 @@ use Rattle.std.specs.Io.KnownBytes.{Keeps}
 use Rattle.std.proofs.KnownBytes.{Keeps-trans}
 use Rattle.std.proofs.lemmas.Bool.{cases_Bool}
 use Rattle.aho_core.specs.Patterns.{Patterns}
-use Rattle.acgrep.specs.Arguments.{Origin, Said}
+use Rattle.acgrep.specs.Arguments.{Origin, Said, fit_by}
 use Rattle.programs.specs.Names.{or_input}
 use Rattle.acgrep.specs.Files.{AreFilesSearched, AreSearchedOr, is_enough}
 use Rattle.acgrep.specs.Runs.{BeginsFor, SelectsNoLine, SearchesFor, SearchesWords, inverts, kind_sought, knows_none, words_sought}
@@ -44,7 +44,7 @@ module _ (held' held'' : Option (List ℕ)) (kept : Keeps held' held'') where
   searches_kept holds terminal flags sources names left left' held status done =
       let sought = words_sought flags done.words in
       let p = patterns_asked (kind_sought flags) flags.ignore_case sought in
-      let Passed = SelectsNoLine p flags.whole (inverts flags) done.between left' held held' status in
+      let Passed = SelectsNoLine p (fit_by flags) (inverts flags) done.between left' held held' status in
       let Found = SearchesWords holds terminal flags sought names done.between left' held held' status in
       record {
         words = done.words;

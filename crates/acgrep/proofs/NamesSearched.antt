@@ -13,6 +13,7 @@ use Rattle.acgrep.specs.Lines.{lines}
 use Rattle.acgrep.specs.declared.files.Outcome.{Outcome}
 use Rattle.acgrep.specs.declared.files.Outcome.TheVariants.{Searched, Unread, Stopped}
 use Rattle.acgrep.specs.declared.files.Seen.{Seen}
+use Rattle.acgrep.specs.declared.options.Fit.{Fit}
 use Rattle.acgrep.specs.declared.options.Shown.{Shown}
 use Rattle.acgrep.specs.declared.options.Shown.TheVariants.{Lines, Matches, Objects, Count, Names, Lacking, Nothing}
 use Rattle.acgrep.specs.declared.select.Job.{Job}
@@ -64,8 +65,8 @@ module _ (p : Patterns) (job : Job) (holds : List ℕ → Option (List ℕ)) (na
   name_has name left left' held held' searched = (
     searched.file.text,
     searched.file.of,
-    subst (λ (invert : Bool). IsAny p job.whole invert (lines searched.file.text) true) searched.is_named.invert
-        (subst (λ (whole : Bool). IsAny p whole searched.named.invert (lines searched.file.text) true) searched.is_named.whole searched.file.selected),
+    subst (λ (invert : Bool). IsAny p job.fit invert (lines searched.file.text) true) searched.is_named.invert
+        (subst (λ (fit : Fit). IsAny p fit searched.named.invert (lines searched.file.text) true) searched.is_named.fit searched.file.selected),
   )
 
   -- one file more

@@ -8,10 +8,13 @@ use Rattle.std.proofs.lemmas.List.{drop_all, drop-drop, length-drop}
 use Rattle.aho_core.specs.Patterns.{Patterns}
 use Rattle.aho_core.specs.Occurrence.{Occurrence}
 use Rattle.acgrep.proofs.LineLists.{ends_drop}
+use Rattle.acgrep.specs.Alone.{asks_alone}
 use Rattle.acgrep.specs.Lines.{lines}
 use Rattle.acgrep.specs.Objects.{objects_by}
 use Rattle.acgrep.specs.Printed.{WritesColored, color_of, colored_from, colored_line_by, head_of, match_by, matches_by, line_number_at, offset_at, painted, part_of}
 use Rattle.acgrep.specs.Written.{EachLine, EndsLine, HasNone, IsMatched, IsPassedOver, IsSelected, IsSettled, LineOf, DoesMatch, DoesNotMatch, SamePlace, SearchesTo, ShowsBy, TellsOfLines, TellsLines, WritesLine, WritesNext, after_line, after_lines, is_full, is_numbered, next_count, one_more, place_behind, selects}
+use Rattle.acgrep.specs.declared.options.Fit.{Fit}
+use Rattle.acgrep.specs.declared.options.Fit.TheVariants.{AnyPart, WholeWord, WholeLine}
 use Rattle.acgrep.specs.declared.options.Shown.{Shown}
 use Rattle.acgrep.specs.declared.options.Shown.TheVariants.{Lines, Matches, Objects, Count, Names, Lacking, Nothing}
 use Rattle.acgrep.specs.declared.print.Place.{Place}
@@ -61,12 +64,12 @@ asked_numbered Nothing asked is = is
 
 -- a coloured line is what is written of a line where that is asked for
 pub colored_shows : (p : Patterns) (job : Job) (place : Place) (old new : Option (List ℕ)) (line : List ℕ) → job.shown ≡ Lines → (job.style.color && not job.invert) ≡ true
-    → WritesColored old new p job.style place line → WritesLine p job place old new line
+    → WritesColored old new p (asks_alone job.fit) job.style place line → WritesLine p job place old new line
 colored_shows p job place old new line lines colored writes =
     let bytes = colored_line_by job.style place line writes.matches in (
       bytes,
-      subst (λ (shown : Shown). ShowsBy p shown job.invert job.style place line bytes) (sym lines)
-          (subst (λ (b : Bool). LineOf p b job.style place line bytes) (sym colored) (writes.matches, writes.found, refl)),
+      subst (λ (shown : Shown). ShowsBy p shown (asks_alone job.fit) job.invert job.style place line bytes) (sym lines)
+          (subst (λ (b : Bool). LineOf p (asks_alone job.fit) b job.style place line bytes) (sym colored) (writes.matches, writes.found, refl)),
       writes.written,
     )
 
@@ -96,24 +99,24 @@ place_same a b lines bytes = ap (λ (n : ℕ). place_behind n a.bytes) lines ∙
 start_same : (job : Job) (a b : Place) → SamePlace job a b → head_of job.style (line_number_at a) a.bytes ≡ head_of job.style (line_number_at b) b.bytes
 start_same job a b same = same_head job a b a.bytes same ∙ ap (λ (n : ℕ). head_of job.style (line_number_at b) n) same.bytes
 
-line_same : (p : Patterns) (colored : Bool) (job : Job) (a b : Place) (line bytes : List ℕ) → SamePlace job a b
-    → LineOf p colored job.style a line bytes → LineOf p colored job.style b line bytes
-line_same p true job a b line bytes same (ms, finds, is) = (ms, finds, is ∙ ap (λ (head : List ℕ). head ++ (colored_from line 0 ms ++ codes "\n")) (start_same job a b same))
-line_same p false job a b line bytes same is = is ∙ ap (λ (head : List ℕ). head ++ (line ++ codes "\n")) (start_same job a b same)
+line_same : (p : Patterns) (alone colored : Bool) (job : Job) (a b : Place) (line bytes : List ℕ) → SamePlace job a b
+    → LineOf p alone colored job.style a line bytes → LineOf p alone colored job.style b line bytes
+line_same p alone true job a b line bytes same (ms, finds, is) = (ms, finds, is ∙ ap (λ (head : List ℕ). head ++ (colored_from line 0 ms ++ codes "\n")) (start_same job a b same))
+line_same p alone false job a b line bytes same is = is ∙ ap (λ (head : List ℕ). head ++ (line ++ codes "\n")) (start_same job a b same)
 
-pub by_same : (p : Patterns) (shown : Shown) (invert : Bool) (job : Job) (a b : Place) (line bytes : List ℕ)
+pub by_same : (p : Patterns) (shown : Shown) (alone invert : Bool) (job : Job) (a b : Place) (line bytes : List ℕ)
     → (is_numbered shown job.style.number ≡ true → a.lines ≡ b.lines) → SamePlace job a b
-    → ShowsBy p shown invert job.style a line bytes → ShowsBy p shown invert job.style b line bytes
-by_same p Lines invert job a b line bytes counted same shows = line_same p (job.style.color && not invert) job a b line bytes same shows
-by_same p Matches true job a b line bytes counted same shows = shows
-by_same p Matches false job a b line bytes counted same (ms, finds, is) = (ms, finds, is ∙ matches_same job a b line ms same)
-by_same p Objects true job a b line bytes counted same shows = shows
-by_same p Objects false job a b line bytes counted same (ms, finds, is) =
+    → ShowsBy p shown alone invert job.style a line bytes → ShowsBy p shown alone invert job.style b line bytes
+by_same p Lines alone invert job a b line bytes counted same shows = line_same p alone (job.style.color && not invert) job a b line bytes same shows
+by_same p Matches alone true job a b line bytes counted same shows = shows
+by_same p Matches alone false job a b line bytes counted same (ms, finds, is) = (ms, finds, is ∙ matches_same job a b line ms same)
+by_same p Objects alone true job a b line bytes counted same shows = shows
+by_same p Objects alone false job a b line bytes counted same (ms, finds, is) =
     (ms, finds, is ∙ ap (λ (place : Place). objects_by job.style place ms) (place_same a b (counted refl) same.bytes))
-by_same p Count invert job a b line bytes counted same shows = shows
-by_same p Names invert job a b line bytes counted same shows = shows
-by_same p Lacking invert job a b line bytes counted same shows = shows
-by_same p Nothing invert job a b line bytes counted same shows = shows
+by_same p Count alone invert job a b line bytes counted same shows = shows
+by_same p Names alone invert job a b line bytes counted same shows = shows
+by_same p Lacking alone invert job a b line bytes counted same shows = shows
+by_same p Nothing alone invert job a b line bytes counted same shows = shows
 
 -- lines tell the same from places that are the same
 pub tells_same : (p : Patterns) (job : Job) (ls : List (List ℕ)) (a b : Place) (count : ℕ) (bytes : List ℕ) (total : ℕ) → SamePlace job a b
@@ -128,7 +131,7 @@ tells_same p job (line ∷ rest) a b count bytes total same (inr (goes, inl (sel
         (
           shown,
           more,
-          by_same p job.shown job.invert job a b line shown same.lines same shows,
+          by_same p job.shown (asks_alone job.fit) job.invert job a b line shown same.lines same shows,
           tells_same p job rest (after_line a line) (after_line b line) (one_more count) more total (same_line job a b line same) behind,
           is,
         ),
@@ -189,23 +192,24 @@ tells_full p job ls ms place count total bytes full told =
     subst (λ (l : List ℕ). TellsOfLines p job place count (ls ++ ms) l total) (append-nil bytes)
     (tells_append p job ls ms place count total total bytes [] told (full_tells p job ms (after_lines place ls) total full))
 
--- where no pattern occurs none is the whole line either
-pub none_matches : (p : Patterns) (whole : Bool) (line : List ℕ) → HasNone p line → DoesNotMatch p whole line
-none_matches p true line none = λ m occurs start end. none m occurs
-none_matches p false line none = none
+-- where no pattern occurs none stands alone either, nor is the whole line
+pub none_matches : (p : Patterns) (fit : Fit) (line : List ℕ) → HasNone p line → DoesNotMatch p fit line
+none_matches p AnyPart line none = none
+none_matches p WholeWord line none = λ m alone. none m alone.occurs
+none_matches p WholeLine line none = λ m occurs start end. none m occurs
 
 -- a line is selected by whether it matches
-pub selected_by : (p : Patterns) (whole invert matched : Bool) (line : List ℕ) → IsMatched p whole line matched → selects matched invert ≡ true → IsSelected p whole invert line
-selected_by p whole false true line is selects = is
-selected_by p whole false false line is selects = absurd (cc)
-selected_by p whole true true line is selects = absurd (cc)
-selected_by p whole true false line is selects = is
+pub selected_by : (p : Patterns) (fit : Fit) (invert matched : Bool) (line : List ℕ) → IsMatched p fit line matched → selects matched invert ≡ true → IsSelected p fit invert line
+selected_by p fit false true line is selects = is
+selected_by p fit false false line is selects = absurd (cc)
+selected_by p fit true true line is selects = absurd (cc)
+selected_by p fit true false line is selects = is
 
-pub passed_by : (p : Patterns) (whole invert matched : Bool) (line : List ℕ) → IsMatched p whole line matched → selects matched invert ≡ false → IsPassedOver p whole invert line
-passed_by p whole false true line is passes = absurd (cc)
-passed_by p whole false false line is passes = is
-passed_by p whole true true line is passes = is
-passed_by p whole true false line is passes = absurd (cc)
+pub passed_by : (p : Patterns) (fit : Fit) (invert matched : Bool) (line : List ℕ) → IsMatched p fit line matched → selects matched invert ≡ false → IsPassedOver p fit invert line
+passed_by p fit false true line is passes = absurd (cc)
+passed_by p fit false false line is passes = is
+passed_by p fit true true line is passes = is
+passed_by p fit true false line is passes = absurd (cc)
 
 -- where no pattern occurs in any line, and such lines are not selected, nothing is written
 tells_passed : (p : Patterns) (job : Job) (ls : List (List ℕ)) (place : Place) (count : ℕ) → job.invert ≡ false → EachLine (HasNone p) ls → TellsOfLines p job place count ls [] count
@@ -215,13 +219,13 @@ tells_passed p job (line ∷ rest) place count plain (none, each) =
       | inl full ↦ inl (full, refl, refl)
       | inr goes ↦ inr (
         goes,
-        inr (subst (λ (b : Bool). MatchBool b (DoesMatch p job.whole line) (DoesNotMatch p job.whole line)) (sym plain) (none_matches p job.whole line none), tells_passed p job rest (after_line place line) count plain each),
+        inr (subst (λ (b : Bool). MatchBool b (DoesMatch p job.fit line) (DoesNotMatch p job.fit line)) (sym plain) (none_matches p job.fit line none), tells_passed p job rest (after_line place line) count plain each),
       )
     ]
 
 module _ (p : Patterns) (job : Job) where
   -- a line that is selected
-  pub one_selected : (before after : State) (old new : Option (List ℕ)) (line : List ℕ) → IsSelected p job.whole job.invert line → after.selected ≡ next_count job.most before.selected
+  pub one_selected : (before after : State) (old new : Option (List ℕ)) (line : List ℕ) → IsSelected p job.fit job.invert line → after.selected ≡ next_count job.most before.selected
       → WritesNext p job before old new line → TellsLines p job before after old new (line ∷ [])
   one_selected before after old new line selected counted writes =
       elim (cases_Bool (is_full job.most before.selected)) [
@@ -244,7 +248,7 @@ module _ (p : Patterns) (job : Job) where
       ]
 
   -- a line that is not
-  pub one_passed : (before after : State) (old new : Option (List ℕ)) (line : List ℕ) → IsPassedOver p job.whole job.invert line → after.selected ≡ before.selected
+  pub one_passed : (before after : State) (old new : Option (List ℕ)) (line : List ℕ) → IsPassedOver p job.fit job.invert line → after.selected ≡ before.selected
       → new ≡ old → TellsLines p job before after old new (line ∷ [])
   one_passed before after old new line passed counted unwritten = record {
     bytes = [];
@@ -348,8 +352,8 @@ pub passing_step : (p : Patterns) (job : Job) (a b c : State) (x y z : Option (L
     → c.place ≡ after_line b.place line → c.selected ≡ next_count job.most b.selected → WritesNext p job b y z line → Passing p job a b x y text rest → Passing p job a c x z text left
 passing_step p job a b c x y z text rest line left invert first placed counted writes so_far =
     let each : EachLine (HasNone p) (line ∷ lines left) = subst (EachLine (HasNone p)) first so_far.each in
-    let selected : IsSelected p job.whole job.invert line =
-    subst (λ (b : Bool). MatchBool b (DoesNotMatch p job.whole line) (DoesMatch p job.whole line)) (sym invert) (none_matches p job.whole line each.0) in
+    let selected : IsSelected p job.fit job.invert line =
+    subst (λ (b : Bool). MatchBool b (DoesNotMatch p job.fit line) (DoesMatch p job.fit line)) (sym invert) (none_matches p job.fit line each.0) in
     let there : SamePlace job b.place (after_lines a.place so_far.searched) = subst (λ (place : Place). SamePlace job b.place place) so_far.placed (same_place job b.place) in
     record {
       searched = so_far.searched ++ (line ∷ []);

@@ -5,6 +5,8 @@ use Rattle.aho_core.specs.Bytes.{IsSameWord}
 use Rattle.aho_core.specs.Patterns.{Patterns, pattern_at}
 use Rattle.acgrep.specs.Runs.{selects_none}
 use Rattle.acgrep.specs.Written.{HasMatch, IsPassedOver}
+use Rattle.acgrep.specs.declared.options.Fit.{Fit}
+use Rattle.acgrep.specs.declared.options.Fit.TheVariants.{AnyPart, WholeWord, WholeLine}
 use Rattle.acgrep.proofs.LineLists.{take_zero}
 use Rattle.acgrep.proofs.Tellings.{none_matches}
 
@@ -27,10 +29,11 @@ empty_matches p words are line =
     )
 
 -- where no line is selected each is passed over
-pub none_selected : (p : Patterns) (whole invert : Bool) (words : List (List ℕ)) → p.words ≡ words → selects_none whole invert words ≡ true → (line : List ℕ) → IsPassedOver p whole invert line
-none_selected p whole false [] are is line = none_matches p whole line (λ m occurs. absurd (omega (arith, occurs.numbered, ap length are)))
-none_selected p whole false (word ∷ words) are is line = absurd (cc)
-none_selected p whole true [] are is line = absurd (cc)
-none_selected p true true (word ∷ words) are is line = absurd (cc)
-none_selected p false true ([] ∷ words) are is line = empty_matches p words are line
-none_selected p false true ((byte ∷ bytes) ∷ words) are is line = absurd (cc)
+pub none_selected : (p : Patterns) (fit : Fit) (invert : Bool) (words : List (List ℕ)) → p.words ≡ words → selects_none fit invert words ≡ true → (line : List ℕ) → IsPassedOver p fit invert line
+none_selected p fit false [] are is line = none_matches p fit line (λ m occurs. absurd (omega (arith, occurs.numbered, ap length are)))
+none_selected p fit false (word ∷ words) are is line = absurd (cc)
+none_selected p fit true [] are is line = absurd (cc)
+none_selected p WholeWord true (word ∷ words) are is line = absurd (cc)
+none_selected p WholeLine true (word ∷ words) are is line = absurd (cc)
+none_selected p AnyPart true ([] ∷ words) are is line = empty_matches p words are line
+none_selected p AnyPart true ((byte ∷ bytes) ∷ words) are is line = absurd (cc)

@@ -11,6 +11,7 @@ use Rattle.aho_core.specs.Search.{plain_search}
 use Rattle.aho_core.specs.declared.search.MatchKind.{MatchKind}
 use Rattle.aho_core.specs.declared.search.MatchKind.TheVariants.{LeftmostLongest}
 use Rattle.acgrep.specs.Written.{IsMatched}
+use Rattle.acgrep.specs.declared.options.Fit.TheVariants.{WholeLine}
 
 module _ (p : Patterns) (line : List ℕ) (m : Occurrence) (kind : p.kind ≡ LeftmostLongest) (best : IsAnswer p (plain_search line) (Some m)) where
   -- what is the whole line begins where the best begins, and ends where it ends
@@ -29,7 +30,7 @@ module _ (p : Patterns) (line : List ℕ) (m : Occurrence) (kind : p.kind ≡ Le
       ]
 
   -- so it tells
-  pub whole_told : (told : Bool) → told ≡ ((m.start == 0) && (m.end == length line)) → IsMatched p true line told
+  pub whole_told : (told : Bool) → told ≡ ((m.start == 0) && (m.end == length line)) → IsMatched p WholeLine line told
   whole_told true is =
       let both = and_parts (m.start == 0) (m.end == length line) (sym is) in
       (m, best.0, eqb-true m.start 0 both.0, eqb-true m.end (length line) both.1)

@@ -13,7 +13,7 @@ use Rattle.acgrep.specs.declared.long.Valued.{Valued}
 use Rattle.acgrep.specs.declared.long.Valued.TheVariants.{Regexp, PatternFile, Kind, Offset, FirstLine, MaxCount}
 use Rattle.acgrep.specs.declared.options.Color.{Color}
 use Rattle.acgrep.specs.declared.options.Switch.{Switch}
-use Rattle.acgrep.specs.declared.options.Switch.TheVariants.{IgnoreCase, MatchCase, Invert, WholeLines, Counts, Numbers, OnlyMatching, Offsets, OnlyNames, OnlyLacking, NullNames, Quiet, Json, NoName, WithName, NoMatchOk, NoMessages, Help, Version, Same}
+use Rattle.acgrep.specs.declared.options.Switch.TheVariants.{IgnoreCase, MatchCase, Invert, WholeWords, WholeLines, Counts, Numbers, OnlyMatching, Offsets, OnlyNames, OnlyLacking, NullNames, Quiet, Json, NoName, WithName, NoMatchOk, NoMessages, Help, Version, Same}
 use Rattle.acgrep.specs.declared.arguments.Awaited.{Awaited}
 use Rattle.acgrep.specs.declared.arguments.Awaited.TheVariants.{Fresh, Argument, Operands}
 use Rattle.acgrep.specs.declared.arguments.Refusal.{Refusal}
@@ -21,6 +21,8 @@ use Rattle.acgrep.specs.declared.arguments.Refusal.TheVariants.{Wrong, OutOfMemo
 use Rattle.acgrep.specs.declared.arguments.Source.{Source}
 use Rattle.acgrep.specs.declared.arguments.Source.TheVariants.{Text, File}
 use Rattle.acgrep.specs.declared.options.Color.TheVariants.{Auto, Always, Never}
+use Rattle.acgrep.specs.declared.options.Fit.{Fit}
+use Rattle.acgrep.specs.declared.options.Fit.TheVariants.{AnyPart, WholeWord, WholeLine}
 use Rattle.acgrep.specs.declared.options.Flags.{Flags}
 use Rattle.acgrep.specs.declared.options.Shown.{Shown}
 use Rattle.acgrep.specs.declared.options.Shown.TheVariants.{Lines, Matches, Objects, Count, Names, Lacking, Nothing}
@@ -53,6 +55,7 @@ abbrev pub switch_by : ℕ → Option Switch
 switch_by letter =
     if letter == 105 || letter == 121 then Some IgnoreCase
     else if letter == 118 then Some Invert
+    else if letter == 119 then Some WholeWords
     else if letter == 120 then Some WholeLines
     else if letter == 99 then Some Counts
     else if letter == 110 then Some Numbers
@@ -74,6 +77,7 @@ abbrev pub switched : Switch → Flags → Flags
 switched IgnoreCase flags = record flags { ignore_case = true }
 switched MatchCase flags = record flags { ignore_case = false }
 switched Invert flags = record flags { invert = true }
+switched WholeWords flags = record flags { word = true }
 switched WholeLines flags = record flags { whole = true }
 switched Counts flags = record flags { count = true }
 switched Numbers flags = record flags { number = true }
@@ -234,6 +238,7 @@ abbrev pub no_flags : Flags
 no_flags = record {
   ignore_case = false;
   invert = false;
+  word = false;
   whole = false;
   count = false;
   number = false;
@@ -278,6 +283,10 @@ shown_by flags =
     else if flags.json then Objects
     else if flags.only_matching then Matches
     else Lines
+
+-- what a match has to be: of `-w` and `-x` the latter goes first
+abbrev pub fit_by : Flags → Fit
+fit_by flags = if flags.whole then WholeLine else if flags.word then WholeWord else AnyPart
 
 -- where it fails the arguments are wrong by this, or memory ran out
 abbrev pub FailsBy : {A T : Type 0} → Option A → Result T Refusal → Type 0

@@ -12,6 +12,7 @@ use Rattle.acgrep.specs.declared.files.Files.{Files}
 use Rattle.acgrep.specs.declared.files.Outcome.{Outcome}
 use Rattle.acgrep.specs.declared.files.Outcome.TheVariants.{Searched, Unread, Stopped}
 use Rattle.acgrep.specs.declared.files.Seen.{Seen}
+use Rattle.acgrep.specs.declared.options.Fit.{Fit}
 use Rattle.acgrep.specs.declared.options.Shown.{Shown}
 use Rattle.acgrep.specs.declared.options.Shown.TheVariants.{Lines, Matches, Objects, Count, Names, Lacking, Nothing}
 use Rattle.acgrep.specs.declared.print.Style.{Style}
@@ -27,8 +28,8 @@ SomeLine P [] = ⊥
 SomeLine P (line ∷ rest) = P line ⊎ SomeLine P rest
 
 -- whether one of these lines is selected
-abbrev pub IsAny : Patterns → (whole invert : Bool) → List (List ℕ) → Bool → Type 0
-IsAny p whole invert ls any = MatchBool any (SomeLine (IsSelected p whole invert) ls) (EachLine (IsPassedOver p whole invert) ls)
+abbrev pub IsAny : Patterns → Fit → (invert : Bool) → List (List ℕ) → Bool → Type 0
+IsAny p fit invert ls any = MatchBool any (SomeLine (IsSelected p fit invert) ls) (EachLine (IsPassedOver p fit invert) ls)
 
 -- behind the lines of a file stands their count where it is asked for
 abbrev pub count_if : Shown → Style → ℕ → List ℕ
@@ -69,7 +70,7 @@ TellsBy p job Nothing text any bytes = bytes ≡ []
 pub record SearchesFile (p : Patterns) (job : Job) (known held held' : Option (List ℕ)) (any : Bool) : Type 0 where
   pub text : List ℕ
   pub of : IfSome known (λ bytes. text ≡ bytes)
-  pub selected : IsAny p job.whole job.invert (lines text) any
+  pub selected : IsAny p job.fit job.invert (lines text) any
   pub bytes : List ℕ
   pub tells : TellsBy p job job.shown text any bytes
   pub written : Appends held held' bytes
@@ -93,7 +94,7 @@ pub record SearchesReader (p : Patterns) (job : Job) (left left' held held' : Op
 pub record IsNamed (job : Job) (bytes : List ℕ) (named : Job) : Type 0 where
   pub shown : named.shown ≡ job.shown
   pub invert : named.invert ≡ job.invert
-  pub whole : named.whole ≡ job.whole
+  pub fit : named.fit ≡ job.fit
   pub name : named.style.name.now ≡ bytes
   pub with_name : named.style.with_name ≡ job.style.with_name
   pub null : named.style.null ≡ job.style.null
@@ -140,7 +141,7 @@ AreFilesSearched p job holds (name ∷ names) left left' held held' any =
 
 -- a file of these bytes, where they are known, has a selected line
 abbrev pub HasSelected : Patterns → Job → Option (List ℕ) → Type 0
-HasSelected p job known = (text : List ℕ) × IfSome known (λ bytes. text ≡ bytes) × SomeLine (IsSelected p job.whole job.invert) (lines text)
+HasSelected p job known = (text : List ℕ) × IfSome known (λ bytes. text ≡ bytes) × SomeLine (IsSelected p job.fit job.invert) (lines text)
 
 -- only standard input is read from the input
 abbrev pub LeavesInput : List ℕ → (left left' : Option (List ℕ)) → Type 0

@@ -1,3 +1,4 @@
+pub mod Alone
 pub mod Arguments
 pub mod Files
 pub mod Filled

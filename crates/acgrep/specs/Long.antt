@@ -7,7 +7,7 @@ use Rattle.acgrep.specs.declared.long.Found.TheVariants.{Unknown, Begun, Several
 use Rattle.acgrep.specs.declared.long.Long.{Long}
 use Rattle.acgrep.specs.declared.long.Long.TheVariants.{Plain, Takes, When}
 use Rattle.acgrep.specs.declared.long.Valued.TheVariants.{Regexp, PatternFile, Kind, Offset, FirstLine, MaxCount}
-use Rattle.acgrep.specs.declared.options.Switch.TheVariants.{IgnoreCase, MatchCase, Invert, WholeLines, Counts, Numbers, OnlyMatching, Offsets, OnlyNames, OnlyLacking, NullNames, Quiet, Json, NoName, WithName, NoMatchOk, NoMessages, Help, Version, Same}
+use Rattle.acgrep.specs.declared.options.Switch.TheVariants.{IgnoreCase, MatchCase, Invert, WholeWords, WholeLines, Counts, Numbers, OnlyMatching, Offsets, OnlyNames, OnlyLacking, NullNames, Quiet, Json, NoName, WithName, NoMatchOk, NoMessages, Help, Version, Same}
 
 -- an option's long name, and what it means
 pub record Name : Type 0 where
@@ -24,6 +24,7 @@ pattern_options = named (codes "regexp") (Takes Regexp)
     ∷ named (codes "ignore-case") (Plain IgnoreCase)
     ∷ named (codes "no-ignore-case") (Plain MatchCase)
     ∷ named (codes "invert-match") (Plain Invert)
+    ∷ named (codes "word-regexp") (Plain WholeWords)
     ∷ named (codes "line-regexp") (Plain WholeLines)
     ∷ named (codes "kind") (Takes Kind)
     ∷ named (codes "fixed-strings") (Plain Same)

@@ -1,13 +1,12 @@
 -- What is written of a match as a JSON object.
-use Rattle.std.specs.Prelude.{ℕ, ◌+◌, ◌/◌, ◌%◌, ◌==◌, nat_lt, List, [], ◌∷◌, ◌++◌, Option, None, Result, OnOk, codes, decimal, if◌then◌else◌}
+use Rattle.std.specs.Prelude.{ℕ, ◌+◌, ◌/◌, ◌%◌, ◌==◌, nat_lt, Bool, List, [], ◌∷◌, ◌++◌, Option, Result, OnOk, codes, decimal, if◌then◌else◌}
 use Rattle.std.specs.Io.KnownBytes.{Appends}
 use Rattle.std.specs.List.{flat_map}
 use Rattle.std.specs.declared.io.traits.Write.{Ghosts as Writers}
-use Rattle.aho_core.specs.Iteration.{AreFinds}
 use Rattle.aho_core.specs.Occurrence.{Occurrence}
 use Rattle.aho_core.specs.Patterns.{Patterns}
-use Rattle.aho_core.specs.Search.{plain_search}
 use Rattle.aho_automaton.specs.declared.automaton.Automaton.{Ghosts as Automata}
+use Rattle.acgrep.specs.Alone.{AreShownOf}
 use Rattle.acgrep.specs.Printed.{line_number_at, offset_at}
 use Rattle.acgrep.specs.declared.print.Place.{Place}
 use Rattle.acgrep.specs.declared.print.Style.{Style}
@@ -47,13 +46,13 @@ abbrev pub objects_by : Style → Place → List Occurrence → List ℕ
 objects_by style place ms = flat_map (λ m. object_by style place m) ms
 
 -- the matches of a line are written as objects, one after another, and nothing else
-pub record WritesObjects (old new : Option (List ℕ)) (p : Patterns) (style : Style) (place : Place) (line : List ℕ) : Type 0 where
+pub record WritesObjects (old new : Option (List ℕ)) (p : Patterns) (alone : Bool) (style : Style) (place : Place) (line : List ℕ) : Type 0 where
   pub matches : List Occurrence
-  pub found : AreFinds p (plain_search line) None matches
+  pub found : AreShownOf p alone line matches
   pub written : Appends old new (objects_by style place matches)
 
 -- where a call does not fail the matches of the automaton's patterns were written so
-module _ {A W : Type 0} (automata : Automata A) (writers : Writers W) (automaton : A) (style : Style) (place : Place) (line : List ℕ) (old new : W) where
+module _ {A W : Type 0} (automata : Automata A) (writers : Writers W) (automaton : A) (alone : Bool) (style : Style) (place : Place) (line : List ℕ) (old new : W) where
   abbrev pub PutsObjects : {T E : Type 0} → Result T E → Type 0
   PutsObjects result = (p : Patterns) → automata.is_of automaton p
-      → OnOk result (WritesObjects (writers.contents old) (writers.contents new) p style place line)
+      → OnOk result (WritesObjects (writers.contents old) (writers.contents new) p alone style place line)

@@ -5,7 +5,7 @@ use Rattle.aho_core.specs.Patterns.{Patterns}
 use Rattle.aho_core.specs.declared.search.MatchKind.{MatchKind}
 use Rattle.aho_core.specs.declared.search.MatchKind.TheVariants.{LeftmostLongest}
 use Rattle.programs.specs.Arguments.{texts}
-use Rattle.acgrep.specs.Arguments.{Origin, Said, origin_of, said_by, shown_by}
+use Rattle.acgrep.specs.Arguments.{Origin, Said, fit_by, origin_of, said_by, shown_by}
 use Rattle.programs.specs.Names.{is_input, or_input}
 use Rattle.acgrep.specs.Files.{AreFilesBegun, AreSearchedOr}
 use Rattle.acgrep.specs.Lines.{lines}
@@ -14,6 +14,8 @@ use Rattle.acgrep.specs.Written.{IsPassedOver}
 use Rattle.acgrep.specs.declared.arguments.Source.{Source}
 use Rattle.acgrep.specs.declared.options.Color.{Color}
 use Rattle.acgrep.specs.declared.options.Color.TheVariants.{Auto, Always, Never}
+use Rattle.acgrep.specs.declared.options.Fit.{Fit}
+use Rattle.acgrep.specs.declared.options.Fit.TheVariants.{AnyPart, WholeWord, WholeLine}
 use Rattle.acgrep.specs.declared.options.Flags.{Flags}
 use Rattle.acgrep.specs.declared.print.Place.{Place}
 use Rattle.acgrep.specs.declared.select.Job.{Job}
@@ -81,13 +83,19 @@ abbrev pub are_empty : List (List ℕ) → Bool
 are_empty [] = true
 are_empty (word ∷ words) = is_none word && are_empty words
 
+-- whether any match is enough
+abbrev pub takes_any : Fit → Bool
+takes_any AnyPart = true
+takes_any WholeWord = false
+takes_any WholeLine = false
+
 -- whether no line is selected, whatever it holds: there is no pattern, or under `invert` there are empty ones alone, and they occur in
 -- each line
-abbrev pub selects_none : (whole invert : Bool) → List (List ℕ) → Bool
-selects_none whole false [] = true
-selects_none whole false (word ∷ words) = false
-selects_none whole true [] = false
-selects_none whole true (word ∷ words) = not whole && are_empty (word ∷ words)
+abbrev pub selects_none : Fit → (invert : Bool) → List (List ℕ) → Bool
+selects_none fit false [] = true
+selects_none fit false (word ∷ words) = false
+selects_none fit true [] = false
+selects_none fit true (word ∷ words) = takes_any fit && are_empty (word ∷ words)
 
 -- at most no line is asked for
 abbrev pub asks_none : Option ℕ → Bool
@@ -101,13 +109,13 @@ words_sought flags words = if asks_none flags.most then [] else words
 abbrev pub inverts : Flags → Bool
 inverts flags = flags.invert && not (asks_none flags.most)
 
--- where whole lines are asked for, the longest match is searched for
+-- where matches that stand alone or whole lines are asked for, the longest match is searched for
 abbrev pub kind_sought : Flags → MatchKind
-kind_sought flags = if flags.whole then LeftmostLongest else flags.kind
+kind_sought flags = if takes_any (fit_by flags) then flags.kind else LeftmostLongest
 
 -- whether that no line is selected is known without reading a file, and no file is to be named for it
 abbrev pub knows_none : Flags → List (List ℕ) → Bool
-knows_none flags words = (flags.quiet || not flags.lacking) && selects_none flags.whole (inverts flags) words
+knows_none flags words = (flags.quiet || not flags.lacking) && selects_none (fit_by flags) (inverts flags) words
 
 -- whether matches are coloured
 abbrev pub is_colored : Color → Bool → Bool
@@ -123,7 +131,7 @@ first_place flags = record { lines = (flags.first_line + (2 ^ 64 - 1)) % 2 ^ 64;
 pub record IsJob (flags : Flags) (terminal : Bool) (count : ℕ) (job : Job) : Type 0 where
   pub shown : job.shown ≡ shown_by flags
   pub invert : job.invert ≡ inverts flags
-  pub whole : job.whole ≡ flags.whole
+  pub fit : job.fit ≡ fit_by flags
   -- where nothing is said of names they stand before the lines of several files
   pub with_name : job.style.with_name ≡ unwrap_or flags.with_name (nat_lt 1 count)
   pub null : job.style.null ≡ flags.null
@@ -144,8 +152,8 @@ pub record SearchesWords (holds : List ℕ → Option (List ℕ)) (terminal : Bo
   pub searched : AreSearchedOr (patterns_asked (kind_sought flags) flags.ignore_case words) job holds (or_input names) left left' held held' status
 
 -- no line is selected, whatever it holds: nothing was read and nothing written, and the status tells it
-pub record SelectsNoLine (p : Patterns) (whole invert : Bool) (left left' held held' : Option (List ℕ)) (status : ℕ) : Type 0 where
-  pub passed : (line : List ℕ) → IsPassedOver p whole invert line
+pub record SelectsNoLine (p : Patterns) (fit : Fit) (invert : Bool) (left left' held held' : Option (List ℕ)) (status : ℕ) : Type 0 where
+  pub passed : (line : List ℕ) → IsPassedOver p fit invert line
   pub unread : left' ≡ left
   pub unwritten : Keeps held held'
   pub none : status ≡ 1
@@ -153,7 +161,7 @@ pub record SelectsNoLine (p : Patterns) (whole invert : Bool) (left left' held h
 -- these words were searched for so, or no line is selected by them
 abbrev pub AreSought : (List ℕ → Option (List ℕ)) → Bool → Flags → (words names : List (List ℕ)) → (left left' held held' : Option (List ℕ)) → ℕ → Type 0
 AreSought holds terminal flags words names left left' held held' status =
-    MatchBool (knows_none flags words) (SelectsNoLine (patterns_asked (kind_sought flags) flags.ignore_case words) flags.whole (inverts flags) left left' held held' status)
+    MatchBool (knows_none flags words) (SelectsNoLine (patterns_asked (kind_sought flags) flags.ignore_case words) (fit_by flags) (inverts flags) left left' held held' status)
     (SearchesWords holds terminal flags words names left left' held held' status)
 
 -- the patterns of these sources were read, and then searched for in the files of these names

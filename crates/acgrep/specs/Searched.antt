@@ -45,11 +45,11 @@ module _ {A W : Type 0} (automata : Automata A) (sinks : SinkGhosts W) (automato
 
   -- of a line of which it is known whether it matches
   abbrev pub TellsLineBy : {T E : Type 0} → Bool → List ℕ → Result T E → Type 0
-  TellsLineBy matched line result = (p : Patterns) → automata.is_of automaton p → IsMatched p job.whole line matched
+  TellsLineBy matched line result = (p : Patterns) → automata.is_of automaton p → IsMatched p job.fit line matched
       → OnOk result (TellsLines p job before after (sinks.taken old) (sinks.taken new) (line ∷ []))
 
   abbrev pub BeginsOneBy : {T E : Type 0} → Bool → List ℕ → Result T E → Type 0
-  BeginsOneBy matched line result = (p : Patterns) → automata.is_of automaton p → IsMatched p job.whole line matched
+  BeginsOneBy matched line result = (p : Patterns) → automata.is_of automaton p → IsMatched p job.fit line matched
       → OnErr result (BeginsLines p job before after.selected (sinks.taken old) (sinks.taken new) (line ∷ []))
 
   -- of a line in which a pattern occurs
@@ -63,7 +63,7 @@ module _ {A W : Type 0} (automata : Automata A) (sinks : SinkGhosts W) (automato
 
   -- of a line that is selected
   abbrev pub BeginsSelectedBy : {T E : Type 0} → List ℕ → Result T E → Type 0
-  BeginsSelectedBy line result = (p : Patterns) → automata.is_of automaton p → IsSelected p job.whole job.invert line
+  BeginsSelectedBy line result = (p : Patterns) → automata.is_of automaton p → IsSelected p job.fit job.invert line
       → OnErr result (BeginsLines p job before after.selected (sinks.taken old) (sinks.taken new) (line ∷ []))
 
   -- of lines without a match

@@ -9,6 +9,7 @@ use Rattle.aho_core.specs.declared.search.Span.{Span}
 use Rattle.memchr.specs.Find.{Nowhere}
 use Rattle.acgrep.specs.Lines.{IsNewline}
 use Rattle.acgrep.specs.Written.{HasNone}
+use Rattle.acgrep.specs.declared.options.Fit.TheVariants.{AnyPart}
 use Rattle.acgrep.specs.declared.select.Job.{Job}
 use Rattle.acgrep.specs.declared.select.State.{State}
 
@@ -53,4 +54,4 @@ FindsNone p before after text =
 -- where lines in which a pattern occurs are selected and none was, nothing occurs in a text that is not empty
 abbrev pub IsNoneSelected : Patterns → Job → List ℕ → State → Type 0
 IsNoneSelected p job text state =
-    job.invert ≡ false → job.whole ≡ false → 0 < length text → state.selected ≡ 0 → (m : Occurrence) → OccursIn p (plain_search text) m → ⊥
+    job.invert ≡ false → job.fit ≡ AnyPart → 0 < length text → state.selected ≡ 0 → (m : Occurrence) → OccursIn p (plain_search text) m → ⊥

@@ -1,14 +1,16 @@
 -- What is written of the lines of a text, one after another.
 use Rattle.std.specs.Prelude.{◌≡◌, ◌⊎◌, ⊤, ℕ, ◌+◌, ◌-◌, ◌%◌, ◌^◌, ◌<◌, ◌≤◌, min, Bool, true, false, not, ◌&&◌, List, [], ◌∷◌, ◌++◌, Option, None, length, drop, MatchBool, Some, nat_le, nat_lt, if◌then◌else◌}
 use Rattle.std.specs.Io.KnownBytes.{Appends}
-use Rattle.aho_core.specs.Iteration.{AreFinds}
 use Rattle.aho_core.specs.Occurrence.{Occurrence}
 use Rattle.aho_core.specs.Occurs.{OccursIn}
 use Rattle.aho_core.specs.Patterns.{Patterns}
 use Rattle.aho_core.specs.Search.{plain_search}
+use Rattle.acgrep.specs.Alone.{AreShownOf, IsAloneFrom, asks_alone}
 use Rattle.acgrep.specs.Lines.{IsNewline, lines}
 use Rattle.acgrep.specs.Objects.{objects_by}
 use Rattle.acgrep.specs.Printed.{colored_line_by, line_by, matches_by}
+use Rattle.acgrep.specs.declared.options.Fit.{Fit}
+use Rattle.acgrep.specs.declared.options.Fit.TheVariants.{AnyPart, WholeWord, WholeLine}
 use Rattle.acgrep.specs.declared.options.Shown.{Shown}
 use Rattle.acgrep.specs.declared.options.Shown.TheVariants.{Lines, Matches, Objects, Count, Names, Lacking, Nothing}
 use Rattle.acgrep.specs.declared.print.Place.{Place}
@@ -32,24 +34,36 @@ HasWhole p line = (m : Occurrence) × OccursIn p (plain_search line) m × (m.sta
 abbrev pub HasNoWhole : Patterns → List ℕ → Type 0
 HasNoWhole p line = (m : Occurrence) → OccursIn p (plain_search line) m → m.start ≡ 0 → m.end ≡ length line → ⊥
 
--- a line matches where a pattern occurs in it, or where whole lines are asked for, where a pattern is the line
-abbrev pub DoesMatch : Patterns → Bool → List ℕ → Type 0
-DoesMatch p whole line = MatchBool whole (HasWhole p line) (HasMatch p line)
+-- a pattern occurs in a line and stands alone there
+abbrev pub HasAlone : Patterns → List ℕ → Type 0
+HasAlone p line = (m : Occurrence) × IsAloneFrom p line 0 m
 
-abbrev pub DoesNotMatch : Patterns → Bool → List ℕ → Type 0
-DoesNotMatch p whole line = MatchBool whole (HasNoWhole p line) (HasNone p line)
+-- none does
+abbrev pub HasNoneAlone : Patterns → List ℕ → Type 0
+HasNoneAlone p line = (m : Occurrence) → IsAloneFrom p line 0 m → ⊥
+
+-- a line matches where a pattern occurs in it, or where that is asked for, where one stands alone in it or is the line
+abbrev pub DoesMatch : Patterns → Fit → List ℕ → Type 0
+DoesMatch p AnyPart line = HasMatch p line
+DoesMatch p WholeWord line = HasAlone p line
+DoesMatch p WholeLine line = HasWhole p line
+
+abbrev pub DoesNotMatch : Patterns → Fit → List ℕ → Type 0
+DoesNotMatch p AnyPart line = HasNone p line
+DoesNotMatch p WholeWord line = HasNoneAlone p line
+DoesNotMatch p WholeLine line = HasNoWhole p line
 
 -- whether it does
-abbrev pub IsMatched : Patterns → Bool → List ℕ → Bool → Type 0
-IsMatched p whole line matched = MatchBool matched (DoesMatch p whole line) (DoesNotMatch p whole line)
+abbrev pub IsMatched : Patterns → Fit → List ℕ → Bool → Type 0
+IsMatched p fit line matched = MatchBool matched (DoesMatch p fit line) (DoesNotMatch p fit line)
 
 -- a line is selected where it matches, or under `invert` where it does not
-abbrev pub IsSelected : Patterns → (whole invert : Bool) → List ℕ → Type 0
-IsSelected p whole invert line = MatchBool invert (DoesNotMatch p whole line) (DoesMatch p whole line)
+abbrev pub IsSelected : Patterns → Fit → (invert : Bool) → List ℕ → Type 0
+IsSelected p fit invert line = MatchBool invert (DoesNotMatch p fit line) (DoesMatch p fit line)
 
 -- any other line is passed over
-abbrev pub IsPassedOver : Patterns → (whole invert : Bool) → List ℕ → Type 0
-IsPassedOver p whole invert line = MatchBool invert (DoesMatch p whole line) (DoesNotMatch p whole line)
+abbrev pub IsPassedOver : Patterns → Fit → (invert : Bool) → List ℕ → Type 0
+IsPassedOver p fit invert line = MatchBool invert (DoesMatch p fit line) (DoesNotMatch p fit line)
 
 -- whether a line is selected, by whether it matches
 abbrev pub selects : Bool → Bool → Bool
@@ -62,36 +76,36 @@ EachLine P [] = ⊤
 EachLine P (line ∷ rest) = P line × EachLine P rest
 
 -- the matches of a line, as they are written
-abbrev pub MatchesOf : Patterns → Style → Place → List ℕ → List ℕ → Type 0
-MatchesOf p style place line bytes =
-    (ms : List Occurrence) × AreFinds p (plain_search line) None ms × (bytes ≡ matches_by style place line ms)
+abbrev pub MatchesOf : Patterns → Bool → Style → Place → List ℕ → List ℕ → Type 0
+MatchesOf p alone style place line bytes =
+    (ms : List Occurrence) × AreShownOf p alone line ms × (bytes ≡ matches_by style place line ms)
 
 -- the same as objects
-abbrev pub ObjectsOf : Patterns → Style → Place → List ℕ → List ℕ → Type 0
-ObjectsOf p style place line bytes =
-    (ms : List Occurrence) × AreFinds p (plain_search line) None ms × (bytes ≡ objects_by style place ms)
+abbrev pub ObjectsOf : Patterns → Bool → Style → Place → List ℕ → List ℕ → Type 0
+ObjectsOf p alone style place line bytes =
+    (ms : List Occurrence) × AreShownOf p alone line ms × (bytes ≡ objects_by style place ms)
 
 -- the line with its matches in colour
-abbrev pub ColoredOf : Patterns → Style → Place → List ℕ → List ℕ → Type 0
-ColoredOf p style place line bytes =
-    (ms : List Occurrence) × AreFinds p (plain_search line) None ms × (bytes ≡ colored_line_by style place line ms)
+abbrev pub ColoredOf : Patterns → Bool → Style → Place → List ℕ → List ℕ → Type 0
+ColoredOf p alone style place line bytes =
+    (ms : List Occurrence) × AreShownOf p alone line ms × (bytes ≡ colored_line_by style place line ms)
 
 -- the line, in colour or not
-abbrev pub LineOf : Patterns → Bool → Style → Place → List ℕ → List ℕ → Type 0
-LineOf p colored style place line bytes = MatchBool colored (ColoredOf p style place line bytes) (bytes ≡ line_by style place line)
+abbrev pub LineOf : Patterns → (alone colored : Bool) → Style → Place → List ℕ → List ℕ → Type 0
+LineOf p alone colored style place line bytes = MatchBool colored (ColoredOf p alone style place line bytes) (bytes ≡ line_by style place line)
 
 -- what is written of a selected line: itself, its matches, or nothing; a line that is selected by `invert` has no match
-abbrev pub ShowsBy : Patterns → Shown → Bool → Style → Place → List ℕ → List ℕ → Type 0
-ShowsBy p Lines invert style place line bytes = LineOf p (style.color && not invert) style place line bytes
-ShowsBy p Matches invert style place line bytes = MatchBool invert (bytes ≡ []) (MatchesOf p style place line bytes)
-ShowsBy p Objects invert style place line bytes = MatchBool invert (bytes ≡ []) (ObjectsOf p style place line bytes)
-ShowsBy p Count invert style place line bytes = bytes ≡ []
-ShowsBy p Names invert style place line bytes = bytes ≡ []
-ShowsBy p Lacking invert style place line bytes = bytes ≡ []
-ShowsBy p Nothing invert style place line bytes = bytes ≡ []
+abbrev pub ShowsBy : Patterns → Shown → (alone invert : Bool) → Style → Place → List ℕ → List ℕ → Type 0
+ShowsBy p Lines alone invert style place line bytes = LineOf p alone (style.color && not invert) style place line bytes
+ShowsBy p Matches alone invert style place line bytes = MatchBool invert (bytes ≡ []) (MatchesOf p alone style place line bytes)
+ShowsBy p Objects alone invert style place line bytes = MatchBool invert (bytes ≡ []) (ObjectsOf p alone style place line bytes)
+ShowsBy p Count alone invert style place line bytes = bytes ≡ []
+ShowsBy p Names alone invert style place line bytes = bytes ≡ []
+ShowsBy p Lacking alone invert style place line bytes = bytes ≡ []
+ShowsBy p Nothing alone invert style place line bytes = bytes ≡ []
 
 abbrev pub ShowsLine : Patterns → Job → Place → List ℕ → List ℕ → Type 0
-ShowsLine p job place line bytes = ShowsBy p job.shown job.invert job.style place line bytes
+ShowsLine p job place line bytes = ShowsBy p job.shown (asks_alone job.fit) job.invert job.style place line bytes
 
 -- that is written, and nothing else
 abbrev pub WritesLine : Patterns → Job → Place → Option (List ℕ) → Option (List ℕ) → List ℕ → Type 0
@@ -132,8 +146,8 @@ abbrev pub TellsOfLines : Patterns → Job → Place → ℕ → List (List ℕ)
 TellsOfLines p job place count [] bytes total = (bytes ≡ []) × (total ≡ count)
 TellsOfLines p job place count (line ∷ rest) bytes total =
     ((is_full job.most count ≡ true) × (bytes ≡ []) × (total ≡ count))
-    ⊎ ((is_full job.most count ≡ false) × ((IsSelected p job.whole job.invert line × ((shown : List ℕ) × (more : List ℕ) × ShowsLine p job place line shown × TellsOfLines p job (after_line place line) (one_more count) rest more total × (bytes ≡ shown ++ more)))
-    ⊎ (IsPassedOver p job.whole job.invert line × TellsOfLines p job (after_line place line) count rest bytes total)))
+    ⊎ ((is_full job.most count ≡ false) × ((IsSelected p job.fit job.invert line × ((shown : List ℕ) × (more : List ℕ) × ShowsLine p job place line shown × TellsOfLines p job (after_line place line) (one_more count) rest more total × (bytes ≡ shown ++ more)))
+    ⊎ (IsPassedOver p job.fit job.invert line × TellsOfLines p job (after_line place line) count rest bytes total)))
 
 -- what is asked of a selected line is written, or nothing where so many are selected before it
 abbrev pub WritesNext : Patterns → Job → State → Option (List ℕ) → Option (List ℕ) → List ℕ → Type 0
@@ -216,7 +230,7 @@ pub record BeginsLine (p : Patterns) (job : Job) (place : Place) (old new : Opti
 abbrev pub StartsNext : Patterns → Job → Place → ℕ → List (List ℕ) → List ℕ → Type 0
 StartsNext p job place count [] begun = begun ≡ []
 StartsNext p job place count (line ∷ rest) begun =
-    (begun ≡ []) ⊎ ((is_full job.most count ≡ false) × IsSelected p job.whole job.invert line × StartsLine p job place line begun)
+    (begun ≡ []) ⊎ ((is_full job.most count ≡ false) × IsSelected p job.fit job.invert line × StartsLine p job place line begun)
 
 -- what is told of some first ones of these lines is written, and then no more than a beginning of what is shown of the next;
 -- `count` is how many lines were selected then

@@ -475,7 +475,7 @@ fn job_for<'a>(job: &Job<'_>, name: &'a [u8]) -> Job<'a>
     Job {
         shown: job.shown,
         invert: job.invert,
-        whole: job.whole,
+        fit: job.fit,
         style: Style {
             name,
             with_name: job.style.with_name,

@@ -19,6 +19,8 @@ Patterns:
   -i, -y, --ignore-case ASCII letters are the same in both cases
   --no-ignore-case      they are not: of this and -i the last counts
   -v, --invert-match    select the lines in which no pattern occurs
+  -w, --word-regexp     select the lines of which a pattern is a word: neither
+                        beside it is a letter, a digit or '_'
   -x, --line-regexp     select the lines that are a pattern as a whole
   --kind KIND           which of several matches -o, --json and --color
                         take: longest (the default), first or standard

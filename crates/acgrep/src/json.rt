@@ -1,19 +1,41 @@
 //! A match as a JSON object.
 
 ghost use Rattle.std.specs.Iterator.{IsFinite};
-ghost use Rattle.std.specs.Prelude.{◌≡◌, ◌<◌, ◌++◌, decimal};
+ghost use Rattle.std.specs.Prelude.{◌≡◌, ◌<◌, ◌++◌, decimal, true};
 ghost use Rattle.aho_core.specs.Patterns.{Patterns};
 ghost use Rattle.acgrep.specs.Printed.{Puts, PutsEach};
 ghost use Rattle.acgrep.specs.Objects.{PutsObjects, json_escaped, escaped_byte, hex_of, object_by, objects_by};
 
+use crate::alone::{behind_alone, next_alone};
 use crate::failure::Stop;
 use crate::print::{DIGITS, Place, Style, put_digits};
 use chromesquid::{Automaton, Input, Match};
 use std::io;
 use std::io::Write;
 
-/// Writes each match of a line that is not empty as an object, and a newline behind it.
+/// Writes each match of a line that is not empty, or each of those that stand alone, as an object, and a newline behind it.
 pub fn put_objects<A: Automaton, W: Write>(
+    automaton: &A,
+    output: &mut W,
+    alone: bool,
+    style: &Style<'_>,
+    place: Place,
+    line: &[u8],
+) -> Result<(), Stop>
+    requires of { (p : Patterns) × A.is_of automaton.now p }
+    ensures written { PutsObjects A.Automaton W.Write automaton.now
+        alone style.now place line.now output.old output.new result }
+{
+    if alone {
+        return put_alone(automaton, output, style, place, line);
+    }
+    let matches = automaton.try_find_iter(Input::new(line))?;
+    put_each(output, style, place, matches)?;
+    Ok(())
+}
+
+/// The same of the matches that stand alone.
+fn put_alone<A: Automaton, W: Write>(
     automaton: &A,
     output: &mut W,
     style: &Style<'_>,
@@ -22,10 +44,13 @@ pub fn put_objects<A: Automaton, W: Write>(
 ) -> Result<(), Stop>
     requires of { (p : Patterns) × A.is_of automaton.now p }
     ensures written { PutsObjects A.Automaton W.Write automaton.now
-        style.now place line.now output.old output.new result }
+        true style.now place line.now output.old output.new result }
 {
-    let matches = automaton.try_find_iter(Input::new(line))?;
-    put_each(output, style, place, matches)?;
+    let mut at = 0;
+    while let Some(found) = next_alone(automaton, line, at)? {
+        put_object(output, style, place, &found)?;
+        at = behind_alone(&found);
+    }
     Ok(())
 }
 

@@ -122,6 +122,7 @@ fn or_patterns(found: Found, name: &[u8]) -> Found
         .or(name, b"ignore-case", Long::Plain(Switch::IgnoreCase))
         .or(name, b"no-ignore-case", Long::Plain(Switch::MatchCase))
         .or(name, b"invert-match", Long::Plain(Switch::Invert))
+        .or(name, b"word-regexp", Long::Plain(Switch::WholeWords))
         .or(name, b"line-regexp", Long::Plain(Switch::WholeLines))
         .or(name, b"kind", Long::Takes(Valued::Kind))
         .or(name, b"fixed-strings", Long::Plain(Switch::Same))

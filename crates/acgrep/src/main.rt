@@ -4,6 +4,7 @@
 //! tells.
 #![tactic(auto)]
 
+mod alone;
 mod arguments;
 mod buffer;
 mod failure;

@@ -35,6 +35,17 @@ pub enum Shown {
     Nothing,
 }
 
+/// What a match of a line has to be.
+#[derive(Clone, Copy, PartialEq, Eq)]
+pub enum Fit {
+    /// Any part of it.
+    AnyPart,
+    /// A part beside which no letter, digit or `_` stands.
+    WholeWord,
+    /// The whole line.
+    WholeLine,
+}
+
 /// An option that takes no argument.
 #[derive(Clone, Copy)]
 pub enum Switch {
@@ -44,6 +55,8 @@ pub enum Switch {
     MatchCase,
     /// `-v`
     Invert,
+    /// `-w`
+    WholeWords,
     /// `-x`
     WholeLines,
     /// `-c`
@@ -87,6 +100,7 @@ pub fn switch_of(letter: u8) -> Option<Switch>
     match letter {
         b'i' | b'y' => Some(Switch::IgnoreCase),
         b'v' => Some(Switch::Invert),
+        b'w' => Some(Switch::WholeWords),
         b'x' => Some(Switch::WholeLines),
         b'c' => Some(Switch::Counts),
         b'n' => Some(Switch::Numbers),
@@ -112,6 +126,8 @@ pub struct Flags {
     pub ignore_case: bool,
     /// `-v`: the lines without a match are selected.
     pub invert: bool,
+    /// `-w`: a line matches where a pattern is a word of it.
+    pub word: bool,
     /// `-x`: a line matches where a pattern is the whole line.
     pub whole: bool,
     /// `-c`: lines are counted.
@@ -155,7 +171,7 @@ pub struct Flags {
 }
 
 impl Flags {
-    ghost use Rattle.acgrep.specs.Arguments.{no_flags, shown_by, switched};
+    ghost use Rattle.acgrep.specs.Arguments.{fit_by, no_flags, shown_by, switched};
 
     /// Where no option is given.
     pub fn new() -> Flags
@@ -164,6 +180,7 @@ impl Flags {
         Flags {
             ignore_case: false,
             invert: false,
+            word: false,
             whole: false,
             count: false,
             number: false,
@@ -208,6 +225,19 @@ impl Flags {
         }
     }
 
+    /// What a match has to be: of `-w` and `-x` the latter goes first.
+    pub fn fit(&self) -> Fit
+        ensures fit { result ≡ fit_by self.now }
+    {
+        if self.whole {
+            Fit::WholeLine
+        } else if self.word {
+            Fit::WholeWord
+        } else {
+            Fit::AnyPart
+        }
+    }
+
     /// These with an option that takes no argument.
     pub fn switched(self, switch: Switch) -> Flags
         ensures switched { result ≡ switched switch self }
@@ -217,6 +247,7 @@ impl Flags {
             Switch::IgnoreCase => flags.ignore_case = true,
             Switch::MatchCase => flags.ignore_case = false,
             Switch::Invert => flags.invert = true,
+            Switch::WholeWords => flags.word = true,
             Switch::WholeLines => flags.whole = true,
             Switch::Counts => flags.count = true,
             Switch::Numbers => flags.number = true,

@@ -1,10 +1,11 @@
 //! Writing lines and matches with what stands before them.
 
 ghost use Rattle.std.specs.Iterator.{IsFinite};
-ghost use Rattle.std.specs.Prelude.{◌≡◌, ◌≤◌, IfOk, decimal, drop};
+ghost use Rattle.std.specs.Prelude.{◌≡◌, ◌≤◌, IfOk, decimal, drop, true};
 ghost use Rattle.aho_core.specs.Patterns.{Patterns};
-ghost use Rattle.acgrep.specs.Printed.{Puts, PutsColored, PutsEach, PutsFinds, behind_match, colored_by, colored_from, count_by, file_line, head_of, line_by, match_by, matches_by, name_ended, name_part, number_by, number_if, painted, part_by, part_of};
+ghost use Rattle.acgrep.specs.Printed.{Puts, PutsColored, PutsColoredBytes, PutsEach, PutsFinds, behind_match, colored_by, colored_from, count_by, file_line, head_of, line_by, match_by, matches_by, name_ended, name_part, number_by, number_if, painted, part_by, part_of};
 
+use crate::alone::{behind_alone, next_alone};
 use crate::failure::Stop;
 use chromesquid::{Automaton, Input, Match};
 use itoa::write_digits;
@@ -156,22 +157,61 @@ fn part<'t>(line: &'t [u8], start: usize, end: usize) -> &'t [u8]
     }
 }
 
-/// Writes a line with its matches coloured.
+/// Writes a line with its matches coloured, or those that stand alone.
 pub fn put_colored_line<A: Automaton, W: Write>(
     automaton: &A,
     output: &mut W,
+    alone: bool,
     style: &Style<'_>,
     place: Place,
     line: &[u8],
 ) -> Result<(), Stop>
     requires of { (p : Patterns) × A.is_of automaton.now p }
     ensures written { PutsColored A.Automaton W.Write automaton.now
-        style.now place line.now output.old output.new result }
+        alone style.now place line.now output.old output.new result }
 {
     put_head(output, style, place.lines.wrapping_add(1), place.bytes)?;
+    put_colored_bytes(automaton, output, alone, line)?;
+    output.write_all(b"\n")?;
+    Ok(())
+}
+
+/// Writes the bytes of a line with its matches coloured.
+fn put_colored_bytes<A: Automaton, W: Write>(
+    automaton: &A,
+    output: &mut W,
+    alone: bool,
+    line: &[u8],
+) -> Result<(), Stop>
+    requires of { (p : Patterns) × A.is_of automaton.now p }
+    ensures written { PutsColoredBytes A.Automaton W.Write automaton.now
+        alone line.now output.old output.new result }
+{
+    if alone {
+        return put_colored_alone(automaton, output, line);
+    }
     let matches = automaton.try_find_iter(Input::new(line))?;
     put_colored(output, line, matches)?;
-    output.write_all(b"\n")?;
+    Ok(())
+}
+
+/// The same of the matches that stand alone.
+fn put_colored_alone<A: Automaton, W: Write>(
+    automaton: &A,
+    output: &mut W,
+    line: &[u8],
+) -> Result<(), Stop>
+    requires of { (p : Patterns) × A.is_of automaton.now p }
+    ensures written { PutsColoredBytes A.Automaton W.Write automaton.now
+        true line.now output.old output.new result }
+{
+    let mut at = 0;
+    let mut from = 0;
+    while let Some(found) = next_alone(automaton, line, from)? {
+        at = put_up_to(output, line, at, &found)?;
+        from = behind_alone(&found);
+    }
+    output.write_all(part(line, at, line.len()))?;
     Ok(())
 }
 
@@ -211,8 +251,29 @@ fn put_up_to<W: Write>(output: &mut W, line: &[u8], at: usize, found: &Match) ->
     Ok(end)
 }
 
-/// Writes each match of a line that is not empty, with what stands before it.
+/// Writes each match of a line that is not empty, or each of those that stand alone, with what stands before it.
 pub fn put_matches<A: Automaton, W: Write>(
+    automaton: &A,
+    output: &mut W,
+    alone: bool,
+    style: &Style<'_>,
+    place: Place,
+    line: &[u8],
+) -> Result<(), Stop>
+    requires of { (p : Patterns) × A.is_of automaton.now p }
+    ensures written { PutsFinds A.Automaton W.Write automaton.now
+        alone style.now place line.now output.old output.new result }
+{
+    if alone {
+        return put_alone(automaton, output, style, place, line);
+    }
+    let matches = automaton.try_find_iter(Input::new(line))?;
+    put_each(output, style, place, line, matches)?;
+    Ok(())
+}
+
+/// The same of the matches that stand alone.
+fn put_alone<A: Automaton, W: Write>(
     automaton: &A,
     output: &mut W,
     style: &Style<'_>,
@@ -221,10 +282,13 @@ pub fn put_matches<A: Automaton, W: Write>(
 ) -> Result<(), Stop>
     requires of { (p : Patterns) × A.is_of automaton.now p }
     ensures written { PutsFinds A.Automaton W.Write automaton.now
-        style.now place line.now output.old output.new result }
+        true style.now place line.now output.old output.new result }
 {
-    let matches = automaton.try_find_iter(Input::new(line))?;
-    put_each(output, style, place, line, matches)?;
+    let mut at = 0;
+    while let Some(found) = next_alone(automaton, line, at)? {
+        put_match(output, style, place, line, &found)?;
+        at = behind_alone(&found);
+    }
     Ok(())
 }
 

@@ -12,7 +12,7 @@ ghost use Rattle.programs.specs.Telling.{Tells, TellsSome};
 ghost use Rattle.acgrep.specs.Told.{MayTell, TellsCause, TellsOfCall, TellsOfFiles, TellsOfSearch, TellsOfText, TellsRefusal, is_hushed, names_said};
 ghost use Rattle.acgrep.specs.Mistakes.{TellsLacking, TellsMistake, TellsNoPattern, TellsRefused};
 ghost use Rattle.acgrep.specs.Files.{AreFilesBegun, AreSearchedOr, files_named};
-ghost use Rattle.acgrep.specs.Runs.{AsksToSearch, BeginsSearch, BeginsFor, GivesNone, IfSaid, IsJob, Searches, SearchesFor, SearchesSaid, are_empty, asks_none, inverts, is_colored, kind_sought, knows_none, origins_of, selects_none, status_told, words_sought};
+ghost use Rattle.acgrep.specs.Runs.{AsksToSearch, BeginsSearch, BeginsFor, GivesNone, IfSaid, IsJob, Searches, SearchesFor, SearchesSaid, are_empty, asks_none, inverts, is_colored, kind_sought, knows_none, origins_of, selects_none, status_told, takes_any, words_sought};
 ghost use Rattle.acgrep.specs.Searchers.{IsSearcherOf};
 ghost use Rattle.acgrep.specs.Selected.{ForLines};
 
@@ -21,7 +21,7 @@ use crate::files::{Files, search_files};
 use crate::help::{HELP, VERSION};
 use crate::keys::{read_keys, tell_refusal};
 use crate::open::Open;
-use crate::options::{Color, Flags};
+use crate::options::{Color, Fit, Flags};
 use crate::patterns::lines_of;
 use crate::print::{Place, Style};
 use crate::searcher::Searcher;
@@ -343,15 +343,22 @@ fn asks_none(most: Option<u64>) -> bool
     }
 }
 
-/// The match kind that is searched by. Where whole lines are asked for, the longest match tells whether a pattern is the line.
+/// The match kind that is searched by. Where not any match is enough, the longest tells whether there is one that is.
 fn kind_sought(flags: &Flags) -> MatchKind
     ensures { result ≡ kind_sought flags.now }
 {
-    if flags.whole {
-        MatchKind::LeftmostLongest
-    } else {
+    if takes_any(flags.fit()) {
         flags.kind
+    } else {
+        MatchKind::LeftmostLongest
     }
+}
+
+/// Whether any match is enough.
+fn takes_any(fit: Fit) -> bool
+    ensures { result ≡ takes_any fit }
+{
+    matches!(fit, Fit::AnyPart)
 }
 
 /// Whether the lines without a match are selected.
@@ -366,17 +373,17 @@ fn inverts(flags: &Flags) -> bool
 fn knows_none(flags: &Flags, patterns: &[&[u8]]) -> bool
     ensures { result ≡ knows_none flags.now (pieces_of patterns.now) }
 {
-    (flags.quiet || !flags.lacking) && selects_none(patterns, flags.whole, inverts(flags))
+    (flags.quiet || !flags.lacking) && selects_none(patterns, flags.fit(), inverts(flags))
 }
 
-/// Whether no line is selected, whatever it holds: there is no pattern, or `-v` is given without `-x` and all are empty.
-fn selects_none(patterns: &[&[u8]], whole: bool, invert: bool) -> bool
-    ensures { result ≡ selects_none whole invert (pieces_of patterns.now) }
+/// Whether no line is selected, whatever it holds: there is no pattern, or `-v` is given without `-w` and `-x` and all are empty.
+fn selects_none(patterns: &[&[u8]], fit: Fit, invert: bool) -> bool
+    ensures { result ≡ selects_none fit invert (pieces_of patterns.now) }
 {
     if patterns.is_empty() {
         return !invert;
     }
-    invert && !whole && are_empty(patterns)
+    invert && takes_any(fit) && are_empty(patterns)
 }
 
 /// Whether all patterns are empty.
@@ -400,7 +407,7 @@ fn job_of(flags: &Flags, terminal: bool, count: usize) -> Job<'static>
     Job {
         shown: flags.shown(),
         invert: inverts(flags),
-        whole: flags.whole,
+        fit: flags.fit(),
         style: Style {
             name: b"",
             with_name: has_name(flags.with_name, count),

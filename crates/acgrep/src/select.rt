@@ -4,15 +4,18 @@ ghost use Rattle.std.specs.Prelude.{◌≡◌, ◌==◌, ◌+◌, ◌%◌, ◌^�
 ghost use Rattle.memchr.specs.Find.{is_byte, places};
 ghost use Rattle.aho_core.specs.Patterns.{Patterns};
 ghost use Rattle.aho_core.specs.declared.search.MatchKind.TheVariants.{LeftmostLongest};
+ghost use Rattle.acgrep.specs.Alone.{asks_alone};
+ghost use Rattle.acgrep.specs.declared.options.Fit.TheVariants.{AnyPart, WholeLine};
 ghost use Rattle.acgrep.specs.Lines.{lines};
 ghost use Rattle.acgrep.specs.Searched.{BeginsInvertedBy, BeginsLineBy, BeginsMatchBy, BeginsOneBy, BeginsOthersBy, BeginsSelectedBy, BeginsTextBy, SearchesSomeBy, SearchesTextBy, TellsInvertedBy, TellsLineBy, TellsMatchBy, TellsOthersBy, WritesLineBy, WritesNextBy};
 ghost use Rattle.acgrep.specs.Selected.{FindsNone, ForLines, IsLine, IsNextLine, IsNoneSelected};
 ghost use Rattle.acgrep.specs.Written.{EndsLine, HasMatch, IsMatched, NumbersLines, IsSettled, SamePlace, after_line, after_lines, at_begin, is_full, is_numbered, needs_one, next_count, place_behind, selects};
 
+use crate::alone::has_alone;
 use crate::failure::Stop;
 use crate::json::put_objects;
 use crate::lines::{behind, line_end, line_start};
-use crate::options::Shown;
+use crate::options::{Fit, Shown};
 use crate::print::{Place, Style, put_colored_line, put_line, put_matches};
 use chromesquid::{Automaton, Input, MatchError, MatchKind, Sink, Span, write_whole};
 use memchr::memchr_iter;
@@ -25,8 +28,8 @@ pub struct Job<'a> {
     pub shown: Shown,
     /// Whether the lines without a match are selected.
     pub invert: bool,
-    /// Whether a line matches only where a pattern is the whole line.
-    pub whole: bool,
+    /// What a match of a line has to be.
+    pub fit: Fit,
     /// What stands before a line.
     pub style: Style<'a>,
     /// Where the first line of a file stands.
@@ -53,6 +56,13 @@ impl<'a> Job<'a> {
         ensures colored { result ≡ (self.now.style.color && not self.now.invert) }
     {
         self.style.color && !self.invert
+    }
+
+    /// Whether a match has to stand alone.
+    fn asks_alone(&self) -> bool
+        ensures alone { result ≡ asks_alone self.now.fit }
+    {
+        matches!(self.fit, Fit::WholeWord)
     }
 
     /// Whether a line is selected, by whether it matches.
@@ -191,7 +201,7 @@ fn search_some<'t, A: Automaton, W: Sink>(
     requires some { 0 < length text.now }
     ensures shorter { IfOk result (λ left. length left.now < length text.now) }
     ensures none { ForLines (A.is_of automaton.now) (λ p. job.now.invert ≡ false
-        → job.now.whole ≡ false → OnOk result (FindsNone p state.old state.new text.now)) }
+        → job.now.fit ≡ AnyPart → OnOk result (FindsNone p state.old state.new text.now)) }
     ensures written { SearchesSomeBy A.Automaton W.Sink automaton.now job.now
         state.old state.new output.old output.new text.now result }
     ensures begun { BeginsTextBy A.Automaton W.Sink automaton.now job.now
@@ -227,7 +237,7 @@ fn pass_matched<A: Automaton, W: Sink>(
     output: &mut W,
 ) -> Result<(), Stop>
     requires of { (p : Patterns) × A.is_of automaton.now p }
-    ensures selected { job.now.invert ≡ false → job.now.whole ≡ false
+    ensures selected { job.now.invert ≡ false → job.now.fit ≡ AnyPart
         → OnOk result (0 < state.new.selected) }
     ensures placed { OnOk result (state.new.place ≡ after_line state.old.place line.now) }
     ensures written { TellsMatchBy A.Automaton W.Sink automaton.now job.now
@@ -242,21 +252,22 @@ fn pass_matched<A: Automaton, W: Sink>(
 /// Whether a line in which a pattern occurs matches.
 fn is_match<A: Automaton>(automaton: &A, job: &Job<'_>, line: &[u8]) -> Result<bool, Stop>
     requires of { (p : Patterns) × A.is_of automaton.now p }
-    ensures any { job.now.whole ≡ false → IfOk result (λ matched. matched ≡ true) }
+    ensures any { job.now.fit ≡ AnyPart → IfOk result (λ matched. matched ≡ true) }
     ensures matched { (p : Patterns) → A.is_of automaton.now p → HasMatch p line.now
-        → IfOk result (IsMatched p job.now.whole line.now) }
+        → IfOk result (IsMatched p job.now.fit line.now) }
 {
-    if job.whole {
-        return is_whole(automaton, line);
+    match job.fit {
+        Fit::AnyPart => Ok(true),
+        Fit::WholeWord => has_alone(automaton, line),
+        Fit::WholeLine => is_whole(automaton, line),
     }
-    Ok(true)
 }
 
 /// Whether a pattern is the whole line.
 fn is_whole<A: Automaton>(automaton: &A, line: &[u8]) -> Result<bool, Stop>
     requires of { (p : Patterns) × A.is_of automaton.now p }
     ensures whole { (p : Patterns) → A.is_of automaton.now p
-        → IfOk result (IsMatched p true line.now) }
+        → IfOk result (IsMatched p WholeLine line.now) }
 {
     match automaton.match_kind() {
         MatchKind::LeftmostLongest => is_longest_whole(automaton, line),
@@ -268,7 +279,7 @@ fn is_whole<A: Automaton>(automaton: &A, line: &[u8]) -> Result<bool, Stop>
 fn is_longest_whole<A: Automaton>(automaton: &A, line: &[u8]) -> Result<bool, Stop>
     requires of { (p : Patterns) × A.is_of automaton.now p }
     ensures whole { (p : Patterns) → A.is_of automaton.now p → p.kind ≡ LeftmostLongest
-        → IfOk result (IsMatched p true line.now) }
+        → IfOk result (IsMatched p WholeLine line.now) }
 {
     match automaton.try_find(&Input::new(line))? {
         Some(found) => Ok(spans(found.start(), found.end(), line.len())),
@@ -474,11 +485,25 @@ fn put_shown<A: Automaton, W: Write>(
 {
     match job.shown {
         Shown::Lines if job.colors() => {
-            put_colored_line(automaton, output, &job.style, place, line)
+            put_colored_line(automaton, output, job.asks_alone(), &job.style, place, line)
         }
         Shown::Lines => Ok(put_line(output, &job.style, place, line)?),
-        Shown::Matches if !job.invert => put_matches(automaton, output, &job.style, place, line),
-        Shown::Objects if !job.invert => put_objects(automaton, output, &job.style, place, line),
+        Shown::Matches if !job.invert => put_matches(
+            automaton,
+            output,
+            job.asks_alone(),
+            &job.style,
+            place,
+            line,
+        ),
+        Shown::Objects if !job.invert => put_objects(
+            automaton,
+            output,
+            job.asks_alone(),
+            &job.style,
+            place,
+            line,
+        ),
         _ => Ok(()),
     }
 }

@@ -12,7 +12,7 @@ use Rattle.acgrep.proofs.WordLists.{sought_plain}
 use Rattle.programs.specs.Names.{name_bytes, or_input}
 use Rattle.programs.specs.declared.errors.Errors.{Errors}
 use Rattle.programs.proofs.Lines.{some-weaker}
-use Rattle.acgrep.specs.Arguments.{shown_by}
+use Rattle.acgrep.specs.Arguments.{fit_by, shown_by}
 use Rattle.acgrep.specs.Told.{IsMessage, MayTell, TellsStatus, files_told, names_told, source_names}
 use Rattle.acgrep.specs.declared.options.Shown.{Shown}
 use Rattle.acgrep.proofs.Told.{among-first, among-later, message-more, status-none, status-some, status-weaker}
@@ -57,7 +57,7 @@ returns-then-knows_none-clause-searches g c low =
       between = g.R.Read.remaining c.read_keys.new.input;
       read = c.in-Some.ensures.words;
       searched = rw none (record {
-        passed = none_selected (patterns_asked (kind_sought flags) flags.ignore_case sought) flags.whole (inverts flags) sought refl (and_parts _ _ none).1;
+        passed = none_selected (patterns_asked (kind_sought flags) flags.ignore_case sought) (fit_by flags) (inverts flags) sought refl (and_parts _ _ none).1;
         unread = refl;
         unwritten = Keeps-refl (g.W.Sink.taken c.args.output.now);
         none = refl;

@@ -1,16 +1,17 @@
--- Where whole lines are not asked for, an occurrence is enough.
-use Rattle.std.proofs.Common.{Bool, true, subst, sym, ◌∙◌}
-use Rattle.std.proofs.lemmas.Bool.{true≢false}
+-- A match anywhere is enough, or has to stand alone, or to be the line.
+use Rattle.std.proofs.Common.{subst, sym, true}
 use Rattle.std.specs.Prelude.{IfOk}
 use Rattle.acgrep.specs.Written.{IsMatched}
+use Rattle.acgrep.specs.declared.options.Fit.{Fit}
 use Rattle.acgrep.proofs.select.is_match.Goals as goal
 
-pub returns-then-job-clause-any : goal.returns-then-job-clause-any
-returns-then-job-clause-any g c = λ not. absurd (true≢false (sym c.if-job.true ∙ not))
+pub returns-in-AnyPart-clause-matched : goal.returns-in-AnyPart-clause-matched
+returns-in-AnyPart-clause-matched g c = λ p is has. subst (λ (fit : Fit). IsMatched p fit c.args.line.now true) (sym c.in-AnyPart.is) has
 
-pub returns-then-job-clause-matched : goal.returns-then-job-clause-matched
-returns-then-job-clause-matched g c = λ p is has.
-    subst (λ (b : Bool). IfOk c.is_whole.result (IsMatched p b c.args.line.now)) (sym c.if-job.true) (c.is_whole.ensures.whole p is)
+pub returns-in-WholeWord-clause-matched : goal.returns-in-WholeWord-clause-matched
+returns-in-WholeWord-clause-matched g c = λ p is has.
+    subst (λ (fit : Fit). IfOk c.has_alone.result (IsMatched p fit c.args.line.now)) (sym c.in-WholeWord.is) (c.has_alone.ensures.alone p is)
 
-pub returns-clause-matched : goal.returns-clause-matched
-returns-clause-matched g c = λ p is has. subst (λ (b : Bool). IsMatched p b c.args.line.now true) (sym c.if-job.false) has
+pub returns-in-WholeLine-clause-matched : goal.returns-in-WholeLine-clause-matched
+returns-in-WholeLine-clause-matched g c = λ p is has.
+    subst (λ (fit : Fit). IfOk c.is_whole.result (IsMatched p fit c.args.line.now)) (sym c.in-WholeLine.is) (c.is_whole.ensures.whole p is)

@@ -3,11 +3,12 @@ use Rattle.std.proofs.Common.{◌≡◌, ◌⊎◌, false, length}
 use Rattle.aho_core.specs.Patterns.{Patterns}
 use Rattle.acgrep.specs.Selected.{HoldNoNewline}
 use Rattle.acgrep.specs.Written.{HasNone, SearchesTo}
+use Rattle.acgrep.specs.declared.options.Fit.TheVariants.{AnyPart}
 use Rattle.acgrep.proofs.select.search_text.Given as goal
 
 abbrev pub invariant-loop-rest : goal.invariant-loop-rest
 invariant-loop-rest g l = record {
-  none : (p : Patterns) → g.A.Automaton.is_of l.fn.automaton p → HoldNoNewline p → l.fn.job.invert ≡ false → l.fn.job.whole ≡ false → l.state.selected ≡ 0
+  none : (p : Patterns) → g.A.Automaton.is_of l.fn.automaton p → HoldNoNewline p → l.fn.job.invert ≡ false → l.fn.job.fit ≡ AnyPart → l.state.selected ≡ 0
       → (l.rest ≡ l.fn.text) ⊎ HasNone p l.fn.text;
   searched : (p : Patterns) → g.A.Automaton.is_of l.fn.automaton p → HoldNoNewline p
       → SearchesTo p l.fn.job l.initial.state l.state (g.W.Sink.taken l.initial.output) (g.W.Sink.taken l.output) l.fn.text l.rest;

@@ -1,0 +1,233 @@
+-- What stands alone in a line: the longest of what begins together is tried first, and then the shorter ones.
+use Rattle.std.proofs.Common.{◌≡◌, inl, inr, ◌⊎◌, ℕ, ◌+◌, ◌-◌, ◌≤◌, ◌<◌, true, false, List, [], ◌∷◌, ◌++◌, Option, Some, None, length, refl, sym, ◌∙◌, subst, arith, ap, append_assoc, append-nil}
+use Rattle.std.specs.Prelude.{IfSome}
+use Rattle.std.proofs.lemmas.Bool.{cases_lt, true≢false}
+use Rattle.aho_core.specs.Answer.{IsAnswer}
+use Rattle.aho_core.specs.Best.{IsBestOrNone}
+use Rattle.aho_core.specs.Occurrence.{Occurrence}
+use Rattle.aho_core.specs.Occurs.{OccursIn}
+use Rattle.aho_core.specs.Order.{IsBefore}
+use Rattle.aho_core.specs.Patterns.{Patterns}
+use Rattle.aho_core.specs.Search.{plain_search}
+use Rattle.aho_core.specs.declared.search.MatchKind.{MatchKind}
+use Rattle.aho_core.specs.declared.search.MatchKind.TheVariants.{LeftmostLongest}
+use Rattle.aho_laws.specs.CutLaws.{span_search}
+use Rattle.aho_laws.proofs.ClearCuts.{Occurs-in}
+use Rattle.acgrep.specs.Alone.{AreAloneFrom, IsAloneAt, IsAloneFrom, IsLongestThere, IsNextAlone, IsShorter, begins_alone, behind_alone, ends_alone}
+
+-- what a search of a range of a line finds lies in it
+pub record LiesIn (start end : ℕ) (m : Occurrence) : Type 0 where
+  pub behind : start ≤ m.start
+  pub ordered : m.start ≤ m.end
+  pub within : m.end ≤ end
+
+pub answer_lies : (p : Patterns) (line : List ℕ) (start end : ℕ) (found : Option Occurrence) → IsAnswer p (span_search line start end) found → IfSome found (LiesIn start end)
+answer_lies p line start end None best = tt
+answer_lies p line start end (Some m) best =
+    let occurs : OccursIn p (span_search line start end) m = best.0 in
+    record { behind = occurs.after_start; ordered = omega (arith, occurs.sized); within = occurs.before_end }
+
+-- what begins at a place is before what begins behind it; of two that begin together the longer is before the shorter
+same_or_shorter : (m other : Occurrence) → other.start ≡ m.start → (other ≡ m) ⊎ IsBefore LeftmostLongest m other → (other.end ≡ m.end) ⊎ (other.end < m.end)
+same_or_shorter m other begins (inl same) = inl (ap (λ (o : Occurrence). o.end) same)
+same_or_shorter m other begins (inr (inl less)) = absurd (omega (arith, less, begins))
+same_or_shorter m other begins (inr (inr (same, inl longer))) = inr longer
+same_or_shorter m other begins (inr (inr (same, inr (ends, number)))) = inl (sym ends)
+
+begins_later : (m other : Occurrence) → (other ≡ m) ⊎ IsBefore LeftmostLongest m other → m.start ≤ other.start
+begins_later m other (inl same) = omega (arith, ap (λ (o : Occurrence). o.start) same)
+begins_later m other (inr (inl less)) = omega (arith, less)
+begins_later m other (inr (inr (same, rest))) = omega (arith, same)
+
+module _ (p : Patterns) (line : List ℕ) (kind : p.kind ≡ LeftmostLongest) where
+  -- what a search of a range finds is the longest of what begins first there
+  best_of : (start end : ℕ) (m : Occurrence) → IsAnswer p (span_search line start end) (Some m)
+      → (other : Occurrence) → OccursIn p (span_search line start end) other → (other ≡ m) ⊎ IsBefore LeftmostLongest m other
+  best_of start end m best other occurs =
+      elim (best.1 other occurs) [
+        | inl same ↦ inl same
+        | inr before ↦ inr (subst (λ (k : MatchKind). IsBefore k m other) kind before)
+      ]
+
+  -- what occurs in the line lies in a range around it
+  in_range : (start end : ℕ) (m : Occurrence) → start ≤ m.start → m.end ≤ end → OccursIn p (plain_search line) m → OccursIn p (span_search line start end) m
+  in_range start end m low high occurs = Occurs-in p line 0 (length line) start end m low high occurs
+
+  in_line : (start end : ℕ) (m : Occurrence) → end ≤ length line → OccursIn p (span_search line start end) m → OccursIn p (plain_search line) m
+  in_line start end m within occurs = Occurs-in p line start end 0 (length line) m (omega arith) (omega (arith, within, occurs.before_end)) occurs
+
+  -- of what begins with m and is shorter the longest is what a search finds that ends before m, if it begins there
+  pub shorter_found : (m other : Occurrence) → m.start < m.end → m.end ≤ length line → other.start ≡ m.start
+      → IsAnswer p (span_search line m.start (m.end - 1)) (Some other) → IsBestOrNone LeftmostLongest (IsShorter p line m) (Some other)
+  shorter_found m other some within begins best =
+      let occurs : OccursIn p (span_search line m.start (m.end - 1)) other = best.0 in (
+        record {
+          occurs = in_line m.start (m.end - 1) other (omega (arith, within)) occurs;
+          begins = begins;
+          shorter = omega (arith, occurs.before_end, some);
+        },
+        λ third is. best_of m.start (m.end - 1) other best third (in_range m.start (m.end - 1) third (omega (arith, is.begins)) (omega (arith, is.shorter)) is.occurs),
+      )
+
+  pub shorter_later : (m other : Occurrence) → (other.start ≡ m.start → ⊥)
+      → IsAnswer p (span_search line m.start (m.end - 1)) (Some other) → IsBestOrNone LeftmostLongest (IsShorter p line m) None
+  shorter_later m other later best = λ third is.
+      let occurs : OccursIn p (span_search line m.start (m.end - 1)) other = best.0 in
+      let low : other.start ≤ third.start =
+      begins_later other third (best_of m.start (m.end - 1) other best third (in_range m.start (m.end - 1) third (omega (arith, is.begins)) (omega (arith, is.shorter)) is.occurs)) in
+      later (omega (arith, low, is.begins, occurs.after_start))
+
+  pub shorter_none : (m : Occurrence) → IsAnswer p (span_search line m.start (m.end - 1)) None → IsBestOrNone LeftmostLongest (IsShorter p line m) None
+  shorter_none m none = λ third is. none third (in_range m.start (m.end - 1) third (omega (arith, is.begins)) (omega (arith, is.shorter)) is.occurs)
+
+  -- nothing is shorter than what is empty
+  pub shorter_empty : (m : Occurrence) → m.start ≡ m.end → IsBestOrNone LeftmostLongest (IsShorter p line m) None
+  shorter_empty m empty = λ third is.
+      let occurs : OccursIn p (plain_search line) third = is.occurs in
+      absurd (omega (arith, occurs.sized, is.begins, is.shorter, empty))
+
+  -- m occurs, and what begins with it and stands alone is m or is tried behind it
+  pub record IsTried (start : ℕ) (m : Occurrence) : Type 0 where
+    pub occurs : OccursIn p (plain_search line) m
+    pub at : m.start ≡ start
+    pub others : (other : Occurrence) → IsAloneAt p line start other → (other ≡ m) ⊎ IsBefore LeftmostLongest m other
+
+  -- the longest is tried first
+  pub tried_first : (m : Occurrence) → IsLongestThere p line m → IsTried m.start m
+  tried_first m longest = record {
+    occurs = longest.occurs;
+    at = refl;
+    others = λ other is. longest.longest other is.is.occurs is.at;
+  }
+
+  -- where m does not stand alone what begins with it and does is shorter
+  tried_shorter : (start : ℕ) (m other : Occurrence) → IsTried start m → ends_alone line m.end ≡ false → IsAloneAt p line start other → IsShorter p line m other
+  tried_shorter start m other tried refused is = record {
+    occurs = is.is.occurs;
+    begins = is.at ∙ sym tried.at;
+    shorter = elim (same_or_shorter m other (is.at ∙ sym tried.at) (tried.others other is)) [
+      | inl same ↦ absurd (true≢false (sym is.is.ends ∙ ap (ends_alone line) same ∙ refused))
+      | inr less ↦ less
+    ];
+  }
+
+  -- then the longest of those is tried
+  pub tried_next : (start : ℕ) (m other : Occurrence) → IsTried start m → ends_alone line m.end ≡ false
+      → IsBestOrNone LeftmostLongest (IsShorter p line m) (Some other) → IsTried start other
+  tried_next start m other tried refused best =
+      let is : IsShorter p line m other = best.0 in
+      record {
+        occurs = is.occurs;
+        at = is.begins ∙ tried.at;
+        others = λ third alone. best.1 third (tried_shorter start m third tried refused alone);
+      }
+
+  pub tried_none : (start : ℕ) (m : Occurrence) → IsTried start m → ends_alone line m.end ≡ false
+      → IsBestOrNone LeftmostLongest (IsShorter p line m) None → IsBestOrNone LeftmostLongest (IsAloneAt p line start) None
+  tried_none start m tried refused none = λ other is. none other (tried_shorter start m other tried refused is)
+
+  -- or m stands alone
+  pub tried_alone : (start : ℕ) (m : Occurrence) → IsTried start m → begins_alone line start ≡ true → ends_alone line m.end ≡ true
+      → IsBestOrNone LeftmostLongest (IsAloneAt p line start) (Some m)
+  tried_alone start m tried begins ends = (
+    record {
+      is = record {
+        occurs = tried.occurs;
+        behind = omega (arith, tried.at);
+        begins = ap (begins_alone line) tried.at ∙ begins;
+        ends = ends;
+      };
+      at = tried.at;
+    },
+    tried.others,
+  )
+
+  -- nothing stands alone that begins behind a letter
+  pub refused_there : (start : ℕ) → begins_alone line start ≡ false → IsBestOrNone LeftmostLongest (IsAloneAt p line start) None
+  refused_there start refused = λ other is. true≢false (sym is.is.begins ∙ ap (begins_alone line) is.at ∙ refused)
+
+  -- what begins at a place or behind it and stands alone begins here or behind here
+  abbrev pub BeginsBehind : (at here : ℕ) → Type 0
+  BeginsBehind at here = (other : Occurrence) → IsAloneFrom p line at other → here ≤ other.start
+
+  pub begins_at : (at : ℕ) → BeginsBehind at at
+  begins_at at other is = is.behind
+
+  module _ (at here : ℕ) (passed : BeginsBehind at here) where
+    -- nothing occurs there
+    pub alone_none : IsAnswer p (span_search line here (length line)) None → IsNextAlone p line at None
+    alone_none none = λ other is.
+        let occurs : OccursIn p (plain_search line) other = is.occurs in
+        none other (in_range here (length line) other (passed other is) occurs.before_end occurs)
+
+    module _ (m : Occurrence) (best : IsAnswer p (span_search line here (length line)) (Some m)) where
+      -- the longest of what begins first
+      pub longest_there : IsLongestThere p line m
+      longest_there =
+          let occurs : OccursIn p (span_search line here (length line)) m = best.0 in
+          record {
+            occurs = in_line here (length line) m (omega arith) occurs;
+            longest = λ other there begins.
+                let inside : OccursIn p (plain_search line) other = there in
+                best_of here (length line) m best other (in_range here (length line) other (omega (arith, begins, occurs.after_start)) inside.before_end there);
+          }
+
+      later : (other : Occurrence) → IsAloneFrom p line at other → m.start ≤ other.start
+      later other is =
+          let inside : OccursIn p (plain_search line) other = is.occurs in
+          begins_later m other (best_of here (length line) m best other (in_range here (length line) other (passed other is) inside.before_end inside))
+
+      here_at : (other : Occurrence) → other.start ≡ m.start → IsAloneFrom p line at other → IsAloneAt p line m.start other
+      here_at other begins is = record {
+        is = record { occurs = is.occurs; behind = omega (arith, begins); begins = is.begins; ends = is.ends };
+        at = begins;
+      }
+
+      -- where one that begins there stands alone, it is the next
+      pub alone_found : at ≤ here → (found : Occurrence) → IsBestOrNone LeftmostLongest (IsAloneAt p line m.start) (Some found) → IsNextAlone p line at (Some found)
+      alone_found low found tried =
+          let occurs : OccursIn p (span_search line here (length line)) m = best.0 in
+          let is : IsAloneAt p line m.start found = tried.0 in (
+            record {
+              occurs = is.is.occurs;
+              behind = omega (arith, is.at, occurs.after_start, low);
+              begins = is.is.begins;
+              ends = is.is.ends;
+            },
+            λ other alone. elim (cases_lt m.start other.start) [
+              | inl behind ↦ inr (inl (omega (arith, behind, is.at)))
+              | inr same ↦ tried.1 other (here_at other (omega (arith, same, later other alone)) alone)
+            ],
+          )
+
+      -- where none does, it begins behind
+      pub alone_later : IsBestOrNone LeftmostLongest (IsAloneAt p line m.start) None → BeginsBehind at (m.start + 1)
+      alone_later none other alone =
+          elim (cases_lt m.start other.start) [
+            | inl behind ↦ omega (arith, behind)
+            | inr same ↦ absurd (none other (here_at other (omega (arith, same, later other alone)) alone))
+          ]
+
+-- these came so far, and the next begin at a place or behind it
+pub record AloneSoFar (p : Patterns) (line : List ℕ) (from : ℕ) (ms : List Occurrence) : Type 0 where
+  pub goes_on : (rest : List Occurrence) → AreAloneFrom p line from rest → AreAloneFrom p line 0 (ms ++ rest)
+
+pub alone_start : (p : Patterns) (line : List ℕ) → AloneSoFar p line 0 []
+alone_start p line = record { goes_on = λ rest are. are }
+
+pub alone_step : (p : Patterns) (line : List ℕ) (from behind : ℕ) (ms : List Occurrence) (m : Occurrence) → behind ≡ behind_alone m → IsNextAlone p line from (Some m) → AloneSoFar p line from ms
+    → AloneSoFar p line behind (ms ++ (m ∷ []))
+alone_step p line from behind ms m is next so_far = record {
+  goes_on = λ rest are.
+      subst (AreAloneFrom p line 0) (sym (append_assoc ms (m ∷ []) rest)) (so_far.goes_on (m ∷ rest) (next, subst (λ (n : ℕ). AreAloneFrom p line n rest) is are));
+}
+
+pub alone_end : (p : Patterns) (line : List ℕ) (from : ℕ) (ms : List Occurrence) → IsNextAlone p line from None → AloneSoFar p line from ms → AreAloneFrom p line 0 ms
+alone_end p line from ms none so_far = subst (AreAloneFrom p line 0) (append-nil ms) (so_far.goes_on [] none)
+
+-- the next begins in the line, or one place behind it
+pub alone_behind : (p : Patterns) (line : List ℕ) (at behind : ℕ) (m : Occurrence) → behind ≡ behind_alone m → IsNextAlone p line at (Some m) → behind ≤ length line + 1
+alone_behind p line at behind m is next =
+    let alone : IsAloneFrom p line at m = next.0 in
+    let occurs : OccursIn p (plain_search line) m = alone.occurs in
+    omega (arith, is, occurs.sized, occurs.before_end)

@@ -1,0 +1,60 @@
+-- Nothing that stands alone is passed: what the search finds first is tried, and then what begins behind it.
+use Rattle.std.proofs.Common.{◌≤◌, Option, None, Some, length, subst, arith}
+use Rattle.std.specs.Prelude.{IfSome}
+use Rattle.aho_core.specs.Answer.{IsAnswer}
+use Rattle.aho_core.specs.Best.{IsBestOrNone}
+use Rattle.aho_core.specs.Occurrence.{Occurrence}
+use Rattle.aho_core.specs.declared.search.MatchKind.TheVariants.{LeftmostLongest}
+use Rattle.aho_laws.specs.CutLaws.{span_search}
+use Rattle.acgrep.specs.Alone.{IsAloneAt}
+use Rattle.acgrep.proofs.AloneTried.{alone_found, alone_later, alone_none, begins_at, longest_there}
+use Rattle.acgrep.proofs.alone.longest_alone.Goals as goal
+
+pub loop-longest-init : goal.loop-longest-init
+loop-longest-init g c = record {
+  low = omega arith;
+  high = c.requires.within;
+  passed = λ p is kind. begins_at p c.args.line.now kind c.args.at;
+}
+
+pub returns-in-Some-2-clause-next : goal.returns-in-Some-2-clause-next
+returns-in-Some-2-clause-next g c = λ p is kind.
+    let line = c.args.line.now in
+    let from = c.loop-longest.from in
+    let longest = c.in-Some.longest in
+    let best : IsAnswer p (span_search line from (length line)) (Some longest) =
+    subst (IsAnswer p (span_search line from (length line))) c.in-Some.is (c.in_ok-longest.ensures.found p is) in
+    let passed = c.loop-longest.invariant.passed p is kind in
+    alone_found p line kind c.args.at from passed longest best c.loop-longest.invariant.low c.in-Some-2.found
+    (subst (IsBestOrNone LeftmostLongest (IsAloneAt p line longest.start)) c.in-Some-2.is
+    (c.in_ok-found.ensures.alone p is kind (longest_there p line kind c.args.at from passed longest best)))
+
+pub loop-longest-preserved : goal.loop-longest-preserved
+loop-longest-preserved g c =
+    let line = c.args.line.now in
+    let from = c.loop-longest.from in
+    let longest = c.in-Some.longest in
+    let so_far = c.loop-longest.invariant in
+    let behind = subst (λ (o : Option Occurrence). IfSome o (λ (m : Occurrence). from ≤ m.start)) c.in-Some.is c.in_ok-longest.ensures.behind in
+    let ordered = subst (λ (o : Option Occurrence). IfSome o (λ (m : Occurrence). m.start ≤ m.end)) c.in-Some.is c.in_ok-longest.ensures.ordered in
+    let within = subst (λ (o : Option Occurrence). IfSome o (λ (m : Occurrence). m.end ≤ length line)) c.in-Some.is c.in_ok-longest.ensures.within in
+    let start = c.start-from.ensures.start in
+    record {
+      low = omega (arith, so_far.low, behind, start);
+      high = omega (arith, ordered, within, start);
+      passed = λ p is kind.
+          let best : IsAnswer p (span_search line from (length line)) (Some longest) =
+          subst (IsAnswer p (span_search line from (length line))) c.in-Some.is (c.in_ok-longest.ensures.found p is) in
+          let passed = so_far.passed p is kind in
+          let none : IsBestOrNone LeftmostLongest (IsAloneAt p line longest.start) None =
+          subst (IsBestOrNone LeftmostLongest (IsAloneAt p line longest.start)) c.in_default-2.is
+          (c.in_ok-found.ensures.alone p is kind (longest_there p line kind c.args.at from passed longest best)) in
+          λ other alone. omega (arith, start, alone_later p line kind c.args.at from passed longest best none other alone);
+    }
+
+pub returns-clause-next : goal.returns-clause-next
+returns-clause-next g c = λ p is kind.
+    let line = c.args.line.now in
+    let from = c.loop-longest.from in
+    alone_none p line kind c.args.at from (c.loop-longest.invariant.passed p is kind)
+    (subst (IsAnswer p (span_search line from (length line))) c.in_default.is (c.in_ok-longest.ensures.found p is))

@@ -1,0 +1,16 @@
+-- Nothing that stands alone begins before the place that was reached.
+use Rattle.std.proofs.Common.{◌≡◌, ◌≤◌, ◌+◌, ◌-◌, length}
+use Rattle.aho_core.specs.Patterns.{Patterns}
+use Rattle.aho_core.specs.declared.search.MatchKind.TheVariants.{LeftmostLongest}
+use Rattle.acgrep.proofs.AloneTried.{BeginsBehind}
+use Rattle.acgrep.proofs.alone.longest_alone.Given as goal
+
+abbrev pub invariant-loop-longest : goal.invariant-loop-longest
+invariant-loop-longest g l = record {
+  low : l.fn.at ≤ l.from;
+  high : l.from ≤ length l.fn.line + 1;
+  passed : (p : Patterns) → g.A.Automaton.is_of l.fn.automaton p → (kind : p.kind ≡ LeftmostLongest) → BeginsBehind p l.fn.line kind l.fn.at l.from;
+}
+
+abbrev pub decreases-loop-longest : goal.decreases-loop-longest
+decreases-loop-longest g l = length l.fn.line + 1 - l.from

@@ -1,0 +1,18 @@
+-- The matches that came so far were written.
+use Rattle.std.proofs.Common.{◌≤◌, ◌+◌, ◌-◌, List, length}
+use Rattle.std.specs.Io.KnownBytes.{Appends}
+use Rattle.aho_core.specs.Occurrence.{Occurrence}
+use Rattle.aho_core.specs.Patterns.{Patterns}
+use Rattle.acgrep.specs.Objects.{objects_by}
+use Rattle.acgrep.proofs.AloneTried.{AloneSoFar}
+use Rattle.acgrep.proofs.json.put_alone.Given as goal
+
+abbrev pub invariant-loop-found : goal.invariant-loop-found
+invariant-loop-found g l = record {
+  within : l.at ≤ length l.fn.line + 1;
+  written : (p : Patterns) → g.A.Automaton.is_of l.fn.automaton p → (ms : List Occurrence) × AloneSoFar p l.fn.line l.at ms
+      × Appends (g.W.Write.contents l.initial.output) (g.W.Write.contents l.output) (objects_by l.fn.style l.fn.place ms);
+}
+
+abbrev pub decreases-loop-found : goal.decreases-loop-found
+decreases-loop-found g l = length l.fn.line + 2 - l.at

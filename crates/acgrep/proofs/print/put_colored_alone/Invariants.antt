@@ -1,0 +1,17 @@
+-- The matches that came so far were written in colour, and what stands between them.
+use Rattle.std.proofs.Common.{◌≤◌, ◌+◌, ◌-◌, List, length}
+use Rattle.aho_core.specs.Occurrence.{Occurrence}
+use Rattle.aho_core.specs.Patterns.{Patterns}
+use Rattle.acgrep.proofs.AloneTried.{AloneSoFar}
+use Rattle.acgrep.proofs.Coloring.{Colored}
+use Rattle.acgrep.proofs.print.put_colored_alone.Given as goal
+
+abbrev pub invariant-loop-found : goal.invariant-loop-found
+invariant-loop-found g l = record {
+  within : l.from ≤ length l.fn.line + 1;
+  written : (p : Patterns) → g.A.Automaton.is_of l.fn.automaton p → (ms : List Occurrence) × AloneSoFar p l.fn.line l.from ms
+      × Colored l.fn.line ms l.at (g.W.Write.contents l.initial.output) (g.W.Write.contents l.output);
+}
+
+abbrev pub decreases-loop-found : goal.decreases-loop-found
+decreases-loop-found g l = length l.fn.line + 2 - l.from

@@ -1,0 +1,159 @@
+//! The matches of a line that stand alone: no letter, digit or `_` is beside them.
+
+ghost use Rattle.std.specs.Prelude.{◌≡◌, ◌+◌, ◌^◌, ◌≤◌, ◌<◌, IfOk, IfSome, length};
+ghost use Rattle.aho_core.specs.Answer.{IsAnswer};
+ghost use Rattle.aho_core.specs.Best.{IsBestOrNone};
+ghost use Rattle.aho_core.specs.Patterns.{Patterns};
+ghost use Rattle.aho_core.specs.declared.search.MatchKind.TheVariants.{LeftmostLongest};
+ghost use Rattle.aho_laws.specs.CutLaws.{span_search};
+ghost use Rattle.acgrep.specs.Alone.{IsAloneAt, IsLongestThere, IsNextAlone, IsShorter, begins_alone, behind_alone, ends_alone, is_word_constituent};
+ghost use Rattle.acgrep.specs.Written.{IsMatched};
+ghost use Rattle.acgrep.specs.declared.options.Fit.TheVariants.{WholeWord};
+
+use crate::failure::Stop;
+use chromesquid::{Automaton, Input, Match, MatchError, MatchKind, Span};
+
+/// Whether a match of a line stands alone.
+pub fn has_alone<A: Automaton>(automaton: &A, line: &[u8]) -> Result<bool, Stop>
+    requires of { (p : Patterns) × A.is_of automaton.now p }
+    ensures alone { (p : Patterns) → A.is_of automaton.now p
+        → IfOk result (IsMatched p WholeWord line.now) }
+{
+    match next_alone(automaton, line, 0)? {
+        Some(_) => Ok(true),
+        None => Ok(false),
+    }
+}
+
+/// Of the matches of a line that stand alone, and begin at a place or behind it, the first, and of those that begin there the longest.
+pub fn next_alone<A: Automaton>(
+    automaton: &A,
+    line: &[u8],
+    at: usize,
+) -> Result<Option<Match>, Stop>
+    requires of { (p : Patterns) × A.is_of automaton.now p }
+    requires within { at ≤ length line.now + 1 }
+    ensures behind { IfOk result (λ found. IfSome found (λ m. at ≤ m.start)) }
+    ensures within { IfOk result (λ found. IfSome found (λ m. m.end ≤ length line.now)) }
+    ensures next { (p : Patterns) → A.is_of automaton.now p
+        → IfOk result (IsNextAlone p line.now at) }
+{
+    match automaton.match_kind() {
+        MatchKind::LeftmostLongest => longest_alone(automaton, line, at),
+        kind => Err(Stop::Search(MatchError::unsupported_overlapping(kind))),
+    }
+}
+
+/// The same where of the matches that begin first the longest is found.
+fn longest_alone<A: Automaton>(automaton: &A, line: &[u8], at: usize) -> Result<Option<Match>, Stop>
+    requires of { (p : Patterns) × A.is_of automaton.now p }
+    requires within { at ≤ length line.now + 1 }
+    ensures behind { IfOk result (λ found. IfSome found (λ m. at ≤ m.start)) }
+    ensures within { IfOk result (λ found. IfSome found (λ m. m.end ≤ length line.now)) }
+    ensures next { (p : Patterns) → A.is_of automaton.now p → p.kind ≡ LeftmostLongest
+        → IfOk result (IsNextAlone p line.now at) }
+{
+    let mut from = at;
+    while let Some(longest) = find_within(automaton, line, from, line.len())? {
+        if let Some(found) = alone_at(automaton, line, longest)? {
+            return Ok(Some(found));
+        }
+        from = longest.start() + 1;
+    }
+    Ok(None)
+}
+
+/// What a search of a range of a line finds.
+fn find_within<A: Automaton>(
+    automaton: &A,
+    line: &[u8],
+    start: usize,
+    end: usize,
+) -> Result<Option<Match>, Stop>
+    requires of { (p : Patterns) × A.is_of automaton.now p }
+    requires within { end ≤ length line.now }
+    requires ordered { start ≤ end + 1 }
+    ensures behind { IfOk result (λ found. IfSome found (λ m. start ≤ m.start)) }
+    ensures ordered { IfOk result (λ found. IfSome found (λ m. m.start ≤ m.end)) }
+    ensures within { IfOk result (λ found. IfSome found (λ m. m.end ≤ end)) }
+    ensures found { (p : Patterns) → A.is_of automaton.now p
+        → IfOk result (IsAnswer p (span_search line.now start end)) }
+{
+    Ok(automaton.try_find(&Input::new(line).span(Span { start, end }))?)
+}
+
+/// Of the matches that begin where this one does, which is the longest, the longest that stands alone.
+fn alone_at<A: Automaton>(automaton: &A, line: &[u8], longest: Match) -> Result<Option<Match>, Stop>
+    requires of { (p : Patterns) × A.is_of automaton.now p }
+    requires within { longest.end ≤ length line.now }
+    requires ordered { longest.start ≤ longest.end }
+    ensures start { IfOk result (λ found. IfSome found (λ m. m.start ≡ longest.start)) }
+    ensures within { IfOk result (λ found. IfSome found (λ m. m.end ≤ length line.now)) }
+    ensures alone { (p : Patterns) → A.is_of automaton.now p → p.kind ≡ LeftmostLongest
+        → IsLongestThere p line.now longest → IfOk result
+        (IsBestOrNone LeftmostLongest (IsAloneAt p line.now longest.start)) }
+{
+    if !begins_alone(line, longest.start()) {
+        return Ok(None);
+    }
+    let mut found = longest;
+    while !ends_alone(line, found.end()) {
+        match shorter(automaton, line, found)? {
+            Some(other) => found = other,
+            None => return Ok(None),
+        }
+    }
+    Ok(Some(found))
+}
+
+/// Of the matches that begin where this one does and are shorter, the longest.
+fn shorter<A: Automaton>(automaton: &A, line: &[u8], found: Match) -> Result<Option<Match>, Stop>
+    requires of { (p : Patterns) × A.is_of automaton.now p }
+    requires within { found.end ≤ length line.now }
+    requires ordered { found.start ≤ found.end }
+    ensures start { IfOk result (λ other. IfSome other (λ m. m.start ≡ found.start)) }
+    ensures ordered { IfOk result (λ other. IfSome other (λ m. m.start ≤ m.end)) }
+    ensures shorter { IfOk result (λ other. IfSome other (λ m. m.end < found.end)) }
+    ensures longest { (p : Patterns) → A.is_of automaton.now p → p.kind ≡ LeftmostLongest
+        → IfOk result (IsBestOrNone LeftmostLongest (IsShorter p line.now found)) }
+{
+    let start = found.start();
+    let end = found.end();
+    if start == end {
+        return Ok(None);
+    }
+    match find_within(automaton, line, start, end - 1)? {
+        Some(other) if other.start() == start => Ok(Some(other)),
+        _ => Ok(None),
+    }
+}
+
+/// The place from which the next such match is searched: behind this one, and one place on where it is empty.
+pub fn behind_alone(found: &Match) -> usize
+    requires small { found.now.start < 2 ^ 63 }
+    ensures behind { result ≡ behind_alone found.now }
+{
+    found.end().max(found.start() + 1)
+}
+
+/// Whether no letter, digit or `_` stands before a place of a line.
+fn begins_alone(line: &[u8], start: usize) -> bool
+    requires within { start ≤ length line.now }
+    ensures { result ≡ begins_alone line.now start }
+{
+    !(0 < start && is_word_constituent(line[start - 1]))
+}
+
+/// Whether none stands behind it.
+fn ends_alone(line: &[u8], end: usize) -> bool
+    ensures { result ≡ ends_alone line.now end }
+{
+    !(end < line.len() && is_word_constituent(line[end]))
+}
+
+/// Whether a byte is a letter of ASCII, a digit or `_`.
+fn is_word_constituent(byte: u8) -> bool
+    ensures { result ≡ is_word_constituent byte }
+{
+    byte.is_ascii_alphanumeric() || byte == b'_'
+}
