@@ -15,6 +15,7 @@ ghost use Rattle.acredact.specs.Pieces.{IfOfAll, TellsUnclean, pieces_by};
 ghost use Rattle.acredact.specs.Secrets.{IfOf};
 ghost use Rattle.acredact.specs.Statuses.{SaysOfRedaction};
 ghost use Rattle.acredact.specs.Tables.{HaveNoEmpty, secrets_of};
+ghost use Rattle.acredact.specs.Totals.{CountsWork};
 ghost use Rattle.acredact.specs.declared.clean.Unclean.{Unclean};
 ghost use Rattle.acredact.specs.declared.failure.Failure.TheVariants.{Unclean as UncleanPiece};
 ghost use Rattle.acredact.specs.declared.arguments.Word.TheVariants.{Count, Strict};
@@ -104,11 +105,12 @@ pub fn run<F: Folder, I: Read, W: Write, E: Sink>(
     ensures strict { IfAsked arguments.now (λ given. RefusesUnclean given → result ≡ 0
         → LeavesNoneAsked W.Write F.Folder folder.now given streams.old streams.new) }
 
-    // Where all was redacted nothing is told but a piece of a cover that is not clean, and the counts that are asked for.
+    // Where all was redacted nothing is told but a piece of a cover that is not clean, and the counts that are asked for: for each
+    // pattern, how many ranges of all texts were replaced by its text.
     ensures quiet { IfAsked arguments.now (λ given. has Count given ≡ false → result ≡ 0
         → WarnsAsked E.Sink F.Folder folder.now given streams.old streams.new) }
     ensures counts { IfAsked arguments.now (λ given. has Count given ≡ true → result ≡ 0
-        → CountsAsked E.Sink F.Folder folder.now given streams.old streams.new) }
+        → CountsAsked W.Write E.Sink F.Folder folder.now given streams.old streams.new) }
 
     // Else lines say why, and hold nothing of a file's content or of a pattern.
     ensures tells { IfAsked arguments.now (λ given. result ≡ 2
@@ -293,7 +295,7 @@ fn tell_counted<'a, E: Sink>(
     errors: &mut Errors<'_, E>,
 ) -> Result<bool, Failure<'a>>
     ensures all { IfOk result (λ done. done ≡ all) }
-    ensures told { OnOk result (MatchBool counted (TellsCounts E.Sink errors.old errors.new)
+    ensures told { OnOk result (MatchBool counted (TellsCounts E.Sink rules.now counts.now errors.old errors.new)
         (errors.new ≡ errors.old)) }
     ensures lines { Tells E.Sink (IsCountsLine counted) errors.old errors.new }
     ensures fails { IfErr result (IsCountsFailure counted) }
@@ -331,6 +333,8 @@ fn redact_all<'a, F: Folder, I: Read, W: Write, E: Sink>(
     ensures outcome { WarnedOutcome W.Write E.Sink (has Strict (all_given given.now))
         (work_by (call_of F.Folder folder.now (all_given given.now)) (secrets_of rules.now))
         result streams.old streams.new }
+    ensures counted { CountsWork (work_by (call_of F.Folder folder.now (all_given given.now)) (secrets_of rules.now))
+        result streams.old streams.new counts.old counts.new }
     ensures flushed { OnOk result (streams.new.output.device.flushed ≡ true) }
 {
     let patterns = patterns_of(alloc, rules)?;
@@ -374,6 +378,9 @@ fn redact_warned<'a, A: Automaton, B: Automaton, F: Folder, I: Read, W: Write, E
     requires pieces { pieces_of job.now.replacements.now ≡ pieces_by judge.now }
     ensures outcome { IfOfAll A.Automaton B.Automaton automaton.now rows.entry judge.now
         (λ p. WarnedJob W.Write E.Sink F.Folder strict job.now p result streams.old streams.new) }
+    ensures counted { IfOfAll A.Automaton B.Automaton automaton.now rows.entry judge.now
+        (λ p. CountsWork (work_of F.Folder job.now (redactor_of job.now p)) result streams.old streams.new
+        counts.old counts.new) }
     ensures flushed { OnOk result (streams.new.output.device.flushed ≡ true) }
 {
     let unclean = unclean_of(automaton, judge, job.covers);
@@ -419,6 +426,9 @@ fn redact_by<A: Automaton, B: Automaton, F: Folder, I: Read, W: Write, E: Sink>(
     requires rows { IfSome rows (λ rows. CanDo B.Automaton rows.now job.now) }
     ensures outcome { IfOf A.Automaton automaton.now (λ p. IfSome rows.entry (λ rows. B.is_of rows.now p)
         → FilesOutcome W.Write E.Sink (work_of F.Folder job.now (redactor_of job.now p)) result streams.old streams.new) }
+    ensures counted { IfOf A.Automaton automaton.now (λ p. IfSome rows.entry (λ rows. B.is_of rows.now p)
+        → CountsWork (work_of F.Folder job.now (redactor_of job.now p)) result streams.old streams.new
+        counts.old counts.new) }
     ensures flushed { OnOk result (streams.new.output.device.flushed ≡ true) }
 {
     match rows {
