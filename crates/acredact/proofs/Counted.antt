@@ -20,14 +20,17 @@ use Rattle.aho_devices.specs.Refusals.{IsFillRefusal, IsWriteRefusal, is_read_fa
 use Rattle.aho_devices.specs.declared.device.Sink.{Ghosts as SinkGhosts}
 use Rattle.aho_devices.specs.declared.device.Source.{Ghosts as SourceGhosts}
 use Rattle.aho_laws.proofs.Iterations.{finds-exist}
+use Rattle.aho_cover.specs.Counting.{CountsThese}
+use Rattle.aho_cover.proofs.Counted.{counts_none, counts_then}
 use Rattle.aho_automaton.specs.declared.automaton.Automaton.{Ghosts}
 use Rattle.aho_stream.specs.Refills.{is_limit}
 use Rattle.aho_stream.specs.Replacing.{MayBe, SourceGave}
-use Rattle.aho_stream.specs.StreamRun.{CallsOn, CanBegin, RefusesUntouched, RunsOver, SinkTakes}
+use Rattle.aho_stream.specs.StreamRun.{CallsOn, CanBegin, RefusesUntouched, RunsAndLeaves, RunsLent, RunsOver, SinkTakes}
 use Rattle.programs.proofs.Beginnings.{beginning-later, beginning-more}
 use Rattle.acredact.specs.Faults.{IsStreamEnd}
 use Rattle.acredact.specs.Secrets.{BeginsRedaction, Redactor}
 use Rattle.acredact.specs.Streams.{RedactsStream, StreamOutcome, WritesPiece}
+use Rattle.acredact.specs.Totals.{CountsOfStream}
 use Rattle.acredact.proofs.Redactions.{begins_by, begins_nothing, of_finds, redaction_by, some_by, starts_whole, to_finds}
 
 -- an error of a run: of the reading where it stopped, or of a write
@@ -157,6 +160,24 @@ module _ {F W : Type 0} (K : SinkGhosts W) (calls : F → Occurrence → List �
       (takes_sink K stopped old (slice_range haystack at m.start) (Ok tt) lent gap)
       (takes_later K stopped lent left new result (piece m) (replaced_from haystack m.end ms piece)
       (piece_taken lent m left step.2) (run_takes ms m.end next left result last new step.1 later))
+
+-- a run that comes to its good end counts each match, where the closure counts the one that it is called on
+module _ {F W : Type 0} (K : SinkGhosts W) (calls : F → Occurrence → List ℕ → W → Result Bool StreamError → F → W → Type 0) (stopped : Bool) (haystack : List ℕ)
+    (counts_of : F → List ℕ) (Fits : F → Type 0)
+    (goes_on : (f : F) (m : Occurrence) (matched : List ℕ) (old : W) (goes : Bool) (next : F) (new : W) → Fits f → calls f m matched old (Ok goes) next new
+    → (goes ≡ true) × Fits next × CountsThese (m ∷ []) (counts_of f) (counts_of next)) where
+  pub run_counts : (ms : List Occurrence) (at : ℕ) (f : F) (old : W) (last : F) (new : W) → Fits f → ClosureRun (SinkTakes K stopped) calls haystack at ms f old (Ok tt) last new
+      → Fits last × CountsThese ms (counts_of f) (counts_of last)
+  run_counts [] at f old last new fits run =
+      (subst Fits (sym run.0) fits, subst (λ (g : F). CountsThese [] (counts_of f) (counts_of g)) (sym run.0) (counts_none (counts_of f)))
+  run_counts (m ∷ ms) at f old last new fits (inl refused) = let clash = refused.1 in absurd (cc)
+  run_counts (m ∷ ms) at f old last new fits (inr (lent, gap, (Err reason, next, left, called, ends))) = let clash = ends.0 in absurd (cc)
+  run_counts (m ∷ ms) at f old last new fits (inr (lent, gap, (Ok goes, next, left, called, ends))) =
+      let step = goes_on f m (slice_range haystack m.start m.end) lent goes next left fits called in
+      let later : ClosureRun (SinkTakes K stopped) calls haystack m.end ms next left (Ok tt) last new =
+      subst (λ (b : Bool). MatchBool b (ClosureRun (SinkTakes K stopped) calls haystack m.end ms next left (Ok tt) last new) ((last ≡ next) × SinkTakes K stopped left (drop m.end haystack) (Ok tt) new)) step.0 ends in
+      let rest = run_counts ms m.end next left last new step.1 later in
+      (rest.0, counts_then (m ∷ []) ms (counts_of f) (counts_of next) (counts_of last) step.2 rest.1)
 
 -- none may follow what was given
 no_more : (given : List ℕ) (ended : Bool) → MayBe given ended given
@@ -293,3 +314,33 @@ module _ {A R W F : Type 0} (G : Ghosts A) (S : SourceGhosts R) (K : SinkGhosts 
         | inl memory ↦ no_memory result memory
         | inr over ↦ ran result over
       ]
+
+  -- and what was counted, where the closure is lent
+  module _ (last : F) (counts_of : F → List ℕ)
+      (counts : (f : F) (m : Occurrence) (matched : List ℕ) (old : W) (next : F) (new : W) → Fits f → CalledOn calls f m matched old (Ok tt) next new → CountsThese (m ∷ []) (counts_of f) (counts_of next)) where
+    lent_whole : RunsAndLeaves S K (G.is_of automaton) calls source source' closure sink (Ok tt) last sink' → Fits last × CountsOfStream S r source source' (counts_of closure) (counts_of last)
+    lent_whole over =
+        let finds = finds-exist r.patterns (plain_search over.given) None (le_refl (length over.given)) in
+        let run = over.run r.patterns over.given finds.0 of (no_more over.given over.ended) finds.1 in
+        let counted = run_counts K (CallsOn calls) over.stopped over.given counts_of Fits
+        (λ f m matched old goes next new is called. (called.0, (goes_on f m matched old next new is called.1).0, counts f m matched old next new is called.1))
+        finds.0 0 closure sink last sink' fits run in (
+          counted.0,
+          record {
+            text = over.given;
+            gives = subst (SourceGave S source source' over.given) over.whole over.gives;
+            ranges = finds.0;
+            found = of_finds r plain over.given finds.0 finds.1;
+            counted = counted.1;
+          },
+        )
+
+    -- whatever is answered
+    pub lent_counts : (result : Result (Unit {0}) StreamError) → (CanBegin G automaton → RunsLent S K (G.is_of automaton) calls source source' closure sink result last sink')
+        → OnOk result (Fits last × CountsOfStream S r source source' (counts_of closure) (counts_of last))
+    lent_counts (Err error) runs = tt
+    lent_counts (Ok tt) runs =
+        elim (runs can) [
+          | inl memory ↦ let clash = memory.0.0 in absurd (cc)
+          | inr over ↦ lent_whole over
+        ]

@@ -16,7 +16,7 @@ use Rattle.programs.specs.declared.failure.Failure.{Failure as OtherFailure}
 use Rattle.programs.specs.declared.failure.Failure.TheVariants.{Build, OutOfMemory, Write, WriteZero}
 use Rattle.programs.specs.declared.reason.Reason.{Reason}
 use Rattle.acredact.specs.Arguments.{Given, GivesNoPattern, RefusesUnclean, covers_asked, has, is_same, last_value}
-use Rattle.acredact.specs.Builds.{patterns_by_given}
+use Rattle.acredact.specs.Builds.{RefusesPatterns, patterns_by_given}
 use Rattle.acredact.specs.Counts.{counts_text, counts_told}
 use Rattle.acredact.specs.Failures.{IsFailureLine}
 use Rattle.acredact.specs.Files.{AreCut, AreDone, AreFree, AreRedacted, Does, Work, are_none, redactor_of, unread_line, work_of}
@@ -95,11 +95,13 @@ OutputFails output output' =
 abbrev pub IsPrintFailure : Type 0 → Failure → Type 0
 IsPrintFailure fails failure = ((failure ≡ Other Write) ⊎ (failure ≡ Other WriteZero)) × fails
 
--- why files are not redacted: the library refuses them, memory runs out, or the output fails
+-- why files are not redacted: memory runs out, or the output fails
 abbrev pub IsRunFailure : (fails : Type 0) → Failure → Type 0
-IsRunFailure fails failure =
-    ((error : BuildError) × (failure ≡ Other (Build error)))
-    ⊎ ((failure ≡ Other OutOfMemory) ⊎ IsPrintFailure fails failure)
+IsRunFailure fails failure = (failure ≡ Other OutOfMemory) ⊎ IsPrintFailure fails failure
+
+-- why patterns are not searched for: the library refuses just these
+abbrev pub IsBuildRefusal : Patterns → Failure → Type 0
+IsBuildRefusal p failure = (error : BuildError) × (failure ≡ Other (Build error)) × RefusesPatterns p error
 
 -- why pieces are refused: one of a cover is not clean
 abbrev pub IsStrictFailure : (strict : Bool) → Redactor → Failure → Type 0
@@ -112,15 +114,22 @@ IsUncleanFailure call failure = (secrets : List Secret) × (left : Option (List 
     × AreGiven (reading_by call) call.given secrets left between
     × IsStrictFailure (has Strict call.given) (redactor_by_given call.given secrets) failure
 
+-- those that were loaded are refused
+abbrev pub IsRefusedCall : Call → Failure → Type 0
+IsRefusedCall call failure = (secrets : List Secret) × (left : Option (List ℕ)) × (between : Option (List ℕ))
+    × AreGiven (reading_by call) call.given secrets left between
+    × IsBuildRefusal (patterns_by_given call.given (patterns_in secrets)) failure
+
 -- why a call ends early: there is no pattern, one of the options cannot be loaded, the counts cannot be written, a piece is not clean,
--- or the files are not redacted
+-- the patterns are refused, or the files are not redacted
 abbrev pub MayFail : Call → (fails : Type 0) → Failure → Type 0
 MayFail call fails failure =
     ((failure ≡ Arguments NoRoom) ⊎ ((failure ≡ Arguments NoPattern) × GivesNoPattern call.given))
     ⊎ (CannotLoadOne (reading_by call) call.given failure
     ⊎ (((failure ≡ Counts) × (has Count call.given ≡ true))
     ⊎ (IsUncleanFailure call failure
-    ⊎ IsRunFailure fails failure)))
+    ⊎ (IsRefusedCall call failure
+    ⊎ IsRunFailure fails failure))))
 
 -- the line that tells why a file was not read to its end, or that the output goes to it
 abbrev pub IsUnreadLine : List (List ℕ) → List ℕ → Type 0
@@ -279,7 +288,8 @@ module _ {R : Type 0} {Reads : Readers R} {W : Type 0} (Writes : Writers W) wher
     abbrev pub WarnedOutcome : (strict : Bool) → Work → Result Bool Failure → (streams streams' : Streams R W E Reads) → Type 0
     WarnedOutcome strict work result streams streams' =
         ((failure : Failure) × (result ≡ Err failure) × (streams' ≡ streams)
-        × (IsStrictFailure strict work.redactor failure ⊎ IsRunFailure (OutputFails streams.output streams.output) failure))
+        × (IsStrictFailure strict work.redactor failure
+        ⊎ (IsBuildRefusal work.redactor.patterns failure ⊎ IsRunFailure (OutputFails streams.output streams.output) failure)))
         ⊎ ((errors : Errors E) × TellsOfPieces K strict work.redactor streams.errors errors × RunOutcome work result (record streams { errors = errors }) streams')
 
     -- the same of a job, where files are redacted by these patterns

@@ -1,9 +1,9 @@
 //! The redaction of one stream.
 
-ghost use Rattle.std.specs.Prelude.{◌≡◌, ◌<◌, ◌≤◌, OnOk, [], false, length, slice_index, slice_index_or, slice_set, true};
+ghost use Rattle.std.specs.Prelude.{◌≡◌, ◌∷◌, OnOk, [], false, slice_index_or, true};
 ghost use Rattle.aho_core.specs.Replacement.{pieces_of};
+ghost use Rattle.aho_cover.specs.Counting.{CountsThese};
 ghost use Rattle.aho_cover.specs.Covers.{IsUnbegunCover};
-ghost use Rattle.acredact.specs.Counts.{CountsOne, counted_more};
 ghost use Rattle.acredact.specs.Secrets.{IfOf, CanRedact, redactor_by};
 ghost use Rattle.acredact.specs.Streams.{StreamOutcome, WritesPiece};
 ghost use Rattle.acredact.specs.Totals.{CountsOfStream};
@@ -95,19 +95,17 @@ fn put_counted<W: Sink>(
 ) -> Result<(), StreamError>
     ensures written { WritesPiece W.Sink result sink.old sink.new
         (slice_index_or (pieces_of replacements.now) found.now.pattern []) }
-    ensures counted { CountsOne found.now.pattern counts.old counts.new }
+    ensures counted { CountsThese (found.now ∷ []) counts.old counts.new }
 {
-    let number = found.pattern().as_usize();
-    count_one(counts, number);
-    write_piece(sink, replacements, number)
+    count_match(counts, found);
+    write_piece(sink, replacements, found.pattern().as_usize())
 }
 
-/// One match more of the pattern of this number. A count stops at the greatest number.
-fn count_one(counts: &mut [u64], number: usize)
-    ensures counted { number < length counts.old → counts.new
-        ≡ slice_set counts.old number (counted_more (slice_index counts.old number)) }
-    ensures uncounted { length counts.old ≤ number → counts.new ≡ counts.old }
+/// One match more of its pattern, where that has a count. A count stops at the greatest number.
+fn count_match(counts: &mut [u64], found: &Match)
+    ensures counted { CountsThese (found.now ∷ []) counts.old counts.new }
 {
+    let number = found.pattern().as_usize();
     if number < counts.len() {
         counts[number] = counts[number].saturating_add(1);
     }

@@ -20,8 +20,10 @@ returns-in_err-counts-clause-outcome g c = λ left loaded.
 
 pub returns-in-Ok-clause-outcome : goal.returns-in-Ok-clause-outcome
 returns-in-Ok-clause-outcome g c = λ left loaded.
-    call_told g.W.Write g.E.Sink (call_of g.F.Folder c.args.folder.now (all_given c.args.given.now)) left (secrets_of c.args.rules.now) c.args.streams.now c.redact_all.new.streams loaded
-    c.in-Ok.all c.has-counted.result c.tell_counted.result _ c.has-counted.ensures.has c.in-Ok.ensures.outcome c.tell_counted.ensures.all c.tell_counted.ensures.told c.tell_counted.ensures.fails c.tell_counted.ensures.lines
+    call_told g.W.Write g.E.Sink (call_of g.F.Folder c.args.folder.now (all_given c.args.given.now)) left c.args.rules.now _ c.args.streams.now c.redact_all.new.streams loaded
+    c.in-Ok.all c.has-counted.result c.tell_counted.result _ c.has-counted.ensures.has c.in-Ok.ensures.outcome
+    (λ whole. subst (λ (l : List ℕ). CountsOfNames (bytes_left c.args.streams.now.input) (bytes_left c.redact_all.new.streams.input) l _ (work_by (call_of g.F.Folder c.args.folder.now (all_given c.args.given.now)) (secrets_of c.args.rules.now)) (names_asked (all_given c.args.given.now)))
+    (search rules) (c.in-Ok.ensures.counted (ap Ok whole))) c.tell_counted.ensures.all c.tell_counted.ensures.told c.tell_counted.ensures.fails c.tell_counted.ensures.lines
 
 pub returns-clause-outcome : goal.returns-clause-outcome
 returns-clause-outcome g c = λ left loaded.
