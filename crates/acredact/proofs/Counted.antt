@@ -11,6 +11,7 @@ use Rattle.aho_core.specs.ClosureRun.{CalledOn, ClosureRun}
 use Rattle.aho_core.specs.Iteration.{AreFinds}
 use Rattle.aho_core.specs.Laws.{shortest}
 use Rattle.aho_core.specs.Occurrence.{Occurrence}
+use Rattle.aho_core.specs.Patterns.{Patterns}
 use Rattle.aho_core.specs.Replacement.{replaced, replaced_from}
 use Rattle.aho_core.specs.Search.{plain_search}
 use Rattle.aho_core.specs.declared.error.stream.StreamError.{StreamError}
@@ -179,6 +180,23 @@ module _ {F W : Type 0} (K : SinkGhosts W) (calls : F → Occurrence → List �
       let rest = run_counts ms m.end next left last new step.1 later in
       (rest.0, counts_then (m ∷ []) ms (counts_of f) (counts_of next) (counts_of last) step.2 rest.1)
 
+-- of a closure that is lent no less is known
+pub over_lent : {R F W : Type 0} {S : SourceGhosts R} {K : SinkGhosts W} {IsOf : Patterns → Type 0}
+    {calls : Mut F (Bor Occurrence × (Bor (List ℕ) × (MutBor W × Unit {0}))) (Result (Unit {0}) StreamError × (MutBor W × Unit {0}))}
+    {source source' : R} {closure : F} {sink : W} {result : Result (Unit {0}) StreamError} {last : F} {sink' : W}
+    → RunsAndLeaves S K IsOf calls source source' closure sink result last sink' → RunsOver S K IsOf calls source source' closure sink result sink'
+over_lent {last = last} over = record {
+  given = over.given;
+  ended = over.ended;
+  stopped = over.stopped;
+  gives = over.gives;
+  whole = over.whole;
+  read_failed = over.read_failed;
+  limit = over.limit;
+  run = λ p bytes ms of may finds. (last, over.run p bytes ms of may finds);
+  near = λ stopped. let near = over.near stopped in (near.0, near.1, near.2, λ p bytes ms of may finds. (last, near.3 p bytes ms of may finds));
+}
+
 -- none may follow what was given
 no_more : (given : List ℕ) (ended : Bool) → MayBe given ended given
 no_more given true = ([], sym (append-nil given), refl)
@@ -305,27 +323,34 @@ module _ {A R W F : Type 0} (G : Ghosts A) (S : SourceGhosts R) (K : SinkGhosts 
       (subst (λ (s : R). StreamOutcome S K r (Err Memory) source s sink sink') (sym refused.1)
       (subst (λ (k : W). StreamOutcome S K r (Err Memory) source source sink k) (sym refused.2) untouched))
 
-  -- whatever is answered
-  pub counted_of : (result : Result (Unit {0}) StreamError)
-      → (CanBegin G automaton → RefusesUntouched result Memory source source' sink sink' ⊎ RunsOver S K (G.is_of automaton) calls source source' closure sink result sink')
-      → StreamOutcome S K r result source source' sink sink'
-  counted_of result runs =
+  -- whatever is answered, where the closure is lent
+  pub lent_of : (result : Result (Unit {0}) StreamError) (last : F) → (CanBegin G automaton → RunsLent S K (G.is_of automaton) calls source source' closure sink result last sink') → StreamOutcome S K r result source source' sink sink'
+  lent_of result last runs =
       elim (runs can) [
-        | inl memory ↦ no_memory result memory
-        | inr over ↦ ran result over
+        | inl memory ↦ no_memory result memory.0
+        | inr over ↦ ran result (over_lent over)
       ]
 
-  -- and what was counted, where the closure is lent
-  module _ (last : F) (counts_of : F → List ℕ)
-      (counts : (f : F) (m : Occurrence) (matched : List ℕ) (old : W) (next : F) (new : W) → Fits f → CalledOn calls f m matched old (Ok tt) next new → CountsThese (m ∷ []) (counts_of f) (counts_of next)) where
-    lent_whole : RunsAndLeaves S K (G.is_of automaton) calls source source' closure sink (Ok tt) last sink' → Fits last × CountsOfStream S r source source' (counts_of closure) (counts_of last)
+  -- and what was counted, where the closure counts into the same borrow all along
+  module _ (last : F) (name_of : F → ℕ) (counts_of : F → List ℕ)
+      (counts : (f : F) (m : Occurrence) (matched : List ℕ) (old : W) (next : F) (new : W) → Fits f → CalledOn calls f m matched old (Ok tt) next new
+      → (name_of next ≡ name_of f) × CountsThese (m ∷ []) (counts_of f) (counts_of next)) where
+    abbrev FitsNamed : F → Type 0
+    FitsNamed f = Fits f × (name_of f ≡ name_of closure)
+
+    abbrev Counted : Type 0
+    Counted = (name_of last ≡ name_of closure) × CountsOfStream S r source source' (counts_of closure) (counts_of last)
+
+    lent_whole : RunsAndLeaves S K (G.is_of automaton) calls source source' closure sink (Ok tt) last sink' → Counted
     lent_whole over =
         let finds = finds-exist r.patterns (plain_search over.given) None (le_refl (length over.given)) in
         let run = over.run r.patterns over.given finds.0 of (no_more over.given over.ended) finds.1 in
-        let counted = run_counts K (CallsOn calls) over.stopped over.given counts_of Fits
-        (λ f m matched old goes next new is called. (called.0, (goes_on f m matched old next new is called.1).0, counts f m matched old next new is called.1))
-        finds.0 0 closure sink last sink' fits run in (
-          counted.0,
+        let counted = run_counts K (CallsOn calls) over.stopped over.given counts_of FitsNamed
+        (λ f m matched old goes next new is called.
+        let step = counts f m matched old next new is.0 called.1 in
+        (called.0, ((goes_on f m matched old next new is.0 called.1).0, step.0 ∙ is.1), step.1))
+        finds.0 0 closure sink last sink' (fits, refl) run in (
+          counted.0.1,
           record {
             text = over.given;
             gives = subst (SourceGave S source source' over.given) over.whole over.gives;
@@ -336,8 +361,7 @@ module _ {A R W F : Type 0} (G : Ghosts A) (S : SourceGhosts R) (K : SinkGhosts 
         )
 
     -- whatever is answered
-    pub lent_counts : (result : Result (Unit {0}) StreamError) → (CanBegin G automaton → RunsLent S K (G.is_of automaton) calls source source' closure sink result last sink')
-        → OnOk result (Fits last × CountsOfStream S r source source' (counts_of closure) (counts_of last))
+    pub lent_counts : (result : Result (Unit {0}) StreamError) → (CanBegin G automaton → RunsLent S K (G.is_of automaton) calls source source' closure sink result last sink') → OnOk result Counted
     lent_counts (Err error) runs = tt
     lent_counts (Ok tt) runs =
         elim (runs can) [

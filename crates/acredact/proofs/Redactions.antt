@@ -244,12 +244,12 @@ counts_of_cover S r covers AreSearched of source source' counts counts' whole =
     record { text = whole.given; gives = whole.gives; ranges = runs; found = of_runs r covers whole.given runs are; counted = whole.counted r.patterns runs of are }
 
 -- and where there are no counts
-pub uncounted : {R W : Type 0} (S : SourceGhosts R) {K : SinkGhosts W} (r : Redactor) (source source' : R) (sink sink' : W) (counts : List ℕ) → counts ≡ [] → RedactsStream S K r source source' sink sink'
+pub uncounted : {R W : Type 0} (S : SourceGhosts R) {K : SinkGhosts W} (r : Redactor) (source source' : R) (sink sink' : W) (counts : List ℕ) → length counts ≡ 0 → RedactsStream S K r source source' sink sink'
     → CountsOfStream S r source source' counts counts
 uncounted S r source source' sink sink' counts none whole = record {
   text = whole.text;
   gives = whole.gives;
   ranges = whole.redacts.ranges;
   found = whole.redacts.found;
-  counted = record { as_many = refl; grown = λ number (within : number < length counts). let size : length counts ≡ 0 = ap length none in absurd (omega (arith, within, size)) };
+  counted = record { as_many = refl; grown = λ number (within : number < length counts). absurd (omega (arith, within, none)) };
 }

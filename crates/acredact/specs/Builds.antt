@@ -14,15 +14,15 @@ abbrev pub patterns_by_given : List Given → List (List ℕ) → Patterns
 patterns_by_given given words = record { words = words; kind = kind_asked given; ignore_case = has IgnoreCase given }
 
 -- the settings of an automaton's build: all else is as a new builder has it
-abbrev pub settings_for : Patterns → Settings
-settings_for p = record default_settings { kind = p.kind; ignore_case = p.ignore_case }
+abbrev pub build_settings : Patterns → Settings
+build_settings p = record default_settings { kind = p.kind; ignore_case = p.ignore_case }
 
 abbrev pub settings_by_given : List Given → Settings
-settings_by_given given = settings_for (patterns_by_given given [])
+settings_by_given given = build_settings (patterns_by_given given [])
 
 -- why the library does not make it: memory is wanting, or the first number that these patterns ask for above its limit, and the error says
 -- which that is
 abbrev pub RefusesPatterns : Patterns → BuildError → Type 0
 RefusesPatterns p error =
     (error ≡ OutOfMemory)
-    ⊎ ((refused : Growth) × (cause (settings_for p) p ≡ Some refused) × (error ≡ refusal_of (settings_for p) refused))
+    ⊎ ((refused : Growth) × (cause (build_settings p) p ≡ Some refused) × (error ≡ refusal_of (build_settings p) refused))

@@ -1,5 +1,5 @@
 -- What a call does, by what its arguments ask for, and what it tells.
-use Rattle.std.specs.Prelude.{◌≡◌, ◌⊎◌, ℕ, ◌||◌, Bool, true, false, List, [], ◌∷◌, Option, Result, Ok, Err, IfErr, IfOk, OnErr, codes, length, map, unwrap_or, if◌then◌else◌}
+use Rattle.std.specs.Prelude.{◌≡◌, ◌⊎◌, ℕ, ◌||◌, Bool, MatchBool, true, false, List, [], ◌∷◌, Option, Result, Ok, Err, IfErr, IfOk, OnErr, codes, length, map, unwrap_or, if◌then◌else◌}
 use Rattle.std.specs.declared.io.traits.Read.{Ghosts as Readers}
 use Rattle.std.specs.declared.io.traits.Write.{Ghosts as Writers}
 use Rattle.aho_core.specs.Occurrence.{Occurrence}
@@ -176,6 +176,10 @@ IsRefusedLine failure line = IsFailureLine NotText line ⊎ IsFailureLine (Other
 pub record TellsCounts {E : Type 0} (K : SinkGhosts E) (rules : List Rule) (counts : List ℕ) (errors errors' : Errors E) : Type 0 where
   pub told : TellsBytes K errors errors' (counts_told rules counts)
   pub whole : errors'.failed ≡ false
+
+-- they are, or nothing is
+abbrev pub TellsAnyCounts : {E : Type 0} → SinkGhosts E → Bool → List Rule → (counts : List ℕ) → (errors errors' : Errors E) → Type 0
+TellsAnyCounts K counted rules counts errors errors' = MatchBool counted (TellsCounts K rules counts errors errors') (errors' ≡ errors)
 
 -- it is told whole how many of these ranges have the text of each pattern in their place
 pub record TellsTotals {E : Type 0} (K : SinkGhosts E) (secrets : List Secret) (ranges : List Occurrence) (errors errors' : Errors E) : Type 0 where

@@ -5,9 +5,9 @@ ghost use Rattle.aho_devices.specs.Counts.{counted};
 ghost use Rattle.programs.specs.Names.{is_input};
 ghost use Rattle.programs.specs.Streams.{bytes_left};
 ghost use Rattle.acredact.specs.Faults.{is_unread, reading_of};
-ghost use Rattle.acredact.specs.Files.{CanDo, FileOutcome, FilesOutcome, JobOutcome, TextOutcome, ToldOutcome, redactor_of, work_of};
+ghost use Rattle.acredact.specs.Files.{CanDo, FileOutcome, FilesOutcome, JobOutcome, TextOutcome, ToldOutcome, work_of};
 ghost use Rattle.acredact.specs.Secrets.{IfOf, Redactor};
-ghost use Rattle.acredact.specs.Totals.{CountsFile, CountsOfText, CountsTold, CountsWork};
+ghost use Rattle.acredact.specs.Totals.{CountsFile, CountsJob, CountsOfText, CountsOpened, CountsTold, JobCounts};
 ghost use Rattle.acredact.specs.Ways.{IfBy, Redacts};
 
 use crate::failure::{tell_output, tell_unread};
@@ -53,7 +53,7 @@ pub fn redact_files<A: Automaton, F: Folder, I: Read, W: Write, E: Sink>(
     requires ready { CanDo A.Automaton automaton.now job.now }
     ensures outcome { JobOutcome W.Write E.Sink A.Automaton F.Folder
         automaton.now job.now result streams.old streams.new }
-    ensures counted { IfOf A.Automaton automaton.now (λ p. CountsWork (work_of F.Folder job.now (redactor_of job.now p))
+    ensures counted { IfOf A.Automaton automaton.now (JobCounts F.Folder job.now
         result streams.old streams.new counts.old counts.new) }
     ensures flushed { OnOk result (streams.new.output.device.flushed ≡ true) }
 {
@@ -74,7 +74,7 @@ fn cover_files<A: Automaton, F: Folder, I: Read, W: Write, E: Sink>(
     requires covers { job.now.covers ≡ true }
     ensures outcome { JobOutcome W.Write E.Sink A.Automaton F.Folder
         automaton.now job.now result streams.old streams.new }
-    ensures counted { IfOf A.Automaton automaton.now (λ p. CountsWork (work_of F.Folder job.now (redactor_of job.now p))
+    ensures counted { IfOf A.Automaton automaton.now (JobCounts F.Folder job.now
         result streams.old streams.new counts.old counts.new) }
     ensures flushed { OnOk result (streams.new.output.device.flushed ≡ true) }
 {
@@ -97,7 +97,7 @@ fn replace_files<A: Automaton, F: Folder, I: Read, W: Write, E: Sink>(
     requires plain { job.now.covers ≡ false }
     ensures outcome { JobOutcome W.Write E.Sink A.Automaton F.Folder
         automaton.now job.now result streams.old streams.new }
-    ensures counted { IfOf A.Automaton automaton.now (λ p. CountsWork (work_of F.Folder job.now (redactor_of job.now p))
+    ensures counted { IfOf A.Automaton automaton.now (JobCounts F.Folder job.now
         result streams.old streams.new counts.old counts.new) }
     ensures flushed { OnOk result (streams.new.output.device.flushed ≡ true) }
 {
@@ -119,7 +119,7 @@ fn redact_flushed<X: Way, F: Folder, I: Read, W: Write, E: Sink>(
     requires ready { (r : Redactor) × Redacts X.Way way.old r }
     ensures outcome { IfBy X.Way way.old (λ r. FilesOutcome W.Write E.Sink
         (work_of F.Folder job.now r) result streams.old streams.new) }
-    ensures counted { IfBy X.Way way.old (λ r. CountsWork (work_of F.Folder job.now r)
+    ensures counted { IfBy X.Way way.old (CountsJob F.Folder job.now
         result streams.old streams.new counts.old counts.new) }
     ensures flushed { OnOk result (streams.new.output.device.flushed ≡ true) }
 {
@@ -138,7 +138,7 @@ fn redact_each<X: Way, F: Folder, I: Read, W: Write, E: Sink>(
     requires ready { (r : Redactor) × Redacts X.Way way.old r }
     ensures outcome { IfBy X.Way way.old (λ r. FilesOutcome W.Write E.Sink
         (work_of F.Folder job.now r) result streams.old streams.new) }
-    ensures counted { IfBy X.Way way.old (λ r. CountsWork (work_of F.Folder job.now r)
+    ensures counted { IfBy X.Way way.old (CountsJob F.Folder job.now
         result streams.old streams.new counts.old counts.new) }
 {
     let mut all = true;
@@ -170,7 +170,7 @@ fn redact_told<X: Way, F: Folder, I: Read, W: Write, E: Sink>(
     requires ready { (r : Redactor) × Redacts X.Way way.old r }
     ensures outcome { IfBy X.Way way.old (λ r. ToldOutcome W.Write E.Sink
         (work_of F.Folder job.now r) name.now result streams.old streams.new) }
-    ensures counted { IfBy X.Way way.old (λ r. CountsTold (work_of F.Folder job.now r) name.now
+    ensures counted { IfBy X.Way way.old (CountsTold F.Folder job.now name.now
         result streams.old streams.new counts.old counts.new) }
     ensures still { IfBy X.Way way.old (Redacts X.Way way.new) }
 {
@@ -193,7 +193,7 @@ fn redact_apart<X: Way, F: Folder, I: Read, W: Write, E: Sink>(
     requires apart { F.meets job.now.folder.now name.now false }
     ensures outcome { IfBy X.Way way.old (λ r. ToldOutcome W.Write E.Sink
         (work_of F.Folder job.now r) name.now result streams.old streams.new) }
-    ensures counted { IfBy X.Way way.old (λ r. CountsTold (work_of F.Folder job.now r) name.now
+    ensures counted { IfBy X.Way way.old (CountsTold F.Folder job.now name.now
         result streams.old streams.new counts.old counts.new) }
     ensures still { IfBy X.Way way.old (Redacts X.Way way.new) }
 {
@@ -225,7 +225,7 @@ fn redact_file<X: Way, F: Folder, I: Read, W: Write>(
     requires ready { (r : Redactor) × Redacts X.Way way.old r }
     ensures outcome { IfBy X.Way way.old (λ r. FileOutcome W.Write
         (work_of F.Folder job.now r) name.now result input.old input.new output.old output.new) }
-    ensures counted { IfBy X.Way way.old (λ r. CountsFile (work_of F.Folder job.now r) name.now
+    ensures counted { IfBy X.Way way.old (CountsFile F.Folder job.now name.now
         result input.old input.new counts.old counts.new) }
     ensures still { IfBy X.Way way.old (Redacts X.Way way.new) }
 {
@@ -255,8 +255,8 @@ fn redact_opened<X: Way, I: Read + Drop, W: Write>(
     requires ready { (r : Redactor) × Redacts X.Way way.old r }
     ensures outcome { IfBy X.Way way.old (λ r. (rest : Option (List ℕ)) × TextOutcome
         W.Write r result (I.remaining reader) rest output.old output.new) }
-    ensures counted { IfBy X.Way way.old (λ r. result ≡ Ok None → (rest : Option (List ℕ))
-        × CountsOfText (I.remaining reader) rest counts.old counts.new r) }
+    ensures counted { result ≡ Ok None → IfBy X.Way way.old
+        (CountsOpened (I.remaining reader) counts.old counts.new) }
     ensures still { IfBy X.Way way.old (Redacts X.Way way.new) }
 {
     let mut source = FromRead::new(reader);
@@ -273,8 +273,8 @@ fn redact_input<X: Way, I: Read, W: Write>(
     requires ready { (r : Redactor) × Redacts X.Way way.old r }
     ensures outcome { IfBy X.Way way.old (λ r. TextOutcome W.Write r
         result (bytes_left input.old) (bytes_left input.new) output.old output.new) }
-    ensures counted { IfBy X.Way way.old (λ r. result ≡ Ok None
-        → CountsOfText (bytes_left input.old) (bytes_left input.new) counts.old counts.new r) }
+    ensures counted { result ≡ Ok None → IfBy X.Way way.old
+        (CountsOfText (bytes_left input.old) (bytes_left input.new) counts.old counts.new) }
     ensures still { IfBy X.Way way.old (Redacts X.Way way.new) }
     ensures failed { input.new.failures ≡ counted (is_unread result) input.old.failures }
 {

@@ -1,12 +1,12 @@
 //! The redaction of one stream.
 
-ghost use Rattle.std.specs.Prelude.{◌≡◌, ◌∷◌, OnOk, [], false, slice_index_or, true};
+ghost use Rattle.std.specs.Prelude.{◌≡◌, ◌∷◌, [], false, slice_index_or, true};
 ghost use Rattle.aho_core.specs.Replacement.{pieces_of};
 ghost use Rattle.aho_cover.specs.Counting.{CountsThese};
 ghost use Rattle.aho_cover.specs.Covers.{IsUnbegunCover};
 ghost use Rattle.acredact.specs.Secrets.{IfOf, CanRedact, redactor_by};
 ghost use Rattle.acredact.specs.Streams.{StreamOutcome, WritesPiece};
-ghost use Rattle.acredact.specs.Totals.{CountsOfStream};
+ghost use Rattle.acredact.specs.Totals.{CountsBy};
 
 use aho_automaton::automaton::Automaton;
 use aho_core::error::StreamError;
@@ -37,8 +37,8 @@ pub fn cover<A: Automaton, R: Source, W: Sink>(
     requires unbegun { IsUnbegunCover A.Automaton start.old.automaton.now start.old.progress }
     ensures outcome { IfOf A.Automaton start.old.automaton.now (λ p. StreamOutcome R.Source W.Sink
         (redactor_by p true replacements.now) result source.old source.new sink.old sink.new) }
-    ensures counted { IfOf A.Automaton start.old.automaton.now (λ p. OnOk result (CountsOfStream R.Source
-        (redactor_by p true replacements.now) source.old source.new counts.old counts.new)) }
+    ensures counted { CountsBy A.Automaton R.Source start.old.automaton.now true replacements.now
+        result source.old source.new counts.old counts.new }
     ensures same { start.new.automaton.now ≡ start.old.automaton.now }
     ensures unbegun { IsUnbegunCover A.Automaton start.new.automaton.now start.new.progress }
 {
@@ -77,8 +77,8 @@ pub fn redact_counting<A: Automaton, R: Source, W: Sink>(
     requires ready { CanRedact A.Automaton automaton.now false replacements.now }
     ensures outcome { IfOf A.Automaton automaton.now (λ p. StreamOutcome R.Source W.Sink
         (redactor_by p false replacements.now) result source.old source.new sink.old sink.new) }
-    ensures counted { IfOf A.Automaton automaton.now (λ p. OnOk result (CountsOfStream R.Source
-        (redactor_by p false replacements.now) source.old source.new counts.old counts.new)) }
+    ensures counted { CountsBy A.Automaton R.Source automaton.now false replacements.now
+        result source.old source.new counts.old counts.new }
 {
     let mut put = |found: &Match, _matched: &[u8], sink: &mut W| {
         put_counted(counts, replacements, found, sink)

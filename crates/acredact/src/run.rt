@@ -1,13 +1,13 @@
 //! A call of the program over its arguments, files and streams.
 
-ghost use Rattle.std.specs.Prelude.{◌≡◌, ◌⊎◌, ◌<◌, ◌≤◌, ℕ, List, MatchBool, IfErr, IfOk, IfSome, OnErr, OnOk, Some, false, length, true};
+ghost use Rattle.std.specs.Prelude.{◌≡◌, ◌⊎◌, ◌<◌, ◌≤◌, ℕ, List, IfErr, IfOk, IfSome, OnErr, OnOk, Some, false, length, true};
 ghost use Rattle.aho_core.specs.Replacement.{pieces_of};
 ghost use Rattle.programs.specs.Arguments.{texts};
 ghost use Rattle.programs.specs.Names.{name_bytes};
 ghost use Rattle.programs.specs.Streams.{WritesBytes};
 ghost use Rattle.programs.specs.Telling.{Tells, TellsBytes, TellsSome};
 ghost use Rattle.acredact.specs.Arguments.{AreMistaken, AsksToRedact, GivesNoPattern, IfAsked, IfChecking, IfNoCheck, IsCheck, RefusesUnclean, all_given, checks_asked, has};
-ghost use Rattle.acredact.specs.Calls.{AskedOutcome, BeginsAsked, CountsAsked, IsCountsFailure, IsCountsLine, IsPrintFailure, IsRefusedLine, IsWrongLine, LeavesNoneAsked, LoadedOutcome, OutputFails, RedactsAsked, TellsAsked, TellsCounts, WarnedJob, WarnedOutcome, WarnsAsked, call_of, gives_pattern, names_asked, text_asked, work_by};
+ghost use Rattle.acredact.specs.Calls.{AskedOutcome, BeginsAsked, CountsAsked, IsCountsFailure, IsCountsLine, IsPrintFailure, IsRefusedLine, IsWrongLine, LeavesNoneAsked, LoadedOutcome, OutputFails, RedactsAsked, TellsAsked, TellsAnyCounts, WarnedJob, WarnedOutcome, WarnsAsked, call_of, gives_pattern, names_asked, text_asked, work_by};
 ghost use Rattle.acredact.specs.Checks.{MatchedAsked, SaysOfCheck, TellsUncheckedAsked, UnmatchedAsked};
 ghost use Rattle.acredact.specs.Failures.{IsFailureLine};
 ghost use Rattle.acredact.specs.Files.{CanDo, FilesOutcome, redactor_of, work_of};
@@ -15,7 +15,7 @@ ghost use Rattle.acredact.specs.Pieces.{IfOfAll, TellsUnclean, pieces_by};
 ghost use Rattle.acredact.specs.Secrets.{IfOf};
 ghost use Rattle.acredact.specs.Statuses.{SaysOfRedaction};
 ghost use Rattle.acredact.specs.Tables.{HaveNoEmpty, secrets_of};
-ghost use Rattle.acredact.specs.Totals.{CountsWork};
+ghost use Rattle.acredact.specs.Totals.{CountsWork, JobCounts};
 ghost use Rattle.acredact.specs.declared.clean.Unclean.{Unclean};
 ghost use Rattle.acredact.specs.declared.failure.Failure.TheVariants.{Unclean as UncleanPiece};
 ghost use Rattle.acredact.specs.declared.arguments.Word.TheVariants.{Count, Strict};
@@ -295,8 +295,7 @@ fn tell_counted<'a, E: Sink>(
     errors: &mut Errors<'_, E>,
 ) -> Result<bool, Failure<'a>>
     ensures all { IfOk result (λ done. done ≡ all) }
-    ensures told { OnOk result (MatchBool counted (TellsCounts E.Sink rules.now counts.now errors.old errors.new)
-        (errors.new ≡ errors.old)) }
+    ensures told { OnOk result (TellsAnyCounts E.Sink counted rules.now counts.now errors.old errors.new) }
     ensures lines { Tells E.Sink (IsCountsLine counted) errors.old errors.new }
     ensures fails { IfErr result (IsCountsFailure counted) }
 {
@@ -379,8 +378,7 @@ fn redact_warned<'a, A: Automaton, B: Automaton, F: Folder, I: Read, W: Write, E
     ensures outcome { IfOfAll A.Automaton B.Automaton automaton.now rows.entry judge.now
         (λ p. WarnedJob W.Write E.Sink F.Folder strict job.now p result streams.old streams.new) }
     ensures counted { IfOfAll A.Automaton B.Automaton automaton.now rows.entry judge.now
-        (λ p. CountsWork (work_of F.Folder job.now (redactor_of job.now p)) result streams.old streams.new
-        counts.old counts.new) }
+        (JobCounts F.Folder job.now result streams.old streams.new counts.old counts.new) }
     ensures flushed { OnOk result (streams.new.output.device.flushed ≡ true) }
 {
     let unclean = unclean_of(automaton, judge, job.covers);
@@ -427,8 +425,7 @@ fn redact_by<A: Automaton, B: Automaton, F: Folder, I: Read, W: Write, E: Sink>(
     ensures outcome { IfOf A.Automaton automaton.now (λ p. IfSome rows.entry (λ rows. B.is_of rows.now p)
         → FilesOutcome W.Write E.Sink (work_of F.Folder job.now (redactor_of job.now p)) result streams.old streams.new) }
     ensures counted { IfOf A.Automaton automaton.now (λ p. IfSome rows.entry (λ rows. B.is_of rows.now p)
-        → CountsWork (work_of F.Folder job.now (redactor_of job.now p)) result streams.old streams.new
-        counts.old counts.new) }
+        → JobCounts F.Folder job.now result streams.old streams.new counts.old counts.new p) }
     ensures flushed { OnOk result (streams.new.output.device.flushed ≡ true) }
 {
     match rows {

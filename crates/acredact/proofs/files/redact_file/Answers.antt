@@ -19,9 +19,9 @@ returns-in-Err-clause-outcome g c = λ red by.
 
 pub returns-then-is_input-clause-counted : goal.returns-then-is_input-clause-counted
 returns-then-is_input-clause-counted g c = λ red by whole.
-    input_counts (work_of g.F.Folder c.args.job.now red) _ _ _ _ _ (sym c.is_input.ensures.is ∙ c.if-is_input.true) (c.redact_input.ensures.counted red by whole)
+    input_counts (work_of g.F.Folder c.args.job.now red) c.args.name.now _ _ _ _ (sym c.is_input.ensures.is ∙ c.if-is_input.true) (c.redact_input.ensures.counted whole red by)
 
 pub returns-in-Ok-clause-counted : goal.returns-in-Ok-clause-counted
 returns-in-Ok-clause-counted g c = λ red by whole.
-    let opened = c.redact_opened.ensures.counted red by whole in
-    opened_counts (work_of g.F.Folder c.args.job.now red) _ _ _ _ _ (sym c.is_input.ensures.is ∙ c.if-is_input.false) refl _ opened.0 c.in-Ok.ensures.told opened.1
+    let opened = c.redact_opened.ensures.counted whole red by in
+    opened_counts (work_of g.F.Folder c.args.job.now red) c.args.name.now _ _ _ _ (sym c.is_input.ensures.is ∙ c.if-is_input.false) refl _ opened.0 c.in-Ok.ensures.told opened.1

@@ -31,7 +31,7 @@ returns-clause-failed g c =
     ∙ ap (λ (b : Bool). counted b c.args.input.now.failures) (reading_unread c.redact.result ∙ ap is_unread (sym c.reading_of.ensures.reading))
 
 pub returns-clause-counted : goal.returns-clause-counted
-returns-clause-counted g c = λ red by whole.
+returns-clause-counted g c = λ whole red by.
     let left = ap (λ device. g.I.Read.remaining device.reader) c.restart.ensures.device in
     let ends = λ (some : c.redact.new.source.empty_reads ≢ 0). at_end _ (λ bytes known. c.redact.new.source.ended bytes some known) in
     text_counts _ red _ _ _ _ _ left c.restart.ensures.empty_reads ends

@@ -13,8 +13,8 @@ returns-clause-outcome g c = λ red by. (
 )
 
 pub returns-clause-counted : goal.returns-clause-counted
-returns-clause-counted g c = λ red by whole. (
+returns-clause-counted g c = λ whole red by. (
   bytes_left c.redact_input.new.input,
   subst (λ (left : Option (List ℕ)). CountsOfText left (bytes_left c.redact_input.new.input) c.args.counts.now c.redact_input.new.counts red)
-      (ap g.I.Read.remaining c.new-source.ensures.reader) (c.redact_input.ensures.counted red by whole),
+      (ap g.I.Read.remaining c.new-source.ensures.reader) (c.redact_input.ensures.counted whole red by),
 )

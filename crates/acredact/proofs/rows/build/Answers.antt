@@ -6,30 +6,28 @@ use Rattle.std.proofs.lemmas.List.{map-id}
 use Rattle.std.proofs.lemmas.Result.{IfErr-weaker, IfOk-weaker}
 use Rattle.aho_core.specs.Patterns.{Patterns}
 use Rattle.aho_core.specs.Replacement.{pieces_of}
-use Rattle.aho_build.specs.Items.{IsFailure}
 use Rattle.aho_build.specs.declared.settings.Settings.{Settings}
 use Rattle.aho_corasick.specs.contracts.noncontiguous.NFAAutomaton.TheImpl.{ghosts}
 use Rattle.acredact.specs.Arguments.{all_given}
 use Rattle.acredact.specs.Builds.{patterns_by_given}
-use Rattle.acredact.proofs.Refused.{refuses_of}
+use Rattle.acredact.proofs.Refused.{refuses_by}
 use Rattle.acredact.proofs.rows.build.Goals as goal
 
 pub returns : goal.returns
 returns c =
-    let all = YieldsList-from_copied (YieldsList-from_slice c.args.patterns.now (cc)) in
     let made : Settings → List (List ℕ) → Patterns = λ s ws. record { words = ws; kind = s.kind; ignore_case = s.ignore_case } in
     record {
       of = IfOk-weaker c.build.result _ _
           (λ nfa built.
           let drained = built.1.0 in
           let patterns : pieces_of built.0 ≡ pieces_of c.args.patterns.now =
-          ap pieces_of (sym (map-id built.0) ∙ items_from_drains built.0 (drained.1.0, drained.1.1, λ _. (drained.0, drained.1.2)) all) in
+          ap pieces_of (sym (map-id built.0) ∙ items_from_drains built.0 (drained.1.0, drained.1.1, λ _. (drained.0, drained.1.2)) (YieldsList-from_copied (YieldsList-from_slice c.args.patterns.now (cc)))) in
           subst (λ (s : Settings). ghosts.is_of nfa (made s (pieces_of c.args.patterns.now))) c.builder_of.ensures.settings
           (subst (λ ws. ghosts.is_of nfa (made c.builder_of.result ws)) patterns built.2))
           c.build.ensures.built;
       starts = search rules;
       refused = IfErr-weaker c.build.result _ _
-          (λ error failure. refuses_of _ _ c.args.patterns.now all (patterns_by_given (all_given c.args.given.now) (pieces_of c.args.patterns.now)) refl error
-          (subst (λ (s : Settings). IsFailure _ _ s error) c.builder_of.ensures.settings failure))
+          (λ error failure. refuses_by _ _ c.args.patterns.now (YieldsList-from_copied (YieldsList-from_slice c.args.patterns.now (cc))) (patterns_by_given (all_given c.args.given.now) (pieces_of c.args.patterns.now)) refl
+          _ c.builder_of.ensures.settings error failure)
           c.build.ensures.refused;
     }

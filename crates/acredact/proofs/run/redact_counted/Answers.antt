@@ -1,10 +1,12 @@
 -- The files' outcome, and then the counts.
-use Rattle.std.proofs.Common.{rules, ◌≡◌, inl, inr, refl, sym, subst}
-use Rattle.std.specs.Prelude.{Bool, Result, Err}
+use Rattle.std.proofs.Common.{rules, ◌≡◌, List, ℕ, inl, refl, sym, subst, ap}
+use Rattle.std.specs.Prelude.{Bool, Result, Ok, Err}
 use Rattle.programs.specs.declared.failure.Failure.TheVariants.{OutOfMemory}
+use Rattle.programs.specs.Streams.{bytes_left}
 use Rattle.acredact.specs.Arguments.{all_given}
-use Rattle.acredact.specs.Calls.{CallOutcome, call_of}
+use Rattle.acredact.specs.Calls.{CallOutcome, call_of, names_asked, work_by}
 use Rattle.acredact.specs.Tables.{secrets_of}
+use Rattle.acredact.specs.Totals.{CountsOfNames}
 use Rattle.acredact.specs.declared.failure.Failure.{Failure}
 use Rattle.acredact.specs.declared.failure.Failure.TheVariants.{Other}
 use Rattle.acredact.proofs.Calls.{call_refused, may_fail}
@@ -16,7 +18,7 @@ returns-in_err-counts-clause-outcome g c = λ left loaded.
     let is : c.from_residual.result ≡ Err (Other OutOfMemory) = search rules in
     let call = call_of g.F.Folder c.args.folder.now (all_given c.args.given.now) in
     subst (λ (r : Result Bool Failure). CallOutcome g.W.Write g.E.Sink call left r c.args.streams.now c.args.streams.now) (sym is)
-    (call_refused g.W.Write g.E.Sink call left c.args.streams.now.input c.args.streams.now (Other OutOfMemory) (may_fail call _ (Other OutOfMemory) (inr (inl refl))))
+    (call_refused g.W.Write g.E.Sink call left c.args.streams.now.input c.args.streams.now (Other OutOfMemory) (may_fail call _ (Other OutOfMemory) (inl refl)))
 
 pub returns-in-Ok-clause-outcome : goal.returns-in-Ok-clause-outcome
 returns-in-Ok-clause-outcome g c = λ left loaded.

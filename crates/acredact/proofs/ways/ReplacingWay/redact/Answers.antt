@@ -1,5 +1,5 @@
 -- The replacement is that of the automaton's patterns.
-use Rattle.std.proofs.Common.{rules, ◌≡◌, [], sym, subst}
+use Rattle.std.proofs.Common.{rules, ◌≡◌, length, sym, subst}
 use Rattle.std.specs.Prelude.{OnOk}
 use Rattle.std.proofs.lemmas.Result.{on_ok_weaker}
 use Rattle.acredact.specs.Secrets.{Redactor}
@@ -26,7 +26,7 @@ returns-clause-outcome g c = λ red by.
 
 pub returns-then-is_empty-clause-counted : goal.returns-then-is_empty-clause-counted
 returns-then-is_empty-clause-counted g c = λ red by.
-    let none : c.args.counts.now ≡ [] = search rules in
+    let none : length c.args.counts.now ≡ 0 = search rules in
     on_ok_weaker c.redact.result (λ whole. uncounted g.R.Source red _ _ _ _ c.args.counts.now none whole)
     (subst (λ (q : Redactor). OnOk c.redact.result (RedactsStream g.R.Source g.W.Sink q c.args.source.now c.redact.new.source c.args.sink.now c.redact.new.sink)) (sym by.is)
     (c.redact.ensures.outcome red.patterns by.of).redacted)
