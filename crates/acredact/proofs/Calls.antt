@@ -191,8 +191,7 @@ module _ {R : Type 0} {Reads : Readers R} {W E : Type 0} (Writes : Writers W) (K
           quiet = λ none (is : Ok all ≡ Ok true). subst (λ (b : Bool). MatchBool b (TellsCounts K rules counts mid.errors errors) (errors ≡ mid.errors)) none are_told ∙ run.quiet is;
           counts = λ some (is : Ok all ≡ Ok true).
               let so : all ≡ true = cc in
-              let (ranges, found, counted) = subst (λ (b : Bool). Counted b all) some grown so in
-              (
+              let (ranges, found, counted) = subst (λ (b : Bool). Counted b all) some grown so in (
                 ranges,
                 found,
                 totals_told K rules ranges counts old.errors errors counted

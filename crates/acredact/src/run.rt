@@ -9,6 +9,7 @@ ghost use Rattle.programs.specs.Telling.{Tells, TellsBytes, TellsSome};
 ghost use Rattle.acredact.specs.Arguments.{AreMistaken, AsksToRedact, GivesNoPattern, IfAsked, IfChecking, IfNoCheck, IsCheck, RefusesUnclean, all_given, checks_asked, has};
 ghost use Rattle.acredact.specs.Calls.{AskedOutcome, BeginsAsked, CountsAsked, IsCountsFailure, IsCountsLine, IsPrintFailure, IsRefusedLine, IsWrongLine, LeavesNoneAsked, LoadedOutcome, OutputFails, RedactsAsked, TellsAsked, TellsAnyCounts, WarnedJob, WarnedOutcome, WarnsAsked, call_of, gives_pattern, names_asked, text_asked, work_by};
 ghost use Rattle.acredact.specs.Checks.{MatchedAsked, SaysOfCheck, TellsUncheckedAsked, UnmatchedAsked};
+ghost use Rattle.acredact.specs.Counts.{zeros};
 ghost use Rattle.acredact.specs.Failures.{IsFailureLine};
 ghost use Rattle.acredact.specs.Files.{CanDo, FilesOutcome, redactor_of, work_of};
 ghost use Rattle.acredact.specs.Pieces.{IfOfAll, TellsUnclean, pieces_by};
@@ -271,14 +272,33 @@ fn redact_counted<'a, F: Folder, I: Read, W: Write, E: Sink>(
 {
     let counted = has(given, Word::Count);
     let mut counts = counts_of(alloc, rules, counted)?;
+    redact_telling(alloc, given, rules, folder, counts.as_mut_slice(), streams)
+}
+
+/// Redacts all files by these rules, tells what was added to the counts, where they are asked for, and answers whether all files were
+/// read.
+fn redact_telling<'a, F: Folder, I: Read, W: Write, E: Sink>(
+    alloc: Global,
+    given: &[Item<'_>],
+    rules: &[Rule],
+    folder: &F,
+    counts: &mut [u64],
+    streams: &mut Streams<'_, I, W, E>,
+) -> Result<bool, Failure<'a>>
+    requires some { HaveNoEmpty (secrets_of rules.now) }
+    requires none { counts.old ≡ zeros (has Count (all_given given.now)) rules.now }
+    ensures outcome { LoadedOutcome W.Write E.Sink F.Folder
+        folder.now (all_given given.now) rules.now result streams.old streams.new }
+    ensures flushed { OnOk result (streams.new.output.device.flushed ≡ true) }
+{
     // Not by `?`: this error may hold names.
-    match redact_all(alloc, given, rules, folder, counts.as_mut_slice(), streams) {
+    match redact_all(alloc, given, rules, folder, counts, streams) {
         Ok(all) => tell_counted(
             alloc,
             all,
-            counted,
+            has(given, Word::Count),
             rules,
-            counts.as_slice(),
+            counts,
             &mut streams.errors,
         ),
         Err(failure) => Err(failure),

@@ -17,8 +17,7 @@ loop-rest-preserved g c = λ red by.
     let some : 1 ≤ length c.loop-rest.rest.now = search rules in
     let far = subst (λ (l : List (List ℕ)). SoFar g.W.Write g.E.Sink (work_of g.F.Folder c.args.job.now red) (name_bytes c.args.job.now.names.now) l c.loop-rest.all c.args.streams.now c.loop-rest.streams)
     (names_cut c.loop-rest.rest.now _ some) (c.loop-rest.invariant red by).1 in
-    let now = (c.loop-rest.invariant red by).0 in
-    (
+    let now = (c.loop-rest.invariant red by).0 in (
       c.in_ok-whole.ensures.still red now,
       far_next g.W.Write g.E.Sink (work_of g.F.Folder c.args.job.now red) _ _ _ c.loop-rest.all c.in_ok-whole.whole _ c.args.streams.now c.loop-rest.streams _ far (c.in_ok-whole.ensures.outcome red now) c.both-all.ensures.both,
       λ whole.
